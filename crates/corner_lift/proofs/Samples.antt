@@ -1,0 +1,70 @@
+-- A certificate worked by hand: a state with two choices, of which one leads to the goal with p and the other with 1 - p.
+use Rattle.std.proofs.Common.{◌≡◌, ℕ, zero, suc, ◌^◌, true, false, List, [], ◌∷◌, All, ℤ, pos, ◌*ℤ◌, ◌≤ℤ◌, refl, arith}
+use Rattle.std.proofs.lemmas.List.Elements.{All-cons, All-nil}
+use Rattle.lift_model.specs.Model.{Entry, is_goal, choices}
+use Rattle.lift_model.proofs.Samples.{twin, toss_row, other_row, sink_row}
+use Rattle.corner_lift.specs.Corner.{Spans, AtCorners, corner_sum, whole}
+use Rattle.corner_lift.specs.Certificate.{number, IsAccepting}
+
+-- p from 2/5 to 3/5
+abbrev sides : Spans
+sides = (pos 2, pos 3) ∷ []
+
+abbrev numbers : List ℤ
+numbers = pos 10 ∷ pos 16 ∷ pos 0 ∷ []
+
+-- at p = 2/5 and at p = 3/5 the toss weighs 2 and 3 of 5 into the goal
+toss_low : corner_sum (pos 5) sides toss_row 0 (number numbers) ≡ pos 32
+toss_low = refl
+
+toss_high : corner_sum (pos 5) sides toss_row 1 (number numbers) ≡ pos 48
+toss_high = refl
+
+toss_whole : whole twin (pos 5) sides toss_row ≡ pos 5
+toss_whole = refl
+
+abbrev Meets : ℕ → List Entry → Type 0
+Meets s row = AtCorners sides row (λ c. corner_sum (pos 5) sides row c (number numbers) ≤ℤ (number numbers s *ℤ whole twin (pos 5) sides row))
+
+toss_meets : Meets 0 toss_row
+toss_meets zero lt = record { le = tt }
+toss_meets (suc zero) lt = record { le = tt }
+toss_meets (suc (suc c)) lt = absurd (omega arith)
+
+other_meets : Meets 0 other_row
+other_meets zero lt = record { le = tt }
+other_meets (suc zero) lt = record { le = tt }
+other_meets (suc (suc c)) lt = absurd (omega arith)
+
+sink_meets : Meets 2 sink_row
+sink_meets zero lt = record { le = tt }
+sink_meets (suc c) lt = absurd (omega arith)
+
+goal_at : (s : ℕ) → is_goal twin s ≡ true → number numbers s ≡ pos (2 ^ 4)
+goal_at zero e = cc
+goal_at (suc zero) e = refl
+goal_at (suc (suc zero)) e = cc
+goal_at (suc (suc (suc s))) e = cc
+
+means_at : (s : ℕ) → is_goal twin s ≡ false → All (Meets s) (choices twin s)
+means_at zero e = All-cons (Meets 0) toss_row (other_row ∷ []) toss_meets (All-cons (Meets 0) other_row [] other_meets (All-nil (Meets 0)))
+means_at (suc zero) e = cc
+means_at (suc (suc zero)) e = All-cons (Meets 2) sink_row [] sink_meets (All-nil (Meets 2))
+means_at (suc (suc (suc s))) e = All-nil (Meets (suc (suc (suc s))))
+
+-- at precision 4 the numbers 10, 16, 0 accept these values for 5/8
+twin_accepts : IsAccepting twin (pos 5) sides 4 5 8 numbers
+twin_accepts = record {
+  upper = record {
+    numbers = record {
+      size = refl;
+      range = All-cons within (pos 10) (pos 16 ∷ pos 0 ∷ []) (record { le = tt }, record { le = tt }) (All-cons within (pos 16) (pos 0 ∷ []) (record { le = tt }, record { le = tt }) (All-cons within (pos 0) [] (record { le = tt }, record { le = tt }) (All-nil within)));
+    };
+    goal = goal_at;
+    means = means_at;
+  };
+  limit = record { le = tt };
+}
+  where
+    within : ℤ → Type 0
+    within n = (pos 0 ≤ℤ n) × (n ≤ℤ pos 16)

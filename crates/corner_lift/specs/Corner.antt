@@ -1,0 +1,52 @@
+-- Parameter lifting (Quatmann, Dehnert, Jansen, Junges and Katoen, ATVA 2016): each row of a model has parameters of its own, and over a rectangle of values its extremes are at the corners. Here is what a corner of a row is, and what the row weighs there.
+use Rattle.std.specs.Prelude.{ℕ, zero, suc, ◌+◌, ◌/◌, ◌%◌, ◌^◌, ◌<◌, List, [], ◌∷◌, ℤ, pos, ◌*ℤ◌, bit_or}
+use Rattle.lift_poly.specs.Polynomial.{Term, Valuation}
+use Rattle.lift_model.specs.Process.{power, weighted_sum}
+use Rattle.lift_model.specs.Model.{Entry, ModelData, moves_at}
+
+-- the low and the high end of each declared parameter, over the grid's denominator
+abbrev pub Spans : Type 0
+Spans = List (ℤ × ℤ)
+
+-- the union of the sets of a polynomial
+abbrev pub terms_support : List Term → ℕ
+terms_support [] = 0
+terms_support (term ∷ terms) = bit_or term.0 (terms_support terms)
+
+-- the set of the parameters that occur in a row
+abbrev pub support : List Entry → ℕ
+support [] = 0
+support (entry ∷ row) = bit_or (terms_support entry.terms) (support row)
+
+-- how many of the declared parameters are in the set
+abbrev pub width : Spans → ℕ → ℕ
+width [] set = 0
+width (span ∷ spans) set = set % 2 + width spans (set / 2)
+
+-- the low end for 0, the high end for 1
+abbrev pub end_of : ℕ → ℤ × ℤ → ℤ
+end_of zero span = span.0
+end_of (suc bit) span = span.1
+
+-- the one where the bit is 0, else the other
+abbrev pub by_bit : {A : Type 0} → ℕ → A → A → A
+by_bit zero a b = a
+by_bit (suc bit) a b = b
+
+-- The corner of that number over the parameters of the set: each bit of the number, from the lowest, chooses the low or the high end of the next parameter of the set. A parameter outside the set has no part in the corner, and stands as 0 over 1.
+abbrev pub corner : ℤ → Spans → ℕ → ℕ → Valuation
+corner d [] set c = []
+corner d (span ∷ spans) set c =
+    by_bit (set % 2) ((pos 0, pos 1) ∷ corner d spans (set / 2) c) ((end_of (c % 2) span, d) ∷ corner d spans (set / 2) (c / 2))
+
+-- P holds at each corner of the row, of which there are 2 to the number of its parameters
+abbrev pub AtCorners : Spans → List Entry → (ℕ → Type 0) → Type 0
+AtCorners spans row P = (c : ℕ) → c < 2 ^ width spans (support row) → P c
+
+-- the sum over a row of weight times the target's number, at a corner of the row
+abbrev pub corner_sum : ℤ → Spans → List Entry → ℕ → (ℕ → ℤ) → ℤ
+corner_sum d spans row c number = weighted_sum number (moves_at (corner d spans (support row) c) row)
+
+-- what the row's weights sum to at each of these corners
+abbrev pub whole : ModelData → ℤ → Spans → List Entry → ℤ
+whole m d spans row = m.common *ℤ power d (width spans (support row))

@@ -1,0 +1,2 @@
+pub mod Corner
+pub mod Certificate

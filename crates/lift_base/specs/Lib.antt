@@ -1,0 +1,5 @@
+pub mod Outside
+pub mod Whole
+pub mod Memory
+pub mod Word
+pub mod Begins

@@ -1,0 +1,2 @@
+pub mod Inductive
+pub mod Accepting

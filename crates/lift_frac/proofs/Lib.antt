@@ -1,0 +1,11 @@
+pub mod Digits
+pub mod Euclid
+pub mod Fronts
+pub mod Judging
+pub mod Longest
+pub mod LowestTerms
+pub mod Pieces
+pub mod Powers
+pub mod Products
+pub mod Reducing
+pub mod Writing

@@ -1,0 +1,5 @@
+pub mod Sums
+pub mod Chains
+pub mod ValidChains
+pub mod Picking
+pub mod Samples

@@ -1,0 +1,7 @@
+pub mod Process
+pub mod Plan
+pub mod Reach
+pub mod Pick
+pub mod Model
+pub mod Valid
+pub mod Chain

@@ -1,0 +1,36 @@
+-- What every model keeps: the form of its parts, and the limits.
+use Rattle.std.specs.Prelude.{◌≡◌, ◌≢◌, ℕ, ◌-◌, ◌^◌, ◌<◌, ◌≤◌, true, List, pos, ◌≤ℤ◌, unsigned_abs, length, sum_by, All, AllPairs, Contains}
+use Rattle.lift_poly.specs.Polynomial.{IsPolynomial}
+use Rattle.lift_model.specs.declared.kind.Kind.TheVariants.{Dtmc}
+use Rattle.lift_model.specs.Model.{Entry, ModelData}
+use Rattle.lift_model.specs.Chain.{ChainData, is_chain, chain_model}
+
+-- an entry, among so many states and parameters: its sets name declared parameters only, and each coefficient's size is below 2 ^ 100
+pub record IsEntry (states parameters : ℕ) (entry : Entry) : Type 0 where
+  pub target : entry.target < states
+  pub polynomial : IsPolynomial entry.terms
+  pub sets : All (λ term. term.0 < 2 ^ parameters) entry.terms
+  pub sizes : All (λ term. unsigned_abs term.1 < 2 ^ 100) entry.terms
+
+-- a row: no target stands twice
+pub record IsRow (states parameters : ℕ) (row : List Entry) : Type 0 where
+  pub entries : All (IsEntry states parameters) row
+  pub distinct : AllPairs (λ a b. a.target ≢ b.target) row
+
+-- A model has from 1 to 65,536 states, for each state whether it is a goal state and at least one goal state, an initial state, a common denominator below 2 ^ 62, at most 16 parameters of different names, at least one choice for each state and exactly one in a chain, at most 131,072 choices, and at most 262,144 transitions.
+pub record IsModel (m : ModelData) : Type 0 where
+  pub count : (1 ≤ length m.states) × (length m.states ≤ 65536)
+  pub goals : length m.goal ≡ length m.states
+  pub some_goal : Contains m.goal true
+  pub first : m.init < length m.states
+  pub denominator : (pos 1 ≤ℤ m.common) × (m.common ≤ℤ pos (2 ^ 62 - 1))
+  pub parameters : (length m.names ≤ 16) × AllPairs (λ a b. a ≢ b) m.names
+  pub some_choice : All (λ choices. 1 ≤ length choices) m.states
+  pub one_choice : m.kind ≡ Dtmc → All (λ choices. length choices ≡ 1) m.states
+  pub rows : All (All (IsRow (length m.states) (length m.names))) m.states
+  pub choices : sum_by length m.states ≤ 131072
+  pub transitions : sum_by (sum_by length) m.states ≤ 262144
+
+-- every chain is a valid model
+abbrev pub ChainsAreModels : Type 0
+ChainsAreModels = (c : ChainData) → is_chain c ≡ true → IsModel (chain_model c)

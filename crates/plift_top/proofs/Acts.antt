@@ -1,0 +1,91 @@
+-- What an answer says, by the refusal that it comes from.
+use Rattle.std.proofs.Common.{◌≡◌, ◌≢◌, ◌≤◌, ◌<◌, ◌^◌, ◌+◌, ◌↔◌, ℕ, List, [], ◌++◌, length, length-append, append-nil, None, Some, Ok, Err, refl, sym, ap, ◌∙◌, subst, arith, Result, IsErr, codes}
+use Rattle.std.specs.declared.option.Option.{Option}
+use Rattle.std.specs.Io.KnownBytes.{Appends, Consumes, IsAtEnd}
+use Rattle.lift_base.specs.Outside.{Rose, AppendsFront, TakenHas}
+use Rattle.lift_model.specs.Chain.{ChainData}
+use Rattle.drn_read.specs.FirstForm.{IsFirstForm}
+use Rattle.plift_top.specs.Job.{JobData}
+use Rattle.plift_top.specs.Verify.{WasRead, Reports, TellsNone, KeepsLimit, text_limit}
+use Rattle.plift_top.specs.Answers.{Acts, HasNote, status_of, note_of, usage_note}
+use Rattle.plift_top.specs.declared.job.Field.{Field}
+use Rattle.plift_top.specs.declared.status.Status.{Status}
+use Rattle.plift_top.specs.declared.status.Status.TheVariants as status
+use Rattle.plift_top.specs.declared.refusal.Refusal.{Refusal}
+use Rattle.plift_top.specs.declared.refusal.Refusal.TheVariants as refusal
+
+module _ {S K : Type 0} (left : S → Option (List ℕ)) (faults : S → ℕ) (taken : K → Option (List ℕ)) (counts : K → ℕ) (source source' : S) (out out' : K) where
+  pub done : (asked : Result JobData Field) → Acts {T = Unit {0}} left faults taken counts asked source source' out out' (Ok tt)
+      → (j : JobData) × (asked ≡ Ok j) × WasRead (Reports (Appends (taken out) (taken out')) j) (left source) (left source')
+  done (Ok j) a = (j, refl, a)
+  done (Err f) a = absurd (cc (a.0))
+
+  pub usage : (asked : Result JobData Field) (r : Refusal) → Acts {T = Unit {0}} left faults taken counts asked source source' out out' (Err r) → (status_of r ≡ status.Usage) ↔ IsErr asked
+  usage (Ok j) (refusal.Usage f) a = absurd a
+  usage (Ok j) _ a = ((λ e. absurd (cc)), (λ e. absurd (cc)))
+  usage (Err f) r a = ((λ e. refl), (λ e. let is : r ≡ refusal.Usage f = cc (a.0) in rw is refl))
+
+  pub model : (asked : Result JobData Field) (r : Refusal) → Acts {T = Unit {0}} left faults taken counts asked source source' out out' (Err r) → status_of r ≡ status.ModelRefused
+      → (j : JobData) × (asked ≡ Ok j) × WasRead (TellsNone j.goal) (left source) (left source')
+  model (Ok j) refusal.Model a e = (j, refl, a.0)
+  model (Ok j) _ a e = absurd (cc)
+  model (Err f) r a e = let is : r ≡ refusal.Usage f = cc (a.0) in absurd (cc (rw is at e))
+
+  pub read_fault : (asked : Result JobData Field) (r : Refusal) → Acts {T = Unit {0}} left faults taken counts asked source source' out out' (Err r) → status_of r ≡ status.ReadFault → Rose (faults source) (faults source')
+  read_fault (Ok j) refusal.ReadFault a e = a.0
+  read_fault (Ok j) _ a e = absurd (cc)
+  read_fault (Err f) r a e = let is : r ≡ refusal.Usage f = cc (a.0) in absurd (cc (rw is at e))
+
+  pub write_fault : (asked : Result JobData Field) (r : Refusal) → Acts {T = Unit {0}} left faults taken counts asked source source' out out' (Err r) → status_of r ≡ status.WriteFault → Rose (counts out) (counts out')
+  write_fault (Ok j) refusal.WriteFault a e = a.1
+  write_fault (Ok j) _ a e = absurd (cc)
+  write_fault (Err f) r a e = let is : r ≡ refusal.Usage f = cc (a.0) in absurd (cc (rw is at e))
+
+  pub part : (asked : Result JobData Field) (r : Refusal) → Acts {T = Unit {0}} left faults taken counts asked source source' out out' (Err r) → status_of r ≡ status.WriteFault
+      → (j : JobData) × (asked ≡ Ok j) × WasRead (Reports (AppendsFront (taken out) (taken out')) j) (left source) (left source')
+  part (Ok j) refusal.WriteFault a e = (j, refl, a.0)
+  part (Ok j) _ a e = absurd (cc)
+  part (Err f) r a e = let is : r ≡ refusal.Usage f = cc (a.0) in absurd (cc (rw is at e))
+
+  pub kept : (asked : Result JobData Field) (r : Refusal) → Acts {T = Unit {0}} left faults taken counts asked source source' out out' (Err r) → status_of r ≢ status.WriteFault → out' ≡ out
+  kept (Ok j) (refusal.Usage f) a e = absurd a
+  kept (Ok j) refusal.Model a e = a.1
+  kept (Ok j) refusal.ReadFault a e = a.1
+  kept (Ok j) refusal.WriteFault a e = absurd (e refl)
+  kept (Ok j) refusal.TooLong a e = a.1
+  kept (Ok j) refusal.Memory a e = a
+  kept (Err f) r a e = a.2
+
+  pub unread : (asked : Result JobData Field) (r : Refusal) → Acts {T = Unit {0}} left faults taken counts asked source source' out out' (Err r) → IsErr asked → source' ≡ source
+  unread (Ok j) r a e = absurd (cc)
+  unread (Err f) r a e = a.1
+
+  pub noted : (asked : Result JobData Field) (r : Refusal) → Acts {T = Unit {0}} left faults taken counts asked source source' out out' (Err r) → HasNote (status_of r) asked (note_of r)
+  noted (Ok j) (refusal.Usage f) a = absurd a
+  noted (Ok j) _ a = refl
+  noted (Err f) r a = let is : r ≡ refusal.Usage f = cc (a.0) in subst (λ (q : Refusal). HasNote (status_of q) (Err f) (note_of q)) (sym is) (f, refl, refl)
+
+-- a text that was given isn't too long where it is short
+short : (text : List ℕ) (rest : Option (List ℕ)) → length text ≤ text_limit → TakenHas (λ bytes. text_limit < length bytes) (Some text) rest → ⊥
+short text None h long = absurd long.1
+short text (Some ys) h (bytes, is, more) = omega (arith, ap length is, length-append bytes ys)
+
+-- a source that tells its content gave this text
+given : (P : List ℕ → Type 0) (text : List ℕ) (rest : Option (List ℕ)) → WasRead P (Some text) rest → P text
+given P text None h = absurd h.consumed
+given P text (Some ys) h = subst P (sym (h.consumed ∙ ap (λ (r : List ℕ). h.text ++ r) h.ended ∙ append-nil h.text)) h.has
+
+-- where a text of the first form was given, and nothing failed, a refusal is for want of memory
+pub complete : {S K : Type 0} (left : S → Option (List ℕ)) (faults : S → ℕ) (taken : K → Option (List ℕ)) (counts : K → ℕ) (source source' : S) (out out' : K)
+    (asked : Result JobData Field) (r : Refusal) → Acts {T = Unit {0}} left faults taken counts asked source source' out out' (Err r) → (j : JobData) (text : List ℕ) (c : ChainData) → asked ≡ Ok j → left source ≡ Some text
+    → IsFirstForm j.goal text c → length text ≤ text_limit → (Rose (faults source) (faults source') → ⊥) → (Rose (counts out) (counts out') → ⊥) → status_of r ≡ status.Memory
+complete left faults taken counts source source' out out' (Ok k) (refusal.Usage f) a j text c is told form len sure1 sure2 = absurd a
+complete left faults taken counts source source' out out' (Ok k) refusal.Model a j text c is told form len sure1 sure2 =
+    let same : k ≡ j = cc in
+    let none = given (TellsNone k.goal) text (left source') (rw told at a.0) in
+    absurd (none c (subst (λ (g : JobData). IsFirstForm g.goal text c) (sym same) form))
+complete left faults taken counts source source' out out' (Ok k) refusal.ReadFault a j text c is told form len sure1 sure2 = absurd (sure1 a.0)
+complete left faults taken counts source source' out out' (Ok k) refusal.WriteFault a j text c is told form len sure1 sure2 = absurd (sure2 a.1)
+complete left faults taken counts source source' out out' (Ok k) refusal.TooLong a j text c is told form len sure1 sure2 = absurd (short text (left source') len (rw told at a.0))
+complete left faults taken counts source source' out out' (Ok k) refusal.Memory a j text c is told form len sure1 sure2 = refl
+complete left faults taken counts source source' out out' (Err f) r a j text c is told form len sure1 sure2 = absurd (cc)

@@ -1,0 +1,38 @@
+use Rattle.std.proofs.Common.{◌∙◌, sym, inr, subst, List, ℕ}
+use Rattle.plift_top.specs.Answers.{HasNote}
+use Rattle.plift_top.specs.declared.status.Status.{Status}
+use Rattle.plift_top.proofs.Acts.{done, usage, model, read_fault, write_fault, part, kept, unread, noted, complete}
+use Rattle.plift_top.proofs.program.run.Goals as goal
+
+pub returns-in-Ok-clause-done : goal.returns-in-Ok-clause-done
+returns-in-Ok-clause-done g c e = done g.S.Source.left g.S.Source.faults g.K.Sink.taken g.K.Sink.faults _ _ _ _ _ c.in-Ok.ensures.answer
+
+pub returns-in-Err-clause-usage : goal.returns-in-Err-clause-usage
+returns-in-Err-clause-usage g c = rw c.status_of.ensures (usage g.S.Source.left g.S.Source.faults g.K.Sink.taken g.K.Sink.faults _ _ _ _ _ c.in-Err.refusal c.in-Err.ensures.answer)
+
+pub returns-in-Err-clause-model : goal.returns-in-Err-clause-model
+returns-in-Err-clause-model g c e = model g.S.Source.left g.S.Source.faults g.K.Sink.taken g.K.Sink.faults _ _ _ _ _ c.in-Err.refusal c.in-Err.ensures.answer (sym c.status_of.ensures ∙ e)
+
+pub returns-in-Err-clause-read_fault : goal.returns-in-Err-clause-read_fault
+returns-in-Err-clause-read_fault g c e = read_fault g.S.Source.left g.S.Source.faults g.K.Sink.taken g.K.Sink.faults _ _ _ _ _ c.in-Err.refusal c.in-Err.ensures.answer (sym c.status_of.ensures ∙ e)
+
+pub returns-in-Err-clause-write_fault : goal.returns-in-Err-clause-write_fault
+returns-in-Err-clause-write_fault g c e = write_fault g.S.Source.left g.S.Source.faults g.K.Sink.taken g.K.Sink.faults _ _ _ _ _ c.in-Err.refusal c.in-Err.ensures.answer (sym c.status_of.ensures ∙ e)
+
+pub returns-in-Err-clause-complete : goal.returns-in-Err-clause-complete
+returns-in-Err-clause-complete g c j text chain is told form len sure1 sure2 =
+    inr (c.status_of.ensures ∙ complete g.S.Source.left g.S.Source.faults g.K.Sink.taken g.K.Sink.faults _ _ _ _ _ c.in-Err.refusal c.in-Err.ensures.answer j text chain is told form len sure1 sure2)
+
+pub returns-in-Err-clause-part : goal.returns-in-Err-clause-part
+returns-in-Err-clause-part g c e = part g.S.Source.left g.S.Source.faults g.K.Sink.taken g.K.Sink.faults _ _ _ _ _ c.in-Err.refusal c.in-Err.ensures.answer (sym c.status_of.ensures ∙ e)
+
+pub returns-in-Err-clause-kept : goal.returns-in-Err-clause-kept
+returns-in-Err-clause-kept g c d e = kept g.S.Source.left g.S.Source.faults g.K.Sink.taken g.K.Sink.faults _ _ _ _ _ c.in-Err.refusal c.in-Err.ensures.answer (λ f. e (c.status_of.ensures ∙ f))
+
+pub returns-in-Err-clause-unread : goal.returns-in-Err-clause-unread
+returns-in-Err-clause-unread g c e = unread g.S.Source.left g.S.Source.faults g.K.Sink.taken g.K.Sink.faults _ _ _ _ _ c.in-Err.refusal c.in-Err.ensures.answer e
+
+pub returns-in-Err-clause-told : goal.returns-in-Err-clause-told
+returns-in-Err-clause-told g c d =
+    let note = noted g.S.Source.left g.S.Source.faults g.K.Sink.taken g.K.Sink.faults _ _ _ _ _ c.in-Err.refusal c.in-Err.ensures.answer in
+    rw c.status_of.ensures (_, note, c.tell.ensures)

@@ -1,0 +1,62 @@
+-- The answers of the program, and the notes that tell them.
+use Rattle.std.specs.Prelude.{◌≡◌, ◌≤◌, ℕ, List, [], codes, Ok, Err, Result}
+use Rattle.std.specs.declared.option.Option.{Option}
+use Rattle.std.specs.Io.KnownBytes.{Appends}
+use Rattle.lift_base.specs.Outside.{Rose, AppendsFront}
+use Rattle.plift_top.specs.Job.{JobData}
+use Rattle.plift_top.specs.Verify.{Verifies}
+use Rattle.plift_top.specs.declared.status.Status.{Status}
+use Rattle.plift_top.specs.declared.status.Status.TheVariants as status
+use Rattle.plift_top.specs.declared.job.Field.{Field}
+use Rattle.plift_top.specs.declared.job.Field.TheVariants as field
+use Rattle.plift_top.specs.declared.refusal.Refusal.{Refusal}
+use Rattle.plift_top.specs.declared.refusal.Refusal.TheVariants as refusal
+
+-- the status of a refusal
+abbrev pub status_of : Refusal → Status
+status_of (refusal.Usage f) = status.Usage
+status_of refusal.Model = status.ModelRefused
+status_of refusal.ReadFault = status.ReadFault
+status_of refusal.WriteFault = status.WriteFault
+status_of refusal.TooLong = status.TooLong
+status_of refusal.Memory = status.Memory
+
+-- the note of a command line at fault
+abbrev pub usage_note : Field → List ℕ
+usage_note field.Words = codes "usage: words\n"
+usage_note field.Goal = codes "usage: --goal\n"
+usage_note field.Bound = codes "usage: --bound\n"
+usage_note field.Depth = codes "usage: --depth\n"
+usage_note field.Precision = codes "usage: --precision\n"
+
+-- the note of a refusal: one line
+abbrev pub note_of : Refusal → List ℕ
+note_of (refusal.Usage f) = usage_note f
+note_of refusal.Model = codes "model: unbuilt\n"
+note_of refusal.ReadFault = codes "read fault\n"
+note_of refusal.WriteFault = codes "write fault\n"
+note_of refusal.TooLong = codes "too long\n"
+note_of refusal.Memory = codes "out of memory\n"
+
+-- an answer to these words has this note; a job that is done has none, and two answers don't come yet
+abbrev pub HasNote : Status → Result JobData Field → List ℕ → Type 0
+HasNote status.Done asked note = ⊥
+HasNote status.NotSound asked note = ⊥
+HasNote status.RowsRefused asked note = ⊥
+HasNote status.Usage asked note = (f : Field) × (asked ≡ Err f) × (note ≡ usage_note f)
+HasNote status.ModelRefused asked note = note ≡ codes "model: unbuilt\n"
+HasNote status.ReadFault asked note = note ≡ codes "read fault\n"
+HasNote status.WriteFault asked note = note ≡ codes "write fault\n"
+HasNote status.TooLong asked note = note ≡ codes "too long\n"
+HasNote status.Memory asked note = note ≡ codes "out of memory\n"
+
+-- a note was told: whole where no fault was counted, else a part of it
+pub record Told {E : Type 0} (taken : E → Option (List ℕ)) (faults : E → ℕ) (old new : E) (note : List ℕ) : Type 0 where
+  pub part : AppendsFront (taken old) (taken new) note
+  pub whole : (Rose (faults old) (faults new) → ⊥) → Appends (taken old) (taken new) note
+  pub later : faults old ≤ faults new
+
+-- the words ask for a job and it was done or refused, or they ask for none and nothing was touched
+abbrev pub Acts : {S K T : Type 0} → (S → Option (List ℕ)) → (S → ℕ) → (K → Option (List ℕ)) → (K → ℕ) → Result JobData Field → S → S → K → K → Result T Refusal → Type 0
+Acts left faults taken counts (Ok job) source source' out out' result = Verifies left faults taken counts job source source' out out' result
+Acts left faults taken counts (Err f) source source' out out' result = (result ≡ Err (refusal.Usage f)) × (source' ≡ source) × (out' ≡ out)

@@ -1,0 +1,10 @@
+pub mod Line
+pub mod Values
+pub mod Job
+pub mod Given
+pub mod Report
+pub mod Written
+pub mod Leaf
+pub mod Verify
+pub mod Refused
+pub mod Answers

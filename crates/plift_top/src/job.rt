@@ -1,0 +1,27 @@
+// A job, and the parts of the command line that ask for it.
+ghost use Rattle.std.specs.Prelude.{◌≤◌};
+
+use lift_cert::Bound;
+
+/// A part of the command line that can be at fault.
+#[derive(Clone, Copy, Debug, PartialEq, Eq)]
+pub enum Field {
+    /// The line isn't plain.
+    Words,
+    Goal,
+    Bound,
+    Depth,
+    Precision,
+}
+
+/// What is to be verified.
+#[derive(Clone, Copy, Debug)]
+pub struct Job<'a> {
+    pub goal: &'a [u8],
+    pub bound: Bound,
+    /// How often a rectangle may be halved, from 0 to 20.
+    pub depth: u32,
+    /// A certificate's numbers are over 2^precision, from 1 to 40.
+    pub precision: u32,
+    ghost in_range: { (depth ≤ 20) × (1 ≤ precision) × (precision ≤ 40) },
+}

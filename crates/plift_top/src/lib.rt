@@ -1,0 +1,18 @@
+// The program.
+#![tactic(auto)]
+
+mod command;
+mod job;
+mod line;
+mod program;
+mod refusal;
+mod report;
+mod status;
+mod values;
+mod verify;
+
+pub use program::run;
+pub use status::Status;
+
+#[cfg(test)]
+mod tests;

@@ -1,0 +1,115 @@
+// The whole program, over any source and sinks.
+ghost use Rattle.std.specs.Prelude.{◌≡◌, ◌≢◌, ◌≤◌, ◌<◌, ◌^◌, ◌⊎◌, ◌↔◌, map, string_bytes, length, codes, List, ℕ, Some, Ok, IsErr};
+ghost use Rattle.std.specs.Io.KnownBytes.{Appends};
+ghost use Rattle.lift_base.specs.Outside.{Rose, AppendsFront, TakenHas};
+ghost use Rattle.lift_model.specs.Chain.{ChainData};
+ghost use Rattle.drn_read.specs.FirstForm.{IsFirstForm};
+ghost use Rattle.plift_top.specs.Job.{job, JobData};
+ghost use Rattle.plift_top.specs.Verify.{WasRead, Reports, TellsNone, KeepsLimit, text_limit};
+ghost use Rattle.plift_top.specs.Answers.{status_of, note_of, HasNote, Told, Acts};
+
+use crate::command::job_of;
+use crate::job::Field;
+use crate::refusal::Refusal;
+use crate::status::Status;
+use crate::verify::verify;
+use lift_base::{Sink, Source, write_all};
+use std::alloc::Global;
+
+fn act<S: Source, K: Sink>(
+    alloc: Global,
+    words: &Vec<String>,
+    source: &mut S,
+    out: &mut K,
+) -> Result<(), Refusal>
+    ensures answer { Acts S.left S.faults K.taken K.faults (job (map string_bytes words.now.items)) source.old source.new out.old out.new result }
+    ensures limit { KeepsLimit result (S.left source.old) (S.left source.new) }
+{
+    let job = job_of(words)?;
+    verify(alloc, &job, source, out)
+}
+
+fn note_of(refusal: Refusal) -> &'static [u8]
+    ensures { result.now ≡ note_of refusal }
+{
+    match refusal {
+        Refusal::Usage(Field::Words) => b"usage: words\n",
+        Refusal::Usage(Field::Goal) => b"usage: --goal\n",
+        Refusal::Usage(Field::Bound) => b"usage: --bound\n",
+        Refusal::Usage(Field::Depth) => b"usage: --depth\n",
+        Refusal::Usage(Field::Precision) => b"usage: --precision\n",
+        Refusal::Model => b"model: unbuilt\n",
+        Refusal::ReadFault => b"read fault\n",
+        Refusal::WriteFault => b"write fault\n",
+        Refusal::TooLong => b"too long\n",
+        Refusal::Memory => b"out of memory\n",
+    }
+}
+
+fn status_of(refusal: Refusal) -> Status
+    ensures { result ≡ status_of refusal }
+{
+    match refusal {
+        Refusal::Usage(_) => Status::Usage,
+        Refusal::Model => Status::ModelRefused,
+        Refusal::ReadFault => Status::ReadFault,
+        Refusal::WriteFault => Status::WriteFault,
+        Refusal::TooLong => Status::TooLong,
+        Refusal::Memory => Status::Memory,
+    }
+}
+
+// Tells of a refusal. That the notes fail changes nothing.
+fn tell<E: Sink>(notes: &mut E, refusal: Refusal)
+    ensures { Told E.taken E.faults notes.old notes.new (note_of refusal) }
+{
+    let _ = write_all(notes, note_of(refusal));
+}
+
+/// Runs the program on the words after its name: reads from `source`, writes to `out`, and tells of a refusal on `notes`.
+pub fn run<S: Source, K: Sink, E: Sink>(
+    alloc: Global,
+    words: &Vec<String>,
+    source: &mut S,
+    out: &mut K,
+    notes: &mut E,
+) -> Status
+    // Done: the source gave a text of the first form, and out took the report of its chain and nothing else.
+    ensures done { result ≡ Status.Done → (j : JobData) × (job (map string_bytes words.now.items) ≡ Ok j)
+        × WasRead (Reports (Appends (K.taken out.old) (K.taken out.new)) j) (S.left source.old) (S.left source.new) }
+
+    // Each refusal has its cause.
+    ensures usage { (result ≡ Status.Usage) ↔ IsErr (job (map string_bytes words.now.items)) }
+    ensures model { result ≡ Status.ModelRefused → (j : JobData) × (job (map string_bytes words.now.items) ≡ Ok j)
+        × WasRead (TellsNone j.goal) (S.left source.old) (S.left source.new) }
+    ensures read_fault { result ≡ Status.ReadFault → Rose (S.faults source.old) (S.faults source.new) }
+    ensures write_fault { result ≡ Status.WriteFault → Rose (K.faults out.old) (K.faults out.new) }
+    ensures too_long { result ≡ Status.TooLong → TakenHas (λ bytes. text_limit < length bytes) (S.left source.old) (S.left source.new) }
+    ensures within { result ≢ Status.TooLong → TakenHas (λ bytes. length bytes ≤ text_limit) (S.left source.old) (S.left source.new) }
+    ensures never { (result ≢ Status.NotSound) × (result ≢ Status.RowsRefused) }
+
+    // A job and a text of the first form give Done or Memory, where no fault is counted.
+    ensures complete { (j : JobData) (text : List ℕ) (c : ChainData) → job (map string_bytes words.now.items) ≡ Ok j → S.left source.old ≡ Some text
+        → IsFirstForm j.goal text c → length text ≤ text_limit
+        → (Rose (S.faults source.old) (S.faults source.new) → ⊥) → (Rose (K.faults out.old) (K.faults out.new) → ⊥)
+        → (result ≡ Status.Done) ⊎ (result ≡ Status.Memory) }
+
+    // What stands after a refusal: the front of the report after a write fault, else out as it was.
+    ensures part { result ≡ Status.WriteFault → (j : JobData) × (job (map string_bytes words.now.items) ≡ Ok j)
+        × WasRead (Reports (AppendsFront (K.taken out.old) (K.taken out.new)) j) (S.left source.old) (S.left source.new) }
+    ensures kept { result ≢ Status.Done → result ≢ Status.WriteFault → out.new ≡ out.old }
+    ensures unread { IsErr (job (map string_bytes words.now.items)) → source.new ≡ source.old }
+
+    // A refusal is told by its note, and nothing else is.
+    ensures silent { result ≡ Status.Done → notes.new ≡ notes.old }
+    ensures told { result ≢ Status.Done → (note : List ℕ) × HasNote result (job (map string_bytes words.now.items)) note
+        × Told E.taken E.faults notes.old notes.new note }
+{
+    match act(alloc, words, source, out) {
+        Ok(()) => Status::Done,
+        Err(refusal) => {
+            tell(notes, refusal);
+            status_of(refusal)
+        }
+    }
+}

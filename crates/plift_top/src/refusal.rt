@@ -1,0 +1,58 @@
+// Why a command gave up.
+ghost use Rattle.std.specs.Prelude.{◌≡◌};
+ghost use Rattle.plift_top.specs.declared.refusal.Refusal.TheVariants.{Memory, WriteFault, Usage};
+ghost use Rattle.plift_top.specs.Refused.{refusal_of};
+
+use crate::job::Field;
+use lift_base::ReadError;
+use std::alloc::AllocError;
+
+/// Why a command gave up, with what its note tells.
+#[derive(Clone, Copy, Debug, PartialEq, Eq)]
+pub enum Refusal {
+    /// This part of the command line is at fault.
+    Usage(Field),
+    /// The text isn't a model that this program reads.
+    Model,
+    ReadFault,
+    WriteFault,
+    /// The source gives more bytes than a text may have.
+    TooLong,
+    Memory,
+}
+
+impl From<Field> for Refusal {
+    ghost from_gives = { λ field e. e ≡ Usage field };
+
+    fn from(field: Field) -> Self {
+        Refusal::Usage(field)
+    }
+}
+
+impl From<AllocError> for Refusal {
+    ghost from_gives = { λ _ e. e ≡ Memory };
+
+    fn from(_: AllocError) -> Self {
+        Refusal::Memory
+    }
+}
+
+impl From<lift_base::WriteFault> for Refusal {
+    ghost from_gives = { λ _ e. e ≡ WriteFault };
+
+    fn from(_: lift_base::WriteFault) -> Self {
+        Refusal::WriteFault
+    }
+}
+
+impl From<ReadError> for Refusal {
+    ghost from_gives = { λ x e. e ≡ refusal_of x };
+
+    fn from(error: ReadError) -> Self {
+        match error {
+            ReadError::Fault => Refusal::ReadFault,
+            ReadError::TooLong => Refusal::TooLong,
+            ReadError::Memory => Refusal::Memory,
+        }
+    }
+}

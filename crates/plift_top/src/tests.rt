@@ -1,0 +1,321 @@
+ghost use Rattle.std.specs.Prelude.{None};
+
+use crate::{Status, run};
+use lift_base::{Got, MemSink, MemSource, Source, SureSource};
+use std::alloc::Global;
+use std::test::Fail;
+
+const COIN: &str = "@type: DTMC\n@parameters\np\n@model\nstate 0 init\n1 : p\n2 : 1-p\n\
+    state 1 heads\n1 : 1\nstate 2\n2 : 1\n";
+
+const PLAIN: &str = "@type: DTMC\n@model\nstate 0 init\n1 : 1/4\n2 : 3/4\n\
+    state 1 heads\n1 : 1\nstate 2\n2 : 1\n";
+
+const TENTH: &str = "@type: DTMC\n@model\nstate 0 init\n1 : 1/10\n2 : 9/10\n\
+    state 1 heads\n1 : 1\nstate 2\n2 : 1\n";
+
+const APART: &str = "@type: DTMC\n@model\nstate 0 init\n0 : 1\nstate 1 heads\n1 : 1\n";
+
+const ZERO: &str = "@type: DTMC\n@model\nstate 0 heads\n0 : 1\n1 : 0\nstate 1 init\n0 : 1\n";
+
+const PLAIN_REPORT: &str =
+    "plift 1\nkind dtmc\nparameters 0\ncommon 4\nstates 3\ninit 0\ngoal 1 1\n\
+    row 0 0 2\nto 1 0:1\nto 2 0:3\nrow 1 0 1\nto 1 0:4\nrow 2 0 1\nto 2 0:4\n\
+    bound 1/2\nprecision 4\ndepth 0\ngrid 1\nbox\naccept 4 16 0\n";
+
+const ZERO_REPORT: &str = "plift 1\nkind dtmc\nparameters 0\ncommon 1\nstates 2\ninit 1\ngoal 1 0\n\
+    row 0 0 2\nto 0 0:1\nto 1\nrow 1 0 1\nto 0 0:1\n\
+    bound 1/1\nprecision 24\ndepth 0\ngrid 1\nbox\naccept 16777216 16777216\n";
+
+const HALF: &str = "verify --goal heads --bound 1/2 --precision 4";
+
+fn words(alloc: Global, line: &str) -> Result<Vec<String>, Fail> {
+    let mut words = Vec::new(alloc);
+    for word in line.split(' ') {
+        words.push(String::from_str(alloc, word)?)?;
+    }
+    Ok(words)
+}
+
+// Each line: the words, the text, the status, how the output ends (nothing where it is empty), and the notes.
+const RUNS: [(&str, &str, Status, &str, &str); 27] = [
+    (HALF, PLAIN, Status::Done, PLAIN_REPORT, ""),
+    (
+        "verify --precision 4 --bound 2/4 --depth 0 --goal heads",
+        PLAIN,
+        Status::Done,
+        PLAIN_REPORT,
+        "",
+    ),
+    (
+        "verify --goal heads --bound 1",
+        ZERO,
+        Status::Done,
+        ZERO_REPORT,
+        "",
+    ),
+    (
+        "verify --goal heads --bound 0 --precision 4",
+        APART,
+        Status::Done,
+        "\nbound 0/1\nprecision 4\ndepth 0\ngrid 1\nbox\naccept 0 16\n",
+        "",
+    ),
+    (
+        "verify --goal heads --bound 1/8 --precision 4",
+        PLAIN,
+        Status::Done,
+        "\nbox\nunknown\n",
+        "",
+    ),
+    (
+        "verify --goal heads --bound 1/4 --precision 4",
+        PLAIN,
+        Status::Done,
+        "\nbox\naccept 4 16 0\n",
+        "",
+    ),
+    (
+        "verify --goal heads --bound 1/10 --precision 4",
+        TENTH,
+        Status::Done,
+        "\nbox\nunknown\n",
+        "",
+    ),
+    (
+        "verify --goal heads --bound 1/8 --precision 4",
+        TENTH,
+        Status::Done,
+        "\nbox\naccept 2 16 0\n",
+        "",
+    ),
+    (
+        "verify --goal heads --bound 1/2 --precision 4 --depth 5",
+        PLAIN,
+        Status::Done,
+        "\ndepth 5\ngrid 32\nbox\naccept 4 16 0\n",
+        "",
+    ),
+    (HALF, COIN, Status::ModelRefused, "", "model: unbuilt\n"),
+    (HALF, "", Status::ModelRefused, "", "model: unbuilt\n"),
+    (
+        "verify --goal tails --bound 1/2",
+        PLAIN,
+        Status::ModelRefused,
+        "",
+        "model: unbuilt\n",
+    ),
+    (
+        "verify --goal heads",
+        PLAIN,
+        Status::Usage,
+        "",
+        "usage: words\n",
+    ),
+    (
+        "verify --bound 1/2",
+        PLAIN,
+        Status::Usage,
+        "",
+        "usage: words\n",
+    ),
+    (
+        "verify --goal heads --goal heads --bound 1/2",
+        PLAIN,
+        Status::Usage,
+        "",
+        "usage: words\n",
+    ),
+    (
+        "verify --goal heads --bound 1/2 --depth",
+        PLAIN,
+        Status::Usage,
+        "",
+        "usage: words\n",
+    ),
+    (
+        "verify --goal -x --bound 1/2",
+        PLAIN,
+        Status::Usage,
+        "",
+        "usage: words\n",
+    ),
+    (
+        "verify --goal=heads --bound=1/2",
+        PLAIN,
+        Status::Usage,
+        "",
+        "usage: words\n",
+    ),
+    (
+        "verify --goal heads --bound 1/2 --region 0<=p<=1",
+        PLAIN,
+        Status::Usage,
+        "",
+        "usage: words\n",
+    ),
+    ("check", PLAIN, Status::Usage, "", "usage: words\n"),
+    ("", PLAIN, Status::Usage, "", "usage: words\n"),
+    (
+        "verify --goal  --bound 3/2",
+        PLAIN,
+        Status::Usage,
+        "",
+        "usage: --goal\n",
+    ),
+    (
+        "verify --goal heads --bound 3/2 --depth 21",
+        PLAIN,
+        Status::Usage,
+        "",
+        "usage: --bound\n",
+    ),
+    (
+        "verify --goal heads --bound 1/0",
+        PLAIN,
+        Status::Usage,
+        "",
+        "usage: --bound\n",
+    ),
+    (
+        "verify --goal heads --bound 1/4294967296",
+        PLAIN,
+        Status::Usage,
+        "",
+        "usage: --bound\n",
+    ),
+    (
+        "verify --goal heads --bound 1/2 --precision 41 --depth 21",
+        PLAIN,
+        Status::Usage,
+        "",
+        "usage: --depth\n",
+    ),
+    (
+        "verify --goal heads --bound 1/2 --precision 41",
+        PLAIN,
+        Status::Usage,
+        "",
+        "usage: --precision\n",
+    ),
+];
+
+#[test]
+fn the_first_path_answers(rt: HostRuntime) -> Result<(), Fail> {
+    let alloc = rt.alloc();
+    for (line, text, status, end, told) in RUNS {
+        let mut source = SureSource::new(Vec::from_slice(alloc, text.as_bytes())?);
+        let mut out = MemSink::new(alloc, 1000, 1000, Vec::new(alloc))?;
+        let mut notes = MemSink::new(alloc, 100, 3, Vec::new(alloc))?;
+        let got = run(
+            alloc,
+            &words(alloc, line)?,
+            &mut source,
+            &mut out,
+            &mut notes,
+        );
+        assert!(rt; got == status, "{line}");
+        assert!(rt; out.taken().ends_with(end.as_bytes()), "{line}");
+        assert!(rt; end.is_empty() == out.taken().is_empty(), "{line}");
+        assert!(rt; notes.taken() == told.as_bytes(), "{line}");
+    }
+    Ok(())
+}
+
+// Faults: of the source's third call, of the sink's second, of a sink without room, and of the notes.
+#[test]
+fn faults_are_told(rt: HostRuntime) -> Result<(), Fail> {
+    let alloc = rt.alloc();
+    for (text, reads, writes, room, tells, status, taken, told) in [
+        (PLAIN, 3, 0, 1000, 0, Status::ReadFault, "", "read fault\n"),
+        (
+            PLAIN,
+            0,
+            2,
+            1000,
+            0,
+            Status::WriteFault,
+            "p",
+            "write fault\n",
+        ),
+        (
+            PLAIN,
+            0,
+            0,
+            10,
+            0,
+            Status::WriteFault,
+            "plift 1\nki",
+            "write fault\n",
+        ),
+        (PLAIN, 8, 0, 1000, 0, Status::Done, PLAIN_REPORT, ""),
+        (COIN, 0, 0, 1000, 1, Status::ModelRefused, "", ""),
+    ] {
+        let mut failing_reads = Vec::new(alloc);
+        failing_reads.push(reads)?;
+        let mut failing_writes = Vec::new(alloc);
+        failing_writes.push(writes)?;
+        let mut failing_tells = Vec::new(alloc);
+        failing_tells.push(tells)?;
+        let text = Vec::from_slice(alloc, text.as_bytes())?;
+        let mut source = MemSource::new(text, 16, failing_reads);
+        let mut out = MemSink::new(alloc, room, 1, failing_writes)?;
+        let mut notes = MemSink::new(alloc, 100, 3, failing_tells)?;
+        let got = run(
+            alloc,
+            &words(alloc, HALF)?,
+            &mut source,
+            &mut out,
+            &mut notes,
+        );
+        assert!(rt; got == status, "{told}");
+        assert!(rt; out.taken() == taken.as_bytes(), "{told}");
+        assert!(rt; notes.taken() == told.as_bytes(), "{told}");
+    }
+    Ok(())
+}
+
+// Gives so many line feeds, made as they are read.
+#[derive(Drop)]
+struct LineFeeds {
+    left: usize,
+}
+
+impl Source for LineFeeds {
+    ghost left = { λ _. None };
+
+    ghost faults = { λ _. 0 };
+
+    fn read(&mut self, buf: &mut [u8]) -> Got {
+        let count = self.left.min(buf.len());
+        for byte in buf.iter_mut() {
+            *byte = b'\n';
+        }
+        self.left -= count;
+        Got::Bytes(count)
+    }
+}
+
+#[test]
+fn a_text_has_at_most_2_to_the_26_bytes(rt: HostRuntime) -> Result<(), Fail> {
+    let alloc = rt.alloc();
+    for (left, status, told) in [
+        (1 << 26, Status::ModelRefused, "model: unbuilt\n"),
+        ((1 << 26) + 1, Status::TooLong, "too long\n"),
+    ] {
+        let mut source = LineFeeds { left };
+        let mut out = MemSink::new(alloc, 10, 1, Vec::new(alloc))?;
+        let mut notes = MemSink::new(alloc, 100, 3, Vec::new(alloc))?;
+        let got = run(
+            alloc,
+            &words(alloc, HALF)?,
+            &mut source,
+            &mut out,
+            &mut notes,
+        );
+        assert!(rt; got == status, "{told}");
+        assert!(rt; out.taken().is_empty(), "{told}");
+        assert!(rt; notes.taken() == told.as_bytes(), "{told}");
+    }
+    Ok(())
+}
