@@ -1,4 +1,4 @@
 pub mod Words
 pub mod Lines
 pub mod Acts
-pub mod Texts
+mod Samples

@@ -46,10 +46,11 @@ terms n = if int_eq n (pos 0) then [] else (codes "0:" ++ signed_decimal n) ∷ 
 abbrev pub entry_line : ℕ × ℤ → List ℕ
 entry_line entry = line (codes "to" ∷ decimal entry.0 ∷ terms entry.1)
 
--- the one row of state s, and its entries in their order
+-- the first line of the one row of state s, which has so many entries
 unfoldable pub row_line : ℕ → ℕ → List ℕ
 row_line s count = line (codes "row" ∷ decimal s ∷ codes "0" ∷ decimal count ∷ [])
 
+-- the row of state s: how many entries it has, and these in their order
 abbrev pub row_lines : ℕ → List (ℕ × ℤ) → List (List ℕ)
 row_lines s entries = row_line s (length entries) ∷ map entry_line entries
 
@@ -77,5 +78,6 @@ leaf_line unknown = line (codes "unknown" ∷ [])
 abbrev pub report_lines : ChainData → JobData → Leaf → List (List ℕ)
 report_lines c job leaf = head_lines c ++ goal_line c.goal ∷ (rows_from 0 c.states ++ (job_lines job ++ leaf_line leaf ∷ []))
 
+-- the bytes of a report
 abbrev pub report_text : ChainData → JobData → Leaf → List ℕ
 report_text c job leaf = concat (report_lines c job leaf)
