@@ -1,6 +1,7 @@
 -- Parameter lifting (Quatmann, Dehnert, Jansen, Junges and Katoen, ATVA 2016): each row of a model has parameters of its own, and over a rectangle of values its extremes are at the corners. Here is what a corner of a row is, and what the row weighs there.
 use Rattle.std.specs.Prelude.{ℕ, zero, suc, ◌+◌, ◌/◌, ◌%◌, ◌^◌, ◌<◌, List, [], ◌∷◌, ℤ, pos, ◌*ℤ◌, bit_or}
-use Rattle.lift_poly.specs.Polynomial.{Term, Valuation}
+use Rattle.lift_poly.specs.Polynomial.{Valuation}
+use Rattle.lift_poly.specs.Arithmetic as polynomial
 use Rattle.lift_model.specs.Process.{power, weighted_sum}
 use Rattle.lift_model.specs.Model.{Entry, ModelData, moves_at}
 
@@ -8,15 +9,10 @@ use Rattle.lift_model.specs.Model.{Entry, ModelData, moves_at}
 abbrev pub Spans : Type 0
 Spans = List (ℤ × ℤ)
 
--- the union of the sets of a polynomial
-abbrev pub terms_support : List Term → ℕ
-terms_support [] = 0
-terms_support (term ∷ terms) = bit_or term.0 (terms_support terms)
-
 -- the set of the parameters that occur in a row
 abbrev pub support : List Entry → ℕ
 support [] = 0
-support (entry ∷ row) = bit_or (terms_support entry.terms) (support row)
+support (entry ∷ row) = bit_or (polynomial.support entry.terms) (support row)
 
 -- how many of the declared parameters are in the set
 abbrev pub width : Spans → ℕ → ℕ

@@ -1,3 +1,4 @@
 pub mod Writing
+pub mod Naming
 pub mod Reading
 pub mod Gathering

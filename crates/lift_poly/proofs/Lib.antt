@@ -1,3 +1,11 @@
+pub mod Answers
+pub mod Canonical
+pub mod Counts
+pub mod Division
+pub mod Lookup
+pub mod Merging
+pub mod Products
 pub mod Ring
+pub mod Sets
 pub mod Weights
 pub mod Powers

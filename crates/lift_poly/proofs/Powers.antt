@@ -1,7 +1,6 @@
 -- Machine numbers that stand for powers of 2.
-use Rattle.std.proofs.Common.{◌≡◌, ℕ, ◌*◌, ◌%◌, ◌^◌, ◌<◌, ◌≤◌, ◌≤ℤ◌, pos, to_z, w64, one-mul, mod-eq_of_lt, pow_mono, ap, ◌∙◌, arith}
+use Rattle.std.proofs.Common.{◌≡◌, ℕ, ◌*◌, ◌%◌, ◌^◌, ◌<◌, ◌≤◌, pos, to_z, w64, one-mul, mod-eq_of_lt, pow_mono, ap, ◌∙◌, arith}
 use Rattle.std.proofs.lemmas.Int.{to_z_pos}
-use Rattle.lift_poly.proofs.Ring.{linear}
 
 -- 1 shifted by at most 40 places
 pub one_shifted : (w : ℕ) → w ≤ 40 → to_z w64 (1 * 2 ^ w % 2 ^ 64) ≡ pos (2 ^ w)
@@ -10,6 +9,3 @@ one_shifted w le =
     let below : 2 ^ w < 2 ^ 63 = omega arith in
     let same : 1 * 2 ^ w % 2 ^ 64 ≡ 2 ^ w = ap (λ n. n % 2 ^ 64) (one-mul (2 ^ w)) ∙ mod-eq_of_lt (omega arith) in
     ap (to_z w64) same ∙ to_z_pos w64 (2 ^ w) below
-
-pub one_shifted_most : (w : ℕ) → w ≤ 40 → to_z w64 (1 * 2 ^ w % 2 ^ 64) ≤ℤ pos (2 ^ 40)
-one_shifted_most w le = let small : 2 ^ w ≤ 2 ^ 40 = pow_mono le in rw (one_shifted w le) (omega (arith, linear))

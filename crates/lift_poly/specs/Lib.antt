@@ -1,1 +1,4 @@
+pub mod Arithmetic
+pub mod Laws
+pub mod MultiAffine
 pub mod Polynomial

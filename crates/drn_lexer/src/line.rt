@@ -1,0 +1,175 @@
+ghost use Rattle.std.specs.Prelude.{◌≡◌, ℕ, List, ◌↔◌, ◌==◌, ◌+◌, ◌-◌, ◌<◌, ◌≤◌, ◌^◌, length, slice_range, IsTrue, IfNone, IfSome, IfOk, OnErr, Ok, None};
+ghost use Rattle.std.specs.List.{list_all, suffix_len};
+ghost use Rattle.drn_lexer.specs.Bytes.{is_blank, is_text_byte};
+ghost use Rattle.drn_lexer.specs.Lines.{without_return, content, span_of, lines_at, lines, behind_comments, is_passed_over, answer_of, place_behind, place_after};
+ghost use Rattle.drn_lexer.specs.Steps.{text_line, IsAtEnd, IsFirstLine, judged};
+ghost use Rattle.drn_lexer.specs.Spans.{LiesIn, IsNextLine};
+
+use crate::bytes::{blanks_len, is_blank, is_text_byte, len_before};
+use crate::error::LexError;
+
+/// The greatest length of a line in bytes, its line feed not counted.
+const LINE_LIMIT: usize = 1 << 20;
+
+/// A place where a line of a text begins: its first byte, and the line's number.
+#[derive(Clone, Copy, Debug, PartialEq, Eq)]
+pub struct Place {
+    pub at: usize,
+    pub number: u32,
+}
+
+impl Place {
+    /// The start of a text. Its first line has number 1.
+    pub fn start() -> Place
+        ensures at { result.at ≡ 0 }
+        ensures number { result.number ≡ 1 }
+        ensures lines { (text : List ℕ) → lines_at text result ≡ lines text }
+    {
+        Place { at: 0, number: 1 }
+    }
+}
+
+/// A line: the bytes of the text from `from` to before `to`, and its number from 1 on.
+#[derive(Clone, Copy, Debug, PartialEq, Eq)]
+pub struct Line {
+    pub from: usize,
+    pub to: usize,
+    pub number: u32,
+}
+
+/// The line at a place as it stands there, up to its line feed, if one is left.
+fn raw_line(text: &[u8], place: Place) -> Option<Line>
+    requires { place.at ≤ length text.now }
+    ensures none { IfNone result (IsAtEnd text.now place) }
+    ensures line { IfSome result (IsFirstLine text.now place) }
+{
+    let rest = &text[place.at..];
+    if rest.is_empty() {
+        return None;
+    }
+    Some(Line {
+        from: place.at,
+        to: place.at + len_before(rest, b'\n'),
+        number: place.number,
+    })
+}
+
+/// The place behind a line: behind its line feed, or at the end of the text.
+fn place_behind(text: &[u8], raw: Line) -> Place
+    requires line { LiesIn raw text.now }
+    requires short { length text.now < 2 ^ 31 }
+    requires number { raw.number ≤ raw.from + 1 }
+    ensures { result ≡ place_behind text.now (text_line text.now raw) }
+{
+    Place {
+        at: (raw.to + 1).min(text.len()),
+        number: raw.number + 1,
+    }
+}
+
+/// How many blanks stand at the end.
+fn blanks_at_end(text: &[u8]) -> usize
+    ensures within { result ≤ length text.now }
+    ensures len { result ≡ suffix_len is_blank text.now }
+{
+    let mut left = text.len();
+    while left > 0 && is_blank(text[left - 1]) {
+        left -= 1;
+    }
+    text.len() - left
+}
+
+/// A line's bytes without one carriage return at the end.
+fn without_return(bytes: &[u8]) -> &[u8]
+    ensures { result.now ≡ without_return bytes.now }
+{
+    match bytes {
+        [front @ .., b'\r'] => front,
+        _ => bytes,
+    }
+}
+
+/// Where what a line says stands: without a carriage return at the end, and without blanks at
+/// both ends.
+fn trimmed(text: &[u8], raw: Line) -> Line
+    requires { LiesIn raw text.now }
+    ensures span { result ≡ span_of (text_line text.now raw) }
+    ensures content { slice_range text.now result.from result.to ≡ content (text_line text.now raw) }
+    ensures lies { LiesIn result text.now }
+{
+    let bytes = without_return(&text[raw.from..raw.to]);
+    let blanks = blanks_len(bytes);
+    let rest = &bytes[blanks..];
+    let from = raw.from + blanks;
+    Line {
+        from,
+        to: from + (rest.len() - blanks_at_end(rest)),
+        number: raw.number,
+    }
+}
+
+/// Whether there are only tabs and bytes from a space to a tilde.
+fn is_text(content: &[u8]) -> bool
+    ensures { result ≡ list_all is_text_byte content.now }
+{
+    content.iter().all(|byte| is_text_byte(*byte))
+}
+
+/// What a line gives: what is wrong with it, nothing where it is a comment, or where it stands.
+fn judged(text: &[u8], raw: Line) -> Result<Option<Line>, LexError>
+    requires { LiesIn raw text.now }
+    ensures answer { result ≡ judged (text_line text.now raw) }
+    ensures content { IfOk result (λ found. IfSome found (λ line.
+        slice_range text.now line.from line.to ≡ content (text_line text.now raw))) }
+    ensures lies { IfOk result (λ found. IfSome found (λ line. LiesIn line text.now)) }
+{
+    if raw.to - raw.from > LINE_LIMIT {
+        return Err(LexError::LongLine);
+    }
+    let line = trimmed(text, raw);
+    let content = &text[line.from..line.to];
+    if content.starts_with(b"//") {
+        Ok(None)
+    } else if is_text(content) {
+        Ok(Some(line))
+    } else {
+        Err(LexError::NotText)
+    }
+}
+
+/// The next line from a place on that isn't a comment, without one carriage return at its end and
+/// then without blanks at both ends. Afterwards `place` is behind that line. A blank line is given
+/// too: its span is empty.
+///
+/// None exactly where nothing but comment lines, none of them too long, or nothing at all is
+/// left; `place` is then at the end of the text. `LongLine` exactly where the next line that isn't
+/// passed over has more than 2^20 bytes without its line feed, a comment or not, and else
+/// `NotText` exactly where it holds a byte that is neither a tab nor from 32 to 126; `place` then
+/// names that line.
+///
+/// The text has fewer than 2^31 bytes. `place.at` is at most its length, and `place.number` at
+/// most `place.at + 1`, and both stay so. The cost is linear in what is read.
+pub fn next_line(text: &[u8], place: &mut Place) -> Result<Option<Line>, LexError>
+    requires short { length text.now < 2 ^ 31 }
+    requires at { place.old.at ≤ length text.now }
+    requires number { place.old.number ≤ place.old.at + 1 }
+    ensures answer { result ≡ answer_of (behind_comments (lines_at text.now place.old)) }
+    ensures place { let left = behind_comments (lines_at text.now place.old) in
+        place.new ≡ place_after text.now place.old left }
+
+    // What follows from these, as callers go on with it.
+    ensures none { (result ≡ Ok None) ↔ IsTrue (list_all is_passed_over (lines_at text.now place.old)) }
+    ensures line { IfOk result (λ found. IfSome found (IsNextLine text.now place.old place.new)) }
+    ensures refused { OnErr result (behind_comments (lines_at text.now place.old) ≡ lines_at text.now place.new) }
+    ensures at { place.new.at ≤ length text.now }
+    ensures number { place.new.number ≤ place.new.at + 1 }
+{
+    while let Some(raw) = raw_line(text, *place) {
+        let line = judged(text, raw)?;
+        *place = place_behind(text, raw);
+        if line.is_some() {
+            return Ok(line);
+        }
+    }
+    Ok(None)
+}

@@ -1,0 +1,150 @@
+-- Products of terms, one by one, and a polynomial times a number.
+use Rattle.std.proofs.Common.{◌≡◌, ◌≢◌, ℕ, zero, suc, ◌+◌, ◌^◌, ◌<◌, Bool, true, false, ◌||◌, List, [], ◌∷◌, ◌++◌, length, get_or, take, ℤ, pos, ◌+ℤ◌, ◌*ℤ◌, All, ⊎_elim, unsigned_abs, bit_and, bit_or, refl, sym, ap, ap₂, ◌∙◌, arith, append_assoc}
+use Rattle.std.specs.List.{list_any}
+use Rattle.std.specs.List.Sorted.{IsPermutation, IsNonDecreasingBy}
+use Rattle.std.proofs.lemmas.Bool.{cases_eq, cases_Bool}
+use Rattle.std.proofs.lemmas.Grind.{common_steps}
+use Rattle.std.proofs.lemmas.List.{get_or-map, length-map, take_more, append-nil}
+use Rattle.std.proofs.lemmas.List.Elements.{All-nil, All-cons, All-head, All-tail, All-append, All-map, All-weaker}
+use Rattle.std.proofs.lemmas.List.Folds.{list_any-append, list_any_at}
+use Rattle.std.proofs.lemmas.Nat.{or_lt}
+use Rattle.lift_poly.specs.Polynomial.{Term, IsPolynomial}
+use Rattle.lift_poly.specs.Arithmetic.{coefficient, times, scaled, products_of, products, product, support}
+use Rattle.lift_poly.specs.MultiAffine.{IsMultiAffine, is_wide}
+use Rattle.lift_poly.proofs.Canonical.{Canonical, canonical_from_polynomial, polynomial_from_canonical, coefficient-here, coefficient-other, collected_is}
+use Rattle.lift_poly.proofs.Merging.{Small, multi_affine_from, narrow_size}
+use Rattle.lift_poly.proofs.Counts.{mul-some, distinct_products, sorted_is, wide_collected}
+use Rattle.lift_poly.proofs.Sets.{zero-or}
+use Rattle.lift_poly.proofs.Ring.{mul-add, mul-zero, zero-mul}
+
+-- the product of two terms
+abbrev pub joined : Term → Term → Term
+joined t u = (bit_or t.0 u.0, t.1 *ℤ u.1)
+
+pub products_of_more : (t : Term) (us : List Term) (i : ℕ) (d : Term) → i < length us → products_of t (take (i + 1) us) ≡ products_of t (take i us) ++ joined t (get_or us i d) ∷ []
+products_of_more t us i d lt = grind (arith, common_steps)
+
+-- a product that is too large is among them
+pub wide_product : (t : Term) (us : List Term) (i : ℕ) (d : Term) → i < length us → is_wide (joined t (get_or us i d)) ≡ true → list_any is_wide (products_of t us) ≡ true
+wide_product t us i d lt wide =
+    list_any_at is_wide (products_of t us) i (joined t d) (omega (arith, length-map us (joined t)))
+    (ap is_wide (get_or-map (joined t) us i d (joined t d) lt) ∙ wide)
+
+-- terms and more terms, none of them too large
+fits_both : (ts us : List Term) → list_any is_wide ts ≡ false → list_any is_wide us ≡ false → list_any is_wide (ts ++ us) ≡ false
+fits_both ts us h k = list_any-append is_wide ts us ∙ ap (λ b. b || list_any is_wide us) h ∙ k
+
+-- one product more that isn't too large
+pub fits_more : (t : Term) (us : List Term) (i : ℕ) (d : Term) → i < length us → list_any is_wide (products_of t (take i us)) ≡ false → is_wide (joined t (get_or us i d)) ≡ false → list_any is_wide (products_of t (take (i + 1) us)) ≡ false
+fits_more t us i d lt before fits =
+    ap (list_any is_wide) (products_of_more t us i d lt)
+    ∙ fits_both (products_of t (take i us)) (joined t (get_or us i d) ∷ []) before (ap (λ b. b || false) fits)
+
+pub narrow_sizes : (ts : List Term) → list_any is_wide ts ≡ false → All (λ t. unsigned_abs t.1 < 2 ^ 125) ts
+narrow_sizes [] h = All-nil (λ u. unsigned_abs u.1 < 2 ^ 125)
+narrow_sizes (t ∷ ts) h =
+    ⊎_elim
+    (λ (first : is_wide t ≡ true). let wrong : true ≡ false = sym (ap (λ b. b || list_any is_wide ts) first) ∙ h in cc)
+    (λ (first : is_wide t ≡ false).
+    All-cons (λ u. unsigned_abs u.1 < 2 ^ 125) t ts (narrow_size t first) (narrow_sizes ts (sym (ap (λ b. b || list_any is_wide ts) first) ∙ h)))
+    (cases_Bool (is_wide t))
+
+-- ---- products of two polynomials
+
+products-append : (ts us right : List Term) → products (ts ++ us) right ≡ products ts right ++ products us right
+products-append [] us right = refl
+products-append (t ∷ ts) us right = ap (λ ws. products_of t right ++ ws) (products-append ts us right) ∙ sym (append_assoc (products_of t right) (products ts right) (products us right))
+
+pub products_more : (left right : List Term) (i : ℕ) (d : Term) → i < length left → products (take (i + 1) left) right ≡ products (take i left) right ++ products_of (get_or left i d) right
+products_more left right i d lt =
+    ap (λ ts. products ts right) (take_more left i d lt) ∙ products-append (take i left) (get_or left i d ∷ []) right
+    ∙ ap (λ ws. products (take i left) right ++ ws) (append-nil (products_of (get_or left i d) right))
+
+pub products_fit_more : (left right : List Term) (i : ℕ) (d : Term) → i < length left → list_any is_wide (products (take i left) right) ≡ false → list_any is_wide (products_of (get_or left i d) right) ≡ false
+    → list_any is_wide (products (take (i + 1) left) right) ≡ false
+products_fit_more left right i d lt h k =
+    ap (list_any is_wide) (products_more left right i d lt) ∙ fits_both (products (take i left) right) (products_of (get_or left i d) right) h k
+
+or_right : (b : Bool) → (b || true) ≡ true
+or_right true = refl
+or_right false = refl
+
+wide_among : (left right : List Term) (i : ℕ) (d : Term) → i < length left → list_any is_wide (products_of (get_or left i d) right) ≡ true → list_any is_wide (products left right) ≡ true
+wide_among [] right i d lt wide = absurd (omega arith)
+wide_among (t ∷ left) right zero d lt wide = list_any-append is_wide (products_of t right) (products left right) ∙ ap (λ b. b || list_any is_wide (products left right)) wide
+wide_among (t ∷ left) right (suc i) d lt wide =
+    list_any-append is_wide (products_of t right) (products left right)
+    ∙ ap (λ b. list_any is_wide (products_of t right) || b) (wide_among left right i d (omega arith) wide) ∙ or_right (list_any is_wide (products_of t right))
+
+-- a term whose products are too large makes the product too large
+pub wide_row : (left right : List Term) (i : ℕ) (d : Term) → IsPolynomial left → IsPolynomial right → bit_and (support left) (support right) ≡ 0 → i < length left
+    → list_any is_wide (products_of (get_or left i d) right) ≡ true → list_any is_wide (product left right) ≡ true
+wide_row left right i d h k none lt wide = wide_collected (products left right) (distinct_products left right h k none) (wide_among left right i d lt wide)
+
+-- a set of 16 parameters, and a coefficient that isn't 0
+abbrev Proper : Term → Type 0
+Proper t = (t.0 < 2 ^ 16) × (t.1 ≢ pos 0)
+
+proper_products_of : (t : Term) (us : List Term) → Proper t → All Proper us → All Proper (products_of t us)
+proper_products_of t us h k = All-map Proper (joined t) us (All-weaker Proper (λ u. Proper (joined t u)) (λ u p. (or_lt 16 t.0 u.0 h.0 p.0, mul-some t.1 u.1 h.1 p.1)) us k)
+
+proper_products : (ts us : List Term) → All Proper ts → All Proper us → All Proper (products ts us)
+proper_products [] us h k = All-nil Proper
+proper_products (t ∷ ts) us h k =
+    All-append Proper (products_of t us) (products ts us) (proper_products_of t us (All-head Proper t ts h) k) (proper_products ts us (All-tail Proper t ts h) k)
+
+proper_from : (ts : List Term) → IsMultiAffine ts → All Proper ts
+proper_from ts h k d lt = (h.sets k d lt, h.polynomial.coefficients k d lt)
+
+some_products : (left right : List Term) → IsMultiAffine left → IsMultiAffine right → All (λ t. t.1 ≢ pos 0) (products left right)
+some_products left right h k = All-weaker Proper (λ t. t.1 ≢ pos 0) (λ t p. p.1) (products left right) (proper_products left right (proper_from left h) (proper_from right k))
+
+small_products : (left right : List Term) → IsMultiAffine left → IsMultiAffine right → list_any is_wide (products left right) ≡ false → All Small (products left right)
+small_products left right h k fits i d lt =
+    ((proper_products left right (proper_from left h) (proper_from right k) i d lt).0, narrow_sizes (products left right) fits i d lt)
+
+-- the products of two polynomials that share no parameter, once they are sorted, are their product
+pub sorted_products : (left right us : List Term) → IsMultiAffine left → IsMultiAffine right → bit_and (support left) (support right) ≡ 0 → list_any is_wide (products left right) ≡ false
+    → IsPermutation (products left right) us → IsNonDecreasingBy (λ (t : Term). t.0) us → IsMultiAffine us × (us ≡ product left right)
+sorted_products left right us h k none fits moved sorted =
+    sorted_is (products left right) us (distinct_products left right h.polynomial k.polynomial none) (some_products left right h k) (small_products left right h k fits) moved sorted
+
+-- ---- a polynomial times a number
+
+pub products_of-number : (by : ℤ) (ts : List Term) → products_of (0, by) ts ≡ times by ts
+products_of-number by [] = refl
+products_of-number by (t ∷ ts) = ap₂ (λ n us. (n, by *ℤ t.1) ∷ us) (zero-or t.0) (products_of-number by ts)
+
+pub coefficient-times : (set : ℕ) (by : ℤ) (ts : List Term) → coefficient set (times by ts) ≡ by *ℤ coefficient set ts
+coefficient-times set by [] = sym (mul-zero by)
+coefficient-times set by (t ∷ ts) =
+    ⊎_elim
+    (λ (e : t.0 ≡ set).
+    coefficient-here set (t.0, by *ℤ t.1) (times by ts) e ∙ ap (λ z. by *ℤ t.1 +ℤ z) (coefficient-times set by ts)
+    ∙ sym (ap (λ z. by *ℤ z) (coefficient-here set t ts e) ∙ mul-add by t.1 (coefficient set ts)))
+    (λ (ne : t.0 ≡ set → ⊥).
+    coefficient-other set (t.0, by *ℤ t.1) (times by ts) ne ∙ coefficient-times set by ts ∙ sym (ap (λ z. by *ℤ z) (coefficient-other set t ts ne)))
+    (cases_eq t.0 set)
+
+canonical-times : (low : ℕ) (by : ℤ) (ts : List Term) → by ≢ pos 0 → Canonical low ts → Canonical low (times by ts)
+canonical-times low by [] ne h = tt
+canonical-times low by (t ∷ ts) ne h = (h.0, mul-some by t.1 ne h.1, canonical-times (suc t.0) by ts ne h.2)
+
+-- a number that isn't 0 leaves each term in its place
+pub times_is : (by : ℤ) (ts : List Term) → by ≢ pos 0 → IsPolynomial ts → times by ts ≡ scaled by ts
+times_is by ts ne h =
+    collected_is (times by ts) (times by ts) (polynomial_from_canonical 0 (times by ts) (canonical-times 0 by ts ne (canonical_from_polynomial ts h))) (λ set. refl)
+
+-- 0 times a polynomial is the polynomial 0
+pub scaled_none : (by : ℤ) (ts : List Term) → by ≡ pos 0 → [] ≡ scaled by ts
+scaled_none by ts e =
+    collected_is [] (times by ts) (polynomial_from_canonical 0 [] tt)
+    (λ set. sym (coefficient-times set by ts ∙ ap (λ z. z *ℤ coefficient set ts) e ∙ zero-mul (coefficient set ts)))
+
+pub scaled_fits : (by : ℤ) (ts : List Term) → by ≢ pos 0 → IsMultiAffine ts → list_any is_wide (times by ts) ≡ false → IsMultiAffine (times by ts)
+scaled_fits by ts ne h fits =
+    multi_affine_from (times by ts) (canonical-times 0 by ts ne (canonical_from_polynomial ts h.polynomial))
+    (λ k d lt. (sets k d lt, narrow_sizes (times by ts) fits k d lt))
+  where
+    sets : All (λ t. t.0 < 2 ^ 16) (times by ts)
+    sets = All-map (λ t. t.0 < 2 ^ 16) (λ (t : Term). (t.0, by *ℤ t.1)) ts h.sets
