@@ -3,7 +3,8 @@ use Rattle.std.proofs.Common.{◌≡◌, ℕ, zero, suc, ◌^◌, true, false, L
 use Rattle.std.proofs.lemmas.List.Elements.{All-cons, All-nil}
 use Rattle.lift_model.specs.Model.{Entry, is_goal, choices}
 use Rattle.lift_model.proofs.Samples.{twin, toss_row, other_row, sink_row}
-use Rattle.corner_lift.specs.Corner.{Spans, AtCorners, corner_sum, whole}
+use Rattle.lift_grid.specs.Rectangle.{Spans}
+use Rattle.corner_lift.specs.Corner.{AtCorners, corner_sum, whole}
 use Rattle.corner_lift.specs.Certificate.{number, IsAccepting}
 
 -- p from 2/5 to 3/5

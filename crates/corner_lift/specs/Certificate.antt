@@ -1,7 +1,8 @@
 -- Accepting certificates of a rectangle: for each state a number over 2 ^ w, w being the precision, that bounds from above what any scheduler reaches. Finite tests at the corners of each row show it: that the vector is an inductive upper bound, as the textbook has it for one Markov decision process.
 use Rattle.std.specs.Prelude.{◌≡◌, ℕ, ◌^◌, true, false, List, ℤ, pos, ◌*ℤ◌, ◌≤ℤ◌, All, length, slice_index_or}
 use Rattle.lift_model.specs.Model.{ModelData, is_goal, choices}
-use Rattle.corner_lift.specs.Corner.{Spans, AtCorners, corner_sum, whole}
+use Rattle.lift_grid.specs.Rectangle.{Spans}
+use Rattle.corner_lift.specs.Corner.{AtCorners, corner_sum, whole}
 
 -- the number of a state
 abbrev pub number : List ℤ → ℕ → ℤ

@@ -2,12 +2,9 @@
 use Rattle.std.specs.Prelude.{ℕ, zero, suc, ◌+◌, ◌/◌, ◌%◌, ◌^◌, ◌<◌, List, [], ◌∷◌, ℤ, pos, ◌*ℤ◌, bit_or}
 use Rattle.lift_poly.specs.Polynomial.{Valuation}
 use Rattle.lift_poly.specs.Arithmetic as polynomial
+use Rattle.lift_grid.specs.Rectangle.{Spans, end_of}
 use Rattle.lift_model.specs.Process.{power, weighted_sum}
 use Rattle.lift_model.specs.Model.{Entry, ModelData, moves_at}
-
--- the low and the high end of each declared parameter, over the grid's denominator
-abbrev pub Spans : Type 0
-Spans = List (ℤ × ℤ)
 
 -- the set of the parameters that occur in a row
 abbrev pub support : List Entry → ℕ
@@ -18,11 +15,6 @@ support (entry ∷ row) = bit_or (polynomial.support entry.terms) (support row)
 abbrev pub width : Spans → ℕ → ℕ
 width [] set = 0
 width (span ∷ spans) set = set % 2 + width spans (set / 2)
-
--- the low end for 0, the high end for 1
-abbrev pub end_of : ℕ → ℤ × ℤ → ℤ
-end_of zero span = span.0
-end_of (suc bit) span = span.1
 
 -- the one where the bit is 0, else the other
 abbrev pub by_bit : {A : Type 0} → ℕ → A → A → A

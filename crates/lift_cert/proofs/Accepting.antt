@@ -10,7 +10,7 @@ use Rattle.lift_model.specs.Model.{ModelData, process_at}
 use Rattle.lift_model.specs.Chain.{ChainData, is_chain, chain_model}
 use Rattle.lift_model.proofs.Sums.{AreNonNegative}
 use Rattle.lift_model.proofs.Chains.{chain_facts, sum_to-weights, moves-chain_model, moves_past}
-use Rattle.corner_lift.specs.Corner.{Spans}
+use Rattle.lift_grid.specs.Rectangle.{Spans}
 use Rattle.corner_lift.specs.Certificate.{number, IsUpper, IsAccepting, IsLeastUpper}
 use Rattle.corner_lift.proofs.Rows.{number_range}
 use Rattle.corner_lift.proofs.Uppers.{in_or_past, upper_mean}

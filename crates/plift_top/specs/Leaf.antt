@@ -2,7 +2,7 @@
 use Rattle.std.specs.Prelude.{◌≡◌, ◌^◌, ℕ, List, [], ℤ, pos, ⊤}
 use Rattle.lift_model.specs.Chain.{ChainData, chain_model}
 use Rattle.lift_model.specs.Model.{ModelData}
-use Rattle.corner_lift.specs.Corner.{Spans}
+use Rattle.lift_grid.specs.Rectangle.{Spans}
 use Rattle.corner_lift.specs.Certificate.{IsAccepting, IsLeastUpper}
 use Rattle.lift_cert.specs.Bounded.{IsBoundedAt}
 use Rattle.lift_cert.specs.declared.bound.Bound.{Bound}

@@ -1,0 +1,233 @@
+-- What the operations on polynomials over one denominator answer.
+use Rattle.std.proofs.Common.{◌≡◌, ◌≢◌, ℕ, zero, suc, ◌+◌, ◌*◌, ◌/◌, ◌^◌, ◌<◌, ◌≤◌, ◌==◌, Bool, true, false, cond, ◌||◌, List, [], ◌∷◌, get_or, ℤ, pos, negsuc, ◌*ℤ◌, ◌<ℤ◌, All, Some, take, Result, Ok, Err, unsigned_abs, bit_and, int_eq, refl, sym, ap, subst, ◌∙◌, arith}
+use Rattle.std.specs.Prelude.{nat_le, slice_get}
+use Rattle.std.specs.List.{list_any}
+use Rattle.std.specs.Int.{◌∣◌, IsGcd}
+use Rattle.std.proofs.lemmas.Bool.Decides.{nat_tests, Decides-int_eq}
+use Rattle.std.proofs.lemmas.List.Folds.{list_any_at, list_any_more}
+use Rattle.std.proofs.lemmas.Option.{slice_get_within, get_or_from_slice_get}
+use Rattle.std.proofs.lemmas.List.Elements.{All-nil, All-cons, All-head, All-tail}
+use Rattle.std.proofs.Math.Nat.{div-mul_cancel}
+use Rattle.std.proofs.lemmas.Int.{unsigned_abs-mul}
+use Rattle.std.proofs.lemmas.Nat.Gcd.{dvd_trans, dvd_refl, dvd-zero}
+use Rattle.lift_frac.specs.Gcd.{gcd}
+use Rattle.lift_frac.proofs.Euclid.{is_gcd, gcd-one}
+use Rattle.lift_poly.specs.Polynomial.{Term, IsPolynomial, constant}
+use Rattle.lift_poly.specs.Arithmetic as poly
+use Rattle.lift_poly.specs.Arithmetic.{coefficient, scaled, times, quotient, support, DividesEach, IsContent}
+use Rattle.lift_poly.specs.MultiAffine as held
+use Rattle.lift_poly.specs.MultiAffine.{IsMultiAffine, product_answer}
+use Rattle.lift_poly.specs.declared.error.PolyError.{PolyError}
+use Rattle.lift_poly.specs.declared.error.PolyError.TheVariants as fault
+use Rattle.lift_poly.proofs.Products.{times_is}
+use Rattle.lift_poly.proofs.Ring.{linear}
+use Rattle.drn_expr.specs.RatPolys.{OverOne, common_divisor, lowest, is_large, is_wide, narrow, cause_of, IsRatPoly, with_sign}
+use Rattle.drn_expr.specs.Expansion.{product, by_number}
+use Rattle.drn_expr.specs.declared.error.ExprError.{ExprError}
+use Rattle.drn_expr.specs.declared.error.ExprError.TheVariants.{Wide, Memory, SharedParameter}
+use Rattle.drn_expr.proofs.Sizes.{small, narrow_multiple, narrow_multiples, narrow_product}
+use Rattle.drn_expr.proofs.Divisors.{common_is, nothing_common, common-negative}
+
+abbrev pub over : List Term → ℕ → OverOne
+over terms den = record { terms = terms; den = den }
+
+-- ---- answers of the calls of `MultiAffine`
+
+-- want of memory aside, this is answered
+abbrev pub IsAnswer : Result (List Term) PolyError → Result (List Term) PolyError → Type 0
+IsAnswer result expected = result ≢ Err fault.Memory → result ≡ expected
+
+answered : (b : Bool) (p ts : List Term) → Ok p ≡ cond b (Err fault.Wide) (Ok ts) → p ≡ ts
+answered true p ts e = cc
+answered false p ts e = cc
+
+-- a polynomial that was given
+pub given : (p ts : List Term) → IsAnswer (Ok p) (held.narrow ts) → p ≡ ts
+given p ts h = answered (list_any held.is_wide ts) p ts (h (λ e. cc))
+
+-- a polynomial that can't be too large is refused for want of memory alone
+pub memory_alone : (e : PolyError) (ts : List Term) (r target : Result OverOne ExprError) → IsAnswer (Err e) (held.narrow ts) → held.narrow ts ≡ Ok ts → r ≡ Err (cause_of e) → r ≢ Err Memory → r ≡ target
+memory_alone fault.SharedParameter ts r target h fits is some = let e = h (λ e. cc) ∙ fits in cc
+memory_alone fault.Wide ts r target h fits is some = let e = h (λ e. cc) ∙ fits in cc
+memory_alone fault.Memory ts r target h fits is some = absurd (some is)
+
+-- ---- lowest terms
+
+pub divides_each : (content den g : ℕ) (ts : List Term) → IsContent ts content → IsGcd content den g → DividesEach g ts
+divides_each content den g ts h is k d lt = dvd_trans g is.0 (h.divides k d lt)
+
+lowest_is : (den g : ℕ) (ts q : List Term) → g ≡ common_divisor den ts → q ≡ quotient ts (pos g) → over q (den / g) ≡ lowest ts den
+lowest_is den g ts q e f = ap (λ p. over p (den / g)) f ∙ ap (λ k. over (quotient ts (pos k)) (den / k)) e
+
+by_wide : OverOne → Bool → Result OverOne ExprError
+by_wide p b = cond b (Err Wide) (Ok p)
+
+narrow_by : (p : OverOne) (ts : List Term) (den : ℕ) (b : Bool) → p ≡ lowest ts den → is_wide p ≡ b → by_wide p b ≡ narrow ts den
+unfolding by_wide
+narrow_by p ts den b e wide = ap (by_wide p) (sym wide) ∙ ap (λ l. by_wide l (is_wide l)) e
+
+or_true : (b : Bool) → (b || true) ≡ true
+or_true true = refl
+or_true false = refl
+
+pub wide_den : (den content g : ℕ) (ts : List Term) → IsContent ts content → g ≡ gcd content den → 2 ^ 62 ≤ den / g → Err Wide ≡ narrow ts den
+unfolding by_wide
+wide_den den content g ts h e large =
+    let is = common_is den content g ts h e in
+    let p = over (quotient ts (pos g)) (den / g) in
+    let test : nat_le (2 ^ 62) (den / g) ≡ true = grind (arith, nat_tests) in
+    narrow_by p ts den true (lowest_is den g ts (quotient ts (pos g)) is refl) (ap (λ b. b || list_any is_large p.terms) test)
+
+pub wide_terms : (den content g : ℕ) (ts q : List Term) → IsContent ts content → g ≡ gcd content den → q ≡ quotient ts (pos g) → list_any is_large q ≡ true → Err Wide ≡ narrow ts den
+unfolding by_wide
+wide_terms den content g ts q h e f large =
+    let is = common_is den content g ts h e in
+    narrow_by (over q (den / g)) ts den true (lowest_is den g ts q is f) (ap (λ b. nat_le (2 ^ 62) (den / g) || b) large ∙ or_true (nat_le (2 ^ 62) (den / g)))
+
+pub narrow_given : (den content g : ℕ) (ts q : List Term) → IsContent ts content → g ≡ gcd content den → q ≡ quotient ts (pos g) → den / g < 2 ^ 62 → list_any is_large q ≡ false → Ok (over q (den / g)) ≡ narrow ts den
+unfolding by_wide
+narrow_given den content g ts q h e f small_den small_terms =
+    let is = common_is den content g ts h e in
+    let test : nat_le (2 ^ 62) (den / g) ≡ false = grind (arith, nat_tests) in
+    narrow_by (over q (den / g)) ts den false (lowest_is den g ts q is f) (ap (λ b. b || list_any is_large q) test ∙ small_terms)
+
+-- no coefficient is large
+both_false : (a b : Bool) → (a || b) ≡ false → (a ≡ false) × (b ≡ false)
+both_false true b e = absurd (cc e)
+both_false false b e = (refl, e)
+
+small_term : (t : Term) → is_large t ≡ false → unsigned_abs t.1 < 2 ^ 62
+small_term t h = grind (arith, nat_tests)
+
+pub small_sizes : (ts : List Term) → list_any is_large ts ≡ false → All (λ t. unsigned_abs t.1 < 2 ^ 62) ts
+small_sizes [] h = All-nil (λ t. unsigned_abs t.1 < 2 ^ 62)
+small_sizes (t ∷ ts) h =
+    let parts = both_false (is_large t) (list_any is_large ts) h in
+    All-cons (λ u. unsigned_abs u.1 < 2 ^ 62) t ts (small_term t parts.0) (small_sizes ts parts.1)
+
+quotient_above : (den g : ℕ) → g ∣ den → 0 < den → 0 < den / g
+quotient_above den g h above = let P : ℕ → Type 0 = λ k. 0 < k in by_quotient (den / g) refl
+  where
+    by_quotient : (k : ℕ) → k ≡ den / g → 0 < den / g
+    by_quotient zero e = let whole = div-mul_cancel g h in absurd (omega (arith, whole, ap (λ m. m * g) e))
+    by_quotient (suc k) e = omega (arith, e)
+
+pub rat_poly : (den content g : ℕ) (ts q : List Term) → 0 < den → 0 < g → IsContent ts content → IsGcd content den g → g ≡ gcd content den → times (pos g) q ≡ ts → IsPolynomial q → den / g < 2 ^ 62 → list_any is_large q ≡ false → IsRatPoly (over q (den / g))
+rat_poly den content g ts q positive above h is e back polynomial small_den small_terms = record {
+  polynomial = polynomial;
+  positive = quotient_above den g is.1 positive;
+  den = small_den;
+  sizes = small_sizes q small_terms;
+  lowest = nothing_common den g ts q above (common_is den content g ts h e) back;
+}
+
+-- ---- numbers and parameters
+
+constant_parts : (number : ℤ) (den : ℕ) (b : Bool) → (b ≡ true → number ≡ pos 0) → unsigned_abs number < 2 ^ 62 → gcd (unsigned_abs number) den ≡ 1
+    → All (λ (t : Term). unsigned_abs t.1 < 2 ^ 62) (cond b [] ((0, number) ∷ [])) × (common_divisor den (cond b [] ((0, number) ∷ [])) ≡ 1)
+constant_parts number den true tells size common =
+    let none : gcd 0 den ≡ 1 = ap (λ z. gcd (unsigned_abs z) den) (sym (tells refl)) ∙ common in
+    (All-nil (λ (t : Term). unsigned_abs t.1 < 2 ^ 62), is_gcd 0 den den (dvd-zero den, dvd_refl den, λ k p q. q) ∙ none)
+constant_parts number den false tells size common =
+    (All-cons (λ (t : Term). unsigned_abs t.1 < 2 ^ 62) (0, number) [] size (All-nil (λ (t : Term). unsigned_abs t.1 < 2 ^ 62)), common)
+
+pub number_poly : (number : ℤ) (den : ℕ) (p : List Term) → p ≡ constant number → IsPolynomial p → 0 < den → den < 2 ^ 62 → unsigned_abs number < 2 ^ 62 → gcd (unsigned_abs number) den ≡ 1 → IsRatPoly (over p den)
+number_poly number den p e polynomial positive small_den size common =
+    let parts = constant_parts number den (int_eq number (pos 0)) (Decides-int_eq number (pos 0)).0 size common in
+    record {
+      polynomial = polynomial;
+      positive = positive;
+      den = small_den;
+      sizes = subst (All (λ t. unsigned_abs t.1 < 2 ^ 62)) (sym e) parts.0;
+      lowest = ap (common_divisor den) e ∙ parts.1;
+    }
+
+pub parameter_poly : (set : ℕ) (p : List Term) → p ≡ (set, pos 1) ∷ [] → IsPolynomial p → IsRatPoly (over p 1)
+parameter_poly set p e polynomial = record {
+  polynomial = polynomial;
+  positive = omega arith;
+  den = omega arith;
+  sizes = subst (All (λ t. unsigned_abs t.1 < 2 ^ 62)) (sym e) (All-cons (λ t. unsigned_abs t.1 < 2 ^ 62) (set, pos 1) [] (omega arith) (All-nil (λ t. unsigned_abs t.1 < 2 ^ 62)));
+  lowest = ap (common_divisor 1) e ∙ gcd-one 1;
+}
+
+-- ---- the other sign
+
+negative_size : (ts : List Term) → All (λ t. unsigned_abs t.1 < 2 ^ 62) ts → All (λ t. unsigned_abs t.1 < 2 ^ 62) (times (negsuc 0) ts)
+negative_size [] h = All-nil (λ t. unsigned_abs t.1 < 2 ^ 62)
+negative_size (t ∷ ts) h =
+    let e = unsigned_abs-mul (negsuc 0) t.1 in
+    All-cons (λ u. unsigned_abs u.1 < 2 ^ 62) (t.0, negsuc 0 *ℤ t.1) (times (negsuc 0) ts)
+    (omega (arith, e, All-head (λ u. unsigned_abs u.1 < 2 ^ 62) t ts h)) (negative_size ts (All-tail (λ u. unsigned_abs u.1 < 2 ^ 62) t ts h))
+
+pub negative_poly : (ts q : List Term) (den : ℕ) → q ≡ scaled (negsuc 0) ts → IsPolynomial q → IsRatPoly (over ts den) → IsRatPoly (over q den)
+negative_poly ts q den e polynomial h =
+    let plain : times (negsuc 0) ts ≡ q = times_is (negsuc 0) ts (λ z. cc z) h.polynomial ∙ sym e in
+    record {
+      polynomial = polynomial;
+      positive = h.positive;
+      den = h.den;
+      sizes = subst (All (λ t. unsigned_abs t.1 < 2 ^ 62)) plain (negative_size ts h.sizes);
+      lowest = ap (common_divisor den) (sym plain) ∙ common-negative den ts ∙ h.lowest;
+    }
+
+-- ---- what is refused
+
+pub multiple_refused : (e : PolyError) (by : ℤ) (a : OverOne) (r target : Result OverOne ExprError) → IsRatPoly a → unsigned_abs by < 2 ^ 62 → IsAnswer (Err e) (held.narrow (scaled by a.terms))
+    → r ≡ Err (cause_of e) → r ≢ Err Memory → r ≡ target
+multiple_refused e by a r target h size answer is = memory_alone e (scaled by a.terms) r target answer (narrow_multiple by a.terms size (small a.terms h.polynomial h.sizes)) is
+
+pub sum_refused : (e : PolyError) (a b : OverOne) (left right : List Term) (r target : Result OverOne ExprError) → IsRatPoly a → IsRatPoly b → left ≡ scaled (pos b.den) a.terms → right ≡ scaled (pos a.den) b.terms
+    → IsAnswer (Err e) (held.narrow (poly.sum left right)) → r ≡ Err (cause_of e) → r ≢ Err Memory → r ≡ target
+sum_refused e a b left right r target h k f g answer is =
+    memory_alone e (poly.sum (scaled (pos b.den) a.terms) (scaled (pos a.den) b.terms)) r target
+    (λ some. answer some ∙ ap (λ x. held.narrow (poly.sum x right)) f ∙ ap (λ y. held.narrow (poly.sum (scaled (pos b.den) a.terms) y)) g)
+    (narrow_multiples (pos b.den) (pos a.den) a.terms b.terms k.den h.den (small a.terms h.polynomial h.sizes) (small b.terms k.polynomial k.sizes)) is
+
+-- a product by the test of its supports
+product_by : (e : PolyError) (a b : OverOne) (r : Result OverOne ExprError) (t : Bool) → (t ≡ true → bit_and (support a.terms) (support b.terms) ≡ 0) → IsRatPoly a → IsRatPoly b
+    → IsAnswer (Err e) (cond t (held.narrow (poly.product a.terms b.terms)) (Err fault.SharedParameter)) → r ≡ Err (cause_of e) → r ≢ Err Memory
+    → r ≡ cond t (narrow (poly.product a.terms b.terms) (a.den * b.den)) (Err SharedParameter)
+product_by e a b r true tells h k answer is some =
+    memory_alone e (poly.product a.terms b.terms) r _ answer (narrow_product a.terms b.terms h.polynomial k.polynomial h.sizes k.sizes (tells refl)) is some
+product_by fault.SharedParameter a b r false tells h k answer is some = is
+product_by fault.Wide a b r false tells h k answer is some = let e = answer (λ e. cc) in cc
+product_by fault.Memory a b r false tells h k answer is some = absurd (some is)
+
+same_number : (m n : ℕ) → (m == n) ≡ true → m ≡ n
+same_number m n e = grind (arith, nat_tests)
+
+pub product_refused : (e : PolyError) (a b : OverOne) (r : Result OverOne ExprError) → IsRatPoly a → IsRatPoly b → IsAnswer (Err e) (product_answer a.terms b.terms) → r ≡ Err (cause_of e) → r ≢ Err Memory → r ≡ product a b
+product_refused e a b r h k = product_by e a b r (bit_and (support a.terms) (support b.terms) == 0) (same_number _ 0) h k
+
+-- ---- division by a number
+
+pub number_below : (a : OverOne) → IsRatPoly a → unsigned_abs (coefficient 0 a.terms) < 2 ^ 62
+number_below a h = small a.terms h.polynomial h.sizes 0
+
+pub sign_size : (number : ℤ) (size : ℕ) → unsigned_abs (with_sign number size) ≡ size
+sign_size (pos n) size = refl
+sign_size (negsuc n) zero = refl
+sign_size (negsuc n) (suc size) = refl
+
+pub by_some : (a : OverOne) (number : ℤ) (d : ℕ) → number ≢ pos 0 → by_number a number d ≡ narrow (scaled (with_sign number d) a.terms) (a.den * unsigned_abs number)
+by_some a (pos zero) d some = absurd (some refl)
+by_some a (pos (suc n)) d some = refl
+by_some a (negsuc n) d some = refl
+
+pub positive_size : (z : ℤ) → pos 0 <ℤ z → 0 < unsigned_abs z
+positive_size (pos zero) h = omega (arith, linear)
+positive_size (pos (suc n)) h = omega arith
+positive_size (negsuc n) h = omega arith
+
+-- ---- the search for a large coefficient
+
+pub large_at : (ts : List Term) (i : ℕ) (t : Term) → slice_get ts i ≡ Some t → 2 ^ 62 ≤ unsigned_abs t.1 → true ≡ list_any is_large ts
+large_at ts i t at large =
+    let test : is_large t ≡ true = grind (arith, nat_tests) in
+    sym (list_any_at is_large ts i t (slice_get_within ts i t at) (ap is_large (get_or_from_slice_get ts i t t at) ∙ test))
+
+pub small_more : (ts : List Term) (i : ℕ) (t : Term) → slice_get ts i ≡ Some t → unsigned_abs t.1 < 2 ^ 62 → list_any is_large (take i ts) ≡ false → list_any is_large (take (i + 1) ts) ≡ false
+small_more ts i t at size before =
+    let test : is_large t ≡ false = grind (arith, nat_tests) in
+    list_any_more is_large ts i t (slice_get_within ts i t at) ∙ ap (λ b. b || is_large (get_or ts i t)) before ∙ ap is_large (get_or_from_slice_get ts i t t at) ∙ test

@@ -1,0 +1,47 @@
+-- The grammar's functions by the form of the first symbol.
+use Rattle.std.proofs.Common.{◌≡◌, ℕ, suc, ◌+◌, ◌==◌, Bool, true, false, refl, List, ◌∷◌, Option, Some, None, Ok, Err}
+use Rattle.std.specs.Prelude.{position}
+use Rattle.std.specs.Str.{bytes_eq}
+use Rattle.lift_frac.specs.Literal.{reading}
+use Rattle.drn_lexer.specs.declared.symbol.SymbolForm.{SymbolForm}
+use Rattle.drn_lexer.specs.declared.symbol.SymbolForm.TheVariants as form
+use Rattle.drn_expr.specs.Trees.{Expr, Negative, ◌>>=◌}
+use Rattle.drn_expr.specs.Grammar.{Symbol, Parsed, value, term, factor, more_terms, more_factors, joins_terms, joins_factors, closed, literal_tree, name_tree}
+use Rattle.drn_expr.specs.declared.error.ExprError.TheVariants.{Syntax, Deep}
+
+-- what stands behind a unary minus and in a parenthesis, by whether the place is at the limit
+unfoldable pub unary : Parsed → Bool → Parsed
+unary p true = Err Deep
+unary p false = p >>= (λ e. Ok (Negative e.0, e.1))
+
+unfoldable pub paren : Parsed → Bool → Parsed
+paren p true = Err Deep
+paren p false = p >>= (λ e. closed e.0 e.1)
+
+-- a factor by its first symbol's form
+unfoldable pub factor_by : Parsed → Parsed → Parsed → Parsed → ℕ → SymbolForm → Parsed
+factor_by inner whole literal name depth form.Minus = unary inner (depth == 64)
+factor_by inner whole literal name depth form.Left = paren whole (depth == 64)
+factor_by inner whole literal name depth form.Literal = literal
+factor_by inner whole literal name depth form.Name = name
+factor_by inner whole literal name depth _ = Err Syntax
+
+pub factor-is : (n : ℕ) (names : List (List ℕ)) (depth : ℕ) (x : Symbol) (s : List Symbol)
+    → factor (suc n) names depth (x ∷ s) ≡ factor_by (factor n names (depth + 1) s) (value n names (depth + 1) s) (literal_tree (reading x.bytes) s) (name_tree (position (bytes_eq x.bytes) names) s) depth x.form
+unfolding value factor_by unary paren
+factor-is n names depth x s = refl
+
+-- an operator and what follows, by the operator
+unfoldable pub more_by : Expr → Symbol → List Symbol → ((Expr → Expr → Expr) → Parsed) → Option (Expr → Expr → Expr) → Parsed
+more_by e x s goes None = Ok (e, x ∷ s)
+more_by e x s goes (Some join) = goes join
+
+pub more_terms-is : (n : ℕ) (names : List (List ℕ)) (depth : ℕ) (e : Expr) (x : Symbol) (s : List Symbol)
+    → more_terms (suc n) names depth e (x ∷ s) ≡ more_by e x s (λ join. term n names depth s >>= (λ b. more_terms n names depth (join e b.0) b.1)) (joins_terms x.form)
+unfolding value more_by
+more_terms-is n names depth e x s = refl
+
+pub more_factors-is : (n : ℕ) (names : List (List ℕ)) (depth : ℕ) (e : Expr) (x : Symbol) (s : List Symbol)
+    → more_factors (suc n) names depth e (x ∷ s) ≡ more_by e x s (λ join. factor n names depth s >>= (λ b. more_factors n names depth (join e b.0) b.1)) (joins_factors x.form)
+unfolding value more_by
+more_factors-is n names depth e x s = refl

@@ -1,0 +1,14 @@
+pub mod Calls
+pub mod Chains
+pub mod Divisors
+pub mod Factors
+pub mod Fitting
+pub mod Forms
+pub mod Least
+pub mod Meanings
+pub mod Operands
+pub mod Places
+pub mod Sizes
+pub mod Steps
+pub mod Whole
+pub mod Written

@@ -1,0 +1,30 @@
+use Rattle.std.proofs.Common.{◌+◌, ◌-◌, ◌*◌}
+use Rattle.drn_expr.specs.Grammar.{value, term, more_terms, more_factors}
+use Rattle.drn_expr.specs.Parsing.{left, IsFurther}
+use Rattle.drn_expr.proofs.Chains.{IsBegun}
+use Rattle.drn_expr.proofs.parse.+value.Given as goal
+
+abbrev pub decreases-factor : goal.decreases-factor
+decreases-factor l = 3 * (64 - l.depth)
+
+abbrev pub decreases-term : goal.decreases-term
+decreases-term l = 3 * (64 - l.depth) + 1
+
+abbrev pub decreases-value : goal.decreases-value
+decreases-value l = 3 * (64 - l.depth) + 2
+
+abbrev pub invariant-term-loop-operation : goal.invariant-term-loop-operation
+invariant-term-loop-operation l =
+    IsFurther l.text l.line l.at l.left.to
+    × IsBegun 2 (λ n. term n l.names l.depth) (λ n. more_factors n l.names l.depth) l.text l.line l.at l.left
+
+abbrev pub decreases-term-loop-operation : goal.decreases-term-loop-operation
+decreases-term-loop-operation l = left l.text l.line l.left.to
+
+abbrev pub invariant-value-loop-operation : goal.invariant-value-loop-operation
+invariant-value-loop-operation l =
+    IsFurther l.text l.line l.at l.left.to
+    × IsBegun 3 (λ n. value n l.names l.depth) (λ n. more_terms n l.names l.depth) l.text l.line l.at l.left
+
+abbrev pub decreases-value-loop-operation : goal.decreases-value-loop-operation
+decreases-value-loop-operation l = left l.text l.line l.left.to

@@ -1,0 +1,28 @@
+-- A whole value: its expansion, or its first refusal.
+use Rattle.std.specs.Prelude.{◌≡◌, ℕ, true, false, nat_lt, List, length, Result, Ok, Err}
+use Rattle.lift_poly.specs.Polynomial.{Valuation}
+use Rattle.drn_lexer.specs.Symbols.{symbols}
+use Rattle.drn_expr.specs.Grammar.{tree}
+use Rattle.drn_expr.specs.Expansion.{expansion}
+use Rattle.drn_expr.specs.RatPolys.{OverOne}
+use Rattle.drn_expr.specs.Meaning.{IsValuation, HasMeaning}
+use Rattle.drn_expr.specs.Rules.{Value, Writes}
+use Rattle.drn_expr.specs.Trees.{Expr, ◌>>=◌}
+use Rattle.drn_expr.specs.declared.error.ExprError.{ExprError}
+use Rattle.drn_expr.specs.declared.error.ExprError.TheVariants.{Long}
+
+-- What a text is as a value over these names. More than 4096 symbols are refused before any of them is looked at, then each fault in place is told before any operation is done.
+abbrev pub reading : List (List ℕ) → List ℕ → Result OverOne ExprError
+reading names text = elim (nat_lt 4096 (length (symbols text))) [
+  | true ↦ Err Long
+  | false ↦ do
+    e ← tree names (symbols text)
+    expansion e
+]
+
+-- the text has a tree, its symbols write that tree by the rules of the grammar, and at every valuation of the names the polynomial is worth what the tree means
+pub record IsWorth (names : List (List ℕ)) (text : List ℕ) (p : OverOne) : Type 0 where
+  pub expression : Expr
+  pub read : tree names (symbols text) ≡ Ok expression
+  pub written : Writes names Value (symbols text) expression
+  pub worth : (v : Valuation) → IsValuation (length names) v → HasMeaning v expression p

@@ -1,0 +1,14 @@
+//! Values: what they mean, and their expansion into a polynomial over one denominator.
+#![tactic(auto)]
+
+mod error;
+mod parse;
+mod rat_poly;
+mod value;
+
+pub use error::ExprError;
+pub use rat_poly::RatPoly;
+pub use value::read_value;
+
+#[cfg(test)]
+mod tests;

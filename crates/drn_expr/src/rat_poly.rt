@@ -1,0 +1,169 @@
+ghost use Rattle.std.specs.Prelude.{◌≡◌, ◌≢◌, ◌<◌, ◌^◌, ℤ, pos, [], ◌∷◌, ℕ, unsigned_abs, Ok, Err};
+ghost use Rattle.std.specs.List.{list_any};
+ghost use Rattle.lift_poly.specs.Polynomial.{constant};
+ghost use Rattle.drn_expr.specs.RatPolys.{OverOne, IsRatPoly, is_large, narrow, with_sign};
+ghost use Rattle.drn_expr.specs.Expansion.{sum, negative, difference, product, quotient};
+
+use crate::error::ExprError;
+use lift_frac::{Frac, gcd};
+use lift_poly::MultiAffine;
+use std::alloc::Global;
+use std::marker::Model;
+
+/// A polynomial over one denominator, in lowest terms: the denominator is from 1 to 2^62 - 1 and has
+/// no factor in common with all coefficients, each of which has a size below 2^62.
+#[derive(Drop)]
+pub struct RatPoly {
+    poly: MultiAffine,
+    den: u64,
+}
+
+impl Model for RatPoly {
+    ghost use Rattle.drn_expr.specs.RatPolys.{OverOne, IsRatPoly};
+
+    ghost Value = { OverOne };
+
+    ghost view = { λ p. record { terms = p.poly; den = p.den } };
+
+    ghost invariant = { λ p. IsRatPoly (record { terms = p.poly; den = p.den }) };
+}
+
+/// The size from which on a coefficient or a denominator is too large.
+const LIMIT: u128 = 1 << 62;
+
+/// Whether a coefficient is too large.
+fn has_large(poly: &MultiAffine) -> bool
+    ensures { result ≡ list_any is_large poly.now }
+{
+    for i in 0..poly.len() {
+        if poly.term(i).1.unsigned_abs() >= LIMIT {
+            return true;
+        }
+    }
+    false
+}
+
+/// A size with the sign of a number.
+fn with_sign(number: i128, size: u64) -> i128
+    ensures { result ≡ with_sign number size }
+{
+    if number < 0 {
+        -i128::from(size)
+    } else {
+        i128::from(size)
+    }
+}
+
+impl RatPoly {
+    /// The polynomial.
+    pub fn poly(&self) -> &MultiAffine
+        ensures terms { result.now ≡ self.now.terms }
+        ensures rat_poly { IsRatPoly self.now }
+    {
+        &self.poly
+    }
+
+    /// The denominator, from 1 to 2^62 - 1.
+    pub fn den(&self) -> i64
+        ensures den { result ≡ pos self.now.den }
+        ensures rat_poly { IsRatPoly self.now }
+    {
+        self.den as i64
+    }
+
+    /// A number.
+    pub(crate) fn number(alloc: Global, number: Frac) -> Result<RatPoly, ExprError>
+        ensures { result ≢ Err ExprError.Memory
+            → result ≡ Ok (record { terms = constant number.num; den = unsigned_abs number.den }) }
+    {
+        let poly = MultiAffine::constant(alloc, number.num)?;
+        Ok(RatPoly {
+            poly,
+            den: number.den as u64,
+        })
+    }
+
+    /// The parameter at a place below 16 among the declared ones.
+    pub(crate) fn parameter(alloc: Global, place: u32) -> Result<RatPoly, ExprError>
+        requires { place < 16 }
+        ensures { result ≢ Err ExprError.Memory
+            → result ≡ Ok (record { terms = (2 ^ place, pos 1) ∷ []; den = 1 }) }
+    {
+        let poly = MultiAffine::parameter(alloc, place)?;
+        Ok(RatPoly { poly, den: 1 })
+    }
+
+    /// The same fraction over its least denominator. `Wide` exactly where that is too large.
+    fn narrow(alloc: Global, poly: &MultiAffine, den: u128) -> Result<RatPoly, ExprError>
+        requires positive { 0 < den }
+        requires small { den < 2 ^ 124 }
+        ensures { result ≢ Err ExprError.Memory → result ≡ narrow poly.now den }
+    {
+        let divisor = gcd(poly.content(), den);
+        let den = den / divisor;
+        if den >= LIMIT {
+            return Err(ExprError::Wide);
+        }
+        let poly = poly.divide(alloc, divisor as i128)?;
+        if has_large(&poly) {
+            return Err(ExprError::Wide);
+        }
+        Ok(RatPoly {
+            poly,
+            den: den as u64,
+        })
+    }
+
+    /// The sum.
+    pub(crate) fn sum(&self, alloc: Global, other: &RatPoly) -> Result<RatPoly, ExprError>
+        ensures { result ≢ Err ExprError.Memory → result ≡ sum self.now other.now }
+    {
+        let left = self.poly.scale(alloc, i128::from(other.den))?;
+        let right = other.poly.scale(alloc, i128::from(self.den))?;
+        let poly = left.add(alloc, &right)?;
+        RatPoly::narrow(alloc, &poly, u128::from(self.den) * u128::from(other.den))
+    }
+
+    /// The polynomial with the other sign.
+    pub(crate) fn negative(&self, alloc: Global) -> Result<RatPoly, ExprError>
+        ensures { result ≢ Err ExprError.Memory → result ≡ Ok (negative self.now) }
+    {
+        let poly = self.poly.scale(alloc, -1)?;
+        Ok(RatPoly {
+            poly,
+            den: self.den,
+        })
+    }
+
+    /// The difference.
+    pub(crate) fn difference(&self, alloc: Global, other: &RatPoly) -> Result<RatPoly, ExprError>
+        ensures { result ≢ Err ExprError.Memory → result ≡ difference self.now other.now }
+    {
+        let other = other.negative(alloc)?;
+        self.sum(alloc, &other)
+    }
+
+    /// The product. `SharedParameter` exactly where a parameter occurs in both factors.
+    pub(crate) fn product(&self, alloc: Global, other: &RatPoly) -> Result<RatPoly, ExprError>
+        ensures { result ≢ Err ExprError.Memory → result ≡ product self.now other.now }
+    {
+        let poly = self.poly.mul(alloc, &other.poly)?;
+        RatPoly::narrow(alloc, &poly, u128::from(self.den) * u128::from(other.den))
+    }
+
+    /// The quotient. `ParametricDivisor` exactly where the divisor holds a parameter, and else
+    /// `DivisionByZero` exactly where it is 0.
+    pub(crate) fn quotient(&self, alloc: Global, other: &RatPoly) -> Result<RatPoly, ExprError>
+        ensures { result ≢ Err ExprError.Memory → result ≡ quotient self.now other.now }
+    {
+        if other.poly.support() != 0 {
+            return Err(ExprError::ParametricDivisor);
+        }
+        let number = other.poly.coefficient(0);
+        if number == 0 {
+            return Err(ExprError::DivisionByZero);
+        }
+        let poly = self.poly.scale(alloc, with_sign(number, other.den))?;
+        RatPoly::narrow(alloc, &poly, u128::from(self.den) * number.unsigned_abs())
+    }
+}

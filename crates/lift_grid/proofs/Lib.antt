@@ -1,0 +1,5 @@
+pub mod Sides
+pub mod Ordering
+pub mod Multiples
+pub mod Ring
+pub mod Spans

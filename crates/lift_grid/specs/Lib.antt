@@ -1,0 +1,4 @@
+pub mod Rectangle
+pub mod Tree
+pub mod Region
+pub mod Parts

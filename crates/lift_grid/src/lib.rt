@@ -1,0 +1,23 @@
+// Regions of parameter values: rectangles over a grid, their corners, and the text that names one.
+#![tactic(auto)]
+
+mod clause;
+mod corner;
+mod error;
+mod interval;
+mod intervals;
+mod laws;
+mod lists;
+mod rect;
+mod region;
+mod text;
+
+pub use corner::corner_side;
+pub use error::RegionError;
+pub use laws::{denominators_divide, numbers_are_exact};
+pub use lists::{Marks, Values};
+pub use rect::{Grid, Rect};
+pub use region::read_region;
+
+#[cfg(test)]
+mod tests;
