@@ -10,8 +10,8 @@ pub data Expr : Type 0 where
   Sum Difference Product Quotient : Expr → Expr → Expr
   Negative : Expr → Expr
 
--- a step, and the next one with what it gave; the first refusal ends them
 infixl 10 ◌>>=◌
+-- a step, and the next one with what it gave; the first refusal ends them
 abbrev pub ◌>>=◌ : {A B : Type 0} → Result A ExprError → (A → Result B ExprError) → Result B ExprError
 (Ok x) >>= next = next x
 (Err cause) >>= next = Err cause

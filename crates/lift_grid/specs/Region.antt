@@ -19,8 +19,8 @@ use Rattle.lift_grid.specs.Rectangle.{Spans}
 use Rattle.lift_grid.specs.declared.error.RegionError.{RegionError}
 use Rattle.lift_grid.specs.declared.error.RegionError.TheVariants.{Syntax, UnknownName, Repeated, Missing, EmptyInterval, Wide, Memory}
 
--- one step behind another; the first refusal is told
 infixl 10 ◌>>=◌
+-- one step behind another; the first refusal is told
 abbrev pub ◌>>=◌ : {A B : Type 0} → Result A RegionError → (A → Result B RegionError) → Result B RegionError
 (Ok x) >>= f = f x
 (Err e) >>= f = Err e
