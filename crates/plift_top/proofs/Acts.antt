@@ -1,15 +1,18 @@
 -- What an answer says, by the refusal that it comes from.
-use Rattle.std.proofs.Common.{◌≡◌, ◌≢◌, ◌≤◌, ◌<◌, ◌^◌, ◌+◌, ◌↔◌, ℕ, List, [], ◌++◌, length, length-append, append-nil, None, Some, Ok, Err, refl, sym, ap, ◌∙◌, subst, arith, Result, IsErr, codes}
+use Rattle.std.proofs.Common.{◌≡◌, ◌≢◌, ◌≤◌, ◌<◌, ◌⊎◌, inl, inr, ℕ, List, [], ◌∷◌, ◌++◌, true, length, length-append, append-nil, None, Some, Ok, Err, refl, sym, ap, ◌∙◌, subst, arith, Result, IsErr, IsErrAnd}
 use Rattle.std.specs.declared.option.Option.{Option}
-use Rattle.std.specs.Io.KnownBytes.{Appends, Consumes, IsAtEnd}
+use Rattle.std.specs.Io.KnownBytes.{Appends}
 use Rattle.lift_base.specs.Outside.{Rose, AppendsFront, TakenHas}
 use Rattle.lift_model.specs.Chain.{ChainData}
 use Rattle.drn_read.specs.FirstForm.{IsFirstForm}
-use Rattle.plift_top.specs.Job.{JobData}
+use Rattle.lift_cert.specs.declared.bound.Bound.{Bound}
+use Rattle.plift_top.specs.Line.{is_plain}
+use Rattle.plift_top.specs.Job.{JobData, job, job_by}
+use Rattle.plift_top.specs.Given.{Asks}
 use Rattle.plift_top.specs.Verify.{WasRead, Reports, TellsNone, KeepsLimit, text_limit}
 use Rattle.plift_top.specs.Answers.{Acts, HasNote, status_of, note_of, usage_note}
 use Rattle.plift_top.specs.declared.job.Field.{Field}
-use Rattle.plift_top.specs.declared.status.Status.{Status}
+use Rattle.plift_top.specs.declared.job.Field.TheVariants as field
 use Rattle.plift_top.specs.declared.status.Status.TheVariants as status
 use Rattle.plift_top.specs.declared.refusal.Refusal.{Refusal}
 use Rattle.plift_top.specs.declared.refusal.Refusal.TheVariants as refusal
@@ -18,34 +21,50 @@ module _ {S K : Type 0} (left : S → Option (List ℕ)) (faults : S → ℕ) (t
   pub done : (asked : Result JobData Field) → Acts {T = Unit {0}} left faults taken counts asked source source' out out' (Ok tt)
       → (j : JobData) × (asked ≡ Ok j) × WasRead (Reports (Appends (taken out) (taken out')) j) (left source) (left source')
   done (Ok j) a = (j, refl, a)
-  done (Err f) a = absurd (cc (a.0))
+  done (Err f) a = absurd a.0
 
-  pub usage : (asked : Result JobData Field) (r : Refusal) → Acts {T = Unit {0}} left faults taken counts asked source source' out out' (Err r) → (status_of r ≡ status.Usage) ↔ IsErr asked
-  usage (Ok j) (refusal.Usage f) a = absurd a
-  usage (Ok j) _ a = ((λ e. absurd (cc)), (λ e. absurd (cc)))
-  usage (Err f) r a = ((λ e. refl), (λ e. let is : r ≡ refusal.Usage f = cc (a.0) in rw is refl))
+  pub usage : (asked : Result JobData Field) (r : Refusal) → Acts {T = Unit {0}} left faults taken counts asked source source' out out' (Err r) → status_of r ≡ status.Usage → IsErr asked
+  usage (Ok j) (refusal.Usage f) a e = absurd a
+  usage (Ok j) _ a e = absurd (cc)
+  usage (Err f) r a e = refl
+
+  pub at_fault : (asked : Result JobData Field) (r : Refusal) → Acts {T = Unit {0}} left faults taken counts asked source source' out out' (Err r) → IsErr asked → (status_of r ≡ status.Usage) ⊎ (status_of r ≡ status.Memory)
+  at_fault (Ok j) r a e = absurd (cc)
+  at_fault (Err f) (refusal.Usage g) a e = inl refl
+  at_fault (Err f) refusal.Memory a e = inr refl
+  at_fault (Err f) _ a e = absurd a.0
+
+  pub not_plain : (asked : Result JobData Field) (r : Refusal) → Acts {T = Unit {0}} left faults taken counts asked source source' out out' (Err r) → asked ≡ Err field.Words → status_of r ≡ status.Usage
+  not_plain (Ok j) r a e = absurd (cc)
+  not_plain (Err f) (refusal.Usage g) a e = refl
+  not_plain (Err f) refusal.Memory a e = absurd (a.0 (cc))
+  not_plain (Err f) _ a e = absurd a.0
 
   pub model : (asked : Result JobData Field) (r : Refusal) → Acts {T = Unit {0}} left faults taken counts asked source source' out out' (Err r) → status_of r ≡ status.ModelRefused
       → (j : JobData) × (asked ≡ Ok j) × WasRead (TellsNone j.goal) (left source) (left source')
   model (Ok j) refusal.Model a e = (j, refl, a.0)
   model (Ok j) _ a e = absurd (cc)
-  model (Err f) r a e = let is : r ≡ refusal.Usage f = cc (a.0) in absurd (cc (rw is at e))
+  model (Err f) refusal.Model a e = absurd a.0
+  model (Err f) _ a e = absurd (cc)
 
   pub read_fault : (asked : Result JobData Field) (r : Refusal) → Acts {T = Unit {0}} left faults taken counts asked source source' out out' (Err r) → status_of r ≡ status.ReadFault → Rose (faults source) (faults source')
   read_fault (Ok j) refusal.ReadFault a e = a.0
   read_fault (Ok j) _ a e = absurd (cc)
-  read_fault (Err f) r a e = let is : r ≡ refusal.Usage f = cc (a.0) in absurd (cc (rw is at e))
+  read_fault (Err f) refusal.ReadFault a e = absurd a.0
+  read_fault (Err f) _ a e = absurd (cc)
 
   pub write_fault : (asked : Result JobData Field) (r : Refusal) → Acts {T = Unit {0}} left faults taken counts asked source source' out out' (Err r) → status_of r ≡ status.WriteFault → Rose (counts out) (counts out')
   write_fault (Ok j) refusal.WriteFault a e = a.1
   write_fault (Ok j) _ a e = absurd (cc)
-  write_fault (Err f) r a e = let is : r ≡ refusal.Usage f = cc (a.0) in absurd (cc (rw is at e))
+  write_fault (Err f) refusal.WriteFault a e = absurd a.0
+  write_fault (Err f) _ a e = absurd (cc)
 
   pub part : (asked : Result JobData Field) (r : Refusal) → Acts {T = Unit {0}} left faults taken counts asked source source' out out' (Err r) → status_of r ≡ status.WriteFault
       → (j : JobData) × (asked ≡ Ok j) × WasRead (Reports (AppendsFront (taken out) (taken out')) j) (left source) (left source')
   part (Ok j) refusal.WriteFault a e = (j, refl, a.0)
   part (Ok j) _ a e = absurd (cc)
-  part (Err f) r a e = let is : r ≡ refusal.Usage f = cc (a.0) in absurd (cc (rw is at e))
+  part (Err f) refusal.WriteFault a e = absurd a.0
+  part (Err f) _ a e = absurd (cc)
 
   pub kept : (asked : Result JobData Field) (r : Refusal) → Acts {T = Unit {0}} left faults taken counts asked source source' out out' (Err r) → status_of r ≢ status.WriteFault → out' ≡ out
   kept (Ok j) (refusal.Usage f) a e = absurd a
@@ -63,7 +82,9 @@ module _ {S K : Type 0} (left : S → Option (List ℕ)) (faults : S → ℕ) (t
   pub noted : (asked : Result JobData Field) (r : Refusal) → Acts {T = Unit {0}} left faults taken counts asked source source' out out' (Err r) → HasNote (status_of r) asked (note_of r)
   noted (Ok j) (refusal.Usage f) a = absurd a
   noted (Ok j) _ a = refl
-  noted (Err f) r a = let is : r ≡ refusal.Usage f = cc (a.0) in subst (λ (q : Refusal). HasNote (status_of q) (Err f) (note_of q)) (sym is) (f, refl, refl)
+  noted (Err f) (refusal.Usage g) a = (f, refl, ap usage_note a.0)
+  noted (Err f) refusal.Memory a = refl
+  noted (Err f) _ a = absurd a.0
 
 -- a text that was given isn't too long where it is short
 short : (text : List ℕ) (rest : Option (List ℕ)) → length text ≤ text_limit → TakenHas (λ bytes. text_limit < length bytes) (Some text) rest → ⊥
@@ -89,3 +110,31 @@ complete left faults taken counts source source' out out' (Ok k) refusal.WriteFa
 complete left faults taken counts source source' out out' (Ok k) refusal.TooLong a j text c is told form len sure1 sure2 = absurd (short text (left source') len (rw told at a.0))
 complete left faults taken counts source source' out out' (Ok k) refusal.Memory a j text c is told form len sure1 sure2 = refl
 complete left faults taken counts source source' out out' (Err f) r a j text c is told form len sure1 sure2 = absurd (cc)
+
+-- ---- the words
+
+-- the job of a plain line has no fault of the whole line
+never_words : (goal : Option (List ℕ)) (bound : Option Bound) (depth precision : Option ℕ) → job_by goal bound depth precision ≡ Err field.Words → ⊥
+never_words (Some g) (Some b) (Some d) (Some p) e = absurd (cc)
+never_words None b d p e = absurd (cc)
+never_words (Some g) None d p e = absurd (cc)
+never_words (Some g) (Some b) None p e = absurd (cc)
+never_words (Some g) (Some b) (Some d) None e = absurd (cc)
+
+pub plain_job : (words : List (List ℕ)) → is_plain words ≡ true → job words ≡ Err field.Words → ⊥
+plain_job [] e is = absurd (cc)
+plain_job (command ∷ words) e is = never_words _ _ _ _ (rw e at is)
+
+untouched : (left : Option (List ℕ)) → TakenHas (λ bytes. length bytes ≤ text_limit) left left
+untouched None = ([], tt, omega arith)
+untouched (Some text) = ([], refl, omega arith)
+
+-- a refusal of the words comes before any byte is taken
+pub line_limit : (asked : Result JobData Field) (r : Refusal) (result : Result (Unit {0}) Refusal) (left : Option (List ℕ)) → Asks asked (Err r) → IsErrAnd result (λ e. e ≡ r) → KeepsLimit result left left
+line_limit asked r (Ok x) left a is = absurd is
+line_limit asked r (Err (refusal.Usage f)) left a is = untouched left
+line_limit asked r (Err refusal.Memory) left a is = untouched left
+line_limit asked r (Err refusal.Model) left a is = untouched left
+line_limit asked r (Err refusal.ReadFault) left a is = untouched left
+line_limit asked r (Err refusal.WriteFault) left a is = untouched left
+line_limit asked r (Err refusal.TooLong) left a is = absurd (subst (λ (e : Refusal). Asks asked (Err e)) (sym is) a)

@@ -1,4 +1,6 @@
-pub mod Words
+pub mod Cuts
+pub mod Numbers
+pub mod Walk
 pub mod Lines
 pub mod Acts
 mod Samples

@@ -1,5 +1,5 @@
 -- The answers of the program, and the notes that tell them.
-use Rattle.std.specs.Prelude.{◌≡◌, ◌≤◌, ℕ, List, [], codes, Ok, Err, Result}
+use Rattle.std.specs.Prelude.{◌≡◌, ◌≢◌, ◌≤◌, ℕ, List, codes, Ok, Err, Result}
 use Rattle.std.specs.declared.option.Option.{Option}
 use Rattle.std.specs.Io.KnownBytes.{Appends}
 use Rattle.lift_base.specs.Outside.{Rose, AppendsFront}
@@ -56,7 +56,13 @@ pub record Told {E : Type 0} (taken : E → Option (List ℕ)) (faults : E → �
   pub whole : (Rose (faults old) (faults new) → ⊥) → Appends (taken old) (taken new) note
   pub later : faults old ≤ faults new
 
+-- the refusal of a line whose part f is at fault; want of memory may come in its place where the line is plain
+abbrev pub RefusesLine : {T : Type 0} → Field → Result T Refusal → Type 0
+RefusesLine f (Err (refusal.Usage g)) = g ≡ f
+RefusesLine f (Err refusal.Memory) = f ≢ field.Words
+RefusesLine f _ = ⊥
+
 -- the words ask for a job and it was done or refused, or they ask for none and nothing was touched
 abbrev pub Acts : {S K T : Type 0} → (S → Option (List ℕ)) → (S → ℕ) → (K → Option (List ℕ)) → (K → ℕ) → Result JobData Field → S → S → K → K → Result T Refusal → Type 0
 Acts left faults taken counts (Ok job) source source' out out' result = Verifies left faults taken counts job source source' out out' result
-Acts left faults taken counts (Err f) source source' out out' result = (result ≡ Err (refusal.Usage f)) × (source' ≡ source) × (out' ≡ out)
+Acts left faults taken counts (Err f) source source' out out' result = RefusesLine f result × (source' ≡ source) × (out' ≡ out)

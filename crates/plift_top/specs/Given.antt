@@ -1,14 +1,30 @@
--- What reading the command line gives.
-use Rattle.std.specs.Prelude.{ℕ, List, Ok, Err, Result}
+-- What reading the command line gives, without where it lies in memory.
+use Rattle.std.specs.Prelude.{◌≡◌, ◌≢◌, Ok, Err, Result, option_map}
+use Rattle.plift_top.specs.Line as line
 use Rattle.plift_top.specs.Job.{JobData}
+use Rattle.plift_top.specs.declared.line.Setting.{Setting}
 use Rattle.plift_top.specs.declared.job.Job.{Job}
 use Rattle.plift_top.specs.declared.job.Field.{Field}
+use Rattle.plift_top.specs.declared.job.Field.TheVariants as field
+use Rattle.plift_top.specs.declared.refusal.Refusal.{Refusal}
+use Rattle.plift_top.specs.declared.refusal.Refusal.TheVariants as refusal
 
--- a job, without where its label lies in memory
+-- an option
+abbrev pub setting_of : Setting → line.Setting
+setting_of s = record { name = s.name.now; value = option_map (λ v. v.now) s.value }
+
+-- a job
 abbrev pub job_data : Job → JobData
 job_data j = record { goal = j.goal.now; bound = j.bound; depth = j.depth; precision = j.precision }
 
--- the same of the answer to a line
+-- the job of some values, or the one at fault
 abbrev pub answer_data : Result Job Field → Result JobData Field
 answer_data (Ok j) = Ok (job_data j)
 answer_data (Err f) = Err f
+
+-- The answer to a line: the job that it asks for, or its part at fault. Want of memory comes only where the line is plain.
+abbrev pub Asks : Result JobData Field → Result Job Refusal → Type 0
+Asks asked (Ok j) = asked ≡ Ok (job_data j)
+Asks asked (Err (refusal.Usage f)) = asked ≡ Err f
+Asks asked (Err refusal.Memory) = asked ≢ Err field.Words
+Asks asked (Err _) = ⊥

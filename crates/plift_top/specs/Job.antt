@@ -1,6 +1,6 @@
 -- What a command line asks for.
 use Rattle.std.specs.Prelude.{ℕ, List, [], ◌∷◌, codes, Option, Some, None, Result, Ok, Err, if◌then◌else◌, option_and_then}
-use Rattle.plift_top.specs.Line.{is_plain, value_of}
+use Rattle.plift_top.specs.Line.{Setting, is_plain, options, value_of}
 use Rattle.plift_top.specs.Values.{goal_of, bound_of, number_within}
 use Rattle.lift_cert.specs.declared.bound.Bound.{Bound}
 use Rattle.plift_top.specs.declared.job.Field.{Field}
@@ -26,16 +26,16 @@ job_by (Some goal) None _ _ = Err field.Bound
 job_by (Some goal) (Some bound) None _ = Err field.Depth
 job_by (Some goal) (Some bound) (Some depth) None = Err field.Precision
 
--- the job of the options of a plain line; the depth is 0 and the precision 24 unless they are given
-abbrev pub job_of : List (List ℕ) → Result JobData Field
-job_of options =
-    job_by
-    (option_and_then goal_of (value_of (codes "--goal") options))
-    (option_and_then bound_of (value_of (codes "--bound") options))
-    (number_or 0 0 20 (value_of (codes "--depth") options))
-    (number_or 24 1 40 (value_of (codes "--precision") options))
+-- the job of the words behind `--goal`, `--bound`, `--depth` and `--precision`; the depth is 0 and the precision 24 where they are left out
+abbrev pub job_of : Option (List ℕ) → Option (List ℕ) → Option (List ℕ) → Option (List ℕ) → Result JobData Field
+job_of goal bound depth precision = job_by (option_and_then goal_of goal) (option_and_then bound_of bound) (number_or 0 0 20 depth) (number_or 24 1 40 precision)
+
+-- the job of the options of a plain line
+abbrev pub job_in : List Setting → Result JobData Field
+job_in settings =
+    job_of (value_of (codes "--goal") settings) (value_of (codes "--bound") settings) (value_of (codes "--depth") settings) (value_of (codes "--precision") settings)
 
 -- the job that a line asks for, or the part of the line at fault: the whole of it where it isn't plain
 abbrev pub job : List (List ℕ) → Result JobData Field
 job [] = Err field.Words
-job (command ∷ options) = if is_plain (command ∷ options) then job_of options else Err field.Words
+job (command ∷ words) = if is_plain (command ∷ words) then job_in (options words) else Err field.Words

@@ -1,6 +1,7 @@
 pub mod Line
 pub mod Values
 pub mod Job
+pub mod Parser
 pub mod Given
 pub mod Report
 pub mod Written

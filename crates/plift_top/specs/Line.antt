@@ -1,30 +1,59 @@
 -- The words of the command line, and which lines are plain.
-use Rattle.std.specs.Prelude.{◌==◌, ◌&&◌, ◌||◌, ℕ, List, [], ◌∷◌, codes, Option, Some, None, Bool, true, false, not, is_some, is_none, if◌then◌else◌, nat_eq}
-use Rattle.std.specs.List.{starts_with}
+use Rattle.std.specs.Prelude.{◌==◌, ◌&&◌, ◌||◌, ℕ, List, [], ◌∷◌, codes, Option, Some, None, Bool, true, false, not, option_and_then, if◌then◌else◌, nat_eq}
+use Rattle.std.specs.List.{starts_with, list_any, find, before_first, after_first}
 use Rattle.std.specs.Str.{bytes_eq}
 
--- the value of an option: the word behind its name, where names and values take turns
-abbrev pub value_of : List ℕ → List (List ℕ) → Option (List ℕ)
-value_of option (name ∷ value ∷ words) = if bytes_eq name option then Some value else value_of option words
-value_of option _ = None
+-- what stands before and behind the first byte c of a text, where it has one
+abbrev pub cut_at : ℕ → List ℕ → Option (List ℕ × List ℕ)
+cut_at c text = if list_any (λ b. b == c) text then Some (before_first (λ b. b == c) text, after_first (λ b. b == c) text) else None
+
+-- an option as it stands in a line: its name, and its value where it has one
+pub record Setting : Type 0 where
+  pub name : List ℕ
+  pub value : Option (List ℕ)
+
+-- the value behind `=` in one word; none where nothing stands there
+abbrev pub attached : List ℕ → Option (List ℕ)
+attached [] = None
+attached (b ∷ text) = Some (b ∷ text)
+
+-- The options of the words, in their order: one word `--name=value`, which is cut at its first `=`, or two words, a name and its value.
+abbrev pub options : List (List ℕ) → List Setting
+options [] = []
+options (word ∷ []) = elim (cut_at 61 word) [
+  | Some parts ↦ record { name = parts.0; value = attached parts.1 } ∷ []
+  | None ↦ record { name = word; value = None } ∷ []
+]
+options (word ∷ next ∷ words) = elim (cut_at 61 word) [
+  | Some parts ↦ record { name = parts.0; value = attached parts.1 } ∷ options (next ∷ words)
+  | None ↦ record { name = word; value = Some next } ∷ options words
+]
+
+-- an option of this name stands there
+abbrev pub stands : List ℕ → List Setting → Bool
+stands name settings = list_any (λ s. bytes_eq s.name name) settings
+
+-- the value of the first option of this name
+abbrev pub value_of : List ℕ → List Setting → Option (List ℕ)
+value_of name settings = option_and_then (λ s. s.value) (find (λ s. bytes_eq s.name name) settings)
 
 -- the names of the options of `verify`
 abbrev pub is_option : List ℕ → Bool
 is_option name =
     bytes_eq name (codes "--goal") || bytes_eq name (codes "--bound") || bytes_eq name (codes "--depth") || bytes_eq name (codes "--precision")
 
--- a value doesn't begin with `-`
-abbrev pub is_value : List ℕ → Bool
-is_value word = not (starts_with nat_eq word (codes "-"))
+-- a value is there, and doesn't begin with `-`
+abbrev pub is_value : Option (List ℕ) → Bool
+is_value None = false
+is_value (Some word) = not (starts_with nat_eq word (codes "-"))
 
--- options, each at most once, and each with its value behind it
-abbrev pub are_options : List (List ℕ) → Bool
+-- options of `verify`, each with its value, and each at most once
+abbrev pub are_options : List Setting → Bool
 are_options [] = true
-are_options (name ∷ value ∷ words) = is_option name && is_value value && is_none (value_of name words) && are_options words
-are_options (name ∷ []) = false
+are_options (s ∷ more) = is_option s.name && is_value s.value && not (stands s.name more) && are_options more
 
--- A plain line: the command `verify`, and then options with their values, in any order. The goal and the bound stand there.
+-- A plain line: a command that is built, today `verify` alone, and behind it its options, in any order. The goal and the bound stand there.
 abbrev pub is_plain : List (List ℕ) → Bool
-is_plain (command ∷ options) =
-    bytes_eq command (codes "verify") && are_options options && is_some (value_of (codes "--goal") options) && is_some (value_of (codes "--bound") options)
 is_plain [] = false
+is_plain (command ∷ words) =
+    bytes_eq command (codes "verify") && are_options (options words) && stands (codes "--goal") (options words) && stands (codes "--bound") (options words)

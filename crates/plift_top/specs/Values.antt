@@ -1,27 +1,44 @@
--- The values of the command line: their grammars and ranges, a profile of our own.
-use Rattle.std.specs.Prelude.{◌==◌, ◌&&◌, ◌+◌, ◌/◌, ◌^◌, ℕ, List, length, drop, take, position, Option, Some, None, Bool, not, nat_lt, nat_le, if◌then◌else◌, option_and_then}
+-- The values of the command line: their grammars and ranges.
+use Rattle.std.specs.Prelude.{◌==◌, ◌&&◌, ◌^◌, ◌*ℤ◌, ℕ, pos, unsigned_abs, int_le, int_lt, List, length, Option, Some, None, Result, Ok, Err, true, false, not, nat_le, if◌then◌else◌, option_and_then}
 use Rattle.std.specs.List.{list_all}
+use Rattle.std.specs.Result.{result_ok}
+use Rattle.std.specs.Char.{is_ascii_digit}
 use Rattle.std.specs.Str.Parse.{digits_value}
-use Rattle.lift_frac.specs.Gcd.{gcd}
-use Rattle.drn_read.specs.Text.{is_number, share_of}
-use Rattle.drn_read.specs.declared.state.Share.{Share}
+use Rattle.lift_frac.specs.Literal.{reading}
+use Rattle.lift_frac.specs.Ratio.{Ratio, fraction}
+use Rattle.lift_frac.specs.declared.error.FracError.{FracError}
 use Rattle.lift_cert.specs.declared.bound.Bound.{Bound}
+use Rattle.plift_top.specs.Line.{cut_at}
 
 -- a goal label: one or more bytes from the blank to the tilde
 abbrev pub goal_of : List ℕ → Option (List ℕ)
 goal_of word = if list_all (λ b. nat_le 32 b && nat_le b 126) word && not (length word == 0) then Some word else None
 
--- a number of one to three digits, within a range
+-- a number of one to three digits
+abbrev pub number_of : List ℕ → Option ℕ
+number_of word = if list_all is_ascii_digit word && not (length word == 0) && nat_le (length word) 3 then Some (digits_value 10 word) else None
+
+-- such a number within a range
 abbrev pub number_within : ℕ → ℕ → List ℕ → Option ℕ
-number_within low high word =
-    if is_number word && nat_le (length word) 3 && nat_le low (digits_value 10 word) && nat_le (digits_value 10 word) high then Some (digits_value 10 word) else None
+number_within low high word = option_and_then (λ n. if nat_le low n && nat_le n high then Some n else None) (number_of word)
 
--- a fraction in lowest terms, where it is at most 1 and its denominator is below 2 ^ 32
-abbrev pub lowest : Share → Option Bound
-lowest f =
-    let g = gcd f.num f.den in
-    if nat_le f.num f.den && nat_lt (f.den / g) (2 ^ 32) then Some (record { num = f.num / g; den = f.den / g }) else None
+-- One number over another, in lowest terms. None where one of them is no literal or too wide, where the divisor is 0, or where the result is too wide.
+abbrev pub quotient : Result Ratio FracError → Result Ratio FracError → Option Ratio
+quotient (Err e) _ = None
+quotient (Ok a) (Err e) = None
+quotient (Ok a) (Ok b) = elim (unsigned_abs b.num == 0) [ true ↦ None | false ↦ result_ok (fraction (a.num *ℤ b.den) (a.den *ℤ b.num)) ]
 
--- a bound: a fraction `n` or `n/d` from 0 to 1, each of one to eighteen digits
+-- a fraction, written `literal` or `literal/literal`
+abbrev pub ratio_of : List ℕ → Option Ratio
+ratio_of word = elim (cut_at 47 word) [
+  | None ↦ result_ok (reading word)
+  | Some parts ↦ quotient (reading parts.0) (reading parts.1)
+]
+
+-- a fraction in lowest terms, where it is from 0 to 1 and its denominator is below 2 ^ 32
+abbrev pub bound_by : Ratio → Option Bound
+bound_by q = if int_le (pos 0) q.num && int_le q.num q.den && int_lt q.den (pos (2 ^ 32)) then Some (record { num = unsigned_abs q.num; den = unsigned_abs q.den }) else None
+
+-- a bound: a fraction from 0 to 1 whose denominator in lowest terms is below 2 ^ 32
 abbrev pub bound_of : List ℕ → Option Bound
-bound_of word = option_and_then lowest (share_of word)
+bound_of word = option_and_then bound_by (ratio_of word)

@@ -1,48 +1,53 @@
 // Reads the command line.
 ghost use Rattle.std.specs.Prelude.{◌≡◌, ◌≤◌, map, string_bytes, codes, option_and_then, IfSome};
 ghost use Rattle.std.specs.Option.{option_map};
-ghost use Rattle.plift_top.specs.Line.{value_of};
+ghost use Rattle.clap.specs.Words.{found_of, first_value};
 ghost use Rattle.plift_top.specs.Values.{goal_of, bound_of};
 ghost use Rattle.plift_top.specs.Job.{job, job_of, number_or};
-ghost use Rattle.plift_top.specs.Given.{answer_data};
+ghost use Rattle.plift_top.specs.Given.{answer_data, Asks};
 
 use crate::job::{Field, Job};
-use crate::line::{is_plain, value_of};
+use crate::line::is_plain;
+use crate::parser::parse;
+use crate::refusal::Refusal;
 use crate::values::{bound_of, goal_of, number_within};
+use clap::ArgMatches;
 use lift_cert::Bound;
+use std::alloc::Global;
 
-fn goal_in(options: &[String]) -> Option<&[u8]>
-    ensures { option_map (λ label. label.now) result ≡ option_and_then goal_of (value_of (codes "--goal") (map string_bytes options.entry.now)) }
+fn goal_in<'a>(matches: &ArgMatches<'a>) -> Option<&'a [u8]>
+    ensures { option_map (λ label. label.now) result ≡ option_and_then goal_of (first_value (found_of matches.now) (codes "goal")) }
 {
-    goal_of(value_of(options, "--goal")?)
+    goal_of(matches.get_str("goal")?.as_bytes())
 }
 
-fn bound_in(options: &[String]) -> Option<Bound>
-    ensures { result ≡ option_and_then bound_of (value_of (codes "--bound") (map string_bytes options.now)) }
+fn bound_in(matches: &ArgMatches<'_>) -> Option<Bound>
+    ensures { result ≡ option_and_then bound_of (first_value (found_of matches.now) (codes "bound")) }
 {
-    bound_of(value_of(options, "--bound")?)
+    bound_of(matches.get_str("bound")?)
 }
 
 // The number of an option that may be left out.
-fn number_in(options: &[String], name: &str, default: u32, low: u32, high: u32) -> Option<u32>
+fn number_in(matches: &ArgMatches<'_>, id: &str, default: u32, low: u32, high: u32) -> Option<u32>
     requires low { low ≤ default }
     requires high { default ≤ high }
-    ensures value { result ≡ number_or default low high (value_of name.now (map string_bytes options.now)) }
+    ensures value { result ≡ number_or default low high (first_value (found_of matches.now) id.now) }
     ensures range { IfSome result (λ n. (low ≤ n) × (n ≤ high)) }
 {
-    match value_of(options, name) {
+    match matches.get_str(id) {
         Some(word) => number_within(word, low, high),
         None => Some(default),
     }
 }
 
-fn job_by(options: &[String]) -> Result<Job<'_>, Field>
-    ensures { answer_data result ≡ job_of (map string_bytes options.entry.now) }
+fn job_in<'a>(matches: &ArgMatches<'a>) -> Result<Job<'a>, Field>
+    ensures { let f = found_of matches.now in
+        answer_data result ≡ job_of (first_value f (codes "goal")) (first_value f (codes "bound")) (first_value f (codes "depth")) (first_value f (codes "precision")) }
 {
-    let goal = goal_in(options).ok_or(Field::Goal)?;
-    let bound = bound_in(options).ok_or(Field::Bound)?;
-    let depth = number_in(options, "--depth", 0, 0, 20).ok_or(Field::Depth)?;
-    let precision = number_in(options, "--precision", 24, 1, 40).ok_or(Field::Precision)?;
+    let goal = goal_in(matches).ok_or(Field::Goal)?;
+    let bound = bound_in(matches).ok_or(Field::Bound)?;
+    let depth = number_in(matches, "depth", 0, 0, 20).ok_or(Field::Depth)?;
+    let precision = number_in(matches, "precision", 24, 1, 40).ok_or(Field::Precision)?;
     Ok(Job {
         goal,
         bound,
@@ -51,12 +56,16 @@ fn job_by(options: &[String]) -> Result<Job<'_>, Field>
     })
 }
 
-/// What the words after the program's name ask for, or the part of them that is at fault. Takes no memory.
-pub fn job_of(words: &[String]) -> Result<Job<'_>, Field>
-    ensures { answer_data result ≡ job (map string_bytes words.entry.now) }
+/// What the words after the program's name ask for. `Usage` with the part of them that is at fault,
+/// or `Memory`, which comes only where the line is plain.
+pub fn job_of(alloc: Global, words: &[String]) -> Result<Job<'_>, Refusal>
+    ensures { Asks (job (map string_bytes words.entry.now)) result }
 {
     if !is_plain(words) {
-        return Err(Field::Words);
+        return Err(Refusal::Usage(Field::Words));
     }
-    job_by(&words[1..])
+    let Ok(matches) = parse(alloc, words) else {
+        return Err(Refusal::Memory);
+    };
+    Ok(job_in(&matches)?)
 }

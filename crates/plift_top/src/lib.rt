@@ -4,6 +4,7 @@
 mod command;
 mod job;
 mod line;
+mod parser;
 mod program;
 mod refusal;
 mod report;

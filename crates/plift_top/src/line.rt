@@ -1,20 +1,82 @@
 // The words of the command line.
-ghost use Rattle.std.specs.Prelude.{◌≡◌, ◌&&◌, map, string_bytes, is_none};
+ghost use Rattle.std.specs.Prelude.{◌≡◌, ◌&&◌, ◌<◌, ◌≤◌, ◌∷◌, [], None, length, map, not, string_bytes, IfSome, MatchOption};
 ghost use Rattle.std.specs.Option.{option_map};
-ghost use Rattle.plift_top.specs.Line.{value_of, is_option, is_value, are_options, is_plain};
+ghost use Rattle.plift_top.specs.Line.{cut_at, attached, options, stands, is_option, is_value, are_options, is_plain};
+ghost use Rattle.plift_top.specs.Given.{setting_of};
 
-/// The value of an option: the word behind its name.
-pub fn value_of<'a>(words: &'a [String], option: &str) -> Option<&'a [u8]>
-    ensures { option_map (λ v. v.now) result ≡ value_of option.now (map string_bytes words.entry.now) }
+/// An option as it stands in a line.
+#[derive(Clone, Copy)]
+struct Setting<'a> {
+    name: &'a str,
+    value: Option<&'a str>,
+}
+
+/// What stands before and behind the first `mark`, an ASCII character.
+pub fn cut_at(text: &str, mark: char) -> Option<(&str, &str)>
+    requires { mark < 128 }
+    ensures { option_map (λ parts. (parts.0.now, parts.1.now)) result ≡ cut_at mark text.now }
+{
+    text.split_once(mark)
+}
+
+// The value behind `=` in one word.
+fn attached(text: &str) -> Option<&str>
+    ensures { option_map (λ value. value.now) result ≡ attached text.now }
+{
+    if text.is_empty() { None } else { Some(text) }
+}
+
+// An option of two words: a name, and the value at the front of the words behind it.
+fn in_two_words<'a>(name: &'a str, words: &'a [String]) -> (Setting<'a>, &'a [String])
+    requires { cut_at 61 name.now ≡ None }
+    ensures option { options (name.now ∷ map string_bytes words.now) ≡ setting_of result.0 ∷ options (map string_bytes result.1.now) }
+    ensures shorter { length result.1.now ≤ length words.now }
+{
+    match words {
+        [value, rest @ ..] => (
+            Setting {
+                name,
+                value: Some(value.as_str()),
+            },
+            rest,
+        ),
+        [] => (Setting { name, value: None }, words),
+    }
+}
+
+// The option at the front, and the words behind it.
+fn first_option(words: &[String]) -> Option<(Setting<'_>, &[String])>
+    ensures option { MatchOption result (map string_bytes words.now ≡ [])
+        (λ first. options (map string_bytes words.now) ≡ setting_of first.0 ∷ options (map string_bytes first.1.now)) }
+    ensures shorter { IfSome result (λ first. length first.1.now < length words.now) }
+{
+    let [word, rest @ ..] = words else {
+        return None;
+    };
+    match cut_at(word.as_str(), '=') {
+        Some((name, value)) => Some((
+            Setting {
+                name,
+                value: attached(value),
+            },
+            rest,
+        )),
+        None => Some(in_two_words(word.as_str(), rest)),
+    }
+}
+
+// Whether an option of this name stands there.
+fn stands(name: &str, words: &[String]) -> bool
+    ensures { result ≡ stands name.now (options (map string_bytes words.now)) }
 {
     let mut rest = words;
-    while let [name, value, more @ ..] = rest {
-        if name.as_str() == option {
-            return Some(value.as_bytes());
+    while let Some((setting, more)) = first_option(rest) {
+        if setting.name == name {
+            return true;
         }
         rest = more;
     }
-    None
+    false
 }
 
 fn is_option(name: &str) -> bool
@@ -23,33 +85,38 @@ fn is_option(name: &str) -> bool
     name == "--goal" || name == "--bound" || name == "--depth" || name == "--precision"
 }
 
-fn is_value(word: &[u8]) -> bool
-    ensures { result ≡ is_value word.now }
+fn is_value(value: Option<&str>) -> bool
+    ensures { result ≡ is_value (option_map (λ v. v.now) value.entry) }
 {
-    !word.starts_with(b"-")
+    match value {
+        Some(word) => !word.as_bytes().starts_with(b"-"),
+        None => false,
+    }
 }
 
-// Whether an option stands here with its value, and not once more in the words behind them.
-fn begins_option(name: &str, value: &[u8], more: &[String]) -> bool
-    ensures { result ≡ (is_option name.now && is_value value.now && is_none (value_of name.now (map string_bytes more.now))) }
+// Whether it is an option of `verify` with its value, which doesn't stand once more behind it.
+fn is_sound(setting: Setting<'_>, more: &[String]) -> bool
+    ensures { let s = setting_of setting.entry in
+        result ≡ (is_option s.name && is_value s.value && not (stands s.name (options (map string_bytes more.now)))) }
 {
-    is_option(name) && is_value(value) && value_of(more, name).is_none()
+    is_option(setting.name) && is_value(setting.value) && !stands(setting.name, more)
 }
 
 fn are_options(words: &[String]) -> bool
-    ensures { result ≡ are_options (map string_bytes words.now) }
+    ensures { result ≡ are_options (options (map string_bytes words.now)) }
 {
     let mut rest = words;
-    while let [name, value, more @ ..] = rest {
-        if !begins_option(name.as_str(), value.as_bytes(), more) {
+    while let Some((setting, more)) = first_option(rest) {
+        if !is_sound(setting, more) {
             return false;
         }
         rest = more;
     }
-    rest.is_empty()
+    true
 }
 
-/// Whether the line is plain: the command, and then its options with their values.
+/// Whether the line is plain: the command `verify`, and behind it its options with their values, in
+/// any order and each at most once. Takes no memory.
 pub fn is_plain(words: &[String]) -> bool
     ensures { result ≡ is_plain (map string_bytes words.now) }
 {
@@ -58,6 +125,6 @@ pub fn is_plain(words: &[String]) -> bool
     };
     command.as_str() == "verify"
         && are_options(options)
-        && value_of(options, "--goal").is_some()
-        && value_of(options, "--bound").is_some()
+        && stands("--goal", options)
+        && stands("--bound", options)
 }

@@ -1,5 +1,5 @@
 // The whole program, over any source and sinks.
-ghost use Rattle.std.specs.Prelude.{◌≡◌, ◌≢◌, ◌≤◌, ◌<◌, ◌^◌, ◌⊎◌, ◌↔◌, map, string_bytes, length, codes, List, ℕ, Some, Ok, IsErr};
+ghost use Rattle.std.specs.Prelude.{◌≡◌, ◌≢◌, ◌≤◌, ◌<◌, ◌^◌, ◌⊎◌, map, string_bytes, length, codes, List, ℕ, Some, Ok, Err, IsErr};
 ghost use Rattle.std.specs.Io.KnownBytes.{Appends};
 ghost use Rattle.lift_base.specs.Outside.{Rose, AppendsFront, TakenHas};
 ghost use Rattle.lift_model.specs.Chain.{ChainData};
@@ -25,7 +25,7 @@ fn act<S: Source, K: Sink>(
     ensures answer { Acts S.left S.faults K.taken K.faults (job (map string_bytes words.now.items)) source.old source.new out.old out.new result }
     ensures limit { KeepsLimit result (S.left source.old) (S.left source.new) }
 {
-    let job = job_of(words)?;
+    let job = job_of(alloc, words)?;
     verify(alloc, &job, source, out)
 }
 
@@ -79,7 +79,9 @@ pub fn run<S: Source, K: Sink, E: Sink>(
         × WasRead (Reports (Appends (K.taken out.old) (K.taken out.new)) j) (S.left source.old) (S.left source.new) }
 
     // Each refusal has its cause.
-    ensures usage { (result ≡ Status.Usage) ↔ IsErr (job (map string_bytes words.now.items)) }
+    ensures usage { result ≡ Status.Usage → IsErr (job (map string_bytes words.now.items)) }
+    ensures at_fault { IsErr (job (map string_bytes words.now.items)) → (result ≡ Status.Usage) ⊎ (result ≡ Status.Memory) }
+    ensures not_plain { job (map string_bytes words.now.items) ≡ Err Field.Words → result ≡ Status.Usage }
     ensures model { result ≡ Status.ModelRefused → (j : JobData) × (job (map string_bytes words.now.items) ≡ Ok j)
         × WasRead (TellsNone j.goal) (S.left source.old) (S.left source.new) }
     ensures read_fault { result ≡ Status.ReadFault → Rose (S.faults source.old) (S.faults source.new) }

@@ -29,9 +29,13 @@ const ZERO_REPORT: &str = "plift 1\nkind dtmc\nparameters 0\ncommon 1\nstates 2\
 
 const HALF: &str = "verify --goal heads --bound 1/2 --precision 4";
 
-fn words(alloc: Global, line: &str) -> Result<Vec<String>, Fail> {
+// The words of a line; none where it is empty.
+fn words(alloc: Global, line: &str, separator: char) -> Result<Vec<String>, Fail> {
     let mut words = Vec::new(alloc);
-    for word in line.split(' ') {
+    if line.is_empty() {
+        return Ok(words);
+    }
+    for word in line.split(separator) {
         words.push(String::from_str(alloc, word)?)?;
     }
     Ok(words)
@@ -141,11 +145,11 @@ const RUNS: [(&str, &str, Status, &str, &str); 27] = [
         "usage: words\n",
     ),
     (
-        "verify --goal=heads --bound=1/2",
+        "verify --goal=heads --bound=0.5 --precision=4",
         PLAIN,
-        Status::Usage,
+        Status::Done,
+        PLAIN_REPORT,
         "",
-        "usage: words\n",
     ),
     (
         "verify --goal heads --bound 1/2 --region 0<=p<=1",
@@ -209,7 +213,7 @@ fn the_first_path_answers(rt: HostRuntime) -> Result<(), Fail> {
         let mut notes = MemSink::new(alloc, 100, 3, Vec::new(alloc))?;
         let got = run(
             alloc,
-            &words(alloc, line)?,
+            &words(alloc, line, ' ')?,
             &mut source,
             &mut out,
             &mut notes,
@@ -263,7 +267,7 @@ fn faults_are_told(rt: HostRuntime) -> Result<(), Fail> {
         let mut notes = MemSink::new(alloc, 100, 3, failing_tells)?;
         let got = run(
             alloc,
-            &words(alloc, HALF)?,
+            &words(alloc, HALF, ' ')?,
             &mut source,
             &mut out,
             &mut notes,
@@ -308,7 +312,7 @@ fn a_text_has_at_most_2_to_the_26_bytes(rt: HostRuntime) -> Result<(), Fail> {
         let mut notes = MemSink::new(alloc, 100, 3, Vec::new(alloc))?;
         let got = run(
             alloc,
-            &words(alloc, HALF)?,
+            &words(alloc, HALF, ' ')?,
             &mut source,
             &mut out,
             &mut notes,
@@ -316,6 +320,119 @@ fn a_text_has_at_most_2_to_the_26_bytes(rt: HostRuntime) -> Result<(), Fail> {
         assert!(rt; got == status, "{told}");
         assert!(rt; out.taken().is_empty(), "{told}");
         assert!(rt; notes.taken() == told.as_bytes(), "{told}");
+    }
+    Ok(())
+}
+
+const WORDS: &str = "usage: words\n";
+
+const READ: &str = "read fault\n";
+
+// Each line: the words, and what is told, where reading fails at once.
+const LINES: [(&str, &str); 62] = [
+    ("verify|--goal|heads|--bound|1/2", READ),
+    ("verify|--goal=heads|--bound=1/2|--precision=4", READ),
+    ("verify|--depth|0|--bound=1/2|--goal|heads", READ),
+    ("", WORDS),
+    ("verify", WORDS),
+    ("check", WORDS),
+    ("check|x", WORDS),
+    ("generate|5", WORDS),
+    ("help", WORDS),
+    ("--help", WORDS),
+    ("-h", WORDS),
+    ("--version", WORDS),
+    ("verify|--", WORDS),
+    ("verify|--help", WORDS),
+    ("verify|-h", WORDS),
+    ("verify|help", WORDS),
+    ("verify|--goal|heads", WORDS),
+    ("verify|--goal|heads|--bound", WORDS),
+    ("verify|--goal|heads|--bound|1/2|--goal|heads", WORDS),
+    ("verify|--goal|heads|--bound=1/2|--bound=1/2", WORDS),
+    ("verify|--goal=|--bound|1/2", WORDS),
+    ("verify|--goal=-x|--bound|1/2", WORDS),
+    ("verify|--goal|heads|--bound|-1", WORDS),
+    ("verify|--goal|heads|--bound|1/2|--", WORDS),
+    ("verify|--goal|heads|--bound|1/2|more", WORDS),
+    ("verify|--goal|heads|--bound|1/2|--speed|4", WORDS),
+    ("verify|--goal|heads|--bound|1/2|--prec|4", WORDS),
+    ("verify|--goal|heads|--bound|1/2|--region|0<=p<=1", WORDS),
+    ("verify|--bound|1/2|--goal|=x", READ),
+    ("verify|--bound|1/2|--goal=a=b", READ),
+    ("verify|--bound|1/2|--goal|two words", READ),
+    ("verify|--bound|1/2|--goal=x", READ),
+    ("verify|--bound|1/2|--goal|", "usage: --goal\n"),
+    ("verify|--bound|1/2|--goal|\x7f", "usage: --goal\n"),
+    ("verify|--goal|x|--bound|0.5", READ),
+    ("verify|--goal|x|--bound|5e-1", READ),
+    ("verify|--goal|x|--bound|0/7", READ),
+    ("verify|--goal|x|--bound|1", READ),
+    ("verify|--goal|x|--bound|0.5/0.50", READ),
+    ("verify|--goal|x|--bound|1/4294967295", READ),
+    ("verify|--goal|x|--bound|1/0", "usage: --bound\n"),
+    ("verify|--goal|x|--bound|3/2", "usage: --bound\n"),
+    ("verify|--goal|x|--bound|1/4294967296", "usage: --bound\n"),
+    ("verify|--goal|x|--bound|2/8589934592", "usage: --bound\n"),
+    ("verify|--goal|x|--bound|1/", "usage: --bound\n"),
+    ("verify|--goal|x|--bound|/2", "usage: --bound\n"),
+    ("verify|--goal|x|--bound|+1/2", "usage: --bound\n"),
+    ("verify|--goal|x|--bound|1 /2", "usage: --bound\n"),
+    ("verify|--goal|x|--bound|1/2/1", "usage: --bound\n"),
+    (
+        "verify|--goal|x|--bound|4611686018427387904/4611686018427387904",
+        "usage: --bound\n",
+    ),
+    ("verify|--goal|x|--bound|1|--depth|020", READ),
+    ("verify|--goal|x|--bound|1|--depth|20", READ),
+    ("verify|--goal|x|--bound|1|--depth|0020", "usage: --depth\n"),
+    ("verify|--goal|x|--bound|1|--depth|21", "usage: --depth\n"),
+    ("verify|--goal|x|--bound|1|--depth|", "usage: --depth\n"),
+    ("verify|--goal|x|--bound|1|--depth|+1", "usage: --depth\n"),
+    ("verify|--goal|x|--bound|1|--precision|40", READ),
+    (
+        "verify|--goal|x|--bound|1|--precision|0",
+        "usage: --precision\n",
+    ),
+    (
+        "verify|--goal|x|--bound|1|--precision|41",
+        "usage: --precision\n",
+    ),
+    (
+        "verify|--precision|0|--depth|21|--bound|2|--goal|",
+        "usage: --goal\n",
+    ),
+    (
+        "verify|--precision|0|--depth|21|--bound|2|--goal|x",
+        "usage: --bound\n",
+    ),
+    (
+        "verify|--precision|0|--depth|21|--bound|1|--goal|x",
+        "usage: --depth\n",
+    ),
+];
+
+#[test]
+fn words_are_read(rt: HostRuntime) -> Result<(), Fail> {
+    let alloc = rt.alloc();
+    for (line, told) in LINES {
+        let mut failing_reads = Vec::new(alloc);
+        failing_reads.push(1)?;
+        let mut source = MemSource::new(Vec::new(alloc), 16, failing_reads);
+        let mut out = MemSink::new(alloc, 10, 1, Vec::new(alloc))?;
+        let mut notes = MemSink::new(alloc, 100, 3, Vec::new(alloc))?;
+        let status = run(
+            alloc,
+            &words(alloc, line, '|')?,
+            &mut source,
+            &mut out,
+            &mut notes,
+        );
+        let is_read = told == READ;
+        assert!(rt; (status == Status::ReadFault) == is_read, "{line}");
+        assert!(rt; (status == Status::Usage) != is_read, "{line}");
+        assert!(rt; out.taken().is_empty(), "{line}");
+        assert!(rt; notes.taken() == told.as_bytes(), "{line}");
     }
     Ok(())
 }

@@ -1,12 +1,14 @@
 // The values of the command line.
-ghost use Rattle.std.specs.Prelude.{◌≡◌, ◌≤◌, ◌<◌, ◌^◌, ◌==◌, ◌&&◌, length, true, IfSome, nat_le};
+ghost use Rattle.std.specs.Prelude.{◌≡◌, ◌≤◌, ◌<◌, ◌==◌, ◌&&◌, length, true, IfSome, nat_le};
 ghost use Rattle.std.specs.Option.{option_map};
 ghost use Rattle.std.specs.List.{list_all};
-ghost use Rattle.plift_top.specs.Values.{goal_of, number_within, lowest, bound_of};
+ghost use Rattle.std.specs.Char.{is_ascii_digit};
+ghost use Rattle.lift_frac.specs.Frac.{answer_of, ratio_of as ratio};
+ghost use Rattle.plift_top.specs.Values.{goal_of, number_of, number_within, quotient, ratio_of, bound_by, bound_of};
 
-use drn_read::{Share, number_of, share_of};
+use crate::line::cut_at;
 use lift_cert::Bound;
-use lift_frac::gcd;
+use lift_frac::{Frac, FracError, read_literal};
 
 fn are_label_bytes(word: &[u8]) -> bool
     ensures { result ≡ list_all (λ b. nat_le 32 b && nat_le b 126) word.now }
@@ -25,38 +27,72 @@ pub fn goal_of(word: &[u8]) -> Option<&[u8]>
     }
 }
 
+fn are_digits(word: &[u8]) -> bool
+    ensures { result ≡ list_all is_ascii_digit word.now }
+{
+    word.iter().all(|b| b.is_ascii_digit())
+}
+
+// A number of one to three digits.
+fn number_of(word: &str) -> Option<u32>
+    ensures { result ≡ number_of word.now }
+{
+    if !are_digits(word.as_bytes()) || word.is_empty() || word.len() > 3 {
+        return None;
+    }
+    word.parse().ok()
+}
+
 /// A number of one to three digits, from `low` to `high`.
-pub fn number_within(word: &[u8], low: u32, high: u32) -> Option<u32>
+pub fn number_within(word: &str, low: u32, high: u32) -> Option<u32>
     ensures value { result ≡ number_within low high word.now }
     ensures range { IfSome result (λ n. (low ≤ n) × (n ≤ high)) }
 {
     let number = number_of(word)?;
-    if word.len() <= 3 && u64::from(low) <= number && number <= u64::from(high) {
-        Some(number as u32)
+    if low <= number && number <= high {
+        Some(number)
     } else {
         None
     }
 }
 
-fn lowest(share: Share) -> Option<Bound>
-    requires { 0 < share.den }
-    ensures { result ≡ lowest share }
+fn quotient(above: Result<Frac, FracError>, below: Result<Frac, FracError>) -> Option<Frac>
+    ensures { option_map ratio result ≡ quotient (answer_of above) (answer_of below) }
 {
-    let num = u128::from(share.num);
-    let den = u128::from(share.den);
-    let divisor = gcd(num, den);
-    if num > den || den / divisor >= 1 << 32 {
-        return None;
-    }
-    Some(Bound {
-        num: (num / divisor) as u32,
-        den: (den / divisor) as u32,
-    })
+    above.ok()?.div(below.ok()?).ok()
 }
 
-/// A bound: a fraction from 0 to 1 whose denominator in lowest terms is below 2^32.
-pub fn bound_of(word: &[u8]) -> Option<Bound>
+// A fraction, written `literal` or `literal/literal`.
+fn fraction_of(word: &str) -> Option<Frac>
+    ensures { option_map ratio result ≡ ratio_of word.now }
+{
+    match cut_at(word, '/') {
+        Some((above, below)) => quotient(
+            read_literal(above.as_bytes()),
+            read_literal(below.as_bytes()),
+        ),
+        None => read_literal(word.as_bytes()).ok(),
+    }
+}
+
+fn bound_by(fraction: Frac) -> Option<Bound>
+    ensures { result ≡ bound_by (ratio fraction) }
+{
+    let Frac { num, den } = fraction;
+    if 0 <= num && num <= den && den < 1 << 32 {
+        Some(Bound {
+            num: num as u32,
+            den: den as u32,
+        })
+    } else {
+        None
+    }
+}
+
+/// A bound: a fraction from 0 to 1 whose denominator in lowest terms is below 2^32, written
+/// `literal` or `literal/literal`.
+pub fn bound_of(word: &str) -> Option<Bound>
     ensures { result ≡ bound_of word.now }
 {
-    lowest(share_of(word)?)
+    bound_by(fraction_of(word)?)
 }

@@ -1,14 +1,18 @@
-use Rattle.std.proofs.Common.{◌∙◌, sym, inr, subst, List, ℕ}
-use Rattle.plift_top.specs.Answers.{HasNote}
-use Rattle.plift_top.specs.declared.status.Status.{Status}
-use Rattle.plift_top.proofs.Acts.{done, usage, model, read_fault, write_fault, part, kept, unread, noted, complete}
+use Rattle.std.proofs.Common.{◌∙◌, sym, inr}
+use Rattle.plift_top.proofs.Acts.{done, usage, at_fault, not_plain, model, read_fault, write_fault, part, kept, unread, noted, complete}
 use Rattle.plift_top.proofs.program.run.Goals as goal
 
 pub returns-in-Ok-clause-done : goal.returns-in-Ok-clause-done
 returns-in-Ok-clause-done g c e = done g.S.Source.left g.S.Source.faults g.K.Sink.taken g.K.Sink.faults _ _ _ _ _ c.in-Ok.ensures.answer
 
 pub returns-in-Err-clause-usage : goal.returns-in-Err-clause-usage
-returns-in-Err-clause-usage g c = rw c.status_of.ensures (usage g.S.Source.left g.S.Source.faults g.K.Sink.taken g.K.Sink.faults _ _ _ _ _ c.in-Err.refusal c.in-Err.ensures.answer)
+returns-in-Err-clause-usage g c e = usage g.S.Source.left g.S.Source.faults g.K.Sink.taken g.K.Sink.faults _ _ _ _ _ c.in-Err.refusal c.in-Err.ensures.answer (sym c.status_of.ensures ∙ e)
+
+pub returns-in-Err-clause-at_fault : goal.returns-in-Err-clause-at_fault
+returns-in-Err-clause-at_fault g c e = rw c.status_of.ensures (at_fault g.S.Source.left g.S.Source.faults g.K.Sink.taken g.K.Sink.faults _ _ _ _ _ c.in-Err.refusal c.in-Err.ensures.answer e)
+
+pub returns-in-Err-clause-not_plain : goal.returns-in-Err-clause-not_plain
+returns-in-Err-clause-not_plain g c e = c.status_of.ensures ∙ not_plain g.S.Source.left g.S.Source.faults g.K.Sink.taken g.K.Sink.faults _ _ _ _ _ c.in-Err.refusal c.in-Err.ensures.answer e
 
 pub returns-in-Err-clause-model : goal.returns-in-Err-clause-model
 returns-in-Err-clause-model g c e = model g.S.Source.left g.S.Source.faults g.K.Sink.taken g.K.Sink.faults _ _ _ _ _ c.in-Err.refusal c.in-Err.ensures.answer (sym c.status_of.ensures ∙ e)
