@@ -21,7 +21,7 @@ use Rattle.clap.proofs.WalkLemmas.{both, first_value-rows}
 use Rattle.clap.proofs.SimpleLemmas.{is_false, is_nil}
 use Rattle.plift_top.specs.Line.{Setting, cut_at, attached, options, stands, value_of, is_option, is_value, are_options, is_plain}
 use Rattle.plift_top.proofs.Cuts.{neither, cut_parts, options_one, options_two, options_lone}
-use Rattle.plift_top.specs.Parser.{HasValues, verify_app, takes_line, line_rows}
+use Rattle.plift_top.specs.Parser.{HasValues, verify_app}
 
 -- `verify` as the parser builds it, and the rules of its options
 unfoldable shape : Shape
@@ -440,6 +440,13 @@ plain_line command words e =
     let b = both (bytes_eq command (codes "verify") && are_options (options words)) _ a.0 in
     let c = both (bytes_eq command (codes "verify")) _ b.0 in
     record { all = c.1; has_goal = b.1; has_bound = a.1 }
+
+-- the parser takes the words, and what it finds in them
+unfoldable takes_line : List Text → Bool
+takes_line words = takes verify_app words
+
+unfoldable line_rows : List Text → List Row
+line_rows words = matches_of verify_app words
 
 -- the parser takes a plain line
 taken : (words : List Text) → is_plain words ≡ true → takes_line words ≡ true

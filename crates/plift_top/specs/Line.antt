@@ -17,15 +17,19 @@ abbrev pub attached : List ℕ → Option (List ℕ)
 attached [] = None
 attached (b ∷ text) = Some (b ∷ text)
 
--- The options of the words, in their order: one word `--name=value`, which is cut at its first `=`, or two words, a name and its value.
+-- an option in one word `--name=value`, by its two parts
+abbrev pub in_one : List ℕ × List ℕ → Setting
+in_one parts = record { name = parts.0; value = attached parts.1 }
+
+-- The options of the words, in their order: one word, which is cut at its first `=`, or two words, a name and its value.
 abbrev pub options : List (List ℕ) → List Setting
 options [] = []
 options (word ∷ []) = elim (cut_at 61 word) [
-  | Some parts ↦ record { name = parts.0; value = attached parts.1 } ∷ []
+  | Some parts ↦ in_one parts ∷ []
   | None ↦ record { name = word; value = None } ∷ []
 ]
 options (word ∷ next ∷ words) = elim (cut_at 61 word) [
-  | Some parts ↦ record { name = parts.0; value = attached parts.1 } ∷ options (next ∷ words)
+  | Some parts ↦ in_one parts ∷ options (next ∷ words)
   | None ↦ record { name = word; value = Some next } ∷ options words
 ]
 

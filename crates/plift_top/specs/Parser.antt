@@ -1,6 +1,6 @@
 -- What the parser of command lines is told of the options, and what it gives.
 use Rattle.std.specs.Prelude.{◌≡◌, List, Some, Bool, true, false, codes}
-use Rattle.clap.specs.Words.{App, Rule, Row, Text, new_app, new_rule, with_rule, takes, matches_of, first_value}
+use Rattle.clap.specs.Words.{App, Rule, Text, new_app, new_rule, with_rule, first_value}
 use Rattle.clap.specs.declared.builder.action.ArgAction.TheVariants.{Set}
 use Rattle.clap.specs.declared.parser.matches.Found.{Found}
 use Rattle.plift_top.specs.Line.{Setting, value_of}
@@ -17,15 +17,7 @@ verify_app =
     let depth = with_rule bound (option (codes "depth") false) in
     with_rule depth (option (codes "precision") false)
 
--- the parser takes the words
-unfoldable pub takes_line : List Text → Bool
-takes_line words = takes verify_app words
-
--- what the parser finds in words that it takes
-unfoldable pub line_rows : List Text → List Row
-line_rows words = matches_of verify_app words
-
--- the values that were found are those of the line
+-- the values that the parser found are those of the options
 pub record HasValues (found : Found) (settings : List Setting) : Type 0 where
   pub goal : first_value found (codes "goal") ≡ value_of (codes "--goal") settings
   pub bound : first_value found (codes "bound") ≡ value_of (codes "--bound") settings

@@ -64,6 +64,7 @@ pub fn job_of(alloc: Global, words: &[String]) -> Result<Job<'_>, Refusal>
     if !is_plain(words) {
         return Err(Refusal::Usage(Field::Words));
     }
+    // On a plain line nothing but want of memory fails.
     let Ok(matches) = parse(alloc, words) else {
         return Err(Refusal::Memory);
     };
