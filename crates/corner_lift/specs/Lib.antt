@@ -1,2 +1,6 @@
 pub mod Corner
 pub mod Certificate
+pub mod Stages
+pub mod Case
+pub mod Ends
+pub mod Laws
