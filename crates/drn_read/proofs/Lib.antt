@@ -1,1 +1,2 @@
+pub mod WordLoops
 mod Samples

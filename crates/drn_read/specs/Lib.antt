@@ -6,3 +6,4 @@ pub mod States
 pub mod Judging
 pub mod Reading
 pub mod Keeping
+pub mod Shown

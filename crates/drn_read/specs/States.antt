@@ -1,5 +1,5 @@
 -- The model in a model text: states, choices and transitions, by this project's profile of the DRN format.
-use Rattle.std.specs.Prelude.{ℕ, Bool, false, not, List, [], ◌∷◌, ◌==◌, take_while, drop, map, find, codes, Some, None, Result, Ok, Err, if◌then◌else◌}
+use Rattle.std.specs.Prelude.{ℕ, Bool, false, List, [], ◌∷◌, take_while, drop, map, find, codes, Some, None, Result, Ok, Err, if◌then◌else◌}
 use Rattle.std.specs.List.{list_any, flat_map}
 use Rattle.std.specs.Char.{is_ascii_digit}
 use Rattle.std.specs.Str.{bytes_eq}
@@ -7,7 +7,7 @@ use Rattle.std.specs.Str.Parse.{digits_value}
 use Rattle.drn_lexer.specs.Bytes.{first_passes}
 use Rattle.drn_lexer.specs.Cutting.{Piece}
 use Rattle.drn_lexer.specs.Lines.{TextLine, content}
-use Rattle.drn_lexer.specs.Words.{WordKind, words}
+use Rattle.drn_lexer.specs.Words.{WordKind, words, unquoted}
 use Rattle.drn_lexer.specs.Symbols.{symbols}
 use Rattle.drn_lexer.specs.declared.word.WordForm.TheVariants as word
 use Rattle.drn_lexer.specs.declared.symbol.SymbolForm.{SymbolForm}
@@ -73,13 +73,9 @@ is_state l = begins_with (codes "state") (words (content l.line))
 abbrev pub is_action : ModelLine → Bool
 is_action l = begins_with (codes "action") (words (content l.line))
 
--- what a quoted word says
-abbrev pub unquoted : Piece WordKind → List ℕ
-unquoted w = elim w.form [ Ok word.Quoted ↦ take_while (λ b. not (b == 34)) (drop 1 w.bytes) | _ ↦ w.bytes ]
-
 -- a group is no label, and a label is compared without its quotes
 abbrev pub is_label : List ℕ → Piece WordKind → Bool
-is_label label w = elim w.form [ Ok word.Group ↦ false | _ ↦ bytes_eq (unquoted w) label ]
+is_label label w = elim w.form [ Ok word.Group ↦ false | Ok form ↦ bytes_eq (unquoted form w.bytes) label | Err fault ↦ false ]
 
 -- the words behind the number of a state's line carry this label
 abbrev pub carries : List ℕ → ModelLine → Bool

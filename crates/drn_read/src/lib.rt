@@ -2,7 +2,10 @@
 #![tactic(auto)]
 
 mod error;
+mod labels;
 mod section;
 mod state;
+mod word;
+mod words;
 
 pub use error::{DrnCause, DrnError};
