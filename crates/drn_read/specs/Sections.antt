@@ -11,7 +11,7 @@ use Rattle.drn_lexer.specs.Lines.{TextLine, content, is_comment, is_blank_line, 
 use Rattle.drn_lexer.specs.Words.{words}
 use Rattle.drn_expr.specs.RatPolys.{OverOne}
 use Rattle.drn_read.specs.Parts.{Part, parts, last}
-use Rattle.drn_read.specs.Text.{behind, behind_colon, value_of}
+use Rattle.drn_read.specs.Text.{behind, value_behind}
 use Rattle.drn_read.specs.declared.error.DrnCause.{DrnCause}
 use Rattle.drn_read.specs.declared.error.DrnCause.TheVariants.{Syntax}
 use Rattle.drn_read.specs.declared.section.Phase.{Phase}
@@ -127,7 +127,7 @@ place_name line = take_while is_name_byte (drop 1 line)
 
 -- the value in that line, over these names
 abbrev pub place_value : List (List ℕ) → List ℕ → Result OverOne DrnCause
-place_value names line = elim (behind_colon (behind is_name_byte (drop 1 line))) [ Some text ↦ value_of names text | None ↦ Err Syntax ]
+place_value names line = value_behind names (behind is_name_byte (drop 1 line))
 
 -- the placeholder that a line defines
 abbrev pub placeholder : List (List ℕ) → List ℕ → List Placeholder

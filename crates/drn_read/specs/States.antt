@@ -43,9 +43,13 @@ abbrev pub named_value : List (List ℕ) → List Placeholder → List ℕ → L
 named_value names places text (only ∷ []) = elim only.form [ symbol.Dollar ↦ place_of places (drop 1 only.bytes) | _ ↦ value_of names text ]
 named_value names places text _ = value_of names text
 
+-- the value behind a colon, which may be a placeholder
+abbrev pub named_behind : List (List ℕ) → List Placeholder → List ℕ → Result OverOne DrnCause
+named_behind names places text = elim (behind_colon text) [ Some value ↦ named_value names places value (symbols value) | None ↦ Err Syntax ]
+
 -- the value of a transition's line
 abbrev pub entry_value : List (List ℕ) → List Placeholder → List ℕ → Result OverOne DrnCause
-entry_value names places line = elim (behind_colon (behind is_ascii_digit line)) [ Some text ↦ named_value names places text (symbols text) | None ↦ Err Syntax ]
+entry_value names places line = named_behind names places (behind is_ascii_digit line)
 
 -- ---- the lines of a model, cut into states and choices
 

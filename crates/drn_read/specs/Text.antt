@@ -8,7 +8,7 @@ use Rattle.drn_expr.specs.Values.{reading}
 use Rattle.drn_expr.specs.RatPolys.{OverOne}
 use Rattle.drn_read.specs.Faults.{valued}
 use Rattle.drn_read.specs.declared.error.DrnCause.{DrnCause}
-use Rattle.drn_read.specs.declared.error.DrnCause.TheVariants.{LimitValueParameters}
+use Rattle.drn_read.specs.declared.error.DrnCause.TheVariants.{Syntax, LimitValueParameters}
 
 -- the bytes behind those at the front that pass
 abbrev pub behind : (ℕ → Bool) → List ℕ → List ℕ
@@ -33,3 +33,7 @@ with_few_parameters p = if nat_lt 4 (count_ones (support p.terms)) then Err Limi
 -- the value of a text over these names, or what is wrong with it
 abbrev pub value_of : List (List ℕ) → List ℕ → Result OverOne DrnCause
 value_of names text = elim (reading names text) [ Ok p ↦ with_few_parameters p | Err fault ↦ Err (valued fault) ]
+
+-- the value behind a colon
+abbrev pub value_behind : List (List ℕ) → List ℕ → Result OverOne DrnCause
+value_behind names text = elim (behind_colon text) [ Some value ↦ value_of names value | None ↦ Err Syntax ]

@@ -1,14 +1,11 @@
 // The words of a state's line and of an action's line.
-ghost use Rattle.std.specs.Prelude.{◌≡◌, ◌∷◌, true, IfOk};
-ghost use Rattle.std.specs.List.{list_all, list_any};
-ghost use Rattle.std.specs.Char.{is_ascii_digit};
-ghost use Rattle.std.specs.Str.{bytes_eq};
+ghost use Rattle.std.specs.Prelude.{◌≡◌, ◌≤◌, ◌∷◌, true, drop, IfOk};
 ghost use Rattle.drn_read.specs.Faults.{fault_of};
-ghost use Rattle.drn_read.specs.Text.{is_digits};
 ghost use Rattle.drn_read.specs.States.{is_label};
 ghost use Rattle.drn_read.specs.Judging.{is_closed, label_fault, state_word_fault, labels_fault, number_fault, state_fault, end_fault, group_fault, name_and_group_fault};
 ghost use Rattle.drn_read.specs.Shown.{left, piece, Carries};
 
+use crate::digits::{is_digits, number_of};
 use crate::error::DrnCause;
 use crate::word::{LineWord, Words};
 use drn_lexer::{WordForm, unquoted};
@@ -66,7 +63,7 @@ fn test_state_word(is_first: bool, word: LineWord<'_>) -> Result<(), DrnCause>
 }
 
 /// The labels behind a state's number, and a group before them that is passed over.
-pub(crate) fn read_labels(words: Words<'_>, goal: &[u8]) -> Result<Labels, DrnCause>
+fn read_labels(words: Words<'_>, goal: &[u8]) -> Result<Labels, DrnCause>
     ensures fault { fault_of result ≡ labels_fault true (left words.entry) }
     ensures labels { IfOk result (Carries goal.now (left words.entry)) }
 {
@@ -85,17 +82,36 @@ pub(crate) fn read_labels(words: Words<'_>, goal: &[u8]) -> Result<Labels, DrnCa
     Ok(labels)
 }
 
-fn are_digits(word: &[u8]) -> bool
-    ensures { result ≡ list_all is_ascii_digit word.now }
+/// Tests a state's number, where so many states stand before it.
+fn test_number(before: usize, word: LineWord<'_>) -> Result<(), DrnCause>
+    requires { before ≤ 65536 }
+    ensures { fault_of result ≡ number_fault before (piece word.entry) }
 {
-    word.iter().all(|byte| byte.is_ascii_digit())
+    if !is_digits(word.bytes) {
+        return Err(DrnCause::Syntax);
+    }
+    if number_of(word.bytes) != Some(before as u128) {
+        return Err(DrnCause::StateOrder);
+    }
+    if before == MOST_STATES {
+        return Err(DrnCause::LimitStates);
+    }
+    Ok(())
 }
 
-/// Whether the word is one or more digits.
-pub(crate) fn is_digits(word: &[u8]) -> bool
-    ensures { result ≡ is_digits word.now }
+/// The words behind `state`: the number of the state, where so many stand before it, a group that is
+/// passed over, and labels.
+pub(crate) fn read_state(before: usize, words: Words<'_>, goal: &[u8]) -> Result<Labels, DrnCause>
+    requires { before ≤ 65536 }
+    ensures fault { fault_of result ≡ state_fault before (left words.entry) }
+    ensures labels { IfOk result (Carries goal.now (drop 1 (left words.entry))) }
 {
-    are_digits(word) && !word.is_empty()
+    let mut words = words;
+    let Some(number) = words.next()? else {
+        return Err(DrnCause::Syntax);
+    };
+    test_number(before, number)?;
+    read_labels(words, goal)
 }
 
 /// Nothing more may stand on the line.

@@ -1,10 +1,12 @@
 //! The reading of a model text.
 #![tactic(auto)]
 
+mod digits;
 mod error;
 mod labels;
 mod section;
 mod state;
+mod text;
 mod word;
 mod words;
 
