@@ -1,3 +1,4 @@
+pub mod Pairing
 pub mod Pieces
 pub mod WordLoops
 mod Samples

@@ -74,7 +74,7 @@ abbrev pub place_fault : Header → List ℕ → Option DrnCause
 place_fault h line = first_of (
     when (not (first_passes (λ b. b == 36) line) || is_empty (place_name line)) Syntax
     ∷ when (nat_lt 64 (length (place_name line))) LimitName
-    ∷ when (list_any (λ place. bytes_eq place.name (place_name line)) h.placeholders) RepeatedName
+    ∷ when (list_any (λ place. bytes_eq (place_name line) place.name) h.placeholders) RepeatedName
     ∷ when (nat_le 65536 (length h.placeholders)) LimitPlaces
     ∷ fault_of (place_value h.names line)
     ∷ [])

@@ -6,6 +6,8 @@ use Rattle.drn_lexer.specs.Words.{WordKind, words}
 use Rattle.drn_lexer.specs.declared.error.LexError.TheVariants as lex
 use Rattle.drn_read.specs.declared.error.DrnCause.{DrnCause}
 use Rattle.drn_read.specs.declared.error.DrnCause.TheVariants.{OpenQuote}
+use Rattle.drn_expr.specs.RatPolys.{OverOne}
+use Rattle.drn_read.specs.Sections.{Placeholder}
 use Rattle.drn_read.specs.States.{is_label}
 use Rattle.drn_read.specs.declared.labels.Labels.{Labels}
 use Rattle.drn_read.specs.declared.word.Words.{Words}
@@ -36,3 +38,8 @@ Gives old (Err cause) new = (cause ≡ OpenQuote) × BeginsOpen old
 pub record Carries (goal : List ℕ) (words : List (Piece WordKind)) (labels : Labels) : Type 0 where
   pub init : labels.init ≡ list_any (is_label (codes "init")) words
   pub label : labels.goal ≡ list_any (is_label goal) words
+
+-- names and values as placeholders, one behind the other
+abbrev pub paired : List (List ℕ) → List OverOne → List Placeholder
+paired (name ∷ names) (value ∷ values) = record { name = name; value = value } ∷ paired names values
+paired _ _ = []

@@ -36,7 +36,7 @@ target_of line = digits_value 10 (target_text line)
 
 -- the value of a placeholder by its name
 abbrev pub place_of : List Placeholder → List ℕ → Result OverOne DrnCause
-place_of places name = elim (find (λ place. bytes_eq place.name name) places) [ Some place ↦ Ok place.value | None ↦ Err UnknownPlace ]
+place_of places name = elim (find (λ place. bytes_eq name place.name) places) [ Some place ↦ Ok place.value | None ↦ Err UnknownPlace ]
 
 -- a text whose symbols are one `$name` and nothing else is the value of that placeholder, and any other is a value by itself
 abbrev pub named_value : List (List ℕ) → List Placeholder → List ℕ → List (Piece SymbolForm) → Result OverOne DrnCause

@@ -4,9 +4,11 @@
 mod digits;
 mod error;
 mod labels;
+mod places;
 mod section;
 mod state;
 mod text;
+mod value;
 mod word;
 mod words;
 
