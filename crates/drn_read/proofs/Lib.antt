@@ -1,2 +1,3 @@
 mod Samples
 pub mod Cuts
+pub mod Choices
