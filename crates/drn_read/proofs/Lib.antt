@@ -1,3 +1,4 @@
 mod Samples
 pub mod Cuts
 pub mod Choices
+pub mod Headers
