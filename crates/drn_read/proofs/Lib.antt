@@ -2,3 +2,4 @@ mod Samples
 pub mod Cuts
 pub mod Choices
 pub mod Headers
+pub mod Phases
