@@ -3,3 +3,4 @@ pub mod Cuts
 pub mod Choices
 pub mod Headers
 pub mod Phases
+pub mod Bodies
