@@ -128,3 +128,9 @@ quiet_header front p l a b c d e = same_header (header_at front (longer p l)) (h
     (ap (λ (ls : List TextLine). placeholders front ++ flat_map (λ line. placeholder (names front) (content line)) ls) c)
     (ap (λ (ls : List TextLine). count_of (last (flat_map (said_in NrStates) front ++ ls))) d)
     (ap (λ (ls : List TextLine). count_of (last (flat_map (said_in NrChoices) front ++ ls))) e)
+
+pub none_said : (s : Section) (p : Part TextLine) → is_section s p ≡ false → said_in s p ≡ []
+none_said s p e = ap (λ c. said_by c p.body) e
+
+pub none_named : (p : Part TextLine) → is_section Parameters p ≡ false → names_in p ≡ []
+none_named p e = ap (λ (c : Bool). if c then list_words p.body else []) e

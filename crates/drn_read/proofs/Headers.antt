@@ -20,7 +20,7 @@ use Rattle.drn_read.proofs.Cuts.{longer, begun, last-append}
 
 -- ---- one more section
 
-flat_map-push : {A B : Type 0} (f : A → List B) (xs : List A) (x : A) → flat_map f (xs ++ x ∷ []) ≡ flat_map f xs ++ f x
+pub flat_map-push : {A B : Type 0} (f : A → List B) (xs : List A) (x : A) → flat_map f (xs ++ x ∷ []) ≡ flat_map f xs ++ f x
 flat_map-push {A} {B} f xs x = flat_map-append f xs (x ∷ []) ∙ ap (λ (ys : List B). flat_map f xs ++ ys) (append-nil (f x))
 
 gather-push : {A : Type 0} (give : List (Part TextLine) → Part TextLine → List A) (before ps : List (Part TextLine)) (p : Part TextLine)

@@ -4,3 +4,4 @@ pub mod Choices
 pub mod Headers
 pub mod Phases
 pub mod Bodies
+pub mod Growth
