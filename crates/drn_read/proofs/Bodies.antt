@@ -27,7 +27,7 @@ either false x = refl
 pub nothing_said : (s : Section) (l : TextLine) → said_in s (begun l) ≡ []
 nothing_said s l = either (is_section s (begun l)) []
 
-nothing_named : (l : TextLine) → names_in (begun l) ≡ []
+pub nothing_named : (l : TextLine) → names_in (begun l) ≡ []
 nothing_named l = either (is_section Parameters (begun l)) []
 
 -- the part is this section, by what section its head begins

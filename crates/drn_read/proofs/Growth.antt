@@ -22,7 +22,7 @@ use Rattle.drn_read.proofs.Cuts.{longer, begun, onto_last, parts_new, parts_grow
 use Rattle.drn_read.proofs.Choices.{states_of, states_new, states_more, state_action, state_transition}
 use Rattle.drn_read.proofs.Headers.{header_at, same_header, count_of, places_in, lines_in, header-ends, model_lines-ends, flat_map-push}
 use Rattle.drn_read.proofs.Phases.{step_sections, step_names, step_rewards, step_states, step_states_blank, step_choices, step_choices_blank, step_places, step_places_blank, step_model, blank_between, Begins, begins}
-use Rattle.drn_read.proofs.Bodies.{new_header, no_lines, other_said, blank_said, more_said, other_names, known_section, no_section, known_phase, no_phase, quiet_header, none_said, none_named}
+use Rattle.drn_read.proofs.Bodies.{new_header, nothing_named, no_lines, other_said, blank_said, more_said, other_names, known_section, no_section, known_phase, no_phase, quiet_header, none_said, none_named}
 
 -- what sections say of which this one is the last
 unfoldable said_at : List ℕ → List (Part TextLine) → Part TextLine → Said
@@ -75,27 +75,170 @@ stays_blank : (label : List ℕ) (front : List (Part TextLine)) (p : Part TextLi
 stays_blank label front p l blank a b =
     stays label front p l a b (blank_said Placeholders p l blank) (blank_said NrStates p l blank) (blank_said NrChoices p l blank) (blank_said Model p l blank)
 
--- with a head that begins no known section
-in_none : (label : List ℕ) (front : List (Part TextLine)) (p : Part TextLine) (l : TextLine) → section_at p ≡ None → is_head l ≡ false
-    → said_at label front (longer p l) ≡ with_line label (said_at label front p) l
+abbrev Grows : List ℕ → List (Part TextLine) → Part TextLine → TextLine → Type 0
+Grows label front p l = said_at label front (longer p l) ≡ with_line label (said_at label front p) l
+
+-- in a section without content of its own
+idle : (label : List ℕ) (front : List (Part TextLine)) (p : Part TextLine) (l : TextLine) → is_head l ≡ false → phase_of p ≡ phase.Sections → phase_of (longer p l) ≡ phase.Sections
+    → is_section Parameters p ≡ false → is_section Placeholders p ≡ false → is_section NrStates p ≡ false → is_section NrChoices p ≡ false → is_section Model p ≡ false → Grows label front p l
+idle label front p l f now next a b c d e =
+    stays label front p l (next ∙ sym now) (other_names p l a) (other_said Placeholders p l b) (other_said NrStates p l c) (other_said NrChoices p l d) (other_said Model p l e)
+    ∙ sym (step_sections label (said_at label front p) l (phase_at label front p ∙ now) f)
+
+in_none : (label : List ℕ) (front : List (Part TextLine)) (p : Part TextLine) (l : TextLine) → section_at p ≡ None → is_head l ≡ false → Grows label front p l
 in_none label front p l e f =
-    stays label front p l (no_phase (longer p l) e ∙ sym (no_phase p e)) (other_names p l (no_section Parameters p e))
-        (other_said Placeholders p l (no_section Placeholders p e)) (other_said NrStates p l (no_section NrStates p e))
-        (other_said NrChoices p l (no_section NrChoices p e)) (other_said Model p l (no_section Model p e))
-    ∙ sym (step_sections label (said_at label front p) l (phase_at label front p ∙ no_phase p e) f)
+    idle label front p l f (no_phase p e) (no_phase (longer p l) e)
+        (no_section Parameters p e) (no_section Placeholders p e) (no_section NrStates p e) (no_section NrChoices p e) (no_section Model p e)
 
-in_type : (label : List ℕ) (front : List (Part TextLine)) (p : Part TextLine) (l : TextLine) → section_at p ≡ Some ModelType → is_head l ≡ false
-    → said_at label front (longer p l) ≡ with_line label (said_at label front p) l
+in_type : (label : List ℕ) (front : List (Part TextLine)) (p : Part TextLine) (l : TextLine) → section_at p ≡ Some ModelType → is_head l ≡ false → Grows label front p l
 in_type label front p l e f =
-    stays label front p l (known_phase ModelType (longer p l) e ∙ sym (known_phase ModelType p e)) (other_names p l (known_section Parameters ModelType p e))
-        (other_said Placeholders p l (known_section Placeholders ModelType p e)) (other_said NrStates p l (known_section NrStates ModelType p e))
-        (other_said NrChoices p l (known_section NrChoices ModelType p e)) (other_said Model p l (known_section Model ModelType p e))
-    ∙ sym (step_sections label (said_at label front p) l (phase_at label front p ∙ known_phase ModelType p e) f)
+    idle label front p l f (known_phase ModelType p e) (known_phase ModelType (longer p l) e)
+        (known_section Parameters ModelType p e) (known_section Placeholders ModelType p e) (known_section NrStates ModelType p e)
+        (known_section NrChoices ModelType p e) (known_section Model ModelType p e)
 
-in_value_type : (label : List ℕ) (front : List (Part TextLine)) (p : Part TextLine) (l : TextLine) → section_at p ≡ Some ValueType → is_head l ≡ false
-    → said_at label front (longer p l) ≡ with_line label (said_at label front p) l
+in_value_type : (label : List ℕ) (front : List (Part TextLine)) (p : Part TextLine) (l : TextLine) → section_at p ≡ Some ValueType → is_head l ≡ false → Grows label front p l
 in_value_type label front p l e f =
-    stays label front p l (known_phase ValueType (longer p l) e ∙ sym (known_phase ValueType p e)) (other_names p l (known_section Parameters ValueType p e))
-        (other_said Placeholders p l (known_section Placeholders ValueType p e)) (other_said NrStates p l (known_section NrStates ValueType p e))
-        (other_said NrChoices p l (known_section NrChoices ValueType p e)) (other_said Model p l (known_section Model ValueType p e))
-    ∙ sym (step_sections label (said_at label front p) l (phase_at label front p ∙ known_phase ValueType p e) f)
+    idle label front p l f (known_phase ValueType p e) (known_phase ValueType (longer p l) e)
+        (known_section Parameters ValueType p e) (known_section Placeholders ValueType p e) (known_section NrStates ValueType p e)
+        (known_section NrChoices ValueType p e) (known_section Model ValueType p e)
+
+-- ---- in the sections of one line
+
+-- the names that the first line behind `@parameters` gives
+named : (front : List (Part TextLine)) (head l : TextLine) → section_of (content head) ≡ Some Parameters
+    → header_at front (longer (begun head) l) ≡ with_names (header_at front (begun head)) (content l)
+unfolding header_at count_of
+named front head l e =
+    let p = begun head in
+    let list = map (λ word. word.bytes) (words (content l)) in
+    let first : names_in (longer p l) ≡ list = names_by (known_section Parameters Parameters p e) in
+    same_header (header_at front (longer p l)) (with_names (header_at front p) (content l))
+    (known_phase Parameters (longer p l) e)
+    refl refl
+    (ap (λ (xs : List (List ℕ)). names front ++ xs) first
+    ∙ ap (λ (xs : List (List ℕ)). xs ++ list) (sym (append-nil (names front)) ∙ ap (λ (xs : List (List ℕ)). names front ++ xs) (sym (nothing_named head))))
+    (ap (λ (ls : List TextLine). placeholders front ++ flat_map (λ line. placeholder (names front) (content line)) ls) (other_said Placeholders p l (known_section Placeholders Parameters p e)))
+    (ap (λ (ls : List TextLine). count_of (last (flat_map (said_in NrStates) front ++ ls))) (other_said NrStates p l (known_section NrStates Parameters p e)))
+    (ap (λ (ls : List TextLine). count_of (last (flat_map (said_in NrChoices) front ++ ls))) (other_said NrChoices p l (known_section NrChoices Parameters p e)))
+  where
+    names_by : is_section Parameters (begun head) ≡ true → names_in (longer (begun head) l) ≡ map (λ word. word.bytes) (words (content l))
+    names_by g = ap (λ (c : Bool). if c then list_words (l ∷ []) else []) g
+
+in_parameters : (label : List ℕ) (front : List (Part TextLine)) (head : TextLine) (body : List TextLine) (l : TextLine) → section_of (content head) ≡ Some Parameters → is_head l ≡ false
+    → Grows label front (record { head = head; body = body }) l
+unfolding said_at
+in_parameters label front head [] l e f =
+    let p = begun head in
+    changed label front p l (with_names (header_at front p) (content l)) (named front head l e) (other_said Model p l (known_section Model Parameters p e))
+    ∙ sym (step_names label (said_at label front p) l (phase_at label front p ∙ known_phase Parameters p e) f)
+in_parameters label front head (k ∷ body) l e f =
+    let p : Part TextLine = record { head = head; body = k ∷ body } in
+    stays label front p l (known_phase Parameters (longer p l) e ∙ sym (known_phase Parameters p e)) refl (other_said Placeholders p l (known_section Placeholders Parameters p e))
+        (other_said NrStates p l (known_section NrStates Parameters p e)) (other_said NrChoices p l (known_section NrChoices Parameters p e)) (other_said Model p l (known_section Model Parameters p e))
+    ∙ sym (step_sections label (said_at label front p) l (phase_at label front p ∙ known_phase Parameters p e) f)
+
+passed : (front : List (Part TextLine)) (head l : TextLine) → section_of (content head) ≡ Some RewardModels
+    → header_at front (longer (begun head) l) ≡ record (header_at front (begun head)) { phase = phase.Sections }
+unfolding header_at count_of
+passed front head l e =
+    let p = begun head in
+    same_header (header_at front (longer p l)) (record (header_at front p) { phase = phase.Sections })
+    (known_phase RewardModels (longer p l) e)
+    refl refl
+    (ap (λ (xs : List (List ℕ)). names front ++ xs) (other_names p l (known_section Parameters RewardModels p e)))
+    (ap (λ (ls : List TextLine). placeholders front ++ flat_map (λ line. placeholder (names front) (content line)) ls) (other_said Placeholders p l (known_section Placeholders RewardModels p e)))
+    (ap (λ (ls : List TextLine). count_of (last (flat_map (said_in NrStates) front ++ ls))) (other_said NrStates p l (known_section NrStates RewardModels p e)))
+    (ap (λ (ls : List TextLine). count_of (last (flat_map (said_in NrChoices) front ++ ls))) (other_said NrChoices p l (known_section NrChoices RewardModels p e)))
+
+in_rewards : (label : List ℕ) (front : List (Part TextLine)) (head : TextLine) (body : List TextLine) (l : TextLine) → section_of (content head) ≡ Some RewardModels → is_head l ≡ false
+    → Grows label front (record { head = head; body = body }) l
+unfolding said_at
+in_rewards label front head [] l e f =
+    let p = begun head in
+    changed label front p l (record (header_at front p) { phase = phase.Sections }) (passed front head l e) (other_said Model p l (known_section Model RewardModels p e))
+    ∙ sym (step_rewards label (said_at label front p) l (phase_at label front p ∙ known_phase RewardModels p e) f)
+in_rewards label front head (k ∷ body) l e f =
+    let p : Part TextLine = record { head = head; body = k ∷ body } in
+    idle label front p l f (known_phase RewardModels p e) (known_phase RewardModels (longer p l) e)
+        (known_section Parameters RewardModels p e) (known_section Placeholders RewardModels p e) (known_section NrStates RewardModels p e)
+        (known_section NrChoices RewardModels p e) (known_section Model RewardModels p e)
+
+-- ---- in the sections of a number
+
+all_blank : (body : List TextLine) (l : TextLine) (c d : Bool) → list_all is_blank_line body ≡ c → is_blank_line l ≡ d → list_all is_blank_line (body ++ l ∷ []) ≡ (c && (d && true))
+all_blank body l c d e f =
+    list_all-append is_blank_line body (l ∷ [])
+    ∙ ap (λ (b : Bool). b && list_all is_blank_line (l ∷ [])) e
+    ∙ ap (λ (b : Bool). c && (b && true)) f
+
+last_said : (before ls : List TextLine) (l : TextLine) → count_of (last (before ++ (ls ++ l ∷ []))) ≡ Some (digits_value 10 (content l))
+unfolding count_of
+last_said before ls l = ap (λ (xs : List TextLine). count_of (last xs)) (sym (append_assoc before ls (l ∷ []))) ∙ ap count_of (last-append (before ++ ls) l)
+
+states_counted : (front : List (Part TextLine)) (p : Part TextLine) (l : TextLine) → section_at p ≡ Some NrStates → phase_of (longer p l) ≡ phase.Sections → is_blank_line l ≡ false
+    → header_at front (longer p l) ≡ with_state_count (header_at front p) (content l)
+unfolding header_at count_of
+states_counted front p l e next g =
+    same_header (header_at front (longer p l)) (with_state_count (header_at front p) (content l))
+    next refl refl
+    (ap (λ (xs : List (List ℕ)). names front ++ xs) (other_names p l (known_section Parameters NrStates p e)))
+    (ap (λ (ls : List TextLine). placeholders front ++ flat_map (λ line. placeholder (names front) (content line)) ls) (other_said Placeholders p l (known_section Placeholders NrStates p e)))
+    (ap (λ (ls : List TextLine). count_of (last (flat_map (said_in NrStates) front ++ ls))) (more_said NrStates p l (known_section NrStates NrStates p e) g)
+    ∙ last_said (flat_map (said_in NrStates) front) (said_in NrStates p) l)
+    (ap (λ (ls : List TextLine). count_of (last (flat_map (said_in NrChoices) front ++ ls))) (other_said NrChoices p l (known_section NrChoices NrStates p e)))
+
+choices_counted : (front : List (Part TextLine)) (p : Part TextLine) (l : TextLine) → section_at p ≡ Some NrChoices → phase_of (longer p l) ≡ phase.Sections → is_blank_line l ≡ false
+    → header_at front (longer p l) ≡ with_choice_count (header_at front p) (content l)
+unfolding header_at count_of
+choices_counted front p l e next g =
+    same_header (header_at front (longer p l)) (with_choice_count (header_at front p) (content l))
+    next refl refl
+    (ap (λ (xs : List (List ℕ)). names front ++ xs) (other_names p l (known_section Parameters NrChoices p e)))
+    (ap (λ (ls : List TextLine). placeholders front ++ flat_map (λ line. placeholder (names front) (content line)) ls) (other_said Placeholders p l (known_section Placeholders NrChoices p e)))
+    (ap (λ (ls : List TextLine). count_of (last (flat_map (said_in NrStates) front ++ ls))) (other_said NrStates p l (known_section NrStates NrChoices p e)))
+    (ap (λ (ls : List TextLine). count_of (last (flat_map (said_in NrChoices) front ++ ls))) (more_said NrChoices p l (known_section NrChoices NrChoices p e) g)
+    ∙ last_said (flat_map (said_in NrChoices) front) (said_in NrChoices p) l)
+
+abbrev states_phase : Bool → Phase
+states_phase waiting = if waiting then phase.StateCount else phase.Sections
+
+abbrev choices_phase : Bool → Phase
+choices_phase waiting = if waiting then phase.ChoiceCount else phase.Sections
+
+in_states : (label : List ℕ) (front : List (Part TextLine)) (p : Part TextLine) (l : TextLine) → section_at p ≡ Some NrStates → is_head l ≡ false → line_fault (said_at label front p) l ≡ None
+    → (c d : Bool) → list_all is_blank_line p.body ≡ c → is_blank_line l ≡ d → Grows label front p l
+unfolding said_at
+in_states label front p l e f h false d g k =
+    let now : phase_of p ≡ phase.Sections = known_phase NrStates p e ∙ ap states_phase g in
+    let next : phase_of (longer p l) ≡ phase.Sections = known_phase NrStates (longer p l) e ∙ ap states_phase (all_blank p.body l false d g k) in
+    stays_blank label front p l (blank_between (said_at label front p) l (phase_at label front p ∙ now) f h) (next ∙ sym now) (other_names p l (known_section Parameters NrStates p e))
+    ∙ sym (step_sections label (said_at label front p) l (phase_at label front p ∙ now) f)
+in_states label front p l e f h true true g k =
+    let now : phase_of p ≡ phase.StateCount = known_phase NrStates p e ∙ ap states_phase g in
+    let next : phase_of (longer p l) ≡ phase.StateCount = known_phase NrStates (longer p l) e ∙ ap states_phase (all_blank p.body l true true g k) in
+    stays_blank label front p l k (next ∙ sym now) (other_names p l (known_section Parameters NrStates p e))
+    ∙ sym (step_states_blank label (said_at label front p) l (phase_at label front p ∙ now) k)
+in_states label front p l e f h true false g k =
+    let now : phase_of p ≡ phase.StateCount = known_phase NrStates p e ∙ ap states_phase g in
+    let next : phase_of (longer p l) ≡ phase.Sections = known_phase NrStates (longer p l) e ∙ ap states_phase (all_blank p.body l true false g k) in
+    changed label front p l (with_state_count (header_at front p) (content l)) (states_counted front p l e next k) (other_said Model p l (known_section Model NrStates p e))
+    ∙ sym (step_states label (said_at label front p) l (phase_at label front p ∙ now) k)
+
+in_choices : (label : List ℕ) (front : List (Part TextLine)) (p : Part TextLine) (l : TextLine) → section_at p ≡ Some NrChoices → is_head l ≡ false → line_fault (said_at label front p) l ≡ None
+    → (c d : Bool) → list_all is_blank_line p.body ≡ c → is_blank_line l ≡ d → Grows label front p l
+unfolding said_at
+in_choices label front p l e f h false d g k =
+    let now : phase_of p ≡ phase.Sections = known_phase NrChoices p e ∙ ap choices_phase g in
+    let next : phase_of (longer p l) ≡ phase.Sections = known_phase NrChoices (longer p l) e ∙ ap choices_phase (all_blank p.body l false d g k) in
+    stays_blank label front p l (blank_between (said_at label front p) l (phase_at label front p ∙ now) f h) (next ∙ sym now) (other_names p l (known_section Parameters NrChoices p e))
+    ∙ sym (step_sections label (said_at label front p) l (phase_at label front p ∙ now) f)
+in_choices label front p l e f h true true g k =
+    let now : phase_of p ≡ phase.ChoiceCount = known_phase NrChoices p e ∙ ap choices_phase g in
+    let next : phase_of (longer p l) ≡ phase.ChoiceCount = known_phase NrChoices (longer p l) e ∙ ap choices_phase (all_blank p.body l true true g k) in
+    stays_blank label front p l k (next ∙ sym now) (other_names p l (known_section Parameters NrChoices p e))
+    ∙ sym (step_choices_blank label (said_at label front p) l (phase_at label front p ∙ now) k)
+in_choices label front p l e f h true false g k =
+    let now : phase_of p ≡ phase.ChoiceCount = known_phase NrChoices p e ∙ ap choices_phase g in
+    let next : phase_of (longer p l) ≡ phase.Sections = known_phase NrChoices (longer p l) e ∙ ap choices_phase (all_blank p.body l true false g k) in
+    changed label front p l (with_choice_count (header_at front p) (content l)) (choices_counted front p l e next k) (other_said Model p l (known_section Model NrChoices p e))
+    ∙ sym (step_choices label (said_at label front p) l (phase_at label front p ∙ now) k)
