@@ -129,8 +129,10 @@ quiet_header front p l a b c d e = same_header (header_at front (longer p l)) (h
     (ap (λ (ls : List TextLine). count_of (last (flat_map (said_in NrStates) front ++ ls))) d)
     (ap (λ (ls : List TextLine). count_of (last (flat_map (said_in NrChoices) front ++ ls))) e)
 
-pub none_said : (s : Section) (p : Part TextLine) → is_section s p ≡ false → said_in s p ≡ []
-none_said s p e = ap (λ c. said_by c p.body) e
+-- what a section of another kind adds to the names and to the placeholders
+pub names_none : (front : List (Part TextLine)) (p : Part TextLine) → is_section Parameters p ≡ false → names front ++ names_in p ≡ names front
+names_none front p e = ap (λ (c : Bool). names front ++ (if c then list_words p.body else [])) e ∙ append-nil (names front)
 
-pub none_named : (p : Part TextLine) → is_section Parameters p ≡ false → names_in p ≡ []
-none_named p e = ap (λ (c : Bool). if c then list_words p.body else []) e
+pub places_none : (front : List (Part TextLine)) (p : Part TextLine) → is_section Placeholders p ≡ false → placeholders front ++ places_in front p ≡ placeholders front
+places_none front p e =
+    ap (λ (c : Bool). placeholders front ++ flat_map (λ line. placeholder (names front) (content line)) (said_by c p.body)) e ∙ append-nil (placeholders front)

@@ -22,7 +22,7 @@ use Rattle.drn_read.proofs.Cuts.{longer, begun, onto_last, parts_new, parts_grow
 use Rattle.drn_read.proofs.Choices.{states_of, states_new, states_more, state_action, state_transition}
 use Rattle.drn_read.proofs.Headers.{header_at, same_header, count_of, places_in, lines_in, header-ends, model_lines-ends, flat_map-push}
 use Rattle.drn_read.proofs.Phases.{step_sections, step_names, step_rewards, step_states, step_states_blank, step_choices, step_choices_blank, step_places, step_places_blank, step_model, blank_between, Begins, begins}
-use Rattle.drn_read.proofs.Bodies.{new_header, nothing_named, no_lines, other_said, blank_said, more_said, other_names, known_section, no_section, known_phase, no_phase, quiet_header, none_said, none_named}
+use Rattle.drn_read.proofs.Bodies.{new_header, nothing_named, no_lines, other_said, blank_said, more_said, other_names, known_section, no_section, known_phase, no_phase, quiet_header, names_none, places_none}
 
 -- what sections say of which this one is the last
 unfoldable said_at : List ℕ → List (Part TextLine) → Part TextLine → Said
@@ -242,3 +242,153 @@ in_choices label front p l e f h true false g k =
     let next : phase_of (longer p l) ≡ phase.Sections = known_phase NrChoices (longer p l) e ∙ ap choices_phase (all_blank p.body l true false g k) in
     changed label front p l (with_choice_count (header_at front p) (content l)) (choices_counted front p l e next k) (other_said Model p l (known_section Model NrChoices p e))
     ∙ sym (step_choices label (said_at label front p) l (phase_at label front p ∙ now) k)
+
+-- ---- among the placeholders
+
+placed : (front : List (Part TextLine)) (p : Part TextLine) (l : TextLine) → section_at p ≡ Some Placeholders → is_blank_line l ≡ false
+    → header_at front (longer p l) ≡ with_placeholder (header_at front p) (content l)
+unfolding header_at count_of
+placed front p l e g =
+    let give : TextLine → List Placeholder = λ line. placeholder (names front) (content line) in
+    let no_names = names_none front p (known_section Parameters Placeholders p e) in
+    same_header (header_at front (longer p l)) (with_placeholder (header_at front p) (content l))
+    (known_phase Placeholders (longer p l) e ∙ sym (known_phase Placeholders p e))
+    refl refl
+    (ap (λ (xs : List (List ℕ)). names front ++ xs) (other_names p l (known_section Parameters Placeholders p e)))
+    (ap (λ (ls : List TextLine). placeholders front ++ flat_map give ls) (more_said Placeholders p l (known_section Placeholders Placeholders p e) g)
+    ∙ ap (λ (ps : List Placeholder). placeholders front ++ ps) (flat_map-push give (said_in Placeholders p) l)
+    ∙ sym (append_assoc (placeholders front) (flat_map give (said_in Placeholders p)) (give l))
+    ∙ ap (λ (ns : List (List ℕ)). (placeholders front ++ flat_map give (said_in Placeholders p)) ++ placeholder ns (content l)) (sym no_names))
+    (ap (λ (ls : List TextLine). count_of (last (flat_map (said_in NrStates) front ++ ls))) (other_said NrStates p l (known_section NrStates Placeholders p e)))
+    (ap (λ (ls : List TextLine). count_of (last (flat_map (said_in NrChoices) front ++ ls))) (other_said NrChoices p l (known_section NrChoices Placeholders p e)))
+
+in_placeholders : (label : List ℕ) (front : List (Part TextLine)) (p : Part TextLine) (l : TextLine) → section_at p ≡ Some Placeholders → is_head l ≡ false
+    → (c : Bool) → is_blank_line l ≡ c → Grows label front p l
+unfolding said_at
+in_placeholders label front p l e f true g =
+    stays_blank label front p l g (known_phase Placeholders (longer p l) e ∙ sym (known_phase Placeholders p e)) (other_names p l (known_section Parameters Placeholders p e))
+    ∙ sym (step_places_blank label (said_at label front p) l (phase_at label front p ∙ known_phase Placeholders p e) f g)
+in_placeholders label front p l e f false g =
+    changed label front p l (with_placeholder (header_at front p) (content l)) (placed front p l e g) (other_said Model p l (known_section Model Placeholders p e))
+    ∙ sym (step_places label (said_at label front p) l (phase_at label front p ∙ known_phase Placeholders p e) f g)
+
+-- ---- in the model
+
+-- one more line of the model
+states_step : (label : List ℕ) (lines : List ModelLine) (h : Header) (l : TextLine) → is_blank_line l ≡ false
+    → (c d : Bool) → is_state (model_line h.names h.placeholders l) ≡ c → is_action (model_line h.names h.placeholders l) ≡ d
+    → states_of label (lines ++ model_line h.names h.placeholders l ∷ []) ≡ states_with label h (states_of label lines) l
+states_step label lines h l g true d e f = states_new label lines (model_line h.names h.placeholders l) e ∙ rw (g, e) refl
+states_step label lines h l g false true e f =
+    states_more label lines (model_line h.names h.placeholders l) with_choice e (state_action label (model_line h.names h.placeholders l) f) ∙ rw (g, e, f) refl
+states_step label lines h l g false false e f =
+    states_more label lines (model_line h.names h.placeholders l) (with_transitions (transition (model_line h.names h.placeholders l))) e (state_transition label (model_line h.names h.placeholders l) f) ∙ rw (g, e, f) refl
+
+declared_before : (front : List (Part TextLine)) (p : Part TextLine) (l : TextLine) → section_at p ≡ Some Model
+    → model_line (header_at front p).names (header_at front p).placeholders l ≡ model_line (names front) (placeholders front) l
+unfolding header_at
+declared_before front p l e =
+    ap (λ (ns : List (List ℕ)). model_line ns (placeholders front ++ places_in front p) l) (names_none front p (known_section Parameters Model p e))
+    ∙ ap (λ (ps : List Placeholder). model_line (names front) ps l) (places_none front p (known_section Placeholders Model p e))
+
+model_grows : (front : List (Part TextLine)) (p : Part TextLine) (l : TextLine) → section_at p ≡ Some Model → is_blank_line l ≡ false
+    → model_lines front ++ lines_in front (longer p l) ≡ (model_lines front ++ lines_in front p) ++ model_line (header_at front p).names (header_at front p).placeholders l ∷ []
+model_grows front p l e g =
+    let read = model_line (names front) (placeholders front) in
+    ap (λ (ls : List TextLine). model_lines front ++ map read ls) (more_said Model p l (known_section Model Model p e) g)
+    ∙ ap (λ (ls : List ModelLine). model_lines front ++ ls) (map-append read (said_in Model p) (l ∷ []))
+    ∙ sym (append_assoc (model_lines front) (map read (said_in Model p)) (read l ∷ []))
+    ∙ ap (λ (m : ModelLine). (model_lines front ++ map read (said_in Model p)) ++ m ∷ []) (sym (declared_before front p l e))
+
+same_in_model : (front : List (Part TextLine)) (p : Part TextLine) (l : TextLine) → section_at p ≡ Some Model → header_at front (longer p l) ≡ header_at front p
+same_in_model front p l e =
+    quiet_header front p l (known_phase Model (longer p l) e ∙ sym (known_phase Model p e)) (other_names p l (known_section Parameters Model p e))
+        (other_said Placeholders p l (known_section Placeholders Model p e)) (other_said NrStates p l (known_section NrStates Model p e)) (other_said NrChoices p l (known_section NrChoices Model p e))
+
+blank_in_model : (label : List ℕ) (said : Said) (l : TextLine) → is_blank_line l ≡ true → states_with label said.header said.states l ≡ said.states
+blank_in_model label said l g = rw g refl
+
+in_model : (label : List ℕ) (front : List (Part TextLine)) (p : Part TextLine) (l : TextLine) → section_at p ≡ Some Model → (c : Bool) → is_blank_line l ≡ c → Grows label front p l
+unfolding said_at
+in_model label front p l e true g =
+    stays_blank label front p l g (known_phase Model (longer p l) e ∙ sym (known_phase Model p e)) (other_names p l (known_section Parameters Model p e))
+    ∙ ap (both (header_at front p)) (sym (blank_in_model label (said_at label front p) l g))
+    ∙ sym (step_model label (said_at label front p) l (phase_at label front p ∙ known_phase Model p e))
+in_model label front p l e false g =
+    let h = header_at front p in
+    let m = model_line h.names h.placeholders l in
+    ap (λ (k : Header). both k (states_of label (model_lines front ++ lines_in front (longer p l)))) (same_in_model front p l e)
+    ∙ ap (λ (ls : List ModelLine). both h (states_of label ls)) (model_grows front p l e g)
+    ∙ ap (both h) (states_step label (model_lines front ++ lines_in front p) h l g (is_state m) (is_action m) refl refl)
+    ∙ sym (step_model label (said_at label front p) l (phase_at label front p ∙ known_phase Model p e))
+
+-- ---- in any section
+
+in_part : (label : List ℕ) (front : List (Part TextLine)) (p : Part TextLine) (l : TextLine) → is_head l ≡ false → line_fault (said_at label front p) l ≡ None
+    → (s : Option Section) → section_at p ≡ s → Grows label front p l
+in_part label front p l f h None e = in_none label front p l e f
+in_part label front p l f h (Some ModelType) e = in_type label front p l e f
+in_part label front p l f h (Some ValueType) e = in_value_type label front p l e f
+in_part label front p l f h (Some Parameters) e = in_parameters label front p.head p.body l e f
+in_part label front p l f h (Some RewardModels) e = in_rewards label front p.head p.body l e f
+in_part label front p l f h (Some NrStates) e = in_states label front p l e f h (list_all is_blank_line p.body) (is_blank_line l) refl refl
+in_part label front p l f h (Some NrChoices) e = in_choices label front p l e f h (list_all is_blank_line p.body) (is_blank_line l) refl refl
+in_part label front p l f h (Some Placeholders) e = in_placeholders label front p l e f (is_blank_line l) refl
+in_part label front p l f h (Some Model) e = in_model label front p l e (is_blank_line l) refl
+
+before_all : (label : List ℕ) (l : TextLine) → is_head l ≡ false → said_of label (onto_last [] l) ≡ with_line label (said_of label []) l
+unfolding said_of onto_last
+before_all label l f = sym (step_sections label (said_of label []) l refl f)
+
+more_of : (label : List ℕ) (ps : List (Part TextLine)) (l : TextLine) → is_head l ≡ false → Ends ps → line_fault (said_of label ps) l ≡ None
+    → said_of label (onto_last ps l) ≡ with_line label (said_of label ps) l
+more_of label _ l f nothing h = before_all label l f
+more_of label _ l f (ending front p) h =
+    ap (said_of label) (onto_last-ends front p l)
+    ∙ said-ends label front (longer p l)
+    ∙ in_part label front p l f (sym (ap (λ (s : Said). line_fault s l) (said-ends label front p)) ∙ h) (section_at p) refl
+    ∙ sym (ap (λ (s : Said). with_line label s l) (said-ends label front p))
+
+-- ---- lines
+
+abbrev plain : List TextLine → List TextLine
+plain lines = filter (λ line. not (is_comment line)) lines
+
+plain_more : (before : List TextLine) (l : TextLine) → is_comment l ≡ false → plain (before ++ l ∷ []) ≡ plain before ++ l ∷ []
+plain_more before l e =
+    let one : plain (l ∷ []) ≡ l ∷ [] = rw e refl in
+    filter-append (λ line. not (is_comment line)) before (l ∷ []) ∙ ap (λ (ls : List TextLine). plain before ++ ls) one
+
+plain_same : (before : List TextLine) (l : TextLine) → is_comment l ≡ true → plain (before ++ l ∷ []) ≡ plain before
+plain_same before l e =
+    let none : plain (l ∷ []) ≡ [] = rw e refl in
+    filter-append (λ line. not (is_comment line)) before (l ∷ []) ∙ ap (λ (ls : List TextLine). plain before ++ ls) none ∙ append-nil (plain before)
+
+said_plain : (label : List ℕ) (lines : List TextLine) → said label lines ≡ said_of label (parts is_head (plain lines)).1
+unfolding said said_of
+said_plain label lines = refl
+
+grows_by : (label : List ℕ) (lines : List TextLine) (l : TextLine) → line_fault (said_of label (parts is_head lines).1) l ≡ None → (c : Bool) → is_head l ≡ c
+    → said_of label (parts is_head (lines ++ l ∷ [])).1 ≡ with_line label (said_of label (parts is_head lines).1) l
+grows_by label lines l h true f =
+    ap (λ (r : List TextLine × List (Part TextLine)). said_of label r.1) (parts_new is_head lines l f)
+    ∙ begin_said label (parts is_head lines).1 l (begins label (said_of label (parts is_head lines).1) l f h)
+grows_by label lines l h false f =
+    ap (said_of label) (parts_grow is_head lines l f)
+    ∙ more_of label (parts is_head lines).1 l f (ends (parts is_head lines).1) h
+
+-- a line without fault that is no comment
+pub grows : (label : List ℕ) (before : List TextLine) (line : TextLine) → is_comment line ≡ false → line_fault (said label before) line ≡ None
+    → said label (before ++ line ∷ []) ≡ with_line label (said label before) line
+grows label before line e h =
+    said_plain label (before ++ line ∷ [])
+    ∙ ap (λ (ls : List TextLine). said_of label (parts is_head ls).1) (plain_more before line e)
+    ∙ grows_by label (plain before) line (sym (ap (λ (s : Said). line_fault s line) (said_plain label before)) ∙ h) (is_head line) refl
+    ∙ sym (ap (λ (s : Said). with_line label s line) (said_plain label before))
+
+-- a comment line says nothing
+pub skips : (label : List ℕ) (before : List TextLine) (line : TextLine) → is_comment line ≡ true → said label (before ++ line ∷ []) ≡ said label before
+skips label before line e =
+    said_plain label (before ++ line ∷ [])
+    ∙ ap (λ (ls : List TextLine). said_of label (parts is_head ls).1) (plain_same before line e)
+    ∙ sym (said_plain label before)
