@@ -5,3 +5,4 @@ pub mod Headers
 pub mod Phases
 pub mod Bodies
 pub mod Growth
+pub mod Running
