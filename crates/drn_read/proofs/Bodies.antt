@@ -1,15 +1,14 @@
 -- What a section gives when it begins, and when it has one more line.
 use Rattle.std.proofs.Common.{◌≡◌, ℕ, Bool, true, false, not, ◌&&◌, refl, List, [], ◌∷◌, ◌++◌, sym, ◌∙◌, ap, Option, Some, None}
 use Rattle.std.specs.Prelude.{map, filter, is_none, if◌then◌else◌}
-use Rattle.std.specs.List.{flat_map, list_all}
+use Rattle.std.specs.List.{flat_map}
 use Rattle.std.proofs.lemmas.List.{append-nil}
 use Rattle.std.proofs.lemmas.List.Elements.{filter-append}
-use Rattle.std.proofs.lemmas.List.Folds.{list_all-append}
 use Rattle.lift_model.specs.declared.kind.Kind.{Kind}
 use Rattle.drn_lexer.specs.Lines.{TextLine, content, is_blank_line}
 use Rattle.drn_read.specs.Parts.{Part, last}
-use Rattle.drn_read.specs.Sections.{Header, Placeholder, section_of, section_at, section_in, is_same, is_section, said_in, phase_of, phase_in, kind_of, kind_in, type_text, list_words, names_in, names, placeholder, placeholders, header}
-use Rattle.drn_read.specs.States.{ModelLine, model_line, model_lines}
+use Rattle.drn_read.specs.Sections.{section_of, section_at, section_in, is_same, is_section, said_in, phase_of, phase_in, kind_of, kind_in, type_text, list_words, names_in, names, placeholder, placeholders, header}
+use Rattle.drn_read.specs.States.{model_line}
 use Rattle.drn_read.specs.Keeping.{with_section}
 use Rattle.drn_read.specs.declared.section.Phase.{Phase}
 use Rattle.drn_read.specs.declared.section.Phase.TheVariants as phase

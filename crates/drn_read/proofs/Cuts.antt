@@ -1,5 +1,5 @@
 -- How the parts of a list of lines grow by one line.
-use Rattle.std.proofs.Common.{◌≡◌, Bool, true, false, refl, List, [], ◌∷◌, ◌++◌, sym, ◌∙◌, ap, Option, None, Some}
+use Rattle.std.proofs.Common.{◌≡◌, Bool, true, false, refl, List, [], ◌∷◌, ◌++◌, sym, ◌∙◌, ap, Some}
 use Rattle.drn_read.specs.Parts.{Part, parts, last}
 
 -- a part with one more line

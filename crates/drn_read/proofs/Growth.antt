@@ -9,8 +9,8 @@ use Rattle.std.proofs.lemmas.List.Folds.{list_all-append}
 use Rattle.drn_lexer.specs.Lines.{TextLine, content, is_blank_line, is_comment}
 use Rattle.drn_lexer.specs.Words.{words}
 use Rattle.drn_read.specs.Parts.{Part, parts, last}
-use Rattle.drn_read.specs.Sections.{Header, Placeholder, section_of, section_at, section_in, is_same, is_head, is_section, said_in, phase_of, phase_in, list_words, names_in, names, placeholder, placeholders, sections, header}
-use Rattle.drn_read.specs.States.{ModelLine, StateText, model_line, model_lines, is_state, is_action, transition, state, states}
+use Rattle.drn_read.specs.Sections.{Header, Placeholder, section_of, section_at, is_head, is_section, said_in, phase_of, list_words, names_in, names, placeholder, placeholders, header}
+use Rattle.drn_read.specs.States.{ModelLine, StateText, model_line, model_lines, is_state, is_action, transition, states}
 use Rattle.drn_read.specs.Judging.{Said, line_fault}
 use Rattle.drn_read.specs.Reading.{said}
 use Rattle.drn_read.specs.Keeping.{with_line, with_section, with_names, with_state_count, with_choice_count, with_placeholder, with_choice, with_transitions, states_with}
@@ -18,7 +18,7 @@ use Rattle.drn_read.specs.declared.section.Phase.{Phase}
 use Rattle.drn_read.specs.declared.section.Phase.TheVariants as phase
 use Rattle.drn_read.specs.declared.section.Section.{Section}
 use Rattle.drn_read.specs.declared.section.Section.TheVariants.{ModelType, ValueType, Parameters, RewardModels, NrStates, NrChoices, Placeholders, Model}
-use Rattle.drn_read.proofs.Cuts.{longer, begun, onto_last, parts_new, parts_grow, last-append, Ends, nothing, ending, ends, onto_last-ends, onto_last-none}
+use Rattle.drn_read.proofs.Cuts.{longer, begun, onto_last, parts_new, parts_grow, last-append, Ends, nothing, ending, ends, onto_last-ends}
 use Rattle.drn_read.proofs.Choices.{states_of, states_new, states_more, state_action, state_transition}
 use Rattle.drn_read.proofs.Headers.{header_at, same_header, count_of, places_in, lines_in, header-ends, model_lines-ends, flat_map-push}
 use Rattle.drn_read.proofs.Phases.{step_sections, step_names, step_rewards, step_states, step_states_blank, step_choices, step_choices_blank, step_places, step_places_blank, step_model, blank_between, Begins, begins}
@@ -88,19 +88,19 @@ idle label front p l f now next a b c d e =
 in_none : (label : List ℕ) (front : List (Part TextLine)) (p : Part TextLine) (l : TextLine) → section_at p ≡ None → is_head l ≡ false → Grows label front p l
 in_none label front p l e f =
     idle label front p l f (no_phase p e) (no_phase (longer p l) e)
-        (no_section Parameters p e) (no_section Placeholders p e) (no_section NrStates p e) (no_section NrChoices p e) (no_section Model p e)
+    (no_section Parameters p e) (no_section Placeholders p e) (no_section NrStates p e) (no_section NrChoices p e) (no_section Model p e)
 
 in_type : (label : List ℕ) (front : List (Part TextLine)) (p : Part TextLine) (l : TextLine) → section_at p ≡ Some ModelType → is_head l ≡ false → Grows label front p l
 in_type label front p l e f =
     idle label front p l f (known_phase ModelType p e) (known_phase ModelType (longer p l) e)
-        (known_section Parameters ModelType p e) (known_section Placeholders ModelType p e) (known_section NrStates ModelType p e)
-        (known_section NrChoices ModelType p e) (known_section Model ModelType p e)
+    (known_section Parameters ModelType p e) (known_section Placeholders ModelType p e) (known_section NrStates ModelType p e)
+    (known_section NrChoices ModelType p e) (known_section Model ModelType p e)
 
 in_value_type : (label : List ℕ) (front : List (Part TextLine)) (p : Part TextLine) (l : TextLine) → section_at p ≡ Some ValueType → is_head l ≡ false → Grows label front p l
 in_value_type label front p l e f =
     idle label front p l f (known_phase ValueType p e) (known_phase ValueType (longer p l) e)
-        (known_section Parameters ValueType p e) (known_section Placeholders ValueType p e) (known_section NrStates ValueType p e)
-        (known_section NrChoices ValueType p e) (known_section Model ValueType p e)
+    (known_section Parameters ValueType p e) (known_section Placeholders ValueType p e) (known_section NrStates ValueType p e)
+    (known_section NrChoices ValueType p e) (known_section Model ValueType p e)
 
 -- ---- in the sections of one line
 
@@ -134,7 +134,7 @@ in_parameters label front head [] l e f =
 in_parameters label front head (k ∷ body) l e f =
     let p : Part TextLine = record { head = head; body = k ∷ body } in
     stays label front p l (known_phase Parameters (longer p l) e ∙ sym (known_phase Parameters p e)) refl (other_said Placeholders p l (known_section Placeholders Parameters p e))
-        (other_said NrStates p l (known_section NrStates Parameters p e)) (other_said NrChoices p l (known_section NrChoices Parameters p e)) (other_said Model p l (known_section Model Parameters p e))
+    (other_said NrStates p l (known_section NrStates Parameters p e)) (other_said NrChoices p l (known_section NrChoices Parameters p e)) (other_said Model p l (known_section Model Parameters p e))
     ∙ sym (step_sections label (said_at label front p) l (phase_at label front p ∙ known_phase Parameters p e) f)
 
 passed : (front : List (Part TextLine)) (head l : TextLine) → section_of (content head) ≡ Some RewardModels
@@ -160,8 +160,8 @@ in_rewards label front head [] l e f =
 in_rewards label front head (k ∷ body) l e f =
     let p : Part TextLine = record { head = head; body = k ∷ body } in
     idle label front p l f (known_phase RewardModels p e) (known_phase RewardModels (longer p l) e)
-        (known_section Parameters RewardModels p e) (known_section Placeholders RewardModels p e) (known_section NrStates RewardModels p e)
-        (known_section NrChoices RewardModels p e) (known_section Model RewardModels p e)
+    (known_section Parameters RewardModels p e) (known_section Placeholders RewardModels p e) (known_section NrStates RewardModels p e)
+    (known_section NrChoices RewardModels p e) (known_section Model RewardModels p e)
 
 -- ---- in the sections of a number
 
@@ -303,7 +303,7 @@ model_grows front p l e g =
 same_in_model : (front : List (Part TextLine)) (p : Part TextLine) (l : TextLine) → section_at p ≡ Some Model → header_at front (longer p l) ≡ header_at front p
 same_in_model front p l e =
     quiet_header front p l (known_phase Model (longer p l) e ∙ sym (known_phase Model p e)) (other_names p l (known_section Parameters Model p e))
-        (other_said Placeholders p l (known_section Placeholders Model p e)) (other_said NrStates p l (known_section NrStates Model p e)) (other_said NrChoices p l (known_section NrChoices Model p e))
+    (other_said Placeholders p l (known_section Placeholders Model p e)) (other_said NrStates p l (known_section NrStates Model p e)) (other_said NrChoices p l (known_section NrChoices Model p e))
 
 blank_in_model : (label : List ℕ) (said : Said) (l : TextLine) → is_blank_line l ≡ true → states_with label said.header said.states l ≡ said.states
 blank_in_model label said l g = rw g refl

@@ -1,22 +1,20 @@
 -- How what the sections declare grows by one section, and by one line of the last section.
-use Rattle.std.proofs.Common.{◌≡◌, ℕ, Bool, true, false, not, ◌&&◌, refl, List, [], ◌∷◌, ◌++◌, sym, ◌∙◌, ap, append_assoc, Option, Some, None}
-use Rattle.std.specs.Prelude.{map, filter, is_none, if◌then◌else◌}
-use Rattle.std.specs.List.{flat_map, list_all}
+use Rattle.std.proofs.Common.{◌≡◌, ℕ, refl, List, [], ◌∷◌, ◌++◌, sym, ◌∙◌, ap, append_assoc, Option}
+use Rattle.std.specs.Prelude.{map}
+use Rattle.std.specs.List.{flat_map}
 use Rattle.std.specs.Option.{option_map}
 use Rattle.std.specs.Str.Parse.{digits_value}
 use Rattle.std.proofs.lemmas.List.{append-nil}
-use Rattle.std.proofs.lemmas.List.Elements.{filter-append}
 use Rattle.std.proofs.lemmas.Grind.{flat_map-append}
 use Rattle.lift_model.specs.declared.kind.Kind.{Kind}
-use Rattle.drn_lexer.specs.Lines.{TextLine, content, is_blank_line}
+use Rattle.drn_lexer.specs.Lines.{TextLine, content}
 use Rattle.drn_read.specs.Parts.{Part, last}
-use Rattle.drn_read.specs.Sections.{Header, Placeholder, section_of, section_at, section_in, is_same, is_section, said_in, phase_of, phase_in, phase_behind, kind_of, kind_in, type_text, list_words, names_in, names, placeholder, placeholders, gather, header}
+use Rattle.drn_read.specs.Sections.{Header, Placeholder, section_in, said_in, phase_of, phase_behind, kind_in, names_in, names, placeholder, placeholders, gather, header}
 use Rattle.drn_read.specs.States.{ModelLine, model_line, model_lines}
 use Rattle.drn_read.specs.declared.section.Phase.{Phase}
-use Rattle.drn_read.specs.declared.section.Phase.TheVariants as phase
 use Rattle.drn_read.specs.declared.section.Section.{Section}
-use Rattle.drn_read.specs.declared.section.Section.TheVariants.{ModelType, ValueType, Parameters, RewardModels, NrStates, NrChoices, Placeholders, Model}
-use Rattle.drn_read.proofs.Cuts.{longer, begun, last-append}
+use Rattle.drn_read.specs.declared.section.Section.TheVariants.{NrStates, NrChoices, Placeholders, Model}
+use Rattle.drn_read.proofs.Cuts.{last-append}
 
 -- ---- one more section
 
@@ -53,7 +51,7 @@ header_at front p = record {
 same_fields : (p p2 : Phase) (s s2 : List Section) (k k2 : Option Kind) (n n2 : List (List ℕ)) (l l2 : List Placeholder) (a a2 b b2 : Option ℕ)
     → p ≡ p2 → s ≡ s2 → k ≡ k2 → n ≡ n2 → l ≡ l2 → a ≡ a2 → b ≡ b2
     → Path Header (record { phase = p; seen = s; kind = k; names = n; placeholders = l; state_count = a; choice_count = b })
-        (record { phase = p2; seen = s2; kind = k2; names = n2; placeholders = l2; state_count = a2; choice_count = b2 })
+    (record { phase = p2; seen = s2; kind = k2; names = n2; placeholders = l2; state_count = a2; choice_count = b2 })
 same_fields p p2 s s2 k k2 n n2 l l2 a a2 b b2 f g h i j m o = cc
 
 pub same_header : (h k : Header) → h.phase ≡ k.phase → h.seen ≡ k.seen → h.kind ≡ k.kind → h.names ≡ k.names → h.placeholders ≡ k.placeholders

@@ -1,6 +1,6 @@
 -- What one more line does, by what may stand next.
-use Rattle.std.proofs.Common.{◌≡◌, ℕ, Bool, true, false, not, ◌&&◌, ◌||◌, refl, List, [], ◌∷◌, ◌++◌, sym, ◌∙◌, ap, Option, Some, None}
-use Rattle.std.specs.Prelude.{is_none, is_some, nat_le, length, ◌==◌, if◌then◌else◌}
+use Rattle.std.proofs.Common.{◌≡◌, ℕ, Bool, true, false, not, ◌&&◌, refl, List, [], ◌∷◌, ◌∙◌, Option, Some, None}
+use Rattle.std.specs.Prelude.{is_none, length, ◌==◌}
 use Rattle.std.proofs.Math.Dec.{eqb-suc-zero}
 use Rattle.std.proofs.lemmas.Bool.{eqb-true}
 use Rattle.drn_lexer.specs.Bytes.{first_passes}
@@ -8,11 +8,11 @@ use Rattle.std.specs.List.{list_all}
 use Rattle.std.specs.Char.{is_ascii_digit}
 use Rattle.drn_lexer.specs.Lines.{TextLine, content, is_blank_line}
 use Rattle.drn_read.specs.Faults.{at, when, first_of}
-use Rattle.drn_read.specs.Sections.{Header, section_of, is_same, is_head, kind_of, type_text}
-use Rattle.drn_read.specs.Judging.{Said, line_fault, header_fault, head_fault, section_fault, has}
-use Rattle.drn_read.specs.Keeping.{with_line, header_with, with_head, with_section, headed_with, with_names, with_state_count, with_choice_count, with_placeholder, states_with}
+use Rattle.drn_read.specs.Sections.{section_of, is_same, is_head, kind_of, type_text}
+use Rattle.drn_read.specs.Judging.{Said, line_fault, head_fault, has}
+use Rattle.drn_read.specs.Keeping.{with_line, with_head, with_section, with_names, with_state_count, with_choice_count, with_placeholder, states_with}
 use Rattle.drn_read.specs.declared.error.DrnCause.{DrnCause}
-use Rattle.drn_read.specs.declared.error.DrnCause.TheVariants.{Syntax, UnsupportedType, MissingSection, RepeatedSection, UnknownSection}
+use Rattle.drn_read.specs.declared.error.DrnCause.TheVariants.{UnsupportedType, MissingSection, RepeatedSection}
 use Rattle.drn_read.specs.declared.section.Phase.{Phase}
 use Rattle.drn_read.specs.declared.section.Phase.TheVariants as phase
 use Rattle.drn_read.specs.declared.section.Section.{Section}

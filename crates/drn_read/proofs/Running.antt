@@ -8,7 +8,6 @@ use Rattle.drn_lexer.specs.Lines.{TextLine, content, numbered, lines, lines_from
 use Rattle.drn_lexer.specs.declared.error.LexError.{LexError}
 use Rattle.drn_lexer.specs.declared.error.LexError.TheVariants.{NotText, LongLine}
 use Rattle.drn_read.specs.Faults.{at, lexed}
-use Rattle.drn_read.specs.Parts.{last}
 use Rattle.drn_read.specs.Judging.{Said, line_fault}
 use Rattle.drn_read.specs.Reading.{said, judge, first_fault, last_number}
 use Rattle.drn_read.specs.Keeping.{with_line}
