@@ -1,1 +1,4 @@
+pub mod Declared
+pub mod Kept
+pub mod Lists
 mod Samples
