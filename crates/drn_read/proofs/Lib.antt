@@ -1,4 +1,5 @@
 pub mod Declared
+pub mod Growing
 pub mod Kept
 pub mod Lists
 mod Samples
