@@ -1,5 +1,5 @@
 -- Lines before the model: what they declare stays sound.
-use Rattle.std.proofs.Common.{◌≡◌, ◌≢◌, ◌==◌, ℕ, ◌+◌, ◌<◌, ◌≤◌, ◌^◌, ◌||◌, Bool, true, false, cond, not, List, [], ◌∷◌, ◌++◌, length, get_or, map, All, AllPairs, Option, Some, None, Result, Ok, Err, refl, sym, ap, subst, ◌∙◌, arith, append_assoc, length-append}
+use Rattle.std.proofs.Common.{◌≡◌, ◌≢◌, ◌==◌, ℕ, ◌<◌, ◌≤◌, ◌^◌, ◌||◌, Bool, true, false, cond, not, List, [], ◌∷◌, ◌++◌, length, get_or, map, Option, Some, None, Result, Ok, Err, refl, sym, ap, subst, arith, append_assoc, length-append}
 use Rattle.std.specs.Prelude.{nat_lt, nat_le}
 use Rattle.std.specs.List.{list_any}
 use Rattle.std.specs.Str.{bytes_eq}
@@ -13,14 +13,13 @@ use Rattle.drn_lexer.specs.Bytes.{first_passes}
 use Rattle.drn_lexer.specs.Cutting.{Piece}
 use Rattle.drn_lexer.specs.Lines.{TextLine, content, is_blank_line}
 use Rattle.drn_lexer.specs.Words.{WordKind, words}
-use Rattle.drn_lexer.specs.declared.word.WordForm.{WordForm}
 use Rattle.drn_expr.specs.Values.{reading}
 use Rattle.drn_expr.specs.RatPolys.{OverOne}
 use Rattle.drn_expr.specs.declared.error.ExprError.{ExprError}
-use Rattle.drn_expr.proofs.Valid.{IsOver, AreSets, reading_over}
-use Rattle.drn_read.specs.Faults.{when, first_of, fault_of, lexed, valued}
+use Rattle.drn_expr.proofs.Valid.{IsOver, reading_over}
+use Rattle.drn_read.specs.Faults.{when, first_of, fault_of, valued}
 use Rattle.drn_read.specs.Parts.{is_empty}
-use Rattle.drn_read.specs.Text.{behind_colon, behind, with_few_parameters, value_of, is_name}
+use Rattle.drn_read.specs.Text.{with_few_parameters, value_of, is_name}
 use Rattle.drn_read.specs.Sections.{Header, Placeholder, is_head, section_of, place_name, place_value, placeholder}
 use Rattle.drn_read.specs.Judging.{name_fault, names_fault, count_fault, place_fault, head_fault, header_fault, headed, unless_blank}
 use Rattle.drn_read.specs.Keeping.{with_section, with_head, headed_with, with_names, with_state_count, with_choice_count, with_placeholder, unless_blank_with, header_with}

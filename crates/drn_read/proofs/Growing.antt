@@ -1,12 +1,12 @@
 -- Lines of the model: its states stay sound.
-use Rattle.std.proofs.Common.{◌≡◌, ◌≢◌, ◌==◌, ℕ, zero, suc, ◌+◌, ◌<◌, ◌≤◌, ◌&&◌, Bool, true, false, cond, not, List, [], ◌∷◌, ◌++◌, length, get_or, take, map, All, AllPairs, Option, Some, None, Result, Ok, Err, refl, sym, ap, subst, ◌∙◌, arith, length-append}
+use Rattle.std.proofs.Common.{◌≡◌, ◌≢◌, ◌==◌, ℕ, zero, ◌+◌, ◌<◌, ◌≤◌, Bool, true, false, cond, not, List, [], ◌∷◌, ◌++◌, length, get_or, take, All, Option, Some, None, Result, Ok, Err, refl, sym, ap, subst, ◌∙◌, arith}
 use Rattle.std.specs.Prelude.{nat_lt, nat_le, is_some, codes, drop}
 use Rattle.std.specs.List.{list_any, find, sum_by}
 use Rattle.std.specs.Char.{is_ascii_digit}
 use Rattle.std.specs.Option.{option_and_then}
 use Rattle.std.specs.Str.{bytes_eq}
 use Rattle.std.specs.Str.Parse.{digits_value}
-use Rattle.std.proofs.lemmas.Bool.{both_ways, leb-false, eq-eqb, false_from_ne_true, and_cases}
+use Rattle.std.proofs.lemmas.Bool.{both_ways, leb-false, eq-eqb, false_from_ne_true}
 use Rattle.std.proofs.lemmas.Bool.Decides.{nat_tests}
 use Rattle.std.proofs.lemmas.List.{length_push, same_from_push}
 use Rattle.std.proofs.lemmas.List.Elements.{All-nil, All-cons, All-push}
@@ -24,9 +24,9 @@ use Rattle.drn_lexer.specs.declared.symbol.SymbolForm.{SymbolForm}
 use Rattle.drn_lexer.specs.declared.symbol.SymbolForm.TheVariants as symbol
 use Rattle.drn_expr.specs.RatPolys.{OverOne}
 use Rattle.drn_expr.proofs.Valid.{IsOver}
-use Rattle.drn_read.specs.Faults.{when, first_of, fault_of, lexed, at}
+use Rattle.drn_read.specs.Faults.{when, first_of, fault_of, at}
 use Rattle.drn_read.specs.Parts.{last, is_empty}
-use Rattle.drn_read.specs.Text.{behind, behind_colon, value_of, is_digits}
+use Rattle.drn_read.specs.Text.{behind, behind_colon, is_digits}
 use Rattle.drn_read.specs.Sections.{Header, Placeholder, is_head}
 use Rattle.drn_read.specs.States.{StateText, ModelLine, model_line, is_transition, target_of, target_text, place_of, named_value, entry_value, begins_with, is_state, is_action, state, transition}
 use Rattle.drn_read.specs.Judging.{choice_count, transition_count, open_choice, target_fault, transition_fault, state_fault, number_fault, labels_fault, choiceless, name_and_group_fault, action_fault, words_fault, model_fault}
@@ -37,7 +37,7 @@ use Rattle.drn_read.specs.declared.error.DrnError.{DrnError}
 use Rattle.drn_read.specs.declared.state.Transition.{Transition}
 use Rattle.drn_read.proofs.Declared.{first_none, when_none, fault_none, value_over}
 use Rattle.drn_read.proofs.Kept.{IsChoice, IsState, AreStates}
-use Rattle.drn_read.proofs.Lists.{Split, split, last-push, on_last-push, All-front, All-end, any_false, find_keeps}
+use Rattle.drn_read.proofs.Lists.{split, last-push, on_last-push, All-front, All-end, any_false, find_keeps}
 
 -- ---- a changed last state
 
@@ -271,7 +271,7 @@ words_digit c name (b ∷ tail) above e =
         let word : List ℕ = b ∷ take (word_front b tail).0 tail in
         false_from_ne_true (bytes_eq word (c ∷ name)) (λ t. let same = (bytes_eq-Decides word (c ∷ name)).0 t in ne (cc))
 
-at_none : (line : TextLine) (cause : Option DrnCause) → at line cause ≡ None → cause ≡ None
+pub at_none : (line : TextLine) (cause : Option DrnCause) → at line cause ≡ None → cause ≡ None
 at_none line None e = refl
 at_none line (Some cause) e = cc
 

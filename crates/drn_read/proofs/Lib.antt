@@ -3,3 +3,5 @@ pub mod Growing
 pub mod Kept
 pub mod Lists
 mod Samples
+pub mod Sound
+pub mod Whole
