@@ -53,11 +53,11 @@ abbrev pub name_fault : List (List ℕ) → Piece WordKind → Option DrnCause
 name_fault names w = elim w.form [
   | Err fault ↦ Some (lexed fault)
   | Ok form ↦ first_of (
-    when (not (is_name w.bytes)) Syntax
-    ∷ when (nat_lt 64 (length w.bytes)) LimitName
-    ∷ when (list_any (bytes_eq w.bytes) names) RepeatedName
-    ∷ when (nat_le 16 (length names)) LimitParameters
-    ∷ [])
+      when (not (is_name w.bytes)) Syntax
+      ∷ when (nat_lt 64 (length w.bytes)) LimitName
+      ∷ when (list_any (bytes_eq w.bytes) names) RepeatedName
+      ∷ when (nat_le 16 (length names)) LimitParameters
+      ∷ [])
 ]
 
 -- the list of parameters, whose words are tested one by one
@@ -157,10 +157,10 @@ abbrev pub number_fault : ℕ → Piece WordKind → Option DrnCause
 number_fault before w = elim w.form [
   | Err fault ↦ Some (lexed fault)
   | Ok _ ↦ first_of (
-    when (not (is_digits w.bytes)) Syntax
-    ∷ when (not (digits_value 10 w.bytes == before)) StateOrder
-    ∷ when (nat_le 65536 before) LimitStates
-    ∷ [])
+      when (not (is_digits w.bytes)) Syntax
+      ∷ when (not (digits_value 10 w.bytes == before)) StateOrder
+      ∷ when (nat_le 65536 before) LimitStates
+      ∷ [])
 ]
 
 -- the words behind `state`
@@ -214,9 +214,9 @@ words_fault h states line [] = at line (Some Syntax)
 words_fault h states line (w ∷ ws) = elim w.form [
   | Err fault ↦ at line (Some (lexed fault))
   | Ok _ ↦
-    if bytes_eq w.bytes (codes "state") then first_of (choiceless states ∷ at line (state_fault (length states) ws) ∷ [])
-    else (if bytes_eq w.bytes (codes "action") then at line (action_fault h states ws)
-    else at line (Some Syntax))
+      if bytes_eq w.bytes (codes "state") then first_of (choiceless states ∷ at line (state_fault (length states) ws) ∷ [])
+      else (if bytes_eq w.bytes (codes "action") then at line (action_fault h states ws)
+      else at line (Some Syntax))
 ]
 
 -- the first fault of a line of the model

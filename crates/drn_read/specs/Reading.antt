@@ -7,7 +7,8 @@ use Rattle.lift_poly.specs.Polynomial.{Term}
 use Rattle.lift_poly.specs.Arithmetic as poly
 use Rattle.lift_model.specs.declared.kind.Kind.{Kind}
 use Rattle.lift_model.specs.declared.kind.Kind.TheVariants.{Dtmc}
-use Rattle.lift_model.specs.Model.{Entry, ModelData}
+use Rattle.lift_model.specs.Model.{ModelData}
+use Rattle.lift_model.specs.declared.entry.Entry.{Entry}
 use Rattle.drn_lexer.specs.Lines.{TextLine, lines, own_fault, is_comment}
 use Rattle.drn_expr.specs.RatPolys.{OverOne}
 use Rattle.drn_read.specs.Faults.{when, first_of, lexed, at}
@@ -92,7 +93,7 @@ end_fault number said =
 
 -- a transition as an entry of a row, over the common denominator
 abbrev pub entry : ℕ → Transition → Entry
-entry c t = record { target = t.target; terms = scaled c t.value }
+entry c t = record { target = t.target; poly = scaled c t.value }
 
 -- the type that was named, a chain where none was
 abbrev pub kind_or_chain : Option Kind → Kind

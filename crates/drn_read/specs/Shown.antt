@@ -1,17 +1,35 @@
 -- How the code's pieces of a text are seen. No public clause rests on it.
-use Rattle.std.specs.Prelude.{◌≡◌, ℕ, List, [], ◌∷◌, slice_range, codes, Option, Some, None, Result, Ok, Err}
+use Rattle.std.specs.Prelude.{◌≡◌, ◌≢◌, ℕ, List, [], ◌∷◌, slice_range, codes, Option, Some, None, Result, Ok, Err}
 use Rattle.std.specs.List.{list_any}
 use Rattle.drn_lexer.specs.Cutting.{Piece}
+use Rattle.drn_lexer.specs.Lines.{TextLine, content}
+use Rattle.drn_lexer.specs.declared.line.Line.{Line}
 use Rattle.drn_lexer.specs.Words.{WordKind, words}
 use Rattle.drn_lexer.specs.declared.error.LexError.TheVariants as lex
 use Rattle.drn_read.specs.declared.error.DrnCause.{DrnCause}
-use Rattle.drn_read.specs.declared.error.DrnCause.TheVariants.{OpenQuote}
+use Rattle.drn_read.specs.declared.error.DrnCause.TheVariants.{OpenQuote, Memory}
+use Rattle.drn_read.specs.declared.error.DrnError.{DrnError}
 use Rattle.drn_expr.specs.RatPolys.{OverOne}
 use Rattle.drn_read.specs.Sections.{Placeholder}
 use Rattle.drn_read.specs.States.{is_label}
 use Rattle.drn_read.specs.declared.labels.Labels.{Labels}
 use Rattle.drn_read.specs.declared.word.Words.{Words}
 use Rattle.drn_read.specs.declared.word.LineWord.{LineWord}
+
+-- the answer is what this fault says, want of memory aside
+abbrev pub Tells : {A : Type 0} → Result A DrnCause → Option DrnCause → Type 0
+Tells (Ok x) fault = fault ≡ None
+Tells (Err cause) fault = cause ≢ Memory → fault ≡ Some cause
+
+-- the same of a fault that has a line
+abbrev pub Told : {A : Type 0} → Result A DrnError → Option DrnError → Type 0
+Told (Ok x) fault = fault ≡ None
+Told (Err error) fault = error.cause ≢ Memory → fault ≡ Some error
+
+-- the line of the text that has this span says these bytes, and has this number
+pub record Spans (text : List ℕ) (line : Line) (source : TextLine) : Type 0 where
+  pub says : slice_range text line.from line.to ≡ content source
+  pub number : line.number ≡ source.number
 
 -- the words that are left
 abbrev pub left : Words → List (Piece WordKind)

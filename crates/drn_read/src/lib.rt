@@ -3,7 +3,10 @@
 
 mod digits;
 mod error;
+mod end;
+mod header;
 mod labels;
+mod model_lines;
 mod places;
 mod section;
 mod state;
