@@ -15,3 +15,4 @@ mod Samples
 pub mod Sound
 pub mod Whole
 pub mod WordLoops
+pub mod Loop

@@ -145,7 +145,9 @@ comes label before (l ∷ ls) rest e = comes_by label before l ls rest (is_passe
 
 -- a line without fault was read, behind the comment lines before it
 pub record Passed (label : List ℕ) (before lines rest : List TextLine) (source : TextLine) : Type 0 where
+  pub earlier : List TextLine
   pub front : List TextLine
+  pub front_is : front ≡ earlier ++ source ∷ []
   pub fault : first_fault label before lines ≡ first_fault label front rest
   pub all : front ++ rest ≡ before ++ lines
   pub said_is : said label front ≡ with_line label (said label before) source
@@ -162,7 +164,9 @@ passes label before lines rest source e own calm =
     let c = comes label before lines (source ∷ rest) e in
     let none = judged_first label before lines rest source c own ∙ calm in
     record {
+      earlier = c.front;
       front = c.front ++ source ∷ [];
+      front_is = refl;
       fault = c.fault ∙ goes_on label c.front source rest none;
       all = append_assoc c.front (source ∷ []) rest ∙ c.all;
       said_is = grows label c.front source (no_comment source (c.kept source rest refl) own) (ap (λ (s : Said). line_fault s source) c.said_is ∙ calm)

