@@ -117,16 +117,25 @@ known_phase s p e = ap (phase_by p.body) e
 pub no_phase : (p : Part TextLine) → section_at p ≡ None → phase_of p ≡ phase.Sections
 no_phase p e = ap (phase_by p.body) e
 
+-- where one more line leaves what a section gives, it leaves what all sections give
+pub names_kept : (front : List (Part TextLine)) (p : Part TextLine) (l : TextLine) → names_in (longer p l) ≡ names_in p → names front ++ names_in (longer p l) ≡ names front ++ names_in p
+names_kept front p l e = ap (λ (xs : List (List ℕ)). names front ++ xs) e
+
+pub places_kept : (front : List (Part TextLine)) (p : Part TextLine) (l : TextLine) → said_in Placeholders (longer p l) ≡ said_in Placeholders p
+    → placeholders front ++ places_in front (longer p l) ≡ placeholders front ++ places_in front p
+places_kept front p l e = ap (λ (ls : List TextLine). placeholders front ++ flat_map (λ line. placeholder (names front) (content line)) ls) e
+
+pub count_kept : (s : Section) (front : List (Part TextLine)) (p : Part TextLine) (l : TextLine) → said_in s (longer p l) ≡ said_in s p
+    → count_of (last (flat_map (said_in s) front ++ said_in s (longer p l))) ≡ count_of (last (flat_map (said_in s) front ++ said_in s p))
+count_kept s front p l e = ap (λ (ls : List TextLine). count_of (last (flat_map (said_in s) front ++ ls))) e
+
 pub quiet_header : (front : List (Part TextLine)) (p : Part TextLine) (l : TextLine) → phase_of (longer p l) ≡ phase_of p → names_in (longer p l) ≡ names_in p
     → said_in Placeholders (longer p l) ≡ said_in Placeholders p → said_in NrStates (longer p l) ≡ said_in NrStates p → said_in NrChoices (longer p l) ≡ said_in NrChoices p
     → header_at front (longer p l) ≡ header_at front p
 unfolding header_at count_of
-quiet_header front p l a b c d e = same_header (header_at front (longer p l)) (header_at front p)
-    a refl refl
-    (ap (λ (xs : List (List ℕ)). names front ++ xs) b)
-    (ap (λ (ls : List TextLine). placeholders front ++ flat_map (λ line. placeholder (names front) (content line)) ls) c)
-    (ap (λ (ls : List TextLine). count_of (last (flat_map (said_in NrStates) front ++ ls))) d)
-    (ap (λ (ls : List TextLine). count_of (last (flat_map (said_in NrChoices) front ++ ls))) e)
+quiet_header front p l a b c d e =
+    same_header (header_at front (longer p l)) (header_at front p)
+    a refl refl (names_kept front p l b) (places_kept front p l c) (count_kept NrStates front p l d) (count_kept NrChoices front p l e)
 
 -- what a section of another kind adds to the names and to the placeholders
 pub names_none : (front : List (Part TextLine)) (p : Part TextLine) → is_section Parameters p ≡ false → names front ++ names_in p ≡ names front

@@ -22,7 +22,7 @@ use Rattle.drn_read.proofs.Cuts.{longer, begun, onto_last, parts_new, parts_grow
 use Rattle.drn_read.proofs.Choices.{states_of, states_new, states_more, state_action, state_transition}
 use Rattle.drn_read.proofs.Headers.{header_at, same_header, count_of, places_in, lines_in, header-ends, model_lines-ends, flat_map-push}
 use Rattle.drn_read.proofs.Phases.{step_sections, step_names, step_rewards, step_states, step_states_blank, step_choices, step_choices_blank, step_places, step_places_blank, step_model, blank_between, Begins, begins}
-use Rattle.drn_read.proofs.Bodies.{new_header, nothing_named, no_lines, other_said, blank_said, more_said, other_names, known_section, no_section, known_phase, no_phase, quiet_header, names_none, places_none}
+use Rattle.drn_read.proofs.Bodies.{new_header, nothing_named, no_lines, other_said, blank_said, more_said, other_names, known_section, no_section, known_phase, no_phase, names_kept, places_kept, count_kept, quiet_header, names_none, places_none}
 
 -- what sections say of which this one is the last
 unfoldable said_at : List ℕ → List (Part TextLine) → Part TextLine → Said
@@ -117,9 +117,9 @@ named front head l e =
     refl refl
     (ap (λ (xs : List (List ℕ)). names front ++ xs) first
     ∙ ap (λ (xs : List (List ℕ)). xs ++ list) (sym (append-nil (names front)) ∙ ap (λ (xs : List (List ℕ)). names front ++ xs) (sym (nothing_named head))))
-    (ap (λ (ls : List TextLine). placeholders front ++ flat_map (λ line. placeholder (names front) (content line)) ls) (other_said Placeholders p l (known_section Placeholders Parameters p e)))
-    (ap (λ (ls : List TextLine). count_of (last (flat_map (said_in NrStates) front ++ ls))) (other_said NrStates p l (known_section NrStates Parameters p e)))
-    (ap (λ (ls : List TextLine). count_of (last (flat_map (said_in NrChoices) front ++ ls))) (other_said NrChoices p l (known_section NrChoices Parameters p e)))
+    (places_kept front p l (other_said Placeholders p l (known_section Placeholders Parameters p e)))
+    (count_kept NrStates front p l (other_said NrStates p l (known_section NrStates Parameters p e)))
+    (count_kept NrChoices front p l (other_said NrChoices p l (known_section NrChoices Parameters p e)))
   where
     names_by : is_section Parameters (begun head) ≡ true → names_in (longer (begun head) l) ≡ map (λ word. word.bytes) (words (content l))
     names_by g = ap (λ (c : Bool). if c then list_words (l ∷ []) else []) g
@@ -145,10 +145,10 @@ passed front head l e =
     same_header (header_at front (longer p l)) (record (header_at front p) { phase = phase.Sections })
     (known_phase RewardModels (longer p l) e)
     refl refl
-    (ap (λ (xs : List (List ℕ)). names front ++ xs) (other_names p l (known_section Parameters RewardModels p e)))
-    (ap (λ (ls : List TextLine). placeholders front ++ flat_map (λ line. placeholder (names front) (content line)) ls) (other_said Placeholders p l (known_section Placeholders RewardModels p e)))
-    (ap (λ (ls : List TextLine). count_of (last (flat_map (said_in NrStates) front ++ ls))) (other_said NrStates p l (known_section NrStates RewardModels p e)))
-    (ap (λ (ls : List TextLine). count_of (last (flat_map (said_in NrChoices) front ++ ls))) (other_said NrChoices p l (known_section NrChoices RewardModels p e)))
+    (names_kept front p l (other_names p l (known_section Parameters RewardModels p e)))
+    (places_kept front p l (other_said Placeholders p l (known_section Placeholders RewardModels p e)))
+    (count_kept NrStates front p l (other_said NrStates p l (known_section NrStates RewardModels p e)))
+    (count_kept NrChoices front p l (other_said NrChoices p l (known_section NrChoices RewardModels p e)))
 
 in_rewards : (label : List ℕ) (front : List (Part TextLine)) (head : TextLine) (body : List TextLine) (l : TextLine) → section_of (content head) ≡ Some RewardModels → is_head l ≡ false
     → Grows label front (record { head = head; body = body }) l
@@ -181,11 +181,11 @@ unfolding header_at count_of
 states_counted front p l e next g =
     same_header (header_at front (longer p l)) (with_state_count (header_at front p) (content l))
     next refl refl
-    (ap (λ (xs : List (List ℕ)). names front ++ xs) (other_names p l (known_section Parameters NrStates p e)))
-    (ap (λ (ls : List TextLine). placeholders front ++ flat_map (λ line. placeholder (names front) (content line)) ls) (other_said Placeholders p l (known_section Placeholders NrStates p e)))
+    (names_kept front p l (other_names p l (known_section Parameters NrStates p e)))
+    (places_kept front p l (other_said Placeholders p l (known_section Placeholders NrStates p e)))
     (ap (λ (ls : List TextLine). count_of (last (flat_map (said_in NrStates) front ++ ls))) (more_said NrStates p l (known_section NrStates NrStates p e) g)
     ∙ last_said (flat_map (said_in NrStates) front) (said_in NrStates p) l)
-    (ap (λ (ls : List TextLine). count_of (last (flat_map (said_in NrChoices) front ++ ls))) (other_said NrChoices p l (known_section NrChoices NrStates p e)))
+    (count_kept NrChoices front p l (other_said NrChoices p l (known_section NrChoices NrStates p e)))
 
 choices_counted : (front : List (Part TextLine)) (p : Part TextLine) (l : TextLine) → section_at p ≡ Some NrChoices → phase_of (longer p l) ≡ phase.Sections → is_blank_line l ≡ false
     → header_at front (longer p l) ≡ with_choice_count (header_at front p) (content l)
@@ -193,9 +193,9 @@ unfolding header_at count_of
 choices_counted front p l e next g =
     same_header (header_at front (longer p l)) (with_choice_count (header_at front p) (content l))
     next refl refl
-    (ap (λ (xs : List (List ℕ)). names front ++ xs) (other_names p l (known_section Parameters NrChoices p e)))
-    (ap (λ (ls : List TextLine). placeholders front ++ flat_map (λ line. placeholder (names front) (content line)) ls) (other_said Placeholders p l (known_section Placeholders NrChoices p e)))
-    (ap (λ (ls : List TextLine). count_of (last (flat_map (said_in NrStates) front ++ ls))) (other_said NrStates p l (known_section NrStates NrChoices p e)))
+    (names_kept front p l (other_names p l (known_section Parameters NrChoices p e)))
+    (places_kept front p l (other_said Placeholders p l (known_section Placeholders NrChoices p e)))
+    (count_kept NrStates front p l (other_said NrStates p l (known_section NrStates NrChoices p e)))
     (ap (λ (ls : List TextLine). count_of (last (flat_map (said_in NrChoices) front ++ ls))) (more_said NrChoices p l (known_section NrChoices NrChoices p e) g)
     ∙ last_said (flat_map (said_in NrChoices) front) (said_in NrChoices p) l)
 
@@ -254,13 +254,13 @@ placed front p l e g =
     same_header (header_at front (longer p l)) (with_placeholder (header_at front p) (content l))
     (known_phase Placeholders (longer p l) e ∙ sym (known_phase Placeholders p e))
     refl refl
-    (ap (λ (xs : List (List ℕ)). names front ++ xs) (other_names p l (known_section Parameters Placeholders p e)))
+    (names_kept front p l (other_names p l (known_section Parameters Placeholders p e)))
     (ap (λ (ls : List TextLine). placeholders front ++ flat_map give ls) (more_said Placeholders p l (known_section Placeholders Placeholders p e) g)
     ∙ ap (λ (ps : List Placeholder). placeholders front ++ ps) (flat_map-push give (said_in Placeholders p) l)
     ∙ sym (append_assoc (placeholders front) (flat_map give (said_in Placeholders p)) (give l))
     ∙ ap (λ (ns : List (List ℕ)). (placeholders front ++ flat_map give (said_in Placeholders p)) ++ placeholder ns (content l)) (sym no_names))
-    (ap (λ (ls : List TextLine). count_of (last (flat_map (said_in NrStates) front ++ ls))) (other_said NrStates p l (known_section NrStates Placeholders p e)))
-    (ap (λ (ls : List TextLine). count_of (last (flat_map (said_in NrChoices) front ++ ls))) (other_said NrChoices p l (known_section NrChoices Placeholders p e)))
+    (count_kept NrStates front p l (other_said NrStates p l (known_section NrStates Placeholders p e)))
+    (count_kept NrChoices front p l (other_said NrChoices p l (known_section NrChoices Placeholders p e)))
 
 in_placeholders : (label : List ℕ) (front : List (Part TextLine)) (p : Part TextLine) (l : TextLine) → section_at p ≡ Some Placeholders → is_head l ≡ false
     → (c : Bool) → is_blank_line l ≡ c → Grows label front p l
