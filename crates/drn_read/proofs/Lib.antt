@@ -7,6 +7,7 @@ pub mod Growth
 pub mod Headers
 pub mod Kept
 pub mod Lists
+pub mod Loop
 pub mod Pairing
 pub mod Phases
 pub mod Pieces
@@ -15,4 +16,3 @@ mod Samples
 pub mod Sound
 pub mod Whole
 pub mod WordLoops
-pub mod Loop

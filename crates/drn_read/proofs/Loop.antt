@@ -13,7 +13,7 @@ use Rattle.drn_read.specs.Faults.{lexed}
 use Rattle.drn_read.specs.Judging.{Said, line_fault}
 use Rattle.drn_read.specs.Reading.{said, first_fault, last_number, end_fault, model, ended, drn, IsAnswer}
 use Rattle.drn_read.specs.Keeping.{with_line}
-use Rattle.drn_read.specs.Shown.{Spans}
+use Rattle.drn_read.specs.Shown.{Spans, AtEnd}
 use Rattle.drn_read.specs.declared.error.DrnCause.TheVariants.{Memory}
 use Rattle.drn_read.specs.declared.error.DrnError.{DrnError}
 use Rattle.drn_read.proofs.Kept.{IsSound}
@@ -114,11 +114,6 @@ none_left (l ∷ ls) e = by_own (own_fault l) e
     by_own : (o : Option LexError) → (Ok None ≡ (elim o as (λ o. Result (Option Line) LexError) [ Some fault ↦ Err fault | None ↦ Ok (Some (span_of l)) ])) → l ∷ ls ≡ []
     by_own (Some other) g = cc
     by_own None g = cc
-
--- what stands at the end
-pub record AtEnd (label text : List ℕ) (number : ℕ) (kept : Said) : Type 0 where
-  pub valid : end_fault number kept ≡ None → IsModel (model kept)
-  pub right : drn text label ≡ ended number kept
 
 end_place : (text : List ℕ) (old : Place) (ls : List TextLine) → ls ≡ [] → (place_after text old ls).number ≡ old.number + length (lines_at text old)
 end_place text old ls e = rw e refl

@@ -11,7 +11,7 @@ ghost use Rattle.lift_model.specs.Valid.{IsModel};
 ghost use Rattle.std.specs.Prelude.{None};
 ghost use Rattle.drn_read.specs.Reading.{end_fault, model, ended, IsAnswer};
 
-/// stub
+/// The model, or the first fault of the whole text.
 pub(crate) fn finish(alloc: Global, number: u32, header: HeaderReader, states: ModelReader) -> Result<Model, DrnError>
    requires valid { end_fault number (record { header = header; states = states }) ≡ None → IsModel (model (record { header = header; states = states })) }
    ensures { IsAnswer result (ended number (record { header = header; states = states })) }

@@ -2,9 +2,10 @@
 //! the definition says.
 #![tactic(auto)]
 
-ghost use Rattle.std.specs.Prelude.{◌≡◌, ◌<◌, ◌≤◌, ◌^◌, length, Ok, Err, None};
-ghost use Rattle.drn_lexer.specs.Lines.{lines_at, behind_comments, answer_of, place_after};
-ghost use Rattle.drn_read.specs.Reading.{drn, IsAnswer};
+ghost use Rattle.std.specs.Prelude.{◌≡◌, ◌+◌, ◌<◌, ◌≤◌, ◌^◌, [], length};
+ghost use Rattle.drn_lexer.specs.Lines.{lines_at, behind_comments, place_after};
+ghost use Rattle.drn_read.specs.Reading.{said, drn, IsAnswer};
+ghost use Rattle.drn_read.specs.Shown.{IsNext, Reads};
 
 mod digits;
 mod end;
@@ -21,12 +22,44 @@ mod value;
 mod word;
 mod words;
 
-use drn_lexer::{Place, next_line};
+use drn_lexer::{Line, Place, next_line};
 use end::finish;
 pub use error::{DrnCause, DrnError};
 use lift_model::Model;
 use reader::Reader;
 use std::alloc::Global;
+
+/// The next line that is no comment.
+fn next(text: &[u8], place: &mut Place) -> Result<Option<Line>, DrnError>
+    requires short { length text.now < 2 ^ 31 }
+    requires at { place.old.at ≤ length text.now }
+    requires number { place.old.number ≤ place.old.at + 1 }
+    ensures place { place.new ≡ place_after text.now place.old (behind_comments (lines_at text.now place.old)) }
+    ensures next { IsNext text.now place.old place.new result }
+    ensures at { place.new.at ≤ length text.now }
+    ensures number { place.new.number ≤ place.new.at + 1 }
+{
+    match next_line(text, place) {
+        Ok(line) => Ok(line),
+        Err(fault) => Err(DrnError {
+            line: place.number,
+            cause: DrnCause::from(fault),
+        }),
+    }
+}
+
+/// Reads all lines of a text, and gives the number of the last one.
+fn read_lines(reader: &mut Reader, text: &[u8], label: &[u8]) -> Result<u32, DrnError>
+    requires short { length text.now < 2 ^ 31 }
+    requires start { reader.old ≡ said label.now [] }
+    ensures { Reads label.now text.now result reader.new }
+{
+    let mut place = Place::start();
+    while let Some(line) = next(text, &mut place)? {
+        reader.read_line(label, text, line)?;
+    }
+    Ok(place.number - 1)
+}
 
 /// The model that a text stands for, where the goal states are those that carry the label; or where
 /// and why it is refused: at the first line that has a fault, by the first of its tests that fails,
@@ -40,18 +73,7 @@ pub fn read_model(alloc: Global, text: &[u8], label: &[u8]) -> Result<Model, Drn
     ensures { IsAnswer result (drn text.now label.now) }
 {
     let mut reader = Reader::new(alloc);
-    let mut place = Place::start();
-    loop {
-        match next_line(text, &mut place) {
-            Ok(Some(line)) => reader.read_line(label, text, line)?,
-            Ok(None) => break,
-            Err(fault) => {
-                return Err(DrnError {
-                    line: place.number,
-                    cause: DrnCause::from(fault),
-                });
-            }
-        }
-    }
-    finish(alloc, place.number - 1, reader.header, reader.model)
+    let number = read_lines(&mut reader, text, label)?;
+    let Reader { header, model } = reader;
+    finish(alloc, number, header, model)
 }
