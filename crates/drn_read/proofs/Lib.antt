@@ -1,7 +1,7 @@
 pub mod Declared
-pub mod Growing
 pub mod Kept
 pub mod Lists
 mod Samples
 pub mod Sound
+pub mod Stated
 pub mod Whole
