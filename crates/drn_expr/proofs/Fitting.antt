@@ -1,9 +1,10 @@
 -- A tree that was read has parameters among the names, and literals in lowest terms with a denominator above 0.
-use Rattle.std.proofs.Common.{◌≡◌, ℕ, zero, suc, ◌+◌, ◌-◌, ◌*◌, ◌/◌, ◌^◌, ◌<◌, ◌==◌, Bool, true, false, cond, ◌||◌, refl, List, [], ◌∷◌, length, ℤ, pos, ◌<ℤ◌, unsigned_abs, sym, ap, subst, ◌∙◌, arith, Option, Some, None, Result, Ok, Err, pow-suc}
+use Rattle.std.proofs.Common.{◌≡◌, ℕ, zero, suc, ◌+◌, ◌-◌, ◌*◌, ◌/◌, ◌^◌, ◌<◌, ◌==◌, Bool, true, false, cond, refl, List, [], ◌∷◌, length, ℤ, pos, ◌<ℤ◌, unsigned_abs, sym, ap, subst, ◌∙◌, arith, Option, Some, None, Result, Ok, Err, pow-suc}
 use Rattle.std.specs.Prelude.{position, nat_lt, nat_le}
 use Rattle.std.specs.List.{position_or_len}
 use Rattle.std.specs.Str.{bytes_eq}
 use Rattle.std.proofs.Math.Nat.{div-mul_cancel}
+use Rattle.std.proofs.lemmas.Bool.{leb-false, or_parts}
 use Rattle.std.proofs.lemmas.Bool.Decides.{nat_tests}
 use Rattle.lift_frac.specs.Gcd.{gcd}
 use Rattle.lift_frac.specs.Ratio.{Ratio, lowest, is_wide, fraction}
@@ -47,24 +48,17 @@ quotient_above : (q g d : ℕ) → q * g ≡ d → 0 < d → 0 < q
 quotient_above zero g d e h = absurd (omega arith)
 quotient_above (suc q) g d e h = omega arith
 
-narrow_parts : (a b : Bool) → (a || b) ≡ false → (a ≡ false) × (b ≡ false)
-narrow_parts true b e = cc
-narrow_parts false b e = (refl, e)
-
-small_size : (n : ℕ) → nat_le (2 ^ 62) n ≡ false → n < 2 ^ 62
-small_size n e = grind (arith, nat_tests)
-
 lowest_number : (n : ℤ) (d : ℕ) → 0 < d → is_wide (lowest n (pos d)) ≡ false → IsNumber (lowest n (pos d))
 lowest_number n d h narrow =
     let g : ℕ = gcd (unsigned_abs n) d in
     let is = gcd_is (unsigned_abs n) d in
     let above : 0 < g = positive (unsigned_abs n) d g is h in
     let some = quotient_above (d / g) g d (div-mul_cancel g is.1) h in
-    let small = narrow_parts (nat_le (2 ^ 62) (unsigned_abs (lowest n (pos d)).num)) (nat_le (2 ^ 62) (d / g)) narrow in
+    let small = or_parts (nat_le (2 ^ 62) (unsigned_abs (lowest n (pos d)).num)) (nat_le (2 ^ 62) (d / g)) narrow in
     record {
       positive = omega (arith, linear, some);
-      num = small_size (unsigned_abs (lowest n (pos d)).num) small.0;
-      den = small_size (d / g) small.1;
+      num = leb-false (2 ^ 62) (unsigned_abs (lowest n (pos d)).num) small.0;
+      den = leb-false (2 ^ 62) (d / g) small.1;
       lowest = ap (λ k. gcd k (d / g)) (size_above n (pos d) g (λ e. omega (arith, linear, e))) ∙ gcd-quotients (unsigned_abs n) d g above is;
     }
 

@@ -1,10 +1,9 @@
 -- What was read as a value is a polynomial in lowest terms over the names.
-use Rattle.std.proofs.Common.{◌≡◌, ℕ, suc, ◌*◌, ◌/◌, ◌^◌, ◌<◌, ◌||◌, Bool, true, false, cond, refl, List, [], ◌∷◌, ◌++◌, length, ℤ, zero, pos, negsuc, neg_ℤ, ◌+ℤ◌, ◌*ℤ◌, int_div, bit_or, unsigned_abs, All, ⊎_elim, sym, ap, subst, ◌∙◌, arith, Result, Ok, Err}
+use Rattle.std.proofs.Common.{◌≡◌, ℕ, suc, ◌*◌, ◌/◌, ◌^◌, ◌<◌, Bool, true, false, cond, refl, List, [], ◌∷◌, ◌++◌, length, ℤ, zero, pos, negsuc, neg_ℤ, ◌+ℤ◌, ◌*ℤ◌, int_div, bit_or, unsigned_abs, All, ⊎_elim, sym, ap, subst, ◌∙◌, arith, Result, Ok, Err}
 use Rattle.std.specs.Prelude.{nat_le, nat_lt}
 use Rattle.std.specs.List.{list_any}
 use Rattle.std.proofs.Math.Pow.{pow-lt}
-use Rattle.std.proofs.lemmas.Bool.{cases_order}
-use Rattle.std.proofs.lemmas.Bool.Decides.{nat_tests}
+use Rattle.std.proofs.lemmas.Bool.{cases_order, leb-false, or_parts}
 use Rattle.std.proofs.lemmas.List.Elements.{All-nil, All-cons, All-head, All-tail, All-append, All-map}
 use Rattle.std.proofs.lemmas.Nat.{or_lt, pow_pos}
 use Rattle.std.proofs.Math.Nat.{div-mul_cancel}
@@ -98,25 +97,18 @@ canonical_of_times : (low : ℕ) (by : ℤ) (ts : List Term) → Canonical low (
 canonical_of_times low by [] h = tt
 canonical_of_times low by (t ∷ ts) h = (h.0, λ e. h.1 (ap (λ z. by *ℤ z) e ∙ mul-zero by), canonical_of_times (suc t.0) by ts h.2)
 
-both_false : (a b : Bool) → (a || b) ≡ false → (a ≡ false) × (b ≡ false)
-both_false true b e = cc
-both_false false b e = (refl, e)
-
-small_den : (n : ℕ) → nat_le (2 ^ 62) n ≡ false → n < 2 ^ 62
-small_den n e = grind (arith, nat_tests)
-
 lowest_over : (k : ℕ) (ts : List Term) (d : ℕ) → 0 < d → IsPolynomial ts → AreSets k ts → is_wide (lowest ts d) ≡ false → IsOver k (lowest ts d)
 lowest_over k ts d above h sets narrow =
     let g : ℕ = common_divisor d ts in
     let both = common_divides d ts in
     let q = poly.quotient ts (pos g) in
     let back : times (pos g) q ≡ ts = times-quotient (pos g) ts both.1 in
-    let small = both_false (nat_le (2 ^ 62) (d / g)) (list_any is_large q) narrow in
+    let small = or_parts (nat_le (2 ^ 62) (d / g)) (list_any is_large q) narrow in
     record {
       value = record {
         polynomial = polynomial_from_canonical 0 q (canonical_of_times 0 (pos g) q (subst (Canonical 0) (sym back) (canonical_from_polynomial ts h)));
         positive = quotient_positive (d / g) g d (div-mul_cancel g both.0) above;
-        den = small_den (d / g) small.0;
+        den = leb-false (2 ^ 62) (d / g) small.0;
         sizes = small_sizes q small.1;
         lowest = nothing_common d g ts q (positive_divisor g d both.0 above) refl back;
       };

@@ -2,7 +2,6 @@ pub mod Bodies
 pub mod Choices
 pub mod Cuts
 pub mod Declared
-pub mod Growing
 pub mod Growth
 pub mod Headers
 pub mod Kept
@@ -14,5 +13,6 @@ pub mod Pieces
 pub mod Running
 mod Samples
 pub mod Sound
+pub mod Stated
 pub mod Whole
 pub mod WordLoops

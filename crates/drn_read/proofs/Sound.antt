@@ -13,7 +13,7 @@ use Rattle.drn_read.specs.Reading.{said, end_fault, model}
 use Rattle.drn_read.specs.declared.section.Phase.{Phase}
 use Rattle.drn_read.specs.declared.section.Phase.TheVariants as phase
 use Rattle.drn_read.proofs.Declared.{Stays, header_stays}
-use Rattle.drn_read.proofs.Growing.{model_stays, at_none}
+use Rattle.drn_read.proofs.Stated.{model_stays, at_none}
 use Rattle.drn_read.proofs.Kept.{IsState, AreStates, IsSound}
 use Rattle.drn_read.proofs.Whole.{whole_model}
 

@@ -30,7 +30,7 @@ use Rattle.drn_read.specs.declared.error.DrnError.{DrnError}
 use Rattle.drn_read.specs.declared.section.Section.TheVariants.{Model}
 use Rattle.drn_read.specs.declared.state.Transition.{Transition}
 use Rattle.drn_read.proofs.Declared.{first_none}
-use Rattle.drn_read.proofs.Growing.{some_choice}
+use Rattle.drn_read.proofs.Stated.{some_choice}
 use Rattle.drn_read.proofs.Kept.{IsChoice, IsState, AreStates, IsSound}
 use Rattle.drn_read.proofs.Lists.{any_false, find_none, first_within, sum_by-map, sum_by-same, AllPairs-map, All-flat_map, All-from_flat_map}
 
