@@ -1,7 +1,8 @@
 -- A certificate worked by hand: a state with two choices, of which one leads to the goal with p and the other with 1 - p.
 use Rattle.std.proofs.Common.{◌≡◌, ℕ, zero, suc, ◌^◌, true, false, List, [], ◌∷◌, All, ℤ, pos, ◌*ℤ◌, ◌≤ℤ◌, refl, arith}
 use Rattle.std.proofs.lemmas.List.Elements.{All-cons, All-nil}
-use Rattle.lift_model.specs.Model.{Entry, is_goal, choices}
+use Rattle.lift_model.specs.declared.entry.Entry.{Entry}
+use Rattle.lift_model.specs.Model.{is_goal, choices}
 use Rattle.lift_model.proofs.Samples.{twin, toss_row, other_row, sink_row}
 use Rattle.lift_grid.specs.Rectangle.{Spans}
 use Rattle.corner_lift.specs.Corner.{AtCorners, corner_sum, whole}

@@ -3,7 +3,7 @@ use Rattle.std.proofs.Common.{◌≡◌, ℕ, ◌^◌, ◌<◌, ◌≤◌, true,
 use Rattle.std.proofs.lemmas.List.Elements.{All-head, All-cons, All-nil}
 use Rattle.lift_poly.proofs.Ring.{linear, mul-comm, one-mul}
 use Rattle.lift_model.specs.Process.{weighted_sum}
-use Rattle.lift_model.specs.Model.{Entry}
+use Rattle.lift_model.specs.declared.entry.Entry.{Entry}
 use Rattle.lift_model.specs.Chain.{ChainData, chain_row, chain_model}
 use Rattle.lift_model.proofs.Chains.{choices-chain_model, choices_past}
 use Rattle.corner_lift.specs.Corner.{AtCorners, corner_sum, whole}

@@ -1,15 +1,10 @@
 -- Parameter lifting (Quatmann, Dehnert, Jansen, Junges and Katoen, ATVA 2016): each row of a model has parameters of its own, and over a rectangle of values its extremes are at the corners. Here is what a corner of a row is, and what the row weighs there.
-use Rattle.std.specs.Prelude.{ℕ, zero, suc, ◌+◌, ◌/◌, ◌%◌, ◌^◌, ◌<◌, List, [], ◌∷◌, ℤ, pos, ◌*ℤ◌, bit_or}
+use Rattle.std.specs.Prelude.{ℕ, zero, suc, ◌+◌, ◌/◌, ◌%◌, ◌^◌, ◌<◌, List, [], ◌∷◌, ℤ, pos, ◌*ℤ◌}
 use Rattle.lift_poly.specs.Polynomial.{Valuation}
-use Rattle.lift_poly.specs.Arithmetic as polynomial
 use Rattle.lift_grid.specs.Rectangle.{Spans, end_of}
 use Rattle.lift_model.specs.Process.{power, weighted_sum}
-use Rattle.lift_model.specs.Model.{Entry, ModelData, moves_at}
-
--- the set of the parameters that occur in a row
-abbrev pub support : List Entry → ℕ
-support [] = 0
-support (entry ∷ row) = bit_or (polynomial.support entry.terms) (support row)
+use Rattle.lift_model.specs.declared.entry.Entry.{Entry}
+use Rattle.lift_model.specs.Model.{ModelData, support, moves_at}
 
 -- how many of the declared parameters are in the set
 abbrev pub width : Spans → ℕ → ℕ

@@ -1,9 +1,10 @@
--- A tree that was read has parameters among the names, and literals with a denominator above 0.
-use Rattle.std.proofs.Common.{◌≡◌, ℕ, zero, suc, ◌+◌, ◌-◌, ◌*◌, ◌/◌, ◌^◌, ◌<◌, ◌==◌, Bool, true, false, cond, refl, List, [], ◌∷◌, length, ℤ, pos, ◌<ℤ◌, unsigned_abs, sym, subst, ◌∙◌, arith, Option, Some, None, Result, Ok, Err, pow-suc}
-use Rattle.std.specs.Prelude.{position, nat_lt}
+-- A tree that was read has parameters among the names, and literals in lowest terms with a denominator above 0.
+use Rattle.std.proofs.Common.{◌≡◌, ℕ, zero, suc, ◌+◌, ◌-◌, ◌*◌, ◌/◌, ◌^◌, ◌<◌, ◌==◌, Bool, true, false, cond, refl, List, [], ◌∷◌, length, ℤ, pos, ◌<ℤ◌, unsigned_abs, sym, ap, subst, ◌∙◌, arith, Option, Some, None, Result, Ok, Err, pow-suc}
+use Rattle.std.specs.Prelude.{position, nat_lt, nat_le}
 use Rattle.std.specs.List.{position_or_len}
 use Rattle.std.specs.Str.{bytes_eq}
 use Rattle.std.proofs.Math.Nat.{div-mul_cancel}
+use Rattle.std.proofs.lemmas.Bool.{leb-false, or_parts}
 use Rattle.std.proofs.lemmas.Bool.Decides.{nat_tests}
 use Rattle.lift_frac.specs.Gcd.{gcd}
 use Rattle.lift_frac.specs.Ratio.{Ratio, lowest, is_wide, fraction}
@@ -11,7 +12,8 @@ use Rattle.lift_frac.specs.Literal as lit
 use Rattle.lift_frac.specs.Literal.{literal_at, is_literal, number, up, down, is_far, scaled, value_of, reading}
 use Rattle.lift_frac.specs.declared.error.FracError.{FracError}
 use Rattle.lift_frac.specs.declared.error.FracError.TheVariants.{Wide, BadLiteral}
-use Rattle.lift_frac.proofs.Euclid.{gcd_is}
+use Rattle.lift_frac.proofs.Euclid.{gcd_is, positive, gcd-one}
+use Rattle.lift_frac.proofs.LowestTerms.{gcd-quotients, size_above}
 use Rattle.lift_poly.proofs.Ring.{linear}
 use Rattle.drn_lexer.specs.declared.symbol.SymbolForm.{SymbolForm}
 use Rattle.drn_lexer.specs.declared.symbol.SymbolForm.TheVariants as form
@@ -19,9 +21,16 @@ use Rattle.drn_expr.specs.Trees.{Expr, Literal, Parameter, Sum, Difference, Prod
 use Rattle.drn_expr.specs.Grammar.{Symbol, Parsed, value, term, factor, more_terms, more_factors, joins_terms, joins_factors, closed, ended, tree, literal_tree, name_tree}
 use Rattle.drn_expr.proofs.Forms.{unary, paren, factor_by, factor-is, more_by, more_terms-is, more_factors-is}
 
--- the parameters of a tree are below k, and its literals have a denominator above 0
+-- a ratio in lowest terms, with a denominator above 0 and parts that are small
+pub record IsNumber (q : Ratio) : Type 0 where
+  pub positive : pos 0 <ℤ q.den
+  pub num : unsigned_abs q.num < 2 ^ 62
+  pub den : unsigned_abs q.den < 2 ^ 62
+  pub lowest : gcd (unsigned_abs q.num) (unsigned_abs q.den) ≡ 1
+
+-- the parameters of a tree are below k, and its literals are such ratios
 abbrev pub Fits : ℕ → Expr → Type 0
-Fits k (Literal q) = pos 0 <ℤ q.den
+Fits k (Literal q) = IsNumber q
 Fits k (Parameter i) = i < k
 Fits k (Sum a b) = Fits k a × Fits k b
 Fits k (Difference a b) = Fits k a × Fits k b
@@ -39,15 +48,26 @@ quotient_above : (q g d : ℕ) → q * g ≡ d → 0 < d → 0 < q
 quotient_above zero g d e h = absurd (omega arith)
 quotient_above (suc q) g d e h = omega arith
 
-lowest_above : (n : ℤ) (d : ℕ) → 0 < d → pos 0 <ℤ (lowest n (pos d)).den
-lowest_above n d h =
+lowest_number : (n : ℤ) (d : ℕ) → 0 < d → is_wide (lowest n (pos d)) ≡ false → IsNumber (lowest n (pos d))
+lowest_number n d h narrow =
     let g : ℕ = gcd (unsigned_abs n) d in
-    let some = quotient_above (d / g) g d (div-mul_cancel g (gcd_is (unsigned_abs n) d).1) h in
-    omega (arith, linear, some)
+    let is = gcd_is (unsigned_abs n) d in
+    let above : 0 < g = positive (unsigned_abs n) d g is h in
+    let some = quotient_above (d / g) g d (div-mul_cancel g is.1) h in
+    let small = or_parts (nat_le (2 ^ 62) (unsigned_abs (lowest n (pos d)).num)) (nat_le (2 ^ 62) (d / g)) narrow in
+    record {
+      positive = omega (arith, linear, some);
+      num = leb-false (2 ^ 62) (unsigned_abs (lowest n (pos d)).num) small.0;
+      den = leb-false (2 ^ 62) (d / g) small.1;
+      lowest = ap (λ k. gcd k (d / g)) (size_above n (pos d) g (λ e. omega (arith, linear, e))) ∙ gcd-quotients (unsigned_abs n) d g above is;
+    }
 
-narrow_above : (q r : Ratio) (b : Bool) → cond b (Err Wide) (Ok q) ≡ Ok r → pos 0 <ℤ q.den → pos 0 <ℤ r.den
-narrow_above q r true e h = cc
-narrow_above q r false e h = let f : q ≡ r = cc in subst (λ (p : Ratio). pos 0 <ℤ p.den) f h
+narrow_number : (q r : Ratio) (b : Bool) → cond b (Err Wide) (Ok q) ≡ Ok r → (b ≡ false → IsNumber q) → IsNumber r
+narrow_number q r true e h = cc
+narrow_number q r false e h = let f : q ≡ r = cc in subst IsNumber f (h refl)
+
+no_number : IsNumber (record { num = pos 0; den = pos 1 })
+no_number = record { positive = omega (arith, linear); num = omega arith; den = omega arith; lowest = gcd-one 0 }
 
 scaled_by : ℕ → ℕ → ℕ → Bool → Result Ratio FracError
 scaled_by n u d true = Err Wide
@@ -61,37 +81,37 @@ reading_by : lit.Literal → Bool → Result Ratio FracError
 reading_by l true = value_of l
 reading_by l false = Err BadLiteral
 
-scaled_above : (n u d : ℕ) (b : Bool) (r : Ratio) → scaled_by n u d b ≡ Ok r → pos 0 <ℤ r.den
+scaled_number : (n u d : ℕ) (b : Bool) (r : Ratio) → scaled_by n u d b ≡ Ok r → IsNumber r
 unfolding scaled_by
-scaled_above n u d true r e = cc
-scaled_above n u d false r e =
+scaled_number n u d true r e = cc
+scaled_number n u d false r e =
     let q = lowest (pos (n * 10 ^ (u - d))) (pos (10 ^ (d - u))) in
-    narrow_above q r (is_wide q) e (lowest_above (pos (n * 10 ^ (u - d))) (10 ^ (d - u)) (ten_above (d - u)))
+    narrow_number q r (is_wide q) e (lowest_number (pos (n * 10 ^ (u - d))) (10 ^ (d - u)) (ten_above (d - u)))
 
 scaled-is : (n u d : ℕ) → scaled n u d ≡ scaled_by n u d (is_far n u d)
 unfolding scaled_by
 scaled-is n u d = refl
 
-value_above : (n u d : ℕ) (b : Bool) (r : Ratio) → value_by n u d b ≡ Ok r → pos 0 <ℤ r.den
+value_number : (n u d : ℕ) (b : Bool) (r : Ratio) → value_by n u d b ≡ Ok r → IsNumber r
 unfolding value_by
-value_above n u d true r e = let f : record { num = pos 0; den = pos 1 } ≡ r = cc in subst (λ (p : Ratio). pos 0 <ℤ p.den) f (omega (arith, linear))
-value_above n u d false r e = scaled_above n u d (is_far n u d) r (sym (scaled-is n u d) ∙ e)
+value_number n u d true r e = let f : record { num = pos 0; den = pos 1 } ≡ r = cc in subst IsNumber f no_number
+value_number n u d false r e = scaled_number n u d (is_far n u d) r (sym (scaled-is n u d) ∙ e)
 
 value-is : (l : lit.Literal) → value_of l ≡ value_by (number l) (up l) (down l) (number l == 0)
 unfolding value_by
 value-is l = refl
 
-reading_above_by : (l : lit.Literal) (b : Bool) (r : Ratio) → reading_by l b ≡ Ok r → pos 0 <ℤ r.den
+reading_number_by : (l : lit.Literal) (b : Bool) (r : Ratio) → reading_by l b ≡ Ok r → IsNumber r
 unfolding reading_by
-reading_above_by l true r e = value_above (number l) (up l) (down l) (number l == 0) r (sym (value-is l) ∙ e)
-reading_above_by l false r e = cc
+reading_number_by l true r e = value_number (number l) (up l) (down l) (number l == 0) r (sym (value-is l) ∙ e)
+reading_number_by l false r e = cc
 
 reading-is : (text : List ℕ) → reading text ≡ reading_by (literal_at text).0 (is_literal text)
 unfolding reading_by
 reading-is text = refl
 
-reading_above : (text : List ℕ) (r : Ratio) → reading text ≡ Ok r → pos 0 <ℤ r.den
-reading_above text r e = reading_above_by (literal_at text).0 (is_literal text) r (sym (reading-is text) ∙ e)
+reading_number : (text : List ℕ) (r : Ratio) → reading text ≡ Ok r → IsNumber r
+reading_number text r e = reading_number_by (literal_at text).0 (is_literal text) r (sym (reading-is text) ∙ e)
 
 -- ---- what is parsed fits
 
@@ -114,7 +134,7 @@ unfolding Good
 closed_good k e [] h = tt
 closed_good k e (x ∷ s) h = closed_form k e x s x.form h
 
-literal_good : (k : ℕ) (o : Result Ratio FracError) (s : List Symbol) → ((r : Ratio) → o ≡ Ok r → pos 0 <ℤ r.den) → Good k (literal_tree o s)
+literal_good : (k : ℕ) (o : Result Ratio FracError) (s : List Symbol) → ((r : Ratio) → o ≡ Ok r → IsNumber r) → Good k (literal_tree o s)
 unfolding Good
 literal_good k (Err c) s h = tt
 literal_good k (Ok q) s h = h q refl
@@ -195,7 +215,7 @@ mutual
   factor_good (suc n) names depth (x ∷ s) =
       subst (Good (length names)) (sym (factor-is n names depth x s))
       (factor_form (length names) _ _ _ _ depth x.form (factor_good n names (depth + 1) s) (value_good n names (depth + 1) s)
-      (literal_good (length names) (reading x.bytes) s (reading_above x.bytes))
+      (literal_good (length names) (reading x.bytes) s (reading_number x.bytes))
       (name_good (length names) (position (bytes_eq x.bytes) names) s
       (λ i e. place_below (position_or_len (bytes_eq x.bytes) names) (length names) i (nat_lt (position_or_len (bytes_eq x.bytes) names) (length names)) refl e)))
 

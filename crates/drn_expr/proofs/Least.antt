@@ -14,11 +14,11 @@ use Rattle.drn_expr.specs.RatPolys.{OverOne, common_divisor, lowest, is_wide, na
 use Rattle.drn_expr.specs.declared.error.ExprError.TheVariants.{Wide}
 use Rattle.drn_expr.proofs.Divisors.{common_divides}
 
-positive_divisor : (g d : ℕ) → g ∣ d → 0 < d → 0 < g
+pub positive_divisor : (g d : ℕ) → g ∣ d → 0 < d → 0 < g
 positive_divisor zero d h above = let e = mod-eq-zero_of_dvd zero h in absurd (omega (arith, e))
 positive_divisor (suc g) d h above = omega arith
 
-quotient_positive : (q g d : ℕ) → q * g ≡ d → 0 < d → 0 < q
+pub quotient_positive : (q g d : ℕ) → q * g ≡ d → 0 < d → 0 < q
 quotient_positive zero g d e h = absurd (omega arith)
 quotient_positive (suc q) g d e h = omega arith
 

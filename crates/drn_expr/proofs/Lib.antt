@@ -10,5 +10,6 @@ pub mod Operands
 pub mod Places
 pub mod Sizes
 pub mod Steps
+pub mod Valid
 pub mod Whole
 pub mod Written

@@ -22,21 +22,22 @@ use Rattle.drn_expr.proofs.Steps.{cancel, positive_product, sum_step, product_st
 abbrev ArePositive : Valuation → Type 0
 ArePositive v = All (λ (x : ℤ × ℤ). pos 0 <ℤ x.1) v
 
-bind_ok : {A B : Type 0} (r : Result A ExprError) (f : A → Result B ExprError) (y : B) → (r >>= f) ≡ Ok y → (x : A) × (r ≡ Ok x) × (f x ≡ Ok y)
+-- a step that ends well has given something to the next one, which ends well
+pub bind_ok : {A B : Type 0} (r : Result A ExprError) (f : A → Result B ExprError) (y : B) → (r >>= f) ≡ Ok y → (x : A) × (r ≡ Ok x) × (f x ≡ Ok y)
 bind_ok (Ok x) f y e = (x, refl, e)
 bind_ok (Err c) f y e = cc
 
-if_ok : (b : Bool) (n : Result OverOne ExprError) (c : ExprError) (p : OverOne) → cond b n (Err c) ≡ Ok p → (b ≡ true) × (n ≡ Ok p)
+pub if_ok : (b : Bool) (n : Result OverOne ExprError) (c : ExprError) (p : OverOne) → cond b n (Err c) ≡ Ok p → (b ≡ true) × (n ≡ Ok p)
 if_ok true n c p e = (refl, e)
 if_ok false n c p e = cc
 
-same_number : (m n : ℕ) → (m == n) ≡ true → m ≡ n
+pub same_number : (m n : ℕ) → (m == n) ≡ true → m ≡ n
 same_number m n e = grind (arith, nat_tests)
 
 above : (n : ℕ) → 0 < n → pos 0 <ℤ pos n
 above n h = omega (arith, linear)
 
-product_above : (a b : ℕ) → 0 < a → 0 < b → 0 < a * b
+pub product_above : (a b : ℕ) → 0 < a → 0 < b → 0 < a * b
 product_above zero b h k = absurd (omega arith)
 product_above (suc a) zero h k = absurd (omega arith)
 product_above (suc a) (suc b) h k = omega arith
@@ -213,7 +214,7 @@ same_poly v p q r e h = subst (λ (t : OverOne). Denotes v t r) e h
 
 pub expands : (v : Valuation) (e : Expr) (p : OverOne) → ArePositive v → Fits (length v) e → expansion e ≡ Ok p → HasMeaning v e p
 unfolding expansion meaning
-expands v (Literal q) p h fits e = record { worth = (q.num, q.den); is = refl; denotes = same_poly v _ p _ (cc) (literal_denotes v q fits) }
+expands v (Literal q) p h fits e = record { worth = (q.num, q.den); is = refl; denotes = same_poly v _ p _ (cc) (literal_denotes v q fits.positive) }
 expands v (Parameter i) p h fits e = record { worth = at v i; is = refl; denotes = same_poly v _ p _ (cc) (parameter_denotes v i h fits) }
 expands v (Negative a) p h fits e =
     let x = bind_ok (expansion a) (λ x. Ok (negative x)) p e in

@@ -1,5 +1,5 @@
 -- The words of a line, by this project's profile of the DRN format.
-use Rattle.std.specs.Prelude.{ℕ, Bool, false, List, [], ◌∷◌, ◌==◌, ◌&&◌, ◌+◌, not, length, Result, Ok, Err, if◌then◌else◌}
+use Rattle.std.specs.Prelude.{ℕ, Bool, false, List, [], ◌∷◌, ◌==◌, ◌&&◌, ◌+◌, ◌-◌, not, take, drop, length, Result, Ok, Err, if◌then◌else◌}
 use Rattle.std.specs.List.{list_any, position_or_len}
 use Rattle.drn_lexer.specs.Bytes.{is_blank}
 use Rattle.drn_lexer.specs.Cutting.{Piece, pieces_behind}
@@ -23,6 +23,11 @@ word_front b tail =
     if b == 34 then runs_to 34 (Ok Quoted) (Err OpenQuote) tail
     else (if b == 91 then runs_to 93 (Ok Group) (Ok Group) tail
     else (position_or_len is_blank tail, Ok Plain))
+
+-- what a word says: a quoted word without its quotes, and any other word as it stands
+abbrev pub unquoted : WordForm → List ℕ → List ℕ
+unquoted Quoted bytes = take (length bytes - 2) (drop 1 bytes)
+unquoted _ bytes = bytes
 
 -- the words of a line
 abbrev pub words : List ℕ → List (Piece WordKind)

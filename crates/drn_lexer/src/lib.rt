@@ -11,7 +11,7 @@ mod word;
 pub use error::LexError;
 pub use line::{Line, Place, next_line};
 pub use symbol::{Symbol, SymbolForm, next_symbol};
-pub use word::{Word, WordForm, next_word};
+pub use word::{Word, WordForm, next_word, unquoted};
 
 #[cfg(test)]
 mod tests;

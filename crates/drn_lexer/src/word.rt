@@ -4,7 +4,7 @@ ghost use Rattle.drn_lexer.specs.Bytes.{is_blank};
 ghost use Rattle.drn_lexer.specs.Lines.{trimmed_front};
 ghost use Rattle.drn_lexer.specs.Spans.{LiesIn, IsOn, first_word, IsNextWord};
 ghost use Rattle.drn_lexer.specs.Steps.{FrontIs};
-ghost use Rattle.drn_lexer.specs.Words.{words, word_front, begins_open_quote};
+ghost use Rattle.drn_lexer.specs.Words.{words, word_front, begins_open_quote, unquoted};
 
 use crate::bytes::{behind_blanks, is_blank, len_before};
 use crate::error::LexError;
@@ -71,6 +71,18 @@ fn word_front(first: u8, tail: &[u8]) -> Result<(usize, WordForm), LexError>
             Ok((1 + len, WordForm::Group))
         }
         _ => Ok((1 + plain_len(tail), WordForm::Plain)),
+    }
+}
+
+/// What a word says, where these are its form and its bytes: a quoted word without its quotes, and
+/// any other word as it stands. Labels are compared by it.
+pub fn unquoted(form: WordForm, bytes: &[u8]) -> &[u8]
+    ensures { result.now ≡ unquoted form bytes.now }
+{
+    match (form, bytes) {
+        (WordForm::Quoted, [_, inner @ .., _]) => inner,
+        (WordForm::Quoted, _) => &[],
+        _ => bytes,
     }
 }
 

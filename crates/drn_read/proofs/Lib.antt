@@ -1,10 +1,18 @@
+pub mod Bodies
+pub mod Choices
 pub mod Cuts
-pub mod Digits
-pub mod Lines
-pub mod Readers
-pub mod Commons
-pub mod Sums
-pub mod Marks
-pub mod Chains
-pub mod Few
+pub mod Declared
+pub mod Growth
+pub mod Headers
+pub mod Kept
+pub mod Lists
+pub mod Loop
+pub mod Pairing
+pub mod Phases
+pub mod Pieces
+pub mod Running
 mod Samples
+pub mod Sound
+pub mod Stated
+pub mod Whole
+pub mod WordLoops

@@ -9,7 +9,7 @@ use Rattle.std.proofs.lemmas.List.Elements.{All-cons, All-nil}
 use Rattle.lift_poly.specs.Polynomial.{Term}
 use Rattle.lift_poly.proofs.Ring.{linear}
 use Rattle.lift_model.specs.Process.{Move}
-use Rattle.lift_model.specs.Model.{Entry}
+use Rattle.lift_model.specs.declared.entry.Entry.{Entry}
 use Rattle.lift_model.specs.Valid.{IsEntry, IsRow, ChainsAreModels}
 use Rattle.lift_model.specs.Chain.{are_distinct, chain_entry, chain_row, chain_model}
 use Rattle.lift_model.proofs.Chains.{IsChainRow, chain_facts, sum_to-each, both}
@@ -39,7 +39,7 @@ small_number : (n : ℤ) → pos 0 ≤ℤ n → n ≤ℤ pos (2 ^ 62 - 1) → un
 small_number (pos n) least most = omega (arith, linear)
 small_number (negsuc n) least most = absurd (omega (arith, linear))
 
-entry_by_test : (b : Bool) (count target : ℕ) (n : ℤ) → target < count → unsigned_abs n < 2 ^ 100 → (b ≡ false → n ≢ pos 0) → IsEntry count 0 (record { target = target; terms = cond b [] ((0, n) ∷ []) })
+entry_by_test : (b : Bool) (count target : ℕ) (n : ℤ) → target < count → unsigned_abs n < 2 ^ 100 → (b ≡ false → n ≢ pos 0) → IsEntry count 0 (record { target = target; poly = cond b [] ((0, n) ∷ []) })
 entry_by_test true count target n lt small ne = record {
   target = lt;
   polynomial = record { ascending = λ k at. absurd (omega arith); coefficients = λ k d at. absurd (omega arith) };

@@ -4,7 +4,8 @@ use Rattle.std.specs.List.{list_any, list_all}
 use Rattle.std.specs.Ordering.{int_eq}
 use Rattle.lift_poly.specs.Polynomial.{constant}
 use Rattle.lift_model.specs.declared.kind.Kind.TheVariants.{Dtmc}
-use Rattle.lift_model.specs.Model.{Entry, ModelData}
+use Rattle.lift_model.specs.declared.entry.Entry.{Entry}
+use Rattle.lift_model.specs.Model.{ModelData}
 
 -- A chain: its common denominator, for each state whether it is a goal state, its initial state, and for each state the targets with their numbers over the denominator.
 pub record ChainData : Type 0 where
@@ -39,7 +40,7 @@ is_chain c = has_shape c && int_le (pos 1) c.common && int_le c.common (pos (2 ^
 
 -- a transition of a chain, whose number becomes a polynomial without parameters
 abbrev pub chain_entry : ℕ × ℤ → Entry
-chain_entry entry = record { target = entry.0; terms = constant entry.1 }
+chain_entry entry = record { target = entry.0; poly = constant entry.1 }
 
 -- the transitions of a chain's state as the one row of that state
 abbrev pub chain_row : List (ℕ × ℤ) → List Entry

@@ -1,13 +1,10 @@
 -- A parametric Markov model, and the process that it is at a valuation.
-use Rattle.std.specs.Prelude.{ℕ, Bool, false, List, [], ℤ, ◌*ℤ◌, map, slice_index_or}
-use Rattle.lift_poly.specs.Polynomial.{Term, Valuation, weight, denominator}
+use Rattle.std.specs.Prelude.{ℕ, Bool, false, List, [], ◌∷◌, ℤ, ◌*ℤ◌, map, slice_index_or, bit_or}
+use Rattle.lift_poly.specs.Polynomial.{Valuation, weight, denominator}
+use Rattle.lift_poly.specs.Arithmetic as polynomial
 use Rattle.lift_model.specs.declared.kind.Kind.{Kind}
+use Rattle.lift_model.specs.declared.entry.Entry.{Entry}
 use Rattle.lift_model.specs.Process.{Move, Process}
-
--- a transition of a choice: its target, and its polynomial over the model's common denominator
-pub record Entry : Type 0 where
-  pub target : ℕ
-  pub terms : List Term
 
 -- A model: its kind, its common denominator, the names of its parameters in declared order, for each state whether it is a goal state, its initial state, and for each state its choices, each a list of entries.
 pub record ModelData : Type 0 where
@@ -26,9 +23,26 @@ is_goal m s = slice_index_or m.goal s false
 abbrev pub choices : ModelData → ℕ → List (List Entry)
 choices m s = slice_index_or m.states s []
 
+-- the set of the parameters that are in one of these sets
+abbrev pub union : List ℕ → ℕ
+union [] = 0
+union (set ∷ sets) = bit_or set (union sets)
+
+-- the set of the parameters that occur in a row
+abbrev pub support : List Entry → ℕ
+support row = union (map (λ entry. polynomial.support entry.poly) row)
+
+-- the set of the parameters that occur in one of the choices of a state
+abbrev pub choices_support : List (List Entry) → ℕ
+choices_support rows = union (map support rows)
+
+-- the live parameters: those that occur in some row, also of a goal state
+abbrev pub live : ModelData → ℕ
+live m = union (map choices_support m.states)
+
 -- the targets of a choice with their weights at a valuation
 abbrev pub moves_at : Valuation → List Entry → List Move
-moves_at v row = map (λ entry. (entry.target, weight v entry.terms)) row
+moves_at v row = map (λ entry. (entry.target, weight v entry.poly)) row
 
 -- The model at a valuation. The probability of an entry is its weight over the common denominator times the product of the valuation's denominators.
 abbrev pub process_at : ModelData → Valuation → Process

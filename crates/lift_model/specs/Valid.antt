@@ -2,15 +2,16 @@
 use Rattle.std.specs.Prelude.{◌≡◌, ◌≢◌, ℕ, ◌-◌, ◌^◌, ◌<◌, ◌≤◌, true, List, pos, ◌≤ℤ◌, unsigned_abs, length, sum_by, All, AllPairs, Contains}
 use Rattle.lift_poly.specs.Polynomial.{IsPolynomial}
 use Rattle.lift_model.specs.declared.kind.Kind.TheVariants.{Dtmc}
-use Rattle.lift_model.specs.Model.{Entry, ModelData}
+use Rattle.lift_model.specs.declared.entry.Entry.{Entry}
+use Rattle.lift_model.specs.Model.{ModelData}
 use Rattle.lift_model.specs.Chain.{ChainData, is_chain, chain_model}
 
 -- an entry, among so many states and parameters: its sets name declared parameters only, and each coefficient's size is below 2 ^ 100
 pub record IsEntry (states parameters : ℕ) (entry : Entry) : Type 0 where
   pub target : entry.target < states
-  pub polynomial : IsPolynomial entry.terms
-  pub sets : All (λ term. term.0 < 2 ^ parameters) entry.terms
-  pub sizes : All (λ term. unsigned_abs term.1 < 2 ^ 100) entry.terms
+  pub polynomial : IsPolynomial entry.poly
+  pub sets : All (λ term. term.0 < 2 ^ parameters) entry.poly
+  pub sizes : All (λ term. unsigned_abs term.1 < 2 ^ 100) entry.poly
 
 -- a row: no target stands twice
 pub record IsRow (states parameters : ℕ) (row : List Entry) : Type 0 where

@@ -1,0 +1,74 @@
+// Reads the lines before the model.
+ghost use Rattle.std.specs.Prelude.{◌≡◌, ◌≤◌, [], length, OnOk};
+ghost use Rattle.drn_lexer.specs.Lines.{TextLine};
+ghost use Rattle.drn_lexer.specs.Spans.{LiesIn};
+ghost use Rattle.drn_read.specs.Sections.{header};
+ghost use Rattle.drn_read.specs.Judging.{has, header_fault};
+ghost use Rattle.drn_read.specs.Keeping.{header_with};
+ghost use Rattle.drn_read.specs.Shown.{Tells, Spans};
+
+use crate::error::DrnCause;
+use crate::places::Places;
+use crate::section::{Phase, Section};
+use drn_lexer::Line;
+use lift_base::Names;
+use lift_model::Kind;
+use std::alloc::Global;
+
+/// What the lines before the model have said so far.
+#[derive(Drop)]
+pub(crate) struct HeaderReader {
+    alloc: Global,
+    phase: Phase,
+    seen: Vec<Section>,
+    kind: Option<Kind>,
+    names: Names,
+    places: Places,
+    state_count: Option<u128>,
+    choice_count: Option<u128>,
+}
+
+impl std::marker::Model for HeaderReader {
+    ghost use Rattle.std.specs.Prelude.{◌≤◌, length};
+    ghost use Rattle.drn_read.specs.Sections.{Header};
+
+    ghost Value = { Header };
+
+    ghost view = { λ h. record { phase = h.phase; seen = h.seen.items; kind = h.kind; names = h.names; placeholders = h.places; state_count = h.state_count; choice_count = h.choice_count } };
+
+    ghost invariant = { λ h. length h.names ≤ 16 };
+}
+
+impl HeaderReader {
+    /// Nothing was read yet. It takes no memory.
+    pub fn new(alloc: Global) -> Self
+        ensures { result ≡ header [] }
+    {
+        HeaderReader {
+            alloc,
+            phase: Phase::Sections,
+            seen: Vec::new(alloc),
+            kind: None,
+            names: Names::new(alloc),
+            places: Places::new(alloc),
+            state_count: None,
+            choice_count: None,
+        }
+    }
+
+    /// What may stand next.
+    pub fn phase(&self) -> Phase
+        ensures { result ≡ self.now.phase }
+    {
+        self.phase
+    }
+
+    /// Reads a line that is no comment.
+    pub fn read_line(&mut self, text: &[u8], line: Line) -> Result<(), DrnCause>
+        requires { LiesIn line text.now }
+        ensures fault { (source : TextLine) → Spans text.now line source → Tells result (header_fault self.old source) }
+        ensures after { OnOk result ((source : TextLine) → Spans text.now line source → self.new ≡ header_with self.old source) }
+    {
+        Err(DrnCause::Memory)
+    }
+}
