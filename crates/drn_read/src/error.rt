@@ -1,5 +1,5 @@
 ghost use Rattle.std.specs.Prelude.{◌≡◌};
-ghost use Rattle.drn_read.specs.Faults.{lexed, valued};
+ghost use Rattle.drn_read.specs.Faults.{lexed, valued, cause_name, cause_number};
 ghost use Rattle.drn_read.specs.declared.error.DrnCause.TheVariants.{Memory};
 
 use drn_expr::ExprError;
@@ -85,6 +85,97 @@ pub enum DrnCause {
     CommonDenominator,
     /// No memory is left.
     Memory,
+}
+
+impl DrnCause {
+    /// The name of the cause, as it is told.
+    pub fn name(self) -> &'static str
+        ensures { result.now ≡ cause_name self }
+    {
+        match self {
+            DrnCause::NotText => "NotText",
+            DrnCause::LongLine => "LongLine",
+            DrnCause::OpenQuote => "OpenQuote",
+            DrnCause::Syntax => "Syntax",
+            DrnCause::UnknownName => "UnknownName",
+            DrnCause::Power => "Power",
+            DrnCause::SharedParameter => "SharedParameter",
+            DrnCause::ParametricDivisor => "ParametricDivisor",
+            DrnCause::DivisionByZero => "DivisionByZero",
+            DrnCause::Wide => "Wide",
+            DrnCause::Deep => "Deep",
+            DrnCause::Long => "Long",
+            DrnCause::UnsupportedType => "UnsupportedType",
+            DrnCause::MissingSection => "MissingSection",
+            DrnCause::RepeatedSection => "RepeatedSection",
+            DrnCause::UnknownSection => "UnknownSection",
+            DrnCause::RepeatedName => "RepeatedName",
+            DrnCause::UnknownPlace => "UnknownPlace",
+            DrnCause::StateOrder => "StateOrder",
+            DrnCause::ExitRate => "ExitRate",
+            DrnCause::Observation => "Observation",
+            DrnCause::ExtraChoice => "ExtraChoice",
+            DrnCause::NoChoice => "NoChoice",
+            DrnCause::RepeatedTarget => "RepeatedTarget",
+            DrnCause::LimitStates => "LimitStates",
+            DrnCause::LimitChoices => "LimitChoices",
+            DrnCause::LimitTransitions => "LimitTransitions",
+            DrnCause::LimitPlaces => "LimitPlaces",
+            DrnCause::LimitParameters => "LimitParameters",
+            DrnCause::LimitName => "LimitName",
+            DrnCause::LimitValueParameters => "LimitValueParameters",
+            DrnCause::NoState => "NoState",
+            DrnCause::CountMismatch => "CountMismatch",
+            DrnCause::TargetRange => "TargetRange",
+            DrnCause::InitCount => "InitCount",
+            DrnCause::UnknownLabel => "UnknownLabel",
+            DrnCause::CommonDenominator => "CommonDenominator",
+            DrnCause::Memory => "Memory",
+        }
+    }
+
+    /// The number of the cause, from 1 to 22. Causes of one kind share theirs.
+    pub fn number(self) -> u32
+        ensures { result ≡ cause_number self }
+    {
+        match self {
+            DrnCause::NotText | DrnCause::LongLine | DrnCause::OpenQuote => 1,
+            DrnCause::UnknownName
+            | DrnCause::Power
+            | DrnCause::SharedParameter
+            | DrnCause::ParametricDivisor
+            | DrnCause::DivisionByZero
+            | DrnCause::Wide
+            | DrnCause::Deep
+            | DrnCause::Long => 2,
+            DrnCause::Syntax => 3,
+            DrnCause::UnsupportedType => 4,
+            DrnCause::MissingSection => 5,
+            DrnCause::RepeatedSection => 6,
+            DrnCause::UnknownSection => 7,
+            DrnCause::RepeatedName => 8,
+            DrnCause::UnknownPlace => 9,
+            DrnCause::StateOrder => 10,
+            DrnCause::ExitRate | DrnCause::Observation => 11,
+            DrnCause::ExtraChoice => 12,
+            DrnCause::NoChoice => 13,
+            DrnCause::RepeatedTarget => 14,
+            DrnCause::LimitStates
+            | DrnCause::LimitChoices
+            | DrnCause::LimitTransitions
+            | DrnCause::LimitPlaces
+            | DrnCause::LimitParameters
+            | DrnCause::LimitName
+            | DrnCause::LimitValueParameters => 15,
+            DrnCause::NoState => 16,
+            DrnCause::CountMismatch => 17,
+            DrnCause::TargetRange => 18,
+            DrnCause::InitCount => 19,
+            DrnCause::UnknownLabel => 20,
+            DrnCause::CommonDenominator => 21,
+            DrnCause::Memory => 22,
+        }
+    }
 }
 
 /// Where and why a model text is refused. Lines are numbered from 1; the empty text has line 0 alone.
