@@ -2,5 +2,6 @@ pub mod Cuts
 pub mod Numbers
 pub mod Walk
 pub mod Lines
+pub mod Distributions
 pub mod Acts
 mod Samples

@@ -1,6 +1,5 @@
 -- What the one leaf of a report's tree says of a model over a rectangle.
 use Rattle.std.specs.Prelude.{◌≡◌, ◌^◌, ℕ, List, [], ℤ, pos, ⊤}
-use Rattle.lift_model.specs.Chain.{ChainData, chain_model}
 use Rattle.lift_model.specs.Model.{ModelData}
 use Rattle.lift_grid.specs.Rectangle.{Spans}
 use Rattle.corner_lift.specs.Certificate.{IsAccepting, IsLeastUpper}
@@ -15,11 +14,11 @@ abbrev pub IsRightLeaf : ModelData → ℤ → Spans → ℕ → Bound → Leaf 
 IsRightLeaf m d spans w bound (accept x) = IsAccepting m d spans w bound.num bound.den x × IsLeastUpper m d spans w x
 IsRightLeaf m d spans w bound unknown = (x : List ℤ) → IsAccepting m d spans w bound.num bound.den x → ⊥
 
--- the right leaf of a chain, whose region has no sides, over the grid of the job
-abbrev pub IsRightFor : ChainData → JobData → Leaf → Type 0
-IsRightFor c job leaf = IsRightLeaf (chain_model c) (pos (2 ^ job.depth)) [] job.precision job.bound leaf
+-- the right leaf of a model without parameters, whose region has no sides, over the grid of the job
+abbrev pub IsRightFor : ModelData → JobData → Leaf → Type 0
+IsRightFor m job leaf = IsRightLeaf m (pos (2 ^ job.depth)) [] job.precision job.bound leaf
 
 -- an accepting leaf bounds every scheduler
-abbrev pub BoundsSchedulers : ChainData → JobData → Leaf → Type 0
-BoundsSchedulers c job (accept x) = IsBoundedAt (chain_model c) [] job.bound
-BoundsSchedulers c job unknown = ⊤
+abbrev pub BoundsSchedulers : ModelData → JobData → Leaf → Type 0
+BoundsSchedulers m job (accept x) = IsBoundedAt m [] job.bound
+BoundsSchedulers m job unknown = ⊤

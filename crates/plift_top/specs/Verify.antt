@@ -1,12 +1,13 @@
 -- What `verify` answers, and what stands after it.
-use Rattle.std.specs.Prelude.{◌≡◌, ◌^◌, ◌<◌, ◌≤◌, ℕ, List, length, Ok, Err, Result}
+use Rattle.std.specs.Prelude.{◌≡◌, ◌^◌, ◌<◌, ◌≤◌, ℕ, List, length, true, false, Ok, Err, Result}
 use Rattle.std.specs.declared.option.Option.{Option}
 use Rattle.std.specs.Io.KnownBytes.{Appends, Consumes, IsAtEnd}
 use Rattle.lift_base.specs.Outside.{Rose, TakenHas, AppendsFront}
-use Rattle.lift_model.specs.Chain.{ChainData}
-use Rattle.drn_read.specs.FirstForm.{IsFirstForm}
+use Rattle.lift_model.specs.Model.{ModelData}
+use Rattle.drn_read.specs.Reading.{drn}
 use Rattle.plift_top.specs.Job.{JobData}
 use Rattle.plift_top.specs.Report.{Leaf, report_text}
+use Rattle.plift_top.specs.Built.{is_built}
 use Rattle.plift_top.specs.Leaf.{IsRightFor, BoundsSchedulers}
 use Rattle.plift_top.specs.declared.refusal.Refusal.{Refusal}
 use Rattle.plift_top.specs.declared.refusal.Refusal.TheVariants as refusal
@@ -22,18 +23,21 @@ pub record WasRead (P : List ℕ → Type 0) (old new : Option (List ℕ)) : Typ
   pub ended : IsAtEnd new
   pub has : P text
 
--- The text tells a chain, and what was written is the report of that chain, of the job and of the right leaf, which bounds every scheduler where it accepts.
+-- The text stands for a model that is built, and what was written is the report of that model, of the job and of the right leaf, which bounds every scheduler where it accepts.
 pub record Reports (written : List ℕ → Type 0) (job : JobData) (text : List ℕ) : Type 0 where
-  pub chain : ChainData
+  pub model : ModelData
   pub leaf : Leaf
-  pub model : IsFirstForm job.goal text chain
-  pub right : IsRightFor chain job leaf
-  pub schedulers : BoundsSchedulers chain job leaf
-  pub report : written (report_text chain job leaf)
+  pub read : drn text job.goal ≡ Ok model
+  pub built : is_built model ≡ true
+  pub right : IsRightFor model job leaf
+  pub schedulers : BoundsSchedulers model job leaf
+  pub report : written (report_text model job leaf)
 
--- the text tells no chain: it isn't of the first form for the goal label
-abbrev pub TellsNone : List ℕ → List ℕ → Type 0
-TellsNone goal text = (c : ChainData) → IsFirstForm goal text c → ⊥
+-- the text stands for a model that isn't built
+pub record IsUnbuilt (goal text : List ℕ) : Type 0 where
+  pub model : ModelData
+  pub read : drn text goal ≡ Ok model
+  pub unbuilt : is_built model ≡ false
 
 -- What a job comes to: the report is written, or there is a cause. The sink is as it was but for a report or the front of one.
 abbrev pub Verifies : {S K T : Type 0} → (S → Option (List ℕ)) → (S → ℕ) → (K → Option (List ℕ)) → (K → ℕ) → JobData → S → S → K → K → Result T Refusal → Type 0
@@ -41,7 +45,9 @@ Verifies left faults taken counts job source source' out out' (Ok _) =
     WasRead (Reports (Appends (taken out) (taken out')) job) (left source) (left source')
 Verifies left faults taken counts job source source' out out' (Err refusal.WriteFault) =
     WasRead (Reports (AppendsFront (taken out) (taken out')) job) (left source) (left source') × Rose (counts out) (counts out')
-Verifies left faults taken counts job source source' out out' (Err refusal.Model) = WasRead (TellsNone job.goal) (left source) (left source') × (out' ≡ out)
+Verifies left faults taken counts job source source' out out' (Err (refusal.Model error)) =
+    WasRead (λ text. drn text job.goal ≡ Err error) (left source) (left source') × (out' ≡ out)
+Verifies left faults taken counts job source source' out out' (Err refusal.Unbuilt) = WasRead (IsUnbuilt job.goal) (left source) (left source') × (out' ≡ out)
 Verifies left faults taken counts job source source' out out' (Err refusal.ReadFault) = Rose (faults source) (faults source') × (out' ≡ out)
 Verifies left faults taken counts job source source' out out' (Err refusal.TooLong) = TakenHas (λ bytes. text_limit < length bytes) (left source) (left source') × (out' ≡ out)
 Verifies left faults taken counts job source source' out out' (Err refusal.Memory) = out' ≡ out
