@@ -1,3 +1,9 @@
 pub mod Rows
 pub mod Uppers
+pub mod CornerBound
+pub mod RowBound
+pub mod Coefficients
+pub mod Gathering
+pub mod Summing
+pub mod Cases
 pub mod Samples

@@ -1,6 +1,6 @@
 -- Parameter lifting (Quatmann, Dehnert, Jansen, Junges and Katoen, ATVA 2016): each row of a model has parameters of its own, and over a rectangle of values its extremes are at the corners. Here is what a corner of a row is, and what the row weighs there.
-use Rattle.std.specs.Prelude.{ℕ, zero, suc, ◌+◌, ◌/◌, ◌%◌, ◌^◌, ◌<◌, List, [], ◌∷◌, ℤ, pos, ◌*ℤ◌}
-use Rattle.lift_poly.specs.Polynomial.{Valuation}
+use Rattle.std.specs.Prelude.{ℕ, zero, suc, ◌+◌, ◌/◌, ◌%◌, ◌^◌, ◌<◌, List, [], ◌∷◌, ℤ, pos, ◌*ℤ◌, slice_index_or}
+use Rattle.lift_poly.specs.Polynomial.{Valuation, weight}
 use Rattle.lift_grid.specs.Rectangle.{Spans, end_of}
 use Rattle.lift_model.specs.Process.{power, weighted_sum}
 use Rattle.lift_model.specs.declared.entry.Entry.{Entry}
@@ -25,6 +25,14 @@ corner d (span ∷ spans) set c =
 -- P holds at each corner of the row, of which there are 2 to the number of its parameters
 abbrev pub AtCorners : Spans → List Entry → (ℕ → Type 0) → Type 0
 AtCorners spans row P = (c : ℕ) → c < 2 ^ width spans (support row) → P c
+
+-- stands for a place past the end of a row
+abbrev pub no_entry : Entry
+no_entry = record { target = 0; poly = [] }
+
+-- The weight of the row's entry of that number at a corner of the row. Its probability there is the weight over the whole.
+abbrev pub corner_weight : ℤ → Spans → List Entry → ℕ → ℕ → ℤ
+corner_weight d spans row c entry = weight (corner d spans (support row) c) (slice_index_or row entry no_entry).poly
 
 -- the sum over a row of weight times the target's number, at a corner of the row
 abbrev pub corner_sum : ℤ → Spans → List Entry → ℕ → (ℕ → ℤ) → ℤ

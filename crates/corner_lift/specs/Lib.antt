@@ -1,2 +1,5 @@
 pub mod Corner
 pub mod Certificate
+pub mod Stages
+pub mod Case
+pub mod Ends

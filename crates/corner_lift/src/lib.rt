@@ -1,6 +1,10 @@
 //! What rows weigh at the corners of a rectangle, and the certificates that rest on it.
 #![tactic(auto)]
 
-mod row;
+mod case;
+mod chain_row;
+mod ends;
+mod weighted;
 
-pub use row::row_value;
+pub use case::Case;
+pub use chain_row::chain_row_value;

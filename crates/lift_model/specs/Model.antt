@@ -23,6 +23,10 @@ is_goal m s = slice_index_or m.goal s false
 abbrev pub choices : ModelData → ℕ → List (List Entry)
 choices m s = slice_index_or m.states s []
 
+-- the row of a state's choice of that number
+abbrev pub row_at : ModelData → ℕ → ℕ → List Entry
+row_at m s a = slice_index_or (choices m s) a []
+
 -- the set of the parameters that are in one of these sets
 abbrev pub union : List ℕ → ℕ
 union [] = 0

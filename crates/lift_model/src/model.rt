@@ -1,5 +1,5 @@
-ghost use Rattle.std.specs.Prelude.{◌≡◌, ◌<◌, [], false, length, map, slice_index_or};
-ghost use Rattle.lift_model.specs.Model.{choices, live};
+ghost use Rattle.std.specs.Prelude.{◌≡◌, ◌<◌, false, length, map, slice_index_or};
+ghost use Rattle.lift_model.specs.Model.{choices, row_at, live};
 ghost use Rattle.lift_model.specs.Valid.{IsModel};
 
 use crate::kind::Kind;
@@ -118,7 +118,8 @@ impl Model {
     pub fn row(&self, s: u32, a: u32) -> &Row
         requires state { s < length self.now.states }
         requires choice { a < length (choices self.now s) }
-        ensures { result.now ≡ slice_index_or (choices self.now s) a [] }
+        ensures value { result.now ≡ row_at self.now s a }
+        ensures model { IsModel self.now }
     {
         &self.states[s as usize][a as usize]
     }

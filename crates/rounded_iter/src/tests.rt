@@ -1,5 +1,5 @@
 use crate::least_upper;
-use corner_lift::row_value;
+use corner_lift::chain_row_value;
 use lift_model::Chain;
 use std::test::Fail;
 
@@ -40,7 +40,7 @@ fn finds_the_least_vectors(rt: HostRuntime) -> Result<(), Fail> {
     for (chain, sum, first) in [(&quarter, 16, 4), (&tenth, 16, 2), (&again, 32, 8)] {
         let mut lane = [8, 16, 0];
         let mut order = [0, 0, 7];
-        assert_eq!(rt; row_value(chain, 0, &lane), sum);
+        assert_eq!(rt; chain_row_value(chain, 0, &lane), sum);
         least_upper(chain, 4, &mut lane, &mut order);
         assert_eq!(rt; lane, [first, 16, 0]);
     }

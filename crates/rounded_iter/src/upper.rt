@@ -4,7 +4,7 @@ ghost use Rattle.corner_lift.specs.Certificate.{IsLeastUpper};
 ghost use Rattle.rounded_iter.specs.Rising.{IsBelow, IsClosed, IsEnough, room};
 
 use crate::order::targets_first;
-use corner_lift::row_value;
+use corner_lift::chain_row_value;
 use lift_model::Chain;
 use lift_poly::widening_mul;
 
@@ -35,7 +35,7 @@ fn raise(chain: &Chain, top: i64, lane: &mut [i64], s: u32) -> bool
     if number == top {
         return false;
     }
-    let sum = row_value(chain, s, lane);
+    let sum = chain_row_value(chain, s, lane);
     if sum <= widening_mul(number, common) {
         return false;
     }

@@ -5,7 +5,7 @@ use Rattle.lift_model.specs.Chain.{chain_row}
 use Rattle.lift_model.specs.Process.{weighted_sum}
 use Rattle.corner_lift.specs.Certificate.{number}
 use Rattle.corner_lift.proofs.Rows.{IsSummed, row_of, one_more_move, summed_all, corner_sum-chain_row}
-use Rattle.corner_lift.proofs.row.row_value.Goals as goal
+use Rattle.corner_lift.proofs.chain_row.chain_row_value.Goals as goal
 
 -- each target is a state, and each state has its number
 pub bounds-vec-target : goal.bounds-vec-target

@@ -11,7 +11,7 @@ use lift_poly::widening_mul;
 /// state, from 0 to 2 to the 40.
 ///
 /// One multiplication for each entry of the row, and no memory.
-pub fn row_value(chain: &Chain, s: u32, vec: &[i64]) -> i128
+pub fn chain_row_value(chain: &Chain, s: u32, vec: &[i64]) -> i128
     requires state { s < length chain.now.states }
     requires numbers { AreNumbers (chain_model chain.now) 40 vec.now }
     ensures { (d : ℤ) → let row = chain_row (slice_index_or chain.now.states s []) in

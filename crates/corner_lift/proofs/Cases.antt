@@ -1,0 +1,259 @@
+-- What a case gives: rows that are admitted, sizes that fit, and weights that aren't negative at the corners of any rectangle inside the root.
+use Rattle.std.proofs.Common.{◌≡◌, ℕ, zero, suc, ◌+◌, ◌*◌, ◌/◌, ◌%◌, ◌^◌, ◌<◌, ◌≤◌, max, List, [], ◌∷◌, ◌++◌, length, get_or, map, ℤ, pos, negsuc, ◌+ℤ◌, ◌*ℤ◌, neg_ℤ, ◌≤ℤ◌, ◌<ℤ◌, unsigned_abs, All, FitsSigned, refl, sym, ap, ap₂, subst, ◌∙◌, arith, Bool, true, false, cond, nat_eq, bit_or, count_ones, mul-le-mul_left, mul-le-mul_right, mul-le-mul, mul_assoc, le_trans, le_refl, pow-suc, mul_comm}
+use Rattle.std.proofs.Math.Nat.{pow-zero, one-le-pow}
+use Rattle.std.proofs.lemmas.Int.{fits_signed_from_abs, unsigned_abs-mul, ints}
+use Rattle.std.proofs.lemmas.List.Elements.{All-head, All-tail, All-cons, All-nil}
+use Rattle.std.proofs.lemmas.List.Sums.{sum_by-cons}
+use Rattle.std.proofs.lemmas.Nat.{or_lt, pow_pos, ones_le_self}
+use lib.Count.{ones_step}
+use mir.Syntax.{w128}
+use Rattle.lift_poly.specs.Polynomial.{Term, Valuation, weight, denominator}
+use Rattle.lift_poly.specs.Arithmetic as polynomial
+use Rattle.lift_poly.proofs.Ring.{linear, mul-comm, mul-assoc, mul-zero, zero-mul, one-mul, mul-le, as_diff, diffs, diff-same}
+use Rattle.lift_grid.specs.Rectangle.{Spans, IsSpan, AreSpans, spans_of, end_of, Inside}
+use Rattle.lift_model.specs.declared.entry.Entry.{Entry}
+use Rattle.lift_model.specs.Process.{Move, power, weighted_sum}
+use Rattle.lift_model.specs.Model.{ModelData, union, support, choices, row_at, moves_at}
+use Rattle.lift_model.specs.Valid.{IsEntry, IsRow, IsModel}
+use Rattle.lift_model.proofs.Sums.{AreNonNegative, weighted_sum-least, weighted_sum-mono}
+use Rattle.corner_lift.specs.Corner.{AtCorners, corner, width, corner_sum, whole, no_entry}
+use Rattle.corner_lift.specs.Certificate.{number, AreNumbers}
+use Rattle.corner_lift.specs.Case.{CaseData, IsCase, IsAdmittedRow, greatest_size, abs_sum, row_coefficient, Within, AreSidesInside}
+use Rattle.corner_lift.specs.Ends.{End, greatest_end}
+use Rattle.corner_lift.proofs.Rows.{number_range}
+use Rattle.corner_lift.proofs.CornerBound.{TermsIn, InsideOn, Inside-on, CornersNonpos, corner_bound, corner-inside, mul-pos_lem}
+use Rattle.corner_lift.proofs.RowBound.{PartOf, terms_in, TermsIn-more, TermsIn-scaled, scaled, weight-scaled_by, less, weight-less, less_in, TermsIn-append, denominator-corner, power-pos, minus-one, row_sum, row_upper, row_lower, between_corners}
+use Rattle.lift_poly.proofs.Weights.{weight-append}
+use Rattle.corner_lift.proofs.Coefficients.{row_total}
+use Rattle.corner_lift.proofs.Summing.{entry_part}
+
+-- ---- sets
+
+-- how many parameters a set has
+pub width-ones : (ss : Spans) (set : ℕ) → set < 2 ^ length ss → width ss set ≡ count_ones set
+width-ones [] set lt = omega (arith, ones_le_self set)
+width-ones (s ∷ ss) set lt =
+    let power : 2 ^ suc (length ss) ≡ 2 * 2 ^ length ss = omega arith in
+    omega (arith, ones_step set, width-ones ss (set / 2) (omega arith))
+
+-- a set has as many parameters in any rectangle
+pub width-within : (ss root : Spans) (set : ℕ) → Within ss root → width ss set ≡ width root set
+width-within [] [] set h = refl
+width-within (s ∷ ss) (r ∷ root) set h = ap (λ n. set % 2 + n) (width-within ss root (set / 2) h.2)
+width-within [] (r ∷ root) set h = absurd h
+width-within (s ∷ ss) [] set h = absurd h
+
+pub length-within : (ss root : Spans) → Within ss root → length ss ≡ length root
+length-within [] [] h = refl
+length-within (s ∷ ss) (r ∷ root) h = ap suc (length-within ss root h.2)
+length-within [] (r ∷ root) h = absurd h
+length-within (s ∷ ss) [] h = absurd h
+
+terms_below : (n : ℕ) (terms : List Term) → All (λ term. term.0 < 2 ^ n) terms → polynomial.support terms < 2 ^ n
+terms_below n [] h = pow_pos n
+terms_below n (t ∷ terms) h = let below : Term → Type 0 = λ term. term.0 < 2 ^ n in or_lt n t.0 (polynomial.support terms) (All-head below t terms h) (terms_below n terms (All-tail below t terms h))
+
+-- a row has declared parameters only
+pub support_below : (states n : ℕ) (row : List Entry) → All (IsEntry states n) row → support row < 2 ^ n
+support_below states n [] h = pow_pos n
+support_below states n (e ∷ row) h =
+    or_lt n (polynomial.support e.poly) (support row) (terms_below n e.poly (All-head (IsEntry states n) e row h).sets) (support_below states n row (All-tail (IsEntry states n) e row h))
+
+-- ---- sizes
+
+abs-between : (l n h : ℤ) → l ≤ℤ n → n ≤ℤ h → unsigned_abs n ≤ max (unsigned_abs l) (unsigned_abs h)
+abs-between l n h low high = omega (arith, ints, low, high)
+
+-- no end inside the root is larger than the root's
+pub size-within : (d : ℤ) (ss root : Spans) → AreSpans ss → Within ss root → greatest_size d ss ≤ greatest_size d root
+size-within d [] [] spans h = le_refl (unsigned_abs d)
+size-within d (s ∷ ss) (r ∷ root) spans h =
+    let rising = spans.0.rising in
+    let low = abs-between r.0 s.0 r.1 h.0 (omega (arith, linear, rising, h.1)) in
+    let high = abs-between r.0 s.1 r.1 (omega (arith, linear, rising, h.0)) h.1 in
+    omega (arith, low, high, size-within d ss root spans.1 h.2)
+size-within d [] (r ∷ root) spans h = absurd h
+size-within d (s ∷ ss) [] spans h = absurd h
+
+pub power-le : (a b n : ℕ) → a ≤ b → a ^ n ≤ b ^ n
+power-le a b zero le = rw (pow-zero a, pow-zero b) (omega arith)
+power-le a b (suc n) le = rw (pow-suc a n, pow-suc b n) (mul-le-mul (power-le a b n le) le)
+
+-- products over ends that are no larger than the root's fit with the width of the row
+pub ends_room : (sum small great n m : ℕ) → small ≤ great → n ≡ m → sum * small ^ n ≤ sum * great ^ m
+ends_room sum small great n m le e = rw e (mul-le-mul_left sum (power-le small great m le))
+
+-- ---- rows of a case
+
+pub row_of_model : (m : ModelData) (s a : ℕ) → IsModel m → s < length m.states → a < length (choices m s) → IsRow (length m.states) (length m.names) (row_at m s a)
+row_of_model m s a is state choice = is.rows s [] state a [] choice
+
+pub admitted_row : (k : CaseData) (s a : ℕ) → IsCase k → s < length k.model.states → a < length (choices k.model s) → IsAdmittedRow k.model k.d k.root k.w (row_at k.model s a)
+admitted_row k s a is state choice = is.rows s [] state a [] choice
+
+-- a number from 0 to 2 ^ w has at most that size
+pub number_size : (n : ℤ) (w : ℕ) → pos 0 ≤ℤ n → n ≤ℤ pos (2 ^ w) → unsigned_abs n ≤ 2 ^ w
+number_size (pos n) w least most = omega (arith, linear)
+number_size (negsuc n) w least most = absurd (omega (arith, linear))
+
+pub number_sizes : (m : ModelData) (w : ℕ) (x : List ℤ) → AreNumbers m w x → All (λ n. unsigned_abs n ≤ 2 ^ w) x
+number_sizes m w x h = λ i d lt. let here = h.range i d lt in number_size (get_or x i d) w here.0 here.1
+
+-- ---- one polynomial
+
+-- what holds of a polynomial at each corner of a set that it is part of holds at each valuation inside
+poly_upper : (d : ℤ) → pos 0 <ℤ d → (ss : Spans) → AreSpans ss → (set : ℕ) (terms : List Term) (k : ℤ) → PartOf (polynomial.support terms) set → ((c : ℕ) → c < 2 ^ width ss set → weight (corner d ss set c) terms ≤ℤ (k *ℤ power d (width ss set))) → (v : Valuation) → InsideOn d ss set v → weight v terms ≤ℤ (k *ℤ denominator v)
+unfolding CornersNonpos
+poly_upper d positive ss spans set terms k part h v inside =
+    let all = terms ++ less k in
+    let total : (v : Valuation) → weight v all ≡ weight v terms +ℤ neg_ℤ (k *ℤ denominator v) = λ v. weight-append v terms (less k) ∙ ap (λ z. weight v terms +ℤ z) (weight-less v k) in
+    let within = TermsIn-append set terms (less k) (TermsIn-more (polynomial.support terms) set terms part (terms_in terms)) (less_in set k) in
+    let at_corners : CornersNonpos d ss set all =
+    λ c lt. let e = denominator-corner d ss set c in
+    let bound : weight (corner d ss set c) terms ≤ℤ (k *ℤ denominator (corner d ss set c)) = rw e (h c lt) in
+    rw (total (corner d ss set c)) (omega (arith, linear, bound)) in
+    let result : weight v all ≤ℤ pos 0 = corner_bound d positive ss set all v within spans at_corners inside in
+    omega (arith, linear, result, total v)
+
+neg_right : (a b : ℤ) → a *ℤ neg_ℤ b ≡ neg_ℤ (a *ℤ b)
+neg_right a b = rw (as_diff a, as_diff b) (simp diffs (diff-same _ _ _ _ (omega arith)))
+
+neg_left : (a b : ℤ) → neg_ℤ a *ℤ b ≡ neg_ℤ (a *ℤ b)
+neg_left a b = rw (as_diff a, as_diff b) (simp diffs (diff-same _ _ _ _ (omega arith)))
+
+support-scaled : (k : ℤ) (terms : List Term) → polynomial.support terms ≡ polynomial.support (scaled k terms)
+unfolding scaled
+support-scaled k [] = refl
+support-scaled k (t ∷ terms) = ap (bit_or t.0) (support-scaled k terms)
+
+scaled_part : (k : ℤ) (terms : List Term) (set : ℕ) → PartOf (polynomial.support terms) set → PartOf (polynomial.support (scaled k terms)) set
+scaled_part k terms set part = subst (λ n. PartOf n set) (support-scaled k terms) part
+
+minus : ℤ
+minus = neg_ℤ (pos 1)
+
+times-minus : (a : ℤ) → a *ℤ neg_ℤ (pos 1) ≡ neg_ℤ a
+times-minus a = mul-comm a (neg_ℤ (pos 1)) ∙ minus-one a
+
+poly_lower : (d : ℤ) → pos 0 <ℤ d → (ss : Spans) → AreSpans ss → (set : ℕ) (terms : List Term) (k : ℤ) → PartOf (polynomial.support terms) set → ((c : ℕ) → c < 2 ^ width ss set → (k *ℤ power d (width ss set)) ≤ℤ weight (corner d ss set c) terms) → (v : Valuation) → InsideOn d ss set v → (k *ℤ denominator v) ≤ℤ weight v terms
+poly_lower d positive ss spans set terms k part h v inside =
+    let one : ℤ = neg_ℤ (pos 1) in
+    let up = poly_upper d positive ss spans set (scaled one terms) (neg_ℤ k) (scaled_part one terms set part)
+    (λ c lt. omega (arith, linear, h c lt, weight-scaled_by (corner d ss set c) one terms, times-minus (weight (corner d ss set c) terms), neg_left k (power d (width ss set)))) v inside in
+    omega (arith, linear, up, weight-scaled_by v one terms, times-minus (weight v terms), neg_left k (denominator v))
+
+-- the corner bound for one polynomial
+pub poly_between : (d : ℤ) → pos 0 <ℤ d → (ss : Spans) → AreSpans ss → (set : ℕ) (terms : List Term) (low high : ℤ) → PartOf (polynomial.support terms) set → ((c : ℕ) → c < 2 ^ width ss set → low ≤ℤ weight (corner d ss set c) terms) → ((c : ℕ) → c < 2 ^ width ss set → weight (corner d ss set c) terms ≤ℤ high) → (v : Valuation) → InsideOn d ss set v → ((low *ℤ denominator v) ≤ℤ (weight v terms *ℤ power d (width ss set))) × ((weight v terms *ℤ power d (width ss set)) ≤ℤ (high *ℤ denominator v))
+poly_between d positive ss spans set terms low high part lower upper v inside =
+    let p = power d (width ss set) in
+    let p_least : pos 0 ≤ℤ p = omega (arith, linear, power-pos d (width ss set) positive) in
+    let up = poly_upper d positive ss spans set (scaled p terms) high (scaled_part p terms set part)
+    (λ c lt. omega (arith, linear, weight-scaled_by (corner d ss set c) p terms, mul-le p (weight (corner d ss set c) terms) high p_least (upper c lt), mul-comm p (weight (corner d ss set c) terms), mul-comm p high)) v inside in
+    let down = poly_lower d positive ss spans set (scaled p terms) low (scaled_part p terms set part)
+    (λ c lt. omega (arith, linear, weight-scaled_by (corner d ss set c) p terms, mul-le p low (weight (corner d ss set c) terms) p_least (lower c lt), mul-comm p (weight (corner d ss set c) terms), mul-comm p low)) v inside in
+    (omega (arith, linear, down, weight-scaled_by v p terms), omega (arith, linear, up, weight-scaled_by v p terms))
+
+-- ---- weights at the corners of rectangles inside the root
+
+module _ (k : CaseData) (row : List Entry) (ss : Spans) (positive : pos 0 <ℤ k.d) (root : AreSpans k.root) (spans : AreSpans ss) (within : Within ss k.root) (admitted : IsAdmittedRow k.model k.d k.root k.w row) where
+  -- no weight is negative
+  pub corner_least : (c : ℕ) → All (λ entry. pos 0 ≤ℤ weight (corner k.d ss (support row) c) entry.poly) row
+  corner_least c i d lt =
+      let entry = get_or row i d in
+      let v = corner k.d ss (support row) c in
+      let bound = poly_lower k.d positive k.root root (support row) entry.poly (pos 0) (entry_part row i d lt)
+      (λ b at. omega (arith, linear, admitted.least b at i d lt, zero-mul (power k.d (width k.root (support row))))) v
+      (corner-inside k.d positive ss k.root spans within (support row) c) in
+      omega (arith, linear, bound, zero-mul (denominator v))
+
+  -- a row's weights sum to the whole
+  pub corner_total : (c : ℕ) → row_sum (corner k.d ss (support row) c) (λ s. pos 1) row ≡ whole k.model k.d k.root row
+  corner_total c =
+      row_total k.model.common row admitted.sum (corner k.d ss (support row) c)
+      ∙ ap (λ z. k.model.common *ℤ z) (denominator-corner k.d ss (support row) c ∙ ap (power k.d) (width-within ss k.root (support row) within))
+
+  moves_least : (v : Valuation) (entries : List Entry) → All (λ entry. pos 0 ≤ℤ weight v entry.poly) entries → AreNonNegative (moves_at v entries)
+  moves_least v [] h = tt
+  moves_least v (e ∷ entries) h = let least : Entry → Type 0 = λ entry. pos 0 ≤ℤ weight v entry.poly in (All-head least e entries h, moves_least v entries (All-tail least e entries h))
+
+  pub corner_moves : (c : ℕ) → AreNonNegative (moves_at (corner k.d ss (support row) c) row)
+  corner_moves c = moves_least (corner k.d ss (support row) c) row (corner_least c)
+
+  constant_sum : (z : ℤ) (moves : List Move) → weighted_sum (λ s. z) moves ≡ z *ℤ weighted_sum (λ s. pos 1) moves
+  constant_sum z [] = sym (mul-zero z)
+  constant_sum z (move ∷ moves) =
+      let rest = weighted_sum (λ s. pos 1) moves in
+      let e : move.1 *ℤ z +ℤ z *ℤ rest ≡ z *ℤ (move.1 *ℤ pos 1 +ℤ rest) = spread move.1 z rest in
+      ap (λ r. move.1 *ℤ z +ℤ r) (constant_sum z moves) ∙ e
+    where
+      spread : (a z r : ℤ) → a *ℤ z +ℤ z *ℤ r ≡ z *ℤ (a *ℤ pos 1 +ℤ r)
+      spread a z r = rw (as_diff a, as_diff z, as_diff r) (simp diffs (diff-same _ _ _ _ (omega arith)))
+
+  -- over numbers from 0 to top a row's sum at a corner lies from 0 to top times the whole
+  pub corner_sum_range : (c : ℕ) (z : ℕ → ℤ) (top : ℤ) → ((s : ℕ) → (pos 0 ≤ℤ z s) × (z s ≤ℤ top)) → (pos 0 ≤ℤ corner_sum k.d ss row c z) × (corner_sum k.d ss row c z ≤ℤ (top *ℤ whole k.model k.d k.root row))
+  corner_sum_range c z top range =
+      let moves = moves_at (corner k.d ss (support row) c) row in (
+        weighted_sum-least z moves (λ s. (range s).0) (corner_moves c),
+        omega (arith, linear, weighted_sum-mono z (λ s. top) moves (λ s. (range s).1) (corner_moves c), constant_sum top moves, ap (λ n. top *ℤ n) (corner_total c)),
+      )
+
+-- ---- the whole
+
+coefficient_size : (terms : List Term) → unsigned_abs (polynomial.coefficient 0 terms) ≤ polynomial.abs_sum terms
+coefficient_size [] = omega arith
+coefficient_size (t ∷ terms) =
+    let size : Term → ℕ = λ (x : Term). unsigned_abs x.1 in
+    omega (arith, coefficient_size terms, sum_by-cons size t terms, by_test (nat_eq t.0 0) t.1, abs_sum_le (cond (nat_eq t.0 0) t.1 (pos 0)) (polynomial.coefficient 0 terms))
+  where
+    by_test : (b : Bool) (n : ℤ) → unsigned_abs (cond b n (pos 0)) ≤ unsigned_abs n
+    by_test true n = omega arith
+    by_test false n = omega arith
+
+    abs_sum_le : (a b : ℤ) → unsigned_abs (a +ℤ b) ≤ unsigned_abs a + unsigned_abs b
+    abs_sum_le a b = omega (arith, ints)
+
+row_coefficient_size : (row : List Entry) → unsigned_abs (row_coefficient 0 row) ≤ abs_sum row
+row_coefficient_size [] = omega arith
+row_coefficient_size (e ∷ row) =
+    let size : Entry → ℕ = λ (x : Entry). polynomial.abs_sum x.poly in
+    omega (arith, row_coefficient_size row, coefficient_size e.poly, sum_by-cons size e row, abs_le (polynomial.coefficient 0 e.poly) (row_coefficient 0 row))
+  where
+    abs_le : (a b : ℤ) → unsigned_abs (a +ℤ b) ≤ unsigned_abs a + unsigned_abs b
+    abs_le a b = omega (arith, ints)
+
+grid_below : (d : ℤ) (ss : Spans) → unsigned_abs d ≤ greatest_size d ss
+grid_below d [] = le_refl (unsigned_abs d)
+grid_below d (s ∷ ss) = omega (arith, grid_below d ss)
+
+-- the whole, factor by factor, stays below 2 ^ 126
+pub whole_room : (m : ModelData) (d : ℤ) (root : Spans) (w : ℕ) (row : List Entry) → IsAdmittedRow m d root w row → unsigned_abs m.common * unsigned_abs d ^ width root (support row) < 2 ^ 126
+whole_room m d root w row admitted =
+    let g = width root (support row) in
+    let first : unsigned_abs m.common ≤ abs_sum row = subst (λ z. unsigned_abs z ≤ abs_sum row) (admitted.sum 0) (row_coefficient_size row) in
+    let second : unsigned_abs d ^ g ≤ greatest_size d root ^ g = power-le (unsigned_abs d) (greatest_size d root) g (grid_below d root) in
+    let both : unsigned_abs m.common * unsigned_abs d ^ g ≤ abs_sum row * greatest_size d root ^ g = mul-le-mul first second in
+    let more : abs_sum row * greatest_size d root ^ g * 1 ≤ abs_sum row * greatest_size d root ^ g * 2 ^ w = mul-le-mul_left (abs_sum row * greatest_size d root ^ g) (pow_pos w) in
+    omega (arith, both, more, admitted.narrow)
+
+-- what the loop of a power keeps, with the factors that are left
+pub record IsRaised (d all product : ℤ) (left : ℕ) : Type 0 where
+  pub same : product *ℤ power d left ≡ all
+  pub room : unsigned_abs product * unsigned_abs d ^ left < 2 ^ 126
+
+pub raised_more : (d all product : ℤ) (left : ℕ) → IsRaised d all product (suc left) → IsRaised d all (product *ℤ d) left
+raised_more d all product left h = record {
+  same = mul-assoc product d (power d left) ∙ h.same;
+  room =
+      let power_is : unsigned_abs d ^ suc left ≡ unsigned_abs d * unsigned_abs d ^ left = pow-suc (unsigned_abs d) left ∙ mul_comm (unsigned_abs d ^ left) (unsigned_abs d) in
+      let lt : unsigned_abs product * (unsigned_abs d * unsigned_abs d ^ left) < 2 ^ 126 = rw (← power_is) h.room in
+      rw (unsigned_abs-mul product d, mul_assoc) lt;
+}
+
+pub raised_fits : (d all product : ℤ) (left : ℕ) → pos 0 <ℤ d → IsRaised d all product left → FitsSigned w128 product
+raised_fits d all product left positive h =
+    let least : 1 ≤ unsigned_abs d ^ left = one-le-pow left (unsigned_abs d) (omega (arith, ints, positive)) in
+    let a : unsigned_abs product * 1 ≤ unsigned_abs product * unsigned_abs d ^ left = mul-le-mul_left (unsigned_abs product) least in
+    fits_signed_from_abs w128 product (omega (arith, a, h.room))
+
+pub raised_all : (d all product : ℤ) → IsRaised d all product 0 → product ≡ all
+raised_all d all product h = sym (mul-comm product (pos 1) ∙ one-mul product) ∙ h.same

@@ -1,0 +1,90 @@
+ghost use Rattle.std.specs.Prelude.{◌≡◌};
+ghost use Rattle.corner_lift.specs.Case.{IsCase, greatest_depth};
+
+use lift_grid::{Grid, Rect};
+use lift_model::Model;
+
+/// A model with a rectangle of values for its parameters, the root, over a grid and at a precision `w`.
+///
+/// The root has a span for each declared parameter, and can be halved `depth` times, at most 20. The
+/// grid's number is from 1 to 2^62 - 1, and the precision from 1 to 40. Each row's polynomials sum to
+/// the common denominator, none weighs less than 0 at a corner of the root, and at most 4 parameters
+/// occur in a row. No product or sum of a row's weights, on the root or on a rectangle inside it, has a
+/// size of 2^126 or more.
+#[derive(Drop)]
+pub struct Case<'m> {
+    model: &'m Model,
+    root: &'m Rect,
+    grid: Grid,
+    w: u32,
+}
+
+impl<'m> std::marker::Model for Case<'m> {
+    ghost use Rattle.corner_lift.specs.Case.{CaseData, IsCase};
+
+    ghost Value = { CaseData };
+
+    ghost view = { λ c. record { model = c.model.now; root = c.root.now; d = c.grid.d; depth = c.grid.depth; w = c.w } };
+
+    ghost invariant = { λ c. IsCase (record { model = c.model.now; root = c.root.now; d = c.grid.d; depth = c.grid.depth; w = c.w }) };
+}
+
+impl<'m> Case<'m> {
+    /// The case of these parts. Takes no memory.
+    pub fn new(model: &'m Model, root: &'m Rect, grid: Grid, w: u32) -> Case<'m>
+        requires { IsCase (record { model = model.now; root = root.now; d = grid.d; depth = grid.depth; w = w }) }
+        ensures { result ≡ record { model = model.now; root = root.now; d = grid.d; depth = grid.depth; w = w } }
+    {
+        Case {
+            model,
+            root,
+            grid,
+            w,
+        }
+    }
+
+    /// The model.
+    pub fn model(&self) -> &'m Model
+        ensures value { result.now ≡ self.now.model }
+        ensures case { IsCase self.now }
+    {
+        self.model
+    }
+
+    /// The root.
+    pub fn root(&self) -> &'m Rect
+        ensures value { result.now ≡ self.now.root }
+        ensures case { IsCase self.now }
+    {
+        self.root
+    }
+
+    /// The grid, with the depth that was asked for.
+    pub fn grid(&self) -> Grid
+        ensures d { result.d ≡ self.now.d }
+        ensures depth { result.depth ≡ self.now.depth }
+        ensures case { IsCase self.now }
+    {
+        self.grid
+    }
+
+    /// The precision.
+    pub fn w(&self) -> u32
+        ensures value { result ≡ self.now.w }
+        ensures case { IsCase self.now }
+    {
+        self.w
+    }
+
+    /// The greatest depth of a rectangle: 0 where no parameter is live, and else the grid's depth. Linear
+    /// in the number of the model's terms.
+    pub fn greatest_depth(&self) -> u32
+        ensures { result ≡ greatest_depth self.now }
+    {
+        if self.model.live() == 0 {
+            0
+        } else {
+            self.grid.depth
+        }
+    }
+}
