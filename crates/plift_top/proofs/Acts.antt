@@ -12,7 +12,7 @@ use Rattle.plift_top.specs.Job.{JobData, job, job_by}
 use Rattle.plift_top.specs.Given.{Asks}
 use Rattle.plift_top.specs.Built.{is_built}
 use Rattle.plift_top.specs.Verify.{WasRead, Reports, IsUnbuilt, KeepsLimit, text_limit}
-use Rattle.plift_top.specs.Answers.{Acts, HasNote, IsRefused, text_note, model_note, unbuilt_note, status_of, note_of, usage_note}
+use Rattle.plift_top.specs.Answers.{Acts, HasNote, IsRefused, text_note, model_note, model_note_by, unbuilt_note, status_of, note_of, usage_note}
 use Rattle.plift_top.specs.declared.job.Field.{Field}
 use Rattle.plift_top.specs.declared.job.Field.TheVariants as field
 use Rattle.plift_top.specs.declared.status.Status.TheVariants as status
@@ -25,11 +25,11 @@ read_as f h = record { text = h.text; consumed = h.consumed; ended = h.ended; ha
 
 -- the note of a text whose model isn't built
 unbuilt_refused : (goal text : List ℕ) → IsUnbuilt goal text → IsRefused goal unbuilt_note text
-unbuilt_refused goal text is = rw (is.read, is.unbuilt) refl
+unbuilt_refused goal text is = ap text_note is.read ∙ ap model_note_by is.unbuilt
 
 -- a text whose model is built has no note
 built_text : (m : ModelData) (answer : Result ModelData DrnError) (note : List ℕ) → answer ≡ Ok m → is_built m ≡ true → text_note answer ≡ Some note → ⊥
-built_text m answer note is built noted = let none : text_note answer ≡ None = rw (is, built) refl in absurd (cc)
+built_text m answer note is built noted = let clash : None ≡ Some note = sym (ap text_note is ∙ ap model_note_by built) ∙ noted in absurd (cc)
 
 module _ {S K : Type 0} (left : S → Option (List ℕ)) (faults : S → ℕ) (taken : K → Option (List ℕ)) (counts : K → ℕ) (source source' : S) (out out' : K) where
   pub done : (asked : Result JobData Field) → Acts {T = Unit {0}} left faults taken counts asked source source' out out' (Ok tt)
@@ -148,14 +148,14 @@ module _ {S K : Type 0} (left : S → Option (List ℕ)) (faults : S → ℕ) (t
   -- there, where nothing failed, the refusal is of the model, or for want of memory
   pub refused : (asked : Result JobData Field) (r : Refusal) → Acts {T = Unit {0}} left faults taken counts asked source source' out out' (Err r) → (j : JobData) (text note : List ℕ) → asked ≡ Ok j → left source ≡ Some text
       → IsRefused j.goal note text → length text ≤ text_limit → (Rose (faults source) (faults source') → ⊥) → (Rose (counts out) (counts out') → ⊥) → (status_of r ≡ status.ModelRefused) ⊎ (status_of r ≡ status.Memory)
-  refused (Ok k) (refusal.Usage f) a j text note is told no len sure1 sure2 = absurd a
-  refused (Ok k) (refusal.Model error) a j text note is told no len sure1 sure2 = inl refl
-  refused (Ok k) refusal.Unbuilt a j text note is told no len sure1 sure2 = inl refl
-  refused (Ok k) refusal.ReadFault a j text note is told no len sure1 sure2 = absurd (sure1 a.0)
-  refused (Ok k) refusal.WriteFault a j text note is told no len sure1 sure2 = absurd (sure2 a.1)
-  refused (Ok k) refusal.TooLong a j text note is told no len sure1 sure2 = absurd (short text (left source') len (rw told at a.0))
-  refused (Ok k) refusal.Memory a j text note is told no len sure1 sure2 = inr refl
-  refused (Err f) r a j text note is told no len sure1 sure2 = absurd (cc)
+  refused (Ok k) (refusal.Usage f) a j text note is told bad len sure1 sure2 = absurd a
+  refused (Ok k) (refusal.Model error) a j text note is told bad len sure1 sure2 = inl refl
+  refused (Ok k) refusal.Unbuilt a j text note is told bad len sure1 sure2 = inl refl
+  refused (Ok k) refusal.ReadFault a j text note is told bad len sure1 sure2 = absurd (sure1 a.0)
+  refused (Ok k) refusal.WriteFault a j text note is told bad len sure1 sure2 = absurd (sure2 a.1)
+  refused (Ok k) refusal.TooLong a j text note is told bad len sure1 sure2 = absurd (short text (left source') len (rw told at a.0))
+  refused (Ok k) refusal.Memory a j text note is told bad len sure1 sure2 = inr refl
+  refused (Err f) r a j text note is told bad len sure1 sure2 = absurd (cc)
 
 -- ---- the words
 

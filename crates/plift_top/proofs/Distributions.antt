@@ -1,12 +1,14 @@
 -- Rows whose values are from 0 and sum to a number, entry by entry.
-use Rattle.std.proofs.Common.{◌≡◌, ◌<◌, ℕ, zero, suc, ◌+◌, ◌&&◌, Bool, true, false, List, [], ◌∷◌, length, get_or, drop, ℤ, pos, ◌+ℤ◌, ◌-ℤ◌, ◌≤ℤ◌, ◌<ℤ◌, refl, sym, ap, ap₂, ◌∙◌, arith, add-one, true≢false, int_le}
+use Rattle.std.proofs.Common.{◌≡◌, ◌<◌, ℕ, zero, suc, ◌+◌, ◌&&◌, Bool, true, false, List, [], ◌∷◌, length, get_or, drop, ℤ, pos, ◌+ℤ◌, ◌-ℤ◌, ◌≤ℤ◌, ◌<ℤ◌, ◌⊎◌, inl, inr, refl, sym, ap, ap₂, ◌∙◌, arith, add-one, true≢false, int_le}
 use Rattle.std.specs.List.{list_all}
 use Rattle.std.specs.Ordering.{int_eq}
 use Rattle.std.proofs.lemmas.Bool.Decides.{Decides-int_eq}
 use Rattle.lift_poly.specs.Arithmetic.{coefficient}
 use Rattle.lift_poly.proofs.Ring.{linear, le_from_test, test_from_le}
 use Rattle.lift_model.specs.declared.entry.Entry.{Entry}
-use Rattle.plift_top.specs.Built.{row_coefficient, is_distribution}
+use Rattle.lift_model.proofs.Chains.{both}
+use Rattle.corner_lift.specs.Case.{row_coefficient}
+use Rattle.plift_top.specs.Built.{is_distribution}
 
 pub not_below : (a b : ℤ) → b <ℤ a → int_le a b ≡ false
 not_below a b h = by (int_le a b) refl
@@ -28,11 +30,9 @@ equal a b h = (Decides-int_eq a b).1 h
 -- values from 0 sum to at least 0
 sum_least : (row : List Entry) → list_all (λ entry. int_le (pos 0) (coefficient 0 entry.poly)) row ≡ true → pos 0 ≤ℤ row_coefficient 0 row
 sum_least [] h = omega (arith, linear)
-sum_least (e ∷ row) h = by (int_le (pos 0) (coefficient 0 e.poly)) refl h
-  where
-    by : (t : Bool) → int_le (pos 0) (coefficient 0 e.poly) ≡ t → (t && list_all (λ entry. int_le (pos 0) (coefficient 0 entry.poly)) row) ≡ true → pos 0 ≤ℤ row_coefficient 0 (e ∷ row)
-    by true test all = let least = le_from_test (pos 0) (coefficient 0 e.poly) test in omega (arith, linear, least, sum_least row all)
-    by false test all = absurd (true≢false (sym all))
+sum_least (e ∷ row) h =
+    let parts = both (int_le (pos 0) (coefficient 0 e.poly)) (list_all (λ entry. int_le (pos 0) (coefficient 0 entry.poly)) row) h in
+    let least = le_from_test (pos 0) (coefficient 0 e.poly) parts.0 in omega (arith, linear, least, sum_least row parts.1)
 
 -- ---- the first entry
 
@@ -59,18 +59,32 @@ next left e row h = rw (test_from_le (pos 0) (coefficient 0 e.poly) h) (ap (λ t
 
 -- ---- the entry at a place
 
-pub negative_at : (left : ℤ) (row : List Entry) (i : ℕ) (d : Entry) → i < length row → coefficient 0 (get_or row i d).poly <ℤ pos 0 → is_distribution left (drop i row) ≡ false
+negative_at : (left : ℤ) (row : List Entry) (i : ℕ) (d : Entry) → i < length row → coefficient 0 (get_or row i d).poly <ℤ pos 0 → is_distribution left (drop i row) ≡ false
 negative_at left [] i d lt h = absurd (omega arith)
 negative_at left (e ∷ row) zero d lt h = negative left e row h
 negative_at left (e ∷ row) (suc i) d lt h = negative_at left row i d (omega arith) h
 
-pub too_much_at : (left : ℤ) (row : List Entry) (i : ℕ) (d : Entry) → i < length row → left <ℤ coefficient 0 (get_or row i d).poly → is_distribution left (drop i row) ≡ false
+too_much_at : (left : ℤ) (row : List Entry) (i : ℕ) (d : Entry) → i < length row → left <ℤ coefficient 0 (get_or row i d).poly → is_distribution left (drop i row) ≡ false
 too_much_at left [] i d lt h = absurd (omega arith)
 too_much_at left (e ∷ row) zero d lt h = too_much left e row h
 too_much_at left (e ∷ row) (suc i) d lt h = too_much_at left row i d (omega arith) h
 
-pub next_at : (left : ℤ) (row : List Entry) (i : ℕ) (d : Entry) → i < length row → pos 0 ≤ℤ coefficient 0 (get_or row i d).poly
+next_at : (left : ℤ) (row : List Entry) (i : ℕ) (d : Entry) → i < length row → pos 0 ≤ℤ coefficient 0 (get_or row i d).poly
     → is_distribution left (drop i row) ≡ is_distribution (left -ℤ coefficient 0 (get_or row i d).poly) (drop (suc i) row)
 next_at left [] i d lt h = absurd (omega arith)
 next_at left (e ∷ row) zero d lt h = next left e row h
 next_at left (e ∷ row) (suc i) d lt h = next_at left row i d (omega arith) h
+
+-- what one turn of the loop over a row finds: a value that is below 0 or too large, or what is left without it
+module _ (common left : ℤ) (row : List Entry) (i : ℕ) (entry : Entry) (v : ℤ) (lt : i < length row) (is : entry ≡ get_or row i entry) (value : v ≡ coefficient 0 entry.poly) (so_far : is_distribution left (drop i row) ≡ is_distribution common row) where
+  there : v ≡ coefficient 0 (get_or row i entry).poly
+  there = value ∙ ap (λ (e : Entry). coefficient 0 e.poly) is
+
+  pub unfit : (v <ℤ pos 0) ⊎ (left <ℤ v) → false ≡ is_distribution common row
+  unfit (inl h) = sym (sym so_far ∙ negative_at left row i entry lt (rw (← there) h))
+  unfit (inr h) = sym (sym so_far ∙ too_much_at left row i entry lt (rw (← there) h))
+
+  pub one_less : (rest : ℤ) → (pos 0 ≤ℤ v) × (rest ≡ left -ℤ v) → is_distribution rest (drop (i + 1) row) ≡ is_distribution common row
+  one_less rest h =
+      let next = next_at left row i entry lt (rw (← there) h.0) in
+      sym (sym so_far ∙ next ∙ ap₂ (λ (n : ℤ) (k : ℕ). is_distribution n (drop k row)) (ap (λ (n : ℤ). left -ℤ n) (sym there) ∙ sym h.1) (sym (add-one i)))

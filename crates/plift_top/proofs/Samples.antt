@@ -74,7 +74,7 @@ first_fault = refl
 
 report : report_text coin at_most_half (accept (pos 4 ∷ pos 16 ∷ pos 0 ∷ []))
     ≡ codes "plift 1\nkind dtmc\nparameters 0\ncommon 4\nstates 3\ninit 0\ngoal 1 1\nrow 0 0 2\nto 1 0:1\nto 2 0:3\nrow 1 0 1\nto 1 0:4\nrow 2 0 1\nto 2 0:4\nbound 1/2\nprecision 4\ndepth 5\ngrid 32\nbox\naccept 4 16 0\n"
-unfolding coin at_most_half size_lines row_line job_lines digits
+unfolding coin entry at_most_half size_lines row_line job_lines digits
 report = refl
 
 -- parameters and choices are told, and an entry of value 0
@@ -85,7 +85,7 @@ report_choices = refl
 
 -- the coin is a chain that is verified; where a value is below 0 or a row sums to less, or a parameter is declared, it isn't
 built : is_built coin ≡ true
-unfolding coin
+unfolding coin entry
 built = refl
 
 unbuilt : is_built coins ≡ false
@@ -93,13 +93,13 @@ unfolding coins
 unbuilt = refl
 
 below : is_built (record coin { states = ((record { target = 1; poly = (0, negsuc 0) ∷ [] } ∷ entry 2 5 ∷ []) ∷ []) ∷ ((entry 1 4 ∷ []) ∷ []) ∷ ((entry 2 4 ∷ []) ∷ []) ∷ [] }) ≡ false
-unfolding coin
+unfolding coin entry
 below = refl
 
 less : is_built (record coin { states = ((entry 1 1 ∷ entry 2 2 ∷ []) ∷ []) ∷ ((entry 1 4 ∷ []) ∷ []) ∷ ((entry 2 4 ∷ []) ∷ []) ∷ [] }) ≡ false
-unfolding coin
+unfolding coin entry
 less = refl
 
 named : is_built (record coin { names = codes "p" ∷ [] }) ≡ false
-unfolding coin
+unfolding coin entry
 named = refl

@@ -1,5 +1,5 @@
 -- The answers of the program, and the notes that tell them.
-use Rattle.std.specs.Prelude.{◌≡◌, ◌≢◌, ◌≤◌, ℕ, List, ◌++◌, codes, true, false, Some, None, Ok, Err, Result}
+use Rattle.std.specs.Prelude.{◌≡◌, ◌≢◌, ◌≤◌, ℕ, List, ◌++◌, codes, Bool, true, false, Some, None, Ok, Err, Result}
 use Rattle.std.specs.Fmt.{decimal}
 use Rattle.std.specs.declared.option.Option.{Option}
 use Rattle.std.specs.Io.KnownBytes.{Appends}
@@ -44,9 +44,14 @@ model_note error = codes "model: line " ++ decimal error.line ++ codes ": " ++ c
 abbrev pub unbuilt_note : List ℕ
 unbuilt_note = codes "model: unbuilt\n"
 
+-- the note of a model, by whether it is built; none where it is
+abbrev pub model_note_by : Bool → Option (List ℕ)
+model_note_by true = None
+model_note_by false = Some unbuilt_note
+
 -- the note of what a text stands for; none where that is a model that is built
 abbrev pub text_note : Result ModelData DrnError → Option (List ℕ)
-text_note (Ok m) = elim (is_built m) [ true ↦ None | false ↦ Some unbuilt_note ]
+text_note (Ok m) = model_note_by (is_built m)
 text_note (Err error) = Some (model_note error)
 
 -- a text is refused for a goal label, with this note

@@ -1,5 +1,5 @@
 -- What `verify` answers, and what stands after it.
-use Rattle.std.specs.Prelude.{◌≡◌, ◌^◌, ◌<◌, ◌≤◌, ℕ, List, length, true, false, Ok, Err, Result}
+use Rattle.std.specs.Prelude.{◌≡◌, ◌^◌, ◌<◌, ◌≤◌, ℕ, List, length, true, false, Ok, Err, Result, ⊤}
 use Rattle.std.specs.declared.option.Option.{Option}
 use Rattle.std.specs.Io.KnownBytes.{Appends, Consumes, IsAtEnd}
 use Rattle.lift_base.specs.Outside.{Rose, TakenHas, AppendsFront}
@@ -38,6 +38,20 @@ pub record IsUnbuilt (goal text : List ℕ) : Type 0 where
   pub model : ModelData
   pub read : drn text goal ≡ Ok model
   pub unbuilt : is_built model ≡ false
+
+-- the text stands for this model, which is built
+abbrev pub IsBuiltText : List ℕ → ModelData → List ℕ → Type 0
+IsBuiltText goal m text = (drn text goal ≡ Ok m) × (is_built m ≡ true)
+
+-- what reading a model for a goal label comes to: the source was read to its end and gave a model that is built, or there is a cause
+abbrev pub ReadsModel : {S : Type 0} → (S → Option (List ℕ)) → (S → ℕ) → List ℕ → S → S → Result ModelData Refusal → Type 0
+ReadsModel left faults goal source source' (Ok m) = WasRead (IsBuiltText goal m) (left source) (left source')
+ReadsModel left faults goal source source' (Err (refusal.Model error)) = WasRead (λ text. drn text goal ≡ Err error) (left source) (left source')
+ReadsModel left faults goal source source' (Err refusal.Unbuilt) = WasRead (IsUnbuilt goal) (left source) (left source')
+ReadsModel left faults goal source source' (Err refusal.ReadFault) = Rose (faults source) (faults source')
+ReadsModel left faults goal source source' (Err refusal.TooLong) = TakenHas (λ bytes. text_limit < length bytes) (left source) (left source')
+ReadsModel left faults goal source source' (Err refusal.Memory) = ⊤
+ReadsModel left faults goal source source' (Err _) = ⊥
 
 -- What a job comes to: the report is written, or there is a cause. The sink is as it was but for a report or the front of one.
 abbrev pub Verifies : {S K T : Type 0} → (S → Option (List ℕ)) → (S → ℕ) → (K → Option (List ℕ)) → (K → ℕ) → JobData → S → S → K → K → Result T Refusal → Type 0

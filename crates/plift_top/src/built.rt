@@ -1,10 +1,21 @@
 // Which models are verified today.
-ghost use Rattle.std.specs.Prelude.{◌≡◌, ◌<◌, length};
+ghost use Rattle.std.specs.Prelude.{◌≡◌, ◌<◌, ◌⊎◌, pos, ◌-ℤ◌, ◌≤ℤ◌, ◌<ℤ◌, length, IfSome, IfNone};
 ghost use Rattle.std.specs.List.{list_all};
 ghost use Rattle.lift_model.specs.Model.{choices};
 ghost use Rattle.plift_top.specs.Built.{is_built, is_distribution};
 
 use lift_model::{Entry, Kind, Model};
+
+/// What is left of a number without a value that is from 0 up to it.
+fn without(left: i128, value: i128) -> Option<i128>
+    ensures some { IfSome result (λ rest. (pos 0 ≤ℤ value) × (rest ≡ left -ℤ value)) }
+    ensures none { IfNone result ((value <ℤ pos 0) ⊎ (left <ℤ value)) }
+{
+    if value < 0 || value > left {
+        return None;
+    }
+    Some(left - value)
+}
 
 /// Whether the values of a row are from 0 and sum to `common`.
 fn is_distribution(common: i64, entries: &[Entry]) -> bool
@@ -12,11 +23,10 @@ fn is_distribution(common: i64, entries: &[Entry]) -> bool
 {
     let mut left = i128::from(common);
     for entry in entries {
-        let value = entry.poly.coefficient(0);
-        if value < 0 || value > left {
+        let Some(rest) = without(left, entry.poly.coefficient(0)) else {
             return false;
-        }
-        left -= value;
+        };
+        left = rest;
     }
     left == 0
 }

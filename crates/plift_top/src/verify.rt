@@ -6,26 +6,48 @@ ghost use Rattle.plift_top.specs.Report.{report_text};
 ghost use Rattle.plift_top.specs.Built.{is_built};
 ghost use Rattle.plift_top.specs.Given.{job_data};
 ghost use Rattle.plift_top.specs.Written.{leaf_of};
-ghost use Rattle.plift_top.specs.Leaf.{IsRightFor, BoundsSchedulers};
-ghost use Rattle.plift_top.specs.Verify.{Verifies, KeepsLimit};
+ghost use Rattle.plift_top.specs.Leaf.{IsRightLeaf, BoundsInside, case_data};
+ghost use Rattle.plift_top.specs.Verify.{Verifies, ReadsModel, KeepsLimit};
 
 use crate::built::is_built;
 use crate::job::Job;
 use crate::refusal::Refusal;
 use crate::report::{Report, Verdict};
+use corner_lift::Case;
 use drn_read::read_model;
 use lift_base::{Sink, Source, read_all, write_buffered};
 use lift_cert::Bound;
+use lift_grid::{Grid, Rect};
 use lift_model::Model;
 use std::alloc::{AllocError, Global};
 
 /// How many bytes a text may have.
 const TEXT_LIMIT: usize = 1 << 26;
 
-// The least upper vector of a model that is built.
-fn upper_of(_alloc: Global, _model: &Model, _job: &Job) -> Result<Vec<i64>, AllocError>
-    requires { is_built _model.now ≡ true }
-    ensures { IfOk result (λ x. IsLeastUpper _model.now (pos (2 ^ _job.now.depth)) [] _job.now.precision x.items) }
+// The number of the grid of a region without sides.
+fn grid_of(depth: u32) -> i64
+    requires { depth ≤ 20 }
+    ensures { result ≡ pos (2 ^ depth) }
+{
+    1 << depth
+}
+
+// The case of a model without parameters, whose region has no sides.
+fn case_of<'m>(model: &'m Model, root: &'m Rect, job: &Job) -> Case<'m>
+    requires built { is_built model.now ≡ true }
+    requires root { root.now ≡ [] }
+    ensures { result ≡ case_data model.now (job_data job.now) }
+{
+    let grid = Grid {
+        d: grid_of(job.depth),
+        depth: job.depth,
+    };
+    Case::new(model, root, grid, job.precision)
+}
+
+// The least upper vector of a case on its root.
+fn upper_of(_alloc: Global, _case: &Case) -> Result<Vec<i64>, AllocError>
+    ensures { let k = _case.now in IfOk result (λ x. IsLeastUpper k.model k.d k.root k.w x.items) }
 {
     Err(AllocError)
 }
@@ -39,18 +61,30 @@ fn is_within(bound: Bound, x: &[i64], s: u32, precision: u32) -> bool
     bound.admits(x[s as usize], precision)
 }
 
-// Whether the least upper vector is within the bound decides the region.
-fn decide<'x>(model: &Model, job: &Job, x: &'x [i64]) -> Verdict<'x>
-    requires built { is_built model.now ≡ true }
-    requires least { IsLeastUpper model.now (pos (2 ^ job.now.depth)) [] job.now.precision x.now }
-    ensures right { IsRightFor model.now (job_data job.now) (leaf_of result) }
-    ensures schedulers { BoundsSchedulers model.now (job_data job.now) (leaf_of result) }
+// Whether the least upper vector is within the bound decides the root.
+fn decide<'x>(case: &Case, bound: Bound, x: &'x [i64]) -> Verdict<'x>
+    requires { let k = case.now in IsLeastUpper k.model k.d k.root k.w x.now }
+    ensures right { let k = case.now in IsRightLeaf k.model k.d k.root k.w bound (leaf_of result) }
+    ensures schedulers { BoundsInside case.now bound (leaf_of result) }
 {
-    if is_within(job.bound, x, model.init(), job.precision) {
+    if is_within(bound, x, case.model().init(), case.w()) {
         Verdict::Accept(x)
     } else {
         Verdict::Unknown
     }
+}
+
+// Reads a model for a goal label, one that is built.
+fn read_built<S: Source>(alloc: Global, goal: &[u8], source: &mut S) -> Result<Model, Refusal>
+    ensures answer { ReadsModel S.left S.faults goal.now source.old source.new result }
+    ensures limit { KeepsLimit result (S.left source.old) (S.left source.new) }
+{
+    let text = read_all(alloc, source, TEXT_LIMIT)?;
+    let model = read_model(alloc, &text, goal)?;
+    if !is_built(&model) {
+        return Err(Refusal::Unbuilt);
+    }
+    Ok(model)
 }
 
 /// Reads a model from the source and writes its report.
@@ -63,13 +97,11 @@ pub fn verify<S: Source, K: Sink>(
     ensures answer { Verifies S.left S.faults K.taken K.faults (job_data job.now) source.old source.new out.old out.new result }
     ensures limit { KeepsLimit result (S.left source.old) (S.left source.new) }
 {
-    let text = read_all(alloc, source, TEXT_LIMIT)?;
-    let model = read_model(alloc, &text, job.goal)?;
-    if !is_built(&model) {
-        return Err(Refusal::Unbuilt);
-    }
-    let x = upper_of(alloc, &model, job)?;
-    let verdict = decide(&model, job, &x);
+    let model = read_built(alloc, job.goal, source)?;
+    let root = Rect::from_sides(alloc, &[])?;
+    let case = case_of(&model, &root, job);
+    let x = upper_of(alloc, &case)?;
+    let verdict = decide(&case, job.bound, &x);
     let report = Report {
         model: &model,
         job,

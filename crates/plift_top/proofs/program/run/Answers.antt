@@ -30,12 +30,12 @@ returns-in-Err-clause-complete g c j text m is told read built len sure1 sure2 =
     inr (c.status_of.ensures ∙ complete g.S.Source.left g.S.Source.faults g.K.Sink.taken g.K.Sink.faults _ _ _ _ _ c.in-Err.refusal c.in-Err.ensures.answer j text m is told read built len sure1 sure2)
 
 pub returns-in-Ok-clause-refused : goal.returns-in-Ok-clause-refused
-returns-in-Ok-clause-refused g c j text note is told no len sure1 sure2 =
-    absurd (not_done g.S.Source.left g.S.Source.faults g.K.Sink.taken g.K.Sink.faults _ _ _ _ _ c.in-Ok.ensures.answer j text note is told no)
+returns-in-Ok-clause-refused g c j text note is told bad len sure1 sure2 =
+    absurd (not_done g.S.Source.left g.S.Source.faults g.K.Sink.taken g.K.Sink.faults _ _ _ _ _ c.in-Ok.ensures.answer j text note is told bad)
 
 pub returns-in-Err-clause-refused : goal.returns-in-Err-clause-refused
-returns-in-Err-clause-refused g c j text note is told no len sure1 sure2 =
-    rw c.status_of.ensures (refused g.S.Source.left g.S.Source.faults g.K.Sink.taken g.K.Sink.faults _ _ _ _ _ c.in-Err.refusal c.in-Err.ensures.answer j text note is told no len sure1 sure2)
+returns-in-Err-clause-refused g c j text note is told bad len sure1 sure2 =
+    rw c.status_of.ensures (refused g.S.Source.left g.S.Source.faults g.K.Sink.taken g.K.Sink.faults _ _ _ _ _ c.in-Err.refusal c.in-Err.ensures.answer j text note is told bad len sure1 sure2)
 
 pub returns-in-Err-clause-part : goal.returns-in-Err-clause-part
 returns-in-Err-clause-part g c e = part g.S.Source.left g.S.Source.faults g.K.Sink.taken g.K.Sink.faults _ _ _ _ _ c.in-Err.refusal c.in-Err.ensures.answer (sym c.status_of.ensures ∙ e)

@@ -7,7 +7,7 @@ pub returns-in_err-write_kind : goal.returns-in_err-write_kind
 returns-in_err-write_kind g c = rw concat-append (stopped _ _ _ c.from_residual.ensures.0 (rw c.kind.ensures at c.in_err-write_kind.ensures))
 
 pub returns-in_err-write_parameters : goal.returns-in_err-write_parameters
-returns-in_err-write_parameters g c = rw concat-append (wrote_then (rw c.kind.ensures at c.in_ok-write_kind.ensures) (stopped _ _ _ c.from_residual-in_err-write_parameters.ensures.0 (rw c.names.ensures.value at c.in_err-write_parameters.ensures)))
+returns-in_err-write_parameters g c = rw (concat-append, ← c.kind.ensures, ← c.names.ensures.value) (wrote_then c.in_ok-write_kind.ensures (stopped _ _ _ c.from_residual-in_err-write_parameters.ensures.0 c.in_err-write_parameters.ensures))
 
 pub returns : goal.returns
-returns g c = rw concat-append (wrote_then (rw c.kind.ensures at c.in_ok-write_kind.ensures) (wrote_then (rw c.names.ensures.value at c.in_ok-write_parameters.ensures) c.write_sizes.ensures))
+returns g c = rw (concat-append, ← c.kind.ensures, ← c.names.ensures.value) (wrote_then c.in_ok-write_kind.ensures (wrote_then c.in_ok-write_parameters.ensures c.write_sizes.ensures))
