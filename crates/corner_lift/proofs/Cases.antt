@@ -1,31 +1,32 @@
 -- What a case gives: rows that are admitted, sizes that fit, and weights that aren't negative at the corners of any rectangle inside the root.
-use Rattle.std.proofs.Common.{◌≡◌, ℕ, zero, suc, ◌+◌, ◌*◌, ◌/◌, ◌%◌, ◌^◌, ◌<◌, ◌≤◌, max, List, [], ◌∷◌, ◌++◌, length, get_or, map, ℤ, pos, negsuc, ◌+ℤ◌, ◌*ℤ◌, neg_ℤ, ◌≤ℤ◌, ◌<ℤ◌, unsigned_abs, All, FitsSigned, refl, sym, ap, ap₂, subst, ◌∙◌, arith, Bool, true, false, cond, nat_eq, bit_or, count_ones, mul-le-mul_left, mul-le-mul_right, mul-le-mul, mul_assoc, le_trans, le_refl, pow-suc, mul_comm}
-use Rattle.std.proofs.Math.Nat.{pow-zero, one-le-pow}
+use Rattle.std.proofs.Common.{◌≡◌, ℕ, zero, suc, ◌+◌, ◌*◌, ◌/◌, ◌%◌, ◌^◌, ◌<◌, ◌≤◌, max, List, [], ◌∷◌, ◌++◌, length, get_or, ℤ, pos, negsuc, ◌+ℤ◌, ◌*ℤ◌, neg_ℤ, ◌≤ℤ◌, ◌<ℤ◌, unsigned_abs, All, FitsSigned, refl, sym, ap, subst, ◌∙◌, arith, ◌⊎◌, ⊎_elim, Bool, true, false, cond, nat_eq, bit_or, count_ones, mul-le-mul_left, mul-le-mul_right, mul-le-mul, mul_assoc, le_trans, le_refl, pow-suc, mul_comm}
+use Rattle.std.proofs.Math.Nat.{pow-zero, one-le-pow, mod-eq_of_lt}
+use Rattle.std.proofs.Math.Pow.{pow_mono}
 use Rattle.std.proofs.lemmas.Int.{fits_signed_from_abs, unsigned_abs-mul, ints}
-use Rattle.std.proofs.lemmas.List.Elements.{All-head, All-tail, All-cons, All-nil}
+use Rattle.std.proofs.lemmas.List.Elements.{All-head, All-tail}
 use Rattle.std.proofs.lemmas.List.Sums.{sum_by-cons}
 use Rattle.std.proofs.lemmas.Nat.{or_lt, pow_pos, ones_le_self}
+use lib.Bits.{or_self}
 use lib.Count.{ones_step}
 use mir.Syntax.{w128}
 use Rattle.lift_poly.specs.Polynomial.{Term, Valuation, weight, denominator}
 use Rattle.lift_poly.specs.Arithmetic as polynomial
 use Rattle.lift_poly.proofs.Ring.{linear, mul-comm, mul-assoc, mul-zero, zero-mul, one-mul, mul-le, as_diff, diffs, diff-same}
-use Rattle.lift_grid.specs.Rectangle.{Spans, IsSpan, AreSpans, spans_of, end_of, Inside}
+use Rattle.lift_grid.specs.Rectangle.{Spans, AreSpans, spans_of}
 use Rattle.lift_model.specs.declared.entry.Entry.{Entry}
 use Rattle.lift_model.specs.Process.{Move, power, weighted_sum}
-use Rattle.lift_model.specs.Model.{ModelData, union, support, choices, row_at, moves_at}
+use Rattle.lift_model.specs.Model.{ModelData, support, choices, row_at, moves_at}
 use Rattle.lift_model.specs.Valid.{IsEntry, IsRow, IsModel}
 use Rattle.lift_model.proofs.Sums.{AreNonNegative, weighted_sum-least, weighted_sum-mono}
-use Rattle.corner_lift.specs.Corner.{AtCorners, corner, width, corner_sum, whole, no_entry}
+use Rattle.corner_lift.specs.Corner.{corner, width, corner_sum, whole}
 use Rattle.corner_lift.specs.Certificate.{number, AreNumbers}
-use Rattle.corner_lift.specs.Case.{CaseData, IsCase, IsAdmittedRow, greatest_size, abs_sum, row_coefficient, Within, AreSidesInside}
-use Rattle.corner_lift.specs.Ends.{End, greatest_end}
-use Rattle.corner_lift.proofs.Rows.{number_range}
-use Rattle.corner_lift.proofs.CornerBound.{TermsIn, InsideOn, Inside-on, CornersNonpos, corner_bound, corner-inside, mul-pos_lem}
-use Rattle.corner_lift.proofs.RowBound.{PartOf, terms_in, TermsIn-more, TermsIn-scaled, scaled, weight-scaled_by, less, weight-less, less_in, TermsIn-append, denominator-corner, power-pos, minus-one, row_sum, row_upper, row_lower, between_corners}
+use Rattle.corner_lift.specs.Case.{CaseData, IsCase, IsAdmittedRow, IsRowOf, IsGreatest, IsLeast, BoundsAbove, BoundsBelow, row_value, row_whole, corner_count, greatest_size, abs_sum, row_coefficient, Within, AreSidesInside}
+use Rattle.corner_lift.specs.Ends.{End, greatest_end, StandFor, moves_by}
+use Rattle.corner_lift.proofs.CornerBound.{InsideOn, Inside-on, CornersNonpos, corner_bound, corner-inside}
+use Rattle.corner_lift.proofs.RowBound.{PartOf, terms_in, TermsIn-more, scaled, weight-scaled_by, less, weight-less, less_in, TermsIn-append, denominator-corner, power-pos, minus-one, row_sum, row_upper_at, row_lower_at}
 use Rattle.lift_poly.proofs.Weights.{weight-append}
 use Rattle.corner_lift.proofs.Coefficients.{row_total}
-use Rattle.corner_lift.proofs.Summing.{entry_part}
+use Rattle.corner_lift.proofs.Summing.{entry_part, moves_stand}
 
 -- ---- sets
 
@@ -257,3 +258,125 @@ raised_fits d all product left positive h =
 
 pub raised_all : (d all product : ℤ) → IsRaised d all product 0 → product ≡ all
 raised_all d all product h = sym (mul-comm product (pos 1) ∙ one-mul product) ∙ h.same
+
+-- ---- what the calls need of a case
+
+pub row_of_case : (k : CaseData) (s a : ℕ) → IsCase k → s < length k.model.states → a < length (choices k.model s) → IsRowOf k (row_at k.model s a)
+row_of_case k s a is state choice = record { valid = row_of_model k.model s a is.model state choice; admitted = admitted_row k s a is state choice }
+
+-- how many parameters a choice has
+pub width_in_root : (k : CaseData) (s a : ℕ) → IsCase k → s < length k.model.states → a < length (choices k.model s) → count_ones (support (row_at k.model s a)) ≡ width k.root (support (row_at k.model s a))
+width_in_root k s a is state choice =
+    let row = row_at k.model s a in
+    let below : support row < 2 ^ length k.model.names = support_below (length k.model.states) (length k.model.names) row (row_of_model k.model s a is.model state choice).entries in
+    sym (width-ones k.root (support row) (subst (λ n. support row < 2 ^ n) (sym is.grid.one_each) below))
+
+pub power-size : (first d : ℤ) (n : ℕ) → unsigned_abs (first *ℤ power d n) ≡ unsigned_abs first * unsigned_abs d ^ n
+power-size first d n = unsigned_abs-mul first (power d n) ∙ ap (λ k. unsigned_abs first * k) (size n)
+  where
+    size : (n : ℕ) → unsigned_abs (power d n) ≡ unsigned_abs d ^ n
+    size zero = sym (pow-zero (unsigned_abs d))
+    size (suc n) = unsigned_abs-mul d (power d n) ∙ ap (λ k. unsigned_abs d * k) (size n) ∙ mul_comm (unsigned_abs d) (unsigned_abs d ^ n) ∙ sym (pow-suc (unsigned_abs d) n)
+
+-- the same of a row that the code has
+pub row_in_case : (k : CaseData) (m : ModelData) (row : List Entry) (s a : ℕ) → m ≡ k.model → row ≡ row_at m s a → IsCase k → s < length k.model.states → a < length (choices k.model s) → IsRowOf k row
+row_in_case k m row s a e f is state choice = rw (f, e) (row_of_case k s a is state choice)
+
+module _ (k : CaseData) (row : List Entry) (sides : List ℤ) (is : IsCase k) (inside : AreSidesInside k.root sides) (of : IsRowOf k row) where
+  pub pairs_of : support row < 2 ^ length (spans_of sides)
+  pairs_of =
+      subst (λ n. support row < 2 ^ n) (sym (length-within (spans_of sides) k.root inside.within ∙ is.grid.one_each)) (support_below (length k.model.states) (length k.model.names) row of.valid.entries)
+
+  pub width_of : width (spans_of sides) (support row) ≡ width k.root (support row)
+  width_of = width-within (spans_of sides) k.root (support row) inside.within
+
+  pub few_of : width (spans_of sides) (support row) ≤ 4
+  few_of = omega (arith, width_of, of.admitted.few)
+
+  pub ones_of : count_ones (support row) ≡ width k.root (support row)
+  ones_of = sym (width-ones (spans_of sides) (support row) pairs_of) ∙ width_of
+
+  pub room_of : (ends : List End) → length ends ≡ width (spans_of sides) (support row) → greatest_end k.d ends ≤ greatest_size k.d (spans_of sides) → abs_sum row * (greatest_end k.d ends ^ length ends * 2 ^ k.w) < 2 ^ 126
+  room_of ends count size =
+      let small = le_trans size (size-within k.d (spans_of sides) k.root inside.rectangle.spans inside.within) in
+      let first = power-le (greatest_end k.d ends) (greatest_size k.d k.root) (width k.root (support row)) small in
+      let same : greatest_end k.d ends ^ length ends ≡ greatest_end k.d ends ^ width k.root (support row) = ap (λ n. greatest_end k.d ends ^ n) (count ∙ width_of) in
+      let second : greatest_end k.d ends ^ length ends * 2 ^ k.w ≤ greatest_size k.d k.root ^ width k.root (support row) * 2 ^ k.w = mul-le-mul_right (2 ^ k.w) (omega (arith, first, same)) in
+      let third = mul-le-mul_left (abs_sum row) second in
+      omega (arith, third, mul_assoc (abs_sum row) (greatest_size k.d k.root ^ width k.root (support row)) (2 ^ k.w), of.admitted.narrow)
+
+  pub stands_of : (ends : List End) (c : ℕ) (z : ℕ → ℤ) → StandFor k.d ends (corner k.d (spans_of sides) (support row) c) (support row) → weighted_sum z (moves_by k.d ends row) ≡ corner_sum k.d (spans_of sides) row c z
+  unfolding PartOf
+  stands_of ends c z stand = ap (weighted_sum z) (moves_stand k.d ends (corner k.d (spans_of sides) (support row) c) (support row) row stand (or_self (support row)))
+
+pub targets_of : (states names n : ℕ) (row : List Entry) → IsRow states names row → n ≡ states → All (λ entry. entry.target < n) row
+targets_of states names n row is e = λ i d lt. let entry = is.entries i d lt in omega (arith, entry.target, e)
+
+-- ---- the greatest and the least of the corners' values
+
+pub greatest_one : (f : ℕ → ℤ) → IsGreatest f 1 (f 0)
+greatest_one f = record { most = λ c lt. let e : c ≡ 0 = omega arith in rw e (omega (arith, linear)); attained = (0, (omega arith, refl)) }
+
+pub greatest_more : (f : ℕ → ℤ) (n : ℕ) (z y : ℤ) → IsGreatest f n z → z ≤ℤ y → f n ≤ℤ y → (y ≡ z) ⊎ (y ≡ f n) → IsGreatest f (n + 1) y
+greatest_more f n z y h above here one = record {
+  most = λ c lt. ⊎_elim (λ (e : c ≡ n). rw e here) (λ (less : c < n). omega (arith, linear, h.most c less, above)) (last c n lt);
+  attained = ⊎_elim (λ (e : y ≡ z). (h.attained.0, (omega (arith, h.attained.1.0), e ∙ h.attained.1.1))) (λ (e : y ≡ f n). (n, (omega arith, e))) one;
+}
+  where
+    last : (c n : ℕ) → c < n + 1 → (c ≡ n) ⊎ (c < n)
+    last c n lt = grind arith
+
+pub least_one : (f : ℕ → ℤ) → IsLeast f 1 (f 0)
+least_one f = record { least = λ c lt. let e : c ≡ 0 = omega arith in rw e (omega (arith, linear)); attained = (0, (omega arith, refl)) }
+
+pub greatest_one_at : (f : ℕ → ℤ) (z : ℤ) → z ≡ f 0 → IsGreatest f 1 z
+greatest_one_at f z e = rw e (greatest_one f)
+
+pub least_one_at : (f : ℕ → ℤ) (z : ℤ) → z ≡ f 0 → IsLeast f 1 z
+least_one_at f z e = rw e (least_one f)
+
+pub least_more : (f : ℕ → ℤ) (n : ℕ) (z y : ℤ) → IsLeast f n z → y ≤ℤ z → y ≤ℤ f n → (y ≡ z) ⊎ (y ≡ f n) → IsLeast f (n + 1) y
+least_more f n z y h below here one = record {
+  least = λ c lt. ⊎_elim (λ (e : c ≡ n). rw e here) (λ (less : c < n). omega (arith, linear, h.least c less, below)) (last c n lt);
+  attained = ⊎_elim (λ (e : y ≡ z). (h.attained.0, (omega (arith, h.attained.1.0), e ∙ h.attained.1.1))) (λ (e : y ≡ f n). (n, (omega arith, e))) one;
+}
+  where
+    last : (c n : ℕ) → c < n + 1 → (c ≡ n) ⊎ (c < n)
+    last c n lt = grind arith
+
+module _ (k : CaseData) (s a : ℕ) (sides : List ℤ) (x : List ℤ) (is : IsCase k) (inside : AreSidesInside k.root sides) where
+  same_whole : whole k.model k.d (spans_of sides) (row_at k.model s a) ≡ row_whole k s a
+  same_whole = ap (λ n. k.model.common *ℤ power k.d n) (width-within (spans_of sides) k.root (support (row_at k.model s a)) inside.within)
+
+  same_count : 2 ^ width (spans_of sides) (support (row_at k.model s a)) ≡ corner_count k s a
+  same_count = ap (λ n. 2 ^ n) (width-within (spans_of sides) k.root (support (row_at k.model s a)) inside.within)
+
+  common_positive : pos 0 <ℤ k.model.common
+  common_positive = omega (arith, linear, is.model.denominator.0)
+
+  -- the greatest corner value bounds the row from above
+  pub bounds_above : (z : ℤ) → IsGreatest (row_value k (spans_of sides) s a x) (corner_count k s a) z → BoundsAbove k (spans_of sides) s a x z
+  bounds_above z h v in_sides =
+      let ss = spans_of sides in
+      let row = row_at k.model s a in
+      let w = whole k.model k.d ss row in
+      let up = row_upper_at k.d is.grid.positive ss inside.rectangle.spans row (number x) k.model.common z common_positive (λ c lt. h.most c (subst (λ n. c < n) same_count lt)) v (Inside-on k.d ss (support row) v in_sides) in
+      rw (← same_whole) up
+
+  pub bounds_below : (z : ℤ) → IsLeast (row_value k (spans_of sides) s a x) (corner_count k s a) z → BoundsBelow k (spans_of sides) s a x z
+  bounds_below z h v in_sides =
+      let ss = spans_of sides in
+      let row = row_at k.model s a in
+      let down = row_lower_at k.d is.grid.positive ss inside.rectangle.spans row (number x) k.model.common z common_positive (λ c lt. h.least c (subst (λ n. c < n) same_count lt)) v (Inside-on k.d ss (support row) v in_sides) in
+      rw (← same_whole) down
+
+-- a loop that starts at 1 and ends at 1 << n ends at 2 ^ n
+pub corners_done : (n w corner : ℕ) → n ≡ w → w ≤ 4 → (1 ≤ 1 * 2 ^ n % 4294967296 → corner ≤ 1 * 2 ^ n % 4294967296) → 1 * 2 ^ n % 4294967296 ≤ corner → corner ≡ 2 ^ w
+corners_done n w corner e few most least =
+    let small : 2 ^ n ≤ 2 ^ 4 = pow_mono {j = 4} (omega arith) in
+    let one : 1 * 2 ^ n ≡ 2 ^ n = omega arith in
+    let end : 1 * 2 ^ n % 4294967296 ≡ 2 ^ n = rw one (mod-eq_of_lt (omega arith)) in
+    let some : 0 < 2 ^ n = pow_pos n in
+    let upper : corner ≤ 1 * 2 ^ n % 4294967296 = most (omega arith) in
+    let same : 2 ^ n ≡ 2 ^ w = ap (λ k. 2 ^ k) e in
+    omega arith

@@ -1,15 +1,14 @@
 -- The ends that a corner chooses, parameter by parameter, and the products that they make.
-use Rattle.std.proofs.Common.{◌≡◌, ℕ, zero, suc, ◌+◌, ◌-◌, ◌*◌, ◌/◌, ◌%◌, ◌^◌, ◌<◌, ◌≤◌, max, List, [], ◌∷◌, ◌++◌, length, drop, get_or, ℤ, pos, ◌*ℤ◌, ◌<ℤ◌, unsigned_abs, All, FitsSigned, refl, sym, ap, ap₂, subst, ◌∙◌, arith, ◌⊎◌, ⊎_elim, bit_or, zero-add, one-add, add-one, pow-suc, drop-cons, append_assoc, length-append, length-drop, mul-le-mul_left, mul-le-mul_right, mul-le-mul, mul_assoc, mul_comm, le_trans}
+use Rattle.std.proofs.Common.{◌≡◌, ℕ, zero, suc, ◌+◌, ◌-◌, ◌*◌, ◌/◌, ◌%◌, ◌^◌, ◌<◌, ◌≤◌, max, List, [], ◌∷◌, ◌++◌, length, drop, get_or, ℤ, pos, ◌*ℤ◌, ◌<ℤ◌, unsigned_abs, FitsSigned, refl, sym, ap, subst, ◌∙◌, arith, ◌⊎◌, ⊎_elim, bit_or, add-one, pow-suc, drop-cons, append_assoc, length-append, length-drop, mul-le-mul_left, mul-le-mul_right, mul-le-mul, mul_assoc, mul_comm, le_trans}
 use Rattle.std.proofs.Math.Nat.{div-div-eq-div-mul, one-le-pow, pow-zero}
 use Rattle.std.proofs.Math.Pow.{pow_mono}
 use Rattle.std.proofs.lemmas.Int.{fits_signed_from_abs, unsigned_abs-mul, ints}
 use Rattle.std.proofs.lemmas.List.{drop_all}
 use mir.Syntax.{w128}
 use Rattle.lift_poly.specs.Polynomial.{factor, monomial}
-use Rattle.lift_poly.proofs.Ring.{mul-assoc, mul-comm, one-mul, linear}
+use Rattle.lift_poly.proofs.Ring.{mul-assoc, mul-comm, one-mul}
 use Rattle.lift_poly.proofs.Weights.{parity}
 use Rattle.lift_grid.specs.Rectangle.{Spans, spans_of, end_of}
-use Rattle.lift_grid.proofs.Sides.{end_in_row}
 use Rattle.corner_lift.specs.Corner.{corner, width, by_bit}
 use Rattle.corner_lift.specs.Case.{greatest_size}
 use Rattle.corner_lift.specs.Ends.{End, product_at, StandFor, greatest_end}

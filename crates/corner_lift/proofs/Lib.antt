@@ -6,4 +6,6 @@ pub mod Coefficients
 pub mod Gathering
 pub mod Summing
 pub mod Cases
+pub mod CornerEnds
+pub mod Products
 pub mod Samples

@@ -1,6 +1,5 @@
 -- The corner bound for the rows of a model: what holds of a row's weighted sum at each of its corners holds at each valuation inside.
 use Rattle.std.proofs.Common.{◌≡◌, ℕ, zero, suc, ◌+◌, ◌/◌, ◌%◌, ◌^◌, ◌<◌, List, [], ◌∷◌, ◌++◌, ℤ, pos, ◌+ℤ◌, ◌*ℤ◌, neg_ℤ, ◌≤ℤ◌, ◌<ℤ◌, refl, sym, ap, ap₂, ◌∙◌, arith, ⊎_elim, bit_or, zero-add, one-add}
-use Rattle.std.proofs.lemmas.Nat.Bits.{bit_at_or, same_from_bits}
 use lib.Bits.{or_self, or_comm}
 use borrow.Author.Differences.{product_is}
 use Rattle.lift_poly.specs.Polynomial.{Term, Valuation, monomial, weight, denominator}
@@ -11,8 +10,8 @@ use Rattle.lift_poly.proofs.Weights.{weight-append, parity}
 use Rattle.lift_grid.specs.Rectangle.{Spans, AreSpans}
 use Rattle.lift_model.specs.declared.entry.Entry.{Entry}
 use Rattle.lift_model.specs.Process.{power, weighted_sum}
-use Rattle.lift_model.specs.Model.{ModelData, support, moves_at}
-use Rattle.corner_lift.specs.Corner.{width, corner, corner_sum, whole}
+use Rattle.lift_model.specs.Model.{support, moves_at}
+use Rattle.corner_lift.specs.Corner.{width, corner, corner_sum}
 use Rattle.corner_lift.proofs.CornerBound.{TermsIn, InsideOn, CornersNonpos, corner_bound, mul-pos_lem, corner-in, corner-out}
 
 -- a row's weighted sum at a valuation
@@ -152,17 +151,26 @@ row_lower D positive ss ordered row z k h v inside =
     let result = row_upper D positive ss ordered row (λ s. minus *ℤ z s) (minus *ℤ k) at_corners v inside in
     omega (arith, linear, result, row_sum-times v minus z row, mul-assoc minus k (denominator v), minus-one (row_sum v z row), minus-one (k *ℤ denominator v))
 
--- the corner bound for numbers between which every corner's sum lies
-pub between_corners : (m : ModelData) (D : ℤ) → pos 0 <ℤ D → (ss : Spans) → AreSpans ss → (row : List Entry) (z : ℕ → ℤ) (low high : ℤ) → pos 0 <ℤ m.common → ((c : ℕ) → c < 2 ^ width ss (support row) → low ≤ℤ corner_sum D ss row c z) → ((c : ℕ) → c < 2 ^ width ss (support row) → corner_sum D ss row c z ≤ℤ high) → (v : Valuation) → InsideOn D ss (support row) v → ((low *ℤ (m.common *ℤ denominator v)) ≤ℤ (row_sum v z row *ℤ whole m D ss row)) × ((row_sum v z row *ℤ whole m D ss row) ≤ℤ (high *ℤ (m.common *ℤ denominator v)))
-between_corners m D positive ss ordered row z low high common lower upper v inside =
+-- ((k C) p) as (C p) k
+swap_factors : (k c p : ℤ) → (k *ℤ c) *ℤ p ≡ (c *ℤ p) *ℤ k
+swap_factors k c p = rw (as_diff k, as_diff c, as_diff p) (simp diffs (diff-same _ _ _ _ (omega arith)))
+
+-- The corner bound from above, for a number that no corner's sum exceeds: each side over its own total.
+pub row_upper_at : (D : ℤ) → pos 0 <ℤ D → (ss : Spans) → AreSpans ss → (row : List Entry) (z : ℕ → ℤ) (common high : ℤ) → pos 0 <ℤ common → ((c : ℕ) → c < 2 ^ width ss (support row) → corner_sum D ss row c z ≤ℤ high) → (v : Valuation) → InsideOn D ss (support row) v → (row_sum v z row *ℤ (common *ℤ power D (width ss (support row)))) ≤ℤ (high *ℤ (common *ℤ denominator v))
+row_upper_at D positive ss spans row z common high common_positive upper v inside =
     let p = power D (width ss (support row)) in
-    let w = whole m D ss row in
-    let w_positive : pos 0 <ℤ w = mul-pos_lem m.common p common (power-pos D (width ss (support row)) positive) in
-    let swap = λ (k : ℤ). let e : (k *ℤ m.common) *ℤ p ≡ w *ℤ k = rw (as_diff k, as_diff m.common, as_diff p) (simp diffs (diff-same _ _ _ _ (omega arith))) in e in
-    let lows = row_lower D positive ss ordered row (λ s. w *ℤ z s) (low *ℤ m.common)
-    (λ c lt. rw (row_sum-times (corner D ss (support row) c) w z row, swap low) (mul-le w low _ (omega (arith, linear, w_positive)) (lower c lt))) v inside in
-    let highs = row_upper D positive ss ordered row (λ s. w *ℤ z s) (high *ℤ m.common)
-    (λ c lt. rw (row_sum-times (corner D ss (support row) c) w z row, swap high) (mul-le w _ high (omega (arith, linear, w_positive)) (upper c lt))) v inside in (
-      omega (arith, linear, lows, row_sum-times v w z row, mul-comm w (row_sum v z row), mul-assoc low m.common (denominator v)),
-      omega (arith, linear, highs, row_sum-times v w z row, mul-comm w (row_sum v z row), mul-assoc high m.common (denominator v)),
-    )
+    let w = common *ℤ p in
+    let w_positive : pos 0 <ℤ w = mul-pos_lem common p common_positive (power-pos D (width ss (support row)) positive) in
+    let highs = row_upper D positive ss spans row (λ s. w *ℤ z s) (high *ℤ common)
+    (λ c lt. rw (row_sum-times (corner D ss (support row) c) w z row, swap_factors high common p) (mul-le w _ high (omega (arith, linear, w_positive)) (upper c lt))) v inside in
+    omega (arith, linear, highs, row_sum-times v w z row, mul-comm w (row_sum v z row), mul-assoc high common (denominator v))
+
+-- the corner bound from below
+pub row_lower_at : (D : ℤ) → pos 0 <ℤ D → (ss : Spans) → AreSpans ss → (row : List Entry) (z : ℕ → ℤ) (common low : ℤ) → pos 0 <ℤ common → ((c : ℕ) → c < 2 ^ width ss (support row) → low ≤ℤ corner_sum D ss row c z) → (v : Valuation) → InsideOn D ss (support row) v → (low *ℤ (common *ℤ denominator v)) ≤ℤ (row_sum v z row *ℤ (common *ℤ power D (width ss (support row))))
+row_lower_at D positive ss spans row z common low common_positive lower v inside =
+    let p = power D (width ss (support row)) in
+    let w = common *ℤ p in
+    let w_positive : pos 0 <ℤ w = mul-pos_lem common p common_positive (power-pos D (width ss (support row)) positive) in
+    let lows = row_lower D positive ss spans row (λ s. w *ℤ z s) (low *ℤ common)
+    (λ c lt. rw (row_sum-times (corner D ss (support row) c) w z row, swap_factors low common p) (mul-le w low _ (omega (arith, linear, w_positive)) (lower c lt))) v inside in
+    omega (arith, linear, lows, row_sum-times v w z row, mul-comm w (row_sum v z row), mul-assoc low common (denominator v))

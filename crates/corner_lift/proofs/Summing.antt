@@ -1,5 +1,5 @@
 -- Sums over the terms of a polynomial and over the entries of a row, and how large they can be.
-use Rattle.std.proofs.Common.{◌≡◌, ℕ, zero, suc, ◌+◌, ◌*◌, ◌^◌, ◌<◌, ◌≤◌, List, [], ◌∷◌, length, drop, get_or, map, ℤ, pos, ◌+ℤ◌, ◌*ℤ◌, ◌≤ℤ◌, unsigned_abs, FitsSigned, Some, slice_get, sum_by, refl, sym, ap, ap₂, subst, ◌∙◌, arith, bit_or, drop-cons, mul-le-mul_left, mul-le-mul_right, mul-le-mul, mul_assoc, le_trans}
+use Rattle.std.proofs.Common.{◌≡◌, ℕ, zero, suc, ◌+◌, ◌*◌, ◌^◌, ◌<◌, ◌≤◌, List, [], ◌∷◌, length, drop, get_or, ℤ, pos, ◌+ℤ◌, ◌*ℤ◌, unsigned_abs, FitsSigned, Some, slice_get, refl, sym, ap, ap₂, subst, ◌∙◌, arith, drop-cons, mul-le-mul_left, mul-le-mul_right, mul-le-mul, le_trans}
 use Rattle.std.proofs.lemmas.Int.{fits_signed_from_abs, unsigned_abs-mul, ints}
 use Rattle.std.proofs.lemmas.List.{drop_all}
 use Rattle.std.proofs.lemmas.List.Sums.{sum_by-drop_more, get_or-le-sum_by}

@@ -1,5 +1,5 @@
 -- Certificates of a rectangle: for each state a number over 2 ^ w, w being the precision. An accepting one bounds from above what any scheduler reaches, and a rejecting one from below what some scheduler reaches. Finite tests at the corners of each row show it: that the vector is inductive, as the textbook has it for one Markov decision process.
-use Rattle.std.specs.Prelude.{◌≡◌, ℕ, ◌-◌, ◌^◌, ◌<◌, ◌≤◌, true, false, List, [], ℤ, pos, ◌*ℤ◌, ◌≤ℤ◌, ◌<ℤ◌, All, length, slice_index_or, nat_lt, if◌then◌else◌}
+use Rattle.std.specs.Prelude.{◌≡◌, ℕ, ◌-◌, ◌^◌, ◌<◌, ◌≤◌, true, false, List, ℤ, pos, ◌*ℤ◌, ◌≤ℤ◌, ◌<ℤ◌, All, length, slice_index_or, nat_lt, if◌then◌else◌}
 use Rattle.lift_model.specs.declared.entry.Entry.{Entry}
 use Rattle.lift_model.specs.Model.{ModelData, is_goal, choices, row_at}
 use Rattle.lift_grid.specs.Rectangle.{Spans}

@@ -3,3 +3,4 @@ pub mod Certificate
 pub mod Stages
 pub mod Case
 pub mod Ends
+pub mod Laws

@@ -1,12 +1,10 @@
-use Rattle.std.proofs.Common.{rules, ◌≡◌, ◌≤◌, ◌<◌, ◌+◌, ◌*◌, ◌^◌, ◌*ℤ◌, ◌+ℤ◌, ℕ, zero, suc, ℤ, pos, Bool, true, false, cond, nat_lt, List, [], ◌∷◌, length, get_or, slice_index_or, unsigned_abs, to_z, of_z, to_z-of_z, SFits, w64, refl, sym, ap, subst, ◌∙◌, arith}
+use Rattle.std.proofs.Common.{rules, ◌≡◌, ◌≤◌, ◌<◌, ◌+◌, ◌*◌, ◌^◌, ◌*ℤ◌, ◌+ℤ◌, ℕ, zero, suc, pos, Bool, true, false, cond, nat_lt, List, [], ◌∷◌, length, slice_index_or, unsigned_abs, to_z, of_z, to_z-of_z, SFits, w64, refl, sym, ap, subst, ◌∙◌, arith}
 use mir.Syntax.{w128}
 use Rattle.std.proofs.lemmas.Nat.{pow_pos}
-use Rattle.lift_poly.specs.Arithmetic as polynomial
 use Rattle.lift_model.specs.declared.entry.Entry.{Entry}
 use Rattle.corner_lift.specs.Case.{abs_sum}
-use Rattle.corner_lift.specs.Certificate.{number, mark, lower}
+use Rattle.corner_lift.specs.Certificate.{mark, lower}
 use Rattle.corner_lift.specs.Ends.{weight_at, greatest_end}
-use Rattle.corner_lift.proofs.Rows.{all_numbers}
 use Rattle.corner_lift.proofs.Summing.{IsRowSummed, row_summed_more, row_summed_fits, entry_size, entry_room, number_room, part_size}
 use Rattle.corner_lift.proofs.weighted.sum_below.Goals as goal
 use Rattle.corner_lift.proofs.weighted.sum_below.Goals.{After-times-sum}
@@ -25,8 +23,6 @@ pub times-sum-requires-clause-weight : goal.times-sum-requires-clause-weight
 times-sum-requires-clause-weight c =
     let room : abs_sum c.entries-entry-items.result.now * (greatest_end c.args.case.now.d c.args.ends.now ^ length c.args.ends.now * 2 ^ c.args.case.now.w) < 2 ^ 126 = rw c.entries-entry-items.ensures c.requires.room in
     let one = entry_size c.entries-entry-items.result.now c.loop-entry.entry-index c.entry-item.result c.loop-entry-test.true c.entry-item.is in
-    let target : c.entry-item.result.target < length c.args.ranks.now = let entry = c.entry-item.result in let at = rw c.entries-entry-items.ensures at c.entry-item.is in let lt = rw c.entries-entry-items.ensures at c.loop-entry-test.true in subst (λ (e : Entry). e.target < length c.args.ranks.now) (sym at) (c.requires.targets c.loop-entry.entry-index entry lt) in
-    let small : unsigned_abs (c.one_if-counts.result) ≤ 2 ^ c.args.case.now.w = rw c.one_if-counts.ensures (one_size (nat_lt (slice_index_or c.args.ranks.now c.entry-item.result.target 0) c.args.below) c.args.case.now.w) in
     let d_fits : SFits w64 c.grid-d.result.d = search rules in
     rw (to_z-of_z d_fits, c.grid-d.ensures.d) (entry_room _ _ _ c.args.case.now.w one room)
 
@@ -34,7 +30,6 @@ pub times-sum-requires-clause-room : goal.times-sum-requires-clause-room
 times-sum-requires-clause-room c =
     let room : abs_sum c.entries-entry-items.result.now * (greatest_end c.args.case.now.d c.args.ends.now ^ length c.args.ends.now * 2 ^ c.args.case.now.w) < 2 ^ 126 = rw c.entries-entry-items.ensures c.requires.room in
     let one = entry_size c.entries-entry-items.result.now c.loop-entry.entry-index c.entry-item.result c.loop-entry-test.true c.entry-item.is in
-    let target : c.entry-item.result.target < length c.args.ranks.now = let entry = c.entry-item.result in let at = rw c.entries-entry-items.ensures at c.entry-item.is in let lt = rw c.entries-entry-items.ensures at c.loop-entry-test.true in subst (λ (e : Entry). e.target < length c.args.ranks.now) (sym at) (c.requires.targets c.loop-entry.entry-index entry lt) in
     let small : unsigned_abs (c.one_if-counts.result) ≤ 2 ^ c.args.case.now.w = rw c.one_if-counts.ensures (one_size (nat_lt (slice_index_or c.args.ranks.now c.entry-item.result.target 0) c.args.below) c.args.case.now.w) in
     let d_fits : SFits w64 c.grid-d.result.d = search rules in
     let n_fits : SFits w64 (c.one_if-counts.result) = search rules in
@@ -43,8 +38,6 @@ times-sum-requires-clause-room c =
 -- the sum with this entry
 added : (c : After-times-sum) → IsRowSummed c.args.case.now.d c.args.ends.now (greatest_end c.args.case.now.d c.args.ends.now ^ length c.args.ends.now * 2 ^ c.args.case.now.w) (lower (mark c.args.ranks.now) c.args.below) c.entries-entry-items.result.now (to_z w128 c.loop-entry.sum-bits +ℤ to_z w128 (of_z w128 c.times-sum.result)) (c.loop-entry.entry-index + 1)
 added c =
-    let room : abs_sum c.entries-entry-items.result.now * (greatest_end c.args.case.now.d c.args.ends.now ^ length c.args.ends.now * 2 ^ c.args.case.now.w) < 2 ^ 126 = rw c.entries-entry-items.ensures c.requires.room in
-    let one = entry_size c.entries-entry-items.result.now c.loop-entry.entry-index c.entry-item.result c.loop-entry-test.true c.entry-item.is in
     let target : c.entry-item.result.target < length c.args.ranks.now = let entry = c.entry-item.result in let at = rw c.entries-entry-items.ensures at c.entry-item.is in let lt = rw c.entries-entry-items.ensures at c.loop-entry-test.true in subst (λ (e : Entry). e.target < length c.args.ranks.now) (sym at) (c.requires.targets c.loop-entry.entry-index entry lt) in
     let small : unsigned_abs (c.one_if-counts.result) ≤ 2 ^ c.args.case.now.w = rw c.one_if-counts.ensures (one_size (nat_lt (slice_index_or c.args.ranks.now c.entry-item.result.target 0) c.args.below) c.args.case.now.w) in
     let d_fits : SFits w64 c.grid-d.result.d = search rules in

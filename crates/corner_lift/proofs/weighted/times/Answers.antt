@@ -1,4 +1,4 @@
-use Rattle.std.proofs.Common.{rules, ◌≡◌, ◌≤◌, ◌<◌, ◌*◌, ◌^◌, ◌*ℤ◌, ℕ, ℤ, pos, length, unsigned_abs, FitsSigned, to_z, of_z, to_z-of_z, SFits, w64, sym, ap, ◌∙◌, arith, mul-le-mul, mul_assoc, le_refl, refl}
+use Rattle.std.proofs.Common.{rules, ◌≡◌, ◌≤◌, ◌*◌, ◌^◌, ◌*ℤ◌, ℕ, ℤ, pos, length, unsigned_abs, FitsSigned, to_z, of_z, to_z-of_z, SFits, w64, sym, ap, ◌∙◌, arith, mul-le-mul, mul_assoc, le_refl, refl}
 use mir.Syntax.{w128}
 use Rattle.std.proofs.lemmas.Int.{fits_signed_from_abs, unsigned_abs-mul}
 use Rattle.lift_poly.specs.Arithmetic as polynomial

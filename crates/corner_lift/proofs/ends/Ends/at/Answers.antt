@@ -1,23 +1,20 @@
-use Rattle.std.proofs.Common.{rules, ◌≡◌, ◌≢◌, ℕ, ◌<◌, ◌+◌, ◌*◌, ◌%◌, ◌^◌, ◌∙◌, sym, ap, pos, List, ℤ, length, slice_index_or, to_z, of_z, to_z-of_z, SFits, w64, arith}
-use Rattle.lift_grid.specs.Rectangle.{Spans, spans_of, end_of}
+use Rattle.std.proofs.Common.{rules, ◌≡◌, ◌≢◌, ℕ, ◌<◌, ◌+◌, ◌*◌, ◌%◌, ◌∙◌, ap, pos, List, ℤ, length, slice_index_or, to_z-of_z, SFits, w64, arith}
+use Rattle.lift_grid.specs.Rectangle.{spans_of}
 use Rattle.lift_grid.proofs.Sides.{end_in_row}
 use Rattle.corner_lift.specs.Ends.{End}
 use Rattle.corner_lift.proofs.Gathering.{AreGathered, span_left, below_16, gathered_out, gathered_in, gathered_all, room_left, two_each, ends_stand, ends_sizes, ends_count}
 use Rattle.corner_lift.proofs.ends.Ends.at.Goals as goal
-use Rattle.corner_lift.proofs.ends.Ends.at.Goals.{After-ends-1, then-left-eq1, else-left-eq1}
-
-small : (c : After-ends-1) → c.loop-left.parameter < 16
-small c = below_16 (spans_of c.args.sides.now) c.args.support c.args.corner c.loop-left.ends c.loop-left.left c.loop-left.bits c.loop-left.parameter c.loop-left.invariant c.loop-left-test.true c.ranges.support.fits
+use Rattle.corner_lift.proofs.ends.Ends.at.Goals.{then-left-eq1, else-left-eq1}
 
 in_sides : (sides : List ℤ) (support corner : ℕ) (ends : List End) (left bits parameter : ℕ) → AreGathered (spans_of sides) support corner ends left bits parameter → left ≢ 0 → 2 * parameter + 1 < length sides
 in_sides sides support corner ends left bits parameter h some =
     omega (arith, two_each sides, span_left (spans_of sides) support corner ends left bits parameter h some)
 
 pub overflow_mul-parameter : goal.overflow_mul-parameter
-overflow_mul-parameter c = record { fits = omega (arith, small c) }
+overflow_mul-parameter c = record { fits = omega (arith, below_16 (spans_of c.args.sides.now) c.args.support c.args.corner c.loop-left.ends c.loop-left.left c.loop-left.bits c.loop-left.parameter c.loop-left.invariant c.loop-left-test.true c.ranges.support.fits) }
 
 pub overflow_add-parameter : goal.overflow_add-parameter
-overflow_add-parameter c = record { fits = omega (arith, small c) }
+overflow_add-parameter c = record { fits = omega (arith, below_16 (spans_of c.args.sides.now) c.args.support c.args.corner c.loop-left.ends c.loop-left.left c.loop-left.bits c.loop-left.parameter c.loop-left.invariant c.loop-left-test.true c.ranges.support.fits) }
 
 pub bounds-sides-parameter : goal.bounds-sides-parameter
 bounds-sides-parameter c =

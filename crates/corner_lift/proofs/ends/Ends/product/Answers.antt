@@ -1,4 +1,4 @@
-use Rattle.std.proofs.Common.{rules, ◌≡◌, ℕ, ◌<◌, ◌/◌, ◌%◌, ◌^◌, ◌+◌, ◌∙◌, pos, ℤ, ◌*ℤ◌, take, get_or, slice_index_or, to_z, of_z, to_z-of_z, SFits, w64}
+use Rattle.std.proofs.Common.{rules, ◌≡◌, ◌/◌, ◌%◌, ◌^◌, ◌∙◌, pos, take, get_or, to_z, of_z, to_z-of_z, SFits, w64}
 use mir.Syntax.{w128}
 use Rattle.lift_poly.specs.Polynomial.{factor}
 use Rattle.corner_lift.proofs.Gathering.{multiplied_more, multiplied_fits}

@@ -1,6 +1,5 @@
-use Rattle.std.proofs.Common.{rules, ◌≡◌, ◌<◌, ◌+◌, ◌∙◌, ap, sym, pos, ◌+ℤ◌, ◌*ℤ◌, length, slice_get, Some, arith, to_z, of_z, to_z-of_z, SFits, w64}
+use Rattle.std.proofs.Common.{rules, ◌<◌, ◌+◌, ◌∙◌, ◌+ℤ◌, length, arith, to_z, of_z, to_z-of_z, SFits, w64}
 use mir.Syntax.{w128}
-use Rattle.corner_lift.specs.Ends.{product_at}
 use Rattle.corner_lift.proofs.Summing.{IsWeighed, term_room, weighed_more, weighed_fits}
 use Rattle.corner_lift.proofs.ends.Ends.weight.Goals as goal
 use Rattle.corner_lift.proofs.ends.Ends.weight.Goals.{After-product-sum}

@@ -1,0 +1,7 @@
+use Rattle.lift_grid.specs.Rectangle.{spans_of}
+use Rattle.corner_lift.specs.Case.{row_value, IsGreatest}
+use Rattle.corner_lift.proofs.row.row_max.Given as goal
+
+-- the greatest of the corners so far
+abbrev pub invariant-loop-corner : goal.invariant-loop-corner
+invariant-loop-corner l = IsGreatest (row_value l.case (spans_of l.sides) l.s l.a l.vec) l.corner l.greatest
