@@ -5,6 +5,7 @@ use Rattle.std.specs.Ordering.{int_eq}
 use Rattle.std.proofs.lemmas.Bool.Decides.{Decides-int_eq, nat_tests}
 use Rattle.std.proofs.lemmas.List.Elements.{All-head, All-tail, All-cons, All-nil}
 use Rattle.std.proofs.lemmas.List.Sums.{sum_by-cons}
+use Rattle.std.proofs.Math.Nat.{pow-zero}
 use Rattle.std.proofs.lemmas.Nat.{pow_pos}
 use Rattle.std.proofs.lemmas.Int.{ints}
 use Rattle.lift_poly.specs.Polynomial.{Term, IsPolynomial, constant, weight}
@@ -102,12 +103,12 @@ module _ (m : ModelData) (is : IsModel m) (built : is_built m ≡ true) (depth w
   no_names : length m.names ≡ 0
   no_names = eqb-true (length m.names) 0 parts.1
 
-  narrow : (row : List Entry) → pos (abs_sum row) ≡ m.common → abs_sum row * 1 * 2 ^ w < 2 ^ 126
-  narrow row e =
+  narrow : (row : List Entry) (n : ℕ) → pos (abs_sum row) ≡ m.common → abs_sum row * n ^ 0 * 2 ^ w < 2 ^ 126
+  narrow row n e =
       let first : abs_sum row ≤ 2 ^ 62 - 1 = omega (arith, linear, e, is.denominator.1) in
       let second : 2 ^ w ≤ 2 ^ 40 = pow_mono most in
       let product : abs_sum row * 2 ^ w ≤ (2 ^ 62 - 1) * 2 ^ 40 = mul-le-mul first second in
-      omega (arith, product)
+      rw (pow-zero n) (omega (arith, product))
 
   admitted : (row : List Entry) → is_distribution m.common row ≡ true → IsRow (length m.states) (length m.names) row → IsAdmittedRow m (pos (2 ^ depth)) [] w row
   admitted row test valid =
@@ -118,7 +119,7 @@ module _ (m : ModelData) (is : IsModel m) (built : is_built m ≡ true) (depth w
         sum = by_set total entries;
         least = λ c lt. least_weights (length m.states) row entries t.0;
         few = omega arith;
-        narrow = narrow row (sizes (length m.states) row entries t.0 ∙ total);
+        narrow = narrow row (2 ^ depth) (sizes (length m.states) row entries t.0 ∙ total);
       }
     where
       by_set : row_coefficient 0 row ≡ m.common → All (IsEntry (length m.states) 0) row → (set : ℕ) → row_coefficient set row ≡ cond (nat_eq set 0) m.common (pos 0)

@@ -1,9 +1,14 @@
 -- The lines of a report, as the pieces that are written one after the other.
-use Rattle.std.proofs.Common.{◌≡◌, ◌+◌, ◌<◌, ◌≤◌, ℕ, ℤ, zero, suc, List, [], ◌∷◌, ◌++◌, length, map, get_or, drop, slice_get, Some, Bool, true, false, refl, sym, ap, ◌∙◌, arith, add-one, append_assoc, codes}
+use Rattle.std.proofs.Common.{◌≡◌, ◌+◌, ◌<◌, ◌≤◌, ℕ, ℤ, zero, suc, List, [], ◌∷◌, ◌++◌, length, map, get_or, drop, slice_get, Some, Bool, true, false, Ok, Err, Result, IsErr, take, refl, sym, ap, ap₂, subst, ◌∙◌, arith, add-one, append_assoc, codes}
 use Rattle.std.specs.List.{flat_map, concat}
 use Rattle.std.specs.Fmt.{decimal}
 use Rattle.std.proofs.lemmas.List.Folds.{concat-append}
-use Rattle.plift_top.specs.Report.{line, goal_states, numbered}
+use Rattle.std.specs.declared.option.Option.{Option}
+use Rattle.lift_base.specs.Outside.{Wrote}
+use Rattle.lift_base.proofs.Writing.{stopped_at}
+use Rattle.lift_model.specs.declared.kind.Kind.{Kind}
+use Rattle.lift_model.specs.Model.{ModelData}
+use Rattle.plift_top.specs.Report.{line, kind_lines, parameters_line, size_lines, head_lines, goal_states, numbered}
 
 -- a line is its first word, each further word behind a space, and a line feed
 pub line-words : {X : Type 0} (f : X → List ℕ) (word : List ℕ) (xs : List X) → line (word ∷ map f xs) ≡ word ++ (flat_map (λ x. 32 ∷ f x) xs ++ codes "\n")
@@ -55,3 +60,16 @@ flat_next f xs k x e = rw (add-one k) (flat_suc f xs k x e)
 pub line-names : (word : List ℕ) (names : List (List ℕ)) → line (word ∷ names) ≡ word ++ (flat_map (λ name. 32 ∷ name) names ++ codes "\n")
 line-names word [] = refl
 line-names word (name ∷ names) = ap (λ (r : List ℕ). word ++ (32 ∷ r)) (line-names name names ∙ sym (append_assoc name (flat_map (λ name. 32 ∷ name) names) (codes "\n")))
+
+-- the lines of the head, one after the other
+pub head_parts : (m : ModelData) (kind : Kind) (names : List (List ℕ)) → kind ≡ m.kind → names ≡ m.names → concat (head_lines m) ≡ concat (kind_lines kind) ++ (parameters_line names ++ concat (size_lines m))
+head_parts m kind names e f =
+    concat-append (kind_lines m.kind) (parameters_line m.names ∷ size_lines m)
+    ∙ ap₂ (λ (k : Kind) (ns : List (List ℕ)). concat (kind_lines k) ++ (parameters_line ns ++ concat (size_lines m))) (sym e) (sym f)
+
+-- a loop over items that stops at one
+pub stopped_item : {X K T U V E F G : Type 0} {taken : K → Option (List ℕ)} {faults : K → ℕ} {old mid new : K} {y : T} {e : E} (f : X → List ℕ) (xs : List X) (i : ℕ) (x : X)
+    (result : Result U F) → IsErr result → i < length xs → x ≡ get_or xs i x → Wrote {E = G} taken faults old mid (Ok y) (flat_map f (take i xs))
+    → Wrote {T = V} taken faults mid new (Err e) (f x) → Wrote taken faults old new result (flat_map f xs)
+stopped_item {X = X} {V = V} {taken = taken} {faults = faults} {mid = mid} {new = new} {e = e} f xs i x result bad h is p q =
+    stopped_at f xs i x result bad h p (subst (λ (z : X). Wrote {T = V} taken faults mid new (Err e) (f z)) is q)

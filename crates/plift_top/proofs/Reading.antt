@@ -1,5 +1,5 @@
 -- What the reading of a model says of a job.
-use Rattle.std.proofs.Common.{◌≡◌, ◌≢◌, ℕ, List, [], true, false, Ok, Err, refl, sym, subst, Result, IsErrAnd, tt}
+use Rattle.std.proofs.Common.{◌≡◌, ◌≢◌, ℕ, List, [], true, false, Ok, Err, refl, sym, subst, Result, IsErrAnd}
 use Rattle.std.specs.declared.option.Option.{Option}
 use Rattle.std.specs.Io.KnownBytes.{Consumes, IsAtEnd}
 use Rattle.lift_poly.specs.Polynomial.{Valuation}
@@ -21,7 +21,7 @@ use Rattle.plift_top.specs.declared.refusal.Refusal.TheVariants as refusal
 
 -- a text that was read to its end is refused
 module _ {S : Type 0} (left : S → Option (List ℕ)) (faults : S → ℕ) (source source' : S) (goal bytes : List ℕ) (consumed : Consumes (left source) (left source') bytes) (ended : IsAtEnd (left source')) where
-  by_cause : (line : ℕ) (cause : DrnCause) (result : Result ModelData Refusal) → IsErrAnd result (λ e. e ≡ model_refusal (record { line = line; cause = cause })) → (cause ≢ cause.Memory → drn bytes goal ≡ Err (record { line = line; cause = cause })) → ReadsModel left faults goal source source' result
+  by_cause : (line : ℕ) (c : DrnCause) (result : Result ModelData Refusal) → IsErrAnd result (λ e. e ≡ model_refusal (record { line = line; cause = c })) → (c ≢ cause.Memory → drn bytes goal ≡ Err (record { line = line; cause = c })) → ReadsModel left faults goal source source' result
   by_cause line c (Ok m) is h = absurd is
   by_cause line cause.Memory (Err e) is h = subst (λ (r : Refusal). ReadsModel left faults goal source source' (Err r)) (sym is) tt
   by_cause line _ (Err e) is h = subst (λ (r : Refusal). ReadsModel left faults goal source source' (Err r)) (sym is) (record { text = bytes; consumed = consumed; ended = ended; has = h (λ k. absurd (cc)) })

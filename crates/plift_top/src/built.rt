@@ -2,6 +2,7 @@
 ghost use Rattle.std.specs.Prelude.{◌≡◌, ◌<◌, ◌⊎◌, pos, ◌-ℤ◌, ◌≤ℤ◌, ◌<ℤ◌, length, IfSome, IfNone};
 ghost use Rattle.std.specs.List.{list_all};
 ghost use Rattle.lift_model.specs.Model.{choices};
+ghost use Rattle.lift_model.specs.Valid.{IsModel};
 ghost use Rattle.plift_top.specs.Built.{is_built, is_distribution};
 
 use lift_model::{Entry, Kind, Model};
@@ -59,7 +60,9 @@ fn has_distributions(model: &Model) -> bool
 /// Whether the model is one of those that are verified today: a Markov chain without parameters, each
 /// of whose rows is a distribution. Linear in the number of its entries.
 pub fn is_built(model: &Model) -> bool
-    ensures { result ≡ is_built model.now }
+    ensures built { result ≡ is_built model.now }
+    ensures valid { IsModel model.now }
 {
-    model.kind() == Kind::Dtmc && model.names().len() == 0 && has_distributions(model)
+    let names = model.names();
+    model.kind() == Kind::Dtmc && names.len() == 0 && has_distributions(model)
 }

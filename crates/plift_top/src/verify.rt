@@ -1,6 +1,7 @@
 // Verifies a model against a bound.
 ghost use Rattle.std.specs.Prelude.{◌≡◌, ◌≤◌, ◌<◌, ◌^◌, true, [], IfOk, length, IsTrue, ◌↔◌, pos, ◌*ℤ◌, ◌≤ℤ◌};
 ghost use Rattle.lift_base.specs.Outside.{Wrote};
+ghost use Rattle.lift_model.specs.Valid.{IsModel};
 ghost use Rattle.corner_lift.specs.Certificate.{IsLeastUpper, number};
 ghost use Rattle.plift_top.specs.Report.{report_text};
 ghost use Rattle.plift_top.specs.Built.{is_built};
@@ -34,6 +35,7 @@ fn grid_of(depth: u32) -> i64
 
 // The case of a model without parameters, whose region has no sides.
 fn case_of<'m>(model: &'m Model, root: &'m Rect, job: &Job) -> Case<'m>
+    requires valid { IsModel model.now }
     requires built { is_built model.now ≡ true }
     requires root { root.now ≡ [] }
     ensures { result ≡ case_data model.now (job_data job.now) }
@@ -77,6 +79,7 @@ fn decide<'x>(case: &Case, bound: Bound, x: &'x [i64]) -> Verdict<'x>
 // Reads a model for a goal label, one that is built.
 fn read_built<S: Source>(alloc: Global, goal: &[u8], source: &mut S) -> Result<Model, Refusal>
     ensures answer { ReadsModel S.left S.faults goal.now source.old source.new result }
+    ensures valid { IfOk result IsModel }
     ensures limit { KeepsLimit result (S.left source.old) (S.left source.new) }
 {
     let text = read_all(alloc, source, TEXT_LIMIT)?;
