@@ -2,7 +2,7 @@
 use Rattle.std.proofs.Common.{◌≡◌, ◌≢◌, ℕ, List, [], true, false, Ok, Err, refl, sym, subst, Result, IsErrAnd}
 use Rattle.std.specs.declared.option.Option.{Option}
 use Rattle.std.specs.Io.KnownBytes.{Consumes, IsAtEnd}
-use Rattle.lift_poly.specs.Polynomial.{Valuation}
+use Rattle.lift_base.specs.Outside.{Rose, AppendsFront}
 use Rattle.lift_model.specs.Model.{ModelData}
 use Rattle.corner_lift.specs.Case.{CaseData}
 use Rattle.drn_read.specs.Reading.{drn}
@@ -43,6 +43,12 @@ module _ {S K T : Type 0} (left : S → Option (List ℕ)) (faults : S → ℕ) 
       stops refusal.WriteFault h = absurd h
       stops refusal.TooLong h = (h, refl)
       stops refusal.Memory h = refl
+
+-- a job whose report was cut off
+pub cut_off : {S K T : Type 0} (left : S → Option (List ℕ)) (faults : S → ℕ) (taken : K → Option (List ℕ)) (counts : K → ℕ) (job : JobData) (source source' : S) (out out' : K) (result : Result T Refusal) → IsErrAnd result (λ e. e ≡ refusal.WriteFault)
+    → WasRead (Reports (AppendsFront (taken out) (taken out')) job) (left source) (left source') → Rose (counts out) (counts out') → Verifies left faults taken counts job source source' out out' result
+cut_off left faults taken counts job source source' out out' (Ok x) is h rose = absurd is
+cut_off {T = T} left faults taken counts job source source' out out' (Err e) is h rose = subst (λ (f : Refusal). Verifies {T = T} left faults taken counts job source source' out out' (Err f)) (sym is) (h, rose)
 
 bounds : (m : ModelData) (job : JobData) (leaf : Leaf) → BoundsInside (case_data m job) job.bound leaf → BoundsSchedulers m job leaf
 bounds m job (accept x) h = h [] tt
