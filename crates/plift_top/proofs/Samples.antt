@@ -36,9 +36,9 @@ coins = record {
   goal = true ∷ false ∷ [];
   init = 1;
   states = ((record { target = 0; poly = (0, pos 1) ∷ [] } ∷ []) ∷ [])
-    ∷ ((record { target = 0; poly = (1, pos 1) ∷ [] } ∷ record { target = 1; poly = (0, pos 1) ∷ (1, negsuc 0) ∷ [] } ∷ [])
-    ∷ (record { target = 1; poly = [] } ∷ record { target = 0; poly = (0, pos 1) ∷ [] } ∷ []) ∷ [])
-    ∷ [];
+      ∷ ((record { target = 0; poly = (1, pos 1) ∷ [] } ∷ record { target = 1; poly = (0, pos 1) ∷ (1, negsuc 0) ∷ [] } ∷ [])
+      ∷ (record { target = 1; poly = [] } ∷ record { target = 0; poly = (0, pos 1) ∷ [] } ∷ []) ∷ [])
+      ∷ [];
 }
 
 at_most_half : JobData
