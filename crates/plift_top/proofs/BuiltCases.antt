@@ -12,12 +12,12 @@ use Rattle.lift_poly.specs.Polynomial.{Term, IsPolynomial, constant, weight}
 use Rattle.lift_poly.specs.Arithmetic as polynomial
 use Rattle.lift_poly.proofs.Ring.{linear, le_from_test}
 use Rattle.lift_poly.proofs.Weights.{weight-constant}
-use Rattle.lift_grid.specs.Rectangle.{Spans, IsOnGrid}
+use Rattle.lift_grid.specs.Rectangle.{Spans, AreSpans, IsOnGrid, spans_of, sides_of}
 use Rattle.lift_model.specs.declared.entry.Entry.{Entry}
 use Rattle.lift_model.specs.Model.{ModelData}
 use Rattle.lift_model.specs.Valid.{IsEntry, IsRow, IsModel}
 use Rattle.lift_model.proofs.Chains.{both}
-use Rattle.corner_lift.specs.Case.{CaseData, IsCase, IsAdmittedRow, Within, abs_sum, row_coefficient}
+use Rattle.corner_lift.specs.Case.{CaseData, IsCase, IsAdmittedRow, Within, AreSidesInside, abs_sum, row_coefficient}
 use Rattle.plift_top.specs.Built.{is_dtmc, is_distribution, is_built}
 use Rattle.plift_top.proofs.Distributions.{other}
 
@@ -25,6 +25,24 @@ use Rattle.plift_top.proofs.Distributions.{other}
 pub within_itself : (ss : Spans) → Within ss ss
 within_itself [] = tt
 within_itself (s ∷ ss) = (omega (arith, linear), omega (arith, linear), within_itself ss)
+
+-- a rectangle is given back by its ends
+spans-sides : (ss : Spans) → spans_of (sides_of ss) ≡ ss
+spans-sides [] = refl
+spans-sides (s ∷ ss) = ap (λ (rest : Spans). s ∷ rest) (spans-sides ss)
+
+-- the ends of a case's root make a rectangle inside it
+pub root_inside : (root : Spans) (sides : List ℤ) → sides ≡ sides_of root → AreSpans root → AreSidesInside root sides
+root_inside root sides is spans =
+    let same : spans_of sides ≡ root = ap spans_of is ∙ spans-sides root in
+    record {
+      rectangle = record { paired = ap sides_of same ∙ sym is; spans = subst AreSpans (sym same) spans };
+      within = subst (λ (ss : Spans). Within ss root) (sym same) (within_itself root);
+    }
+
+-- the spans of the ends of a case's root
+pub root_spans : (root : Spans) (sides : List ℤ) → sides ≡ sides_of root → spans_of sides ≡ root
+root_spans root sides is = ap spans_of is ∙ spans-sides root
 
 -- ---- polynomials without parameters
 
