@@ -12,7 +12,7 @@ use Rattle.plift_top.specs.Job.{JobData, job, job_by}
 use Rattle.plift_top.specs.Given.{Asks}
 use Rattle.plift_top.specs.Built.{is_built}
 use Rattle.plift_top.specs.Verify.{WasRead, Reports, IsUnbuilt, KeepsLimit, text_limit}
-use Rattle.plift_top.specs.Answers.{Acts, HasNote, IsRefused, text_note, model_note, model_note_by, unbuilt_note, status_of, note_of, usage_note}
+use Rattle.plift_top.specs.Answers.{Acts, HasNote, IsRefused, text_note, model_note, built_note, unbuilt_note, status_of, note_of, usage_note}
 use Rattle.plift_top.specs.declared.job.Field.{Field}
 use Rattle.plift_top.specs.declared.job.Field.TheVariants as field
 use Rattle.plift_top.specs.declared.status.Status.TheVariants as status
@@ -25,11 +25,11 @@ read_as f h = record { text = h.text; consumed = h.consumed; ended = h.ended; ha
 
 -- the note of a text whose model isn't built
 unbuilt_refused : (goal text : List ℕ) → IsUnbuilt goal text → IsRefused goal unbuilt_note text
-unbuilt_refused goal text is = ap text_note is.read ∙ ap model_note_by is.unbuilt
+unbuilt_refused goal text is = ap text_note is.read ∙ ap built_note is.unbuilt
 
 -- a text whose model is built has no note
 built_text : (m : ModelData) (answer : Result ModelData DrnError) (note : List ℕ) → answer ≡ Ok m → is_built m ≡ true → text_note answer ≡ Some note → ⊥
-built_text m answer note is built noted = let clash : None ≡ Some note = sym (ap text_note is ∙ ap model_note_by built) ∙ noted in absurd (cc)
+built_text m answer note is built noted = let clash : None ≡ Some note = sym (ap text_note is ∙ ap built_note built) ∙ noted in absurd (cc)
 
 module _ {S K : Type 0} (left : S → Option (List ℕ)) (faults : S → ℕ) (taken : K → Option (List ℕ)) (counts : K → ℕ) (source source' : S) (out out' : K) where
   pub done : (asked : Result JobData Field) → Acts {T = Unit {0}} left faults taken counts asked source source' out out' (Ok tt)
@@ -38,7 +38,7 @@ module _ {S K : Type 0} (left : S → Option (List ℕ)) (faults : S → ℕ) (t
   done (Err f) a = absurd a.0
 
   pub usage : (asked : Result JobData Field) (r : Refusal) → Acts {T = Unit {0}} left faults taken counts asked source source' out out' (Err r) → status_of r ≡ status.Usage → IsErr asked
-  usage (Ok j) (refusal.Usage f) a e = absurd a
+  usage (Ok j) (refusal.Usage f) a e = absurd a.0
   usage (Ok j) _ a e = absurd (cc)
   usage (Err f) r a e = refl
 
@@ -83,13 +83,8 @@ module _ {S K : Type 0} (left : S → Option (List ℕ)) (faults : S → ℕ) (t
   part (Err f) _ a e = absurd (cc)
 
   pub kept : (asked : Result JobData Field) (r : Refusal) → Acts {T = Unit {0}} left faults taken counts asked source source' out out' (Err r) → status_of r ≢ status.WriteFault → out' ≡ out
-  kept (Ok j) (refusal.Usage f) a e = absurd a
-  kept (Ok j) (refusal.Model error) a e = a.1
-  kept (Ok j) refusal.Unbuilt a e = a.1
-  kept (Ok j) refusal.ReadFault a e = a.1
   kept (Ok j) refusal.WriteFault a e = absurd (e refl)
-  kept (Ok j) refusal.TooLong a e = a.1
-  kept (Ok j) refusal.Memory a e = a
+  kept (Ok j) _ a e = a.1
   kept (Err f) r a e = a.2
 
   pub unread : (asked : Result JobData Field) (r : Refusal) → Acts {T = Unit {0}} left faults taken counts asked source source' out out' (Err r) → IsErr asked → source' ≡ source
@@ -97,7 +92,7 @@ module _ {S K : Type 0} (left : S → Option (List ℕ)) (faults : S → ℕ) (t
   unread (Err f) r a e = a.1
 
   pub noted : (asked : Result JobData Field) (r : Refusal) → Acts {T = Unit {0}} left faults taken counts asked source source' out out' (Err r) → HasNote (status_of r) asked (left source) (left source') (note_of r)
-  noted (Ok j) (refusal.Usage f) a = absurd a
+  noted (Ok j) (refusal.Usage f) a = absurd a.0
   noted (Ok j) (refusal.Model error) a = model (Ok j) (refusal.Model error) a refl
   noted (Ok j) refusal.Unbuilt a = model (Ok j) refusal.Unbuilt a refl
   noted (Ok j) _ a = refl
@@ -119,7 +114,7 @@ given P text (Some ys) h = subst P (sym (h.consumed ∙ ap (λ (r : List ℕ). h
 module _ {S K : Type 0} (left : S → Option (List ℕ)) (faults : S → ℕ) (taken : K → Option (List ℕ)) (counts : K → ℕ) (source source' : S) (out out' : K) where
   pub complete : (asked : Result JobData Field) (r : Refusal) → Acts {T = Unit {0}} left faults taken counts asked source source' out out' (Err r) → (j : JobData) (text : List ℕ) (m : ModelData) → asked ≡ Ok j → left source ≡ Some text
       → drn text j.goal ≡ Ok m → is_built m ≡ true → length text ≤ text_limit → (Rose (faults source) (faults source') → ⊥) → (Rose (counts out) (counts out') → ⊥) → status_of r ≡ status.Memory
-  complete (Ok k) (refusal.Usage f) a j text m is told read built len sure1 sure2 = absurd a
+  complete (Ok k) (refusal.Usage f) a j text m is told read built len sure1 sure2 = absurd a.0
   complete (Ok k) (refusal.Model error) a j text m is told read built len sure1 sure2 =
       let same : k ≡ j = cc in
       let refused : drn text k.goal ≡ Err error = given (λ t. drn t k.goal ≡ Err error) text (left source') (rw told at a.0) in
@@ -148,7 +143,7 @@ module _ {S K : Type 0} (left : S → Option (List ℕ)) (faults : S → ℕ) (t
   -- there, where nothing failed, the refusal is of the model, or for want of memory
   pub refused : (asked : Result JobData Field) (r : Refusal) → Acts {T = Unit {0}} left faults taken counts asked source source' out out' (Err r) → (j : JobData) (text note : List ℕ) → asked ≡ Ok j → left source ≡ Some text
       → IsRefused j.goal note text → length text ≤ text_limit → (Rose (faults source) (faults source') → ⊥) → (Rose (counts out) (counts out') → ⊥) → (status_of r ≡ status.ModelRefused) ⊎ (status_of r ≡ status.Memory)
-  refused (Ok k) (refusal.Usage f) a j text note is told bad len sure1 sure2 = absurd a
+  refused (Ok k) (refusal.Usage f) a j text note is told bad len sure1 sure2 = absurd a.0
   refused (Ok k) (refusal.Model error) a j text note is told bad len sure1 sure2 = inl refl
   refused (Ok k) refusal.Unbuilt a j text note is told bad len sure1 sure2 = inl refl
   refused (Ok k) refusal.ReadFault a j text note is told bad len sure1 sure2 = absurd (sure1 a.0)

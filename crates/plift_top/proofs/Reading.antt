@@ -36,13 +36,8 @@ module _ {S K T : Type 0} (left : S → Option (List ℕ)) (faults : S → ℕ) 
   unread r (Err e) is h = subst (λ (f : Refusal). Verifies {T = T} left faults taken counts job source source' out out (Err f)) (sym is) (stops r h)
     where
       stops : (r : Refusal) → ReadsModel left faults job.goal source source' (Err r) → Verifies {T = T} left faults taken counts job source source' out out (Err r)
-      stops (refusal.Usage f) h = absurd h
-      stops (refusal.Model error) h = (h, refl)
-      stops refusal.Unbuilt h = (h, refl)
-      stops refusal.ReadFault h = (h, refl)
       stops refusal.WriteFault h = absurd h
-      stops refusal.TooLong h = (h, refl)
-      stops refusal.Memory h = refl
+      stops _ h = (h, refl)
 
 -- a job whose report was cut off
 pub cut_off : {S K T : Type 0} (left : S → Option (List ℕ)) (faults : S → ℕ) (taken : K → Option (List ℕ)) (counts : K → ℕ) (job : JobData) (source source' : S) (out out' : K) (result : Result T Refusal) → IsErrAnd result (λ e. e ≡ refusal.WriteFault)

@@ -7,7 +7,9 @@ use Rattle.lift_model.specs.declared.kind.Kind.TheVariants.{Dtmc, Mdp}
 use Rattle.lift_model.specs.declared.entry.Entry.{Entry}
 use Rattle.lift_model.specs.Model.{ModelData}
 use Rattle.plift_top.specs.Line.{options}
+use Rattle.drn_read.specs.declared.error.DrnCause.TheVariants.{Power}
 use Rattle.plift_top.specs.Built.{is_built}
+use Rattle.plift_top.specs.Answers.{text_note}
 use Rattle.plift_top.specs.Job.{JobData, job}
 use Rattle.plift_top.specs.Report.{size_lines, row_line, job_lines, report_text}
 use Rattle.plift_top.specs.Report.Leaf.{accept, unknown}
@@ -103,3 +105,16 @@ less = refl
 named : is_built (record coin { names = codes "p" ∷ [] }) ≡ false
 unfolding coin entry
 named = refl
+
+-- what a text that stands for no model is told, and one whose model isn't verified
+refused : text_note (Err (record { line = 6; cause = Power })) ≡ Some (codes "model: line 6: Power\n")
+unfolding digits
+refused = refl
+
+unverified : text_note (Ok coins) ≡ Some (codes "model: unbuilt\n")
+unfolding coins
+unverified = refl
+
+verified : text_note (Ok coin) ≡ None
+unfolding coin entry
+verified = refl

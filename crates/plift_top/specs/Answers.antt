@@ -45,13 +45,13 @@ abbrev pub unbuilt_note : List ℕ
 unbuilt_note = codes "model: unbuilt\n"
 
 -- the note of a model, by whether it is built; none where it is
-abbrev pub model_note_by : Bool → Option (List ℕ)
-model_note_by true = None
-model_note_by false = Some unbuilt_note
+abbrev pub built_note : Bool → Option (List ℕ)
+built_note true = None
+built_note false = Some unbuilt_note
 
 -- the note of what a text stands for; none where that is a model that is built
 abbrev pub text_note : Result ModelData DrnError → Option (List ℕ)
-text_note (Ok m) = model_note_by (is_built m)
+text_note (Ok m) = built_note (is_built m)
 text_note (Err error) = Some (model_note error)
 
 -- a text is refused for a goal label, with this note

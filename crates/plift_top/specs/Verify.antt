@@ -59,13 +59,7 @@ Verifies left faults taken counts job source source' out out' (Ok _) =
     WasRead (Reports (Appends (taken out) (taken out')) job) (left source) (left source')
 Verifies left faults taken counts job source source' out out' (Err refusal.WriteFault) =
     WasRead (Reports (AppendsFront (taken out) (taken out')) job) (left source) (left source') × Rose (counts out) (counts out')
-Verifies left faults taken counts job source source' out out' (Err (refusal.Model error)) =
-    WasRead (λ text. drn text job.goal ≡ Err error) (left source) (left source') × (out' ≡ out)
-Verifies left faults taken counts job source source' out out' (Err refusal.Unbuilt) = WasRead (IsUnbuilt job.goal) (left source) (left source') × (out' ≡ out)
-Verifies left faults taken counts job source source' out out' (Err refusal.ReadFault) = Rose (faults source) (faults source') × (out' ≡ out)
-Verifies left faults taken counts job source source' out out' (Err refusal.TooLong) = TakenHas (λ bytes. text_limit < length bytes) (left source) (left source') × (out' ≡ out)
-Verifies left faults taken counts job source source' out out' (Err refusal.Memory) = out' ≡ out
-Verifies left faults taken counts job source source' out out' (Err (refusal.Usage f)) = ⊥
+Verifies left faults taken counts job source source' out out' (Err r) = ReadsModel left faults job.goal source source' (Err r) × (out' ≡ out)
 
 -- more bytes than the limit were taken at TooLong, and only there
 abbrev pub KeepsLimit : {T : Type 0} → Result T Refusal → Option (List ℕ) → Option (List ℕ) → Type 0
