@@ -1,5 +1,5 @@
 -- A case worked by hand: a chain of three states with parameters p and q, from whose first state p q, p - p q and 1 - p lead to the states 0, 1 and 2.
-use Rattle.std.proofs.Common.{◌≡◌, ◌≢◌, ℕ, zero, suc, ◌^◌, ◌<◌, ◌≤◌, Bool, true, false, cond, nat_eq, List, [], ◌∷◌, length, pos, negsuc, ◌+ℤ◌, ◌≤ℤ◌, All, AllPairs, unsigned_abs, refl, ap, arith}
+use Rattle.std.proofs.Common.{◌≡◌, ◌≢◌, ℕ, zero, suc, ◌^◌, ◌<◌, ◌≤◌, Bool, true, false, cond, nat_eq, List, [], ◌∷◌, length, ℤ, pos, negsuc, ◌+ℤ◌, ◌≤ℤ◌, All, AllPairs, unsigned_abs, refl, ap, arith}
 use Rattle.std.specs.List.Sorted.{IsStrictlyIncreasing}
 use Rattle.std.proofs.lemmas.Bool.Decides.{nat_tests}
 use Rattle.std.proofs.lemmas.List.Elements.{All-cons, All-nil}
@@ -10,6 +10,7 @@ use Rattle.lift_model.specs.declared.kind.Kind.TheVariants.{Dtmc}
 use Rattle.lift_model.specs.Model.{ModelData}
 use Rattle.lift_model.specs.Valid.{IsEntry, IsRow, IsModel}
 use Rattle.corner_lift.specs.Corner.{corner}
+use Rattle.corner_lift.specs.Certificate.{AreNumbers}
 use Rattle.corner_lift.specs.Case.{CaseData, IsCase, IsAdmittedRow, AreSidesInside, row_coefficient}
 
 abbrev pub both : Entry
@@ -187,3 +188,9 @@ sides_inside = record {
   rectangle = record { paired = refl; spans = products_is_case.spans };
   within = (record { le = tt }, record { le = tt }, (record { le = tt }, record { le = tt }, tt));
 }
+
+pub numbers_fit : AreNumbers chain 4 (pos 0 ∷ pos 16 ∷ pos 0 ∷ [])
+numbers_fit = record { size = refl; range = all_three within (pos 0) (pos 16) (pos 0) (record { le = tt }, record { le = tt }) (record { le = tt }, record { le = tt }) (record { le = tt }, record { le = tt }) }
+  where
+    within : ℤ → Type 0
+    within n = (pos 0 ≤ℤ n) × (n ≤ℤ pos 16)

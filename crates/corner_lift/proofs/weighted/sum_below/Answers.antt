@@ -30,7 +30,7 @@ pub times-sum-requires-clause-room : goal.times-sum-requires-clause-room
 times-sum-requires-clause-room c =
     let room : abs_sum c.entries-entry-items.result.now * (greatest_end c.args.case.now.d c.args.ends.now ^ length c.args.ends.now * 2 ^ c.args.case.now.w) < 2 ^ 126 = rw c.entries-entry-items.ensures c.requires.room in
     let one = entry_size c.entries-entry-items.result.now c.loop-entry.entry-index c.entry-item.result c.loop-entry-test.true c.entry-item.is in
-    let small : unsigned_abs (c.one_if-counts.result) ≤ 2 ^ c.args.case.now.w = rw c.one_if-counts.ensures (one_size (nat_lt (slice_index_or c.args.ranks.now c.entry-item.result.target 0) c.args.below) c.args.case.now.w) in
+    let small : unsigned_abs (c.one_if-counts.result) ≤ 2 ^ c.args.case.now.w = rw c.one_if-counts.ensures (one_size _ c.args.case.now.w) in
     let d_fits : SFits w64 c.grid-d.result.d = search rules in
     let n_fits : SFits w64 (c.one_if-counts.result) = search rules in
     rw (to_z-of_z d_fits, to_z-of_z n_fits, c.grid-d.ensures.d) (number_room _ _ _ c.args.case.now.w _ one small room)
@@ -39,7 +39,7 @@ times-sum-requires-clause-room c =
 added : (c : After-times-sum) → IsRowSummed c.args.case.now.d c.args.ends.now (greatest_end c.args.case.now.d c.args.ends.now ^ length c.args.ends.now * 2 ^ c.args.case.now.w) (lower (mark c.args.ranks.now) c.args.below) c.entries-entry-items.result.now (to_z w128 c.loop-entry.sum-bits +ℤ to_z w128 (of_z w128 c.times-sum.result)) (c.loop-entry.entry-index + 1)
 added c =
     let target : c.entry-item.result.target < length c.args.ranks.now = let entry = c.entry-item.result in let at = rw c.entries-entry-items.ensures at c.entry-item.is in let lt = rw c.entries-entry-items.ensures at c.loop-entry-test.true in subst (λ (e : Entry). e.target < length c.args.ranks.now) (sym at) (c.requires.targets c.loop-entry.entry-index entry lt) in
-    let small : unsigned_abs (c.one_if-counts.result) ≤ 2 ^ c.args.case.now.w = rw c.one_if-counts.ensures (one_size (nat_lt (slice_index_or c.args.ranks.now c.entry-item.result.target 0) c.args.below) c.args.case.now.w) in
+    let small : unsigned_abs (c.one_if-counts.result) ≤ 2 ^ c.args.case.now.w = rw c.one_if-counts.ensures (one_size _ c.args.case.now.w) in
     let d_fits : SFits w64 c.grid-d.result.d = search rules in
     let n_fits : SFits w64 (c.one_if-counts.result) = search rules in
     let part_fits : SFits w128 c.times-sum.result = search rules in
