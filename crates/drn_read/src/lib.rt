@@ -11,6 +11,7 @@ mod places;
 mod section;
 mod state;
 mod text;
+mod type_line;
 mod value;
 mod word;
 mod words;
