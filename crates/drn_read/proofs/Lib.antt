@@ -1,5 +1,6 @@
 pub mod Bodies
 pub mod Choices
+pub mod Counts
 pub mod Cuts
 pub mod Declared
 pub mod Growing
@@ -7,6 +8,7 @@ pub mod Growth
 pub mod Headers
 pub mod Kept
 pub mod Lists
+pub mod Naming
 pub mod Pairing
 pub mod Phases
 pub mod Pieces

@@ -7,6 +7,8 @@ mod end;
 mod header;
 mod labels;
 mod model_lines;
+mod parameters;
+mod place_line;
 mod places;
 mod section;
 mod state;
