@@ -12,6 +12,7 @@ pub mod Naming
 pub mod Pairing
 pub mod Phases
 pub mod Pieces
+pub mod PlaceLines
 pub mod Running
 mod Samples
 pub mod Sound

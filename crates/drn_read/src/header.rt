@@ -7,16 +7,18 @@ ghost use Rattle.drn_lexer.specs.Spans.{LiesIn};
 ghost use Rattle.drn_read.specs.Faults.{fault_of};
 ghost use Rattle.drn_read.specs.Sections.{header, section_number, is_same, phase_in, kind_of, type_text};
 ghost use Rattle.drn_read.specs.Judging.{has, section_fault, head_fault, names_fault, count_fault, place_fault, header_fault};
-ghost use Rattle.drn_read.specs.Keeping.{with_section, with_head, with_names, header_with};
+ghost use Rattle.drn_read.specs.Keeping.{with_section, with_head, with_names, with_state_count, with_choice_count, with_placeholder, header_with};
 ghost use Rattle.drn_read.specs.Shown.{Tells, Spans};
 ghost use Rattle.drn_lexer.specs.Words.{words};
 
 use crate::digits::{is_digits, number_of};
 use crate::error::DrnCause;
 use crate::parameters::read_names;
+use crate::place_line::read_place_name;
 use crate::places::Places;
 use crate::section::{Phase, Section, section_of};
 use crate::type_line::kind_in;
+use crate::value::value_behind;
 use crate::word::Words;
 use drn_lexer::Line;
 use lift_base::Names;
@@ -228,5 +230,80 @@ impl HeaderReader {
         let section = section_of(line).ok_or(DrnCause::UnknownSection)?;
         self.test_section(section, line)?;
         self.begin(section, line)
+    }
+
+    /// Reads the list of parameters.
+    fn read_name_list(&mut self, text: &[u8], line: Line) -> Result<(), DrnCause>
+        requires { LiesIn line text.now }
+        ensures fault { Tells result (names_fault self.old.names (words (slice_range text.now line.from line.to))) }
+        ensures after { OnOk result (self.new ≡ with_names self.old (slice_range text.now line.from line.to)) }
+    {
+        read_names(&mut self.names, Words::from(text, line, line.from))?;
+        self.phase = Phase::Sections;
+        Ok(())
+    }
+
+    /// Passes over the list of reward models.
+    fn pass_rewards(&mut self)
+        ensures { self.new ≡ record self.old { phase = Phase.Sections } }
+    {
+        self.phase = Phase::Sections;
+    }
+
+    /// Reads the line of the number of states.
+    fn read_state_count(&mut self, line: &[u8]) -> Result<(), DrnCause>
+        ensures fault { fault_of result ≡ count_fault line.now }
+        ensures after { OnOk result (self.new ≡ with_state_count self.old line.now) }
+    {
+        self.state_count = Some(read_count(line)?);
+        self.phase = Phase::Sections;
+        Ok(())
+    }
+
+    /// Reads the line of the number of choices.
+    fn read_choice_count(&mut self, line: &[u8]) -> Result<(), DrnCause>
+        ensures fault { fault_of result ≡ count_fault line.now }
+        ensures after { OnOk result (self.new ≡ with_choice_count self.old line.now) }
+    {
+        self.choice_count = Some(read_count(line)?);
+        self.phase = Phase::Sections;
+        Ok(())
+    }
+
+    /// Reads a placeholder's line.
+    fn read_placeholder(&mut self, text: &[u8], line: Line) -> Result<(), DrnCause>
+        requires { LiesIn line text.now }
+        ensures fault { Tells result (place_fault self.old (slice_range text.now line.from line.to)) }
+        ensures after { OnOk result (self.new ≡ with_placeholder self.old (slice_range text.now line.from line.to)) }
+    {
+        let name = read_place_name(&self.places, &text[line.from..line.to])?;
+        let at = line.from + 1 + name.len();
+        let value = value_behind(self.alloc, text, line, at, &self.names)?;
+        self.places.push(name, value)?;
+        Ok(())
+    }
+
+    /// Reads the next line, which stands before the model. Linear in the line, and nothing that was
+    /// read is gone over again. After an error no line is to be read.
+    pub fn read_line(&mut self, text: &[u8], line: Line) -> Result<(), DrnCause>
+        requires { LiesIn line text.now }
+        ensures fault { (source : TextLine) → Spans text.now line source → Tells result (header_fault self.old source) }
+        ensures after { OnOk result ((source : TextLine) → Spans text.now line source → self.new ≡ header_with self.old source) }
+    {
+        let content = &text[line.from..line.to];
+        match self.phase {
+            Phase::StateCount | Phase::ChoiceCount if content.is_empty() => Ok(()),
+            Phase::StateCount => self.read_state_count(content),
+            Phase::ChoiceCount => self.read_choice_count(content),
+            _ if is_head(content) => self.read_head(content),
+            Phase::NameList => self.read_name_list(text, line),
+            Phase::RewardList => {
+                self.pass_rewards();
+                Ok(())
+            }
+            _ if content.is_empty() => Ok(()),
+            Phase::Placeholders => self.read_placeholder(text, line),
+            Phase::Sections | Phase::Model => Err(DrnCause::Syntax),
+        }
     }
 }

@@ -1,12 +1,12 @@
 // Reads the name in a placeholder's line.
-ghost use Rattle.std.specs.Prelude.{◌≡◌, ◌≤◌, ◌==◌, ◌||◌, ◌+◌, ◌∷◌, [], not, nat_lt, nat_le, length, drop, IfOk};
+ghost use Rattle.std.specs.Prelude.{◌≡◌, ◌<◌, ◌≤◌, ◌==◌, ◌+◌, false, length, drop, IfOk};
 ghost use Rattle.std.specs.List.{list_any};
 ghost use Rattle.std.specs.Str.{bytes_eq};
 ghost use Rattle.drn_lexer.specs.Bytes.{first_passes, is_name_byte};
-ghost use Rattle.drn_read.specs.Faults.{fault_of, when, first_of};
-ghost use Rattle.drn_read.specs.Parts.{is_empty};
+ghost use Rattle.drn_read.specs.Faults.{fault_of};
 ghost use Rattle.drn_read.specs.Text.{behind};
 ghost use Rattle.drn_read.specs.Sections.{place_name};
+ghost use Rattle.drn_read.specs.Shown.{nameless_fault, new_name_fault, place_name_fault, IsNewName};
 
 use crate::error::DrnCause;
 use crate::parameters::LONGEST_NAME;
@@ -39,7 +39,7 @@ fn name_behind_first(line: &[u8]) -> &[u8]
 
 /// The name of a placeholder's line, without its `$`.
 fn name_of(line: &[u8]) -> Result<&[u8], DrnCause>
-    ensures fault { fault_of result ≡ when (not (first_passes (λ b. b == 36) line.now) || is_empty (place_name line.now)) DrnCause.Syntax }
+    ensures fault { fault_of result ≡ nameless_fault line.now }
     ensures within { IfOk result (λ name. 1 + length name.now ≤ length line.now) }
     ensures name { IfOk result (λ name. name.now ≡ place_name line.now) }
     ensures behind { IfOk result (λ name. drop (1 + length name.now) line.now ≡ behind is_name_byte (drop 1 line.now)) }
@@ -56,11 +56,9 @@ fn name_of(line: &[u8]) -> Result<&[u8], DrnCause>
 
 /// Tests a new placeholder's name, behind these placeholders.
 fn test_name(places: &Places, name: &[u8]) -> Result<(), DrnCause>
-    ensures { fault_of result ≡ first_of (
-        when (nat_lt 64 (length name.now)) DrnCause.LimitName
-        ∷ when (list_any (λ place. bytes_eq name.now place.name) places.now) DrnCause.RepeatedName
-        ∷ when (nat_le 65536 (length places.now)) DrnCause.LimitPlaces
-        ∷ []) }
+    ensures fault { fault_of result ≡ new_name_fault places.now name.now }
+    ensures room { IfOk result (λ _. length places.now < 65536) }
+    ensures new { IfOk result (λ _. list_any (λ place. bytes_eq name.now place.name) places.now ≡ false) }
 {
     if name.len() > LONGEST_NAME {
         return Err(DrnCause::LimitName);
@@ -74,17 +72,10 @@ fn test_name(places: &Places, name: &[u8]) -> Result<(), DrnCause>
     Ok(())
 }
 
-/// The name of a placeholder's line, tested behind these placeholders.
+/// The name of a placeholder's line, which is new behind these placeholders.
 pub(crate) fn read_place_name<'a>(places: &Places, line: &'a [u8]) -> Result<&'a [u8], DrnCause>
-    ensures fault { fault_of result ≡ first_of (
-        when (not (first_passes (λ b. b == 36) line.now) || is_empty (place_name line.now)) DrnCause.Syntax
-        ∷ when (nat_lt 64 (length (place_name line.now))) DrnCause.LimitName
-        ∷ when (list_any (λ place. bytes_eq (place_name line.now) place.name) places.now) DrnCause.RepeatedName
-        ∷ when (nat_le 65536 (length places.now)) DrnCause.LimitPlaces
-        ∷ []) }
-    ensures within { IfOk result (λ name. 1 + length name.now ≤ length line.now) }
-    ensures name { IfOk result (λ name. name.now ≡ place_name line.now) }
-    ensures behind { IfOk result (λ name. drop (1 + length name.now) line.now ≡ behind is_name_byte (drop 1 line.now)) }
+    ensures fault { fault_of result ≡ place_name_fault places.now line.now }
+    ensures name { IfOk result (λ name. IsNewName places.now line.now name.now) }
 {
     let name = name_of(line)?;
     test_name(places, name)?;
