@@ -6,7 +6,7 @@ use Rattle.drn_lexer.proofs.Pieces.{range-drop}
 use Rattle.drn_expr.specs.RatPolys.{OverOne}
 use Rattle.drn_read.specs.Faults.{first_of, fault_of}
 use Rattle.drn_read.specs.Text.{behind, value_behind}
-use Rattle.drn_read.specs.Sections.{Header, Placeholder, place_name, place_value, placeholder}
+use Rattle.drn_read.specs.Sections.{Header, Placeholder, place_name, place_value}
 use Rattle.drn_read.specs.Judging.{place_fault}
 use Rattle.drn_read.specs.Keeping.{with_placeholder}
 use Rattle.drn_read.specs.Shown.{place_name_fault}

@@ -69,10 +69,7 @@ fn opened(section: Section) -> Phase
 fn is_head(line: &[u8]) -> bool
     ensures { result ≡ first_passes (λ b. b == 64) line.now }
 {
-    match line {
-        [first, ..] => *first == b'@',
-        [] => false,
-    }
+    matches!(line, [b'@', ..])
 }
 
 /// The number that a line announces: 1 to 20 digits.

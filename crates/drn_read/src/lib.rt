@@ -2,8 +2,8 @@
 #![tactic(auto)]
 
 mod digits;
-mod error;
 mod end;
+mod error;
 mod header;
 mod labels;
 mod model_lines;

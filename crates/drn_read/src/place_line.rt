@@ -20,10 +20,7 @@ const MOST_PLACES: usize = 65_536;
 fn begins_dollar(line: &[u8]) -> bool
     ensures { result ≡ first_passes (λ b. b == 36) line.now }
 {
-    match line {
-        [first, ..] => *first == b'$',
-        [] => false,
-    }
+    matches!(line, [b'$', ..])
 }
 
 /// The name behind the first byte of a line, which isn't empty.

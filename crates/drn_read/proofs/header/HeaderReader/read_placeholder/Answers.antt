@@ -1,11 +1,9 @@
-use Rattle.std.proofs.Common.{◌≡◌, rules, refl, subst, slice_range, None, Result, Ok, Err}
-use Rattle.drn_expr.specs.RatPolys.{OverOne}
-use Rattle.drn_read.specs.Sections.{Header, place_value}
+use Rattle.std.proofs.Common.{◌≡◌, rules, refl, subst, slice_range, None, Ok, Err}
+use Rattle.drn_read.specs.Sections.{Header}
 use Rattle.drn_read.specs.Judging.{place_fault}
 use Rattle.drn_read.specs.Keeping.{with_placeholder}
 use Rattle.drn_read.specs.Shown.{Tells}
 use Rattle.drn_read.specs.contracts.header.HeaderReader.{the_view}
-use Rattle.drn_read.specs.declared.error.DrnCause.{DrnCause}
 use Rattle.drn_read.proofs.PlaceLines.{name_refused, behind_name, value_refused, value_read, place_sound, placed}
 use Rattle.drn_read.proofs.header.HeaderReader.read_placeholder.Goals as goal
 
