@@ -280,8 +280,9 @@ impl HeaderReader {
         Ok(())
     }
 
-    /// Reads the next line, which stands before the model. Linear in the line, and nothing that was
-    /// read is gone over again. After an error no line is to be read.
+    /// Reads the next line, which stands before the model, and keeps what it says. An error names the
+    /// line's first fault, and after it the reader is of no more use. Linear in the line: no earlier
+    /// line is gone over again.
     pub fn read_line(&mut self, text: &[u8], line: Line) -> Result<(), DrnCause>
         requires { LiesIn line text.now }
         ensures fault { (source : TextLine) → Spans text.now line source → Tells result (header_fault self.old source) }
