@@ -1,3 +1,4 @@
+use Rattle.std.proofs.Common.{◌≡◌, ◌++◌, ◌∷◌, []}
 use Rattle.drn_read.proofs.Pairing.{one_more}
 use Rattle.drn_read.proofs.places.Places.push.Goals as goal
 
