@@ -1,5 +1,6 @@
 pub mod Bodies
 pub mod Choices
+pub mod Counts
 pub mod Cuts
 pub mod Declared
 pub mod Growth
@@ -7,9 +8,11 @@ pub mod Headers
 pub mod Kept
 pub mod Lists
 pub mod Loop
+pub mod Naming
 pub mod Pairing
 pub mod Phases
 pub mod Pieces
+pub mod PlaceLines
 pub mod Running
 mod Samples
 pub mod Sound

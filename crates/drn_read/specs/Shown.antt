@@ -1,5 +1,10 @@
 -- How the code's pieces of a text are seen. No public clause rests on it.
-use Rattle.std.specs.Prelude.{◌≡◌, ◌≢◌, ℕ, List, [], ◌∷◌, slice_range, codes, Option, Some, None, Result, Ok, Err}
+use Rattle.std.specs.Prelude.{◌≡◌, ◌≢◌, ◌≤◌, ◌<◌, ◌+◌, ◌==◌, ◌||◌, ℕ, false, not, nat_lt, nat_le, List, [], ◌∷◌, length, drop, slice_range, codes, Option, Some, None, Result, Ok, Err}
+use Rattle.std.specs.Str.{bytes_eq}
+use Rattle.drn_lexer.specs.Bytes.{first_passes, is_name_byte}
+use Rattle.drn_read.specs.Faults.{when, first_of}
+use Rattle.drn_read.specs.Parts.{is_empty}
+use Rattle.drn_read.specs.Text.{behind}
 use Rattle.std.specs.List.{list_any}
 use Rattle.drn_lexer.specs.Cutting.{Piece}
 use Rattle.drn_lexer.specs.Lines.{TextLine, content, lines_at, behind_comments, answer_of}
@@ -11,10 +16,10 @@ use Rattle.drn_lexer.specs.declared.line.Line.{Line}
 use Rattle.drn_lexer.specs.Words.{WordKind, words}
 use Rattle.drn_lexer.specs.declared.error.LexError.TheVariants as lex
 use Rattle.drn_read.specs.declared.error.DrnCause.{DrnCause}
-use Rattle.drn_read.specs.declared.error.DrnCause.TheVariants.{OpenQuote, Memory}
+use Rattle.drn_read.specs.declared.error.DrnCause.TheVariants.{Syntax, OpenQuote, RepeatedName, LimitName, LimitPlaces, Memory}
 use Rattle.drn_read.specs.declared.error.DrnError.{DrnError}
 use Rattle.drn_expr.specs.RatPolys.{OverOne}
-use Rattle.drn_read.specs.Sections.{Placeholder}
+use Rattle.drn_read.specs.Sections.{Placeholder, place_name}
 use Rattle.drn_read.specs.States.{is_label}
 use Rattle.drn_read.specs.Judging.{Said}
 use Rattle.drn_read.specs.Reading.{end_fault, model, ended, drn}
@@ -90,3 +95,26 @@ abbrev pub IsNext : List ℕ → Place → Place → Result (Option Line) DrnErr
 IsNext text old new (Ok None) = Ok None ≡ answer_of (behind_comments (lines_at text old))
 IsNext text old new (Ok (Some line)) = IsNextLine text old new line
 IsNext text old new (Err error) = IsRefused text old new error
+-- the tests of a placeholder's name, behind these placeholders
+abbrev pub new_name_fault : List Placeholder → List ℕ → Option DrnCause
+new_name_fault places name = first_of (
+    when (nat_lt 64 (length name)) LimitName
+    ∷ when (list_any (λ place. bytes_eq name place.name) places) RepeatedName
+    ∷ when (nat_le 65536 (length places)) LimitPlaces
+    ∷ [])
+
+-- a placeholder's line without a name
+abbrev pub nameless_fault : List ℕ → Option DrnCause
+nameless_fault line = when (not (first_passes (λ b. b == 36) line) || is_empty (place_name line)) Syntax
+
+-- the tests of a placeholder's line that come before its value
+abbrev pub place_name_fault : List Placeholder → List ℕ → Option DrnCause
+place_name_fault places line = first_of (nameless_fault line ∷ new_name_fault places (place_name line) ∷ [])
+
+-- The name was told of a placeholder's line, and is new behind these placeholders. Behind it stands the rest of the line.
+pub record IsNewName (places : List Placeholder) (line found : List ℕ) : Type 0 where
+  pub within : 1 + length found ≤ length line
+  pub name : found ≡ place_name line
+  pub behind : drop (1 + length found) line ≡ behind is_name_byte (drop 1 line)
+  pub room : length places < 65536
+  pub new : list_any (λ place. bytes_eq found place.name) places ≡ false
