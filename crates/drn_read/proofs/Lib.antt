@@ -2,6 +2,7 @@ pub mod Bodies
 pub mod Choices
 pub mod Cuts
 pub mod Declared
+pub mod Entries
 pub mod Growing
 pub mod Growth
 pub mod Headers

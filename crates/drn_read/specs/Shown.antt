@@ -1,17 +1,29 @@
 -- How the code's pieces of a text are seen. No public clause rests on it.
-use Rattle.std.specs.Prelude.{◌≡◌, ◌≢◌, ℕ, List, [], ◌∷◌, slice_range, codes, Option, Some, None, Result, Ok, Err}
+use Rattle.std.specs.Prelude.{◌≡◌, ◌≢◌, ◌==◌, ◌≤◌, ℕ, not, nat_lt, List, [], ◌∷◌, drop, length, slice_range, codes, unwrap_or, Option, Some, None, Result, Ok, Err}
 use Rattle.std.specs.List.{list_any}
+use Rattle.std.specs.Char.{is_ascii_digit}
+use Rattle.std.specs.Ordering.{nat_cmp}
+use Rattle.std.specs.BTreeSet.{BTreeSet, contains}
 use Rattle.drn_lexer.specs.Cutting.{Piece}
 use Rattle.drn_lexer.specs.Lines.{TextLine, content}
 use Rattle.drn_lexer.specs.declared.line.Line.{Line}
 use Rattle.drn_lexer.specs.Words.{WordKind, words}
+use Rattle.drn_lexer.specs.Bytes.{is_blank, first_passes}
+use Rattle.drn_lexer.specs.Spans.{IsOn}
+use Rattle.drn_lexer.specs.declared.symbol.SymbolForm.{SymbolForm}
+use Rattle.drn_lexer.specs.declared.symbol.SymbolForm.TheVariants as symbol
 use Rattle.drn_lexer.specs.declared.error.LexError.TheVariants as lex
 use Rattle.drn_read.specs.declared.error.DrnCause.{DrnCause}
-use Rattle.drn_read.specs.declared.error.DrnCause.TheVariants.{OpenQuote, Memory}
+use Rattle.drn_read.specs.declared.error.DrnCause.TheVariants.{OpenQuote, Syntax, Memory}
 use Rattle.drn_read.specs.declared.error.DrnError.{DrnError}
 use Rattle.drn_expr.specs.RatPolys.{OverOne}
 use Rattle.drn_read.specs.Sections.{Placeholder}
-use Rattle.drn_read.specs.States.{is_label}
+use Rattle.drn_read.specs.Faults.{when, first_of}
+use Rattle.drn_read.specs.Text.{behind, behind_colon}
+use Rattle.drn_read.specs.States.{StateText, is_label, target_text, target_of}
+use Rattle.drn_read.specs.Judging.{choice_count, transition_count, open_choice}
+use Rattle.drn_read.specs.declared.state.Transition.{Transition}
+use Rattle.drn_read.specs.declared.entry.Entry.{Entry}
 use Rattle.drn_read.specs.declared.labels.Labels.{Labels}
 use Rattle.drn_read.specs.declared.word.Words.{Words}
 use Rattle.drn_read.specs.declared.word.LineWord.{LineWord}
@@ -61,3 +73,37 @@ pub record Carries (goal : List ℕ) (words : List (Piece WordKind)) (labels : L
 abbrev pub paired : List (List ℕ) → List OverOne → List Placeholder
 paired (name ∷ names) (value ∷ values) = record { name = name; value = value } ∷ paired names values
 paired _ _ = []
+
+-- ---- lines of the model
+
+-- the transitions of the last choice of the last state, none where that state has no choice
+abbrev pub open_row : List StateText → List Transition
+open_row states = unwrap_or (open_choice states) []
+
+-- What is kept beside the states: how many choices and transitions they have, and the targets of the last choice. All are within their limits.
+pub record IsKept (states : List StateText) (choices transitions : ℕ) (targets : BTreeSet ℕ) : Type 0 where
+  pub choices_are : choices ≡ choice_count states
+  pub transitions_are : transitions ≡ transition_count states
+  pub few_states : length states ≤ 65536
+  pub few_choices : choices ≤ 131072
+  pub few_transitions : transitions ≤ 262144
+  pub targets_are : (target : ℕ) → contains nat_cmp targets target ≡ list_any (λ t. t.target == target) (open_row states)
+
+-- the name where these symbols are one `$name` and nothing else
+abbrev pub lone_name : List (Piece SymbolForm) → Option (List ℕ)
+lone_name (only ∷ []) = elim only.form [ symbol.Dollar ↦ Some (drop 1 only.bytes) | _ ↦ None ]
+lone_name _ = None
+
+-- what is wrong with the target of a transition's line by itself, or with the colon behind it
+abbrev pub target_text_fault : List ℕ → Option DrnCause
+target_text_fault line = first_of (
+    when (nat_lt 20 (length (target_text line))) Syntax
+    ∷ when (not (first_passes (λ b. b == 58) (behind is_blank (behind is_ascii_digit line)))) Syntax
+    ∷ [])
+
+-- the target of the transition that a part of the text says, and where its value stands
+pub record IsEntry (text : List ℕ) (line : Line) (entry : Entry) : Type 0 where
+  pub fault : target_text_fault (slice_range text line.from line.to) ≡ None
+  pub target : entry.target ≡ target_of (slice_range text line.from line.to)
+  pub on : IsOn entry.value_at line
+  pub value : behind_colon (behind is_ascii_digit (slice_range text line.from line.to)) ≡ Some (slice_range text entry.value_at line.to)

@@ -55,4 +55,26 @@ impl HeaderReader {
             choice_count: None,
         }
     }
+
+    /// The type of the model, if a section has named it.
+    pub fn kind(&self) -> Option<Kind>
+        ensures { result ≡ self.now.kind }
+    {
+        self.kind
+    }
+
+    /// The parameters, at most 16.
+    pub fn names(&self) -> &Names
+        ensures names { result.now ≡ self.now.names }
+        ensures few { length result.now ≤ 16 }
+    {
+        &self.names
+    }
+
+    /// The placeholders.
+    pub fn places(&self) -> &Places
+        ensures { result.now ≡ self.now.placeholders }
+    {
+        &self.places
+    }
 }

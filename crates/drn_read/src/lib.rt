@@ -4,6 +4,7 @@
 mod digits;
 mod error;
 mod end;
+mod entry;
 mod header;
 mod labels;
 mod model_lines;
