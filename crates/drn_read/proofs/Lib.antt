@@ -7,6 +7,7 @@ pub mod Growing
 pub mod Growth
 pub mod Headers
 pub mod Kept
+pub mod LastOnes
 pub mod Lists
 pub mod Pairing
 pub mod Phases

@@ -1,5 +1,5 @@
 -- How the code's pieces of a text are seen. No public clause rests on it.
-use Rattle.std.specs.Prelude.{◌≡◌, ◌≢◌, ◌==◌, ◌≤◌, ℕ, not, nat_lt, List, [], ◌∷◌, drop, length, slice_range, codes, unwrap_or, Option, Some, None, Result, Ok, Err}
+use Rattle.std.specs.Prelude.{◌≡◌, ◌≢◌, ◌==◌, ◌≤◌, ◌&&◌, ◌++◌, ℕ, Bool, true, false, not, is_some, nat_lt, nat_le, if◌then◌else◌, List, [], ◌∷◌, drop, length, slice_range, codes, unwrap_or, Option, Some, None, Result, Ok, Err}
 use Rattle.std.specs.List.{list_any}
 use Rattle.std.specs.Char.{is_ascii_digit}
 use Rattle.std.specs.Ordering.{nat_cmp}
@@ -14,14 +14,18 @@ use Rattle.drn_lexer.specs.declared.symbol.SymbolForm.{SymbolForm}
 use Rattle.drn_lexer.specs.declared.symbol.SymbolForm.TheVariants as symbol
 use Rattle.drn_lexer.specs.declared.error.LexError.TheVariants as lex
 use Rattle.drn_read.specs.declared.error.DrnCause.{DrnCause}
-use Rattle.drn_read.specs.declared.error.DrnCause.TheVariants.{OpenQuote, Syntax, Memory}
+use Rattle.drn_read.specs.declared.error.DrnCause.TheVariants.{OpenQuote, Syntax, ExtraChoice, LimitChoices, LimitTransitions, Memory}
 use Rattle.drn_read.specs.declared.error.DrnError.{DrnError}
 use Rattle.drn_expr.specs.RatPolys.{OverOne}
 use Rattle.drn_read.specs.Sections.{Placeholder}
 use Rattle.drn_read.specs.Faults.{when, first_of}
 use Rattle.drn_read.specs.Text.{behind, behind_colon}
-use Rattle.drn_read.specs.States.{StateText, is_label, target_text, target_of}
-use Rattle.drn_read.specs.Judging.{choice_count, transition_count, open_choice}
+use Rattle.drn_read.specs.States.{StateText, begins_with, is_label, target_text, target_of}
+use Rattle.drn_read.specs.Judging.{choice_count, transition_count, open_choice, target_fault}
+use Rattle.drn_read.specs.Keeping.{on_last, with_choice}
+use Rattle.lift_model.specs.declared.kind.Kind.{Kind}
+use Rattle.lift_model.specs.declared.kind.Kind.TheVariants.{Mdp}
+use Rattle.drn_read.specs.Parts.{is_empty}
 use Rattle.drn_read.specs.declared.state.Transition.{Transition}
 use Rattle.drn_read.specs.declared.entry.Entry.{Entry}
 use Rattle.drn_read.specs.declared.labels.Labels.{Labels}
@@ -107,3 +111,45 @@ pub record IsEntry (text : List ℕ) (line : Line) (entry : Entry) : Type 0 wher
   pub target : entry.target ≡ target_of (slice_range text line.from line.to)
   pub on : IsOn entry.value_at line
   pub value : behind_colon (behind is_ascii_digit (slice_range text line.from line.to)) ≡ Some (slice_range text entry.value_at line.to)
+
+-- a result whose fault is told of this line
+abbrev pub told_at : {A : Type 0} → ℕ → Result A DrnCause → Result A DrnError
+told_at number (Ok x) = Ok x
+told_at number (Err cause) = Err (record { line = number; cause = cause })
+
+-- what is wrong with a transition to this target, whatever its value
+abbrev pub room_fault : List StateText → ℕ → Option DrnCause
+room_fault states target = first_of (
+    target_fault states target
+    ∷ when (nat_le 262144 (transition_count states)) LimitTransitions
+    ∷ [])
+
+-- a transition of the text, if it has a value
+abbrev pub transition_at : ℕ → ℕ → Result OverOne DrnCause → List Transition
+transition_at number target value = elim value [ Ok v ↦ record { line = number; target = target; value = v } ∷ [] | Err cause ↦ [] ]
+
+-- a chain's state has one choice, and so has a state of a model without type
+abbrev pub is_chain : Option Kind → Bool
+is_chain (Some Mdp) = false
+is_chain _ = true
+
+-- what is wrong with one more choice, whatever its words
+abbrev pub choice_fault : Option Kind → List StateText → Option DrnCause
+choice_fault kind states = first_of (
+    when (is_empty states) Syntax
+    ∷ when (is_chain kind && is_some (open_choice states)) ExtraChoice
+    ∷ when (nat_le 131072 (choice_count states)) LimitChoices
+    ∷ [])
+
+-- a state of this line, with the words behind its number as labels and no choice yet
+abbrev pub new_state : List ℕ → ℕ → List (Piece WordKind) → StateText
+new_state label number ws = record {
+  line = number;
+  init = list_any (is_label (codes "init")) ws;
+  goal = list_any (is_label label) ws;
+  choices = [];
+}
+
+-- the states behind a line of these words, which begins a state or a choice
+abbrev pub words_with : List ℕ → List StateText → ℕ → List (Piece WordKind) → List StateText
+words_with label states number ws = if begins_with (codes "state") ws then states ++ new_state label number (drop 2 ws) ∷ [] else on_last with_choice states

@@ -5,6 +5,7 @@ mod digits;
 mod error;
 mod end;
 mod entry;
+mod extend;
 mod header;
 mod labels;
 mod model_lines;
