@@ -1,6 +1,6 @@
 -- The last state and its last choice.
 use Rattle.std.proofs.Common.{◌≡◌, ◌==◌, ◌<◌, ◌+◌, ◌-◌, ℕ, zero, suc, Bool, true, false, not, List, [], ◌∷◌, ◌++◌, length, get_or, set, Option, Some, None, refl, sym, ◌∙◌, ap, arith}
-use Rattle.std.specs.Prelude.{map, is_some, slice_get}
+use Rattle.std.specs.Prelude.{map, is_some, slice_get, OnOk, Result, Ok, Err}
 use Rattle.std.proofs.lemmas.Bool.Decides.{nat_tests}
 use Rattle.drn_read.specs.Parts.{last, is_empty}
 use Rattle.drn_read.specs.States.{StateText}
@@ -24,6 +24,24 @@ set_last view change (y ∷ []) zero x old l g e = ap (λ b. b ∷ []) (e ∙ ap
 set_last view change (y ∷ []) (suc n) x old l g e = absurd (omega arith)
 set_last view change (y ∷ z ∷ xs) zero x old l g e = absurd (omega arith)
 set_last view change (y ∷ z ∷ xs) (suc n) x old l g e = ap (λ bs. view y ∷ bs) (set_last view change (z ∷ xs) n x old (omega arith) g e)
+
+-- the same where the elements are seen as they are
+pub set_end : {A : Type 0} (change : A → A) (xs : List A) (n : ℕ) (x old : A) → n + 1 ≡ length xs → old ≡ get_or xs n old → x ≡ change old → set xs n x ≡ on_last change xs
+set_end change xs n x old l g e = sym (map_id (set xs n x)) ∙ set_last (λ a. a) change xs n x old l g e ∙ ap (on_last change) (map_id xs)
+  where
+    map_id : {A : Type 0} (xs : List A) → map (λ (a : A). a) xs ≡ xs
+    map_id [] = refl
+    map_id (x ∷ xs) = ap (λ ys. x ∷ ys) (map_id xs)
+
+-- a call that changes the last element or fails
+pub ends_ok : {A E : Type 0} (r : Result (Unit {0}) E) (change : A → A) (xs : List A) (n : ℕ) (x old : A) → is_empty xs ≡ false → n ≡ length xs → old ≡ get_or xs (n - 1) old
+    → OnOk r (x ≡ change old) → OnOk r (set xs (n - 1) x ≡ on_last change xs)
+ends_ok (Ok u) change xs n x old some l g e = set_end change xs (n - 1) x old (by_list xs some l) g e
+  where
+    by_list : {A : Type 0} (xs : List A) → is_empty xs ≡ false → n ≡ length xs → n - 1 + 1 ≡ length xs
+    by_list [] some l = cc
+    by_list (x ∷ xs) some l = omega arith
+ends_ok (Err e) change xs n x old some l g h = tt
 
 -- nothing was changed
 pub set_same : {A B : Type 0} (view : A → B) (xs : List A) (n : ℕ) (x old : A) → n + 1 ≡ length xs → old ≡ get_or xs n old → view x ≡ view old → map view (set xs n x) ≡ map view xs

@@ -15,5 +15,6 @@ pub mod Pieces
 pub mod Running
 mod Samples
 pub mod Sound
+pub mod Tallies
 pub mod Whole
 pub mod WordLoops

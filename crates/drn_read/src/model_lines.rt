@@ -1,5 +1,5 @@
 // Reads the lines of the model.
-ghost use Rattle.std.specs.Prelude.{◌≡◌, ◌<◌, ◌≤◌, ◌++◌, ◌∷◌, [], None, drop, false, is_some, length, slice_range, OnOk};
+ghost use Rattle.std.specs.Prelude.{◌≡◌, ◌<◌, ◌≤◌, ◌++◌, ◌∷◌, [], None, drop, false, is_some, length, slice_range, OnOk, OnErr};
 ghost use Rattle.std.specs.Option.{option_copied};
 ghost use Rattle.drn_lexer.specs.Lines.{TextLine};
 ghost use Rattle.drn_lexer.specs.Spans.{LiesIn};
@@ -71,6 +71,26 @@ fn told_at(line: Line, outcome: Result<(), DrnCause>) -> Result<(), DrnError>
             cause,
         }),
     }
+}
+
+/// One more choice of the last state. Nothing has changed where memory is wanting.
+fn push_choice(states: &mut Vec<State>, alloc: Global) -> Result<(), AllocError>
+    requires { is_empty states.old.items ≡ false }
+    ensures ok { OnOk result (states.new.items ≡ on_last with_choice states.old.items) }
+    ensures err { OnErr result (states.new.items ≡ states.old.items) }
+{
+    let last = states.len() - 1;
+    states[last].add_choice(alloc)
+}
+
+/// One more transition of the last state. Nothing has changed where memory is wanting.
+fn push_transition(states: &mut Vec<State>, alloc: Global, transition: Transition) -> Result<(), AllocError>
+    requires { is_empty states.old.items ≡ false }
+    ensures ok { OnOk result (states.new.items ≡ on_last (with_transitions (transition ∷ [])) states.old.items) }
+    ensures err { OnErr result (states.new.items ≡ states.old.items) }
+{
+    let last = states.len() - 1;
+    states[last].add_transition(alloc, transition)
 }
 
 impl ModelReader {
@@ -203,8 +223,7 @@ impl ModelReader {
         requires room { choice_count self.old < 131072 }
         ensures { OnOk result (self.new ≡ on_last with_choice self.old) }
     {
-        let last = self.states.len() - 1;
-        self.states[last].add_choice(self.alloc)?;
+        push_choice(&mut self.states, self.alloc)?;
         self.choices += 1;
         self.targets.clear();
         Ok(())
@@ -219,14 +238,11 @@ impl ModelReader {
         let target = transition.target;
         let begins_choice = !self.has_choice();
         self.targets.insert(target)?;
-        let last = self.states.len() - 1;
-        if let Err(error) = self.states[last].add_transition(self.alloc, transition) {
+        if let Err(error) = push_transition(&mut self.states, self.alloc, transition) {
             self.targets.remove(&target);
             return Err(error);
         }
-        if begins_choice {
-            self.choices += 1;
-        }
+        self.choices += usize::from(begins_choice);
         self.transitions += 1;
         Ok(())
     }
