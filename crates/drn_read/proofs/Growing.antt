@@ -255,7 +255,7 @@ action_stays h None states ws e sound =
 -- ---- the words of a line
 
 -- a line that begins with a digit begins with no such word
-words_digit : (c : ℕ) (name line : List ℕ) → 57 < c → is_transition line ≡ true → begins_with (c ∷ name) (words line) ≡ false
+pub words_digit : (c : ℕ) (name line : List ℕ) → 57 < c → is_transition line ≡ true → begins_with (c ∷ name) (words line) ≡ false
 unfolding pieces_behind
 words_digit c name [] above e = cc
 words_digit c name (b ∷ tail) above e =
@@ -286,7 +286,7 @@ number_small before w (Ok form) e =
     let c = first_none many [] b.1 in
     leb-false 65536 before (when_none (nat_le 65536 before) LimitStates c.0)
 
-state_small : (before : ℕ) (ws : List (Piece WordKind)) → state_fault before ws ≡ None → before < 65536
+pub state_small : (before : ℕ) (ws : List (Piece WordKind)) → state_fault before ws ≡ None → before < 65536
 state_small before [] e = cc
 state_small before (w ∷ ws) e = by_number (number_fault before w) refl e
   where

@@ -9,6 +9,7 @@ pub mod Headers
 pub mod Kept
 pub mod LastOnes
 pub mod Lists
+pub mod ModelTests
 pub mod Pairing
 pub mod Phases
 pub mod Pieces

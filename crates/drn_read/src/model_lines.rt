@@ -4,7 +4,7 @@ ghost use Rattle.std.specs.Option.{option_copied};
 ghost use Rattle.drn_lexer.specs.Lines.{TextLine};
 ghost use Rattle.drn_lexer.specs.Spans.{LiesIn};
 ghost use Rattle.drn_lexer.specs.Words.{words};
-ghost use Rattle.drn_read.specs.Faults.{fault_of, at};
+ghost use Rattle.drn_read.specs.Faults.{first_of, fault_of, at};
 ghost use Rattle.drn_read.specs.Parts.{last, is_empty};
 ghost use Rattle.drn_read.specs.States.{target_of, entry_value};
 ghost use Rattle.drn_read.specs.Judging.{model_fault, words_fault, transition_fault, target_fault, action_fault, state_fault, choiceless, open_choice, choice_count, transition_count};
@@ -61,15 +61,12 @@ fn is_chain(kind: Option<Kind>) -> bool
 }
 
 /// A fault is told of this line.
-fn told_at(line: Line, outcome: Result<(), DrnCause>) -> Result<(), DrnError>
-    ensures { result ≡ told_at line.number outcome }
+fn told_at(line: u32, outcome: Result<(), DrnCause>) -> Result<(), DrnError>
+    ensures { result ≡ told_at line outcome }
 {
     match outcome {
         Ok(()) => Ok(()),
-        Err(cause) => Err(DrnError {
-            line: line.number,
-            cause,
-        }),
+        Err(cause) => Err(DrnError { line, cause }),
     }
 }
 
@@ -245,5 +242,140 @@ impl ModelReader {
         self.choices += usize::from(begins_choice);
         self.transitions += 1;
         Ok(())
+    }
+
+    /// A transition's line.
+    fn read_transition(&mut self, header: &HeaderReader, text: &[u8], line: Line) -> Result<(), DrnCause>
+        requires { LiesIn line text.now }
+        ensures fault { Tells result (transition_fault header.now self.old (slice_range text.now line.from line.to)) }
+        ensures after { let content = slice_range text.now line.from line.to in
+            let value = entry_value header.now.names header.now.placeholders content in
+            OnOk result (self.new ≡ on_last (with_transitions (transition_at line.number (target_of content) value)) self.old) }
+    {
+        if self.states.is_empty() {
+            return Err(DrnCause::Syntax);
+        }
+        let Some(entry) = entry_of(text, line) else {
+            return Err(DrnCause::Syntax);
+        };
+        self.test_room(entry.target)?;
+        let value = named_value(
+            self.alloc,
+            text,
+            line,
+            entry.value_at,
+            header.names(),
+            header.places(),
+        )?;
+        self.add_transition(Transition {
+            line: line.number,
+            target: entry.target,
+            value,
+        })?;
+        Ok(())
+    }
+
+    /// The words behind `action`: they begin a choice.
+    fn begin_choice(&mut self, header: &HeaderReader, words: Words<'_>) -> Result<(), DrnCause>
+        ensures fault { Tells result (action_fault header.now self.old (left words.entry)) }
+        ensures after { OnOk result (self.new ≡ on_last with_choice self.old) }
+    {
+        self.test_choice(header.kind())?;
+        read_action(words)?;
+        self.add_choice()?;
+        Ok(())
+    }
+
+    /// The words behind `state`, on this line: they begin a state.
+    fn begin_state(&mut self, label: &[u8], line: u32, words: Words<'_>) -> Result<(), DrnCause>
+        ensures fault { Tells result (state_fault (length self.old) (left words.entry)) }
+        ensures after { OnOk result (self.new ≡ self.old ++ new_state label.now line (drop 1 (left words.entry)) ∷ []) }
+    {
+        let labels = read_state(self.states.len(), words, label)?;
+        self.add_state(line, labels)?;
+        Ok(())
+    }
+
+    /// The same behind the last state, which has a choice.
+    fn close_and_begin_state(&mut self, label: &[u8], line: u32, words: Words<'_>) -> Result<(), DrnError>
+        ensures fault { (source : TextLine) → line ≡ source.number
+            → Told result (first_of (choiceless self.old ∷ at source (state_fault (length self.old) (left words.entry)) ∷ [])) }
+        ensures after { OnOk result (self.new ≡ self.old ++ new_state label.now line (drop 1 (left words.entry)) ∷ []) }
+    {
+        self.test_last_state()?;
+        told_at(line, self.begin_state(label, line, words))
+    }
+
+    /// A line that begins a state or a choice, by its first word and those behind it.
+    fn read_keyword(
+        &mut self,
+        header: &HeaderReader,
+        label: &[u8],
+        line: u32,
+        word: LineWord<'_>,
+        behind: Words<'_>,
+    ) -> Result<(), DrnError>
+        ensures fault { (source : TextLine) → line ≡ source.number
+            → Told result (words_fault header.now self.old source (piece word.entry ∷ left behind.entry)) }
+        ensures after { OnOk result (self.new ≡ words_with label.now self.old line (piece word.entry ∷ left behind.entry)) }
+    {
+        if word.bytes == b"state".as_slice() {
+            self.close_and_begin_state(label, line, behind)
+        } else if word.bytes == b"action".as_slice() {
+            told_at(line, self.begin_choice(header, behind))
+        } else {
+            Err(DrnError {
+                line,
+                cause: DrnCause::Syntax,
+            })
+        }
+    }
+
+    /// A line that begins a state or a choice, by its words.
+    fn read_words(
+        &mut self,
+        header: &HeaderReader,
+        label: &[u8],
+        line: u32,
+        words: Words<'_>,
+    ) -> Result<(), DrnError>
+        ensures fault { (source : TextLine) → line ≡ source.number
+            → Told result (words_fault header.now self.old source (left words.entry)) }
+        ensures after { OnOk result (self.new ≡ words_with label.now self.old line (left words.entry)) }
+    {
+        let mut words = words;
+        match words.next() {
+            Ok(Some(word)) => self.read_keyword(header, label, line, word, words),
+            Ok(None) => Err(DrnError {
+                line,
+                cause: DrnCause::Syntax,
+            }),
+            Err(cause) => Err(DrnError { line, cause }),
+        }
+    }
+
+    /// Reads the next line of the model, for a goal's label. It is refused exactly where it has a fault,
+    /// want of memory aside, and its first fault is told.
+    pub fn read_line(
+        &mut self,
+        header: &HeaderReader,
+        label: &[u8],
+        text: &[u8],
+        line: Line,
+    ) -> Result<(), DrnError>
+        requires { LiesIn line text.now }
+        ensures fault { (source : TextLine) → Spans text.now line source → Told result (model_fault header.now self.old source) }
+        ensures after { OnOk result ((source : TextLine) → Spans text.now line source
+            → self.new ≡ states_with label.now header.now self.old source) }
+    {
+        match &text[line.from..line.to] {
+            [] => Ok(()),
+            [b'@', ..] => Err(DrnError {
+                line: line.number,
+                cause: DrnCause::UnknownSection,
+            }),
+            [b'0'..=b'9', ..] => told_at(line.number, self.read_transition(header, text, line)),
+            _ => self.read_words(header, label, line.number, Words::from(text, line, line.from)),
+        }
     }
 }
