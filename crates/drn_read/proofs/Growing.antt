@@ -286,7 +286,7 @@ number_small before w (Ok form) e =
     let c = first_none many [] b.1 in
     leb-false 65536 before (when_none (nat_le 65536 before) LimitStates c.0)
 
-pub state_small : (before : ℕ) (ws : List (Piece WordKind)) → state_fault before ws ≡ None → before < 65536
+state_small : (before : ℕ) (ws : List (Piece WordKind)) → state_fault before ws ≡ None → before < 65536
 state_small before [] e = cc
 state_small before (w ∷ ws) e = by_number (number_fault before w) refl e
   where

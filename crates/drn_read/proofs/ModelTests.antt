@@ -1,6 +1,7 @@
 -- The tests of a line of the model, step by step.
-use Rattle.std.proofs.Common.{◌≡◌, ◌≢◌, ◌<◌, ◌==◌, ◌&&◌, ℕ, Bool, true, false, not, List, [], ◌∷◌, length, Option, Some, None, Result, Ok, Err, refl, sym, ◌∙◌, ap}
-use Rattle.std.specs.Prelude.{is_some, nat_lt, nat_le, slice_range}
+use Rattle.std.proofs.Common.{◌≡◌, ◌≢◌, ◌<◌, ◌==◌, ◌&&◌, ℕ, Bool, true, false, not, List, [], ◌∷◌, length, Option, Some, None, Result, Ok, Err, ◌++◌, refl, sym, ◌∙◌, ap, subst, arith}
+use Rattle.std.specs.Prelude.{OnOk, is_some, nat_lt, nat_le, slice_range, drop, codes, if◌then◌else◌}
+use Rattle.std.specs.Str.{bytes_eq}
 use Rattle.std.specs.Char.{is_ascii_digit}
 use Rattle.std.proofs.lemmas.Bool.{leb-false}
 use Rattle.lift_model.specs.declared.kind.Kind.{Kind}
@@ -8,7 +9,7 @@ use Rattle.lift_model.specs.declared.kind.Kind.TheVariants.{Dtmc, Mdp}
 use Rattle.drn_lexer.specs.Bytes.{is_blank, first_passes}
 use Rattle.drn_lexer.specs.Cutting.{Piece}
 use Rattle.drn_lexer.specs.Lines.{TextLine}
-use Rattle.drn_lexer.specs.Words.{WordKind}
+use Rattle.drn_lexer.specs.Words.{WordKind, words}
 use Rattle.drn_lexer.specs.Symbols.{symbols}
 use Rattle.drn_lexer.specs.declared.line.Line.{Line}
 use Rattle.drn_expr.specs.RatPolys.{OverOne}
@@ -16,15 +17,16 @@ use Rattle.drn_read.specs.Faults.{when, first_of, fault_of, at}
 use Rattle.drn_read.specs.Parts.{is_empty}
 use Rattle.drn_read.specs.Text.{behind}
 use Rattle.drn_read.specs.Sections.{Header, Placeholder}
-use Rattle.drn_read.specs.States.{StateText, target_text, target_of, named_value, entry_value}
-use Rattle.drn_read.specs.Judging.{transition_fault, target_fault, transition_count, choice_count, action_fault, open_choice, name_and_group_fault}
-use Rattle.drn_read.specs.Shown.{Tells, Told, told_at, target_text_fault, room_fault, is_chain, choice_fault, IsEntry}
+use Rattle.drn_read.specs.States.{StateText, begins_with, is_transition, target_text, target_of, named_value, entry_value}
+use Rattle.drn_read.specs.Judging.{model_fault, words_fault, transition_fault, target_fault, transition_count, choice_count, action_fault, open_choice, name_and_group_fault}
+use Rattle.drn_read.specs.Keeping.{states_with, on_last, with_choice, with_transitions}
+use Rattle.drn_read.specs.Shown.{Tells, Told, Spans, told_at, transition_at, new_state, words_with, target_text_fault, room_fault, is_chain, choice_fault, IsEntry}
 use Rattle.drn_read.specs.declared.entry.Entry.{Entry}
 use Rattle.drn_read.specs.declared.error.DrnCause.{DrnCause}
-use Rattle.drn_read.specs.declared.error.DrnCause.TheVariants.{Syntax, ExtraChoice, LimitChoices, LimitTransitions}
+use Rattle.drn_read.specs.declared.error.DrnCause.TheVariants.{Syntax, UnknownSection, ExtraChoice, LimitChoices, LimitTransitions}
 use Rattle.drn_read.specs.declared.error.DrnError.{DrnError}
 use Rattle.drn_read.proofs.Declared.{first_none, when_none}
-use Rattle.drn_read.proofs.Growing.{state_small}
+use Rattle.drn_read.proofs.Growing.{words_digit}
 
 -- ---- a transition
 
@@ -46,20 +48,12 @@ transition_is h states line = grouped
     (when (nat_le 262144 (transition_count states)) LimitTransitions)
     (fault_of (entry_value h.names h.placeholders line))
 
--- a transition before the first state
-pub no_state : (h : Header) (states : List StateText) (line : List ℕ) → is_empty states ≡ true → transition_fault h states line ≡ Some Syntax
-no_state h states line e = transition_is h states line ∙ ap (λ b. first_of (when b Syntax ∷ target_text_fault line ∷ room_fault states (target_of line) ∷ fault_of (entry_value h.names h.placeholders line) ∷ [])) e
-
 behind_state : (h : Header) (states : List StateText) (line : List ℕ) (text : Option DrnCause) → is_empty states ≡ false → target_text_fault line ≡ text
     → transition_fault h states line ≡ first_of (text ∷ room_fault states (target_of line) ∷ fault_of (entry_value h.names h.placeholders line) ∷ [])
 behind_state h states line text e f =
     transition_is h states line
     ∙ ap (λ b. first_of (when b Syntax ∷ target_text_fault line ∷ room_fault states (target_of line) ∷ fault_of (entry_value h.names h.placeholders line) ∷ [])) e
     ∙ ap (λ (o : Option DrnCause). first_of (o ∷ room_fault states (target_of line) ∷ fault_of (entry_value h.names h.placeholders line) ∷ [])) f
-
--- no target of at most 20 digits with a colon behind it
-pub no_entry : (h : Header) (states : List StateText) (line : List ℕ) → is_empty states ≡ false → target_text_fault line ≡ Some Syntax → transition_fault h states line ≡ Some Syntax
-no_entry h states line e f = behind_state h states line (Some Syntax) e f
 
 -- the value behind the colon
 pub entry_value_is : (names : List (List ℕ)) (places : List Placeholder) (text : List ℕ) (line : Line) (entry : Entry) → IsEntry text line entry
@@ -94,23 +88,66 @@ action_by h None states ws = three (when (is_empty states) Syntax) (when (is_som
 pub action_is : (h : Header) (states : List StateText) (ws : List (Piece WordKind)) → action_fault h states ws ≡ first_of (choice_fault h.kind states ∷ name_and_group_fault ws ∷ [])
 action_is h states ws = action_by h h.kind states ws
 
--- there is room for one more choice
-pub record RoomForChoice (states : List StateText) : Type 0 where
-  pub some : is_empty states ≡ false
-  pub few : choice_count states < 131072
+-- ---- a line
 
-pub room_for_choice : (kind : Option Kind) (states : List StateText) → choice_fault kind states ≡ None → RoomForChoice states
-room_for_choice kind states e =
-    let extra = when (is_chain kind && is_some (open_choice states)) ExtraChoice in
-    let many = when (nat_le 131072 (choice_count states)) LimitChoices in
-    let a = first_none (when (is_empty states) Syntax) (extra ∷ many ∷ []) e in
-    let b = first_none extra (many ∷ []) a.1 in
-    let c = first_none many [] b.1 in
-    record { some = when_none (is_empty states) Syntax a.0; few = leb-false 131072 (choice_count states) (when_none (nat_le 131072 (choice_count states)) LimitChoices c.0) }
+-- the states behind a line without fault that says this
+abbrev states_by : List ℕ → Header → List StateText → ℕ → List ℕ → List StateText
+states_by label h states number text =
+    if length text == 0 then states
+    else (if begins_with (codes "state") (words text) then states ++ new_state label number (drop 2 (words text)) ∷ []
+    else (if begins_with (codes "action") (words text) then on_last with_choice states
+    else on_last (with_transitions (transition_at number (target_of text) (entry_value h.names h.placeholders text))) states))
 
--- ---- faults with a line
+after_is : (label : List ℕ) (h : Header) (states : List StateText) (text : List ℕ) (line : Line) (source : TextLine) → Spans text line source
+    → states_by label h states line.number (slice_range text line.from line.to) ≡ states_with label h states source
+after_is label h states text line source spans = ap (λ (n : ℕ). states_by label h states n (slice_range text line.from line.to)) spans.number ∙ ap (states_by label h states source.number) spans.says
 
--- a fault that is told of this line
-pub told_is : {A : Type 0} (r : Result A DrnCause) (fault : Option DrnCause) (number : ℕ) (source : TextLine) → number ≡ source.number → Tells r fault → Told (told_at number r) (at source fault)
-told_is (Ok x) fault number source e h = ap (at source) h
-told_is (Err cause) fault number source e h = λ ne. ap (at source) (h ne) ∙ ap (λ (n : ℕ). Some (record { line = n; cause = cause })) (sym e)
+choose_second : {A : Type 0} (b : Bool) (x y : A) → b ≡ false → (if b then x else y) ≡ y
+choose_second true x y e = cc
+choose_second false x y e = refl
+
+-- a transition's line
+pub transition_line_after : (label : List ℕ) (h : Header) (states new : List StateText) (text : List ℕ) (line : Line) (source : TextLine) → Spans text line source
+    → (length (slice_range text line.from line.to) == 0) ≡ false → is_transition (slice_range text line.from line.to) ≡ true
+    → new ≡ on_last (with_transitions (transition_at line.number (target_of (slice_range text line.from line.to)) (entry_value h.names h.placeholders (slice_range text line.from line.to)))) states
+    → new ≡ states_with label h states source
+transition_line_after label h states new text line source spans blank first is =
+    is
+    ∙ sym (choose_second _ _ _ blank
+    ∙ choose_second _ _ _ (words_digit 115 (codes "tate") (slice_range text line.from line.to) (omega arith) first)
+    ∙ choose_second _ _ _ (words_digit 97 (codes "ction") (slice_range text line.from line.to) (omega arith) first))
+    ∙ after_is label h states text line source spans
+
+state_or_action : (h : Header) (states : List StateText) (source : TextLine) (A B C : List StateText) (ws : List (Piece WordKind)) → words_fault h states source ws ≡ None
+    → (if begins_with (codes "state") ws then A else B) ≡ (if begins_with (codes "state") ws then A else (if begins_with (codes "action") ws then B else C))
+state_or_action h states source A B C [] e = cc
+state_or_action h states source A B C (w ∷ ws) e = by_form w.form e
+  where
+    by_words : (s t : Bool) (F : Option DrnError) (G : Option DrnError) → (if s then F else (if t then G else at source (Some Syntax))) ≡ None → (if s then A else B) ≡ (if s then A else (if t then B else C))
+    by_words true t F G e = refl
+    by_words false true F G e = refl
+    by_words false false F G e = cc
+
+    by_form : (form : WordKind) → words_fault h states source (record w { form = form } ∷ ws) ≡ None
+        → (if bytes_eq w.bytes (codes "state") then A else B) ≡ (if bytes_eq w.bytes (codes "state") then A else (if bytes_eq w.bytes (codes "action") then B else C))
+    by_form (Err fault) e = cc
+    by_form (Ok form) e = by_words (bytes_eq w.bytes (codes "state")) (bytes_eq w.bytes (codes "action")) _ _ e
+
+-- a line that begins a state or a choice
+pub words_line_after : (label : List ℕ) (h : Header) (states new : List StateText) (text : List ℕ) (line : Line) (source : TextLine) → Spans text line source
+    → (length (slice_range text line.from line.to) == 0) ≡ false → words_fault h states source (words (slice_range text line.from line.to)) ≡ None
+    → new ≡ words_with label states line.number (words (slice_range text line.from line.to)) → new ≡ states_with label h states source
+words_line_after label h states new text line source spans blank sound is =
+    is ∙ state_or_action h states source _ _ _ (words (slice_range text line.from line.to)) sound ∙ sym (choose_second _ _ _ blank) ∙ after_is label h states text line source spans
+
+-- ---- calls
+
+pub on_ok : (r : Result (Unit {0}) DrnCause) (number : ℕ) (P Q : Type 0) → OnOk r P → (P → Q) → OnOk (told_at number r) Q
+on_ok (Ok x) number P Q p step = step p
+on_ok (Err cause) number P Q p step = tt
+
+-- where a line was read its fault is none
+pub on_told : (r : Result (Unit {0}) DrnError) (P : Type 0) (S Q : TextLine → Type 0) (fault : TextLine → Option DrnError) → OnOk r P → ((source : TextLine) → S source → Told r (fault source))
+    → ((source : TextLine) → S source → P → fault source ≡ None → Q source) → OnOk r ((source : TextLine) → S source → Q source)
+on_told (Ok x) P S Q fault p told step = λ source s. step source s p (told source s)
+on_told (Err error) P S Q fault p told step = tt

@@ -1,12 +1,13 @@
 // Reads the lines of the model.
-ghost use Rattle.std.specs.Prelude.{◌≡◌, ◌<◌, ◌≤◌, ◌++◌, ◌∷◌, [], None, drop, false, is_some, length, slice_range, OnOk, OnErr};
+ghost use Rattle.std.specs.Prelude.{◌≡◌, ◌==◌, ◌<◌, ◌≤◌, ◌++◌, ◌∷◌, [], None, drop, false, is_some, length, slice_range, OnOk, OnErr};
 ghost use Rattle.std.specs.Option.{option_copied};
+ghost use Rattle.drn_lexer.specs.Bytes.{first_passes};
 ghost use Rattle.drn_lexer.specs.Lines.{TextLine};
 ghost use Rattle.drn_lexer.specs.Spans.{LiesIn};
 ghost use Rattle.drn_lexer.specs.Words.{words};
 ghost use Rattle.drn_read.specs.Faults.{first_of, fault_of, at};
 ghost use Rattle.drn_read.specs.Parts.{last, is_empty};
-ghost use Rattle.drn_read.specs.States.{target_of, entry_value};
+ghost use Rattle.drn_read.specs.States.{is_transition, target_of, entry_value};
 ghost use Rattle.drn_read.specs.Judging.{model_fault, words_fault, transition_fault, target_fault, action_fault, state_fault, choiceless, open_choice, choice_count, transition_count};
 ghost use Rattle.drn_read.specs.Keeping.{states_with, on_last, with_choice, with_transitions};
 ghost use Rattle.drn_read.specs.Shown.{Tells, Told, Spans, told_at, left, piece, is_chain, choice_fault, room_fault, transition_at, new_state, words_with};
@@ -57,6 +58,26 @@ fn is_chain(kind: Option<Kind>) -> bool
     match kind {
         Some(Kind::Mdp) => false,
         _ => true,
+    }
+}
+
+/// Whether a line that says this begins with `@`.
+fn is_head(content: &[u8]) -> bool
+    ensures { result ≡ first_passes (λ b. b == 64) content.now }
+{
+    match content {
+        [first, ..] => *first == b'@',
+        [] => false,
+    }
+}
+
+/// Whether a line that says this is a transition.
+fn is_transition(content: &[u8]) -> bool
+    ensures { result ≡ is_transition content.now }
+{
+    match content {
+        [first, ..] => first.is_ascii_digit(),
+        [] => false,
     }
 }
 
@@ -368,14 +389,19 @@ impl ModelReader {
         ensures after { OnOk result ((source : TextLine) → Spans text.now line source
             → self.new ≡ states_with label.now header.now self.old source) }
     {
-        match &text[line.from..line.to] {
-            [] => Ok(()),
-            [b'@', ..] => Err(DrnError {
+        let content = &text[line.from..line.to];
+        if is_head(content) {
+            Err(DrnError {
                 line: line.number,
                 cause: DrnCause::UnknownSection,
-            }),
-            [b'0'..=b'9', ..] => told_at(line.number, self.read_transition(header, text, line)),
-            _ => self.read_words(header, label, line.number, Words::from(text, line, line.from)),
+            })
+        } else if content.is_empty() {
+            Ok(())
+        } else if is_transition(content) {
+            told_at(line.number, self.read_transition(header, text, line))
+        } else {
+            let words = Words::from(text, line, line.from);
+            self.read_words(header, label, line.number, words)
         }
     }
 }
