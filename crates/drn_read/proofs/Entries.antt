@@ -1,15 +1,13 @@
 -- A transition's line by its pieces.
-use Rattle.std.proofs.Common.{◌≡◌, ◌≢◌, ◌==◌, ◌&&◌, ◌≤◌, ◌<◌, ◌+◌, ◌^◌, ℕ, one-add, Bool, true, false, cond, List, [], ◌∷◌, length, take, drop, Option, Some, None, refl, sym, ◌∙◌, ap, subst, arith}
-use Rattle.std.specs.Prelude.{is_some, nat_lt, not, take_while, slice_range}
+use Rattle.std.proofs.Common.{◌≡◌, ◌==◌, ◌&&◌, ◌≤◌, ◌<◌, ◌+◌, ◌^◌, ℕ, one-add, Bool, true, false, cond, List, [], ◌∷◌, length, take, drop, Option, Some, None, refl, sym, ◌∙◌, ap, arith}
+use Rattle.std.specs.Prelude.{is_some, nat_lt, not, slice_range}
 use Rattle.std.specs.List.{list_all, prefix_len}
-use Rattle.std.specs.Option.{option_map}
 use Rattle.std.specs.Char.{is_ascii_digit, digit_value}
 use Rattle.std.specs.Int.{IsInRange}
 use Rattle.std.specs.Str.Parse.{digits_value, AllDigits}
 use Rattle.std.proofs.Math.Nat.{pow-le-pow_right}
 use Rattle.std.proofs.lemmas.Bool.Decides.{nat_tests}
 use Rattle.std.proofs.lemmas.Int.Digits.{digits_value-lt}
-use Rattle.std.proofs.lemmas.List.Folds.{length-prefix_len}
 use Rattle.std.proofs.lemmas.Str.{digit_value_digit}
 use Rattle.lift_frac.specs.Parts.{capped}
 use Rattle.drn_lexer.specs.Bytes.{is_blank, first_passes}
@@ -24,7 +22,7 @@ use Rattle.drn_lexer.proofs.Pieces.{range-drop, range-take}
 use Rattle.drn_read.specs.Faults.{when, first_of}
 use Rattle.drn_read.specs.Parts.{is_empty}
 use Rattle.drn_read.specs.Text.{behind, behind_colon}
-use Rattle.drn_read.specs.States.{target_text, target_of}
+use Rattle.drn_read.specs.States.{target_text}
 use Rattle.drn_read.specs.Shown.{lone_name, target_text_fault, IsEntry}
 use Rattle.drn_read.specs.declared.entry.Entry.{Entry}
 use Rattle.drn_read.specs.declared.error.DrnCause.{DrnCause}

@@ -1,9 +1,8 @@
 -- The tests of a line of the model, step by step.
-use Rattle.std.proofs.Common.{◌≡◌, ◌≢◌, ◌<◌, ◌==◌, ◌&&◌, ℕ, Bool, true, false, not, List, [], ◌∷◌, length, Option, Some, None, Result, Ok, Err, ◌++◌, refl, sym, ◌∙◌, ap, subst, arith}
+use Rattle.std.proofs.Common.{◌≡◌, ◌==◌, ℕ, Bool, true, false, not, List, [], ◌∷◌, length, Option, Some, None, Result, Ok, Err, ◌++◌, refl, sym, ◌∙◌, ap, arith}
 use Rattle.std.specs.Prelude.{OnOk, is_some, nat_lt, nat_le, slice_range, drop, codes, if◌then◌else◌}
 use Rattle.std.specs.Str.{bytes_eq}
 use Rattle.std.specs.Char.{is_ascii_digit}
-use Rattle.std.proofs.lemmas.Bool.{leb-false}
 use Rattle.lift_model.specs.declared.kind.Kind.{Kind}
 use Rattle.lift_model.specs.declared.kind.Kind.TheVariants.{Dtmc, Mdp}
 use Rattle.drn_lexer.specs.Bytes.{is_blank, first_passes}
@@ -18,14 +17,13 @@ use Rattle.drn_read.specs.Parts.{is_empty}
 use Rattle.drn_read.specs.Text.{behind}
 use Rattle.drn_read.specs.Sections.{Header, Placeholder}
 use Rattle.drn_read.specs.States.{StateText, begins_with, is_transition, target_text, target_of, named_value, entry_value}
-use Rattle.drn_read.specs.Judging.{model_fault, words_fault, transition_fault, target_fault, transition_count, choice_count, action_fault, open_choice, name_and_group_fault}
+use Rattle.drn_read.specs.Judging.{words_fault, transition_fault, target_fault, transition_count, choice_count, action_fault, open_choice, name_and_group_fault}
 use Rattle.drn_read.specs.Keeping.{states_with, on_last, with_choice, with_transitions}
-use Rattle.drn_read.specs.Shown.{Tells, Told, Spans, told_at, transition_at, new_state, words_with, target_text_fault, room_fault, is_chain, choice_fault, IsEntry}
+use Rattle.drn_read.specs.Shown.{Told, Spans, told_at, transition_at, new_state, words_with, target_text_fault, room_fault, choice_fault, IsEntry}
 use Rattle.drn_read.specs.declared.entry.Entry.{Entry}
 use Rattle.drn_read.specs.declared.error.DrnCause.{DrnCause}
-use Rattle.drn_read.specs.declared.error.DrnCause.TheVariants.{Syntax, UnknownSection, ExtraChoice, LimitChoices, LimitTransitions}
+use Rattle.drn_read.specs.declared.error.DrnCause.TheVariants.{Syntax, ExtraChoice, LimitChoices, LimitTransitions}
 use Rattle.drn_read.specs.declared.error.DrnError.{DrnError}
-use Rattle.drn_read.proofs.Declared.{first_none, when_none}
 use Rattle.drn_read.proofs.Growing.{words_digit}
 
 -- ---- a transition

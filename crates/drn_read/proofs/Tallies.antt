@@ -13,7 +13,7 @@ use Rattle.std.proofs.lemmas.Bool.Decides.{nat_tests}
 use Rattle.std.proofs.lemmas.List.{length_push}
 use Rattle.std.proofs.lemmas.List.Folds.{list_any-append}
 use Rattle.std.proofs.lemmas.List.Sums.{sum_by-cons, sum_by_push}
-use Rattle.drn_read.specs.Faults.{when, first_of}
+use Rattle.drn_read.specs.Faults.{when}
 use Rattle.drn_read.specs.Parts.{last, is_empty}
 use Rattle.drn_read.specs.States.{StateText}
 use Rattle.drn_read.specs.Judging.{choice_count, transition_count, open_choice, target_fault}

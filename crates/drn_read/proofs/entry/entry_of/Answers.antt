@@ -1,8 +1,7 @@
-use Rattle.std.proofs.Common.{◌≡◌, ◌≤◌, ◌+◌, ℕ, List, length, Some, None, rules, arith, length-take-le}
+use Rattle.std.proofs.Common.{◌≡◌, ◌≤◌, ◌+◌, length, None, rules}
 use Rattle.std.specs.Prelude.{slice_range}
-use Rattle.drn_lexer.proofs.Pieces.{length-range}
 use Rattle.drn_read.specs.Text.{behind_colon}
-use Rattle.drn_read.proofs.Entries.{DigitsEnd, digits_end, no_colon, entry_is}
+use Rattle.drn_read.proofs.Entries.{digits_end, no_colon, entry_is}
 use Rattle.drn_read.proofs.entry.entry_of.Goals as goal
 
 pub returns-in_err-value_at-clause-none : goal.returns-in_err-value_at-clause-none

@@ -1,5 +1,5 @@
 use Rattle.std.proofs.Common.{◌≡◌, length, [], ◌∷◌, rules}
-use Rattle.drn_read.specs.Keeping.{with_choice, with_transitions}
+use Rattle.drn_read.specs.Keeping.{with_transitions}
 use Rattle.drn_read.proofs.LastOnes.{ends_ok}
 use Rattle.drn_read.proofs.model_lines.push_transition.Goals as goal
 

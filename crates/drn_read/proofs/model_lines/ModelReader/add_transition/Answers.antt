@@ -1,9 +1,6 @@
-use Rattle.std.proofs.Common.{◌≡◌, ◌+◌, ℕ, Bool, true, false, cond, not, [], ◌∷◌, None, rules, subst, sym}
+use Rattle.std.proofs.Common.{◌≡◌, ◌+◌, false, not, [], ◌∷◌, None, rules, subst}
 use Rattle.std.specs.Prelude.{is_some}
 use Rattle.std.specs.Int.{from_bool}
-use Rattle.std.specs.Ordering.{nat_cmp}
-use Rattle.std.specs.BTreeMap.{is_at}
-use Rattle.std.specs.BTreeSet.{contains}
 use Rattle.drn_read.specs.Parts.{is_empty}
 use Rattle.drn_read.specs.Judging.{open_choice}
 use Rattle.drn_read.specs.Keeping.{on_last, with_transitions}

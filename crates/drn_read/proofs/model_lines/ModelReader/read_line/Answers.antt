@@ -1,10 +1,10 @@
 use Rattle.std.proofs.Common.{◌≡◌, ◌==◌, true, false, length, rules}
 use Rattle.std.specs.Prelude.{slice_range}
 use Rattle.drn_lexer.specs.Words.{words}
-use Rattle.drn_read.specs.States.{is_transition, target_of, entry_value}
+use Rattle.drn_read.specs.States.{is_transition}
 use Rattle.drn_read.specs.Judging.{words_fault}
-use Rattle.drn_read.specs.Keeping.{states_with, on_last, with_transitions}
-use Rattle.drn_read.specs.Shown.{Spans, transition_at, words_with}
+use Rattle.drn_read.specs.Keeping.{states_with}
+use Rattle.drn_read.specs.Shown.{Spans, words_with}
 use Rattle.drn_read.proofs.ModelTests.{on_ok, on_told, transition_line_after, words_line_after}
 use Rattle.drn_read.proofs.model_lines.ModelReader.read_line.Goals as goal
 

@@ -1,4 +1,4 @@
-use Rattle.std.proofs.Common.{◌≡◌, ◌≢◌, false, None, Err, rules, ◌∙◌}
+use Rattle.std.proofs.Common.{◌≡◌, false, None, Err, rules, ◌∙◌}
 use Rattle.std.specs.Prelude.{slice_range}
 use Rattle.drn_read.specs.Parts.{is_empty}
 use Rattle.drn_lexer.specs.Symbols.{symbols}
