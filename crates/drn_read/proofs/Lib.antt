@@ -3,11 +3,14 @@ pub mod Choices
 pub mod Counts
 pub mod Cuts
 pub mod Declared
+pub mod Entries
 pub mod Growth
 pub mod Headers
 pub mod Kept
+pub mod LastOnes
 pub mod Lists
 pub mod Loop
+pub mod ModelTests
 pub mod Naming
 pub mod Pairing
 pub mod Phases
@@ -17,5 +20,6 @@ pub mod Running
 mod Samples
 pub mod Sound
 pub mod Stated
+pub mod Tallies
 pub mod Whole
 pub mod WordLoops

@@ -9,7 +9,9 @@ ghost use Rattle.drn_read.specs.Shown.{IsNext, Reads};
 
 mod digits;
 mod end;
+mod entry;
 mod error;
+mod extend;
 mod header;
 mod labels;
 mod model_lines;
