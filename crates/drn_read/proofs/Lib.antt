@@ -2,6 +2,7 @@ pub mod Bodies
 pub mod Choices
 pub mod Cuts
 pub mod Declared
+pub mod Ends
 pub mod Growing
 pub mod Growth
 pub mod Headers
@@ -11,6 +12,7 @@ pub mod Pairing
 pub mod Phases
 pub mod Pieces
 pub mod Running
+pub mod Building
 mod Samples
 pub mod Sound
 pub mod Whole

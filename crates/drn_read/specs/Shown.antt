@@ -1,17 +1,23 @@
 -- How the code's pieces of a text are seen. No public clause rests on it.
-use Rattle.std.specs.Prelude.{◌≡◌, ◌≢◌, ℕ, List, [], ◌∷◌, slice_range, codes, Option, Some, None, Result, Ok, Err}
+use Rattle.std.specs.Prelude.{◌≡◌, ◌≢◌, ℕ, ◌^◌, nat_le, ◌||◌, Bool, List, [], ◌∷◌, map, slice_range, codes, Option, Some, None, Result, Ok, Err, if◌then◌else◌}
 use Rattle.std.specs.List.{list_any}
+use Rattle.std.specs.Option.{option_map}
+use Rattle.lift_frac.specs.Parts.{capped}
 use Rattle.drn_lexer.specs.Cutting.{Piece}
 use Rattle.drn_lexer.specs.Lines.{TextLine, content}
 use Rattle.drn_lexer.specs.declared.line.Line.{Line}
 use Rattle.drn_lexer.specs.Words.{WordKind, words}
 use Rattle.drn_lexer.specs.declared.error.LexError.TheVariants as lex
 use Rattle.drn_read.specs.declared.error.DrnCause.{DrnCause}
-use Rattle.drn_read.specs.declared.error.DrnCause.TheVariants.{OpenQuote, Memory}
+use Rattle.drn_read.specs.declared.error.DrnCause.TheVariants.{OpenQuote, CommonDenominator, Memory}
 use Rattle.drn_read.specs.declared.error.DrnError.{DrnError}
 use Rattle.drn_expr.specs.RatPolys.{OverOne}
 use Rattle.drn_read.specs.Sections.{Placeholder}
 use Rattle.drn_read.specs.States.{is_label}
+use Rattle.drn_read.specs.Faults.{first_of, when}
+use Rattle.drn_read.specs.States.{StateText}
+use Rattle.drn_read.specs.Reading.{lcm, all_transitions, common, is_large}
+use Rattle.drn_read.specs.declared.state.Transition.{Transition}
 use Rattle.drn_read.specs.declared.labels.Labels.{Labels}
 use Rattle.drn_read.specs.declared.word.Words.{Words}
 use Rattle.drn_read.specs.declared.word.LineWord.{LineWord}
@@ -61,3 +67,34 @@ pub record Carries (goal : List ℕ) (words : List (Piece WordKind)) (labels : L
 abbrev pub paired : List (List ℕ) → List OverOne → List Placeholder
 paired (name ∷ names) (value ∷ values) = record { name = name; value = value } ∷ paired names values
 paired _ _ = []
+
+-- ---- the end of a text
+
+-- the refusal, if the answer is one
+abbrev pub refusal : {A : Type 0} → Result A DrnError → Option DrnError
+refusal (Ok x) = None
+refusal (Err error) = Some error
+
+-- a cause that is told of the line of this number
+abbrev pub told : ℕ → Option DrnCause → Option DrnError
+told number cause = option_map (λ c. record { line = number; cause = c }) cause
+
+-- the line of a transition whose target isn't one of so many states
+abbrev pub outside : ℕ → Transition → Option ℕ
+outside count t = if nat_le count t.target then Some t.line else None
+
+-- what is found first in a list
+abbrev pub first_in : {A B : Type 0} → (A → Option B) → List A → Option B
+first_in found xs = first_of (map found xs)
+
+-- the least common multiple with the denominator of a transition's value
+abbrev pub with_den : ℕ → Transition → ℕ
+with_den c t = lcm c t.value.den
+
+-- the last of the tests at the end of a text
+abbrev pub common_fault : List StateText → Option DrnCause
+common_fault states = when (nat_le (2 ^ 62) (common states) || list_any (is_large (common states)) (all_transitions states)) CommonDenominator
+
+-- the number that stands here, none from 2^62 on, becomes this other number
+pub record Becomes (old new : Option ℕ) (change : ℕ → ℕ) : Type 0 where
+  pub is : (c : ℕ) → old ≡ capped (2 ^ 62) c → new ≡ capped (2 ^ 62) (change c)

@@ -55,4 +55,39 @@ impl HeaderReader {
             choice_count: None,
         }
     }
+
+    /// The type that was named.
+    pub fn kind(&self) -> Option<Kind>
+        ensures { result ≡ self.now.kind }
+    {
+        self.kind
+    }
+
+    /// Whether the section stands there.
+    pub fn has(&self, section: Section) -> bool
+        ensures { result ≡ has section self.now }
+    {
+        self.seen.iter().any(|seen| *seen == section)
+    }
+
+    /// The number of states that was announced.
+    pub fn state_count(&self) -> Option<u128>
+        ensures { result ≡ self.now.state_count }
+    {
+        self.state_count
+    }
+
+    /// The number of choices that was announced.
+    pub fn choice_count(&self) -> Option<u128>
+        ensures { result ≡ self.now.choice_count }
+    {
+        self.choice_count
+    }
+
+    /// The declared parameters.
+    pub fn into_names(self) -> Names
+        ensures { result ≡ self.names }
+    {
+        self.names
+    }
 }

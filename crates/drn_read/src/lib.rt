@@ -1,6 +1,7 @@
 //! The reading of a model text.
 #![tactic(auto)]
 
+mod common;
 mod digits;
 mod error;
 mod end;
@@ -8,6 +9,7 @@ mod header;
 mod labels;
 mod model_lines;
 mod places;
+mod rows;
 mod section;
 mod state;
 mod text;
