@@ -1,13 +1,16 @@
 -- Loops over the states at the end of a text.
-use Rattle.std.proofs.Common.{◌≡◌, ◌≢◌, ℕ, ◌+◌, ◌*◌, ◌/◌, ◌^◌, ◌<◌, ◌≤◌, suc, cond, nat_lt, ◌==◌, ◌-◌, Bool, true, false, refl, List, [], ◌∷◌, ◌++◌, length, get_or, take, drop, map, fold, sym, ◌∙◌, ap, arith, add-one, drop-cons, Option, Some, None}
+use Rattle.std.proofs.Common.{◌≡◌, ◌≢◌, ℕ, ℤ, pos, to_z, ◌+◌, ◌*◌, ◌/◌, ◌^◌, ◌<◌, ◌≤◌, suc, cond, not, nat_lt, ◌||◌, ◌==◌, ◌-◌, Bool, true, false, refl, List, [], ◌∷◌, ◌++◌, length, get_or, take, drop, map, fold, sym, ◌∙◌, ap, arith, add-one, drop-cons, Option, Some, None, Result, Ok, Err}
 use Rattle.std.proofs.lemmas.Bool.Decides.{nat_tests}
 use Prim.Native.Nat.{◌∣◌}
 use Rattle.std.proofs.Math.Nat.{mul-le-mul_left}
 use Rattle.std.proofs.lemmas.Nat.Gcd.{mod-eq-zero_of_dvd}
-use Rattle.std.proofs.lemmas.List.Sums.{fold_more, fold-append}
+use Rattle.std.proofs.lemmas.List.Folds.{list_any-append}
+use Rattle.std.proofs.lemmas.List.Sums.{fold_more, fold-append, prefix_len-le-length}
 use Rattle.std.proofs.lemmas.List.{drop_all}
-use Rattle.std.specs.List.{flat_map, find}
-use Rattle.std.specs.Option.{option_map}
+use Rattle.std.specs.Int.{w64}
+use Rattle.std.proofs.lemmas.Int.{to_z_pos}
+use Rattle.std.specs.List.{flat_map, find, list_any, position, position_or_len}
+use Rattle.std.specs.Option.{option_map, unwrap_or}
 use Rattle.std.specs.Prelude.{nat_le, All}
 use Rattle.std.proofs.lemmas.Bool.{leb-false}
 use Rattle.std.proofs.lemmas.List.Elements.{All-weaker}
@@ -15,15 +18,20 @@ use Rattle.drn_read.proofs.Lists.{find_none, All-from_flat_map}
 use Rattle.lift_frac.specs.Gcd.{gcd}
 use Rattle.lift_frac.specs.Parts.{capped}
 use Rattle.lift_frac.proofs.Euclid.{gcd_is, small, positive}
-use Rattle.drn_read.specs.Faults.{first_of}
+use Rattle.lift_model.specs.declared.kind.Kind.{Kind}
+use Rattle.lift_model.specs.declared.entry.Entry.{Entry}
+use Rattle.lift_model.specs.Model.{ModelData}
+use Rattle.drn_read.specs.Sections.{Header}
+use Rattle.drn_read.specs.Judging.{Said}
+use Rattle.drn_read.specs.Faults.{first_of, when}
 use Rattle.drn_read.specs.States.{StateText}
 use Rattle.drn_read.specs.Parts.{last, is_empty}
 use Rattle.drn_read.specs.Judging.{choiceless}
-use Rattle.drn_read.specs.declared.error.DrnCause.TheVariants.{NoChoice, TargetRange}
+use Rattle.drn_read.specs.declared.error.DrnCause.TheVariants.{NoChoice, TargetRange, CommonDenominator}
 use Rattle.drn_read.specs.declared.error.DrnError.{DrnError}
 use Rattle.std.specs.Option.{option_and_then}
-use Rattle.drn_read.specs.Reading.{lcm, all_transitions, common}
-use Rattle.drn_read.specs.Shown.{first_in, outside, with_den, Becomes}
+use Rattle.drn_read.specs.Reading.{lcm, all_transitions, common, is_large, entry, kind_or_chain, model}
+use Rattle.drn_read.specs.Shown.{first_in, outside, with_den, Becomes, refusal, told, common_fault}
 use Rattle.drn_read.specs.declared.state.Transition.{Transition}
 
 -- ---- what is found first
@@ -117,6 +125,9 @@ skip test tests e = rw e refl
 pub stop : {A : Type 0} (test : Option A) (tests : List (Option A)) (fault : A) → test ≡ Some fault → first_of (test ∷ tests) ≡ Some fault
 stop test tests fault e = rw e refl
 
+pub refused : {X : Type 0} (r : Result X DrnError) (error : DrnError) (last : Option DrnError) → r ≡ Err error → Some error ≡ first_of (refusal r ∷ last ∷ [])
+refused r error last e = rw e refl
+
 -- ---- the common denominator
 
 some_none : (c : ℕ) → Some c ≡ None → ⊥
@@ -133,7 +144,7 @@ none_means limit c e = by_test (nat_lt c limit) refl
     by_test false is = grind (arith, nat_tests)
 
 grows : (a b g : ℕ) → g ∣ a → 0 < g → g ≤ b → a ≤ a / g * b
-grows a b g h pos le = let e = mod-eq-zero_of_dvd g h in let more = mul-le-mul_left (a / g) le in omega (arith, e, more)
+grows a b g h above le = let e = mod-eq-zero_of_dvd g h in let more = mul-le-mul_left (a / g) le in omega (arith, e, more)
 
 lcm_grows : (a b : ℕ) → 0 < b → a ≤ lcm a b
 lcm_grows a b h = let is = gcd_is a b in grows a b (gcd a b) is.0 (positive a b (gcd a b) is h) (small a b (gcd a b) is h)
@@ -197,3 +208,66 @@ pub last_told : {R : Type 0} (f : R → List Transition) (states : List StateTex
     → 1 ≤ length states → s ≡ get_or states (length states - 1) s → record { line = line; init = i; goal = g; choices = map f rows } ≡ s → (length rows == 0) ≡ b → told_if b line ≡ choiceless states
 last_told f states s line i g rows b h at view e =
     sym (only_last states s (last_is states s h ∙ ap Some (sym at)) ∙ ap (λ (t : StateText). choiceless (t ∷ [])) (sym view) ∙ no_rows f line i g rows ∙ ap (λ (b : Bool). told_if b line) e)
+
+-- ---- the last test
+
+any-flat : {A B : Type 0} (p : B → Bool) (f : A → List B) (xs : List A) → list_any (λ x. list_any p (f x)) xs ≡ list_any p (flat_map f xs)
+any-flat p f [] = refl
+any-flat p f (x ∷ xs) = ap (λ b. list_any p (f x) || b) (any-flat p f xs) ∙ sym (list_any-append p (f x) (flat_map f xs))
+
+any-same : {A : Type 0} (p q : A → Bool) (xs : List A) → ((x : A) → p x ≡ q x) → list_any p xs ≡ list_any q xs
+any-same p q [] h = refl
+any-same p q (x ∷ xs) h = ap (λ b. b || list_any p xs) (h x) ∙ ap (λ b. q x || b) (any-same p q xs h)
+
+large_rows : (c : ℕ) (states : List StateText) → list_any (λ s. list_any (list_any (is_large c)) s.choices) states ≡ list_any (is_large c) (all_transitions states)
+large_rows c states =
+    any-same (λ (s : StateText). list_any (list_any (is_large c)) s.choices) (λ s. list_any (is_large c) (flat_map (λ choice. choice) s.choices)) states (λ s. any-flat (is_large c) (λ (choice : List Transition). choice) s.choices)
+    ∙ any-flat (is_large c) (λ (s : StateText). flat_map (λ choice. choice) s.choices) states
+
+capped_some : (limit c n : ℕ) → Some n ≡ capped limit c → (n ≡ c) × (nat_le limit c ≡ false)
+capped_some limit c n e = by_test limit c n (nat_lt c limit) refl e
+  where
+    by_test : (limit c n : ℕ) (b : Bool) → nat_lt c limit ≡ b → Some n ≡ cond b (Some c) None → (n ≡ c) × (nat_le limit c ≡ false)
+    by_test limit c n true is e = let same : n ≡ c = cc in (same, grind (arith, nat_tests))
+    by_test limit c n false is e = cc
+
+pub last_fault : (states : List StateText) (n : ℕ) → Some n ≡ capped (2 ^ 62) (common states)
+    → when (list_any (λ s. list_any (list_any (is_large n)) s.choices) states) CommonDenominator ≡ common_fault states
+last_fault states n e =
+    let h = capped_some (2 ^ 62) (common states) n e in
+    ap (λ (c : ℕ). when (list_any (λ s. list_any (list_any (is_large c)) s.choices) states) CommonDenominator) h.0
+    ∙ ap (λ large. when large CommonDenominator) (large_rows (common states) states ∙ ap (λ b. b || list_any (is_large (common states)) (all_transitions states)) (sym h.1))
+
+-- ---- the first place
+
+pub place_or_len : {A : Type 0} (p : A → Bool) (xs : List A) (o : Option ℕ) → o ≡ position p xs → unwrap_or o (length xs) ≡ position_or_len p xs
+place_or_len p xs o e = rw e (by_test (position_or_len p xs) (length xs) (nat_lt (position_or_len p xs) (length xs)) refl (prefix_len-le-length (λ x. not (p x)) xs))
+  where
+    by_test : (i n : ℕ) (b : Bool) → nat_lt i n ≡ b → i ≤ n → unwrap_or (cond b (Some i) None) n ≡ i
+    by_test i n true is h = refl
+    by_test i n false is h = grind (arith, nat_tests)
+
+-- ---- the model
+
+abbrev parts : Kind → ℤ → List (List ℕ) → List Bool → ℕ → List (List (List Entry)) → ModelData
+parts k a ns gs i rs = record { kind = k; common = a; names = ns; goal = gs; init = i; states = rs }
+
+same_data : (k l : Kind) (a b : ℤ) (ns ms : List (List ℕ)) (gs hs : List Bool) (i j : ℕ) (rs ts : List (List (List Entry))) → k ≡ l → a ≡ b → ns ≡ ms → gs ≡ hs → i ≡ j → rs ≡ ts
+    → parts k a ns gs i rs ≡ parts l b ms hs j ts
+same_data k l a b ns ms gs hs i j rs ts e f g h m n = cc
+
+-- the model from its parts, where the states were seen twice
+pub model_is : (header : Header) (states two three : List StateText) (kind : Option Kind) (k : Kind) (c : ℕ) (ns : List (List ℕ)) (gs : List Bool) (i : ℕ) (rs : List (List (List Entry)))
+    → two ≡ states → three ≡ states → kind ≡ header.kind → k ≡ kind_or_chain kind → c ≡ common two → c < 2 ^ 62 → ns ≡ header.names → gs ≡ map (λ s. s.goal) two → i ≡ position_or_len (λ s. s.init) three
+    → rs ≡ map (λ s. map (map (entry (common two))) s.choices) two → model (record { header = header; states = states }) ≡ parts k (to_z w64 c) ns gs i rs
+unfolding model
+model_is header states two three kind k c ns gs i rs d e f g same small h m n o =
+    let number : to_z w64 c ≡ pos c = to_z_pos w64 c (omega (arith, small)) in
+    same_data (kind_or_chain header.kind) k (pos (common states)) (to_z w64 c) header.names ns (map (λ (s : StateText). s.goal) states) gs (position_or_len (λ (s : StateText). s.init) states) i
+    (map (λ (s : StateText). map (map (entry (common states))) s.choices) states) rs
+    (sym (g ∙ ap kind_or_chain f)) (sym (number ∙ ap pos (same ∙ ap common d))) (sym h) (sym (m ∙ ap (map (λ (s : StateText). s.goal)) d)) (sym (n ∙ ap (position_or_len (λ (s : StateText). s.init)) e))
+    (sym (o ∙ ap (λ (ss : List StateText). map (λ (s : StateText). map (map (entry (common ss))) s.choices) ss) d))
+
+-- where the last test finds nothing either, the whole text is without fault
+pub no_fault : (fault : Option DrnError) (first : Option DrnError) (number : ℕ) (states : List StateText) → fault ≡ first_of (first ∷ told number (common_fault states) ∷ []) → first ≡ None → common_fault states ≡ None → fault ≡ None
+no_fault fault first number states e f g = e ∙ skip first (told number (common_fault states) ∷ []) f ∙ rw g refl

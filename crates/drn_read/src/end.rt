@@ -1,5 +1,5 @@
 // What stands at the end of a text: its last tests, and the model.
-ghost use Rattle.std.specs.Prelude.{◌≡◌, ◌==◌, ◌<◌, ◌≤◌, ◌∷◌, [], pos, not, nat_le, length, map, find, count_by, All, Some, None, IfOk, OnOk, ◌^◌};
+ghost use Rattle.std.specs.Prelude.{◌≡◌, ◌==◌, ◌<◌, ◌≤◌, ◌∷◌, [], pos, not, nat_le, length, map, find, count_by, position, All, Some, None, IfOk, OnOk, ◌^◌};
 ghost use Rattle.std.specs.List.{list_any, position_or_len};
 ghost use Rattle.std.specs.Option.{option_map};
 ghost use Rattle.lift_model.specs.Valid.{IsModel};
@@ -69,12 +69,12 @@ fn differs(announced: Option<u128>, number: usize) -> bool
     }
 }
 
-fn test_state_count(number: u32, header: &HeaderReader, count: usize) -> Result<(), DrnError>
-    ensures { refusal result ≡ told number (when (differs header.now.state_count count) DrnCause.CountMismatch) }
+fn test_state_count(number: u32, header: &HeaderReader, states: &[State]) -> Result<(), DrnError>
+    ensures { refusal result ≡ told number (when (differs header.now.state_count (length states.now)) DrnCause.CountMismatch) }
 {
     test(
         number,
-        differs(header.state_count(), count),
+        differs(header.state_count(), states.len()),
         DrnCause::CountMismatch,
     )
 }
@@ -179,20 +179,25 @@ fn test_whole(
     test_model_section(number, header)?;
     test_last_state(states)?;
     test_some_state(number, states)?;
-    test_state_count(number, header, states.len())?;
+    test_state_count(number, header, states)?;
     test_choice_count(number, header, choices)?;
     test_targets(states)?;
     test_init(number, states)?;
     test_goal(number, states)
 }
 
-/// The first state that carries `init`, their number where none does.
+fn init_place(states: &[State]) -> Option<usize>
+    ensures { result ≡ position (λ s. s.init) states.now }
+{
+    states.iter().position(|state| state.init)
+}
+
+/// The first state that carries `init`, the number of states where none does.
 fn first_init(states: &[State]) -> u32
     requires { length states.now ≤ 65536 }
     ensures { result ≡ position_or_len (λ s. s.init) states.now }
 {
-    let place = states.iter().position(|state| state.init);
-    place.unwrap_or(states.len()) as u32
+    init_place(states).unwrap_or(states.len()) as u32
 }
 
 /// For each state, whether it carries the goal's label.
