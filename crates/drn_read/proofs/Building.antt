@@ -1,6 +1,6 @@
 -- Rows that are built one by one.
-use Rattle.std.proofs.Common.{◌≡◌, ◌≢◌, ℕ, ◌+◌, ◌<◌, ◌||◌, Bool, true, false, zero, suc, ◌≤◌, refl, List, [], ◌∷◌, ◌++◌, length, get_or, take, drop, map, sym, ◌∙◌, ap, arith, Option, Some, None, Result, Ok, Err, All, subst, cond}
-use Rattle.std.specs.List.{list_any, flat_map}
+use Rattle.std.proofs.Common.{◌≡◌, ◌≢◌, ℕ, ◌+◌, ◌<◌, ◌||◌, Bool, true, false, zero, suc, ◌≤◌, refl, List, [], ◌∷◌, ◌++◌, length, get_or, take, map, sym, ◌∙◌, ap, arith, Some, Result, Ok, Err, All, subst, cond}
+use Rattle.std.specs.List.{list_any}
 use Rattle.std.proofs.lemmas.List.{take_more, take_all, length-map}
 use Rattle.std.proofs.Math.ListN.{get_or-map}
 use Rattle.lift_poly.specs.MultiAffine.{is_wide, narrow}
@@ -11,13 +11,12 @@ use Rattle.drn_read.specs.Shown.{Tells}
 use Rattle.drn_read.specs.declared.error.DrnCause.{DrnCause}
 use Rattle.drn_read.specs.declared.error.DrnCause.TheVariants.{CommonDenominator, Memory}
 use Rattle.std.proofs.lemmas.List.{map-append}
-use Rattle.std.proofs.lemmas.List.Folds.{list_any-append, list_any_more}
+use Rattle.std.proofs.lemmas.List.Folds.{list_any_more}
 use Rattle.std.proofs.lemmas.Option.{slice_get_within, get_or_from_slice_get}
 use Rattle.std.specs.List.{slice_get}
 use Rattle.std.specs.Prelude.{nat_le, unsigned_abs, ◌^◌}
 use Rattle.std.proofs.lemmas.Bool.Decides.{nat_tests}
 use Rattle.lift_poly.specs.Polynomial.{Term}
-
 
 -- none of these is too large, and this was built of them
 pub record Built {A B : Type 0} (large : A → Bool) (make : A → B) (xs : List A) (built : List B) : Type 0 where

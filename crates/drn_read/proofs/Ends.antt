@@ -1,5 +1,5 @@
 -- Loops over the states at the end of a text.
-use Rattle.std.proofs.Common.{◌≡◌, ◌≢◌, ℕ, ℤ, pos, to_z, ◌+◌, ◌*◌, ◌/◌, ◌^◌, ◌<◌, ◌≤◌, suc, cond, not, nat_lt, ◌||◌, ◌==◌, ◌-◌, Bool, true, false, refl, List, [], ◌∷◌, ◌++◌, length, get_or, take, drop, map, fold, sym, ◌∙◌, ap, arith, add-one, drop-cons, Option, Some, None, Result, Ok, Err}
+use Rattle.std.proofs.Common.{◌≡◌, ℕ, ℤ, pos, to_z, ◌+◌, ◌*◌, ◌/◌, ◌^◌, ◌<◌, ◌≤◌, suc, cond, not, nat_lt, ◌||◌, ◌==◌, ◌-◌, Bool, true, false, refl, List, [], ◌∷◌, ◌++◌, length, get_or, take, drop, map, fold, sym, ◌∙◌, ap, arith, drop-cons, Option, Some, None, Result, Err}
 use Rattle.std.proofs.lemmas.Bool.Decides.{nat_tests}
 use Prim.Native.Nat.{◌∣◌}
 use Rattle.std.proofs.Math.Nat.{mul-le-mul_left}
@@ -22,14 +22,12 @@ use Rattle.lift_model.specs.declared.kind.Kind.{Kind}
 use Rattle.lift_model.specs.declared.entry.Entry.{Entry}
 use Rattle.lift_model.specs.Model.{ModelData}
 use Rattle.drn_read.specs.Sections.{Header}
-use Rattle.drn_read.specs.Judging.{Said}
 use Rattle.drn_read.specs.Faults.{first_of, when}
 use Rattle.drn_read.specs.States.{StateText}
-use Rattle.drn_read.specs.Parts.{last, is_empty}
+use Rattle.drn_read.specs.Parts.{last}
 use Rattle.drn_read.specs.Judging.{choiceless}
 use Rattle.drn_read.specs.declared.error.DrnCause.TheVariants.{NoChoice, TargetRange, CommonDenominator}
 use Rattle.drn_read.specs.declared.error.DrnError.{DrnError}
-use Rattle.std.specs.Option.{option_and_then}
 use Rattle.drn_read.specs.Reading.{lcm, all_transitions, common, is_large, entry, kind_or_chain, model}
 use Rattle.drn_read.specs.Shown.{first_in, outside, with_den, Becomes, refusal, told, common_fault}
 use Rattle.drn_read.specs.declared.state.Transition.{Transition}

@@ -1,5 +1,5 @@
 -- How the code's pieces of a text are seen. No public clause rests on it.
-use Rattle.std.specs.Prelude.{◌≡◌, ◌≢◌, ℕ, ◌^◌, nat_le, ◌||◌, Bool, List, [], ◌∷◌, map, slice_range, codes, Option, Some, None, Result, Ok, Err, if◌then◌else◌}
+use Rattle.std.specs.Prelude.{◌≡◌, ◌≢◌, ℕ, ◌^◌, nat_le, ◌||◌, List, [], ◌∷◌, map, slice_range, codes, Option, Some, None, Result, Ok, Err, if◌then◌else◌}
 use Rattle.std.specs.List.{list_any}
 use Rattle.std.specs.Option.{option_map}
 use Rattle.lift_frac.specs.Parts.{capped}

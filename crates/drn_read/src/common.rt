@@ -18,7 +18,11 @@ fn joined(common: Option<u64>, value: &RatPoly) -> Option<u64>
     let den = value.den() as u128;
     let common = u128::from(common?);
     let least = common / gcd(common, den) * den;
-    if least < LIMIT { Some(least as u64) } else { None }
+    if least < LIMIT {
+        Some(least as u64)
+    } else {
+        None
+    }
 }
 
 fn joined_choice(common: Option<u64>, choice: &[Transition]) -> Option<u64>

@@ -258,7 +258,10 @@ pub(crate) fn finish(
     test_whole(number, &header, &states, choices)?;
     let parts = match parts_of(alloc, &states) {
         Ok(parts) => parts,
-        Err(cause) => return Err(DrnError { line: number, cause }),
+        Err(cause) => return Err(DrnError {
+            line: number,
+            cause,
+        }),
     };
     Ok(Model::new(
         kind_or_chain(header.kind()),

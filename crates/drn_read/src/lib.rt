@@ -3,8 +3,8 @@
 
 mod common;
 mod digits;
-mod error;
 mod end;
+mod error;
 mod header;
 mod labels;
 mod model_lines;

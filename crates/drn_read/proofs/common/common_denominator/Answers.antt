@@ -1,4 +1,4 @@
-use Rattle.std.proofs.Common.{◌^◌, List, fold, take, ap, arith, ◌∙◌}
+use Rattle.std.proofs.Common.{◌^◌, List, fold, ap, arith, ◌∙◌}
 use Rattle.std.proofs.lemmas.List.{take_all}
 use Rattle.lift_frac.specs.Parts.{capped}
 use Rattle.drn_read.specs.States.{StateText}

@@ -1,6 +1,6 @@
 use Rattle.std.proofs.Common.{◌≡◌, ◌^◌, fold, take}
 use Rattle.lift_frac.specs.Parts.{capped}
-use Rattle.drn_read.specs.Shown.{with_den, Becomes}
+use Rattle.drn_read.specs.Shown.{with_den}
 use Rattle.drn_read.proofs.common.common_denominator.Given as goal
 
 abbrev pub invariant-loop-state : goal.invariant-loop-state

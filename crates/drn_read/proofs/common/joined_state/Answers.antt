@@ -1,5 +1,5 @@
 use Rattle.drn_read.specs.Shown.{with_den}
-use Rattle.std.proofs.Common.{fold, length, take, arith}
+use Rattle.std.proofs.Common.{fold, take, arith}
 use Rattle.std.proofs.lemmas.List.{take_all}
 use Rattle.drn_read.proofs.Ends.{over_map}
 use Rattle.drn_read.proofs.common.joined_state.Goals as goal

@@ -14,11 +14,11 @@ new-requires c =
     let last : common_fault c.args.states.items ≡ None = search rules in
     let whole = no_fault (end_fault c.args.number said) None c.args.number c.args.states.items tests refl last in
     let is = model_is c.args.header c.args.states.items c.deref-2.result.now c.deref-3.result.now c.kind.result c.kind_or_chain.result c.in-Ok.parts.common c.into_names.result c.in-Ok.parts.goal.items c.first_init.result (map (λ v. v.items) c.in-Ok.parts.rows.items)
-        c.deref-2.ensures.value c.deref-3.ensures.value c.kind.ensures c.kind_or_chain.ensures c.in-Ok.ensures.common c.in-Ok.ensures.small c.into_names.ensures c.in-Ok.ensures.goal c.first_init.ensures c.in-Ok.ensures.rows in
+    c.deref-2.ensures.value c.deref-3.ensures.value c.kind.ensures c.kind_or_chain.ensures c.in-Ok.ensures.common c.in-Ok.ensures.small c.into_names.ensures c.in-Ok.ensures.goal c.first_init.ensures c.in-Ok.ensures.rows in
     subst IsModel is (c.requires.valid whole)
 
 pub returns-clause-model : goal.returns-clause-model
 returns-clause-model c =
     let is = model_is c.args.header c.args.states.items c.deref-2.result.now c.deref-3.result.now c.kind.result c.kind_or_chain.result c.in-Ok.parts.common c.into_names.result c.in-Ok.parts.goal.items c.first_init.result (map (λ v. v.items) c.in-Ok.parts.rows.items)
-        c.deref-2.ensures.value c.deref-3.ensures.value c.kind.ensures c.kind_or_chain.ensures c.in-Ok.ensures.common c.in-Ok.ensures.small c.into_names.ensures c.in-Ok.ensures.goal c.first_init.ensures c.in-Ok.ensures.rows in
+    c.deref-2.ensures.value c.deref-3.ensures.value c.kind.ensures c.kind_or_chain.ensures c.in-Ok.ensures.common c.in-Ok.ensures.small c.into_names.ensures c.in-Ok.ensures.goal c.first_init.ensures c.in-Ok.ensures.rows in
     c.new.ensures ∙ sym is

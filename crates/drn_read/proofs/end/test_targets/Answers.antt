@@ -1,4 +1,4 @@
-use Rattle.std.proofs.Common.{Some, None, length, sym, ◌∙◌}
+use Rattle.std.proofs.Common.{Some, None, length, ◌∙◌}
 use Rattle.std.specs.Prelude.{find, nat_le}
 use Rattle.drn_read.specs.Reading.{all_transitions}
 use Rattle.drn_read.proofs.Ends.{target_told, all_outside, all_inside}

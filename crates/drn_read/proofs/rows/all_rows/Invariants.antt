@@ -1,4 +1,4 @@
-use Rattle.std.proofs.Common.{◌≡◌, take, map}
+use Rattle.std.proofs.Common.{take, map}
 use Rattle.std.specs.List.{list_any}
 use Rattle.drn_read.specs.Reading.{is_large, entry}
 use Rattle.drn_read.proofs.Building.{Built}

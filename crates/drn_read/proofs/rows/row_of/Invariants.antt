@@ -1,4 +1,4 @@
-use Rattle.std.proofs.Common.{◌≡◌, take}
+use Rattle.std.proofs.Common.{take}
 use Rattle.drn_read.specs.Reading.{is_large, entry}
 use Rattle.drn_read.proofs.Building.{Built}
 use Rattle.drn_read.proofs.rows.row_of.Given as goal

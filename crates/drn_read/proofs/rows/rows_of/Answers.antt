@@ -1,7 +1,6 @@
-use Rattle.std.proofs.Common.{◌≡◌, ◌<◌, Err, All, List, map, rules, ap, sym, subst, ◌∙◌, arith}
+use Rattle.std.proofs.Common.{◌≡◌, ◌<◌, Err, All, map, rules, ap, sym, subst, arith}
 use Rattle.std.specs.List.{list_any}
 use Rattle.drn_read.specs.Faults.{when}
-use Rattle.drn_read.specs.Shown.{Tells}
 use Rattle.drn_read.specs.Reading.{is_large, entry}
 use Rattle.drn_read.specs.declared.state.Transition.{Transition}
 use Rattle.drn_read.specs.declared.error.DrnCause.TheVariants.{CommonDenominator}
