@@ -7,14 +7,14 @@ use Rattle.lift_poly.specs.MultiAffine.{is_wide, narrow}
 use Rattle.lift_poly.specs.declared.error.PolyError.{PolyError}
 use Rattle.lift_poly.specs.declared.error.PolyError.TheVariants as poly
 use Rattle.drn_read.specs.Faults.{when}
-use Rattle.drn_read.specs.Shown.{Tells}
+use Rattle.drn_read.specs.Shown.{Tells, is_over}
 use Rattle.drn_read.specs.declared.error.DrnCause.{DrnCause}
 use Rattle.drn_read.specs.declared.error.DrnCause.TheVariants.{CommonDenominator, Memory}
 use Rattle.std.proofs.lemmas.List.{map-append}
 use Rattle.std.proofs.lemmas.List.Folds.{list_any_more}
 use Rattle.std.proofs.lemmas.Option.{slice_get_within, get_or_from_slice_get}
 use Rattle.std.specs.List.{slice_get}
-use Rattle.std.specs.Prelude.{nat_le, unsigned_abs, ◌^◌}
+use Rattle.std.specs.Prelude.{unsigned_abs, ◌^◌}
 use Rattle.std.proofs.lemmas.Bool.Decides.{nat_tests}
 use Rattle.lift_poly.specs.Polynomial.{Term}
 
@@ -28,9 +28,6 @@ nothing large make = record { none = refl; are = refl }
 
 -- ---- coefficients that are too large
 
-abbrev pub over : Term → Bool
-over term = nat_le (2 ^ 100) (unsigned_abs term.1)
-
 any_here : {A : Type 0} (p : A → Bool) (xs : List A) (i : ℕ) (x : A) → i < length xs → p (get_or xs i x) ≡ true → list_any p xs ≡ true
 any_here p [] i x h e = absurd (omega arith)
 any_here p (y ∷ xs) zero x h e = rw e refl
@@ -40,15 +37,15 @@ any_here p (y ∷ xs) (suc i) x h e = rw (any_here p xs i x (omega arith) e) (by
     by_test true = refl
     by_test false = refl
 
-pub large_at : (ts : List Term) (i : ℕ) (t : Term) → slice_get ts i ≡ Some t → 2 ^ 100 ≤ unsigned_abs t.1 → true ≡ list_any over ts
+pub large_at : (ts : List Term) (i : ℕ) (t : Term) → slice_get ts i ≡ Some t → 2 ^ 100 ≤ unsigned_abs t.1 → true ≡ list_any is_over ts
 large_at ts i t at large =
-    let test : over t ≡ true = grind (arith, nat_tests) in
-    sym (any_here over ts i t (slice_get_within ts i t at) (ap over (get_or_from_slice_get ts i t t at) ∙ test))
+    let test : is_over t ≡ true = grind (arith, nat_tests) in
+    sym (any_here is_over ts i t (slice_get_within ts i t at) (ap is_over (get_or_from_slice_get ts i t t at) ∙ test))
 
-pub small_more : (ts : List Term) (i : ℕ) (t : Term) → slice_get ts i ≡ Some t → unsigned_abs t.1 < 2 ^ 100 → list_any over (take i ts) ≡ false → list_any over (take (i + 1) ts) ≡ false
+pub small_more : (ts : List Term) (i : ℕ) (t : Term) → slice_get ts i ≡ Some t → unsigned_abs t.1 < 2 ^ 100 → list_any is_over (take i ts) ≡ false → list_any is_over (take (i + 1) ts) ≡ false
 small_more ts i t at size before =
-    let test : over t ≡ false = grind (arith, nat_tests) in
-    list_any_more over ts i t (slice_get_within ts i t at) ∙ ap (λ b. b || over (get_or ts i t)) before ∙ ap over (get_or_from_slice_get ts i t t at) ∙ test
+    let test : is_over t ≡ false = grind (arith, nat_tests) in
+    list_any_more is_over ts i t (slice_get_within ts i t at) ∙ ap (λ b. b || is_over (get_or ts i t)) before ∙ ap is_over (get_or_from_slice_get ts i t t at) ∙ test
 
 -- ---- one more row
 
@@ -96,8 +93,8 @@ any_weaker p q (x ∷ xs) h e = by_test p q x xs h (p x) refl e (any_weaker p q 
     by_test p q x xs h true is e rest = rw (h x is) refl
     by_test p q x xs h false is e rest = rw (rest e) (or_true (q x))
 
-is_over : (t : Term) → is_wide t ≡ true → over t ≡ true
-is_over t e = grind (arith, nat_tests)
+wide_is_over : (t : Term) → is_wide t ≡ true → is_over t ≡ true
+wide_is_over t e = grind (arith, nat_tests)
 
 narrow_wide : (ts : List Term) (e : PolyError) → Err e ≡ narrow ts → list_any is_wide ts ≡ true
 narrow_wide ts e h = by_test ts e (list_any is_wide ts) refl h
@@ -112,10 +109,10 @@ answer e = Err e
 
 -- a coefficient of size 2^125 has size 2^100 too
 pub wide_told : (ts : List Term) (e : PolyError) (cause : DrnCause) → (answer e ≢ answer poly.Memory → answer e ≡ narrow ts) → (e ≡ poly.Memory → cause ≡ Memory) → (e ≢ poly.Memory → cause ≡ CommonDenominator)
-    → cause ≢ Memory → when (list_any over ts) CommonDenominator ≡ Some cause
+    → cause ≢ Memory → when (list_any is_over ts) CommonDenominator ≡ Some cause
 wide_told ts e cause given memory wide safe =
     let not_memory : e ≢ poly.Memory = λ is. safe (memory is) in
-    let large : list_any over ts ≡ true = any_weaker is_wide over ts is_over (narrow_wide ts e (given (λ is. not_memory (err_same e poly.Memory is)))) in
+    let large : list_any is_over ts ≡ true = any_weaker is_wide is_over ts wide_is_over (narrow_wide ts e (given (λ is. not_memory (err_same e poly.Memory is)))) in
     rw large (ap Some (sym (wide not_memory)))
   where
     err_same : (a b : PolyError) → answer a ≡ answer b → a ≡ b

@@ -1,4 +1,5 @@
 pub mod Bodies
+pub mod Building
 pub mod Choices
 pub mod Cuts
 pub mod Declared
@@ -12,7 +13,6 @@ pub mod Pairing
 pub mod Phases
 pub mod Pieces
 pub mod Running
-pub mod Building
 mod Samples
 pub mod Sound
 pub mod Whole

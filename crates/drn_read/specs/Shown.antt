@@ -1,8 +1,9 @@
 -- How the code's pieces of a text are seen. No public clause rests on it.
-use Rattle.std.specs.Prelude.{◌≡◌, ◌≢◌, ℕ, ◌^◌, nat_le, ◌||◌, List, [], ◌∷◌, map, slice_range, codes, Option, Some, None, Result, Ok, Err, if◌then◌else◌}
+use Rattle.std.specs.Prelude.{◌≡◌, ◌≢◌, ℕ, ◌^◌, ◌<◌, nat_le, ◌||◌, Bool, List, [], ◌∷◌, map, unsigned_abs, All, slice_range, codes, Option, Some, None, Result, Ok, Err, if◌then◌else◌}
 use Rattle.std.specs.List.{list_any}
 use Rattle.std.specs.Option.{option_map}
 use Rattle.lift_frac.specs.Parts.{capped}
+use Rattle.lift_poly.specs.Polynomial.{Term}
 use Rattle.drn_lexer.specs.Cutting.{Piece}
 use Rattle.drn_lexer.specs.Lines.{TextLine, content}
 use Rattle.drn_lexer.specs.declared.line.Line.{Line}
@@ -82,6 +83,14 @@ told number cause = option_map (λ c. record { line = number; cause = c }) cause
 -- the line of a transition whose target isn't one of so many states
 abbrev pub outside : ℕ → Transition → Option ℕ
 outside count t = if nat_le count t.target then Some t.line else None
+
+-- each target is below this number
+abbrev pub TargetsBelow : ℕ → List Transition → Type 0
+TargetsBelow limit choice = All (λ t. t.target < limit) choice
+
+-- a coefficient's size is 2^100 or more
+abbrev pub is_over : Term → Bool
+is_over term = nat_le (2 ^ 100) (unsigned_abs term.1)
 
 -- what is found first in a list
 abbrev pub first_in : {A B : Type 0} → (A → Option B) → List A → Option B

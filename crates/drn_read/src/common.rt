@@ -25,6 +25,7 @@ fn joined(common: Option<u64>, value: &RatPoly) -> Option<u64>
     }
 }
 
+/// The same over the values of a choice.
 fn joined_choice(common: Option<u64>, choice: &[Transition]) -> Option<u64>
     ensures { Becomes common result (λ c. fold with_den c choice.now) }
 {
@@ -35,6 +36,7 @@ fn joined_choice(common: Option<u64>, choice: &[Transition]) -> Option<u64>
     least
 }
 
+/// The same over the choices of a state.
 fn joined_state(common: Option<u64>, choices: &[Vec<Transition>]) -> Option<u64>
     ensures { Becomes common result (λ c. fold (fold with_den) c (map (λ row. row.items) choices.now)) }
 {

@@ -6,7 +6,7 @@ ghost use Rattle.lift_model.specs.Valid.{IsModel};
 ghost use Rattle.drn_read.specs.Faults.{when, first_of};
 ghost use Rattle.drn_read.specs.Judging.{has, choice_count, choiceless};
 ghost use Rattle.drn_read.specs.Reading.{differs, kind_or_chain, all_transitions, common, entry, end_fault, model};
-ghost use Rattle.drn_read.specs.Shown.{Tells, Told, refusal, told, outside, first_in, common_fault};
+ghost use Rattle.drn_read.specs.Shown.{Tells, Told, refusal, told, outside, first_in, TargetsBelow, common_fault};
 
 use crate::common::common_denominator;
 use crate::error::{DrnCause, DrnError};
@@ -30,6 +30,7 @@ fn test(number: u32, fails: bool, cause: DrnCause) -> Result<(), DrnError>
     Ok(())
 }
 
+/// A section `@model` stands there.
 fn test_model_section(number: u32, header: &HeaderReader) -> Result<(), DrnError>
     ensures { refusal result ≡ told number (when (not (has Section.Model header.now)) DrnCause.MissingSection) }
 {
@@ -53,6 +54,7 @@ fn test_last_state(states: &[State]) -> Result<(), DrnError>
     }
 }
 
+/// There is a state.
 fn test_some_state(number: u32, states: &[State]) -> Result<(), DrnError>
     ensures { refusal result ≡ told number (when (length states.now == 0) DrnCause.NoState) }
 {
@@ -69,6 +71,7 @@ fn differs(announced: Option<u128>, number: usize) -> bool
     }
 }
 
+/// There are as many states as `@nr_states` announces, if it does.
 fn test_state_count(number: u32, header: &HeaderReader, states: &[State]) -> Result<(), DrnError>
     ensures { refusal result ≡ told number (when (differs header.now.state_count (length states.now)) DrnCause.CountMismatch) }
 {
@@ -79,6 +82,7 @@ fn test_state_count(number: u32, header: &HeaderReader, states: &[State]) -> Res
     )
 }
 
+/// There are as many choices as `@nr_choices` announces, if it does.
 fn test_choice_count(number: u32, header: &HeaderReader, count: usize) -> Result<(), DrnError>
     ensures { refusal result ≡ told number (when (differs header.now.choice_count count) DrnCause.CountMismatch) }
 {
@@ -101,6 +105,7 @@ fn outside_in_choice(choice: &[Transition], count: usize) -> Option<u32>
     None
 }
 
+/// The line of the first such transition of a state.
 fn outside_in_state(choices: &[Vec<Transition>], count: usize) -> Option<u32>
     ensures { result ≡ first_in (first_in (outside count)) (map (λ row. row.items) choices.now) }
 {
@@ -127,7 +132,7 @@ fn outside(states: &[State], count: usize) -> Option<u32>
 /// Each target is a state; else the line of the first transition is told whose target is none.
 fn test_targets(states: &[State]) -> Result<(), DrnError>
     ensures fault { refusal result ≡ option_map (λ t. record { line = t.line; cause = DrnCause.TargetRange }) (find (λ t. nat_le (length states.now) t.target) (all_transitions states.now)) }
-    ensures targets { OnOk result (All (λ s. All (All (λ t. t.target < length states.now)) s.choices) states.now) }
+    ensures targets { OnOk result (All (λ s. All (TargetsBelow (length states.now)) s.choices) states.now) }
 {
     match outside(states, states.len()) {
         Some(line) => Err(DrnError {
@@ -145,6 +150,7 @@ fn init_count(states: &[State]) -> usize
     states.iter().filter(|state| state.init).count()
 }
 
+/// Exactly one state carries `init`.
 fn test_init(number: u32, states: &[State]) -> Result<(), DrnError>
     ensures { refusal result ≡ told number (when (not (count_by (λ s. s.init) states.now == 1)) DrnCause.InitCount) }
 {
@@ -158,6 +164,7 @@ fn has_goal(states: &[State]) -> bool
     states.iter().any(|state| state.goal)
 }
 
+/// A state carries the goal's label.
 fn test_goal(number: u32, states: &[State]) -> Result<(), DrnError>
     ensures { refusal result ≡ told number (when (not (list_any (λ s. s.goal) states.now)) DrnCause.UnknownLabel) }
 {
@@ -174,7 +181,7 @@ fn test_whole(
 ) -> Result<(), DrnError>
     requires { choices ≡ choice_count states.now }
     ensures fault { end_fault number (record { header = header.now; states = states.now }) ≡ first_of (refusal result ∷ told number (common_fault states.now) ∷ []) }
-    ensures targets { OnOk result (All (λ s. All (All (λ t. t.target < length states.now)) s.choices) states.now) }
+    ensures targets { OnOk result (All (λ s. All (TargetsBelow (length states.now)) s.choices) states.now) }
 {
     test_model_section(number, header)?;
     test_last_state(states)?;
@@ -186,6 +193,7 @@ fn test_whole(
     test_goal(number, states)
 }
 
+/// The place of the first state that carries `init`.
 fn init_place(states: &[State]) -> Option<usize>
     ensures { result ≡ position (λ s. s.init) states.now }
 {
@@ -225,7 +233,7 @@ struct Parts {
 /// The parts of the model. `CommonDenominator` exactly where the common denominator is 2^62 or more,
 /// or a coefficient over it has a size of 2^100 or more.
 fn parts_of(alloc: Global, states: &[State]) -> Result<Parts, DrnCause>
-    requires { All (λ s. All (All (λ t. t.target < 65536)) s.choices) states.now }
+    requires { All (λ s. All (TargetsBelow 65536) s.choices) states.now }
     ensures fault { Tells result (common_fault states.now) }
     ensures common { IfOk result (λ parts. parts.common ≡ common states.now) }
     ensures small { IfOk result (λ parts. parts.common < 2 ^ 62) }

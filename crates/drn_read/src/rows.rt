@@ -1,10 +1,10 @@
 // The rows of the model over the common denominator.
-ghost use Rattle.std.specs.Prelude.{◌≡◌, ◌≢◌, ◌<◌, ◌^◌, map, nat_le, unsigned_abs, All, IfOk};
+ghost use Rattle.std.specs.Prelude.{◌≡◌, ◌≢◌, ◌<◌, map, All, IfOk};
 ghost use Rattle.std.specs.List.{list_any};
 ghost use Rattle.drn_read.specs.Faults.{when};
 ghost use Rattle.drn_read.specs.Reading.{scaled, is_large, entry};
 ghost use Rattle.drn_read.specs.declared.error.DrnCause.TheVariants.{CommonDenominator};
-ghost use Rattle.drn_read.specs.Shown.{Tells};
+ghost use Rattle.drn_read.specs.Shown.{Tells, TargetsBelow, is_over};
 
 use crate::error::DrnCause;
 use crate::state::{State, Transition};
@@ -18,7 +18,7 @@ const LIMIT: u128 = 1 << 100;
 
 /// Whether a coefficient is too large.
 fn has_large(poly: &MultiAffine) -> bool
-    ensures { result ≡ list_any (λ term. nat_le (2 ^ 100) (unsigned_abs term.1)) poly.now }
+    ensures { result ≡ list_any is_over poly.now }
 {
     for i in 0..poly.len() {
         if poly.term(i).1.unsigned_abs() >= LIMIT {
@@ -40,8 +40,9 @@ fn cause_of(error: PolyError) -> DrnCause
 }
 
 /// A value's polynomial over the common denominator, which is a multiple of the value's own.
+/// `CommonDenominator` exactly where a coefficient is too large.
 fn scaled(alloc: Global, common: u64, value: &RatPoly) -> Result<MultiAffine, DrnCause>
-    ensures fault { Tells result (when (list_any (λ term. nat_le (2 ^ 100) (unsigned_abs term.1)) (scaled common value.now)) CommonDenominator) }
+    ensures fault { Tells result (when (list_any is_over (scaled common value.now)) CommonDenominator) }
     ensures poly { IfOk result (λ p. p ≡ scaled common value.now) }
 {
     let factor = common / value.den() as u64;
@@ -55,7 +56,7 @@ fn scaled(alloc: Global, common: u64, value: &RatPoly) -> Result<MultiAffine, Dr
     Ok(poly)
 }
 
-/// A transition as an entry of a row.
+/// A transition as an entry of a row. `CommonDenominator` exactly where a coefficient is too large.
 fn entry_of(alloc: Global, common: u64, transition: &Transition) -> Result<Entry, DrnCause>
     requires { transition.now.target < 65536 }
     ensures fault { Tells result (when (is_large common transition.now) CommonDenominator) }
@@ -68,8 +69,9 @@ fn entry_of(alloc: Global, common: u64, transition: &Transition) -> Result<Entry
     })
 }
 
+/// A choice as a row, whose entries keep their places.
 fn row_of(alloc: Global, common: u64, choice: &[Transition]) -> Result<Row, DrnCause>
-    requires { All (λ t. t.target < 65536) choice.now }
+    requires { TargetsBelow 65536 choice.now }
     ensures fault { Tells result (when (list_any (is_large common) choice.now) CommonDenominator) }
     ensures row { IfOk result (λ row. row ≡ map (entry common) choice.now) }
 {
@@ -80,8 +82,9 @@ fn row_of(alloc: Global, common: u64, choice: &[Transition]) -> Result<Row, DrnC
     Ok(Row::new(entries))
 }
 
+/// The choices of a state as rows.
 fn rows_of(alloc: Global, common: u64, choices: &[Vec<Transition>]) -> Result<Vec<Row>, DrnCause>
-    requires { All (All (λ t. t.target < 65536)) (map (λ row. row.items) choices.now) }
+    requires { All (TargetsBelow 65536) (map (λ row. row.items) choices.now) }
     ensures fault { Tells result (when (list_any (list_any (is_large common)) (map (λ row. row.items) choices.now)) CommonDenominator) }
     ensures rows { IfOk result (λ rows. rows.items ≡ map (map (entry common)) (map (λ row. row.items) choices.now)) }
 {
@@ -99,7 +102,7 @@ pub(crate) fn all_rows(
     common: u64,
     states: &[State],
 ) -> Result<Vec<Vec<Row>>, DrnCause>
-    requires { All (λ s. All (All (λ t. t.target < 65536)) s.choices) states.now }
+    requires { All (λ s. All (TargetsBelow 65536) s.choices) states.now }
     ensures fault { Tells result (when (list_any (λ s. list_any (list_any (is_large common)) s.choices) states.now) CommonDenominator) }
     ensures rows { IfOk result (λ rows. map (λ v. v.items) rows.items ≡ map (λ s. map (map (entry common)) s.choices) states.now) }
 {
