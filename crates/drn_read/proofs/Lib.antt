@@ -1,8 +1,10 @@
 pub mod Bodies
+pub mod Building
 pub mod Choices
 pub mod Counts
 pub mod Cuts
 pub mod Declared
+pub mod Ends
 pub mod Entries
 pub mod Growth
 pub mod Headers

@@ -24,7 +24,7 @@ use Rattle.drn_read.specs.declared.entry.Entry.{Entry}
 use Rattle.drn_read.specs.declared.error.DrnCause.{DrnCause}
 use Rattle.drn_read.specs.declared.error.DrnCause.TheVariants.{Syntax, ExtraChoice, LimitChoices, LimitTransitions}
 use Rattle.drn_read.specs.declared.error.DrnError.{DrnError}
-use Rattle.drn_read.proofs.Growing.{words_digit}
+use Rattle.drn_read.proofs.Stated.{words_digit}
 
 -- ---- a transition
 

@@ -1,5 +1,5 @@
 -- How the code's pieces of a text are seen. No public clause rests on it.
-use Rattle.std.specs.Prelude.{◌≡◌, ◌≢◌, ◌≤◌, ◌<◌, ◌+◌, ◌==◌, ◌||◌, ℕ, false, not, nat_lt, nat_le, List, [], ◌∷◌, length, drop, slice_range, codes, Option, Some, None, Result, Ok, Err, ◌&&◌, ◌++◌, Bool, true, is_some, if◌then◌else◌, unwrap_or}
+use Rattle.std.specs.Prelude.{◌≡◌, ◌≢◌, ◌≤◌, ◌<◌, ◌+◌, ◌==◌, ◌||◌, ℕ, false, not, nat_lt, nat_le, List, [], ◌∷◌, length, drop, slice_range, codes, Option, Some, None, Result, Ok, Err, ◌&&◌, ◌++◌, Bool, true, is_some, if◌then◌else◌, unwrap_or, ◌^◌, map, unsigned_abs, All}
 use Rattle.std.specs.Str.{bytes_eq}
 use Rattle.drn_lexer.specs.Bytes.{first_passes, is_name_byte, is_blank}
 use Rattle.drn_read.specs.Faults.{when, first_of, lexed}
@@ -9,6 +9,9 @@ use Rattle.std.specs.List.{list_any}
 use Rattle.std.specs.Char.{is_ascii_digit}
 use Rattle.std.specs.Ordering.{nat_cmp}
 use Rattle.std.specs.BTreeSet.{BTreeSet, contains}
+use Rattle.std.specs.Option.{option_map}
+use Rattle.lift_frac.specs.Parts.{capped}
+use Rattle.lift_poly.specs.Polynomial.{Term}
 use Rattle.drn_lexer.specs.Cutting.{Piece}
 use Rattle.drn_lexer.specs.Lines.{TextLine, content, lines_at, behind_comments, answer_of}
 use Rattle.drn_lexer.specs.Spans.{IsNextLine, IsOn}
@@ -20,13 +23,13 @@ use Rattle.drn_lexer.specs.declared.symbol.SymbolForm.{SymbolForm}
 use Rattle.drn_lexer.specs.declared.symbol.SymbolForm.TheVariants as symbol
 use Rattle.drn_lexer.specs.declared.error.LexError.TheVariants as lex
 use Rattle.drn_read.specs.declared.error.DrnCause.{DrnCause}
-use Rattle.drn_read.specs.declared.error.DrnCause.TheVariants.{Syntax, OpenQuote, RepeatedName, LimitName, LimitPlaces, Memory, ExtraChoice, LimitChoices, LimitTransitions}
+use Rattle.drn_read.specs.declared.error.DrnCause.TheVariants.{Syntax, OpenQuote, RepeatedName, LimitName, LimitPlaces, Memory, ExtraChoice, LimitChoices, LimitTransitions, CommonDenominator}
 use Rattle.drn_read.specs.declared.error.DrnError.{DrnError}
 use Rattle.drn_expr.specs.RatPolys.{OverOne}
 use Rattle.drn_read.specs.Sections.{Placeholder, place_name}
 use Rattle.drn_read.specs.States.{is_label, StateText, begins_with, target_text, target_of}
 use Rattle.drn_read.specs.Judging.{Said, choice_count, transition_count, open_choice, target_fault}
-use Rattle.drn_read.specs.Reading.{end_fault, model, ended, drn}
+use Rattle.drn_read.specs.Reading.{end_fault, model, ended, drn, lcm, all_transitions, common, is_large}
 use Rattle.lift_model.specs.Valid.{IsModel}
 use Rattle.drn_read.specs.Keeping.{on_last, with_choice}
 use Rattle.lift_model.specs.declared.kind.Kind.{Kind}
@@ -202,3 +205,41 @@ new_state label number ws = record {
 -- the states behind a line of these words, which begins a state or a choice
 abbrev pub words_with : List ℕ → List StateText → ℕ → List (Piece WordKind) → List StateText
 words_with label states number ws = if begins_with (codes "state") ws then states ++ new_state label number (drop 2 ws) ∷ [] else on_last with_choice states
+-- ---- the end of a text
+
+-- the refusal, if the answer is one
+abbrev pub refusal : {A : Type 0} → Result A DrnError → Option DrnError
+refusal (Ok x) = None
+refusal (Err error) = Some error
+
+-- a cause that is told of the line of this number
+abbrev pub told : ℕ → Option DrnCause → Option DrnError
+told number cause = option_map (λ c. record { line = number; cause = c }) cause
+
+-- the line of a transition whose target isn't one of so many states
+abbrev pub outside : ℕ → Transition → Option ℕ
+outside count t = if nat_le count t.target then Some t.line else None
+
+-- each target is below this number
+abbrev pub TargetsBelow : ℕ → List Transition → Type 0
+TargetsBelow limit choice = All (λ t. t.target < limit) choice
+
+-- a coefficient's size is 2^100 or more
+abbrev pub is_over : Term → Bool
+is_over term = nat_le (2 ^ 100) (unsigned_abs term.1)
+
+-- what is found first in a list
+abbrev pub first_in : {A B : Type 0} → (A → Option B) → List A → Option B
+first_in found xs = first_of (map found xs)
+
+-- the least common multiple with the denominator of a transition's value
+abbrev pub with_den : ℕ → Transition → ℕ
+with_den c t = lcm c t.value.den
+
+-- the last of the tests at the end of a text
+abbrev pub common_fault : List StateText → Option DrnCause
+common_fault states = when (nat_le (2 ^ 62) (common states) || list_any (is_large (common states)) (all_transitions states)) CommonDenominator
+
+-- the number that stands here, none from 2^62 on, becomes this other number
+pub record Becomes (old new : Option ℕ) (change : ℕ → ℕ) : Type 0 where
+  pub is : (c : ℕ) → old ≡ capped (2 ^ 62) c → new ≡ capped (2 ^ 62) (change c)

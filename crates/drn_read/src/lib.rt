@@ -7,6 +7,7 @@ ghost use Rattle.drn_lexer.specs.Lines.{lines_at, behind_comments, place_after};
 ghost use Rattle.drn_read.specs.Reading.{said, drn, IsAnswer};
 ghost use Rattle.drn_read.specs.Shown.{IsNext, Reads};
 
+mod common;
 mod digits;
 mod end;
 mod entry;
@@ -19,6 +20,7 @@ mod parameters;
 mod place_line;
 mod places;
 mod reader;
+mod rows;
 mod section;
 mod state;
 mod text;
@@ -80,5 +82,6 @@ pub fn read_model(alloc: Global, text: &[u8], label: &[u8]) -> Result<Model, Drn
     let mut reader = Reader::new(alloc);
     let number = read_lines(&mut reader, text, label)?;
     let Reader { header, model } = reader;
-    finish(alloc, number, header, model)
+    let choices = model.choices();
+    finish(alloc, number, header, model.into_states(), choices)
 }

@@ -141,7 +141,8 @@ impl ModelReader {
 
     /// The states alone.
     pub fn into_states(self) -> Vec<State>
-        ensures { result.items ≡ self }
+        ensures states { result.items ≡ self }
+        ensures few { length result.items ≤ 65536 }
     {
         self.states
     }
@@ -403,23 +404,5 @@ impl ModelReader {
             let words = Words::from(text, line, line.from);
             self.read_words(header, label, line.number, words)
         }
-    }
-
-    /// Reads a line that is no comment.
-    pub fn read_line(
-        &mut self,
-        header: &HeaderReader,
-        label: &[u8],
-        text: &[u8],
-        line: Line,
-    ) -> Result<(), DrnError>
-        requires { LiesIn line text.now }
-        ensures fault { (source : TextLine) → Spans text.now line source → Told result (model_fault header.now self.old source) }
-        ensures after { OnOk result ((source : TextLine) → Spans text.now line source → self.new ≡ states_with label.now header.now self.old source) }
-    {
-        Err(DrnError {
-            line: line.number,
-            cause: DrnCause::Memory,
-        })
     }
 }
