@@ -8,7 +8,7 @@ ghost use Rattle.drn_lexer.specs.Spans.{LiesIn, IsOn};
 ghost use Rattle.drn_lexer.specs.Symbols.{symbols};
 ghost use Rattle.drn_read.specs.Parts.{is_empty};
 ghost use Rattle.drn_read.specs.States.{place_of, named_value};
-ghost use Rattle.drn_read.specs.Shown.{lone_name, target_text_fault, IsEntry};
+ghost use Rattle.drn_read.specs.ModelSteps.{lone_name, target_text_fault, IsEntry};
 
 use crate::digits::number_of;
 use crate::error::DrnCause;

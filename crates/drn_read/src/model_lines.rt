@@ -10,7 +10,8 @@ ghost use Rattle.drn_read.specs.Parts.{last, is_empty};
 ghost use Rattle.drn_read.specs.States.{is_transition, target_of, entry_value};
 ghost use Rattle.drn_read.specs.Judging.{model_fault, words_fault, transition_fault, target_fault, action_fault, state_fault, choiceless, open_choice, choice_count, transition_count};
 ghost use Rattle.drn_read.specs.Keeping.{states_with, on_last, with_choice, with_transitions};
-ghost use Rattle.drn_read.specs.Shown.{Tells, Told, Spans, told_at, left, piece, is_chain, choice_fault, room_fault, transition_at, new_state, words_with};
+ghost use Rattle.drn_read.specs.Shown.{Tells, Told, Spans, left, piece};
+ghost use Rattle.drn_read.specs.ModelSteps.{told_at, is_chain, choice_fault, room_fault, transition_at, new_state, words_with};
 
 use crate::entry::{entry_of, named_value};
 use crate::error::{DrnCause, DrnError};
@@ -42,7 +43,7 @@ pub(crate) struct ModelReader {
 impl std::marker::Model for ModelReader {
     ghost use Rattle.std.specs.Prelude.{List};
     ghost use Rattle.drn_read.specs.States.{StateText};
-    ghost use Rattle.drn_read.specs.Shown.{IsKept};
+    ghost use Rattle.drn_read.specs.ModelSteps.{IsKept};
 
     ghost Value = { List StateText };
 
@@ -81,7 +82,7 @@ fn is_transition(content: &[u8]) -> bool
     }
 }
 
-/// A fault is told of this line.
+/// The same outcome, whose fault is told of this line.
 fn told_at(line: u32, outcome: Result<(), DrnCause>) -> Result<(), DrnError>
     ensures { result ≡ told_at line outcome }
 {
@@ -376,7 +377,8 @@ impl ModelReader {
     }
 
     /// Reads the next line of the model, for a goal's label. It is refused exactly where it has a fault,
-    /// want of memory aside, and its first fault is told.
+    /// and its first fault is told; `Memory` only where memory is wanting. A name takes one look-up and
+    /// a target one search among those of its choice, and the rest is linear in the line.
     pub fn read_line(
         &mut self,
         header: &HeaderReader,

@@ -3,7 +3,7 @@ use Rattle.std.specs.Prelude.{slice_range}
 use Rattle.drn_read.specs.Parts.{is_empty}
 use Rattle.drn_lexer.specs.Symbols.{symbols}
 use Rattle.drn_read.specs.States.{named_value}
-use Rattle.drn_read.specs.Shown.{room_fault, IsEntry}
+use Rattle.drn_read.specs.ModelSteps.{room_fault, IsEntry}
 use Rattle.drn_read.proofs.ModelTests.{entry_value_is, entry_there}
 use Rattle.drn_read.proofs.model_lines.ModelReader.read_transition.Goals as goal
 
