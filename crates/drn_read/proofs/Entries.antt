@@ -25,7 +25,6 @@ use Rattle.drn_read.specs.Text.{behind, behind_colon}
 use Rattle.drn_read.specs.States.{target_text}
 use Rattle.drn_read.specs.ModelSteps.{lone_name, target_text_fault, IsEntry}
 use Rattle.drn_read.specs.declared.entry.Entry.{Entry}
-use Rattle.drn_read.specs.declared.error.DrnCause.{DrnCause}
 use Rattle.drn_read.specs.declared.error.DrnCause.TheVariants.{Syntax}
 
 -- ---- digits

@@ -51,10 +51,12 @@ changed_last : (states : List StateText) (change : StateText → StateText) (a b
     → (s : StateText) × Changed states (on_last change states) s (change s) a b
 changed_last states change a b some more =
     let x = split states some in
-    let e = more x.end (ap open_choice x.is ∙ open_is x.front x.end) in
-    (x.end, subst (λ ss. Changed ss (on_last change ss) x.end (change x.end) a b) (sym x.is)
-    (subst (λ ss. Changed (x.front ++ x.end ∷ []) ss x.end (change x.end) a b) (sym (on_last-push change x.front x.end))
-    (changed x.front x.end (change x.end) a b e.0 e.1)))
+    let e = more x.end (ap open_choice x.is ∙ open_is x.front x.end) in (
+      x.end,
+      subst (λ ss. Changed ss (on_last change ss) x.end (change x.end) a b) (sym x.is)
+          (subst (λ ss. Changed (x.front ++ x.end ∷ []) ss x.end (change x.end) a b) (sym (on_last-push change x.front x.end))
+          (changed x.front x.end (change x.end) a b e.0 e.1)),
+    )
 
 -- ---- targets
 

@@ -2,9 +2,9 @@
 #![tactic(auto)]
 
 mod digits;
-mod error;
 mod end;
 mod entry;
+mod error;
 mod extend;
 mod header;
 mod labels;
