@@ -23,9 +23,8 @@ use Rattle.drn_read.specs.Faults.{when, first_of}
 use Rattle.drn_read.specs.Parts.{is_empty}
 use Rattle.drn_read.specs.Text.{behind, behind_colon}
 use Rattle.drn_read.specs.States.{target_text}
-use Rattle.drn_read.specs.Shown.{lone_name, target_text_fault, IsEntry}
+use Rattle.drn_read.specs.ModelSteps.{lone_name, target_text_fault, IsEntry}
 use Rattle.drn_read.specs.declared.entry.Entry.{Entry}
-use Rattle.drn_read.specs.declared.error.DrnCause.{DrnCause}
 use Rattle.drn_read.specs.declared.error.DrnCause.TheVariants.{Syntax}
 
 -- ---- digits
@@ -90,17 +89,6 @@ colon_is rest o e = by_test (first_passes (λ b. b == 58) (behind is_blank rest)
     by_test : (b : Bool) → b ≡ is_some (cond b (Some (drop 1 (behind is_blank rest))) None)
     by_test true = refl
     by_test false = refl
-
-by_tests : (long colon : Bool) → Option DrnCause
-by_tests long colon = first_of (when long Syntax ∷ when (not colon) Syntax ∷ [])
-
--- more than twenty digits
-pub long_target : (text : List ℕ) (line : Line) (end : ℕ) → DigitsEnd text line.from line.to end → 20 < length (slice_range text line.from end)
-    → target_text_fault (slice_range text line.from line.to) ≡ Some Syntax
-long_target text line end d long =
-    let lt : nat_lt 20 (length (slice_range text line.from end)) ≡ true = grind (arith, nat_tests) in
-    fault_of_parts (slice_range text line.from line.to) (slice_range text line.from end) (slice_range text end line.to) d.front d.rest
-    ∙ ap (λ b. first_of (when b Syntax ∷ when (not (first_passes (λ b. b == 58) (behind is_blank (slice_range text end line.to)))) Syntax ∷ [])) lt
 
 short_is : (text : List ℕ) (line : Line) (end : ℕ) (o : Option (List ℕ)) → DigitsEnd text line.from line.to end → length (slice_range text line.from end) ≤ 20
     → behind_colon (slice_range text end line.to) ≡ o → target_text_fault (slice_range text line.from line.to) ≡ when (not (is_some o)) Syntax

@@ -19,7 +19,8 @@ use Rattle.drn_read.specs.Sections.{Header, Placeholder}
 use Rattle.drn_read.specs.States.{StateText, begins_with, is_transition, target_text, target_of, named_value, entry_value}
 use Rattle.drn_read.specs.Judging.{words_fault, transition_fault, target_fault, transition_count, choice_count, action_fault, open_choice, name_and_group_fault}
 use Rattle.drn_read.specs.Keeping.{states_with, on_last, with_choice, with_transitions}
-use Rattle.drn_read.specs.Shown.{Told, Spans, told_at, transition_at, new_state, words_with, target_text_fault, room_fault, choice_fault, IsEntry}
+use Rattle.drn_read.specs.Shown.{Told, Spans}
+use Rattle.drn_read.specs.ModelSteps.{told_at, transition_at, new_state, words_with, target_text_fault, room_fault, choice_fault, IsEntry}
 use Rattle.drn_read.specs.declared.entry.Entry.{Entry}
 use Rattle.drn_read.specs.declared.error.DrnCause.{DrnCause}
 use Rattle.drn_read.specs.declared.error.DrnCause.TheVariants.{Syntax, ExtraChoice, LimitChoices, LimitTransitions}

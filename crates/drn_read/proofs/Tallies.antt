@@ -18,7 +18,7 @@ use Rattle.drn_read.specs.Parts.{last, is_empty}
 use Rattle.drn_read.specs.States.{StateText}
 use Rattle.drn_read.specs.Judging.{choice_count, transition_count, open_choice, target_fault}
 use Rattle.drn_read.specs.Keeping.{on_last, with_choice, with_transitions}
-use Rattle.drn_read.specs.Shown.{open_row, room_fault, IsKept}
+use Rattle.drn_read.specs.ModelSteps.{open_row, room_fault, IsKept}
 use Rattle.drn_read.specs.declared.error.DrnCause.{DrnCause}
 use Rattle.drn_read.specs.declared.error.DrnCause.TheVariants.{RepeatedTarget, LimitChoices, LimitTransitions}
 use Rattle.drn_read.specs.declared.state.Transition.{Transition}
@@ -51,10 +51,12 @@ changed_last : (states : List StateText) (change : StateText → StateText) (a b
     → (s : StateText) × Changed states (on_last change states) s (change s) a b
 changed_last states change a b some more =
     let x = split states some in
-    let e = more x.end (ap open_choice x.is ∙ open_is x.front x.end) in
-    (x.end, subst (λ ss. Changed ss (on_last change ss) x.end (change x.end) a b) (sym x.is)
-    (subst (λ ss. Changed (x.front ++ x.end ∷ []) ss x.end (change x.end) a b) (sym (on_last-push change x.front x.end))
-    (changed x.front x.end (change x.end) a b e.0 e.1)))
+    let e = more x.end (ap open_choice x.is ∙ open_is x.front x.end) in (
+      x.end,
+      subst (λ ss. Changed ss (on_last change ss) x.end (change x.end) a b) (sym x.is)
+          (subst (λ ss. Changed (x.front ++ x.end ∷ []) ss x.end (change x.end) a b) (sym (on_last-push change x.front x.end))
+          (changed x.front x.end (change x.end) a b e.0 e.1)),
+    )
 
 -- ---- targets
 

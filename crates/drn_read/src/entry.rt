@@ -1,5 +1,5 @@
 // A transition's line: its target, and its value behind a colon.
-ghost use Rattle.std.specs.Prelude.{◌≡◌, ◌≢◌, ◌≤◌, true, length, slice_range, Some, Err, IfSome, IfNone, IfOk};
+ghost use Rattle.std.specs.Prelude.{◌≡◌, ◌≢◌, ◌≤◌, true, length, slice_range, Some, Err, IfSome, IfNone};
 ghost use Rattle.std.specs.List.{list_all};
 ghost use Rattle.std.specs.Option.{option_map};
 ghost use Rattle.std.specs.Char.{is_ascii_digit};
@@ -8,7 +8,7 @@ ghost use Rattle.drn_lexer.specs.Spans.{LiesIn, IsOn};
 ghost use Rattle.drn_lexer.specs.Symbols.{symbols};
 ghost use Rattle.drn_read.specs.Parts.{is_empty};
 ghost use Rattle.drn_read.specs.States.{place_of, named_value};
-ghost use Rattle.drn_read.specs.Shown.{lone_name, target_text_fault, IsEntry};
+ghost use Rattle.drn_read.specs.ModelSteps.{lone_name, target_text_fault, IsEntry};
 
 use crate::digits::number_of;
 use crate::error::DrnCause;

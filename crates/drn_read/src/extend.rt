@@ -26,7 +26,11 @@ impl State {
 
     /// One more transition of the last choice, which is a first choice where there is none. Nothing has
     /// changed where memory is wanting.
-    pub fn add_transition(&mut self, alloc: Global, transition: Transition) -> Result<(), AllocError>
+    pub fn add_transition(
+        &mut self,
+        alloc: Global,
+        transition: Transition,
+    ) -> Result<(), AllocError>
         ensures ok { OnOk result (self.new ≡ with_transitions (transition ∷ []) self.old) }
         ensures err { OnErr result (self.new ≡ self.old) }
     {

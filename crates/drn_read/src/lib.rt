@@ -23,6 +23,8 @@ mod reader;
 mod rows;
 mod section;
 mod state;
+#[cfg(test)]
+mod tests;
 mod text;
 mod type_line;
 mod value;

@@ -1,16 +1,16 @@
 // Reads the lines of the model.
-ghost use Rattle.std.specs.Prelude.{◌≡◌, ◌==◌, ◌<◌, ◌≤◌, ◌++◌, ◌∷◌, [], None, drop, false, is_some, length, slice_range, OnOk, OnErr};
+ghost use Rattle.std.specs.Prelude.{◌≤◌, ◌≡◌, ◌==◌, ◌<◌, ◌++◌, ◌∷◌, [], None, drop, false, is_some, length, slice_range, OnOk, OnErr};
 ghost use Rattle.std.specs.Option.{option_copied};
 ghost use Rattle.drn_lexer.specs.Bytes.{first_passes};
 ghost use Rattle.drn_lexer.specs.Lines.{TextLine};
 ghost use Rattle.drn_lexer.specs.Spans.{LiesIn};
-ghost use Rattle.drn_lexer.specs.Words.{words};
 ghost use Rattle.drn_read.specs.Faults.{first_of, fault_of, at};
 ghost use Rattle.drn_read.specs.Parts.{last, is_empty};
 ghost use Rattle.drn_read.specs.States.{is_transition, target_of, entry_value};
-ghost use Rattle.drn_read.specs.Judging.{model_fault, words_fault, transition_fault, target_fault, action_fault, state_fault, choiceless, open_choice, choice_count, transition_count};
+ghost use Rattle.drn_read.specs.Judging.{model_fault, words_fault, transition_fault, target_fault, action_fault, state_fault, choiceless, open_choice, choice_count};
 ghost use Rattle.drn_read.specs.Keeping.{states_with, on_last, with_choice, with_transitions};
-ghost use Rattle.drn_read.specs.Shown.{Tells, Told, Spans, told_at, left, piece, is_chain, choice_fault, room_fault, transition_at, new_state, words_with};
+ghost use Rattle.drn_read.specs.Shown.{Tells, Told, Spans, left, piece};
+ghost use Rattle.drn_read.specs.ModelSteps.{told_at, is_chain, choice_fault, room_fault, transition_at, new_state, words_with};
 
 use crate::entry::{entry_of, named_value};
 use crate::error::{DrnCause, DrnError};
@@ -42,7 +42,7 @@ pub(crate) struct ModelReader {
 impl std::marker::Model for ModelReader {
     ghost use Rattle.std.specs.Prelude.{List};
     ghost use Rattle.drn_read.specs.States.{StateText};
-    ghost use Rattle.drn_read.specs.Shown.{IsKept};
+    ghost use Rattle.drn_read.specs.ModelSteps.{IsKept};
 
     ghost Value = { List StateText };
 
@@ -81,7 +81,7 @@ fn is_transition(content: &[u8]) -> bool
     }
 }
 
-/// A fault is told of this line.
+/// The same outcome, whose fault is told of this line.
 fn told_at(line: u32, outcome: Result<(), DrnCause>) -> Result<(), DrnError>
     ensures { result ≡ told_at line outcome }
 {
@@ -102,7 +102,11 @@ fn push_choice(states: &mut Vec<State>, alloc: Global) -> Result<(), AllocError>
 }
 
 /// One more transition of the last state. Nothing has changed where memory is wanting.
-fn push_transition(states: &mut Vec<State>, alloc: Global, transition: Transition) -> Result<(), AllocError>
+fn push_transition(
+    states: &mut Vec<State>,
+    alloc: Global,
+    transition: Transition,
+) -> Result<(), AllocError>
     requires { is_empty states.old.items ≡ false }
     ensures ok { OnOk result (states.new.items ≡ on_last (with_transitions (transition ∷ [])) states.old.items) }
     ensures err { OnErr result (states.new.items ≡ states.old.items) }
@@ -221,7 +225,7 @@ impl ModelReader {
         Ok(())
     }
 
-    /// One more state, of this line, behind a state that has a choice.
+    /// One more state, of this line and without choice.
     fn add_state(&mut self, line: u32, labels: Labels) -> Result<(), AllocError>
         requires { length self.old < 65536 }
         ensures { OnOk result (self.new ≡ self.old ++ record { line = line; init = labels.init; goal = labels.goal; choices = [] } ∷ []) }
@@ -267,7 +271,12 @@ impl ModelReader {
     }
 
     /// A transition's line.
-    fn read_transition(&mut self, header: &HeaderReader, text: &[u8], line: Line) -> Result<(), DrnCause>
+    fn read_transition(
+        &mut self,
+        header: &HeaderReader,
+        text: &[u8],
+        line: Line,
+    ) -> Result<(), DrnCause>
         requires { LiesIn line text.now }
         ensures fault { Tells result (transition_fault header.now self.old (slice_range text.now line.from line.to)) }
         ensures after { let content = slice_range text.now line.from line.to in
@@ -319,7 +328,12 @@ impl ModelReader {
     }
 
     /// The same behind the last state, which has a choice.
-    fn close_and_begin_state(&mut self, label: &[u8], line: u32, words: Words<'_>) -> Result<(), DrnError>
+    fn close_and_begin_state(
+        &mut self,
+        label: &[u8],
+        line: u32,
+        words: Words<'_>,
+    ) -> Result<(), DrnError>
         ensures fault { (source : TextLine) → line ≡ source.number
             → Told result (first_of (choiceless self.old ∷ at source (state_fault (length self.old) (left words.entry)) ∷ [])) }
         ensures after { OnOk result (self.new ≡ self.old ++ new_state label.now line (drop 1 (left words.entry)) ∷ []) }
@@ -377,7 +391,8 @@ impl ModelReader {
     }
 
     /// Reads the next line of the model, for a goal's label. It is refused exactly where it has a fault,
-    /// want of memory aside, and its first fault is told.
+    /// and its first fault is told; `Memory` only where memory is wanting. A name takes one look-up and
+    /// a target one search among those of its choice, and the rest is linear in the line.
     pub fn read_line(
         &mut self,
         header: &HeaderReader,

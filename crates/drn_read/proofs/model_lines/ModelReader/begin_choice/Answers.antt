@@ -1,7 +1,8 @@
 use Rattle.std.proofs.Common.{◌≡◌, [], ◌∷◌, Option, Some, Err, rules, ap, ◌∙◌}
 use Rattle.drn_read.specs.Faults.{first_of}
 use Rattle.drn_read.specs.Judging.{name_and_group_fault}
-use Rattle.drn_read.specs.Shown.{left, choice_fault}
+use Rattle.drn_read.specs.Shown.{left}
+use Rattle.drn_read.specs.ModelSteps.{choice_fault}
 use Rattle.drn_read.specs.declared.error.DrnCause.{DrnCause}
 use Rattle.drn_read.proofs.ModelTests.{action_is}
 use Rattle.drn_read.proofs.model_lines.ModelReader.begin_choice.Goals as goal

@@ -4,7 +4,8 @@ use Rattle.drn_lexer.specs.Words.{words}
 use Rattle.drn_read.specs.States.{is_transition}
 use Rattle.drn_read.specs.Judging.{words_fault}
 use Rattle.drn_read.specs.Keeping.{states_with}
-use Rattle.drn_read.specs.Shown.{Spans, words_with}
+use Rattle.drn_read.specs.Shown.{Spans}
+use Rattle.drn_read.specs.ModelSteps.{words_with}
 use Rattle.drn_read.proofs.ModelTests.{on_ok, on_told, transition_line_after, words_line_after}
 use Rattle.drn_read.proofs.model_lines.ModelReader.read_line.Goals as goal
 
