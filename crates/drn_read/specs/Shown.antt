@@ -107,6 +107,7 @@ abbrev pub IsNext : List ℕ → Place → Place → Result (Option Line) DrnErr
 IsNext text old new (Ok None) = Ok None ≡ answer_of (behind_comments (lines_at text old))
 IsNext text old new (Ok (Some line)) = IsNextLine text old new line
 IsNext text old new (Err error) = IsRefused text old new error
+
 -- the tests of a placeholder's name, behind these placeholders
 abbrev pub new_name_fault : List Placeholder → List ℕ → Option DrnCause
 new_name_fault places name = first_of (
@@ -130,6 +131,7 @@ pub record IsNewName (places : List Placeholder) (line found : List ℕ) : Type 
   pub behind : drop (1 + length found) line ≡ behind is_name_byte (drop 1 line)
   pub room : length places < 65536
   pub new : list_any (λ place. bytes_eq found place.name) places ≡ false
+
 -- the refusal, if the answer is one
 abbrev pub refusal : {A : Type 0} → Result A DrnError → Option DrnError
 refusal (Ok x) = None

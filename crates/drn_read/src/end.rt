@@ -1,11 +1,11 @@
 // What stands at the end of a text: its last tests, and the model.
-ghost use Rattle.std.specs.Prelude.{◌≡◌, ◌==◌, ◌<◌, ◌≤◌, ◌∷◌, [], pos, not, nat_le, length, map, find, count_by, position, All, Some, None, IfOk, OnOk, ◌^◌};
+ghost use Rattle.std.specs.Prelude.{◌≡◌, ◌==◌, ◌<◌, ◌≤◌, ◌∷◌, [], pos, not, nat_le, length, map, find, count_by, is_some, position, All, Some, None, IfOk, OnOk, ◌^◌};
 ghost use Rattle.std.specs.List.{list_any, position_or_len};
 ghost use Rattle.std.specs.Option.{option_map};
 ghost use Rattle.lift_model.specs.Valid.{IsModel};
 ghost use Rattle.drn_read.specs.Faults.{when, first_of};
 ghost use Rattle.drn_read.specs.Judging.{has, choice_count, choiceless};
-ghost use Rattle.drn_read.specs.Reading.{differs, kind_or_chain, all_transitions, common, entry, end_fault, model};
+ghost use Rattle.drn_read.specs.Reading.{differs, mismatch, kind_or_chain, all_transitions, common, entry, end_fault, model};
 ghost use Rattle.drn_read.specs.Shown.{Tells, Told, refusal, told, outside, first_in, TargetsBelow, common_fault};
 
 use crate::common::common_denominator;
@@ -71,26 +71,31 @@ fn differs(announced: Option<u128>, number: usize) -> bool
     }
 }
 
-/// There are as many states as `@nr_states` announces, if it does.
-fn test_state_count(number: u32, header: &HeaderReader, states: &[State]) -> Result<(), DrnError>
-    ensures { refusal result ≡ told number (when (differs header.now.state_count (length states.now)) DrnCause.CountMismatch) }
+/// The first number that the text announces and that isn't the one read: that of states, and then
+/// that of choices.
+fn mismatch(header: &HeaderReader, states: usize, choices: usize) -> Option<Section>
+    ensures { result ≡ mismatch header.now states choices }
 {
-    test(
-        number,
-        differs(header.state_count(), states.len()),
-        DrnCause::CountMismatch,
-    )
+    if differs(header.state_count(), states) {
+        Some(Section::NrStates)
+    } else if differs(header.choice_count(), choices) {
+        Some(Section::NrChoices)
+    } else {
+        None
+    }
 }
 
-/// There are as many choices as `@nr_choices` announces, if it does.
-fn test_choice_count(number: u32, header: &HeaderReader, count: usize) -> Result<(), DrnError>
-    ensures { refusal result ≡ told number (when (differs header.now.choice_count count) DrnCause.CountMismatch) }
+/// There are as many states and choices as the text announces, if it does.
+fn test_counts(
+    number: u32,
+    header: &HeaderReader,
+    states: &[State],
+    choices: usize,
+) -> Result<(), DrnError>
+    ensures { refusal result ≡ told number (when (is_some (mismatch header.now (length states.now) choices)) DrnCause.CountMismatch) }
 {
-    test(
-        number,
-        differs(header.choice_count(), count),
-        DrnCause::CountMismatch,
-    )
+    let wrong = mismatch(header, states.len(), choices);
+    test(number, wrong.is_some(), DrnCause::CountMismatch)
 }
 
 /// The line of the first transition of a choice whose target isn't one of so many states.
@@ -186,8 +191,7 @@ fn test_whole(
     test_model_section(number, header)?;
     test_last_state(states)?;
     test_some_state(number, states)?;
-    test_state_count(number, header, states)?;
-    test_choice_count(number, header, choices)?;
+    test_counts(number, header, states, choices)?;
     test_targets(states)?;
     test_init(number, states)?;
     test_goal(number, states)

@@ -7,7 +7,8 @@ use std::test::Fail;
 const COIN: &[u8] = b"@type: DTMC\n@parameters\np\n@model\nstate 0 init\n1 : p\n2 : 1-p\n\
     state 1 heads\n1 : 1\nstate 2\n2 : 1\n";
 
-const COIN_MODEL: &str = "dtmc 1 p init 0 goal 1 row 0.0 to 1 1:1 to 2 0:1 1:-1 row 1.0 to 1 0:1 row 2.0 to 2 0:1";
+const COIN_MODEL: &str =
+    "dtmc 1 p init 0 goal 1 row 0.0 to 1 1:1 to 2 0:1 1:-1 row 1.0 to 1 0:1 row 2.0 to 2 0:1";
 
 const FIVE: &[u8] =
     b"@type: DTMC\n@parameters\na b c d e\n@model\nstate 0 init\n1 : 1/8*a+1/8*b+1/8*c\n\
@@ -16,11 +17,22 @@ const FIVE: &[u8] =
 
 // Writes the terms of an entry behind its target.
 fn write_entry(out: &mut MemSink, entry: &lift_model::Entry) -> Result<(), WriteFault> {
-    write_words(out, &[Word::Text(b" to "), Word::Count(u64::from(entry.target))])?;
+    write_words(
+        out,
+        &[Word::Text(b" to "), Word::Count(u64::from(entry.target))],
+    )?;
     for i in 0..entry.poly.len() {
         let (set, number) = entry.poly.term(i);
         let set = Word::Count(u64::from(set));
-        write_words(out, &[Word::Text(b" "), set, Word::Text(b":"), Word::Number(number)])?;
+        write_words(
+            out,
+            &[
+                Word::Text(b" "),
+                set,
+                Word::Text(b":"),
+                Word::Number(number),
+            ],
+        )?;
     }
     Ok(())
 }
@@ -31,11 +43,21 @@ fn write_model(out: &mut MemSink, model: &Model) -> Result<(), WriteFault> {
         Kind::Dtmc => b"dtmc ",
         Kind::Mdp => b"mdp ",
     };
-    write_words(out, &[Word::Text(kind), Word::Number(i128::from(model.common()))])?;
+    write_words(
+        out,
+        &[Word::Text(kind), Word::Number(i128::from(model.common()))],
+    )?;
     for i in 0..model.names().len() {
         write_words(out, &[Word::Text(b" "), Word::Text(model.names().get(i))])?;
     }
-    write_words(out, &[Word::Text(b" init "), Word::Count(u64::from(model.init())), Word::Text(b" goal")])?;
+    write_words(
+        out,
+        &[
+            Word::Text(b" init "),
+            Word::Count(u64::from(model.init())),
+            Word::Text(b" goal"),
+        ],
+    )?;
     for s in 0..model.states() {
         if model.is_goal(s) {
             write_words(out, &[Word::Text(b" "), Word::Count(u64::from(s))])?;
@@ -45,7 +67,10 @@ fn write_model(out: &mut MemSink, model: &Model) -> Result<(), WriteFault> {
         for a in 0..model.choices(s) {
             let state = Word::Count(u64::from(s));
             let choice = Word::Count(u64::from(a));
-            write_words(out, &[Word::Text(b" row "), state, Word::Text(b"."), choice])?;
+            write_words(
+                out,
+                &[Word::Text(b" row "), state, Word::Text(b"."), choice],
+            )?;
             for entry in model.row(s, a).entries() {
                 write_entry(out, entry)?;
             }
@@ -188,10 +213,22 @@ fn refuses_the_first_fault(rt: HostRuntime) -> Result<(), Fail> {
         (5, 1, b"state 0 [1 init\n", 5, DrnCause::Syntax),
         (5, 1, b"state\n", 5, DrnCause::Syntax),
         (5, 1, b"state 0x \"\n", 5, DrnCause::Syntax),
-        (5, 1, b"state 00000000000000000000000001 !\n", 5, DrnCause::StateOrder),
+        (
+            5,
+            1,
+            b"state 00000000000000000000000001 !\n",
+            5,
+            DrnCause::StateOrder,
+        ),
         (5, 1, b"state 0\n", 11, DrnCause::InitCount),
         (6, 1, b"1 : p*p\n", 6, DrnCause::SharedParameter),
-        (3, 4, b"p q\n@model\nstate 0 init\n1 : (p+1)/q\n", 6, DrnCause::ParametricDivisor),
+        (
+            3,
+            4,
+            b"p q\n@model\nstate 0 init\n1 : (p+1)/q\n",
+            6,
+            DrnCause::ParametricDivisor,
+        ),
         (6, 1, b"1 : p^2\n", 6, DrnCause::Power),
         (1, 1, b"@type: CTMC\n", 1, DrnCause::UnsupportedType),
         (1, 1, b"@type:\n", 1, DrnCause::UnsupportedType),
@@ -199,7 +236,13 @@ fn refuses_the_first_fault(rt: HostRuntime) -> Result<(), Fail> {
         (7, 1, b"1 : 1-p\n", 7, DrnCause::RepeatedTarget),
         (7, 1, b"01 : 1-p*p\n", 7, DrnCause::RepeatedTarget),
         (7, 1, b"3 : 1-p\n", 7, DrnCause::TargetRange),
-        (7, 1, b"18446744073709551618 : 1-p\n", 7, DrnCause::TargetRange),
+        (
+            7,
+            1,
+            b"18446744073709551618 : 1-p\n",
+            7,
+            DrnCause::TargetRange,
+        ),
         (7, 1, b"000000000000000000002 : 1-p\n", 7, DrnCause::Syntax),
         (7, 1, b"2 1-p\n", 7, DrnCause::Syntax),
         (7, 1, b"2 :\n", 7, DrnCause::Syntax),
@@ -253,22 +296,44 @@ fn refuses_the_first_fault(rt: HostRuntime) -> Result<(), Fail> {
         (2, 0, b"@type: MDP\n", 2, DrnCause::RepeatedSection),
         (4, 1, b"@modle\n", 4, DrnCause::UnknownSection),
         (9, 1, b"@type: DTMC\n", 9, DrnCause::UnknownSection),
-        (6, 2, b"action a\n1 : p\naction b\n2 : 1-p\n", 8, DrnCause::ExtraChoice),
+        (
+            6,
+            2,
+            b"action a\n1 : p\naction b\n2 : 1-p\n",
+            8,
+            DrnCause::ExtraChoice,
+        ),
         (6, 0, b"action a [1] [2]\n", 6, DrnCause::Syntax),
         (6, 0, b"action a [1] \"x\n", 6, DrnCause::OpenQuote),
         (5, 0, b"action a\n", 5, DrnCause::Syntax),
         (4, 0, b"@nr_states\n4\n", 13, DrnCause::CountMismatch),
         (4, 0, b"@nr_choices\n4\n", 13, DrnCause::CountMismatch),
         (4, 0, b"@nr_states\n@placeholders\n", 5, DrnCause::Syntax),
-        (4, 0, b"@placeholders\n$a : p\n$b : $a\n", 6, DrnCause::Syntax),
-        (4, 0, b"@placeholders\n$a : p\n$a : p\n", 6, DrnCause::RepeatedName),
+        (
+            4,
+            0,
+            b"@placeholders\n$a : p\n$b : $a\n",
+            6,
+            DrnCause::Syntax,
+        ),
+        (
+            4,
+            0,
+            b"@placeholders\n$a : p\n$a : p\n",
+            6,
+            DrnCause::RepeatedName,
+        ),
         (8, 1, b"state 1 heads\xc8\n", 8, DrnCause::NotText),
     ];
     for (from, count, new, line, cause) in rows {
         let text = changed(rt.alloc(), from, count, new)?;
         assert!(rt; text.len() < 100000);
         let error = read_model(rt.alloc(), &text, b"heads").err();
-        assert_eq!(rt; error, Some(DrnError { line, cause }), "{new:?} from line {from}");
+        assert_eq!(rt;
+            error,
+            Some(DrnError { line, cause }),
+            "{new:?} from line {from}"
+        );
     }
     Ok(())
 }

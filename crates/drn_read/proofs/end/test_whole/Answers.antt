@@ -1,6 +1,7 @@
-use Rattle.std.proofs.Common.{◌≡◌, ◌∷◌, [], Err, sym, ap, ◌∙◌, rules}
+use Rattle.std.proofs.Common.{◌≡◌, ◌∷◌, [], Err, sym, ap, ◌∙◌, rules, length}
+use Rattle.std.specs.Prelude.{is_some}
 use Rattle.drn_read.specs.Faults.{first_of, when}
-use Rattle.drn_read.specs.Reading.{differs, end_fault}
+use Rattle.drn_read.specs.Reading.{mismatch, end_fault}
 use Rattle.drn_read.specs.declared.error.DrnCause.TheVariants.{CountMismatch}
 use Rattle.drn_read.specs.Shown.{told, common_fault}
 use Rattle.drn_read.proofs.Ends.{skip, stop, refused}
@@ -30,26 +31,15 @@ returns-in_err-test_some_state-clause-fault c =
     ∙ stop _ _ _ (sym c.in_err-test_some_state.ensures)
     ∙ refused c.from_residual-in_err-test_some_state.result c.in_err-test_some_state.field-0.0 (told c.args.number (common_fault c.args.states.now)) e
 
-pub returns-in_err-test_state_count-clause-fault : goal.returns-in_err-test_state_count-clause-fault
+pub returns-in_err-test_counts-clause-fault : goal.returns-in_err-test_counts-clause-fault
 unfolding end_fault
-returns-in_err-test_state_count-clause-fault c =
-    let e : c.from_residual-in_err-test_state_count.result ≡ Err c.in_err-test_state_count.field-0.0 = search rules in
+returns-in_err-test_counts-clause-fault c =
+    let e : c.from_residual-in_err-test_counts.result ≡ Err c.in_err-test_counts.field-0.0 = search rules in
     skip _ _ (sym c.in_ok-test_model_section.ensures)
     ∙ skip _ _ (sym c.in_ok-test_last_state.ensures)
     ∙ skip _ _ (sym c.in_ok-test_some_state.ensures)
-    ∙ stop _ _ _ (sym c.in_err-test_state_count.ensures)
-    ∙ refused c.from_residual-in_err-test_state_count.result c.in_err-test_state_count.field-0.0 (told c.args.number (common_fault c.args.states.now)) e
-
-pub returns-in_err-test_choice_count-clause-fault : goal.returns-in_err-test_choice_count-clause-fault
-unfolding end_fault
-returns-in_err-test_choice_count-clause-fault c =
-    let e : c.from_residual-in_err-test_choice_count.result ≡ Err c.in_err-test_choice_count.field-0.0 = search rules in
-    skip _ _ (sym c.in_ok-test_model_section.ensures)
-    ∙ skip _ _ (sym c.in_ok-test_last_state.ensures)
-    ∙ skip _ _ (sym c.in_ok-test_some_state.ensures)
-    ∙ skip _ _ (sym c.in_ok-test_state_count.ensures)
-    ∙ stop _ _ _ (ap (λ n. told c.args.number (when (differs c.args.header.now.choice_count n) CountMismatch)) (sym c.requires) ∙ sym c.in_err-test_choice_count.ensures)
-    ∙ refused c.from_residual-in_err-test_choice_count.result c.in_err-test_choice_count.field-0.0 (told c.args.number (common_fault c.args.states.now)) e
+    ∙ stop _ _ _ (ap (λ n. told c.args.number (when (is_some (mismatch c.args.header.now (length c.args.states.now) n)) CountMismatch)) (sym c.requires) ∙ sym c.in_err-test_counts.ensures)
+    ∙ refused c.from_residual-in_err-test_counts.result c.in_err-test_counts.field-0.0 (told c.args.number (common_fault c.args.states.now)) e
 
 pub returns-in_err-test_targets-clause-fault : goal.returns-in_err-test_targets-clause-fault
 unfolding end_fault
@@ -58,8 +48,7 @@ returns-in_err-test_targets-clause-fault c =
     skip _ _ (sym c.in_ok-test_model_section.ensures)
     ∙ skip _ _ (sym c.in_ok-test_last_state.ensures)
     ∙ skip _ _ (sym c.in_ok-test_some_state.ensures)
-    ∙ skip _ _ (sym c.in_ok-test_state_count.ensures)
-    ∙ skip _ _ (ap (λ n. told c.args.number (when (differs c.args.header.now.choice_count n) CountMismatch)) (sym c.requires) ∙ sym c.in_ok-test_choice_count.ensures)
+    ∙ skip _ _ (ap (λ n. told c.args.number (when (is_some (mismatch c.args.header.now (length c.args.states.now) n)) CountMismatch)) (sym c.requires) ∙ sym c.in_ok-test_counts.ensures)
     ∙ stop _ _ _ (sym c.in_err-test_targets.ensures.fault)
     ∙ refused c.from_residual-in_err-test_targets.result c.in_err-test_targets.field-0.0 (told c.args.number (common_fault c.args.states.now)) e
 
@@ -70,8 +59,7 @@ returns-in_err-test_init-clause-fault c =
     skip _ _ (sym c.in_ok-test_model_section.ensures)
     ∙ skip _ _ (sym c.in_ok-test_last_state.ensures)
     ∙ skip _ _ (sym c.in_ok-test_some_state.ensures)
-    ∙ skip _ _ (sym c.in_ok-test_state_count.ensures)
-    ∙ skip _ _ (ap (λ n. told c.args.number (when (differs c.args.header.now.choice_count n) CountMismatch)) (sym c.requires) ∙ sym c.in_ok-test_choice_count.ensures)
+    ∙ skip _ _ (ap (λ n. told c.args.number (when (is_some (mismatch c.args.header.now (length c.args.states.now) n)) CountMismatch)) (sym c.requires) ∙ sym c.in_ok-test_counts.ensures)
     ∙ skip _ _ (sym c.in_ok-test_targets.ensures.fault)
     ∙ stop _ _ _ (sym c.in_err-test_init.ensures)
     ∙ refused c.from_residual-in_err-test_init.result c.in_err-test_init.field-0.0 (told c.args.number (common_fault c.args.states.now)) e
@@ -82,8 +70,7 @@ returns-clause-fault c =
     skip _ _ (sym c.in_ok-test_model_section.ensures)
     ∙ skip _ _ (sym c.in_ok-test_last_state.ensures)
     ∙ skip _ _ (sym c.in_ok-test_some_state.ensures)
-    ∙ skip _ _ (sym c.in_ok-test_state_count.ensures)
-    ∙ skip _ _ (ap (λ n. told c.args.number (when (differs c.args.header.now.choice_count n) CountMismatch)) (sym c.requires) ∙ sym c.in_ok-test_choice_count.ensures)
+    ∙ skip _ _ (ap (λ n. told c.args.number (when (is_some (mismatch c.args.header.now (length c.args.states.now) n)) CountMismatch)) (sym c.requires) ∙ sym c.in_ok-test_counts.ensures)
     ∙ skip _ _ (sym c.in_ok-test_targets.ensures.fault)
     ∙ skip _ _ (sym c.in_ok-test_init.ensures)
     ∙ ap (λ fault. first_of (fault ∷ told c.args.number (common_fault c.args.states.now) ∷ [])) (sym c.test_goal.ensures)
