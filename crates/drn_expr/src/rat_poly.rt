@@ -1,4 +1,4 @@
-ghost use Rattle.std.specs.Prelude.{◌≡◌, ◌≢◌, ◌<◌, ◌^◌, ℤ, pos, [], ◌∷◌, ℕ, unsigned_abs, Ok, Err};
+ghost use Rattle.std.specs.Prelude.{◌≡◌, ◌≢◌, ◌<◌, ◌^◌, ℤ, pos, [], ◌∷◌, ℕ, unsigned_abs, Ok, Err, IfOk};
 ghost use Rattle.std.specs.List.{list_any};
 ghost use Rattle.lift_poly.specs.Polynomial.{constant};
 ghost use Rattle.drn_expr.specs.RatPolys.{OverOne, IsRatPoly, is_large, narrow, with_sign};
@@ -7,7 +7,7 @@ ghost use Rattle.drn_expr.specs.Expansion.{sum, negative, difference, product, q
 use crate::error::ExprError;
 use lift_frac::{Frac, gcd};
 use lift_poly::MultiAffine;
-use std::alloc::Global;
+use std::alloc::{AllocError, Global};
 use std::marker::Model;
 
 /// A polynomial over one denominator, in lowest terms: the denominator is from 1 to 2^62 - 1 and has
@@ -69,6 +69,17 @@ impl RatPoly {
         ensures rat_poly { IsRatPoly self.now }
     {
         self.den as i64
+    }
+
+    /// The same polynomial.
+    pub fn copy(&self, alloc: Global) -> Result<RatPoly, AllocError>
+        ensures { IfOk result (λ p. p ≡ self.now) }
+    {
+        let poly = self.poly.copy(alloc)?;
+        Ok(RatPoly {
+            poly,
+            den: self.den,
+        })
     }
 
     /// A number.

@@ -94,6 +94,19 @@ fn finds_words(rt: HostRuntime) {
 }
 
 #[test]
+fn takes_quotes_off(rt: HostRuntime) {
+    let table = [
+        ("\"all done\"", WordForm::Quoted, "all done"),
+        ("\"\"", WordForm::Quoted, ""),
+        ("[\"]", WordForm::Group, "[\"]"),
+        ("a\"b\"", WordForm::Plain, "a\"b\""),
+    ];
+    for (word, form, says) in table {
+        assert_eq!(rt; unquoted(form, word.as_bytes()), says.as_bytes(), "{word}");
+    }
+}
+
+#[test]
 fn finds_symbols(rt: HostRuntime) {
     let table = [
         ("", 0, None),

@@ -1,18 +1,27 @@
 pub mod Bodies
+pub mod Building
 pub mod Choices
+pub mod Counts
 pub mod Cuts
 pub mod Declared
+pub mod Ends
+pub mod Entries
 pub mod Growth
 pub mod Headers
 pub mod Kept
+pub mod LastOnes
 pub mod Lists
 pub mod Loop
+pub mod ModelTests
+pub mod Naming
 pub mod Pairing
 pub mod Phases
 pub mod Pieces
+pub mod PlaceLines
 pub mod Running
 mod Samples
 pub mod Sound
 pub mod Stated
+pub mod Tallies
 pub mod Whole
 pub mod WordLoops

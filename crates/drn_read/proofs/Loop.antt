@@ -1,6 +1,6 @@
 -- What a reader that goes by places keeps: it has said what the lines before its place say, and none of them has a fault.
 use Rattle.std.proofs.Common.{◌≡◌, ◌≢◌, ◌+◌, ◌-◌, ℕ, refl, List, [], ◌∷◌, ◌++◌, length, sym, subst, ◌∙◌, ap, append_assoc, arith, length-append, Option, Some, None, Result, Ok, Err}
-use Rattle.std.specs.Prelude.{slice_range}
+use Rattle.std.specs.Prelude.{slice_range, IfOk}
 use Rattle.std.proofs.lemmas.List.{append-nil}
 use Rattle.lift_model.specs.Model.{ModelData}
 use Rattle.lift_model.specs.Valid.{IsModel}
@@ -13,7 +13,7 @@ use Rattle.drn_read.specs.Faults.{lexed}
 use Rattle.drn_read.specs.Judging.{Said, line_fault}
 use Rattle.drn_read.specs.Reading.{said, first_fault, last_number, end_fault, model, ended, drn, IsAnswer}
 use Rattle.drn_read.specs.Keeping.{with_line}
-use Rattle.drn_read.specs.Shown.{Spans, AtEnd}
+use Rattle.drn_read.specs.Shown.{Spans, AtEnd, Told}
 use Rattle.drn_read.specs.declared.error.DrnCause.TheVariants.{Memory}
 use Rattle.drn_read.specs.declared.error.DrnError.{DrnError}
 use Rattle.drn_read.proofs.Kept.{IsSound}
@@ -130,3 +130,15 @@ at_end label text old new kept h e p =
       valid = is_model (new.number - 1) kept h.sound;
       right = drn_end label text (h.fault ∙ r.0) ∙ ap (λ n. ended n (said label (lines text))) last ∙ ap (ended (new.number - 1)) (sym whole);
     }
+
+no_fault_at_end : (number : ℕ) (kept : Said) → end_fault number kept ≡ None → ended number kept ≡ Ok (model kept)
+no_fault_at_end number kept e = rw (ended, e) refl
+
+fault_at_end : (number : ℕ) (kept : Said) (error : DrnError) → end_fault number kept ≡ Some error → ended number kept ≡ Err error
+fault_at_end number kept error e = rw (ended, e) refl
+
+-- what the end gives is what the text stands for
+pub answered : (label text : List ℕ) (number : ℕ) (kept : Said) (result : Result ModelData DrnError) → AtEnd label text number kept
+    → Told result (end_fault number kept) → IfOk result (λ m. m ≡ model kept) → IsAnswer result (drn text label)
+answered label text number kept (Ok m) h none same = h.right ∙ no_fault_at_end number kept none ∙ ap (λ (m : ModelData). Ok m) (sym same)
+answered label text number kept (Err error) h some same = λ ne. h.right ∙ fault_at_end number kept error (some ne)

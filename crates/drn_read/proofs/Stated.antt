@@ -255,7 +255,7 @@ action_stays h None states ws e sound =
 -- ---- the words of a line
 
 -- a line that begins with a digit begins with no such word
-words_digit : (c : ℕ) (name line : List ℕ) → 57 < c → is_transition line ≡ true → begins_with (c ∷ name) (words line) ≡ false
+pub words_digit : (c : ℕ) (name line : List ℕ) → 57 < c → is_transition line ≡ true → begins_with (c ∷ name) (words line) ≡ false
 unfolding pieces_behind
 words_digit c name [] above e = cc
 words_digit c name (b ∷ tail) above e =

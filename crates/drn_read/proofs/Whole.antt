@@ -1,5 +1,5 @@
 -- The end of a text: what was read without a fault is a valid model.
-use Rattle.std.proofs.Common.{◌≡◌, ◌≢◌, ◌==◌, ℕ, ◌/◌, ◌^◌, ◌<◌, ◌≤◌, ◌||◌, Bool, true, false, not, List, [], ◌∷◌, length, get_or, map, fold, All, Contains, pos, unsigned_abs, Option, Some, None, refl, sym, ap, subst, ◌∙◌, arith}
+use Rattle.std.proofs.Common.{is_some, ◌≡◌, ◌≢◌, ◌==◌, ℕ, ◌/◌, ◌^◌, ◌<◌, ◌≤◌, ◌||◌, Bool, true, false, not, List, [], ◌∷◌, length, get_or, map, fold, All, Contains, pos, unsigned_abs, Option, Some, None, refl, sym, ap, subst, ◌∙◌, arith}
 use Rattle.std.specs.Prelude.{nat_le}
 use Rattle.std.specs.List.{list_any, find, flat_map, sum_by, count_by}
 use Rattle.std.specs.Option.{option_map}
@@ -23,7 +23,7 @@ use Rattle.drn_expr.proofs.Valid.{IsOver, sets_scaled}
 use Rattle.drn_read.specs.Faults.{when}
 use Rattle.drn_read.specs.States.{StateText}
 use Rattle.drn_read.specs.Judging.{Said, has, choice_count, choiceless}
-use Rattle.drn_read.specs.Reading.{all_transitions, lcm, common, scaled, is_large, differs, end_fault, entry, kind_or_chain, model}
+use Rattle.drn_read.specs.Reading.{all_transitions, lcm, common, scaled, is_large, mismatch, end_fault, entry, kind_or_chain, model}
 use Rattle.drn_read.specs.declared.error.DrnCause.{DrnCause}
 use Rattle.drn_read.specs.declared.error.DrnCause.TheVariants.{MissingSection, NoState, CountMismatch, TargetRange, InitCount, UnknownLabel, CommonDenominator}
 use Rattle.drn_read.specs.declared.error.DrnError.{DrnError}
@@ -69,17 +69,15 @@ at_end number said e =
     let found : Option Transition = find (λ t. nat_le count t.target) (all_transitions states) in
     let range : Transition → DrnError = λ t. record { line = t.line; cause = TargetRange } in
     let none = told number (when (count == 0) NoState) in
-    let state_count = told number (when (differs said.header.state_count count) CountMismatch) in
-    let choice_counted = told number (when (differs said.header.choice_count (choice_count states)) CountMismatch) in
+    let counted = told number (when (is_some (mismatch said.header count (choice_count states))) CountMismatch) in
     let target = option_map range found in
     let init = told number (when (not (count_by (λ s. s.init) states == 1)) InitCount) in
     let goal = told number (when (not (list_any (λ s. s.goal) states)) UnknownLabel) in
     let wide = told number (when (nat_le (2 ^ 62) c || large) CommonDenominator) in
-    let a = first_none (told number (when (not (has Model said.header)) MissingSection)) (choiceless states ∷ none ∷ state_count ∷ choice_counted ∷ target ∷ init ∷ goal ∷ wide ∷ []) e in
-    let b = first_none (choiceless states) (none ∷ state_count ∷ choice_counted ∷ target ∷ init ∷ goal ∷ wide ∷ []) a.1 in
-    let d = first_none none (state_count ∷ choice_counted ∷ target ∷ init ∷ goal ∷ wide ∷ []) b.1 in
-    let f = first_none state_count (choice_counted ∷ target ∷ init ∷ goal ∷ wide ∷ []) d.1 in
-    let g = first_none choice_counted (target ∷ init ∷ goal ∷ wide ∷ []) f.1 in
+    let a = first_none (told number (when (not (has Model said.header)) MissingSection)) (choiceless states ∷ none ∷ counted ∷ target ∷ init ∷ goal ∷ wide ∷ []) e in
+    let b = first_none (choiceless states) (none ∷ counted ∷ target ∷ init ∷ goal ∷ wide ∷ []) a.1 in
+    let d = first_none none (counted ∷ target ∷ init ∷ goal ∷ wide ∷ []) b.1 in
+    let g = first_none counted (target ∷ init ∷ goal ∷ wide ∷ []) d.1 in
     let h = first_none target (init ∷ goal ∷ wide ∷ []) g.1 in
     let i = first_none init (goal ∷ wide ∷ []) h.1 in
     let j = first_none goal (wide ∷ []) i.1 in

@@ -50,12 +50,13 @@ at_fault goal all old new is_first labels w cause h e f =
 -- no word is left
 pub at_end : (goal : List ℕ) (all old : List (Piece WordKind)) (is_first : Bool) (labels : Labels) → SoFar goal all old is_first labels → old ≡ []
     → (labels_fault true all ≡ None) × Carries goal all labels
-at_end goal all old is_first labels h e =
-    (h.fault ∙ ap (labels_fault is_first) e,
-    record {
-      init = sym (h.init ∙ ap (λ ws. labels.init || list_any (is_label (codes "init")) ws) e ∙ or-none labels.init);
-      label = sym (h.label ∙ ap (λ ws. labels.goal || list_any (is_label goal) ws) e ∙ or-none labels.goal);
-    })
+at_end goal all old is_first labels h e = (
+  h.fault ∙ ap (labels_fault is_first) e,
+  record {
+    init = sym (h.init ∙ ap (λ ws. labels.init || list_any (is_label (codes "init")) ws) e ∙ or-none labels.init);
+    label = sym (h.label ∙ ap (λ ws. labels.goal || list_any (is_label goal) ws) e ∙ or-none labels.goal);
+  },
+)
 
 open_word : (is_first : Bool) (w : Piece WordKind) (ws : List (Piece WordKind)) → w.form ≡ Err lex.OpenQuote → labels_fault is_first (w ∷ ws) ≡ Some OpenQuote
 open_word is_first w ws f = rw f refl

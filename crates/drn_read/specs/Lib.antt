@@ -7,3 +7,4 @@ pub mod Judging
 pub mod Reading
 pub mod Keeping
 pub mod Shown
+pub mod ModelSteps

@@ -1,5 +1,5 @@
 -- What a model text stands for: a model, or a refusal with its line and cause. Each line is judged by what the lines before it say, and after the last line the whole text is judged.
-use Rattle.std.specs.Prelude.{◌≡◌, ◌≢◌, ℕ, pos, Bool, true, false, not, nat_le, List, [], ◌∷◌, ◌++◌, ◌==◌, ◌||◌, ◌*◌, ◌/◌, ◌^◌, length, map, find, fold, count_by, unsigned_abs, Option, Some, None, Result, Ok, Err}
+use Rattle.std.specs.Prelude.{if◌then◌else◌, ◌≡◌, ◌≢◌, ℕ, pos, Bool, true, false, not, nat_le, List, [], ◌∷◌, ◌++◌, ◌==◌, ◌||◌, ◌*◌, ◌/◌, ◌^◌, length, map, find, fold, count_by, is_some, unsigned_abs, Option, Some, None, Result, Ok, Err}
 use Rattle.std.specs.List.{list_any, flat_map, position_or_len}
 use Rattle.std.specs.Option.{option_map}
 use Rattle.lift_frac.specs.Gcd.{gcd}
@@ -13,14 +13,15 @@ use Rattle.drn_lexer.specs.Lines.{TextLine, lines, own_fault, is_comment}
 use Rattle.drn_expr.specs.RatPolys.{OverOne}
 use Rattle.drn_read.specs.Faults.{when, first_of, lexed, at}
 use Rattle.drn_read.specs.Parts.{last}
-use Rattle.drn_read.specs.Sections.{sections, header}
+use Rattle.drn_read.specs.Sections.{Header, sections, header}
 use Rattle.drn_read.specs.States.{StateText, states}
 use Rattle.drn_read.specs.Judging.{Said, has, choice_count, choiceless, line_fault}
 use Rattle.drn_read.specs.declared.error.DrnCause.{DrnCause}
 use Rattle.drn_read.specs.declared.error.DrnCause.TheVariants.{MissingSection, NoState, CountMismatch, TargetRange, InitCount, UnknownLabel, CommonDenominator, Memory}
 use Rattle.drn_read.specs.declared.error.DrnError.{DrnError}
 use Rattle.drn_read.specs.declared.state.Transition.{Transition}
-use Rattle.drn_read.specs.declared.section.Section.TheVariants.{Model}
+use Rattle.drn_read.specs.declared.section.Section.{Section}
+use Rattle.drn_read.specs.declared.section.Section.TheVariants.{NrStates, NrChoices, Model}
 
 -- what lines say, for a goal's label
 unfoldable pub said : List ℕ → List TextLine → Said
@@ -71,6 +72,10 @@ abbrev pub differs : Option ℕ → ℕ → Bool
 differs None number = false
 differs (Some announced) number = not (announced == number)
 
+-- the first number that was announced and isn't the one that was read: that of states, and then that of choices
+abbrev pub mismatch : Header → ℕ → ℕ → Option Section
+mismatch h states choices = if differs h.state_count states then Some NrStates else (if differs h.choice_count choices then Some NrChoices else None)
+
 -- The tests at the end of the text, whose last line has this number. A state without choice and a target that is no state are told by their own lines.
 unfoldable pub end_fault : ℕ → Said → Option DrnError
 end_fault number said =
@@ -80,8 +85,7 @@ end_fault number said =
     at_end number (when (not (has Model said.header)) MissingSection)
     ∷ choiceless said.states
     ∷ at_end number (when (count == 0) NoState)
-    ∷ at_end number (when (differs said.header.state_count count) CountMismatch)
-    ∷ at_end number (when (differs said.header.choice_count (choice_count said.states)) CountMismatch)
+    ∷ at_end number (when (is_some (mismatch said.header count (choice_count said.states))) CountMismatch)
     ∷ option_map (λ t. record { line = t.line; cause = TargetRange }) (find (λ t. nat_le count t.target) (all_transitions said.states))
     ∷ at_end number (when (not (count_by (λ s. s.init) said.states == 1)) InitCount)
     ∷ at_end number (when (not (list_any (λ s. s.goal) said.states)) UnknownLabel)

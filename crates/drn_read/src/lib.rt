@@ -7,17 +7,26 @@ ghost use Rattle.drn_lexer.specs.Lines.{lines_at, behind_comments, place_after};
 ghost use Rattle.drn_read.specs.Reading.{said, drn, IsAnswer};
 ghost use Rattle.drn_read.specs.Shown.{IsNext, Reads};
 
+mod common;
 mod digits;
 mod end;
+mod entry;
 mod error;
+mod extend;
 mod header;
 mod labels;
 mod model_lines;
+mod parameters;
+mod place_line;
 mod places;
 mod reader;
+mod rows;
 mod section;
 mod state;
+#[cfg(test)]
+mod tests;
 mod text;
+mod type_line;
 mod value;
 mod word;
 mod words;
@@ -75,5 +84,6 @@ pub fn read_model(alloc: Global, text: &[u8], label: &[u8]) -> Result<Model, Drn
     let mut reader = Reader::new(alloc);
     let number = read_lines(&mut reader, text, label)?;
     let Reader { header, model } = reader;
-    finish(alloc, number, header, model)
+    let choices = model.choices();
+    finish(alloc, number, header, model.into_states(), choices)
 }

@@ -9,7 +9,7 @@ ghost use Rattle.drn_read.specs.Text.{is_name, behind_colon};
 
 use drn_lexer::Line;
 
-fn is_blank(byte: u8) -> bool
+pub(crate) fn is_blank(byte: u8) -> bool
     ensures { result ≡ is_blank byte }
 {
     byte == b' ' || byte == b'\t'
@@ -27,7 +27,7 @@ fn is_name_byte(byte: u8) -> bool
     begins_name(byte) || byte.is_ascii_digit()
 }
 
-fn blanks_len(text: &[u8]) -> usize
+pub(crate) fn blanks_len(text: &[u8]) -> usize
     ensures within { result ≤ length text.now }
     ensures len { result ≡ prefix_len is_blank text.now }
 {

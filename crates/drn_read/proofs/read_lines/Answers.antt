@@ -1,4 +1,4 @@
-use Rattle.std.proofs.Common.{◌≡◌, ◌≢◌, ◌+◌, rules, refl, sym, ◌∙◌, ap, arith, Ok, Err, None, Some}
+use Rattle.std.proofs.Common.{◌≡◌, rules, sym, ◌∙◌, ap, arith, Ok, Err, None}
 use Rattle.drn_lexer.specs.Lines.{behind_comments, lines_at, answer_of}
 use Rattle.drn_lexer.specs.Spans.{IsNextLine}
 use Rattle.drn_read.specs.Shown.{IsRefused}

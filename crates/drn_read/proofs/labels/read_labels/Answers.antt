@@ -1,5 +1,4 @@
-use Rattle.std.proofs.Common.{◌≡◌, ◌∷◌, [], rules, refl, sym, ◌∙◌, ap, Err, None, Some}
-use Rattle.drn_read.specs.Faults.{fault_of}
+use Rattle.std.proofs.Common.{◌≡◌, ◌∷◌, [], rules, sym, Err, None, Some}
 use Rattle.drn_read.specs.Judging.{state_word_fault}
 use Rattle.drn_read.specs.Shown.{left, piece, BeginsOpen}
 use Rattle.drn_read.specs.declared.error.DrnCause.TheVariants.{OpenQuote}

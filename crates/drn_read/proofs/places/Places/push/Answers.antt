@@ -1,4 +1,3 @@
-use Rattle.std.proofs.Common.{◌≡◌, ◌++◌, ◌∷◌, []}
 use Rattle.drn_read.proofs.Pairing.{one_more}
 use Rattle.drn_read.proofs.places.Places.push.Goals as goal
 
