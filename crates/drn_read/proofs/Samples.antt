@@ -1,35 +1,17 @@
--- The definitions compute on texts: one that tells a chain, and others that differ from it in one place and tell none.
-use Rattle.std.proofs.Common.{◌≡◌, pos, [], ◌∷◌, Some, None, true, false, refl, codes}
+-- Small texts, read by computation.
+use Rattle.std.specs.Prelude.{◌≡◌, refl, ℕ, pos, negsuc, true, false, List, [], ◌∷◌, ◌++◌, codes, Ok}
+use Rattle.std.specs.List.{flat_map}
 use Rattle.lift_frac.specs.Gcd.{gcd}
-use Rattle.drn_read.specs.FirstForm.{first_form, chain_of}
+use Rattle.lift_model.specs.declared.kind.Kind.TheVariants.{Dtmc}
+use Rattle.drn_lexer.specs.Cutting.{pieces_behind}
+use Rattle.drn_lexer.specs.Lines.{lines_from}
+use Rattle.drn_expr.specs.Grammar.{value}
+use Rattle.drn_expr.specs.Expansion.{expansion}
+use Rattle.drn_read.specs.Reading.{drn, first_fault, judge, said, end_fault, model}
 
--- three states, the first of which goes to the goal with probability 1/4
-plain : first_form (codes "heads") (codes "@type: DTMC\n@model\nstate 0 init\n1 : 1/4\n2 : 3/4\nstate 1 heads\n1 : 1\nstate 2\n2 : 1\n")
-    ≡ Some (record { common = pos 4; goal = false ∷ true ∷ false ∷ []; init = 0; states = ((1, pos 1) ∷ (2, pos 3) ∷ []) ∷ ((1, pos 4) ∷ []) ∷ ((2, pos 4) ∷ []) ∷ [] })
-unfolding first_form chain_of gcd
-plain = refl
+abbrev joined : List (List ℕ) → List ℕ
+joined ls = flat_map (λ l. l ++ 10 ∷ []) ls
 
--- a parameter
-coin : first_form (codes "heads") (codes "@type: DTMC\n@parameters\np\n@model\nstate 0 init\n1 : p\n2 : 1-p\nstate 1 heads\n1 : 1\nstate 2\n2 : 1\n") ≡ None
-unfolding first_form chain_of gcd
+coin : drn (joined (codes "@type: DTMC" ∷ codes "@parameters" ∷ codes "p" ∷ codes "@model" ∷ codes "state 0 init" ∷ codes "1 : p" ∷ codes "2 : 1-p" ∷ codes "state 1 heads" ∷ codes "1 : 1" ∷ codes "state 2" ∷ codes "2 : 1" ∷ [])) (codes "heads") ≡ Ok (record { kind = Dtmc; common = pos 1; names = codes "p" ∷ []; goal = false ∷ true ∷ false ∷ []; init = 0; states = ((record { target = 1; poly = (1, pos 1) ∷ [] } ∷ record { target = 2; poly = (0, pos 1) ∷ (1, negsuc 0) ∷ [] } ∷ []) ∷ []) ∷ ((record { target = 1; poly = (0, pos 1) ∷ [] } ∷ []) ∷ []) ∷ ((record { target = 2; poly = (0, pos 1) ∷ [] } ∷ []) ∷ []) ∷ [] })
+unfolding gcd drn first_fault judge said end_fault model expansion value pieces_behind lines_from lib.Count.ones
 coin = refl
-
--- two first states
-two_first : first_form (codes "heads") (codes "@type: DTMC\n@model\nstate 0 init\n1 : 1/4\n2 : 3/4\nstate 1 heads\n1 : 1\nstate 2 init\n2 : 1\n") ≡ None
-unfolding first_form chain_of gcd
-two_first = refl
-
--- probabilities that sum to 3/4
-short_sum : first_form (codes "heads") (codes "@type: DTMC\n@model\nstate 0 init\n1 : 1/4\n2 : 2/4\nstate 1 heads\n1 : 1\nstate 2\n2 : 1\n") ≡ None
-unfolding first_form chain_of gcd
-short_sum = refl
-
--- a leading zero
-zero_led : first_form (codes "heads") (codes "@type: DTMC\n@model\nstate 0 init\n01 : 1/4\n2 : 3/4\nstate 1 heads\n1 : 1\nstate 2\n2 : 1\n") ≡ None
-unfolding first_form chain_of gcd
-zero_led = refl
-
--- a last line without its line feed
-open_ended : first_form (codes "heads") (codes "@type: DTMC\n@model\nstate 0 init\n1 : 1/4\n2 : 3/4\nstate 1 heads\n1 : 1\nstate 2\n2 : 1") ≡ None
-unfolding first_form chain_of gcd
-open_ended = refl

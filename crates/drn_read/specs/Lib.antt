@@ -1,7 +1,10 @@
-pub mod StateText
-pub mod Cut
+pub mod Faults
+pub mod Parts
 pub mod Text
-pub mod Reader
-pub mod FirstForm
-pub mod Common
-pub mod Rows
+pub mod Sections
+pub mod States
+pub mod Judging
+pub mod Reading
+pub mod Keeping
+pub mod Shown
+pub mod ModelSteps

@@ -1,59 +1,59 @@
 // The common denominator of all values.
-ghost use Rattle.std.specs.Prelude.{◌≡◌, ◌<◌, ◌^◌, Some, None, IfSome, fold, nat_lt, ◌&&◌, if◌then◌else◌};
-ghost use Rattle.drn_read.specs.FirstForm.{lowest_denominator, joined, common_denominator};
-ghost use Rattle.drn_read.specs.Common.{IsInRange, in_range};
+ghost use Rattle.std.specs.Prelude.{◌≡◌, ◌^◌, fold, map};
+ghost use Rattle.lift_frac.specs.Parts.{capped};
+ghost use Rattle.drn_read.specs.Reading.{lcm, common};
+ghost use Rattle.drn_read.specs.Shown.{with_den, Becomes};
 
-use crate::state::{Share, State, Transition};
+use crate::state::{State, Transition};
+use drn_expr::RatPoly;
 use lift_frac::gcd;
 
-fn lowest_denominator(share: &Share) -> u128
-    ensures value { result ≡ lowest_denominator share.now }
-    ensures small { result < 2 ^ 64 }
-{
-    let den = u128::from(share.den);
-    if den == 0 {
-        return 0;
-    }
-    den / gcd(u128::from(share.num), den)
-}
+/// The common denominator is below this.
+const LIMIT: u128 = 1 << 62;
 
-fn joined(common: u64, transition: &Transition) -> Option<u64>
-    requires { IsInRange common }
-    ensures value { result ≡ in_range (joined common transition.now) }
-    ensures ranged { IfSome result IsInRange }
+/// The least common multiple with a value's denominator. A multiple never falls, so none stays none.
+fn joined(common: Option<u64>, value: &RatPoly) -> Option<u64>
+    ensures { Becomes common result (λ c. lcm c value.now.den) }
 {
-    let common = u128::from(common);
-    let den = lowest_denominator(&transition.share);
-    if den == 0 {
-        return None;
-    }
+    let den = value.den() as u128;
+    let common = u128::from(common?);
     let least = common / gcd(common, den) * den;
-    if least == 0 || least >= 1 << 62 {
-        return None;
+    if least < LIMIT {
+        Some(least as u64)
+    } else {
+        None
     }
-    Some(least as u64)
 }
 
-fn common_with(common: u64, transitions: &[Transition]) -> Option<u64>
-    requires { IsInRange common }
-    ensures value { result ≡ in_range (fold joined common transitions.now) }
-    ensures ranged { IfSome result IsInRange }
+/// The same over the values of a choice.
+fn joined_choice(common: Option<u64>, choice: &[Transition]) -> Option<u64>
+    ensures { Becomes common result (λ c. fold with_den c choice.now) }
 {
     let mut least = common;
-    for transition in transitions {
-        least = joined(least, transition)?;
+    for transition in choice {
+        least = joined(least, &transition.value);
     }
-    Some(least)
+    least
 }
 
-/// The least common denominator of all values in lowest terms, where it is below 2^62.
-pub fn common_denominator(states: &[State]) -> Option<u64>
-    ensures value { result ≡ in_range (common_denominator states.now) }
-    ensures ranged { IfSome result IsInRange }
+/// The same over the choices of a state.
+fn joined_state(common: Option<u64>, choices: &[Vec<Transition>]) -> Option<u64>
+    ensures { Becomes common result (λ c. fold (fold with_den) c (map (λ row. row.items) choices.now)) }
 {
-    let mut least = 1;
-    for state in states {
-        least = common_with(least, state.transitions())?;
+    let mut least = common;
+    for choice in choices {
+        least = joined_choice(least, choice);
     }
-    Some(least)
+    least
+}
+
+/// The least common multiple of the denominators of all values; none from 2^62 on.
+pub(crate) fn common_denominator(states: &[State]) -> Option<u64>
+    ensures { result ≡ capped (2 ^ 62) (common states.now) }
+{
+    let mut least = Some(1);
+    for state in states {
+        least = joined_state(least, &state.choices);
+    }
+    least
 }

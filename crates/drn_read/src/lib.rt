@@ -1,52 +1,89 @@
-// Reads a Markov chain without parameters from its text, which has one fixed form.
+//! The reading of a model text: its definition, and the call that gives the model or the refusal that
+//! the definition says.
 #![tactic(auto)]
 
-ghost use Rattle.std.specs.Prelude.{◌≡◌, IfOk, IfSome, IfNone};
-ghost use Rattle.std.specs.Option.{option_map};
-ghost use Rattle.lift_model.specs.Chain.{ChainData};
-ghost use Rattle.drn_read.specs.Text.{body_of};
-ghost use Rattle.drn_read.specs.FirstForm.{first_form, IsFirstForm};
+ghost use Rattle.std.specs.Prelude.{◌≡◌, ◌+◌, ◌<◌, ◌≤◌, ◌^◌, [], length};
+ghost use Rattle.drn_lexer.specs.Lines.{lines_at, behind_comments, place_after};
+ghost use Rattle.drn_read.specs.Reading.{said, drn, IsAnswer};
+ghost use Rattle.drn_read.specs.Shown.{IsNext, Reads};
 
-mod chain;
 mod common;
-mod cut;
-mod line;
+mod digits;
+mod end;
+mod entry;
+mod error;
+mod extend;
+mod header;
+mod labels;
+mod model_lines;
+mod parameters;
+mod place_line;
+mod places;
+mod reader;
 mod rows;
+mod section;
 mod state;
-mod states;
 #[cfg(test)]
 mod tests;
+mod text;
+mod type_line;
+mod value;
+mod word;
+mod words;
 
-use chain::chain_of;
-use lift_model::Chain;
-pub use line::{number_of, share_of};
-pub use state::Share;
-use states::read_states;
-use std::alloc::{AllocError, Global};
+use drn_lexer::{Line, Place, next_line};
+use end::finish;
+pub use error::{DrnCause, DrnError};
+use lift_model::Model;
+use reader::Reader;
+use std::alloc::Global;
 
-/// The two lines that a text begins with.
-const HEADER: &[u8] = b"@type: DTMC\n@model\n";
-
-// The text behind the two lines that it begins with.
-fn body_of(text: &[u8]) -> Option<&[u8]>
-    ensures { option_map (λ body. body.now) result ≡ body_of text.now }
+/// The next line that is no comment.
+fn next(text: &[u8], place: &mut Place) -> Result<Option<Line>, DrnError>
+    requires short { length text.now < 2 ^ 31 }
+    requires at { place.old.at ≤ length text.now }
+    requires number { place.old.number ≤ place.old.at + 1 }
+    ensures place { place.new ≡ place_after text.now place.old (behind_comments (lines_at text.now place.old)) }
+    ensures next { IsNext text.now place.old place.new result }
+    ensures at { place.new.at ≤ length text.now }
+    ensures number { place.new.number ≤ place.new.at + 1 }
 {
-    text.strip_prefix(HEADER)
+    match next_line(text, place) {
+        Ok(line) => Ok(line),
+        Err(fault) => Err(DrnError {
+            line: place.number,
+            cause: DrnCause::from(fault),
+        }),
+    }
 }
 
-/// The chain that a text of the first form tells, where the goal states are those with this label; none where the text isn't
-/// of the first form for it. Linear in the length of the text; takes memory for at most 65,536 states and 262,144 transitions.
-#[tactic(auto, unfolding(crate::specs::FirstForm::first_form))]
-pub fn read_chain(alloc: Global, text: &[u8], label: &[u8]) -> Result<Option<Chain>, AllocError>
-    ensures value { IfOk result (λ c. c ≡ first_form label.now text.now) }
-    ensures chain { IfOk result (λ c. IfSome c (IsFirstForm label.now text.now)) }
-    ensures none { IfOk result (λ c. IfNone c ((chain : ChainData) → IsFirstForm label.now text.now chain → ⊥)) }
+/// Reads all lines of a text, and gives the number of the last one.
+fn read_lines(reader: &mut Reader, text: &[u8], label: &[u8]) -> Result<u32, DrnError>
+    requires short { length text.now < 2 ^ 31 }
+    requires start { reader.old ≡ said label.now [] }
+    ensures { Reads label.now text.now result reader.new }
 {
-    let Some(body) = body_of(text) else {
-        return Ok(None);
-    };
-    match read_states(alloc, body, label)? {
-        Some(states) => chain_of(alloc, &states),
-        None => Ok(None),
+    let mut place = Place::start();
+    while let Some(line) = next(text, &mut place)? {
+        reader.read_line(label, text, line)?;
     }
+    Ok(place.number - 1)
+}
+
+/// The model that a text stands for, where the goal states are those that carry the label; or where
+/// and why it is refused: at the first line that has a fault, by the first of its tests that fails,
+/// and behind the last line by the first test of the whole text that fails.
+///
+/// The text has fewer than 2^31 bytes. Its lines are numbered from 1; what is no fault of a line alone
+/// is told of the last one, 0 for the empty text. `Memory` only where memory is wanting. Linear in the
+/// length of the text, but for the targets of a row, which are kept in order.
+pub fn read_model(alloc: Global, text: &[u8], label: &[u8]) -> Result<Model, DrnError>
+    requires { length text.now < 2 ^ 31 }
+    ensures { IsAnswer result (drn text.now label.now) }
+{
+    let mut reader = Reader::new(alloc);
+    let number = read_lines(&mut reader, text, label)?;
+    let Reader { header, model } = reader;
+    let choices = model.choices();
+    finish(alloc, number, header, model.into_states(), choices)
 }

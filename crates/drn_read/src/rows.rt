@@ -1,120 +1,114 @@
-// The entries of the states over a common denominator.
-ghost use Rattle.std.specs.Prelude.{◌≡◌, ◌+◌, ◌*◌, ◌/◌, ◌<◌, ◌≤◌, ◌^◌, Some, None, IfOk, IfSome, map, length, true, nat_lt, nat_le, if◌then◌else◌};
-ghost use Rattle.std.specs.List.{list_all};
-ghost use Rattle.std.specs.Option.{option_map};
-ghost use Rattle.lift_model.specs.Chain.{are_distinct};
-ghost use Rattle.drn_read.specs.FirstForm.{entry_of, number_over};
-ghost use Rattle.drn_read.specs.Common.{IsInRange};
-ghost use Rattle.drn_read.specs.Rows.{AreBelow, summing, row_of, right_rows};
+// The rows of the model over the common denominator.
+ghost use Rattle.std.specs.Prelude.{◌≡◌, ◌≢◌, ◌<◌, map, All, IfOk};
+ghost use Rattle.std.specs.List.{list_any};
+ghost use Rattle.drn_read.specs.Faults.{when};
+ghost use Rattle.drn_read.specs.Reading.{scaled, is_large, entry};
+ghost use Rattle.drn_read.specs.declared.error.DrnCause.TheVariants.{CommonDenominator};
+ghost use Rattle.drn_read.specs.Shown.{Tells, TargetsBelow, is_over};
 
-use crate::state::{Share, State, Transition};
-use std::alloc::{AllocError, Global};
+use crate::error::DrnCause;
+use crate::state::{State, Transition};
+use drn_expr::RatPoly;
+use lift_model::{Entry, Row};
+use lift_poly::{MultiAffine, PolyError};
+use std::alloc::Global;
 
-// A value over the common denominator, where no more than that is left.
-fn part_of(common: u64, left: u64, share: &Share) -> Option<u64>
-    requires { left < 2 ^ 62 }
-    ensures value { result ≡ (if nat_le (number_over common share.now) left then Some (number_over common share.now) else None) }
-    ensures small { IfSome result (λ number. number < 2 ^ 62) }
+/// The size from which on a coefficient over the common denominator is too large.
+const LIMIT: u128 = 1 << 100;
+
+/// Whether a coefficient is too large.
+fn has_large(poly: &MultiAffine) -> bool
+    ensures { result ≡ list_any is_over poly.now }
 {
-    if share.den == 0 {
-        return Some(0);
+    for i in 0..poly.len() {
+        if poly.term(i).1.unsigned_abs() >= LIMIT {
+            return true;
+        }
     }
-    let number = u128::from(share.num) * u128::from(common) / u128::from(share.den);
-    if number > u128::from(left) {
-        return None;
-    }
-    Some(number as u64)
+    false
 }
 
-// The entries of a state, where they sum to the common denominator.
-fn summing(
-    alloc: Global,
-    common: u64,
-    transitions: &[Transition],
-) -> Result<Option<Vec<(u32, i64)>>, AllocError>
-    requires { common < 2 ^ 62 }
-    ensures { IfOk result (λ entries. option_map (λ v. v.items) entries ≡ summing common transitions.now) }
+/// How a fault of a polynomial is told: one whose coefficient is too wide is too large all the more.
+fn cause_of(error: PolyError) -> DrnCause
+    ensures memory { error ≡ PolyError.Memory → result ≡ DrnCause.Memory }
+    ensures wide { error ≢ PolyError.Memory → result ≡ CommonDenominator }
+{
+    match error {
+        PolyError::Memory => DrnCause::Memory,
+        _ => DrnCause::CommonDenominator,
+    }
+}
+
+/// A value's polynomial over the common denominator, which is a multiple of the value's own.
+/// `CommonDenominator` exactly where a coefficient is too large.
+fn scaled(alloc: Global, common: u64, value: &RatPoly) -> Result<MultiAffine, DrnCause>
+    ensures fault { Tells result (when (list_any is_over (scaled common value.now)) CommonDenominator) }
+    ensures poly { IfOk result (λ p. p ≡ scaled common value.now) }
+{
+    let factor = common / value.den() as u64;
+    let poly = match value.poly().scale(alloc, i128::from(factor)) {
+        Ok(poly) => poly,
+        Err(error) => return Err(cause_of(error)),
+    };
+    if has_large(&poly) {
+        return Err(DrnCause::CommonDenominator);
+    }
+    Ok(poly)
+}
+
+/// A transition as an entry of a row. `CommonDenominator` exactly where a coefficient is too large.
+fn entry_of(alloc: Global, common: u64, transition: &Transition) -> Result<Entry, DrnCause>
+    requires { transition.now.target < 65536 }
+    ensures fault { Tells result (when (is_large common transition.now) CommonDenominator) }
+    ensures entry { IfOk result (λ e. e ≡ entry common transition.now) }
+{
+    let poly = scaled(alloc, common, &transition.value)?;
+    Ok(Entry {
+        target: transition.target as u32,
+        poly,
+    })
+}
+
+/// A choice as a row, whose entries keep their places.
+fn row_of(alloc: Global, common: u64, choice: &[Transition]) -> Result<Row, DrnCause>
+    requires { TargetsBelow 65536 choice.now }
+    ensures fault { Tells result (when (list_any (is_large common) choice.now) CommonDenominator) }
+    ensures row { IfOk result (λ row. row ≡ map (entry common) choice.now) }
 {
     let mut entries = Vec::new(alloc);
-    let mut left = common;
-    for transition in transitions {
-        let Some(number) = part_of(common, left, &transition.share) else {
-            return Ok(None);
-        };
-        left -= number;
-        entries.push((transition.target, number as i64))?;
+    for transition in choice {
+        entries.push(entry_of(alloc, common, transition)?)?;
     }
-    if left != 0 {
-        return Ok(None);
-    }
-    Ok(Some(entries))
+    Ok(Row::new(entries))
 }
 
-fn are_targets(entries: &[(u32, i64)], count: u32) -> bool
-    ensures { result ≡ list_all (λ e. nat_lt e.0 count) entries.now }
+/// The choices of a state as rows.
+fn rows_of(alloc: Global, common: u64, choices: &[Vec<Transition>]) -> Result<Vec<Row>, DrnCause>
+    requires { All (TargetsBelow 65536) (map (λ row. row.items) choices.now) }
+    ensures fault { Tells result (when (list_any (list_any (is_large common)) (map (λ row. row.items) choices.now)) CommonDenominator) }
+    ensures rows { IfOk result (λ rows. rows.items ≡ map (map (entry common)) (map (λ row. row.items) choices.now)) }
 {
-    entries.iter().all(|e| e.0 < count)
-}
-
-// Whether no target stands twice. Marks each target with the number of the row, which no mark has before.
-fn are_distinct(entries: &[(u32, i64)], marks: &mut [u32], row: u32) -> bool
-    requires inside { list_all (λ e. nat_lt e.0 (length marks.old)) entries.now ≡ true }
-    requires fresh { AreBelow row marks.old }
-    ensures value { result ≡ are_distinct entries.now }
-    ensures marked { AreBelow (row + 1) marks.new }
-{
-    for entry in entries {
-        let mark = &mut marks[entry.0 as usize];
-        if *mark == row {
-            return false;
-        }
-        *mark = row;
+    let mut rows = Vec::new(alloc);
+    for choice in choices {
+        rows.push(row_of(alloc, common, choice)?)?;
     }
-    true
+    Ok(rows)
 }
 
-// The entries of a state, where they are right in a chain with as many states as there are marks.
-fn row_of(
-    alloc: Global,
-    common: u64,
-    transitions: &[Transition],
-    marks: &mut [u32],
-    row: u32,
-) -> Result<Option<Vec<(u32, i64)>>, AllocError>
-    requires range { common < 2 ^ 62 }
-    requires few { length marks.old ≤ 65536 }
-    requires fresh { AreBelow row marks.old }
-    ensures value { IfOk result (λ entries. option_map (λ v. v.items) entries ≡ row_of common (length marks.old) transitions.now) }
-    ensures marked { AreBelow (row + 1) marks.new }
-{
-    let Some(entries) = summing(alloc, common, transitions)? else {
-        return Ok(None);
-    };
-    if !are_targets(&entries, marks.len() as u32) || !are_distinct(&entries, marks, row) {
-        return Ok(None);
-    }
-    Ok(Some(entries))
-}
-
-/// The entries of all states over a common denominator, where they are right in a chain with so many states. Linear in the
-/// number of transitions; takes a mark for each state beside the entries.
-pub fn rows_of(
+/// The rows of each state over the common denominator. `CommonDenominator` exactly where a coefficient
+/// has a size of 2^100 or more. Linear in the number of terms.
+pub(crate) fn all_rows(
     alloc: Global,
     common: u64,
     states: &[State],
-) -> Result<Option<Vec<Vec<(u32, i64)>>>, AllocError>
-    requires range { common < 2 ^ 62 }
-    requires few { length states.now ≤ 65536 }
-    ensures { IfOk result (λ rows. option_map (λ v. map (λ w. w.items) v.items) rows ≡ right_rows common (length states.now) states.now) }
+) -> Result<Vec<Vec<Row>>, DrnCause>
+    requires { All (λ s. All (TargetsBelow 65536) s.choices) states.now }
+    ensures fault { Tells result (when (list_any (λ s. list_any (list_any (is_large common)) s.choices) states.now) CommonDenominator) }
+    ensures rows { IfOk result (λ rows. map (λ v. v.items) rows.items ≡ map (λ s. map (map (entry common)) s.choices) states.now) }
 {
-    let mut marks = vec![in alloc; 0u32; states.len()]?;
     let mut rows = Vec::new(alloc);
     for state in states {
-        let row = rows.len() as u32 + 1;
-        let Some(entries) = row_of(alloc, common, state.transitions(), &mut marks, row)? else {
-            return Ok(None);
-        };
-        rows.push(entries)?;
+        rows.push(rows_of(alloc, common, &state.choices)?)?;
     }
-    Ok(Some(rows))
+    Ok(rows)
 }

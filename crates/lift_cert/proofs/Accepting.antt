@@ -1,19 +1,25 @@
 -- What an accepting certificate shows.
-use Rattle.std.proofs.Common.{◌≡◌, ℕ, ◌^◌, ◌<◌, ◌≤◌, true, List, [], length, get_or, ℤ, pos, ◌*ℤ◌, ◌≤ℤ◌, ◌<ℤ◌, sym, ap, ◌∙◌, subst, arith, ⊎_elim}
+use Rattle.std.proofs.Common.{◌≡◌, ℕ, zero, suc, ◌^◌, ◌<◌, ◌≤◌, true, List, [], ◌∷◌, map, get_or, All, ℤ, pos, neg_ℤ, ◌*ℤ◌, ◌≤ℤ◌, ◌<ℤ◌, ◌∙◌, arith}
 use Rattle.std.specs.List.{AllByRecursion}
 use Rattle.std.proofs.lemmas.Nat.{pow_pos}
-use Rattle.lift_poly.specs.Polynomial.{Valuation}
-use Rattle.lift_poly.proofs.Ring.{linear, mul-comm, one-mul, mul-le, mul-nonneg, mul-le_cancel, as_diff, diffs, diff-same}
+use Rattle.std.proofs.lemmas.List.Elements.{All-head, All-tail}
+use Rattle.lift_poly.specs.Polynomial.{Valuation, weight, denominator}
+use Rattle.lift_poly.specs.Arithmetic as polynomial
+use Rattle.lift_poly.proofs.Ring.{linear, mul-comm, mul-assoc, mul-le, mul-nonneg, mul-le_cancel, as_diff, diffs, diff-same}
 use Rattle.lift_model.specs.Process.{Move, power, weighted_sum}
 use Rattle.lift_model.specs.Reach.{reach}
-use Rattle.lift_model.specs.Model.{ModelData, process_at}
-use Rattle.lift_model.specs.Chain.{ChainData, is_chain, chain_model}
+use Rattle.lift_model.specs.declared.entry.Entry.{Entry}
+use Rattle.lift_model.specs.Model.{ModelData, support, choices, moves_at, process_at}
 use Rattle.lift_model.proofs.Sums.{AreNonNegative}
-use Rattle.lift_model.proofs.Chains.{chain_facts, sum_to-weights, moves-chain_model, moves_past}
-use Rattle.lift_grid.specs.Rectangle.{Spans}
+use Rattle.lift_grid.specs.Rectangle.{Spans, AreSpans, Inside}
+use Rattle.corner_lift.specs.Corner.{corner, width}
+use Rattle.corner_lift.specs.Case.{CaseData, IsCase, IsAdmittedRow, Within}
 use Rattle.corner_lift.specs.Certificate.{number, IsUpper, IsAccepting, IsLeastUpper}
 use Rattle.corner_lift.proofs.Rows.{number_range}
-use Rattle.corner_lift.proofs.Uppers.{in_or_past, upper_mean}
+use Rattle.corner_lift.proofs.CornerBound.{CornersNonpos, Inside-on, corner_bound}
+use Rattle.corner_lift.proofs.RowBound.{TermsIn-more, TermsIn-scaled, terms_in, scaled, weight-scaled_by, minus-one, row_upper}
+use Rattle.corner_lift.proofs.Summing.{entry_part}
+use Rattle.corner_lift.proofs.Cases.{corner_least}
 use Rattle.lift_cert.specs.declared.bound.Bound.{Bound}
 use Rattle.lift_cert.specs.Bounded.{IsBoundedAt}
 use Rattle.lift_cert.proofs.Inductive.{IsInductive, reach_bound, power-least}
@@ -42,36 +48,73 @@ inductive_bounded m v w x bound inductive limit q n p from_one fits =
     mul-le_cancel top (r *ℤ pos bound.den) (pos bound.num *ℤ k) top_positive
     (omega (arith, linear, first, second, swapped (pos bound.den) r top, shuffled (pos bound.den) (number x m.init) k, shuffled_more k (pos bound.num) top))
 
--- ---- chains
+-- ---- cases
 
--- an upper vector of a chain is inductive
-pub chain_inductive : (c : ChainData) → is_chain c ≡ true → (d : ℤ) (w : ℕ) (x : List ℤ) → IsUpper (chain_model c) d [] w x → IsInductive (process_at (chain_model c) []) (pos (2 ^ w)) (number x)
-chain_inductive c chain d w x upper =
-    let facts = chain_facts c chain in
-    let process = process_at (chain_model c) [] in
-    let total : c.common *ℤ pos 1 ≡ c.common = mul-comm c.common (pos 1) ∙ one-mul c.common in
-    record {
-      total = omega (arith, linear, facts.least, total);
-      least = λ s. (number_range (chain_model c) w x upper.numbers s).0;
-      goal = upper.goal;
-      weights =
-          λ s. ⊎_elim
-          (λ (lt : s < length c.states). subst (AllByRecursion AreNonNegative) (sym (moves-chain_model c s lt)) (sum_to-weights c.common (get_or c.states s []) (facts.rows s [] lt).sums, tt))
-          (λ (past : length c.states ≤ s). subst (AllByRecursion AreNonNegative) (sym (moves_past c s past)) tt)
-          (in_or_past s (length c.states));
-      means =
-          λ s e. let Meets : List Move → Type 0 = λ moves. weighted_sum (number x) moves ≤ℤ (number x s *ℤ process.total) in
-          ⊎_elim
-          (λ (lt : s < length c.states).
-          let here : Meets (get_or c.states s []) = omega (arith, linear, upper_mean c d w x upper s lt e, ap (λ z. number x s *ℤ z) total) in
-          subst (AllByRecursion Meets) (sym (moves-chain_model c s lt)) (here, tt))
-          (λ (past : length c.states ≤ s). subst (AllByRecursion Meets) (sym (moves_past c s past)) tt)
-          (in_or_past s (length c.states));
-    }
+-- P holds of the moves of each row
+all_moves : (P : List Move → Type 0) (v : Valuation) (rows : List (List Entry)) → All (λ row. P (moves_at v row)) rows → AllByRecursion P (map (moves_at v) rows)
+all_moves P v [] h = tt
+all_moves P v (row ∷ rows) h = let Holds : List Entry → Type 0 = λ (r : List Entry). P (moves_at v r) in (All-head Holds row rows h, all_moves P v rows (All-tail Holds row rows h))
 
--- an accepting certificate of a chain bounds every scheduler
-pub chain_bounded : (c : ChainData) → is_chain c ≡ true → (d : ℤ) (w : ℕ) (bound : Bound) (x : List ℤ) → IsAccepting (chain_model c) d [] w bound.num bound.den x → IsBoundedAt (chain_model c) [] bound
-chain_bounded c chain d w bound x accepting = inductive_bounded (chain_model c) [] w x bound (chain_inductive c chain d w x accepting.upper) accepting.limit
+-- P holds of what stands at a place, or beyond the last one
+at_place : (P : List (List Entry) → Type 0) (states : List (List (List Entry))) (s : ℕ) → P [] → All P states → P (get_or states s [])
+at_place P [] s none h = none
+at_place P (state ∷ states) zero none h = All-head P state states h
+at_place P (state ∷ states) (suc s) none h = at_place P states s none (All-tail P state states h)
+
+denominator-least : (d : ℤ) (ss : Spans) (v : Valuation) → Inside d ss v → pos 0 ≤ℤ denominator v
+denominator-least d [] [] h = omega (arith, linear)
+denominator-least d (s ∷ ss) (x ∷ v) h = mul-nonneg x.1 (denominator v) (omega (arith, linear, h.0)) (denominator-least d ss v h.3)
+denominator-least d [] (x ∷ v) h = absurd h
+denominator-least d (s ∷ ss) [] h = absurd h
+
+times-minus : (a : ℤ) → a *ℤ neg_ℤ (pos 1) ≡ neg_ℤ a
+times-minus a = mul-comm a (neg_ℤ (pos 1)) ∙ minus-one a
+
+-- a valuation inside a rectangle of a case
+module _ (k : CaseData) (is : IsCase k) (ss : Spans) (spans : AreSpans ss) (within : Within ss k.root) (v : Valuation) (inside : Inside k.d ss v) where
+  -- no entry of an admitted row weighs less than 0
+  entry_least : (row : List Entry) → IsAdmittedRow k.model k.d k.root k.w row → All (λ entry. pos 0 ≤ℤ weight v entry.poly) row
+  unfolding CornersNonpos
+  entry_least row admitted i d lt =
+      let terms = (get_or row i d).poly in
+      let one : ℤ = neg_ℤ (pos 1) in
+      let part = TermsIn-more (polynomial.support terms) (support row) terms (entry_part row i d lt) (terms_in terms) in
+      let corners : CornersNonpos k.d ss (support row) (scaled one terms) =
+      λ c at. let c_v = corner k.d ss (support row) c in
+      let least : pos 0 ≤ℤ weight c_v terms = corner_least k row ss is.grid.positive is.spans spans within admitted c i d lt in
+      omega (arith, linear, least, weight-scaled_by c_v one terms, times-minus (weight c_v terms)) in
+      let below = corner_bound k.d is.grid.positive ss (support row) (scaled one terms) v (TermsIn-scaled (support row) one terms part) spans corners (Inside-on k.d ss (support row) v inside) in
+      omega (arith, linear, below, weight-scaled_by v one terms, times-minus (weight v terms))
+
+  moves_least : (row : List Entry) → All (λ entry. pos 0 ≤ℤ weight v entry.poly) row → AreNonNegative (moves_at v row)
+  moves_least [] h = tt
+  moves_least (e ∷ row) h = let least : Entry → Type 0 = λ entry. pos 0 ≤ℤ weight v entry.poly in (All-head least e row h, moves_least row (All-tail least e row h))
+
+  -- an upper vector of the rectangle is inductive at each valuation inside
+  pub upper_inductive : (x : List ℤ) → IsUpper k.model k.d ss k.w x → IsInductive (process_at k.model v) (pos (2 ^ k.w)) (number x)
+  upper_inductive x upper =
+      let process = process_at k.model v in
+      let common_least : pos 0 ≤ℤ k.model.common = omega (arith, linear, is.model.denominator.0) in
+      record {
+        total = mul-nonneg k.model.common (denominator v) common_least (denominator-least k.d ss v inside);
+        least = λ s. (number_range k.model k.w x upper.numbers s).0;
+        goal = upper.goal;
+        weights =
+            λ s. at_place (λ rows. AllByRecursion AreNonNegative (map (moves_at v) rows)) k.model.states s tt
+            (λ i d lt. all_moves AreNonNegative v (get_or k.model.states i d) (λ a r at. let row = get_or (get_or k.model.states i d) a r in moves_least row (entry_least row (is.rows i d lt a r at))));
+        means =
+            λ s e. let top = number x s in
+            all_moves (λ moves. weighted_sum (number x) moves ≤ℤ (top *ℤ process.total)) v (choices k.model s)
+            (λ a r at. let row = get_or (choices k.model s) a r in
+            let bound = row_upper k.d is.grid.positive ss spans row (number x) (top *ℤ k.model.common)
+            (λ c lt. let here = upper.means s e a r at c lt in omega (arith, linear, here, mul-assoc top k.model.common (power k.d (width ss (support row))))) v
+            (Inside-on k.d ss (support row) v inside) in
+            omega (arith, linear, bound, mul-assoc top k.model.common (denominator v)));
+      }
+
+  -- an accepting certificate of the rectangle bounds every scheduler there
+  pub accepting_bounds : (bound : Bound) (x : List ℤ) → IsAccepting k.model k.d ss k.w bound.num bound.den x → IsBoundedAt k.model v bound
+  accepting_bounds bound x accepting = inductive_bounded k.model v k.w x bound (upper_inductive x accepting.upper) accepting.limit
 
 -- ---- the least upper vector decides
 

@@ -1,9 +1,14 @@
 -- The lines of a report, as the pieces that are written one after the other.
-use Rattle.std.proofs.Common.{◌≡◌, ◌+◌, ◌<◌, ◌≤◌, ℕ, ℤ, zero, suc, List, [], ◌∷◌, ◌++◌, length, map, get_or, drop, Bool, true, false, refl, sym, ap, ◌∙◌, arith, add-one, append_assoc, codes}
+use Rattle.std.proofs.Common.{◌≡◌, ◌+◌, ◌<◌, ◌≤◌, ℕ, ℤ, zero, suc, List, [], ◌∷◌, ◌++◌, length, map, get_or, drop, slice_get, Some, Bool, true, false, Ok, Err, Result, IsErr, take, refl, sym, ap, ap₂, subst, ◌∙◌, arith, add-one, append_assoc, codes}
 use Rattle.std.specs.List.{flat_map, concat}
 use Rattle.std.specs.Fmt.{decimal}
 use Rattle.std.proofs.lemmas.List.Folds.{concat-append}
-use Rattle.plift_top.specs.Report.{line, goal_states, row_lines, rows_from}
+use Rattle.std.specs.declared.option.Option.{Option}
+use Rattle.lift_base.specs.Outside.{Wrote}
+use Rattle.lift_base.proofs.Writing.{stopped_at}
+use Rattle.lift_model.specs.declared.kind.Kind.{Kind}
+use Rattle.lift_model.specs.Model.{ModelData}
+use Rattle.plift_top.specs.Report.{line, kind_lines, parameters_line, size_lines, head_lines, goal_states, numbered}
 
 -- a line is its first word, each further word behind a space, and a line feed
 pub line-words : {X : Type 0} (f : X → List ℕ) (word : List ℕ) (xs : List X) → line (word ∷ map f xs) ≡ word ++ (flat_map (λ x. 32 ∷ f x) xs ++ codes "\n")
@@ -33,11 +38,38 @@ goal_state i goal s h e = rw (add-one s) (goal_state_suc i goal s h e)
 pub other_state : (i : ℕ) (goal : List Bool) (s : ℕ) → s < length goal → get_or goal s false ≡ false → goal_states i (drop s goal) ≡ goal_states (i + 1) (drop (s + 1) goal)
 other_state i goal s h e = rw (add-one s) (other_state_suc i goal s h e)
 
-row_suc : (i : ℕ) (rows : List (List (ℕ × ℤ))) (s : ℕ) → s < length rows → concat (rows_from i (drop s rows)) ≡ concat (row_lines i (get_or rows s [])) ++ concat (rows_from (i + 1) (drop (suc s) rows))
-row_suc i [] s h = absurd (omega arith)
-row_suc i (r ∷ rows) zero h = concat-append (row_lines i r) (rows_from (i + 1) rows)
-row_suc i (r ∷ rows) (suc s) h = row_suc i rows s (omega arith)
+numbered_suc : {A : Type 0} (f : ℕ → A → List (List ℕ)) (n : ℕ) (xs : List A) (k : ℕ) (d : A) → k < length xs → concat (numbered f n (drop k xs)) ≡ concat (f n (get_or xs k d)) ++ concat (numbered f (n + 1) (drop (suc k) xs))
+numbered_suc f n [] k d h = absurd (omega arith)
+numbered_suc f n (x ∷ xs) zero d h = concat-append (f n x) (numbered f (n + 1) xs)
+numbered_suc f n (x ∷ xs) (suc k) d h = numbered_suc f n xs k d (omega arith)
 
--- the row of the next state, and those behind it
-pub row : (i : ℕ) (rows : List (List (ℕ × ℤ))) (s : ℕ) → s < length rows → concat (rows_from i (drop s rows)) ≡ concat (row_lines i (get_or rows s [])) ++ concat (rows_from (i + 1) (drop (s + 1) rows))
-row i rows s h = rw (add-one s) (row_suc i rows s h)
+-- the lines of the next item, and of those behind it
+pub numbered_next : {A : Type 0} (f : ℕ → A → List (List ℕ)) (n : ℕ) (xs : List A) (k : ℕ) (d : A) → k < length xs → concat (numbered f n (drop k xs)) ≡ concat (f n (get_or xs k d)) ++ concat (numbered f (n + 1) (drop (k + 1) xs))
+numbered_next f n xs k d h = rw (add-one k) (numbered_suc f n xs k d h)
+
+flat_suc : {A : Type 0} (f : A → List ℕ) (xs : List A) (k : ℕ) (x : A) → slice_get xs k ≡ Some x → flat_map f (drop k xs) ≡ f x ++ flat_map f (drop (suc k) xs)
+flat_suc f [] k x e = absurd (cc)
+flat_suc f (y ∷ xs) zero x e = let same : y ≡ x = cc in rw same refl
+flat_suc f (y ∷ xs) (suc k) x e = flat_suc f xs k x e
+
+-- the piece of the next item, and those behind it
+pub flat_next : {A : Type 0} (f : A → List ℕ) (xs : List A) (k : ℕ) (x : A) → slice_get xs k ≡ Some x → flat_map f (drop k xs) ≡ f x ++ flat_map f (drop (k + 1) xs)
+flat_next f xs k x e = rw (add-one k) (flat_suc f xs k x e)
+
+-- a line whose further words are its own
+pub line-names : (word : List ℕ) (names : List (List ℕ)) → line (word ∷ names) ≡ word ++ (flat_map (λ name. 32 ∷ name) names ++ codes "\n")
+line-names word [] = refl
+line-names word (name ∷ names) = ap (λ (r : List ℕ). word ++ (32 ∷ r)) (line-names name names ∙ sym (append_assoc name (flat_map (λ name. 32 ∷ name) names) (codes "\n")))
+
+-- the lines of the head, one after the other
+pub head_parts : (m : ModelData) (kind : Kind) (names : List (List ℕ)) → kind ≡ m.kind → names ≡ m.names → concat (head_lines m) ≡ concat (kind_lines kind) ++ (parameters_line names ++ concat (size_lines m))
+head_parts m kind names e f =
+    concat-append (kind_lines m.kind) (parameters_line m.names ∷ size_lines m)
+    ∙ ap₂ (λ (k : Kind) (ns : List (List ℕ)). concat (kind_lines k) ++ (parameters_line ns ++ concat (size_lines m))) (sym e) (sym f)
+
+-- a loop over items that stops at one
+pub stopped_item : {X K T U V E F G : Type 0} {taken : K → Option (List ℕ)} {faults : K → ℕ} {old mid new : K} {y : T} {e : E} (f : X → List ℕ) (xs : List X) (i : ℕ) (x : X)
+    (result : Result U F) → IsErr result → i < length xs → x ≡ get_or xs i x → Wrote {E = G} taken faults old mid (Ok y) (flat_map f (take i xs))
+    → Wrote {T = V} taken faults mid new (Err e) (f x) → Wrote taken faults old new result (flat_map f xs)
+stopped_item {X = X} {V = V} {taken = taken} {faults = faults} {mid = mid} {new = new} {e = e} f xs i x result bad h is p q =
+    stopped_at f xs i x result bad h p (subst (λ (z : X). Wrote {T = V} taken faults mid new (Err e) (f z)) is q)

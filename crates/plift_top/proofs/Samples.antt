@@ -1,20 +1,46 @@
 -- The definitions tried on samples that were worked out by hand: a coin that shows heads with 1/4, asked whether that is at most 1/2.
-use Rattle.std.proofs.Common.{◌≡◌, [], ◌∷◌, codes, true, false, pos, Ok, Err, Some, None, refl}
+use Rattle.std.proofs.Common.{◌≡◌, ℕ, [], ◌∷◌, codes, true, false, pos, negsuc, Ok, Err, Some, None, refl}
 use Rattle.std.specs.Fmt.{digits}
 use Rattle.lift_frac.specs.Gcd.{gcd}
-use Rattle.lift_model.specs.Chain.{ChainData}
+use Rattle.lift_poly.specs.Polynomial.{constant}
+use Rattle.lift_model.specs.declared.kind.Kind.TheVariants.{Dtmc, Mdp}
+use Rattle.lift_model.specs.declared.entry.Entry.{Entry}
+use Rattle.lift_model.specs.Model.{ModelData}
 use Rattle.plift_top.specs.Line.{options}
+use Rattle.drn_read.specs.declared.error.DrnCause.TheVariants.{Power}
+use Rattle.plift_top.specs.Built.{is_built}
+use Rattle.plift_top.specs.Answers.{text_note}
 use Rattle.plift_top.specs.Job.{JobData, job}
-use Rattle.plift_top.specs.Report.{head_lines, row_line, job_lines, report_text}
-use Rattle.plift_top.specs.Report.Leaf.{accept}
+use Rattle.plift_top.specs.Report.{size_lines, row_line, job_lines, report_text}
+use Rattle.plift_top.specs.Report.Leaf.{accept, unknown}
 use Rattle.plift_top.specs.declared.job.Field.TheVariants as field
 
-coin : ChainData
+-- an entry whose value is a number over 4
+entry : ℕ → ℕ → Entry
+entry target number = record { target = target; poly = constant (pos number) }
+
+coin : ModelData
 coin = record {
+  kind = Dtmc;
   common = pos 4;
+  names = [];
   goal = false ∷ true ∷ false ∷ [];
   init = 0;
-  states = ((1, pos 1) ∷ (2, pos 3) ∷ []) ∷ ((1, pos 4) ∷ []) ∷ ((2, pos 4) ∷ []) ∷ [];
+  states = ((entry 1 1 ∷ entry 2 3 ∷ []) ∷ []) ∷ ((entry 1 4 ∷ []) ∷ []) ∷ ((entry 2 4 ∷ []) ∷ []) ∷ [];
+}
+
+-- two coins to choose from: one shows heads with p, and the other with 1 - p; what never comes is told too
+coins : ModelData
+coins = record {
+  kind = Mdp;
+  common = pos 1;
+  names = codes "p" ∷ codes "q" ∷ [];
+  goal = true ∷ false ∷ [];
+  init = 1;
+  states = ((record { target = 0; poly = (0, pos 1) ∷ [] } ∷ []) ∷ [])
+      ∷ ((record { target = 0; poly = (1, pos 1) ∷ [] } ∷ record { target = 1; poly = (0, pos 1) ∷ (1, negsuc 0) ∷ [] } ∷ [])
+      ∷ (record { target = 1; poly = [] } ∷ record { target = 0; poly = (0, pos 1) ∷ [] } ∷ []) ∷ [])
+      ∷ [];
 }
 
 at_most_half : JobData
@@ -50,5 +76,45 @@ first_fault = refl
 
 report : report_text coin at_most_half (accept (pos 4 ∷ pos 16 ∷ pos 0 ∷ []))
     ≡ codes "plift 1\nkind dtmc\nparameters 0\ncommon 4\nstates 3\ninit 0\ngoal 1 1\nrow 0 0 2\nto 1 0:1\nto 2 0:3\nrow 1 0 1\nto 1 0:4\nrow 2 0 1\nto 2 0:4\nbound 1/2\nprecision 4\ndepth 5\ngrid 32\nbox\naccept 4 16 0\n"
-unfolding coin at_most_half head_lines row_line job_lines digits
+unfolding coin entry at_most_half size_lines row_line job_lines digits
 report = refl
+
+-- parameters and choices are told, and an entry of value 0
+report_choices : report_text coins at_most_half unknown
+    ≡ codes "plift 1\nkind mdp\nparameters 2 p q\ncommon 1\nstates 2\ninit 1\ngoal 1 0\nrow 0 0 1\nto 0 0:1\nrow 1 0 2\nto 0 1:1\nto 1 0:1 1:-1\nrow 1 1 2\nto 1\nto 0 0:1\nbound 1/2\nprecision 4\ndepth 5\ngrid 32\nbox\nunknown\n"
+unfolding coins at_most_half size_lines row_line job_lines digits
+report_choices = refl
+
+-- the coin is a chain that is verified; where a value is below 0 or a row sums to less, or a parameter is declared, it isn't
+built : is_built coin ≡ true
+unfolding coin entry
+built = refl
+
+unbuilt : is_built coins ≡ false
+unfolding coins
+unbuilt = refl
+
+below : is_built (record coin { states = ((record { target = 1; poly = (0, negsuc 0) ∷ [] } ∷ entry 2 5 ∷ []) ∷ []) ∷ ((entry 1 4 ∷ []) ∷ []) ∷ ((entry 2 4 ∷ []) ∷ []) ∷ [] }) ≡ false
+unfolding coin entry
+below = refl
+
+less : is_built (record coin { states = ((entry 1 1 ∷ entry 2 2 ∷ []) ∷ []) ∷ ((entry 1 4 ∷ []) ∷ []) ∷ ((entry 2 4 ∷ []) ∷ []) ∷ [] }) ≡ false
+unfolding coin entry
+less = refl
+
+named : is_built (record coin { names = codes "p" ∷ [] }) ≡ false
+unfolding coin entry
+named = refl
+
+-- what a text that stands for no model is told, and one whose model isn't verified
+refused : text_note (Err (record { line = 6; cause = Power })) ≡ Some (codes "model: line 6: Power\n")
+unfolding digits
+refused = refl
+
+unverified : text_note (Ok coins) ≡ Some (codes "model: unbuilt\n")
+unfolding coins
+unverified = refl
+
+verified : text_note (Ok coin) ≡ None
+unfolding coin entry
+verified = refl

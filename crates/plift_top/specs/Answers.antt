@@ -1,10 +1,16 @@
 -- The answers of the program, and the notes that tell them.
-use Rattle.std.specs.Prelude.{◌≡◌, ◌≢◌, ◌≤◌, ℕ, List, codes, Ok, Err, Result}
+use Rattle.std.specs.Prelude.{◌≡◌, ◌≢◌, ◌≤◌, ℕ, List, ◌++◌, codes, Bool, true, false, Some, None, Ok, Err, Result}
+use Rattle.std.specs.Fmt.{decimal}
 use Rattle.std.specs.declared.option.Option.{Option}
 use Rattle.std.specs.Io.KnownBytes.{Appends}
 use Rattle.lift_base.specs.Outside.{Rose, AppendsFront}
+use Rattle.lift_model.specs.Model.{ModelData}
+use Rattle.drn_read.specs.Faults.{cause_name}
+use Rattle.drn_read.specs.Reading.{drn}
+use Rattle.drn_read.specs.declared.error.DrnError.{DrnError}
 use Rattle.plift_top.specs.Job.{JobData}
-use Rattle.plift_top.specs.Verify.{Verifies}
+use Rattle.plift_top.specs.Built.{is_built}
+use Rattle.plift_top.specs.Verify.{Verifies, WasRead}
 use Rattle.plift_top.specs.declared.status.Status.{Status}
 use Rattle.plift_top.specs.declared.status.Status.TheVariants as status
 use Rattle.plift_top.specs.declared.job.Field.{Field}
@@ -15,7 +21,8 @@ use Rattle.plift_top.specs.declared.refusal.Refusal.TheVariants as refusal
 -- the status of a refusal
 abbrev pub status_of : Refusal → Status
 status_of (refusal.Usage f) = status.Usage
-status_of refusal.Model = status.ModelRefused
+status_of (refusal.Model error) = status.ModelRefused
+status_of refusal.Unbuilt = status.ModelRefused
 status_of refusal.ReadFault = status.ReadFault
 status_of refusal.WriteFault = status.WriteFault
 status_of refusal.TooLong = status.TooLong
@@ -29,26 +36,49 @@ usage_note field.Bound = codes "usage: --bound\n"
 usage_note field.Depth = codes "usage: --depth\n"
 usage_note field.Precision = codes "usage: --precision\n"
 
+-- the note of a text that stands for no model: the line and the cause
+abbrev pub model_note : DrnError → List ℕ
+model_note error = codes "model: line " ++ decimal error.line ++ codes ": " ++ cause_name error.cause ++ codes "\n"
+
+-- the note of a model that isn't built
+abbrev pub unbuilt_note : List ℕ
+unbuilt_note = codes "model: unbuilt\n"
+
+-- the note of a model, by whether it is built; none where it is
+abbrev pub built_note : Bool → Option (List ℕ)
+built_note true = None
+built_note false = Some unbuilt_note
+
+-- the note of what a text stands for; none where that is a model that is built
+abbrev pub text_note : Result ModelData DrnError → Option (List ℕ)
+text_note (Ok m) = built_note (is_built m)
+text_note (Err error) = Some (model_note error)
+
+-- a text is refused for a goal label, with this note
+abbrev pub IsRefused : List ℕ → List ℕ → List ℕ → Type 0
+IsRefused goal note text = text_note (drn text goal) ≡ Some note
+
 -- the note of a refusal: one line
 abbrev pub note_of : Refusal → List ℕ
 note_of (refusal.Usage f) = usage_note f
-note_of refusal.Model = codes "model: unbuilt\n"
+note_of (refusal.Model error) = model_note error
+note_of refusal.Unbuilt = unbuilt_note
 note_of refusal.ReadFault = codes "read fault\n"
 note_of refusal.WriteFault = codes "write fault\n"
 note_of refusal.TooLong = codes "too long\n"
 note_of refusal.Memory = codes "out of memory\n"
 
--- an answer to these words has this note; a job that is done has none, and two answers don't come yet
-abbrev pub HasNote : Status → Result JobData Field → List ℕ → Type 0
-HasNote status.Done asked note = ⊥
-HasNote status.NotSound asked note = ⊥
-HasNote status.RowsRefused asked note = ⊥
-HasNote status.Usage asked note = (f : Field) × (asked ≡ Err f) × (note ≡ usage_note f)
-HasNote status.ModelRefused asked note = note ≡ codes "model: unbuilt\n"
-HasNote status.ReadFault asked note = note ≡ codes "read fault\n"
-HasNote status.WriteFault asked note = note ≡ codes "write fault\n"
-HasNote status.TooLong asked note = note ≡ codes "too long\n"
-HasNote status.Memory asked note = note ≡ codes "out of memory\n"
+-- an answer to these words, and to what was read of a source, has this note; a job that is done has none, and two answers don't come yet
+abbrev pub HasNote : Status → Result JobData Field → Option (List ℕ) → Option (List ℕ) → List ℕ → Type 0
+HasNote status.Done asked old new note = ⊥
+HasNote status.NotSound asked old new note = ⊥
+HasNote status.RowsRefused asked old new note = ⊥
+HasNote status.Usage asked old new note = (f : Field) × (asked ≡ Err f) × (note ≡ usage_note f)
+HasNote status.ModelRefused asked old new note = (j : JobData) × (asked ≡ Ok j) × WasRead (IsRefused j.goal note) old new
+HasNote status.ReadFault asked old new note = note ≡ codes "read fault\n"
+HasNote status.WriteFault asked old new note = note ≡ codes "write fault\n"
+HasNote status.TooLong asked old new note = note ≡ codes "too long\n"
+HasNote status.Memory asked old new note = note ≡ codes "out of memory\n"
 
 -- a note was told: whole where no fault was counted, else a part of it
 pub record Told {E : Type 0} (taken : E → Option (List ℕ)) (faults : E → ℕ) (old new : E) (note : List ℕ) : Type 0 where

@@ -5,6 +5,7 @@ pub mod Parser
 pub mod Given
 pub mod Report
 pub mod Written
+pub mod Built
 pub mod Leaf
 pub mod Verify
 pub mod Refused

@@ -1,6 +1,8 @@
--- The refusal that a failed read becomes.
+-- The refusals that failed calls become.
 use Rattle.lift_base.specs.declared.input.ReadError.{ReadError}
 use Rattle.lift_base.specs.declared.input.ReadError.TheVariants as why
+use Rattle.drn_read.specs.declared.error.DrnCause.TheVariants as cause
+use Rattle.drn_read.specs.declared.error.DrnError.{DrnError}
 use Rattle.plift_top.specs.declared.refusal.Refusal.{Refusal}
 use Rattle.plift_top.specs.declared.refusal.Refusal.TheVariants as refusal
 
@@ -9,3 +11,7 @@ abbrev pub refusal_of : ReadError → Refusal
 refusal_of why.Fault = refusal.ReadFault
 refusal_of why.TooLong = refusal.TooLong
 refusal_of why.Memory = refusal.Memory
+
+-- a text that is refused, where it isn't for want of memory
+abbrev pub model_refusal : DrnError → Refusal
+model_refusal error = elim error.cause [ cause.Memory ↦ refusal.Memory | _ ↦ refusal.Model error ]

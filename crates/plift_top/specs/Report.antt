@@ -1,9 +1,12 @@
 -- The text of a report whose tree is one leaf: version 1 of our own format.
-use Rattle.std.specs.Prelude.{◌+◌, ◌^◌, ℕ, ℤ, pos, List, [], ◌∷◌, ◌++◌, length, map, codes, Bool, true, false, if◌then◌else◌}
+use Rattle.std.specs.Prelude.{◌+◌, ◌^◌, ℕ, ℤ, List, [], ◌∷◌, ◌++◌, length, map, codes, Bool, true, false}
 use Rattle.std.specs.List.{concat}
 use Rattle.std.specs.Fmt.{decimal, signed_decimal}
-use Rattle.std.specs.Ordering.{int_eq}
-use Rattle.lift_model.specs.Chain.{ChainData}
+use Rattle.lift_poly.specs.Polynomial.{Term}
+use Rattle.lift_model.specs.declared.kind.Kind.{Kind}
+use Rattle.lift_model.specs.declared.kind.Kind.TheVariants.{Dtmc, Mdp}
+use Rattle.lift_model.specs.declared.entry.Entry.{Entry}
+use Rattle.lift_model.specs.Model.{ModelData}
 use Rattle.plift_top.specs.Job.{JobData}
 
 -- The tree of one leaf: accepted by a vector with a number for each state, or unknown.
@@ -17,16 +20,30 @@ line [] = codes "\n"
 line (word ∷ []) = word ++ codes "\n"
 line (word ∷ words) = word ++ 32 ∷ line words
 
--- version, kind, parameters, common denominator, number of states and initial state
-unfoldable pub head_lines : ChainData → List (List ℕ)
-head_lines c =
-    line (codes "plift" ∷ codes "1" ∷ [])
-    ∷ line (codes "kind" ∷ codes "dtmc" ∷ [])
-    ∷ line (codes "parameters" ∷ codes "0" ∷ [])
-    ∷ line (codes "common" ∷ signed_decimal c.common ∷ [])
-    ∷ line (codes "states" ∷ decimal (length c.states) ∷ [])
-    ∷ line (codes "init" ∷ decimal c.init ∷ [])
+-- the name of a kind
+abbrev pub kind_name : Kind → List ℕ
+kind_name Dtmc = codes "dtmc"
+kind_name Mdp = codes "mdp"
+
+-- version and kind
+abbrev pub kind_lines : Kind → List (List ℕ)
+kind_lines kind = line (codes "plift" ∷ codes "1" ∷ []) ∷ line (codes "kind" ∷ kind_name kind ∷ []) ∷ []
+
+-- how many parameters there are, and their names in declared order
+abbrev pub parameters_line : List (List ℕ) → List ℕ
+parameters_line names = line (codes "parameters" ∷ decimal (length names) ∷ names)
+
+-- common denominator, number of states and initial state
+unfoldable pub size_lines : ModelData → List (List ℕ)
+size_lines m =
+    line (codes "common" ∷ signed_decimal m.common ∷ [])
+    ∷ line (codes "states" ∷ decimal (length m.states) ∷ [])
+    ∷ line (codes "init" ∷ decimal m.init ∷ [])
     ∷ []
+
+-- version, kind, parameters, and the sizes
+abbrev pub head_lines : ModelData → List (List ℕ)
+head_lines m = kind_lines m.kind ++ parameters_line m.names ∷ size_lines m
 
 -- the goal states, where the list begins at state s
 abbrev pub goal_states : ℕ → List Bool → List ℕ
@@ -38,26 +55,34 @@ goal_states s (false ∷ goal) = goal_states (s + 1) goal
 abbrev pub goal_line : List Bool → List ℕ
 goal_line goal = line (codes "goal" ∷ decimal (length (goal_states 0 goal)) ∷ map decimal (goal_states 0 goal))
 
--- a polynomial without parameters: the coefficient of the empty set, or no term where that is 0
-abbrev pub terms : ℤ → List (List ℕ)
-terms n = if int_eq n (pos 0) then [] else (codes "0:" ++ signed_decimal n) ∷ []
+-- a term: its set and its coefficient
+abbrev pub term_word : Term → List ℕ
+term_word term = decimal term.0 ++ 58 ∷ signed_decimal term.1
 
--- an entry: its target, and its number over the common denominator as a polynomial
-abbrev pub entry_line : ℕ × ℤ → List ℕ
-entry_line entry = line (codes "to" ∷ decimal entry.0 ∷ terms entry.1)
+-- an entry: its target, and the terms of its polynomial over the common denominator by ascending set; none for 0
+abbrev pub entry_line : Entry → List ℕ
+entry_line entry = line (codes "to" ∷ decimal entry.target ∷ map term_word entry.poly)
 
--- the first line of the one row of state s, which has so many entries
-unfoldable pub row_line : ℕ → ℕ → List ℕ
-row_line s count = line (codes "row" ∷ decimal s ∷ codes "0" ∷ decimal count ∷ [])
+-- the first line of the row of state s and choice a, which has so many entries
+unfoldable pub row_line : ℕ → ℕ → ℕ → List ℕ
+row_line s a count = line (codes "row" ∷ decimal s ∷ decimal a ∷ decimal count ∷ [])
 
--- the row of state s: how many entries it has, and these in their order
-abbrev pub row_lines : ℕ → List (ℕ × ℤ) → List (List ℕ)
-row_lines s entries = row_line s (length entries) ∷ map entry_line entries
+-- the row of state s and choice a: how many entries it has, and these in their order
+abbrev pub row_lines : ℕ → ℕ → List Entry → List (List ℕ)
+row_lines s a row = row_line s a (length row) ∷ map entry_line row
 
--- the rows of the states, where the list begins at state s
-abbrev pub rows_from : ℕ → List (List (ℕ × ℤ)) → List (List ℕ)
-rows_from s [] = []
-rows_from s (entries ∷ rows) = row_lines s entries ++ rows_from (s + 1) rows
+-- the lines of each item by its number, where the list begins at number n
+abbrev pub numbered : {A : Type 0} → (ℕ → A → List (List ℕ)) → ℕ → List A → List (List ℕ)
+numbered lines n [] = []
+numbered lines n (x ∷ xs) = lines n x ++ numbered lines (n + 1) xs
+
+-- the rows of state s, for each of its choices
+abbrev pub state_lines : ℕ → List (List Entry) → List (List ℕ)
+state_lines s choices = numbered (row_lines s) 0 choices
+
+-- the rows of all states
+abbrev pub rows_lines : List (List (List Entry)) → List (List ℕ)
+rows_lines states = numbered state_lines 0 states
 
 -- bound, precision, depth, grid and the sides of the region; without parameters the grid is 2 ^ depth, and there are no sides
 unfoldable pub job_lines : JobData → List (List ℕ)
@@ -75,9 +100,9 @@ leaf_line (accept x) = line (codes "accept" ∷ map signed_decimal x)
 leaf_line unknown = line (codes "unknown" ∷ [])
 
 -- the lines of a report: the model, the job, and the tree
-abbrev pub report_lines : ChainData → JobData → Leaf → List (List ℕ)
-report_lines c job leaf = head_lines c ++ goal_line c.goal ∷ (rows_from 0 c.states ++ (job_lines job ++ leaf_line leaf ∷ []))
+abbrev pub report_lines : ModelData → JobData → Leaf → List (List ℕ)
+report_lines m job leaf = head_lines m ++ goal_line m.goal ∷ (rows_lines m.states ++ (job_lines job ++ leaf_line leaf ∷ []))
 
 -- the bytes of a report
-abbrev pub report_text : ChainData → JobData → Leaf → List ℕ
-report_text c job leaf = concat (report_lines c job leaf)
+abbrev pub report_text : ModelData → JobData → Leaf → List ℕ
+report_text m job leaf = concat (report_lines m job leaf)

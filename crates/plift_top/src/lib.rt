@@ -1,6 +1,7 @@
 // The program.
 #![tactic(auto)]
 
+mod built;
 mod command;
 mod job;
 mod line;

@@ -1,19 +1,21 @@
 // The whole program, over any source and sinks.
-ghost use Rattle.std.specs.Prelude.{◌≡◌, ◌≢◌, ◌≤◌, ◌<◌, ◌^◌, ◌⊎◌, map, string_bytes, length, codes, List, ℕ, Some, Ok, Err, IsErr};
+ghost use Rattle.std.specs.Prelude.{◌≡◌, ◌≢◌, ◌≤◌, ◌<◌, ◌^◌, ◌⊎◌, map, string_bytes, length, codes, List, ℕ, true, Some, Ok, Err, IsErr};
 ghost use Rattle.std.specs.Io.KnownBytes.{Appends};
-ghost use Rattle.lift_base.specs.Outside.{Rose, AppendsFront, TakenHas};
-ghost use Rattle.lift_model.specs.Chain.{ChainData};
-ghost use Rattle.drn_read.specs.FirstForm.{IsFirstForm};
+ghost use Rattle.lift_base.specs.Outside.{Rose, AppendsFront, TakenHas, Wrote};
+ghost use Rattle.lift_model.specs.Model.{ModelData};
+ghost use Rattle.drn_read.specs.Reading.{drn};
 ghost use Rattle.plift_top.specs.Job.{job, JobData};
-ghost use Rattle.plift_top.specs.Verify.{WasRead, Reports, TellsNone, KeepsLimit, text_limit};
-ghost use Rattle.plift_top.specs.Answers.{status_of, note_of, HasNote, Told, Acts};
+ghost use Rattle.plift_top.specs.Built.{is_built};
+ghost use Rattle.plift_top.specs.Verify.{WasRead, Reports, KeepsLimit, text_limit};
+ghost use Rattle.plift_top.specs.Answers.{status_of, usage_note, model_note, note_of, IsRefused, HasNote, Told, Acts};
 
 use crate::command::job_of;
 use crate::job::Field;
 use crate::refusal::Refusal;
 use crate::status::Status;
 use crate::verify::verify;
-use lift_base::{Sink, Source, write_all};
+use drn_read::DrnError;
+use lift_base::{Sink, Source, Word, WriteFault, write_all, write_words};
 use std::alloc::Global;
 
 fn act<S: Source, K: Sink>(
@@ -29,29 +31,12 @@ fn act<S: Source, K: Sink>(
     verify(alloc, &job, source, out)
 }
 
-fn note_of(refusal: Refusal) -> &'static [u8]
-    ensures { result.now ≡ note_of refusal }
-{
-    match refusal {
-        Refusal::Usage(Field::Words) => b"usage: words\n",
-        Refusal::Usage(Field::Goal) => b"usage: --goal\n",
-        Refusal::Usage(Field::Bound) => b"usage: --bound\n",
-        Refusal::Usage(Field::Depth) => b"usage: --depth\n",
-        Refusal::Usage(Field::Precision) => b"usage: --precision\n",
-        Refusal::Model => b"model: unbuilt\n",
-        Refusal::ReadFault => b"read fault\n",
-        Refusal::WriteFault => b"write fault\n",
-        Refusal::TooLong => b"too long\n",
-        Refusal::Memory => b"out of memory\n",
-    }
-}
-
 fn status_of(refusal: Refusal) -> Status
     ensures { result ≡ status_of refusal }
 {
     match refusal {
         Refusal::Usage(_) => Status::Usage,
-        Refusal::Model => Status::ModelRefused,
+        Refusal::Model(_) | Refusal::Unbuilt => Status::ModelRefused,
         Refusal::ReadFault => Status::ReadFault,
         Refusal::WriteFault => Status::WriteFault,
         Refusal::TooLong => Status::TooLong,
@@ -59,11 +44,52 @@ fn status_of(refusal: Refusal) -> Status
     }
 }
 
+fn usage_note(field: Field) -> &'static [u8]
+    ensures { result.now ≡ usage_note field }
+{
+    match field {
+        Field::Words => b"usage: words\n",
+        Field::Goal => b"usage: --goal\n",
+        Field::Bound => b"usage: --bound\n",
+        Field::Depth => b"usage: --depth\n",
+        Field::Precision => b"usage: --precision\n",
+    }
+}
+
+fn write_model_note<E: Sink>(notes: &mut E, error: DrnError) -> Result<(), WriteFault>
+    ensures { Wrote E.taken E.faults notes.old notes.new result (model_note error) }
+{
+    write_words(
+        notes,
+        &[
+            Word::Text(b"model: line "),
+            Word::Count(u64::from(error.line)),
+            Word::Text(b": "),
+            Word::Text(error.cause.name().as_bytes()),
+            Word::Text(b"\n"),
+        ],
+    )
+}
+
+fn write_note<E: Sink>(notes: &mut E, refusal: Refusal) -> Result<(), WriteFault>
+    ensures { Wrote E.taken E.faults notes.old notes.new result (note_of refusal) }
+{
+    match refusal {
+        Refusal::Usage(field) => write_all(notes, usage_note(field)),
+        Refusal::Model(error) => write_model_note(notes, error),
+        Refusal::Unbuilt => write_all(notes, b"model: unbuilt\n"),
+        Refusal::ReadFault => write_all(notes, b"read fault\n"),
+        Refusal::WriteFault => write_all(notes, b"write fault\n"),
+        Refusal::TooLong => write_all(notes, b"too long\n"),
+        Refusal::Memory => write_all(notes, b"out of memory\n"),
+    }
+}
+
 // Tells of a refusal. That the notes fail changes nothing.
 fn tell<E: Sink>(notes: &mut E, refusal: Refusal)
     ensures { Told E.taken E.faults notes.old notes.new (note_of refusal) }
 {
-    let _ = write_all(notes, note_of(refusal));
+    let _ = write_note(notes, refusal);
 }
 
 /// Runs the program on the words after its name: reads from `source`, writes to `out`, and tells of a refusal on `notes`.
@@ -74,7 +100,7 @@ pub fn run<S: Source, K: Sink, E: Sink>(
     out: &mut K,
     notes: &mut E,
 ) -> Status
-    // Done: the source gave a text of the first form, and out took the report of its chain and nothing else.
+    // Done: the source gave a text that stands for a model, that model is built, and out took its report and nothing else.
     ensures done { result ≡ Status.Done → (j : JobData) × (job (map string_bytes words.now.items) ≡ Ok j)
         × WasRead (Reports (Appends (K.taken out.old) (K.taken out.new)) j) (S.left source.old) (S.left source.new) }
 
@@ -83,18 +109,22 @@ pub fn run<S: Source, K: Sink, E: Sink>(
     ensures at_fault { IsErr (job (map string_bytes words.now.items)) → (result ≡ Status.Usage) ⊎ (result ≡ Status.Memory) }
     ensures not_plain { job (map string_bytes words.now.items) ≡ Err Field.Words → result ≡ Status.Usage }
     ensures model { result ≡ Status.ModelRefused → (j : JobData) × (job (map string_bytes words.now.items) ≡ Ok j)
-        × WasRead (TellsNone j.goal) (S.left source.old) (S.left source.new) }
+        × (note : List ℕ) × WasRead (IsRefused j.goal note) (S.left source.old) (S.left source.new) }
     ensures read_fault { result ≡ Status.ReadFault → Rose (S.faults source.old) (S.faults source.new) }
     ensures write_fault { result ≡ Status.WriteFault → Rose (K.faults out.old) (K.faults out.new) }
     ensures too_long { result ≡ Status.TooLong → TakenHas (λ bytes. text_limit < length bytes) (S.left source.old) (S.left source.new) }
     ensures within { result ≢ Status.TooLong → TakenHas (λ bytes. length bytes ≤ text_limit) (S.left source.old) (S.left source.new) }
     ensures never { (result ≢ Status.NotSound) × (result ≢ Status.RowsRefused) }
 
-    // A job and a text of the first form give Done or Memory, where no fault is counted.
-    ensures complete { (j : JobData) (text : List ℕ) (c : ChainData) → job (map string_bytes words.now.items) ≡ Ok j → S.left source.old ≡ Some text
-        → IsFirstForm j.goal text c → length text ≤ text_limit
+    // A job and a text that stands for a model that is built give Done or Memory, where no fault is counted; with any other text it is ModelRefused or Memory.
+    ensures complete { (j : JobData) (text : List ℕ) (m : ModelData) → job (map string_bytes words.now.items) ≡ Ok j → S.left source.old ≡ Some text
+        → drn text j.goal ≡ Ok m → is_built m ≡ true → length text ≤ text_limit
         → (Rose (S.faults source.old) (S.faults source.new) → ⊥) → (Rose (K.faults out.old) (K.faults out.new) → ⊥)
         → (result ≡ Status.Done) ⊎ (result ≡ Status.Memory) }
+    ensures refused { (j : JobData) (text note : List ℕ) → job (map string_bytes words.now.items) ≡ Ok j → S.left source.old ≡ Some text
+        → IsRefused j.goal note text → length text ≤ text_limit
+        → (Rose (S.faults source.old) (S.faults source.new) → ⊥) → (Rose (K.faults out.old) (K.faults out.new) → ⊥)
+        → (result ≡ Status.ModelRefused) ⊎ (result ≡ Status.Memory) }
 
     // What stands after a refusal: the front of the report after a write fault, else out as it was.
     ensures part { result ≡ Status.WriteFault → (j : JobData) × (job (map string_bytes words.now.items) ≡ Ok j)
@@ -104,7 +134,7 @@ pub fn run<S: Source, K: Sink, E: Sink>(
 
     // A refusal is told by its note, and nothing else is.
     ensures silent { result ≡ Status.Done → notes.new ≡ notes.old }
-    ensures told { result ≢ Status.Done → (note : List ℕ) × HasNote result (job (map string_bytes words.now.items)) note
+    ensures told { result ≢ Status.Done → (note : List ℕ) × HasNote result (job (map string_bytes words.now.items)) (S.left source.old) (S.left source.new) note
         × Told E.taken E.faults notes.old notes.new note }
 {
     match act(alloc, words, source, out) {

@@ -1,9 +1,10 @@
 // Why a command gave up.
 ghost use Rattle.std.specs.Prelude.{◌≡◌};
 ghost use Rattle.plift_top.specs.declared.refusal.Refusal.TheVariants.{Memory, WriteFault, Usage};
-ghost use Rattle.plift_top.specs.Refused.{refusal_of};
+ghost use Rattle.plift_top.specs.Refused.{refusal_of, model_refusal};
 
 use crate::job::Field;
+use drn_read::{DrnCause, DrnError};
 use lift_base::ReadError;
 use std::alloc::AllocError;
 
@@ -12,8 +13,10 @@ use std::alloc::AllocError;
 pub enum Refusal {
     /// This part of the command line is at fault.
     Usage(Field),
-    /// The text isn't a model that this program reads.
-    Model,
+    /// The text stands for no model.
+    Model(DrnError),
+    /// The model isn't of those that this program verifies.
+    Unbuilt,
     ReadFault,
     WriteFault,
     /// The source gives more bytes than a text may have.
@@ -53,6 +56,17 @@ impl From<ReadError> for Refusal {
             ReadError::Fault => Refusal::ReadFault,
             ReadError::TooLong => Refusal::TooLong,
             ReadError::Memory => Refusal::Memory,
+        }
+    }
+}
+
+impl From<DrnError> for Refusal {
+    ghost from_gives = { λ error e. e ≡ model_refusal error };
+
+    fn from(error: DrnError) -> Self {
+        match error.cause {
+            DrnCause::Memory => Refusal::Memory,
+            _ => Refusal::Model(error),
         }
     }
 }

@@ -3,18 +3,20 @@ ghost use Rattle.std.specs.Prelude.{◌≡◌, ◌<◌, ◌≤◌, ◌∷◌, �
 ghost use Rattle.std.specs.List.{concat, flat_map};
 ghost use Rattle.std.specs.Fmt.{decimal};
 ghost use Rattle.lift_base.specs.Outside.{Wrote};
-ghost use Rattle.plift_top.specs.Report.{head_lines, goal_states, goal_line, entry_line, row_line, row_lines, rows_from, job_lines, leaf_line, report_text};
+ghost use Rattle.lift_model.specs.Model.{choices};
+ghost use Rattle.plift_top.specs.Report.{kind_name, kind_lines, parameters_line, size_lines, head_lines, goal_states, goal_line, term_word, entry_line, row_line, row_lines, state_lines, rows_lines, job_lines, leaf_line, report_text};
 ghost use Rattle.plift_top.specs.Given.{job_data};
 ghost use Rattle.plift_top.specs.Written.{leaf_of};
 
 use crate::job::Job;
-use lift_base::{Sink, Text, Word, WriteFault, write_all, write_words};
-use lift_model::Chain;
+use lift_base::{Names, Sink, Text, Word, WriteFault, write_all, write_words};
+use lift_model::{Entry, Kind, Model, Row};
+use lift_poly::MultiAffine;
 
 /// A report whose tree is one leaf.
 #[derive(Clone, Copy)]
 pub struct Report<'a> {
-    pub chain: &'a Chain,
+    pub model: &'a Model,
     pub job: &'a Job<'a>,
     pub verdict: Verdict<'a>,
 }
@@ -27,30 +29,89 @@ pub enum Verdict<'a> {
     Unknown,
 }
 
-#[tactic(auto, unfolding(crate::specs::Report::head_lines))]
-fn write_head<K: Sink>(out: &mut K, chain: &Chain) -> Result<(), WriteFault>
-    ensures { Wrote K.taken K.faults out.old out.new result (concat (head_lines chain.now)) }
+fn kind_name(kind: Kind) -> &'static [u8]
+    ensures { result.now ≡ kind_name kind }
+{
+    match kind {
+        Kind::Dtmc => b"dtmc",
+        Kind::Mdp => b"mdp",
+    }
+}
+
+fn write_kind<K: Sink>(out: &mut K, kind: Kind) -> Result<(), WriteFault>
+    ensures { Wrote K.taken K.faults out.old out.new result (concat (kind_lines kind)) }
 {
     write_words(
         out,
         &[
-            Word::Text(b"plift 1\nkind dtmc\nparameters 0\ncommon "),
-            Word::Number(i128::from(chain.common())),
-            Word::Text(b"\nstates "),
-            Word::Count(u64::from(chain.states())),
-            Word::Text(b"\ninit "),
-            Word::Count(u64::from(chain.init())),
+            Word::Text(b"plift 1\nkind "),
+            Word::Text(kind_name(kind)),
             Word::Text(b"\n"),
         ],
     )
 }
 
-fn goal_count(chain: &Chain) -> u32
-    ensures { result ≡ length (goal_states 0 chain.now.goal) }
+fn write_name<K: Sink>(out: &mut K, name: &[u8]) -> Result<(), WriteFault>
+    ensures { Wrote K.taken K.faults out.old out.new result (32 ∷ name.now) }
+{
+    write_words(out, &[Word::Text(b" "), Word::Text(name)])
+}
+
+fn write_names<K: Sink>(out: &mut K, names: &Names) -> Result<(), WriteFault>
+    ensures { Wrote K.taken K.faults out.old out.new result (flat_map (λ name. 32 ∷ name) names.now) }
+{
+    for place in 0..names.len() {
+        write_name(out, names.get(place))?;
+    }
+    Ok(())
+}
+
+fn write_parameters<K: Sink>(out: &mut K, names: &Names) -> Result<(), WriteFault>
+    ensures { Wrote K.taken K.faults out.old out.new result (parameters_line names.now) }
+{
+    write_words(
+        out,
+        &[
+            Word::Text(b"parameters "),
+            Word::Count(u64::from(names.len())),
+        ],
+    )?;
+    write_names(out, names)?;
+    write_all(out, b"\n")
+}
+
+#[tactic(auto, unfolding(crate::specs::Report::size_lines))]
+fn write_sizes<K: Sink>(out: &mut K, model: &Model) -> Result<(), WriteFault>
+    ensures { Wrote K.taken K.faults out.old out.new result (concat (size_lines model.now)) }
+{
+    write_words(
+        out,
+        &[
+            Word::Text(b"common "),
+            Word::Number(i128::from(model.common())),
+            Word::Text(b"\nstates "),
+            Word::Count(u64::from(model.states())),
+            Word::Text(b"\ninit "),
+            Word::Count(u64::from(model.init())),
+            Word::Text(b"\n"),
+        ],
+    )
+}
+
+fn write_head<K: Sink>(out: &mut K, model: &Model) -> Result<(), WriteFault>
+    ensures { Wrote K.taken K.faults out.old out.new result (concat (head_lines model.now)) }
+{
+    write_kind(out, model.kind())?;
+    write_parameters(out, model.names())?;
+    write_sizes(out, model)
+}
+
+fn goal_count(model: &Model) -> u32
+    ensures { result ≡ length (goal_states 0 model.now.goal) }
 {
     let mut count = 0;
-    for s in 0..chain.states() {
-        if chain.is_goal(s) {
+    for s in 0..model.states() {
+        if model.is_goal(s) {
             count += 1;
         }
     }
@@ -63,48 +124,62 @@ fn write_state<K: Sink>(out: &mut K, s: u32) -> Result<(), WriteFault>
     write_words(out, &[Word::Text(b" "), Word::Count(u64::from(s))])
 }
 
-fn write_goal_states<K: Sink>(out: &mut K, chain: &Chain) -> Result<(), WriteFault>
-    ensures { Wrote K.taken K.faults out.old out.new result (flat_map (λ s. 32 ∷ decimal s) (goal_states 0 chain.now.goal)) }
+fn write_goal_states<K: Sink>(out: &mut K, model: &Model) -> Result<(), WriteFault>
+    ensures { Wrote K.taken K.faults out.old out.new result (flat_map (λ s. 32 ∷ decimal s) (goal_states 0 model.now.goal)) }
 {
-    for s in 0..chain.states() {
-        if chain.is_goal(s) {
+    for s in 0..model.states() {
+        if model.is_goal(s) {
             write_state(out, s)?;
         }
     }
     Ok(())
 }
 
-fn write_goal<K: Sink>(out: &mut K, chain: &Chain) -> Result<(), WriteFault>
-    ensures { Wrote K.taken K.faults out.old out.new result (goal_line chain.now.goal) }
+fn write_goal<K: Sink>(out: &mut K, model: &Model) -> Result<(), WriteFault>
+    ensures { Wrote K.taken K.faults out.old out.new result (goal_line model.now.goal) }
 {
-    let count = goal_count(chain);
+    let count = goal_count(model);
     write_words(out, &[Word::Text(b"goal "), Word::Count(u64::from(count))])?;
-    write_goal_states(out, chain)?;
+    write_goal_states(out, model)?;
     write_all(out, b"\n")
 }
 
-fn write_entry<K: Sink>(out: &mut K, entry: &(u32, i64)) -> Result<(), WriteFault>
-    ensures { Wrote K.taken K.faults out.old out.new result (entry_line entry.now) }
+fn write_term<K: Sink>(out: &mut K, term: (u16, i128)) -> Result<(), WriteFault>
+    ensures { Wrote K.taken K.faults out.old out.new result (32 ∷ term_word term) }
 {
-    let (target, number) = *entry;
-    let target = Word::Count(u64::from(target));
-    if number == 0 {
-        return write_words(out, &[Word::Text(b"to "), target, Word::Text(b"\n")]);
-    }
-    let number = Word::Number(i128::from(number));
+    let (set, coefficient) = term;
     write_words(
         out,
         &[
-            Word::Text(b"to "),
-            target,
-            Word::Text(b" 0:"),
-            number,
-            Word::Text(b"\n"),
+            Word::Text(b" "),
+            Word::Count(u64::from(set)),
+            Word::Text(b":"),
+            Word::Number(coefficient),
         ],
     )
 }
 
-fn write_entries<K: Sink>(out: &mut K, entries: &[(u32, i64)]) -> Result<(), WriteFault>
+fn write_terms<K: Sink>(out: &mut K, poly: &MultiAffine) -> Result<(), WriteFault>
+    ensures { Wrote K.taken K.faults out.old out.new result (flat_map (λ term. 32 ∷ term_word term) poly.now) }
+{
+    for index in 0..poly.len() {
+        write_term(out, poly.term(index))?;
+    }
+    Ok(())
+}
+
+fn write_entry<K: Sink>(out: &mut K, entry: &Entry) -> Result<(), WriteFault>
+    ensures { Wrote K.taken K.faults out.old out.new result (entry_line entry.now) }
+{
+    write_words(
+        out,
+        &[Word::Text(b"to "), Word::Count(u64::from(entry.target))],
+    )?;
+    write_terms(out, &entry.poly)?;
+    write_all(out, b"\n")
+}
+
+fn write_entries<K: Sink>(out: &mut K, entries: &[Entry]) -> Result<(), WriteFault>
     ensures { Wrote K.taken K.faults out.old out.new result (flat_map entry_line entries.now) }
 {
     for entry in entries {
@@ -114,33 +189,46 @@ fn write_entries<K: Sink>(out: &mut K, entries: &[(u32, i64)]) -> Result<(), Wri
 }
 
 #[tactic(auto, unfolding(crate::specs::Report::row_line))]
-fn write_row_line<K: Sink>(out: &mut K, s: u32, count: usize) -> Result<(), WriteFault>
-    ensures { Wrote K.taken K.faults out.old out.new result (row_line s count) }
+fn write_row_line<K: Sink>(out: &mut K, s: u32, a: u32, count: usize) -> Result<(), WriteFault>
+    ensures { Wrote K.taken K.faults out.old out.new result (row_line s a count) }
 {
     write_words(
         out,
         &[
             Word::Text(b"row "),
             Word::Count(u64::from(s)),
-            Word::Text(b" 0 "),
+            Word::Text(b" "),
+            Word::Count(u64::from(a)),
+            Word::Text(b" "),
             Word::Count(count as u64),
             Word::Text(b"\n"),
         ],
     )
 }
 
-fn write_row<K: Sink>(out: &mut K, s: u32, entries: &[(u32, i64)]) -> Result<(), WriteFault>
-    ensures { Wrote K.taken K.faults out.old out.new result (concat (row_lines s entries.now)) }
+fn write_row<K: Sink>(out: &mut K, s: u32, a: u32, row: &Row) -> Result<(), WriteFault>
+    ensures { Wrote K.taken K.faults out.old out.new result (concat (row_lines s a row.now)) }
 {
-    write_row_line(out, s, entries.len())?;
+    let entries = row.entries();
+    write_row_line(out, s, a, entries.len())?;
     write_entries(out, entries)
 }
 
-fn write_rows<K: Sink>(out: &mut K, chain: &Chain) -> Result<(), WriteFault>
-    ensures { Wrote K.taken K.faults out.old out.new result (concat (rows_from 0 chain.now.states)) }
+fn write_state_rows<K: Sink>(out: &mut K, model: &Model, s: u32) -> Result<(), WriteFault>
+    requires { s < length model.now.states }
+    ensures { Wrote K.taken K.faults out.old out.new result (concat (state_lines s (choices model.now s))) }
 {
-    for s in 0..chain.states() {
-        write_row(out, s, chain.entries(s))?;
+    for a in 0..model.choices(s) {
+        write_row(out, s, a, model.row(s, a))?;
+    }
+    Ok(())
+}
+
+fn write_rows<K: Sink>(out: &mut K, model: &Model) -> Result<(), WriteFault>
+    ensures { Wrote K.taken K.faults out.old out.new result (concat (rows_lines model.now.states)) }
+{
+    for s in 0..model.states() {
+        write_state_rows(out, model, s)?;
     }
     Ok(())
 }
@@ -191,24 +279,24 @@ fn write_leaf<K: Sink>(out: &mut K, verdict: &Verdict) -> Result<(), WriteFault>
 // Writes the whole report. Takes no memory.
 fn write_report<K: Sink>(
     out: &mut K,
-    chain: &Chain,
+    model: &Model,
     job: &Job,
     verdict: &Verdict,
 ) -> Result<(), WriteFault>
     requires { job.now.depth ≤ 20 }
-    ensures { Wrote K.taken K.faults out.old out.new result (report_text chain.now (job_data job.now) (leaf_of verdict.now)) }
+    ensures { Wrote K.taken K.faults out.old out.new result (report_text model.now (job_data job.now) (leaf_of verdict.now)) }
 {
-    write_head(out, chain)?;
-    write_goal(out, chain)?;
-    write_rows(out, chain)?;
+    write_head(out, model)?;
+    write_goal(out, model)?;
+    write_rows(out, model)?;
     write_job(out, job)?;
     write_leaf(out, verdict)
 }
 
 impl<'a> Text for Report<'a> {
-    ghost text = { λ r. report_text r.chain.now (job_data r.job.now) (leaf_of r.verdict) };
+    ghost text = { λ r. report_text r.model.now (job_data r.job.now) (leaf_of r.verdict) };
 
     fn write_to<K: Sink>(&self, out: &mut K) -> Result<(), WriteFault> {
-        write_report(out, self.chain, self.job, &self.verdict)
+        write_report(out, self.model, self.job, &self.verdict)
     }
 }

@@ -8,10 +8,33 @@ use std::test::Fail;
 const COIN: &str = "@type: DTMC\n@parameters\np\n@model\nstate 0 init\n1 : p\n2 : 1-p\n\
     state 1 heads\n1 : 1\nstate 2\n2 : 1\n";
 
+const TWIN: &str = "@type: MDP\n@parameters\np\n@model\nstate 0 init\naction a\n1 : p\n2 : 1-p\n\
+    action b\n1 : 1-p\n2 : p\nstate 1 heads\n1 : 1\nstate 2\n2 : 1\n";
+
+const SQUARE: &str = "@type: DTMC\n@parameters\np\n@model\nstate 0 init\n1 : p*p\n2 : 1-p\n\
+    state 1 heads\n1 : 1\nstate 2\n2 : 1\n";
+
+const DIVISOR: &str = "@type: DTMC\n@parameters\np q\n@model\nstate 0 init\n1 : (p+1)/q\n2 : 1-p\n\
+    state 1 heads\n1 : 1\nstate 2\n2 : 1\n";
+
+const POWER: &str = "@type: DTMC\n@parameters\np\n@model\nstate 0 init\n1 : p^2\n2 : 1-p\n\
+    state 1 heads\n1 : 1\nstate 2\n2 : 1\n";
+
+const CTMC: &str = "@type: CTMC\n@parameters\np\n@model\nstate 0 init\n1 : p\n2 : 1-p\n\
+    state 1 heads\n1 : 1\nstate 2\n2 : 1\n";
+
 const PLAIN: &str = "@type: DTMC\n@model\nstate 0 init\n1 : 1/4\n2 : 3/4\n\
     state 1 heads\n1 : 1\nstate 2\n2 : 1\n";
 
 const TENTH: &str = "@type: DTMC\n@model\nstate 0 init\n1 : 1/10\n2 : 9/10\n\
+    state 1 heads\n1 : 1\nstate 2\n2 : 1\n";
+
+// A row that sums to less than 1.
+const LESS: &str = "@type: DTMC\n@model\nstate 0 init\n1 : 1/4\n2 : 1/2\n\
+    state 1 heads\n1 : 1\nstate 2\n2 : 1\n";
+
+// A value below 0, in a row that sums to 1.
+const BELOW: &str = "@type: DTMC\n@model\nstate 0 init\n1 : -1/4\n2 : 5/4\n\
     state 1 heads\n1 : 1\nstate 2\n2 : 1\n";
 
 const APART: &str = "@type: DTMC\n@model\nstate 0 init\n0 : 1\nstate 1 heads\n1 : 1\n";
@@ -42,7 +65,7 @@ fn words(alloc: Global, line: &str, separator: char) -> Result<Vec<String>, Fail
 }
 
 // Each line: the words, the text, the status, how the output ends (nothing where it is empty), and the notes.
-const RUNS: [(&str, &str, Status, &str, &str); 27] = [
+const RUNS: [(&str, &str, Status, &str, &str); 34] = [
     (HALF, PLAIN, Status::Done, PLAIN_REPORT, ""),
     (
         "verify --precision 4 --bound 2/4 --depth 0 --goal heads",
@@ -101,13 +124,50 @@ const RUNS: [(&str, &str, Status, &str, &str); 27] = [
         "",
     ),
     (HALF, COIN, Status::ModelRefused, "", "model: unbuilt\n"),
-    (HALF, "", Status::ModelRefused, "", "model: unbuilt\n"),
+    (HALF, TWIN, Status::ModelRefused, "", "model: unbuilt\n"),
+    (HALF, LESS, Status::ModelRefused, "", "model: unbuilt\n"),
+    (HALF, BELOW, Status::ModelRefused, "", "model: unbuilt\n"),
     (
-        "verify --goal tails --bound 1/2",
-        PLAIN,
+        HALF,
+        "",
         Status::ModelRefused,
         "",
-        "model: unbuilt\n",
+        "model: line 0: MissingSection\n",
+    ),
+    (
+        "verify --goal tails --bound 1/2",
+        COIN,
+        Status::ModelRefused,
+        "",
+        "model: line 11: UnknownLabel\n",
+    ),
+    (
+        HALF,
+        SQUARE,
+        Status::ModelRefused,
+        "",
+        "model: line 6: SharedParameter\n",
+    ),
+    (
+        HALF,
+        DIVISOR,
+        Status::ModelRefused,
+        "",
+        "model: line 6: ParametricDivisor\n",
+    ),
+    (
+        HALF,
+        POWER,
+        Status::ModelRefused,
+        "",
+        "model: line 6: Power\n",
+    ),
+    (
+        HALF,
+        CTMC,
+        Status::ModelRefused,
+        "",
+        "model: line 1: UnsupportedType\n",
     ),
     (
         "verify --goal heads",
@@ -304,7 +364,11 @@ impl Source for LineFeeds {
 fn a_text_has_at_most_2_to_the_26_bytes(rt: HostRuntime) -> Result<(), Fail> {
     let alloc = rt.alloc();
     for (left, status, told) in [
-        (1 << 26, Status::ModelRefused, "model: unbuilt\n"),
+        (
+            1 << 26,
+            Status::ModelRefused,
+            "model: line 67108864: MissingSection\n",
+        ),
         ((1 << 26) + 1, Status::TooLong, "too long\n"),
     ] {
         let mut source = LineFeeds { left };

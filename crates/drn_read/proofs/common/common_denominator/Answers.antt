@@ -1,8 +1,13 @@
-use Rattle.std.proofs.Common.{sym, ◌∙◌}
-use Rattle.drn_read.proofs.Commons.{stopped_over}
+use Rattle.std.proofs.Common.{◌^◌, List, fold, ap, arith, ◌∙◌}
+use Rattle.std.proofs.lemmas.List.{take_all}
+use Rattle.lift_frac.specs.Parts.{capped}
+use Rattle.drn_read.specs.States.{StateText}
+use Rattle.drn_read.specs.Shown.{with_den}
+use Rattle.drn_read.proofs.Ends.{common_is}
 use Rattle.drn_read.proofs.common.common_denominator.Goals as goal
 
-pub returns-in_err-least-clause-value : goal.returns-in_err-least-clause-value
-returns-in_err-least-clause-value c =
-    c.from_residual.ensures
-    ∙ sym (stopped_over _ _ _ c.state-item.result _ c.loop-state.invariant.same c.loop-state-test.true c.state-item.is (rw (← c.transitions.ensures) (sym c.in_err-least.ensures.value)))
+pub returns : goal.returns
+returns c =
+    c.loop-state.invariant
+    ∙ ap (λ (states : List StateText). capped (2 ^ 62) (fold (λ c s. fold (fold with_den) c s.choices) 1 states)) (take_all c.loop-state.state-index c.args.states.now (omega arith))
+    ∙ ap (capped (2 ^ 62)) (common_is c.args.states.now)

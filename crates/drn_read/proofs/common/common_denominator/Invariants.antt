@@ -1,10 +1,7 @@
-use Rattle.std.proofs.Common.{◌≡◌, fold, drop}
-use Rattle.drn_read.specs.FirstForm.{joined, common_denominator}
-use Rattle.drn_read.specs.Common.{IsInRange}
+use Rattle.std.proofs.Common.{◌≡◌, ◌^◌, fold, take}
+use Rattle.lift_frac.specs.Parts.{capped}
+use Rattle.drn_read.specs.Shown.{with_den}
 use Rattle.drn_read.proofs.common.common_denominator.Given as goal
 
 abbrev pub invariant-loop-state : goal.invariant-loop-state
-invariant-loop-state l = record {
-  same : fold (λ common state. fold joined common state.transitions) l.least (drop l.state-index l.states) ≡ common_denominator l.states;
-  ranged : IsInRange l.least;
-}
+invariant-loop-state l = l.least ≡ capped (2 ^ 62) (fold (λ c s. fold (fold with_den) c s.choices) 1 (take l.state-index l.states))

@@ -1,10 +1,21 @@
-use Rattle.std.proofs.Common.{rules, tests, ◌≡◌, to_z, of_z, pos, false}
-use Rattle.std.specs.Int.{w128}
-use Rattle.std.specs.Ordering.{int_eq}
+use Rattle.std.proofs.Common.{append-nil}
+use Rattle.std.specs.Fmt.{decimal}
+use Rattle.lift_base.proofs.Writing.{wrote_then, stopped}
+use Rattle.plift_top.specs.Report.{term_word}
+use Rattle.plift_top.proofs.Lines.{line-words}
 use Rattle.plift_top.proofs.report.write_entry.Goals as goal
+
+pub returns-in_err-write_words : goal.returns-in_err-write_words
+returns-in_err-write_words g c =
+    let first = rw (append-nil, c.from.ensures) at c.in_err-write_words.ensures in
+    rw (line-words term_word (decimal c.args.entry.now.target)) (stopped _ _ _ c.from_residual.ensures.0 first)
+
+pub returns-in_err-write_terms : goal.returns-in_err-write_terms
+returns-in_err-write_terms g c =
+    let first = rw (append-nil, c.from.ensures) at c.in_ok-write_words.ensures in
+    rw (line-words term_word (decimal c.args.entry.now.target)) (wrote_then first (stopped _ _ _ c.from_residual-in_err-write_terms.ensures.0 c.in_err-write_terms.ensures))
 
 pub returns : goal.returns
 returns g c =
-    let number : to_z w128 (of_z w128 c.from-2.result) ≡ c.args.entry.now.1 = search rules in
-    let other : int_eq c.args.entry.now.1 (pos 0) ≡ false = search (rules, tests) in
-    rw other (rw (c.from.ensures, number) at c.write_words-2.ensures)
+    let first = rw (append-nil, c.from.ensures) at c.in_ok-write_words.ensures in
+    rw (line-words term_word (decimal c.args.entry.now.target)) (wrote_then first (wrote_then c.in_ok-write_terms.ensures c.write_all.ensures.wrote))

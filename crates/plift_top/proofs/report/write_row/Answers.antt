@@ -1,10 +1,11 @@
+use Rattle.std.proofs.Common.{length}
 use Rattle.lift_base.proofs.Writing.{wrote_then, stopped}
 use Rattle.plift_top.specs.Report.{entry_line}
 use Rattle.plift_top.proofs.Lines.{concat-map}
 use Rattle.plift_top.proofs.report.write_row.Goals as goal
 
 pub returns-in_err-write_row_line : goal.returns-in_err-write_row_line
-returns-in_err-write_row_line g c = stopped _ _ _ c.from_residual.ensures.0 c.in_err-write_row_line.ensures
+returns-in_err-write_row_line g c = stopped _ _ _ c.from_residual.ensures.0 (rw c.entries-entries.ensures at c.in_err-write_row_line.ensures)
 
 pub returns : goal.returns
-returns g c = rw (concat-map entry_line c.args.entries.now) (wrote_then c.in_ok-write_row_line.ensures c.write_entries.ensures)
+returns g c = rw (concat-map entry_line c.args.row.now) (wrote_then (rw c.entries-entries.ensures at c.in_ok-write_row_line.ensures) (rw c.entries-entries.ensures at c.write_entries.ensures))

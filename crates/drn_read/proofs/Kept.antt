@@ -1,0 +1,44 @@
+-- What holds of what is kept from line to line, as long as no line has a fault.
+use Rattle.std.proofs.Common.{◌≡◌, ◌≢◌, ℕ, ◌≤◌, List, [], ◌∷◌, ◌++◌, length, All, AllPairs, Option, Some}
+use Rattle.lift_model.specs.declared.kind.Kind.{Kind}
+use Rattle.lift_model.specs.declared.kind.Kind.TheVariants.{Mdp}
+use Rattle.drn_expr.proofs.Valid.{IsOver}
+use Rattle.drn_read.specs.Sections.{Placeholder}
+use Rattle.drn_read.specs.States.{StateText}
+use Rattle.drn_read.specs.Judging.{Said, choice_count, transition_count}
+use Rattle.drn_read.specs.declared.section.Phase.TheVariants as phase
+use Rattle.drn_read.specs.declared.state.Transition.{Transition}
+
+-- at most 16 parameters of different names
+abbrev pub AreNames : List (List ℕ) → Type 0
+AreNames names = (length names ≤ 16) × AllPairs (λ a b. a ≢ b) names
+
+-- the parameters, and at most 65,536 placeholders, whose values are over these
+pub record IsDeclared (names : List (List ℕ)) (places : List Placeholder) : Type 0 where
+  pub parameters : AreNames names
+  pub few : length places ≤ 65536
+  pub values : All (λ place. IsOver (length names) place.value) places
+
+-- a choice: no target stands twice, and each value is over so many parameters
+pub record IsChoice (count : ℕ) (choice : List Transition) : Type 0 where
+  pub distinct : AllPairs (λ a b. a.target ≢ b.target) choice
+  pub values : All (λ t. IsOver count t.value) choice
+
+-- a state: it has at most one choice where the model is no decision process
+pub record IsState (kind : Option Kind) (count : ℕ) (s : StateText) : Type 0 where
+  pub one : kind ≢ Some Mdp → length s.choices ≤ 1
+  pub choices : All (IsChoice count) s.choices
+
+-- the states, within the limits; each but the last one has a choice
+pub record AreStates (kind : Option Kind) (count : ℕ) (states : List StateText) : Type 0 where
+  pub few : length states ≤ 65536
+  pub choices : choice_count states ≤ 131072
+  pub transitions : transition_count states ≤ 262144
+  pub each : All (IsState kind count) states
+  pub closed : (front : List StateText) (s : StateText) → states ≡ front ++ s ∷ [] → All (λ t. 1 ≤ length t.choices) front
+
+-- what the lines without fault say; before the model begins there is no state
+pub record IsSound (said : Said) : Type 0 where
+  pub declared : IsDeclared said.header.names said.header.placeholders
+  pub states : AreStates said.header.kind (length said.header.names) said.states
+  pub before : said.header.phase ≢ phase.Model → said.states ≡ []

@@ -1,0 +1,38 @@
+// Numbers written in digits.
+ghost use Rattle.std.specs.Prelude.{◌≡◌, ◌^◌, true};
+ghost use Rattle.std.specs.List.{list_all};
+ghost use Rattle.std.specs.Char.{is_ascii_digit};
+ghost use Rattle.std.specs.Str.Parse.{digits_value};
+ghost use Rattle.lift_frac.specs.Parts.{capped};
+ghost use Rattle.drn_read.specs.Text.{is_digits};
+
+/// The least number that twenty digits don't write.
+const BEYOND_TWENTY: u128 = 100_000_000_000_000_000_000;
+
+fn are_digits(word: &[u8]) -> bool
+    ensures { result ≡ list_all is_ascii_digit word.now }
+{
+    word.iter().all(|byte| byte.is_ascii_digit())
+}
+
+/// Whether the word is one or more digits.
+pub(crate) fn is_digits(word: &[u8]) -> bool
+    ensures { result ≡ is_digits word.now }
+{
+    are_digits(word) && !word.is_empty()
+}
+
+/// The number that digits write, leading zeros included; none from 10^20 on. Linear.
+pub(crate) fn number_of(digits: &[u8]) -> Option<u128>
+    requires { list_all is_ascii_digit digits.now ≡ true }
+    ensures { result ≡ capped (10 ^ 20) (digits_value 10 digits.now) }
+{
+    let mut number = 0;
+    for digit in digits {
+        number = number * 10 + u128::from(*digit - b'0');
+        if number >= BEYOND_TWENTY {
+            return None;
+        }
+    }
+    Some(number)
+}
