@@ -54,7 +54,11 @@ fn next_target(model: &Model, looked: &mut [i64], state: u32) -> Option<u32>
     for a in u32::try_from(place / PLACES).unwrap_or(u32::MAX)..model.choices(state) {
         if let Some((number, target)) = next_in_row(model.row(state, a), looked, from) {
             let first = (a as usize).saturating_mul(PLACES);
-            mark(looked, state, first.saturating_add(number).saturating_add(1));
+            mark(
+                looked,
+                state,
+                first.saturating_add(number).saturating_add(1),
+            );
             return Some(target);
         }
         from = 0;

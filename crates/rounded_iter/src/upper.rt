@@ -30,14 +30,7 @@ fn times(number: i64, whole: i128) -> i128
 /// Raises the number of state `s` to the greatest weighted mean of its choice `a` over the corners of
 /// that row, rounded up, and tells whether it rose. A number that is `top`, as a goal state's is, can't
 /// rise.
-fn raise_choice(
-    case: &Case,
-    sides: &[i64],
-    top: i64,
-    lane: &mut [i64],
-    s: u32,
-    a: u32,
-) -> bool
+fn raise_choice(case: &Case, sides: &[i64], top: i64, lane: &mut [i64], s: u32, a: u32) -> bool
     requires case { IsCase case.now }
     requires sides { AreSidesInside case.now.root sides.now }
     requires top { top ≡ pos (2 ^ case.now.w) }

@@ -1,4 +1,4 @@
-use Rattle.std.proofs.Common.{◌≡◌, ℕ, ◌*◌, ◌%◌, ◌^◌, ◌≤◌, pos, to_z, w64, ap, ◌∙◌, arith}
+use Rattle.std.proofs.Common.{◌≡◌, ℕ, ◌*◌, ◌%◌, ◌^◌, pos, to_z, w64, ap, ◌∙◌, arith}
 use Rattle.lift_poly.proofs.Powers.{one_shifted}
 use Rattle.corner_lift.specs.Case.{CaseData, IsCase}
 use Rattle.rounded_iter.proofs.upper.least_upper.Goals as goal

@@ -2,7 +2,6 @@ use Rattle.std.proofs.Common.{rules, SFits, w64, ◌*ℤ◌, to_z, of_z, to_z-of
 use mir.Syntax.{w128}
 use Rattle.lift_poly.proofs.Ring.{linear, le_from_test}
 use Rattle.corner_lift.specs.Certificate.{number}
-use Rattle.corner_lift.specs.Case.{row_whole}
 use Rattle.rounded_iter.proofs.Raising.{Raises, same_number, lt_from_test, read_product, top_enough, greatest_enough, times_room, sum_least, sum_most, raised_below, raised_room}
 use Rattle.rounded_iter.proofs.upper.raise_choice.Goals as goal
 
