@@ -12,13 +12,13 @@ less_one-mul x c = rw (as_diff x, as_diff c) (simp diffs (diff-same _ _ _ _ (ome
 less_one_below : (x c a : ℤ) → (x *ℤ c) <ℤ (a +ℤ c) → ((x -ℤ pos 1) *ℤ c) <ℤ a
 less_one_below x c a h = rw less_one-mul (omega (arith, linear, h))
 
--- q is the quotient of sum by common, rounded up
-pub record IsCeiling (sum common : ℤ) (q : ℕ) : Type 0 where
+-- q is the quotient of sum by whole, rounded up
+pub record IsCeiling (sum whole : ℤ) (q : ℕ) : Type 0 where
   pub fits : q ≤ 2 ^ 40
-  pub enough : sum ≤ℤ (pos q *ℤ common)
-  pub least : ((pos q -ℤ pos 1) *ℤ common) <ℤ sum
+  pub enough : sum ≤ℤ (pos q *ℤ whole)
+  pub least : ((pos q -ℤ pos 1) *ℤ whole) <ℤ sum
 
-pub is_ceiling : (sum common : ℤ) (q : ℕ) → pos 0 ≤ℤ sum → pos 1 ≤ℤ common → sum ≤ℤ (pos (2 ^ 40) *ℤ common) → q ≡ div_ceil (nat_abs sum) (nat_abs common) → IsCeiling sum common q
+pub is_ceiling : (sum whole : ℤ) (q : ℕ) → pos 0 ≤ℤ sum → pos 1 ≤ℤ whole → sum ≤ℤ (pos (2 ^ 40) *ℤ whole) → q ≡ div_ceil (nat_abs sum) (nat_abs whole) → IsCeiling sum whole q
 is_ceiling (pos a) (pos b) q least positive most e =
     let bounds = div_ceil_times a b (omega (arith, linear)) in
     let below : q * b < (2 ^ 40 + 1) * b = rw e (omega (arith, linear, bounds.1)) in
@@ -28,12 +28,12 @@ is_ceiling (pos a) (pos b) q least positive most e =
       enough = rw e (omega (arith, linear, bounds.0));
       least = less_one_below (pos q) (pos b) (pos a) (rw e (omega (arith, linear, bounds.1)));
     }
-is_ceiling (negsuc a) common q least positive most e = absurd (omega (arith, linear))
+is_ceiling (negsuc a) whole q least positive most e = absurd (omega (arith, linear))
 is_ceiling (pos a) (negsuc b) q least positive most e = absurd (omega (arith, linear))
 
 -- the same, as the code computes it
-pub ceiling_of : (sum common : ℤ) (q : ℕ) → SFits w128 sum → SFits w64 common → pos 0 ≤ℤ sum → pos 1 ≤ℤ common → sum ≤ℤ (pos (2 ^ 40) *ℤ common) → q ≡ div_ceil (nat_abs (to_z w128 (of_z w128 sum))) (nat_abs (to_z w64 (of_z w64 common))) → IsCeiling sum common q
-ceiling_of sum common q sum_fits common_fits least positive most e = is_ceiling sum common q least positive most (simp to_z-of_z at e)
+pub ceiling_of : (sum whole : ℤ) (q : ℕ) → SFits w128 sum → SFits w128 whole → pos 0 ≤ℤ sum → pos 1 ≤ℤ whole → sum ≤ℤ (pos (2 ^ 40) *ℤ whole) → q ≡ div_ceil (nat_abs (to_z w128 (of_z w128 sum))) (nat_abs (to_z w128 (of_z w128 whole))) → IsCeiling sum whole q
+ceiling_of sum whole q sum_fits whole_fits least positive most e = is_ceiling sum whole q least positive most (simp to_z-of_z at e)
 
 pub small_fits : (q : ℕ) → q ≤ 2 ^ 40 → SFits w64 (pos q)
 small_fits q le = record { sfits = omega (arith, linear) }

@@ -1,31 +1,26 @@
 -- What the sweeps keep: a vector below every upper vector, which can only rise.
-use Rattle.std.specs.Prelude.{◌≡◌, ℕ, ◌+◌, ◌<◌, true, false, List, [], ◌∷◌, ℤ, pos, ◌-ℤ◌, ◌*ℤ◌, ◌≤ℤ◌, nat_abs, All, length, slice_index_or}
-use Rattle.lift_model.specs.Process.{weighted_sum}
-use Rattle.lift_model.specs.Chain.{ChainData}
-use Rattle.corner_lift.specs.Certificate.{number, AtMost}
+use Rattle.std.specs.Prelude.{◌≡◌, ℕ, ◌+◌, ◌<◌, ◌^◌, true, List, [], ◌∷◌, ℤ, pos, ◌-ℤ◌, ◌*ℤ◌, ◌≤ℤ◌, nat_abs, length}
+use Rattle.lift_grid.specs.Rectangle.{Spans}
+use Rattle.lift_model.specs.Model.{is_goal, choices, row_at}
+use Rattle.corner_lift.specs.Case.{CaseData}
+use Rattle.corner_lift.specs.Certificate.{number, AreNumbers, AtMost, IsUpper}
+use Rattle.corner_lift.specs.Corner.{AtCorners, corner_sum, whole}
 
--- one number from 0 to top for each state, and top on goal states
-pub record HasNumbers (c : ChainData) (top : ℤ) (x : List ℤ) : Type 0 where
-  pub positive : pos 0 ≤ℤ top
-  pub size : length x ≡ length c.states
-  pub range : All (λ n. (pos 0 ≤ℤ n) × (n ≤ℤ top)) x
-  pub goal : (s : ℕ) → slice_index_or c.goal s false ≡ true → number x s ≡ top
+-- one number from 0 to 2 ^ w for each state, 2 ^ w on goal states, and at most every upper vector
+pub record IsBelow (k : CaseData) (spans : Spans) (x : List ℤ) : Type 0 where
+  pub numbers : AreNumbers k.model k.w x
+  pub goal : (s : ℕ) → is_goal k.model s ≡ true → number x s ≡ pos (2 ^ k.w)
+  pub least : (y : List ℤ) → IsUpper k.model k.d spans k.w y → AtMost x y
 
--- the state's number is at least the weighted mean of its targets' numbers, multiplied out
-abbrev pub IsEnough : ChainData → List ℤ → ℕ → Type 0
-IsEnough c x s = weighted_sum (number x) (slice_index_or c.states s []) ≤ℤ (number x s *ℤ c.common)
+-- the state's number is at least the choice's weighted mean at each corner, multiplied out
+abbrev pub IsEnoughFor : CaseData → Spans → List ℤ → ℕ → ℕ → Type 0
+IsEnoughFor k spans x s a = let row = row_at k.model s a in AtCorners spans row (λ c. corner_sum k.d spans row c (number x) ≤ℤ (number x s *ℤ whole k.model k.d spans row))
 
--- the number of each state that is no goal state is enough
-pub record IsClosed (c : ChainData) (top : ℤ) (x : List ℤ) : Type 0 where
-  pub numbers : HasNumbers c top x
-  pub enough : (s : ℕ) → s < length c.states → slice_index_or c.goal s false ≡ false → IsEnough c x s
-
--- x has its numbers, and is at most every closed vector
-pub record IsBelow (c : ChainData) (top : ℤ) (x : List ℤ) : Type 0 where
-  pub numbers : HasNumbers c top x
-  pub least : (y : List ℤ) → IsClosed c top y → AtMost x y
+-- the state's number is enough for each of its choices
+abbrev pub IsEnough : CaseData → Spans → List ℤ → ℕ → Type 0
+IsEnough k spans x s = (a : ℕ) → a < length (choices k.model s) → IsEnoughFor k spans x s a
 
 -- by how much a vector can rise in all: the measure of the sweeps
-abbrev pub room : ℤ → List ℤ → ℕ
-room top [] = 0
-room top (n ∷ x) = nat_abs (top -ℤ n) + room top x
+abbrev pub room : ℕ → List ℤ → ℕ
+room w [] = 0
+room w (n ∷ x) = nat_abs (pos (2 ^ w) -ℤ n) + room w x

@@ -1,8 +1,8 @@
 use Rattle.rounded_iter.proofs.Ceilings.{IsCeiling, ceiling_of, small_fits, small_is}
 use Rattle.rounded_iter.proofs.upper.rounded_up.Goals as goal
 
-ceiling : (c : goal.After-div_ceil) → IsCeiling c.args.sum c.args.common c.div_ceil.result
-ceiling c = ceiling_of c.args.sum c.args.common c.div_ceil.result c.ranges.sum c.ranges.common c.requires.least c.requires.positive c.requires.most c.div_ceil.ensures
+ceiling : (c : goal.After-div_ceil) → IsCeiling c.args.sum c.args.whole c.div_ceil.result
+ceiling c = ceiling_of c.args.sum c.args.whole c.div_ceil.result c.ranges.sum c.ranges.whole c.requires.least c.requires.positive c.requires.most c.div_ceil.ensures
 
 pub overflow_cast-result : goal.overflow_cast-result
 overflow_cast-result c = small_fits c.div_ceil.result (ceiling c).fits

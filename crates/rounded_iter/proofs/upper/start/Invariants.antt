@@ -4,4 +4,4 @@ use Rattle.rounded_iter.proofs.upper.start.Given as goal
 
 -- the states below s were written
 abbrev pub invariant-loop-s : goal.invariant-loop-s
-invariant-loop-s l = (k : ℕ) → k < l.s → number l.lane k ≡ cond (slice_index_or l.chain.goal k false) l.top (pos 0)
+invariant-loop-s l = (i : ℕ) → i < l.s → number l.lane i ≡ cond (slice_index_or l.model.goal i false) l.top (pos 0)
