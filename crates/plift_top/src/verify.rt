@@ -20,6 +20,7 @@ use lift_base::{Sink, Source, read_all, write_buffered};
 use lift_cert::Bound;
 use lift_grid::{Grid, Rect};
 use lift_model::Model;
+use rounded_iter::least_upper;
 use std::alloc::{AllocError, Global};
 
 /// How many bytes a text may have.
@@ -48,10 +49,14 @@ fn case_of<'m>(model: &'m Model, root: &'m Rect, job: &Job) -> Case<'m>
 }
 
 // The least upper vector of a case on its root.
-fn upper_of(_alloc: Global, _case: &Case) -> Result<Vec<i64>, AllocError>
-    ensures { let k = _case.now in IfOk result (λ x. IsLeastUpper k.model k.d k.root k.w x.items) }
+fn upper_of(alloc: Global, case: &Case) -> Result<Vec<i64>, AllocError>
+    ensures { let k = case.now in IfOk result (λ x. IsLeastUpper k.model k.d k.root k.w x.items) }
 {
-    Err(AllocError)
+    let states = case.model().states() as usize;
+    let mut lane = vec![in alloc; 0; states]?;
+    let mut order = vec![in alloc; 0; states]?;
+    least_upper(case, case.root().sides(), &mut lane, &mut order);
+    Ok(lane)
 }
 
 // Whether the number of a state is within the bound.
