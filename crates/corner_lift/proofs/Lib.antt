@@ -1,5 +1,4 @@
 pub mod Rows
-pub mod Uppers
 pub mod CornerBound
 pub mod RowBound
 pub mod Coefficients

@@ -2,14 +2,12 @@
 #![tactic(auto)]
 
 mod case;
-mod chain_row;
 mod ends;
 mod laws;
 mod row;
 mod weighted;
 
 pub use case::Case;
-pub use chain_row::chain_row_value;
 pub use laws::corners_bound_weights;
 pub use row::{raw_weight, row_max, row_min, row_value, weight_into, whole};
 

@@ -1,5 +1,5 @@
 -- Weighted sums over the moves of a choice.
-use Rattle.std.proofs.Common.{ℕ, zero, suc, List, [], ◌∷◌, drop, ℤ, pos, ◌≤ℤ◌, arith}
+use Rattle.std.proofs.Common.{◌≡◌, ◌&&◌, ℕ, zero, suc, Bool, true, false, refl, List, [], ◌∷◌, drop, ℤ, pos, ◌≤ℤ◌, arith}
 use Rattle.std.specs.List.{AllByRecursion}
 use Rattle.lift_poly.proofs.Ring.{linear, mul-le, mul-nonneg}
 use Rattle.lift_model.specs.Process.{Move, weighted_sum}
@@ -21,3 +21,9 @@ pub AreNonNegative-drop : (moves : List Move) (k : ℕ) → AreNonNegative moves
 AreNonNegative-drop moves zero h = h
 AreNonNegative-drop [] (suc k) h = h
 AreNonNegative-drop (move ∷ moves) (suc k) h = AreNonNegative-drop moves k h.1
+
+-- ---- two tests
+
+pub both : (a b : Bool) → (a && b) ≡ true → (a ≡ true) × (b ≡ true)
+both true b e = (refl, e)
+both false b e = cc

@@ -4,4 +4,3 @@ pub mod Reach
 pub mod Pick
 pub mod Model
 pub mod Valid
-pub mod Chain

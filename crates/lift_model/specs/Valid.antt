@@ -4,7 +4,6 @@ use Rattle.lift_poly.specs.Polynomial.{IsPolynomial}
 use Rattle.lift_model.specs.declared.kind.Kind.TheVariants.{Dtmc}
 use Rattle.lift_model.specs.declared.entry.Entry.{Entry}
 use Rattle.lift_model.specs.Model.{ModelData}
-use Rattle.lift_model.specs.Chain.{ChainData, is_chain, chain_model}
 
 -- an entry, among so many states and parameters: its sets name declared parameters only, and each coefficient's size is below 2 ^ 100
 pub record IsEntry (states parameters : ℕ) (entry : Entry) : Type 0 where
@@ -31,7 +30,3 @@ pub record IsModel (m : ModelData) : Type 0 where
   pub rows : All (All (IsRow (length m.states) (length m.names))) m.states
   pub choices : sum_by length m.states ≤ 131072
   pub transitions : sum_by (sum_by length) m.states ≤ 262144
-
--- every chain is a valid model
-abbrev pub ChainsAreModels : Type 0
-ChainsAreModels = (c : ChainData) → is_chain c ≡ true → IsModel (chain_model c)

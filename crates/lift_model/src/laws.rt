@@ -1,5 +1,4 @@
 ghost use Rattle.lift_model.specs.Pick.{FitsPick, PicksFit, PicksReach};
-ghost use Rattle.lift_model.specs.Valid.{ChainsAreModels};
 
 /// Holds the laws of schedulers that don't toss, for who reasons about them: the plans over 1 are
 /// those that pick a choice for each history, and such a plan reaches what its choices reach. It does
@@ -8,9 +7,4 @@ pub fn plans_over_one_pick()
     ensures fits { PicksFit }
     ensures picks { FitsPick }
     ensures reach { PicksReach }
-{}
-
-/// Holds the law that every chain is a valid model. It does nothing.
-pub fn chains_are_models()
-    ensures { ChainsAreModels }
 {}

@@ -16,7 +16,7 @@ use Rattle.lift_grid.specs.Rectangle.{Spans, AreSpans, IsOnGrid, spans_of, sides
 use Rattle.lift_model.specs.declared.entry.Entry.{Entry}
 use Rattle.lift_model.specs.Model.{ModelData}
 use Rattle.lift_model.specs.Valid.{IsEntry, IsRow, IsModel}
-use Rattle.lift_model.proofs.Chains.{both}
+use Rattle.lift_model.proofs.Sums.{both}
 use Rattle.corner_lift.specs.Case.{CaseData, IsCase, IsAdmittedRow, Within, AreSidesInside, abs_sum, row_coefficient}
 use Rattle.plift_top.specs.Built.{is_dtmc, is_distribution, is_built}
 use Rattle.plift_top.proofs.Distributions.{other}

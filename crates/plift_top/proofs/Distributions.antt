@@ -6,7 +6,7 @@ use Rattle.std.proofs.lemmas.Bool.Decides.{Decides-int_eq}
 use Rattle.lift_poly.specs.Arithmetic.{coefficient}
 use Rattle.lift_poly.proofs.Ring.{linear, le_from_test, test_from_le}
 use Rattle.lift_model.specs.declared.entry.Entry.{Entry}
-use Rattle.lift_model.proofs.Chains.{both}
+use Rattle.lift_model.proofs.Sums.{both}
 use Rattle.corner_lift.specs.Case.{row_coefficient}
 use Rattle.plift_top.specs.Built.{is_distribution}
 
