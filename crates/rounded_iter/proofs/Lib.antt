@@ -1,3 +1,4 @@
 pub mod Ceilings
 pub mod Widths
 pub mod Raising
+pub mod Samples
