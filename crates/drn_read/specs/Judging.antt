@@ -100,9 +100,11 @@ header_fault h line = elim h.phase [
 
 -- ---- lines of the model
 
+-- how many choices the states have
 abbrev pub choice_count : List StateText → ℕ
 choice_count states = sum_by (λ s. length s.choices) states
 
+-- how many transitions the states have
 abbrev pub transition_count : List StateText → ℕ
 transition_count states = sum_by (λ s. sum_by length s.choices) states
 

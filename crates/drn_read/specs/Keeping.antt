@@ -29,10 +29,11 @@ headed_with h line after = if is_head line then with_head h (content line) else 
 abbrev pub with_names : Header → List ℕ → Header
 with_names h line = record h { phase = phase.Sections; names = h.names ++ map (λ word. word.bytes) (words line) }
 
--- behind the number of states, or of choices
+-- behind the number of states
 abbrev pub with_state_count : Header → List ℕ → Header
 with_state_count h line = record h { phase = phase.Sections; state_count = Some (digits_value 10 line) }
 
+-- behind the number of choices
 abbrev pub with_choice_count : Header → List ℕ → Header
 with_choice_count h line = record h { phase = phase.Sections; choice_count = Some (digits_value 10 line) }
 

@@ -42,6 +42,7 @@ section_number NrChoices = 5
 section_number Placeholders = 6
 section_number Model = 7
 
+-- the two sections are the same one
 abbrev pub is_same : Section → Section → Bool
 is_same a b = section_number a == section_number b
 
@@ -156,6 +157,7 @@ pub record Header : Type 0 where
 abbrev pub section_in : Part TextLine → List Section
 section_in part = elim (section_at part) [ Some s ↦ s ∷ [] | None ↦ [] ]
 
+-- what these sections say, taken together
 abbrev pub header : List (Part TextLine) → Header
 header parts = record {
   phase = phase_behind parts;

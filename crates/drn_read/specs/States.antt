@@ -27,6 +27,7 @@ use Rattle.drn_read.specs.declared.state.Transition.{Transition}
 abbrev pub is_transition : List ℕ → Bool
 is_transition line = first_passes is_ascii_digit line
 
+-- the digits that a transition's line begins with: its target
 abbrev pub target_text : List ℕ → List ℕ
 target_text line = take_while is_ascii_digit line
 
@@ -58,6 +59,7 @@ pub record ModelLine : Type 0 where
   pub line : TextLine
   pub value : Result OverOne DrnCause
 
+-- the line, with the value that it has over these names and placeholders
 abbrev pub model_line : List (List ℕ) → List Placeholder → TextLine → ModelLine
 model_line names places line = record { line = line; value = entry_value names places (content line) }
 
@@ -70,10 +72,11 @@ abbrev pub begins_with : List ℕ → List (Piece WordKind) → Bool
 begins_with name [] = false
 begins_with name (w ∷ ws) = bytes_eq w.bytes name
 
--- a line `state ID` with labels begins a state, and a line `action` a choice
+-- a line `state ID` with labels begins a state
 abbrev pub is_state : ModelLine → Bool
 is_state l = begins_with (codes "state") (words (content l.line))
 
+-- a line `action` begins a choice
 abbrev pub is_action : ModelLine → Bool
 is_action l = begins_with (codes "action") (words (content l.line))
 
@@ -107,6 +110,7 @@ pub record StateText : Type 0 where
   pub goal : Bool
   pub choices : List (List Transition)
 
+-- the state that a part of the model is, for a goal's label
 abbrev pub state : List ℕ → Part ModelLine → StateText
 state label part = record {
   line = part.head.line.number;
