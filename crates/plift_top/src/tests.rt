@@ -64,8 +64,16 @@ fn words(alloc: Global, line: &str, separator: char) -> Result<Vec<String>, Fail
     Ok(words)
 }
 
-// Each line: the words, the text, the status, how the output ends (nothing where it is empty), and the notes.
-const RUNS: [(&str, &str, Status, &str, &str); 34] = [
+// A run: the words, the text, the status, how the output ends (nothing where it is empty), and the notes.
+type Run = (
+    &'static str,
+    &'static str,
+    Status,
+    &'static str,
+    &'static str,
+);
+
+const DECIDED: [Run; 9] = [
     (HALF, PLAIN, Status::Done, PLAIN_REPORT, ""),
     (
         "verify --precision 4 --bound 2/4 --depth 0 --goal heads",
@@ -123,6 +131,9 @@ const RUNS: [(&str, &str, Status, &str, &str); 34] = [
         "\ndepth 5\ngrid 32\nbox\naccept 4 16 0\n",
         "",
     ),
+];
+
+const REFUSED: [Run; 25] = [
     (HALF, COIN, Status::ModelRefused, "", "model: unbuilt\n"),
     (HALF, TWIN, Status::ModelRefused, "", "model: unbuilt\n"),
     (HALF, LESS, Status::ModelRefused, "", "model: unbuilt\n"),
@@ -264,24 +275,39 @@ const RUNS: [(&str, &str, Status, &str, &str); 34] = [
     ),
 ];
 
+// Whether the words and the text of a run give what stands beside them.
+fn is_answered(alloc: Global, run_of: Run) -> Result<bool, Fail> {
+    let (line, text, status, end, told) = run_of;
+    let mut source = SureSource::new(Vec::from_slice(alloc, text.as_bytes())?);
+    let mut out = MemSink::new(alloc, 1000, 1000, Vec::new(alloc))?;
+    let mut notes = MemSink::new(alloc, 100, 3, Vec::new(alloc))?;
+    let got = run(
+        alloc,
+        &words(alloc, line, ' ')?,
+        &mut source,
+        &mut out,
+        &mut notes,
+    );
+    Ok(
+        got == status
+            && out.taken().ends_with(end.as_bytes())
+            && end.is_empty() == out.taken().is_empty()
+            && notes.taken() == told.as_bytes(),
+    )
+}
+
 #[test]
-fn the_first_path_answers(rt: HostRuntime) -> Result<(), Fail> {
-    let alloc = rt.alloc();
-    for (line, text, status, end, told) in RUNS {
-        let mut source = SureSource::new(Vec::from_slice(alloc, text.as_bytes())?);
-        let mut out = MemSink::new(alloc, 1000, 1000, Vec::new(alloc))?;
-        let mut notes = MemSink::new(alloc, 100, 3, Vec::new(alloc))?;
-        let got = run(
-            alloc,
-            &words(alloc, line, ' ')?,
-            &mut source,
-            &mut out,
-            &mut notes,
-        );
-        assert!(rt; got == status, "{line}");
-        assert!(rt; out.taken().ends_with(end.as_bytes()), "{line}");
-        assert!(rt; end.is_empty() == out.taken().is_empty(), "{line}");
-        assert!(rt; notes.taken() == told.as_bytes(), "{line}");
+fn models_are_decided(rt: HostRuntime) -> Result<(), Fail> {
+    for row in DECIDED {
+        assert!(rt; is_answered(rt.alloc(), row)?, "{}", row.0);
+    }
+    Ok(())
+}
+
+#[test]
+fn refusals_are_told(rt: HostRuntime) -> Result<(), Fail> {
+    for row in REFUSED {
+        assert!(rt; is_answered(rt.alloc(), row)?, "{} on {}", row.0, row.1);
     }
     Ok(())
 }
