@@ -12,7 +12,7 @@ use mir.Syntax.{w128}
 use Rattle.lift_poly.specs.Polynomial.{Term, Valuation, weight, denominator}
 use Rattle.lift_poly.specs.Arithmetic as polynomial
 use Rattle.lift_poly.proofs.Ring.{linear, mul-comm, mul-assoc, mul-zero, zero-mul, one-mul, mul-le, as_diff, diffs, diff-same}
-use Rattle.lift_grid.specs.Rectangle.{Spans, AreSpans, spans_of}
+use Rattle.lift_grid.specs.Rectangle.{Spans, AreSpans, Inside, spans_of}
 use Rattle.lift_model.specs.declared.entry.Entry.{Entry}
 use Rattle.lift_model.specs.Process.{Move, power, weighted_sum}
 use Rattle.lift_model.specs.Model.{ModelData, support, choices, row_at, moves_at}
@@ -156,6 +156,10 @@ poly_between d positive ss spans set terms low high part lower upper v inside =
 
 -- ---- weights at the corners of rectangles inside the root
 
+pub moves_least : (v : Valuation) (entries : List Entry) → All (λ entry. pos 0 ≤ℤ weight v entry.poly) entries → AreNonNegative (moves_at v entries)
+moves_least v [] h = tt
+moves_least v (e ∷ entries) h = let least : Entry → Type 0 = λ entry. pos 0 ≤ℤ weight v entry.poly in (All-head least e entries h, moves_least v entries (All-tail least e entries h))
+
 module _ (k : CaseData) (row : List Entry) (ss : Spans) (positive : pos 0 <ℤ k.d) (root : AreSpans k.root) (spans : AreSpans ss) (within : Within ss k.root) (admitted : IsAdmittedRow k.model k.d k.root k.w row) where
   -- no weight is negative
   pub corner_least : (c : ℕ) → All (λ entry. pos 0 ≤ℤ weight (corner k.d ss (support row) c) entry.poly) row
@@ -167,15 +171,20 @@ module _ (k : CaseData) (row : List Entry) (ss : Spans) (positive : pos 0 <ℤ k
       (corner-inside k.d positive ss k.root spans within (support row) c) in
       omega (arith, linear, bound, zero-mul (denominator v))
 
+  -- nor is one at a valuation inside
+  pub inside_least : (v : Valuation) → Inside k.d ss v → All (λ entry. pos 0 ≤ℤ weight v entry.poly) row
+  inside_least v inside i d lt =
+      let entry = get_or row i d in
+      let bound = poly_lower k.d positive ss spans (support row) entry.poly (pos 0) (entry_part row i d lt)
+      (λ c at. omega (arith, linear, corner_least c i d lt, zero-mul (power k.d (width ss (support row))))) v
+      (Inside-on k.d ss (support row) v inside) in
+      omega (arith, linear, bound, zero-mul (denominator v))
+
   -- a row's weights sum to the whole
   pub corner_total : (c : ℕ) → row_sum (corner k.d ss (support row) c) (λ s. pos 1) row ≡ whole k.model k.d k.root row
   corner_total c =
       row_total k.model.common row admitted.sum (corner k.d ss (support row) c)
       ∙ ap (λ z. k.model.common *ℤ z) (denominator-corner k.d ss (support row) c ∙ ap (power k.d) (width-within ss k.root (support row) within))
-
-  moves_least : (v : Valuation) (entries : List Entry) → All (λ entry. pos 0 ≤ℤ weight v entry.poly) entries → AreNonNegative (moves_at v entries)
-  moves_least v [] h = tt
-  moves_least v (e ∷ entries) h = let least : Entry → Type 0 = λ entry. pos 0 ≤ℤ weight v entry.poly in (All-head least e entries h, moves_least v entries (All-tail least e entries h))
 
   pub corner_moves : (c : ℕ) → AreNonNegative (moves_at (corner k.d ss (support row) c) row)
   corner_moves c = moves_least (corner k.d ss (support row) c) row (corner_least c)
@@ -226,15 +235,18 @@ grid_below : (d : ℤ) (ss : Spans) → unsigned_abs d ≤ greatest_size d ss
 grid_below d [] = le_refl (unsigned_abs d)
 grid_below d (s ∷ ss) = omega (arith, grid_below d ss)
 
--- the whole, factor by factor, stays below 2 ^ 126
-pub whole_room : (m : ModelData) (d : ℤ) (root : Spans) (w : ℕ) (row : List Entry) → IsAdmittedRow m d root w row → unsigned_abs m.common * unsigned_abs d ^ width root (support row) < 2 ^ 126
-whole_room m d root w row admitted =
+-- the whole's factors and a number of at most 2 ^ w
+number_room_of : (m : ModelData) (d : ℤ) (root : Spans) (w : ℕ) (row : List Entry) (n : ℕ) → n ≤ 2 ^ w → IsAdmittedRow m d root w row → unsigned_abs m.common * unsigned_abs d ^ width root (support row) * n < 2 ^ 126
+number_room_of m d root w row n le admitted =
     let g = width root (support row) in
     let first : unsigned_abs m.common ≤ abs_sum row = subst (λ z. unsigned_abs z ≤ abs_sum row) (admitted.sum 0) (row_coefficient_size row) in
     let second : unsigned_abs d ^ g ≤ greatest_size d root ^ g = power-le (unsigned_abs d) (greatest_size d root) g (grid_below d root) in
-    let both : unsigned_abs m.common * unsigned_abs d ^ g ≤ abs_sum row * greatest_size d root ^ g = mul-le-mul first second in
-    let more : abs_sum row * greatest_size d root ^ g * 1 ≤ abs_sum row * greatest_size d root ^ g * 2 ^ w = mul-le-mul_left (abs_sum row * greatest_size d root ^ g) (pow_pos w) in
-    omega (arith, both, more, admitted.narrow)
+    let all : unsigned_abs m.common * unsigned_abs d ^ g * n ≤ abs_sum row * greatest_size d root ^ g * 2 ^ w = mul-le-mul (mul-le-mul first second) le in
+    omega (arith, all, admitted.narrow)
+
+-- the whole, factor by factor, stays below 2 ^ 126
+pub whole_room : (m : ModelData) (d : ℤ) (root : Spans) (w : ℕ) (row : List Entry) → IsAdmittedRow m d root w row → unsigned_abs m.common * unsigned_abs d ^ width root (support row) < 2 ^ 126
+whole_room m d root w row admitted = let room = number_room_of m d root w row 1 (pow_pos w) admitted in omega (arith, room)
 
 -- what the loop of a power keeps, with the factors that are left
 pub record IsRaised (d all product : ℤ) (left : ℕ) : Type 0 where
@@ -277,6 +289,12 @@ power-size first d n = unsigned_abs-mul first (power d n) ∙ ap (λ k. unsigned
     size : (n : ℕ) → unsigned_abs (power d n) ≡ unsigned_abs d ^ n
     size zero = sym (pow-zero (unsigned_abs d))
     size (suc n) = unsigned_abs-mul d (power d n) ∙ ap (λ k. unsigned_abs d * k) (size n) ∙ mul_comm (unsigned_abs d) (unsigned_abs d ^ n) ∙ sym (pow-suc (unsigned_abs d) n)
+
+-- a number of at most 2 ^ w, times the whole
+pub number_room : (m : ModelData) (d : ℤ) (root : Spans) (w : ℕ) (row : List Entry) (n : ℕ) → n ≤ 2 ^ w → IsAdmittedRow m d root w row → n * unsigned_abs (whole m d root row) < 2 ^ 126
+number_room m d root w row n le admitted =
+    let room = number_room_of m d root w row n le admitted in
+    rw (power-size m.common d (width root (support row)), mul_comm n (unsigned_abs m.common * unsigned_abs d ^ width root (support row))) room
 
 -- the same of a row that the code has
 pub row_in_case : (k : CaseData) (m : ModelData) (row : List Entry) (s a : ℕ) → m ≡ k.model → row ≡ row_at m s a → IsCase k → s < length k.model.states → a < length (choices k.model s) → IsRowOf k row

@@ -16,10 +16,9 @@ use Rattle.corner_lift.specs.Corner.{corner, width}
 use Rattle.corner_lift.specs.Case.{CaseData, IsCase, IsAdmittedRow, Within}
 use Rattle.corner_lift.specs.Certificate.{number, IsUpper, IsAccepting, IsLeastUpper}
 use Rattle.corner_lift.proofs.Rows.{number_range}
-use Rattle.corner_lift.proofs.CornerBound.{CornersNonpos, Inside-on, corner_bound}
-use Rattle.corner_lift.proofs.RowBound.{TermsIn-more, TermsIn-scaled, terms_in, scaled, weight-scaled_by, minus-one, row_upper}
-use Rattle.corner_lift.proofs.Summing.{entry_part}
-use Rattle.corner_lift.proofs.Cases.{corner_least}
+use Rattle.corner_lift.proofs.CornerBound.{Inside-on}
+use Rattle.corner_lift.proofs.RowBound.{row_upper}
+use Rattle.corner_lift.proofs.Cases.{moves_least, inside_least}
 use Rattle.lift_cert.specs.declared.bound.Bound.{Bound}
 use Rattle.lift_cert.specs.Bounded.{IsBoundedAt}
 use Rattle.lift_cert.proofs.Inductive.{IsInductive, reach_bound, power-least}
@@ -67,29 +66,8 @@ denominator-least d (s ∷ ss) (x ∷ v) h = mul-nonneg x.1 (denominator v) (ome
 denominator-least d [] (x ∷ v) h = absurd h
 denominator-least d (s ∷ ss) [] h = absurd h
 
-times-minus : (a : ℤ) → a *ℤ neg_ℤ (pos 1) ≡ neg_ℤ a
-times-minus a = mul-comm a (neg_ℤ (pos 1)) ∙ minus-one a
-
 -- a valuation inside a rectangle of a case
 module _ (k : CaseData) (is : IsCase k) (ss : Spans) (spans : AreSpans ss) (within : Within ss k.root) (v : Valuation) (inside : Inside k.d ss v) where
-  -- no entry of an admitted row weighs less than 0
-  entry_least : (row : List Entry) → IsAdmittedRow k.model k.d k.root k.w row → All (λ entry. pos 0 ≤ℤ weight v entry.poly) row
-  unfolding CornersNonpos
-  entry_least row admitted i d lt =
-      let terms = (get_or row i d).poly in
-      let one : ℤ = neg_ℤ (pos 1) in
-      let part = TermsIn-more (polynomial.support terms) (support row) terms (entry_part row i d lt) (terms_in terms) in
-      let corners : CornersNonpos k.d ss (support row) (scaled one terms) =
-      λ c at. let c_v = corner k.d ss (support row) c in
-      let least : pos 0 ≤ℤ weight c_v terms = corner_least k row ss is.grid.positive is.spans spans within admitted c i d lt in
-      omega (arith, linear, least, weight-scaled_by c_v one terms, times-minus (weight c_v terms)) in
-      let below = corner_bound k.d is.grid.positive ss (support row) (scaled one terms) v (TermsIn-scaled (support row) one terms part) spans corners (Inside-on k.d ss (support row) v inside) in
-      omega (arith, linear, below, weight-scaled_by v one terms, times-minus (weight v terms))
-
-  moves_least : (row : List Entry) → All (λ entry. pos 0 ≤ℤ weight v entry.poly) row → AreNonNegative (moves_at v row)
-  moves_least [] h = tt
-  moves_least (e ∷ row) h = let least : Entry → Type 0 = λ entry. pos 0 ≤ℤ weight v entry.poly in (All-head least e row h, moves_least row (All-tail least e row h))
-
   -- an upper vector of the rectangle is inductive at each valuation inside
   pub upper_inductive : (x : List ℤ) → IsUpper k.model k.d ss k.w x → IsInductive (process_at k.model v) (pos (2 ^ k.w)) (number x)
   upper_inductive x upper =
@@ -101,7 +79,7 @@ module _ (k : CaseData) (is : IsCase k) (ss : Spans) (spans : AreSpans ss) (with
         goal = upper.goal;
         weights =
             λ s. at_place (λ rows. AllByRecursion AreNonNegative (map (moves_at v) rows)) k.model.states s tt
-            (λ i d lt. all_moves AreNonNegative v (get_or k.model.states i d) (λ a r at. let row = get_or (get_or k.model.states i d) a r in moves_least row (entry_least row (is.rows i d lt a r at))));
+            (λ i d lt. all_moves AreNonNegative v (get_or k.model.states i d) (λ a r at. let row = get_or (get_or k.model.states i d) a r in moves_least v row (inside_least k row ss is.grid.positive is.spans spans within (is.rows i d lt a r at) v inside)));
         means =
             λ s e. let top = number x s in
             all_moves (λ moves. weighted_sum (number x) moves ≤ℤ (top *ℤ process.total)) v (choices k.model s)

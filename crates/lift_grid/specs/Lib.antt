@@ -2,3 +2,4 @@ pub mod Rectangle
 pub mod Tree
 pub mod Region
 pub mod Parts
+pub mod Faults

@@ -1,4 +1,5 @@
 ghost use Rattle.std.specs.Prelude.{◌≡◌};
+ghost use Rattle.lift_grid.specs.Faults.{error_name};
 ghost use Rattle.lift_grid.specs.declared.error.RegionError.TheVariants.{Memory};
 
 use std::alloc::{AllocError, AllocFailed};
@@ -28,6 +29,23 @@ pub enum RegionError {
     /// Memory ran out.
     #[error("out of memory")]
     Memory = 7,
+}
+
+impl RegionError {
+    /// The name of the variant, as a note tells it.
+    pub fn name(self) -> &'static str
+        ensures { result.now ≡ error_name self }
+    {
+        match self {
+            RegionError::Syntax => "Syntax",
+            RegionError::UnknownName => "UnknownName",
+            RegionError::Repeated => "Repeated",
+            RegionError::Missing => "Missing",
+            RegionError::EmptyInterval => "EmptyInterval",
+            RegionError::Wide => "Wide",
+            RegionError::Memory => "Memory",
+        }
+    }
 }
 
 impl From<AllocError> for RegionError {

@@ -125,7 +125,7 @@ impl Model {
     }
 
     /// The set of the parameters that occur in some row, also of a goal state. Linear in the number
-    /// of terms.
+    /// of choices.
     pub fn live(&self) -> u16
         ensures { result ≡ live self.now }
     {

@@ -1,4 +1,3 @@
 pub mod Ceilings
-pub mod Widths
 pub mod Raising
 pub mod Samples

@@ -15,9 +15,8 @@ use Rattle.corner_lift.specs.Certificate.{number, IsUpper, IsLeastUpper}
 use Rattle.corner_lift.specs.Corner.{AtCorners, corner, corner_sum, whole, width}
 use Rattle.corner_lift.specs.Case.{CaseData, IsCase, AreSidesInside, IsAdmittedRow, IsGreatest, row_value, row_whole, corner_count}
 use Rattle.corner_lift.proofs.Rows.{in_or_past, number_range}
-use Rattle.corner_lift.proofs.Cases.{admitted_row, corner_sum_range, corner_moves, width-within, number_size}
+use Rattle.corner_lift.proofs.Cases.{admitted_row, corner_sum_range, corner_moves, width-within, number_size, number_room}
 use Rattle.rounded_iter.specs.Rising.{IsEnough, IsEnoughFor, IsBelow, room}
-use Rattle.rounded_iter.proofs.Widths.{number_room}
 
 abbrev Within : ℕ → ℤ → Type 0
 Within w n = (pos 0 ≤ℤ n) × (n ≤ℤ pos (2 ^ w))
