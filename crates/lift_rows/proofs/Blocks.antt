@@ -1,0 +1,168 @@
+-- Sums of a row's coefficients, a block of 256 sets at a time.
+use Rattle.std.proofs.Common.{◌≡◌, ◌≢◌, ℕ, zero, suc, ◌+◌, ◌-◌, ◌*◌, ◌/◌, ◌%◌, ◌^◌, ◌<◌, ◌≤◌, List, [], ◌∷◌, length, drop, get_or, set, Option, None, Some, is_some, slice_get, true, false, ne_eqb, ℤ, pos, ◌+ℤ◌, unsigned_abs, All, FitsSigned, ⊎_elim, bit_or, refl, sym, ap, ap₂, subst, ◌∙◌, arith, drop-cons}
+use Rattle.std.specs.Prelude.{MatchOption}
+use Rattle.std.proofs.lemmas.Bool.{cases_eq, cases_lt}
+use lib.Bits.{or_self}
+use Rattle.std.proofs.lemmas.Int.{fits_signed_from_abs, ints}
+use Rattle.std.proofs.lemmas.List.{get_or-set_same, get_or-set_other}
+use Rattle.std.proofs.lemmas.List.Elements.{All-head, All-tail}
+use Rattle.std.proofs.lemmas.Nat.{or_shr, le_or_l}
+use Rattle.std.proofs.lemmas.Option.{get_or_from_slice_get, slice_get_within}
+use mir.Syntax.{w128}
+use Rattle.lift_poly.specs.Polynomial.{Term}
+use Rattle.lift_poly.specs.Arithmetic as polynomial
+use Rattle.lift_poly.specs.Arithmetic.{coefficient}
+use Rattle.lift_poly.specs.MultiAffine.{IsMultiAffine}
+use Rattle.lift_poly.proofs.Canonical.{Canonical, canonical_from_polynomial, coefficient-here, coefficient-other, coefficient_below}
+use Rattle.lift_poly.proofs.Ring.{linear}
+use Rattle.lift_model.specs.declared.entry.Entry.{Entry}
+use Rattle.lift_model.specs.Model.{support}
+use Rattle.corner_lift.specs.Case.{row_coefficient}
+use Rattle.corner_lift.proofs.RowBound.{PartOf, PartOf-first, PartOf-second, PartOf-trans}
+use Rattle.lift_rows.specs.Fault.{due, HasSums, IsSumFault}
+use Rattle.lift_rows.specs.Sums.{IsFirstWrong}
+
+-- ---- the terms of a polynomial
+
+-- the coefficient's size is below 2 ^ 100
+abbrev pub IsSmall : Term → Type 0
+IsSmall term = unsigned_abs term.1 < 2 ^ 100
+
+-- at most one term has a given set, so the terms that are left sum to a coefficient or to 0 there
+left_small : (at low k : ℕ) (ts : List Term) → Canonical low ts → All IsSmall ts → unsigned_abs (coefficient at (drop k ts)) < 2 ^ 100
+left_small at low zero [] h small = omega arith
+left_small at low (suc k) [] h small = omega arith
+left_small at low zero (t ∷ ts) h small =
+    let size = All-head IsSmall t ts small in
+    ⊎_elim
+    (λ (e : t.0 ≡ at). omega (arith, ints, size, coefficient-here at t ts e, coefficient_below at (suc t.0) ts h.2 (omega arith)))
+    (λ (e : t.0 ≡ at → ⊥). rw (coefficient-other at t ts e) (left_small at (suc t.0) zero ts h.2 (All-tail IsSmall t ts small)))
+    (cases_eq t.0 at)
+left_small at low (suc k) (t ∷ ts) h small = left_small at (suc t.0) k ts h.2 (All-tail IsSmall t ts small)
+
+pub coefficient_small : (ts : List Term) → IsMultiAffine ts → All IsSmall ts → (at : ℕ) → unsigned_abs (coefficient at ts) < 2 ^ 100
+coefficient_small ts fits small at = left_small at 0 zero ts (canonical_from_polynomial ts fits.polynomial) small
+
+-- a loop's step: one term more
+module _ (ts : List Term) (k : ℕ) (t : Term) (is : slice_get ts k ≡ Some t) where
+  terms_left : drop k ts ≡ t ∷ drop (k + 1) ts
+  terms_left =
+      drop-cons ts k t (slice_get_within ts k t is)
+      ∙ ap₂ (λ (x : Term) (j : ℕ). x ∷ drop j ts) (get_or_from_slice_get ts k t t is) (let e : suc k ≡ k + 1 = omega arith in e)
+
+  added_here : (at : ℕ) (sum whole : ℤ) → t.0 ≡ at → sum +ℤ coefficient at (drop k ts) ≡ whole → (sum +ℤ t.1) +ℤ coefficient at (drop (k + 1) ts) ≡ whole
+  added_here at sum whole e h = omega (arith, linear, h, ap (coefficient at) terms_left, coefficient-here at t (drop (k + 1) ts) e)
+
+  -- at any other set nothing is added
+  pub left_out : (at : ℕ) (sum whole : ℤ) → t.0 ≢ at → sum +ℤ coefficient at (drop k ts) ≡ whole → sum +ℤ coefficient at (drop (k + 1) ts) ≡ whole
+  left_out at sum whole ne h = omega (arith, linear, h, ap (coefficient at) terms_left, coefficient-other at t (drop (k + 1) ts) ne)
+
+  module _ (block : ℕ) (at : t.0 / 256 ≡ block) where
+    set_is : t.0 ≡ block * 256 + t.0 % 256
+    set_is = omega arith
+
+    -- with the term, the sum fits
+    pub term_fits : (sum before : ℤ) → IsMultiAffine ts → All IsSmall ts → unsigned_abs before < 2 ^ 119 → sum +ℤ coefficient (block * 256 + t.0 % 256) (drop k ts) ≡ before +ℤ coefficient (block * 256 + t.0 % 256) ts → FitsSigned w128 (sum +ℤ t.1)
+    term_fits sum before fits small room h =
+        let at = block * 256 + t.0 % 256 in
+        fits_signed_from_abs w128 (sum +ℤ t.1)
+        (omega (arith, ints, room, added_here at sum (before +ℤ coefficient at ts) set_is h, coefficient_small ts fits small at, left_small at 0 (k + 1) ts (canonical_from_polynomial ts fits.polynomial) small))
+
+    -- the term is added to the sum at its set, and to no other
+    pub added_in : (sums : List ℤ) (j : ℕ) (whole : ℤ) → t.0 % 256 < length sums → j < 256 → get_or sums j (pos 0) +ℤ coefficient (block * 256 + j) (drop k ts) ≡ whole
+        → get_or (set sums (t.0 % 256) (get_or sums (t.0 % 256) (pos 0) +ℤ t.1)) j (pos 0) +ℤ coefficient (block * 256 + j) (drop (k + 1) ts) ≡ whole
+    added_in sums j whole within lt h =
+        ⊎_elim
+        (λ (e : j ≡ t.0 % 256). rw (e, get_or-set_same) (added_here (block * 256 + t.0 % 256) (get_or sums (t.0 % 256) (pos 0)) whole set_is (rw e at h)))
+        (λ (e : j ≡ t.0 % 256 → ⊥). rw (get_or-set_other sums (t.0 % 256) j (get_or sums (t.0 % 256) (pos 0) +ℤ t.1) (pos 0) e) (left_out (block * 256 + j) (get_or sums j (pos 0)) whole (omega (arith, set_is)) h))
+        (cases_eq j (t.0 % 256))
+
+-- ---- the sets of a row
+
+-- no term has a set that isn't part of all
+outside_terms : (at all : ℕ) (ts : List Term) → (PartOf at all → ⊥) → PartOf (polynomial.support ts) all → coefficient at ts ≡ pos 0
+outside_terms at all [] apart part = refl
+outside_terms at all (t ∷ ts) apart part =
+    let rest = polynomial.support ts in
+    coefficient-other at t ts (λ (e : t.0 ≡ at). apart (subst (λ n. PartOf n all) e (PartOf-trans t.0 (bit_or t.0 rest) all (PartOf-first t.0 rest) part)))
+    ∙ outside_terms at all ts apart (PartOf-trans rest (bit_or t.0 rest) all (PartOf-second t.0 rest) part)
+
+outside_row : (at all : ℕ) (row : List Entry) → (PartOf at all → ⊥) → PartOf (support row) all → row_coefficient at row ≡ pos 0
+outside_row at all [] apart part = refl
+outside_row at all (e ∷ row) apart part =
+    let first = polynomial.support e.poly in
+    let rest = support row in
+    let terms = outside_terms at all e.poly apart (PartOf-trans first (bit_or first rest) all (PartOf-first first rest) part) in
+    omega (arith, linear, terms, outside_row at all row apart (PartOf-trans rest (bit_or first rest) all (PartOf-second first rest) part))
+
+-- where no term has the set, nothing is summed, and 0 is due
+outside : (common : ℤ) (row : List Entry) (at : ℕ) → (PartOf at (support row) → ⊥) → row_coefficient at row ≡ due common at
+unfolding PartOf
+outside common row zero apart = absurd (apart refl)
+outside common row (suc at) apart = rw (ne_eqb (suc at) 0 (omega arith)) (outside_row (suc at) (support row) row apart (or_self (support row)))
+
+part_block : (at all : ℕ) → PartOf at all → bit_or (at / 256) (all / 256) ≡ all / 256
+unfolding PartOf
+part_block at all h = sym (or_shr at all 8) ∙ ap (λ n. n / 256) h
+
+part_le : (at all : ℕ) → PartOf at all → at ≤ all
+unfolding PartOf
+part_le at all h = subst (λ n. at ≤ n) h (le_or_l at all)
+
+-- ---- blocks of sets
+
+-- the coefficients sum to what is due, at each set below the block
+abbrev pub AreRight : ℤ → List Entry → ℕ → Type 0
+AreRight common row block = (at : ℕ) → at < block * 256 → row_coefficient at row ≡ due common at
+
+-- they do at each set of the block
+abbrev pub IsRight : ℤ → List Entry → ℕ → Type 0
+IsRight common row block = (i : ℕ) → i < 256 → row_coefficient (block * 256 + i) row ≡ due common (block * 256 + i)
+
+module _ (common : ℤ) (row : List Entry) (block : ℕ) where
+  abbrev IsRightAt : ℕ → Type 0
+  IsRightAt at = row_coefficient at row ≡ due common at
+
+  -- a set that isn't below the block, by its place
+  place : (at : ℕ) → block * 256 ≤ at → block * 256 + (at - block * 256) ≡ at
+  place at le = omega arith
+
+  pub right_more : AreRight common row block → IsRight common row block → AreRight common row (block + 1)
+  right_more before here at lt =
+      ⊎_elim (before at) (λ (le : block * 256 ≤ at). subst IsRightAt (place at le) (here (at - block * 256) (omega arith))) (cases_lt at (block * 256))
+
+  -- a block that is passed over has no set of the row
+  pub right_over : bit_or block (support row / 256) ≢ support row / 256 → IsRight common row block
+  right_over ne i lt =
+      let at = block * 256 + i in
+      let e : at / 256 ≡ block = omega arith in
+      outside common row at (λ part. ne (subst (λ n. bit_or n (support row / 256) ≡ support row / 256) e (part_block at (support row) part)))
+
+  -- nor has one past the last
+  pub right_all : support row / 256 < block → AreRight common row block → HasSums common row
+  right_all last before at =
+      ⊎_elim (before at) (λ (le : block * 256 ≤ at). outside common row at (λ part. omega (arith, part_le at (support row) part))) (cases_lt at (block * 256))
+
+  module _ (sums : List ℤ) (is : (i : ℕ) → i < 256 → get_or sums i (pos 0) ≡ row_coefficient (block * 256 + i) row) where
+    -- what `first_wrong` answers
+    abbrev Found : Option (ℕ × ℤ) → Type 0
+    Found wrong = MatchOption wrong ((i : ℕ) → i < 256 → get_or sums i (pos 0) ≡ due common (block * 256 + i)) (λ fault. IsFirstWrong sums block common fault.0 fault.1)
+
+    pub right_here : (wrong : Option (ℕ × ℤ)) → is_some wrong ≡ false → Found wrong → IsRight common row block
+    right_here None e h i lt = sym (is i lt) ∙ h i lt
+    right_here (Some fault) e h i lt = cc
+
+    pub wrong_here : (wrong : Option (ℕ × ℤ)) → is_some wrong ≡ true → Found wrong → AreRight common row block → MatchOption wrong (HasSums common row) (λ fault. IsSumFault common row fault.0 fault.1)
+    wrong_here None e h before = cc
+    wrong_here (Some fault) e h before = record {
+      is = h.is ∙ is h.place h.in_block ∙ ap (λ at. row_coefficient at row) (sym h.set_is);
+      wrong = h.wrong;
+      least = λ at lt.
+          ⊎_elim
+          (before at)
+          (λ (le : block * 256 ≤ at).
+          let i = at - block * 256 in
+          let near : i < h.place = omega (arith, h.set_is) in
+          subst IsRightAt (place at le) (sym (is i (omega (arith, h.in_block))) ∙ h.least i near))
+          (cases_lt at (block * 256));
+    }

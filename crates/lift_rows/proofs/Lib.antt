@@ -1,0 +1,5 @@
+mod Blocks
+mod Widths
+mod Negatives
+pub mod Faults
+pub mod RowTests

@@ -1,0 +1,5 @@
+pub mod Number
+pub mod Admitted
+pub mod Fault
+pub mod Sums
+pub mod Laws

@@ -1,0 +1,18 @@
+//! Which models are admitted over a rectangle of values for their parameters: those in which each row
+//! is a distribution at every valuation inside, and no number of the engine leaves 128 bits.
+#![tactic(auto)]
+
+mod admission;
+mod candidate;
+mod error;
+mod laws;
+mod sums;
+mod weights;
+mod width;
+
+pub use admission::admit;
+pub use error::RowError;
+pub use laws::first_fault_is_one;
+
+#[cfg(test)]
+mod tests;
