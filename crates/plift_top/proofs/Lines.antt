@@ -1,14 +1,16 @@
 -- The lines of a report, as the pieces that are written one after the other.
-use Rattle.std.proofs.Common.{◌≡◌, ◌+◌, ◌<◌, ◌≤◌, ℕ, ℤ, zero, suc, List, [], ◌∷◌, ◌++◌, length, map, get_or, drop, slice_get, Some, Bool, true, false, Ok, Err, Result, IsErr, take, refl, sym, ap, ap₂, subst, ◌∙◌, arith, add-one, append_assoc, codes}
+use Rattle.std.proofs.Common.{◌≡◌, ◌+◌, ◌<◌, ℕ, zero, suc, List, [], ◌∷◌, ◌++◌, length, map, get_or, drop, slice_get, Some, Bool, true, false, Ok, Err, Result, IsErr, take, refl, sym, ap, ap₂, subst, ◌∙◌, arith, add-one, append_assoc, append-nil, codes}
 use Rattle.std.specs.List.{flat_map, concat}
-use Rattle.std.specs.Fmt.{decimal}
 use Rattle.std.proofs.lemmas.List.Folds.{concat-append}
 use Rattle.std.specs.declared.option.Option.{Option}
 use Rattle.lift_base.specs.Outside.{Wrote}
 use Rattle.lift_base.proofs.Writing.{stopped_at}
 use Rattle.lift_model.specs.declared.kind.Kind.{Kind}
 use Rattle.lift_model.specs.Model.{ModelData}
-use Rattle.plift_top.specs.Report.{line, kind_lines, parameters_line, size_lines, head_lines, goal_states, numbered}
+use Rattle.lift_grid.specs.Rectangle.{Spans}
+use Rattle.corner_lift.specs.Case.{CaseData}
+use Rattle.lift_cert.specs.declared.bound.Bound.{Bound}
+use Rattle.plift_top.specs.Report.{Leaf, line, kind_lines, parameters_line, size_lines, head_lines, model_lines, asked_lines, box_line, leaf_line, report_text, goal_states, numbered}
 
 -- a line is its first word, each further word behind a space, and a line feed
 pub line-words : {X : Type 0} (f : X → List ℕ) (word : List ℕ) (xs : List X) → line (word ∷ map f xs) ≡ word ++ (flat_map (λ x. 32 ∷ f x) xs ++ codes "\n")
@@ -66,6 +68,14 @@ pub head_parts : (m : ModelData) (kind : Kind) (names : List (List ℕ)) → kin
 head_parts m kind names e f =
     concat-append (kind_lines m.kind) (parameters_line m.names ∷ size_lines m)
     ∙ ap₂ (λ (k : Kind) (ns : List (List ℕ)). concat (kind_lines k) ++ (parameters_line ns ++ concat (size_lines m))) (sym e) (sym f)
+
+-- the parts of a report, one after the other
+pub report_parts : (k : CaseData) (bound : Bound) (leaf : Leaf) (m : ModelData) (root : Spans) → m ≡ k.model → root ≡ k.root → report_text k bound leaf ≡ concat (model_lines m) ++ (concat (asked_lines k bound) ++ (box_line root ++ leaf_line leaf))
+report_parts k bound leaf m root e f =
+    concat-append (model_lines k.model) (asked_lines k bound ++ box_line k.root ∷ leaf_line leaf ∷ [])
+    ∙ ap₂ (λ (head rest : List ℕ). head ++ rest) (ap (λ (n : ModelData). concat (model_lines n)) (sym e))
+    (concat-append (asked_lines k bound) (box_line k.root ∷ leaf_line leaf ∷ [])
+    ∙ ap (λ (rest : List ℕ). concat (asked_lines k bound) ++ rest) (ap₂ (λ (box last : List ℕ). box ++ last) (ap box_line (sym f)) (append-nil (leaf_line leaf))))
 
 -- a loop over items that stops at one
 pub stopped_item : {X K T U V E F G : Type 0} {taken : K → Option (List ℕ)} {faults : K → ℕ} {old mid new : K} {y : T} {e : E} (f : X → List ℕ) (xs : List X) (i : ℕ) (x : X)

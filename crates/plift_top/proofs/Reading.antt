@@ -1,10 +1,17 @@
--- What the reading of a model says of a job.
-use Rattle.std.proofs.Common.{◌≡◌, ◌≢◌, ℕ, List, [], true, false, Ok, Err, refl, sym, subst, Result, IsErrAnd}
+-- What the steps of a job say of the whole.
+use Rattle.std.proofs.Common.{◌≡◌, ◌≢◌, ℕ, List, true, Ok, Err, refl, sym, subst, Result, IsErrAnd}
 use Rattle.std.specs.declared.option.Option.{Option}
 use Rattle.std.specs.Io.KnownBytes.{Consumes, IsAtEnd}
 use Rattle.lift_base.specs.Outside.{Rose, AppendsFront}
+use Rattle.lift_grid.specs.Region.{Region, region, Fails}
+use Rattle.lift_grid.specs.Rectangle.{Spans}
+use Rattle.lift_grid.specs.declared.rect.Grid.{Grid}
+use Rattle.lift_grid.specs.declared.error.RegionError.{RegionError}
+use Rattle.lift_grid.specs.declared.error.RegionError.TheVariants as fault
 use Rattle.lift_model.specs.Model.{ModelData}
 use Rattle.corner_lift.specs.Case.{CaseData}
+use Rattle.lift_cert.specs.declared.bound.Bound.{Bound}
+use Rattle.lift_rows.specs.Admitted.{IsAdmitted}
 use Rattle.drn_read.specs.Reading.{drn}
 use Rattle.drn_read.specs.declared.error.DrnCause.{DrnCause}
 use Rattle.drn_read.specs.declared.error.DrnCause.TheVariants as cause
@@ -12,12 +19,16 @@ use Rattle.drn_read.specs.declared.error.DrnError.{DrnError}
 use Rattle.plift_top.specs.Job.{JobData}
 use Rattle.plift_top.specs.Built.{is_built}
 use Rattle.plift_top.specs.Report.{Leaf, report_text}
-use Rattle.plift_top.specs.Report.Leaf.{accept, unknown}
-use Rattle.plift_top.specs.Leaf.{IsRightLeaf, BoundsInside, BoundsSchedulers, case_data}
-use Rattle.plift_top.specs.Refused.{model_refusal}
-use Rattle.plift_top.specs.Verify.{WasRead, Reports, IsBuiltText, ReadsModel, Verifies}
+use Rattle.plift_top.specs.Leaf.{IsRightLeaf, BoundsSchedulers}
+use Rattle.plift_top.specs.Refused.{model_refusal, region_refusal}
+use Rattle.plift_top.specs.Verify.{WasRead, Reports, IsReportOf, IsRefused, IsRefusedAt, IsRefusedOver, Stops, Verifies, case_of}
+use Rattle.plift_top.specs.Stages.{ReadsModel, NamesRoot, AdmitsCase, WritesCase, WritesOver}
 use Rattle.plift_top.specs.declared.refusal.Refusal.{Refusal}
 use Rattle.plift_top.specs.declared.refusal.Refusal.TheVariants as refusal
+
+-- what holds of a text that was read follows from what is known of it
+pub read_as : {P Q : List ℕ → Type 0} {old new : Option (List ℕ)} → ((text : List ℕ) → P text → Q text) → WasRead P old new → WasRead Q old new
+read_as f h = record { text = h.text; consumed = h.consumed; ended = h.ended; has = f h.text h.has }
 
 -- a text that was read to its end is refused
 module _ {S : Type 0} (left : S → Option (List ℕ)) (faults : S → ℕ) (source source' : S) (goal bytes : List ℕ) (consumed : Consumes (left source) (left source') bytes) (ended : IsAtEnd (left source')) where
@@ -29,40 +40,95 @@ module _ {S : Type 0} (left : S → Option (List ℕ)) (faults : S → ℕ) (sou
   pub refused_text : (text : List ℕ) → text ≡ bytes → (error : DrnError) (result : Result ModelData Refusal) → IsErrAnd result (λ e. e ≡ model_refusal error) → (error.cause ≢ cause.Memory → drn text goal ≡ Err error) → ReadsModel left faults goal source source' result
   refused_text text same error result is h = by_cause error.line error.cause result is (subst (λ (t : List ℕ). error.cause ≢ cause.Memory → drn t goal ≡ Err error) same h)
 
-module _ {S K T : Type 0} (left : S → Option (List ℕ)) (faults : S → ℕ) (taken : K → Option (List ℕ)) (counts : K → ℕ) (job : JobData) (source source' : S) (out : K) where
-  -- a job stops where the reading does
-  pub unread : (r : Refusal) (result : Result T Refusal) → IsErrAnd result (λ e. e ≡ r) → ReadsModel left faults job.goal source source' (Err r) → Verifies left faults taken counts job source source' out out result
-  unread r (Ok x) is h = absurd is
-  unread r (Err e) is h = subst (λ (f : Refusal). Verifies {T = T} left faults taken counts job source source' out out (Err f)) (sym is) (stops r h)
-    where
-      stops : (r : Refusal) → ReadsModel left faults job.goal source source' (Err r) → Verifies {T = T} left faults taken counts job source source' out out (Err r)
-      stops refusal.WriteFault h = absurd h
-      stops _ h = (h, refl)
+-- a region that is refused
+pub refused_region : (job : JobData) (names : List (List ℕ)) (error : RegionError) (result : Result (Grid × Spans) Refusal) → IsErrAnd result (λ e. e ≡ region_refusal error) → Fails error (region names job.depth job.region) → NamesRoot job names result
+refused_region job names error (Ok p) is h = absurd is
+refused_region job names error (Err e) is h = subst (λ (r : Refusal). NamesRoot job names (Err r)) (sym is) (by error h)
+  where
+    by : (error : RegionError) → Fails error (region names job.depth job.region) → NamesRoot job names (Err (region_refusal error))
+    by fault.Memory h = tt
+    by fault.Syntax h = h
+    by fault.UnknownName h = h
+    by fault.Repeated h = h
+    by fault.Missing h = h
+    by fault.EmptyInterval h = h
+    by fault.Wide h = h
 
--- a job whose report was cut off
-pub cut_off : {S K T : Type 0} (left : S → Option (List ℕ)) (faults : S → ℕ) (taken : K → Option (List ℕ)) (counts : K → ℕ) (job : JobData) (source source' : S) (out out' : K) (result : Result T Refusal) → IsErrAnd result (λ e. e ≡ refusal.WriteFault)
-    → WasRead (Reports (AppendsFront (taken out) (taken out')) job) (left source) (left source') → Rose (counts out) (counts out') → Verifies left faults taken counts job source source' out out' result
-cut_off left faults taken counts job source source' out out' (Ok x) is h rose = absurd is
-cut_off {T = T} left faults taken counts job source source' out out' (Err e) is h rose = subst (λ (f : Refusal). Verifies {T = T} left faults taken counts job source source' out out' (Err f)) (sym is) (h, rose)
+-- why a job stops, by the step that stops it
+module _ {S : Type 0} (left : S → Option (List ℕ)) (faults : S → ℕ) (job : JobData) (source source' : S) where
+  pub stops_reading : (why : Refusal) → ReadsModel left faults job.goal source source' (Err why) → Stops left faults job source source' why
+  stops_reading (refusal.Model error) h = read_as (λ text is. subst (λ (a : Result ModelData DrnError). IsRefusedAt job a (refusal.Model error)) (sym is) refl) h
+  stops_reading refusal.ReadFault h = h
+  stops_reading refusal.TooLong h = h
+  stops_reading refusal.Memory h = tt
+  stops_reading _ h = absurd h
 
-bounds : (m : ModelData) (job : JobData) (leaf : Leaf) → BoundsInside (case_data m job) job.bound leaf → BoundsSchedulers m job leaf
-bounds m job (accept x) h = h [] tt
-bounds m job unknown h = tt
+  module _ (m : ModelData) (read : ReadsModel left faults job.goal source source' (Ok m)) where
+    pub refused_over : (why : Refusal) → IsRefusedOver job m (region m.names job.depth job.region) why → WasRead (IsRefused job why) (left source) (left source')
+    refused_over why h = read_as (λ text is. subst (λ (a : Result ModelData DrnError). IsRefusedAt job a why) (sym is) h) read
 
--- the report of a model that was read
-pub reported : {written : List ℕ → Type 0} (job : JobData) (m : ModelData) (k : CaseData) (leaf : Leaf) (old new : Option (List ℕ)) → WasRead (IsBuiltText job.goal m) old new → k ≡ case_data m job
-    → IsRightLeaf k.model k.d k.root k.w job.bound leaf → BoundsInside k job.bound leaf → written (report_text m job leaf) → WasRead (Reports written job) old new
-reported job m k leaf old new read is right inside report = record {
-  text = read.text;
-  consumed = read.consumed;
-  ended = read.ended;
-  has = record {
-    model = m;
-    leaf = leaf;
-    read = read.has.0;
-    built = read.has.1;
-    right = subst (λ (c : CaseData). IsRightLeaf c.model c.d c.root c.w job.bound leaf) is right;
-    schedulers = bounds m job leaf (subst (λ (c : CaseData). BoundsInside c job.bound leaf) is inside);
-    report = report;
-  };
-}
+    pub stops_naming : (why : Refusal) → NamesRoot job m.names (Err why) → Stops left faults job source source' why
+    stops_naming (refusal.Region error) h = refused_over (refusal.Region error) (subst (λ (r : Result Region RegionError). IsRefusedOver job m r (refusal.Region error)) (sym h) refl)
+    stops_naming refusal.Memory h = tt
+    stops_naming _ h = absurd h
+
+-- a job that stopped before anything was written
+pub stopped : {S K T : Type 0} (left : S → Option (List ℕ)) (faults : S → ℕ) (taken : K → Option (List ℕ)) (counts : K → ℕ) (job : JobData) (source source' : S) (out : K) (why : Refusal) (result : Result T Refusal)
+    → IsErrAnd result (λ e. e ≡ why) → Stops left faults job source source' why → Verifies left faults taken counts job source source' out out result
+stopped left faults taken counts job source source' out why (Ok x) is h = absurd is
+stopped {T = T} left faults taken counts job source source' out why (Err e) is h = subst (λ (f : Refusal). Verifies {T = T} left faults taken counts job source source' out out (Err f)) (sym is) (by why h)
+  where
+    by : (why : Refusal) → Stops left faults job source source' why → Verifies {T = T} left faults taken counts job source source' out out (Err why)
+    by refusal.WriteFault h = absurd h
+    by _ h = (h, refl)
+
+-- a case was decided, and its report written
+pub case_reported : {written : List ℕ → Type 0} (k : CaseData) (bound : Bound) (leaf : Leaf) → IsAdmitted k → is_built k.model ≡ true → IsRightLeaf k bound leaf → BoundsSchedulers k bound leaf → written (report_text k bound leaf) → IsReportOf written k bound
+case_reported k bound leaf admitted built right bounds report = record { leaf = leaf; admitted = admitted; built = built; right = right; schedulers = bounds; report = report }
+
+pub case_cut_off : {K T : Type 0} (taken : K → Option (List ℕ)) (counts : K → ℕ) (k : CaseData) (bound : Bound) (out out' : K) (result : Result T Refusal) → IsErrAnd result (λ e. e ≡ refusal.WriteFault)
+    → IsReportOf (AppendsFront (taken out) (taken out')) k bound → Rose (counts out) (counts out') → WritesCase taken counts k bound out out' result
+case_cut_off taken counts k bound out out' (Ok x) is h rose = absurd is
+case_cut_off {T = T} taken counts k bound out out' (Err e) is h rose = subst (λ (f : Refusal). WritesCase {T = T} taken counts k bound out out' (Err f)) (sym is) (h, rose)
+
+pub case_short : {K T : Type 0} (taken : K → Option (List ℕ)) (counts : K → ℕ) (k : CaseData) (bound : Bound) (out : K) (result : Result T Refusal) → IsErrAnd result (λ e. e ≡ refusal.Memory) → WritesCase taken counts k bound out out result
+case_short taken counts k bound out (Ok x) is = absurd is
+case_short {T = T} taken counts k bound out (Err e) is = subst (λ (f : Refusal). WritesCase {T = T} taken counts k bound out out (Err f)) (sym is) refl
+
+-- the rows weren't admitted, or the model isn't built
+pub over_refused : {K T : Type 0} (taken : K → Option (List ℕ)) (counts : K → ℕ) (job : JobData) (m : ModelData) (r : Region) (out : K) (why : Refusal) (result : Result T Refusal) → IsErrAnd result (λ e. e ≡ why)
+    → AdmitsCase job m r (Err why) → WritesOver taken counts job m r out out result
+over_refused taken counts job m r out why (Ok x) is h = absurd is
+over_refused {T = T} taken counts job m r out why (Err e) is h = subst (λ (f : Refusal). WritesOver {T = T} taken counts job m r out out (Err f)) (sym is) (by why h)
+  where
+    by : (why : Refusal) → IsRefusedOver job m (Ok r) why → WritesOver {T = T} taken counts job m r out out (Err why)
+    by (refusal.Rows error) h = (h, refl)
+    by refusal.Unbuilt h = (h, refl)
+    by _ h = absurd h
+
+-- the report of the case of a model over a region
+pub over_written : {K T : Type 0} (taken : K → Option (List ℕ)) (counts : K → ℕ) (job : JobData) (m : ModelData) (r : Region) (k : CaseData) (out out' : K) (result : Result T Refusal) → AdmitsCase job m r (Ok k)
+    → WritesCase taken counts k job.bound out out' result → WritesOver taken counts job m r out out' result
+over_written {T = T} taken counts job m r k out out' result admits h = by result (subst (λ (c : CaseData). WritesCase {T = T} taken counts c job.bound out out' result) admits.0 h)
+  where
+    by : (result : Result T Refusal) → WritesCase taken counts (case_of m r job.precision) job.bound out out' result → WritesOver taken counts job m r out out' result
+    by (Ok x) h = h
+    by (Err refusal.WriteFault) h = h
+    by (Err refusal.Memory) h = h
+    by (Err _) h = absurd h
+
+-- a whole job, by what was written over the root
+module _ {S : Type 0} (left : S → Option (List ℕ)) (faults : S → ℕ) (job : JobData) (source source' : S) (m : ModelData) (r : Region) (read : ReadsModel left faults job.goal source source' (Ok m)) (named : region m.names job.depth job.region ≡ Ok r) where
+  reports : {written : List ℕ → Type 0} → IsReportOf written (case_of m r job.precision) job.bound → WasRead (Reports written job) (left source) (left source')
+  reports h = read_as (λ text is. record { model = m; root = r; read = is; named = named; report = h }) read
+
+  over : (why : Refusal) → IsRefusedOver job m (Ok r) why → WasRead (IsRefused job why) (left source) (left source')
+  over why h = refused_over left faults job source source' m read why (subst (λ (q : Result Region RegionError). IsRefusedOver job m q why) (sym named) h)
+
+  pub verified : {K T : Type 0} (taken : K → Option (List ℕ)) (counts : K → ℕ) (out out' : K) (result : Result T Refusal) → WritesOver taken counts job m r out out' result → Verifies left faults taken counts job source source' out out' result
+  verified taken counts out out' (Ok x) h = reports h
+  verified taken counts out out' (Err refusal.WriteFault) h = (reports h.0, h.1)
+  verified taken counts out out' (Err refusal.Memory) h = (tt, h)
+  verified taken counts out out' (Err (refusal.Rows error)) h = (over (refusal.Rows error) h.0, h.1)
+  verified taken counts out out' (Err refusal.Unbuilt) h = (over refusal.Unbuilt h.0, h.1)
+  verified taken counts out out' (Err _) h = absurd h.0

@@ -35,6 +35,7 @@ rules = shape.rules
 data Known : Text → Text → Type 0 where
   goal : Known (codes "--goal") (codes "goal")
   bound : Known (codes "--bound") (codes "bound")
+  region : Known (codes "--region") (codes "region")
   depth : Known (codes "--depth") (codes "depth")
   precision : Known (codes "--precision") (codes "precision")
 
@@ -56,6 +57,7 @@ name_walked : (name id : Text) → Known name id → (h : Held) → walked rules
 unfolding walked shape verify_app
 name_walked name id goal h = refl
 name_walked name id bound h = refl
+name_walked name id region h = refl
 name_walked name id depth h = refl
 name_walked name id precision h = refl
 
@@ -63,6 +65,7 @@ name_passes : (name id : Text) → Known name id → (h : Held) → settle_passe
 unfolding shape verify_app
 name_passes name id goal h e = rw e refl
 name_passes name id bound h e = rw e refl
+name_passes name id region h e = rw e refl
 name_passes name id depth h e = rw e refl
 name_passes name id precision h e = rw e refl
 
@@ -86,6 +89,7 @@ value_walked : (id v : Text) (rows : List Row) (name : Text) → Known name id �
 unfolding walked shape verify_app
 value_walked id v rows name goal n = rw (n.long, n.short, n.marker) refl
 value_walked id v rows name bound n = rw (n.long, n.short, n.marker) refl
+value_walked id v rows name region n = rw (n.long, n.short, n.marker) refl
 value_walked id v rows name depth n = rw (n.long, n.short, n.marker) refl
 value_walked id v rows name precision n = rw (n.long, n.short, n.marker) refl
 
@@ -93,6 +97,7 @@ value_passes : (id v : Text) (rows : List Row) (name : Text) → Known name id �
 unfolding shape verify_app
 value_passes id v rows name goal n = rw (n.long, n.short, n.marker) refl
 value_passes id v rows name bound n = rw (n.long, n.short, n.marker) refl
+value_passes id v rows name region n = rw (n.long, n.short, n.marker) refl
 value_passes id v rows name depth n = rw (n.long, n.short, n.marker) refl
 value_passes id v rows name precision n = rw (n.long, n.short, n.marker) refl
 
@@ -104,6 +109,7 @@ one_walked : (name id v : Text) → Known name id → (h : Held) → walked rule
 unfolding walked shape verify_app
 one_walked name id v goal h = refl
 one_walked name id v bound h = refl
+one_walked name id v region h = refl
 one_walked name id v depth h = refl
 one_walked name id v precision h = refl
 
@@ -112,6 +118,7 @@ one_passes : (name id v : Text) → Known name id → (h : Held) → settle_pass
 unfolding shape verify_app
 one_passes name id v goal h e fresh = rw (e, fresh) refl
 one_passes name id v bound h e fresh = rw (e, fresh) refl
+one_passes name id v region h e fresh = rw (e, fresh) refl
 one_passes name id v depth h e fresh = rw (e, fresh) refl
 one_passes name id v precision h e fresh = rw (e, fresh) refl
 
@@ -139,6 +146,7 @@ used_new : (name id v : Text) → Known name id → (rows : List Row) → has_ro
 unfolding shape verify_app
 used_new name id v goal rows fresh = set_new id v rows fresh
 used_new name id v bound rows fresh = set_new id v rows fresh
+used_new name id v region rows fresh = set_new id v rows fresh
 used_new name id v depth rows fresh = set_new id v rows fresh
 used_new name id v precision rows fresh = set_new id v rows fresh
 
@@ -154,6 +162,7 @@ holds_passes : (name id v : Text) → Known name id → (rows : List Row) → ha
 unfolding shape verify_app
 holds_passes name id v goal rows fresh = rw fresh refl
 holds_passes name id v bound rows fresh = rw fresh refl
+holds_passes name id v region rows fresh = rw fresh refl
 holds_passes name id v depth rows fresh = rw fresh refl
 holds_passes name id v precision rows fresh = rw fresh refl
 
@@ -175,8 +184,11 @@ known name e = elim (either _ _ e) [
   | inl e ↦ elim (either _ _ e) [
     | inr d ↦ named name (codes "--depth") depth d
     | inl e ↦ elim (either _ _ e) [
-      | inr b ↦ named name (codes "--bound") bound b
-      | inl g ↦ named name (codes "--goal") goal g
+      | inr r ↦ named name (codes "--region") region r
+      | inl e ↦ elim (either _ _ e) [
+        | inr b ↦ named name (codes "--bound") bound b
+        | inl g ↦ named name (codes "--goal") goal g
+      ]
     ]
   ]
 ]
@@ -185,6 +197,7 @@ known name e = elim (either _ _ e) [
 dashed : (name id : Text) → Known name id → name ≡ 45 ∷ 45 ∷ id
 dashed name id goal = refl
 dashed name id bound = refl
+dashed name id region = refl
 dashed name id depth = refl
 dashed name id precision = refl
 
@@ -485,6 +498,7 @@ values_found a words (Err e) is plain h = tt
 values_found a words (Ok m) is plain h = record {
   goal = value_found a words m is plain h (codes "--goal") (codes "goal") goal;
   bound = value_found a words m is plain h (codes "--bound") (codes "bound") bound;
+  region = value_found a words m is plain h (codes "--region") (codes "region") region;
   depth = value_found a words m is plain h (codes "--depth") (codes "depth") depth;
   precision = value_found a words m is plain h (codes "--precision") (codes "precision") precision;
 }

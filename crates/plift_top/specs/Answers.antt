@@ -1,16 +1,17 @@
 -- The answers of the program, and the notes that tell them.
-use Rattle.std.specs.Prelude.{◌≡◌, ◌≢◌, ◌≤◌, ℕ, List, ◌++◌, codes, Bool, true, false, Some, None, Ok, Err, Result}
-use Rattle.std.specs.Fmt.{decimal}
+use Rattle.std.specs.Prelude.{◌≡◌, ◌≢◌, ◌≤◌, ◌⊎◌, ℕ, List, ◌++◌, codes, Ok, Err, Result}
+use Rattle.std.specs.Fmt.{decimal, signed_decimal}
 use Rattle.std.specs.declared.option.Option.{Option}
 use Rattle.std.specs.Io.KnownBytes.{Appends}
 use Rattle.lift_base.specs.Outside.{Rose, AppendsFront}
-use Rattle.lift_model.specs.Model.{ModelData}
+use Rattle.lift_grid.specs.Faults.{error_name}
+use Rattle.lift_grid.specs.declared.error.RegionError.{RegionError}
+use Rattle.lift_rows.specs.declared.error.RowError.{RowError}
+use Rattle.lift_rows.specs.declared.error.RowError.TheVariants.{RowSum, Negative, RowParameters, TooWide}
 use Rattle.drn_read.specs.Faults.{cause_name}
-use Rattle.drn_read.specs.Reading.{drn}
 use Rattle.drn_read.specs.declared.error.DrnError.{DrnError}
 use Rattle.plift_top.specs.Job.{JobData}
-use Rattle.plift_top.specs.Built.{is_built}
-use Rattle.plift_top.specs.Verify.{Verifies, WasRead}
+use Rattle.plift_top.specs.Verify.{Verifies, WasRead, IsRefused}
 use Rattle.plift_top.specs.declared.status.Status.{Status}
 use Rattle.plift_top.specs.declared.status.Status.TheVariants as status
 use Rattle.plift_top.specs.declared.job.Field.{Field}
@@ -21,7 +22,9 @@ use Rattle.plift_top.specs.declared.refusal.Refusal.TheVariants as refusal
 -- the status of a refusal
 abbrev pub status_of : Refusal → Status
 status_of (refusal.Usage f) = status.Usage
+status_of (refusal.Region error) = status.Usage
 status_of (refusal.Model error) = status.ModelRefused
+status_of (refusal.Rows error) = status.RowsRefused
 status_of refusal.Unbuilt = status.ModelRefused
 status_of refusal.ReadFault = status.ReadFault
 status_of refusal.WriteFault = status.WriteFault
@@ -36,45 +39,59 @@ usage_note field.Bound = codes "usage: --bound\n"
 usage_note field.Depth = codes "usage: --depth\n"
 usage_note field.Precision = codes "usage: --precision\n"
 
+-- the note of a region at fault: the cause
+abbrev pub region_note : RegionError → List ℕ
+region_note error = codes "usage: --region " ++ error_name error ++ codes "\n"
+
 -- the note of a text that stands for no model: the line and the cause
 abbrev pub model_note : DrnError → List ℕ
 model_note error = codes "model: line " ++ decimal error.line ++ codes ": " ++ cause_name error.cause ++ codes "\n"
 
--- the note of a model that isn't built
-abbrev pub unbuilt_note : List ℕ
-unbuilt_note = codes "model: unbuilt\n"
+-- a row, by its state and choice
+abbrev pub row_place : ℕ → ℕ → List ℕ
+row_place s a = codes "state " ++ decimal s ++ codes " choice " ++ decimal a ++ codes ": "
 
--- the note of a model, by whether it is built; none where it is
-abbrev pub built_note : Bool → Option (List ℕ)
-built_note true = None
-built_note false = Some unbuilt_note
+-- a row's first fault, with its numbers
+abbrev pub row_words : RowError → List ℕ
+row_words (RowSum s a set sum) = row_place s a ++ codes "set " ++ decimal set ++ codes " sums to " ++ signed_decimal sum
+row_words (Negative s a target corner weight) = row_place s a ++ codes "target " ++ decimal target ++ codes " at corner " ++ decimal corner ++ codes " has weight " ++ signed_decimal weight
+row_words (RowParameters s a count) = row_place s a ++ decimal count ++ codes " parameters"
+row_words (TooWide s a) = row_place s a ++ codes "too wide"
 
--- the note of what a text stands for; none where that is a model that is built
-abbrev pub text_note : Result ModelData DrnError → Option (List ℕ)
-text_note (Ok m) = built_note (is_built m)
-text_note (Err error) = Some (model_note error)
-
--- a text is refused for a goal label, with this note
-abbrev pub IsRefused : List ℕ → List ℕ → List ℕ → Type 0
-IsRefused goal note text = text_note (drn text goal) ≡ Some note
+-- the note of a row that isn't admitted
+abbrev pub rows_note : RowError → List ℕ
+rows_note error = codes "rows: " ++ row_words error ++ codes "\n"
 
 -- the note of a refusal: one line
 abbrev pub note_of : Refusal → List ℕ
 note_of (refusal.Usage f) = usage_note f
+note_of (refusal.Region error) = region_note error
 note_of (refusal.Model error) = model_note error
-note_of refusal.Unbuilt = unbuilt_note
+note_of (refusal.Rows error) = rows_note error
+note_of refusal.Unbuilt = codes "model: unbuilt\n"
 note_of refusal.ReadFault = codes "read fault\n"
 note_of refusal.WriteFault = codes "write fault\n"
 note_of refusal.TooLong = codes "too long\n"
 note_of refusal.Memory = codes "out of memory\n"
 
--- an answer to these words, and to what was read of a source, has this note; a job that is done has none, and two answers don't come yet
+-- the job is refused at the text, with this status and this note
+pub record IsToldOf (s : Status) (note : List ℕ) (job : JobData) (text : List ℕ) : Type 0 where
+  pub why : Refusal
+  pub refused : IsRefused job why text
+  pub status : status_of why ≡ s
+  pub noted : note_of why ≡ note
+
+-- the words ask for a job, and it is refused at the text that was read, with this status and this note
+abbrev pub RefusesText : Status → Result JobData Field → Option (List ℕ) → Option (List ℕ) → List ℕ → Type 0
+RefusesText s asked old new note = (j : JobData) × (asked ≡ Ok j) × WasRead (IsToldOf s note j) old new
+
+-- an answer to these words, and to what was read of a source, has this note; a job that is done has none, and one answer doesn't come yet
 abbrev pub HasNote : Status → Result JobData Field → Option (List ℕ) → Option (List ℕ) → List ℕ → Type 0
 HasNote status.Done asked old new note = ⊥
 HasNote status.NotSound asked old new note = ⊥
-HasNote status.RowsRefused asked old new note = ⊥
-HasNote status.Usage asked old new note = (f : Field) × (asked ≡ Err f) × (note ≡ usage_note f)
-HasNote status.ModelRefused asked old new note = (j : JobData) × (asked ≡ Ok j) × WasRead (IsRefused j.goal note) old new
+HasNote status.Usage asked old new note = ((f : Field) × (asked ≡ Err f) × (note ≡ usage_note f)) ⊎ RefusesText status.Usage asked old new note
+HasNote status.ModelRefused asked old new note = RefusesText status.ModelRefused asked old new note
+HasNote status.RowsRefused asked old new note = RefusesText status.RowsRefused asked old new note
 HasNote status.ReadFault asked old new note = note ≡ codes "read fault\n"
 HasNote status.WriteFault asked old new note = note ≡ codes "write fault\n"
 HasNote status.TooLong asked old new note = note ≡ codes "too long\n"

@@ -15,7 +15,7 @@ setting_of s = record { name = s.name.now; value = option_map (λ v. v.now) s.va
 
 -- a job
 abbrev pub job_data : Job → JobData
-job_data j = record { goal = j.goal.now; bound = j.bound; depth = j.depth; precision = j.precision }
+job_data j = record { goal = j.goal.now; bound = j.bound; region = j.region.now; depth = j.depth; precision = j.precision }
 
 -- the job of some values, or the one at fault
 abbrev pub answer_data : Result Job Field → Result JobData Field

@@ -6,10 +6,12 @@ use Rattle.lift_cert.specs.declared.bound.Bound.{Bound}
 use Rattle.plift_top.specs.declared.job.Field.{Field}
 use Rattle.plift_top.specs.declared.job.Field.TheVariants as field
 
--- a job: verify, for this goal label and bound, to this depth of splits and with numbers over 2 ^ precision
+-- a job: verify, for this goal label and bound, over this region, to this depth of splits and with numbers over 2 ^ precision
 pub record JobData : Type 0 where
   pub goal : List ℕ
   pub bound : Bound
+  -- the text that names the region
+  pub region : List ℕ
   pub depth : ℕ
   pub precision : ℕ
 
@@ -18,22 +20,27 @@ abbrev pub number_or : ℕ → ℕ → ℕ → Option (List ℕ) → Option ℕ
 number_or default low high None = Some default
 number_or default low high (Some word) = number_within low high word
 
--- the job of the values, or the first that is out of its grammar or range, in the order goal, bound, depth, precision
-abbrev pub job_by : Option (List ℕ) → Option Bound → Option ℕ → Option ℕ → Result JobData Field
-job_by (Some goal) (Some bound) (Some depth) (Some precision) = Ok (record { goal = goal; bound = bound; depth = depth; precision = precision })
-job_by None _ _ _ = Err field.Goal
-job_by (Some goal) None _ _ = Err field.Bound
-job_by (Some goal) (Some bound) None _ = Err field.Depth
-job_by (Some goal) (Some bound) (Some depth) None = Err field.Precision
+-- the text of an option that may be left out, and is empty then
+abbrev pub text_or_nothing : Option (List ℕ) → List ℕ
+text_or_nothing None = []
+text_or_nothing (Some word) = word
 
--- the job of the words behind `--goal`, `--bound`, `--depth` and `--precision`; the depth is 0 and the precision 24 where they are left out
-abbrev pub job_of : Option (List ℕ) → Option (List ℕ) → Option (List ℕ) → Option (List ℕ) → Result JobData Field
-job_of goal bound depth precision = job_by (option_and_then goal_of goal) (option_and_then bound_of bound) (number_or 0 0 20 depth) (number_or 24 1 40 precision)
+-- The job of the values, or the first that is out of its grammar or range, in the order goal, bound, depth, precision. No text of a region is at fault here.
+abbrev pub job_by : Option (List ℕ) → Option Bound → List ℕ → Option ℕ → Option ℕ → Result JobData Field
+job_by (Some goal) (Some bound) region (Some depth) (Some precision) = Ok (record { goal = goal; bound = bound; region = region; depth = depth; precision = precision })
+job_by None _ _ _ _ = Err field.Goal
+job_by (Some goal) None _ _ _ = Err field.Bound
+job_by (Some goal) (Some bound) region None _ = Err field.Depth
+job_by (Some goal) (Some bound) region (Some depth) None = Err field.Precision
+
+-- the job of the words behind `--goal`, `--bound`, `--region`, `--depth` and `--precision`; the region is empty, the depth 0 and the precision 24 where they are left out
+abbrev pub job_of : Option (List ℕ) → Option (List ℕ) → Option (List ℕ) → Option (List ℕ) → Option (List ℕ) → Result JobData Field
+job_of goal bound region depth precision = job_by (option_and_then goal_of goal) (option_and_then bound_of bound) (text_or_nothing region) (number_or 0 0 20 depth) (number_or 24 1 40 precision)
 
 -- the job of the options of a plain line
 abbrev pub job_in : List Setting → Result JobData Field
 job_in settings =
-    job_of (value_of (codes "--goal") settings) (value_of (codes "--bound") settings) (value_of (codes "--depth") settings) (value_of (codes "--precision") settings)
+    job_of (value_of (codes "--goal") settings) (value_of (codes "--bound") settings) (value_of (codes "--region") settings) (value_of (codes "--depth") settings) (value_of (codes "--precision") settings)
 
 -- the job that a line asks for, or the part of the line at fault: the whole of it where it isn't plain
 abbrev pub job : List (List ℕ) → Result JobData Field

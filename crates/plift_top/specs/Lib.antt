@@ -8,5 +8,6 @@ pub mod Written
 pub mod Built
 pub mod Leaf
 pub mod Verify
+pub mod Stages
 pub mod Refused
 pub mod Answers

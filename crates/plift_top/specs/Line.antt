@@ -44,7 +44,7 @@ value_of name settings = option_and_then (λ s. s.value) (find (λ s. bytes_eq s
 -- the names of the options of `verify`
 abbrev pub is_option : List ℕ → Bool
 is_option name =
-    bytes_eq name (codes "--goal") || bytes_eq name (codes "--bound") || bytes_eq name (codes "--depth") || bytes_eq name (codes "--precision")
+    bytes_eq name (codes "--goal") || bytes_eq name (codes "--bound") || bytes_eq name (codes "--region") || bytes_eq name (codes "--depth") || bytes_eq name (codes "--precision")
 
 -- a value is there, and doesn't begin with `-`
 abbrev pub is_value : Option (List ℕ) → Bool

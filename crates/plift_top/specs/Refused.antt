@@ -1,6 +1,8 @@
 -- The refusals that failed calls become.
 use Rattle.lift_base.specs.declared.input.ReadError.{ReadError}
 use Rattle.lift_base.specs.declared.input.ReadError.TheVariants as why
+use Rattle.lift_grid.specs.declared.error.RegionError.{RegionError}
+use Rattle.lift_grid.specs.declared.error.RegionError.TheVariants as region
 use Rattle.drn_read.specs.declared.error.DrnCause.TheVariants as cause
 use Rattle.drn_read.specs.declared.error.DrnError.{DrnError}
 use Rattle.plift_top.specs.declared.refusal.Refusal.{Refusal}
@@ -15,3 +17,8 @@ refusal_of why.Memory = refusal.Memory
 -- a text that is refused, where it isn't for want of memory
 abbrev pub model_refusal : DrnError → Refusal
 model_refusal error = elim error.cause [ cause.Memory ↦ refusal.Memory | _ ↦ refusal.Model error ]
+
+-- a region that is refused, where it isn't for want of memory
+abbrev pub region_refusal : RegionError → Refusal
+region_refusal region.Memory = refusal.Memory
+region_refusal error = refusal.Region error

@@ -1,13 +1,15 @@
 -- The text of a report whose tree is one leaf: version 1 of our own format.
-use Rattle.std.specs.Prelude.{◌+◌, ◌^◌, ℕ, ℤ, List, [], ◌∷◌, ◌++◌, length, map, codes, Bool, true, false}
+use Rattle.std.specs.Prelude.{◌+◌, ℕ, ℤ, List, [], ◌∷◌, ◌++◌, length, map, codes, Bool, true, false}
 use Rattle.std.specs.List.{concat}
 use Rattle.std.specs.Fmt.{decimal, signed_decimal}
 use Rattle.lift_poly.specs.Polynomial.{Term}
+use Rattle.lift_grid.specs.Rectangle.{Spans, sides_of}
 use Rattle.lift_model.specs.declared.kind.Kind.{Kind}
 use Rattle.lift_model.specs.declared.kind.Kind.TheVariants.{Dtmc, Mdp}
 use Rattle.lift_model.specs.declared.entry.Entry.{Entry}
 use Rattle.lift_model.specs.Model.{ModelData}
-use Rattle.plift_top.specs.Job.{JobData}
+use Rattle.corner_lift.specs.Case.{CaseData}
+use Rattle.lift_cert.specs.declared.bound.Bound.{Bound}
 
 -- The tree of one leaf: accepted by a vector with a number for each state, or unknown.
 pub data Leaf : Type 0 where
@@ -84,25 +86,32 @@ state_lines s choices = numbered (row_lines s) 0 choices
 abbrev pub rows_lines : List (List (List Entry)) → List (List ℕ)
 rows_lines states = numbered state_lines 0 states
 
--- bound, precision, depth, grid and the sides of the region; without parameters the grid is 2 ^ depth, and there are no sides
-unfoldable pub job_lines : JobData → List (List ℕ)
-job_lines job =
-    line (codes "bound" ∷ (decimal job.bound.num ++ codes "/" ++ decimal job.bound.den) ∷ [])
-    ∷ line (codes "precision" ∷ decimal job.precision ∷ [])
-    ∷ line (codes "depth" ∷ decimal job.depth ∷ [])
-    ∷ line (codes "grid" ∷ decimal (2 ^ job.depth) ∷ [])
-    ∷ line (codes "box" ∷ [])
+-- bound, precision, depth and the grid's number
+unfoldable pub asked_lines : CaseData → Bound → List (List ℕ)
+asked_lines k bound =
+    line (codes "bound" ∷ (decimal bound.num ++ codes "/" ++ decimal bound.den) ∷ [])
+    ∷ line (codes "precision" ∷ decimal k.w ∷ [])
+    ∷ line (codes "depth" ∷ decimal k.depth ∷ [])
+    ∷ line (codes "grid" ∷ signed_decimal k.d ∷ [])
     ∷ []
+
+-- the low and the high end of each parameter, over the grid's number
+abbrev pub box_line : Spans → List ℕ
+box_line root = line (codes "box" ∷ map signed_decimal (sides_of root))
 
 -- a leaf: its certificate, or that it is unknown
 abbrev pub leaf_line : Leaf → List ℕ
 leaf_line (accept x) = line (codes "accept" ∷ map signed_decimal x)
 leaf_line unknown = line (codes "unknown" ∷ [])
 
--- the lines of a report: the model, the job, and the tree
-abbrev pub report_lines : ModelData → JobData → Leaf → List (List ℕ)
-report_lines m job leaf = head_lines m ++ goal_line m.goal ∷ (rows_lines m.states ++ (job_lines job ++ leaf_line leaf ∷ []))
+-- a model: its sizes, its goal states and its rows
+abbrev pub model_lines : ModelData → List (List ℕ)
+model_lines m = head_lines m ++ goal_line m.goal ∷ rows_lines m.states
+
+-- the lines of a report: the model, what is asked of it, and the tree
+abbrev pub report_lines : CaseData → Bound → Leaf → List (List ℕ)
+report_lines k bound leaf = model_lines k.model ++ (asked_lines k bound ++ box_line k.root ∷ leaf_line leaf ∷ [])
 
 -- the bytes of a report
-abbrev pub report_text : ModelData → JobData → Leaf → List ℕ
-report_text m job leaf = concat (report_lines m job leaf)
+abbrev pub report_text : CaseData → Bound → Leaf → List ℕ
+report_text k bound leaf = concat (report_lines k bound leaf)

@@ -3,7 +3,7 @@ ghost use Rattle.std.specs.Prelude.{◌≡◌, ◌≤◌, map, string_bytes, cod
 ghost use Rattle.std.specs.Option.{option_map};
 ghost use Rattle.clap.specs.Words.{found_of, first_value};
 ghost use Rattle.plift_top.specs.Values.{goal_of, bound_of};
-ghost use Rattle.plift_top.specs.Job.{job, job_of, number_or};
+ghost use Rattle.plift_top.specs.Job.{job, job_of, number_or, text_or_nothing};
 ghost use Rattle.plift_top.specs.Given.{answer_data, Asks};
 
 use crate::job::{Field, Job};
@@ -27,6 +27,16 @@ fn bound_in(matches: &ArgMatches<'_>) -> Option<Bound>
     bound_of(matches.get_str("bound")?)
 }
 
+// The text that names the region, which may be left out.
+fn region_in<'a>(matches: &ArgMatches<'a>) -> &'a [u8]
+    ensures { result.now ≡ text_or_nothing (first_value (found_of matches.now) (codes "region")) }
+{
+    match matches.get_str("region") {
+        Some(text) => text.as_bytes(),
+        None => b"",
+    }
+}
+
 // The number of an option that may be left out.
 fn number_in(matches: &ArgMatches<'_>, id: &str, default: u32, low: u32, high: u32) -> Option<u32>
     requires low { low ≤ default }
@@ -42,15 +52,17 @@ fn number_in(matches: &ArgMatches<'_>, id: &str, default: u32, low: u32, high: u
 
 fn job_in<'a>(matches: &ArgMatches<'a>) -> Result<Job<'a>, Field>
     ensures { let f = found_of matches.now in
-        answer_data result ≡ job_of (first_value f (codes "goal")) (first_value f (codes "bound")) (first_value f (codes "depth")) (first_value f (codes "precision")) }
+        answer_data result ≡ job_of (first_value f (codes "goal")) (first_value f (codes "bound")) (first_value f (codes "region")) (first_value f (codes "depth")) (first_value f (codes "precision")) }
 {
     let goal = goal_in(matches).ok_or(Field::Goal)?;
     let bound = bound_in(matches).ok_or(Field::Bound)?;
+    let region = region_in(matches);
     let depth = number_in(matches, "depth", 0, 0, 20).ok_or(Field::Depth)?;
     let precision = number_in(matches, "precision", 24, 1, 40).ok_or(Field::Precision)?;
     Ok(Job {
         goal,
         bound,
+        region,
         depth,
         precision,
     })

@@ -19,6 +19,8 @@ pub enum Field {
 pub struct Job<'a> {
     pub goal: &'a [u8],
     pub bound: Bound,
+    /// The text that names the region; it is read against the model's parameters.
+    pub region: &'a [u8],
     /// How often a rectangle may be halved, from 0 to 20.
     pub depth: u32,
     /// A certificate's numbers are over 2^precision, from 1 to 40.

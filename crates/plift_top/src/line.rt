@@ -82,7 +82,11 @@ fn stands(name: &str, words: &[String]) -> bool
 fn is_option(name: &str) -> bool
     ensures { result ≡ is_option name.now }
 {
-    name == "--goal" || name == "--bound" || name == "--depth" || name == "--precision"
+    name == "--goal"
+        || name == "--bound"
+        || name == "--region"
+        || name == "--depth"
+        || name == "--precision"
 }
 
 fn is_value(value: Option<&str>) -> bool

@@ -30,6 +30,7 @@ fn verify_command<'a>(alloc: Global) -> Result<Command<'a>, AllocError>
     let command = Command::new(alloc, "verify");
     let command = with_option(alloc, command, "goal", true)?;
     let command = with_option(alloc, command, "bound", true)?;
+    let command = with_option(alloc, command, "region", false)?;
     let command = with_option(alloc, command, "depth", false)?;
     with_option(alloc, command, "precision", false)
 }

@@ -1,13 +1,15 @@
 // The whole program, over any source and sinks.
-ghost use Rattle.std.specs.Prelude.{◌≡◌, ◌≢◌, ◌≤◌, ◌<◌, ◌^◌, ◌⊎◌, map, string_bytes, length, codes, List, ℕ, true, Some, Ok, Err, IsErr};
+ghost use Rattle.std.specs.Prelude.{◌≡◌, ◌≢◌, ◌≤◌, ◌<◌, ◌⊎◌, map, string_bytes, length, List, ℕ, true, Some, Ok, Err, IsErr};
 ghost use Rattle.std.specs.Io.KnownBytes.{Appends};
 ghost use Rattle.lift_base.specs.Outside.{Rose, AppendsFront, TakenHas, Wrote};
+ghost use Rattle.lift_grid.specs.Region.{Region, region};
 ghost use Rattle.lift_model.specs.Model.{ModelData};
+ghost use Rattle.lift_rows.specs.Admitted.{IsAdmitted};
 ghost use Rattle.drn_read.specs.Reading.{drn};
 ghost use Rattle.plift_top.specs.Job.{job, JobData};
 ghost use Rattle.plift_top.specs.Built.{is_built};
-ghost use Rattle.plift_top.specs.Verify.{WasRead, Reports, KeepsLimit, text_limit};
-ghost use Rattle.plift_top.specs.Answers.{status_of, usage_note, model_note, note_of, IsRefused, HasNote, Told, Acts};
+ghost use Rattle.plift_top.specs.Verify.{WasRead, Reports, IsRefused, KeepsLimit, case_of, text_limit};
+ghost use Rattle.plift_top.specs.Answers.{status_of, usage_note, region_note, model_note, row_words, rows_note, note_of, RefusesText, HasNote, Told, Acts};
 
 use crate::command::job_of;
 use crate::job::Field;
@@ -16,6 +18,8 @@ use crate::status::Status;
 use crate::verify::verify;
 use drn_read::DrnError;
 use lift_base::{Sink, Source, Word, WriteFault, write_all, write_words};
+use lift_grid::RegionError;
+use lift_rows::RowError;
 use std::alloc::Global;
 
 fn act<S: Source, K: Sink>(
@@ -35,8 +39,9 @@ fn status_of(refusal: Refusal) -> Status
     ensures { result ≡ status_of refusal }
 {
     match refusal {
-        Refusal::Usage(_) => Status::Usage,
+        Refusal::Usage(_) | Refusal::Region(_) => Status::Usage,
         Refusal::Model(_) | Refusal::Unbuilt => Status::ModelRefused,
+        Refusal::Rows(_) => Status::RowsRefused,
         Refusal::ReadFault => Status::ReadFault,
         Refusal::WriteFault => Status::WriteFault,
         Refusal::TooLong => Status::TooLong,
@@ -71,12 +76,107 @@ fn write_model_note<E: Sink>(notes: &mut E, error: DrnError) -> Result<(), Write
     )
 }
 
+fn write_region_note<E: Sink>(notes: &mut E, error: RegionError) -> Result<(), WriteFault>
+    ensures { Wrote E.taken E.faults notes.old notes.new result (region_note error) }
+{
+    write_words(
+        notes,
+        &[
+            Word::Text(b"usage: --region "),
+            Word::Text(error.name().as_bytes()),
+            Word::Text(b"\n"),
+        ],
+    )
+}
+
+fn write_row_words<E: Sink>(notes: &mut E, error: RowError) -> Result<(), WriteFault>
+    ensures { Wrote E.taken E.faults notes.old notes.new result (row_words error) }
+{
+    match error {
+        RowError::RowSum {
+            state,
+            choice,
+            set,
+            sum,
+        } => write_words(
+            notes,
+            &[
+                Word::Text(b"state "),
+                Word::Count(u64::from(state)),
+                Word::Text(b" choice "),
+                Word::Count(u64::from(choice)),
+                Word::Text(b": set "),
+                Word::Count(u64::from(set)),
+                Word::Text(b" sums to "),
+                Word::Number(sum),
+            ],
+        ),
+        RowError::Negative {
+            state,
+            choice,
+            target,
+            corner,
+            weight,
+        } => write_words(
+            notes,
+            &[
+                Word::Text(b"state "),
+                Word::Count(u64::from(state)),
+                Word::Text(b" choice "),
+                Word::Count(u64::from(choice)),
+                Word::Text(b": target "),
+                Word::Count(u64::from(target)),
+                Word::Text(b" at corner "),
+                Word::Count(u64::from(corner)),
+                Word::Text(b" has weight "),
+                Word::Number(weight),
+            ],
+        ),
+        RowError::RowParameters {
+            state,
+            choice,
+            count,
+        } => write_words(
+            notes,
+            &[
+                Word::Text(b"state "),
+                Word::Count(u64::from(state)),
+                Word::Text(b" choice "),
+                Word::Count(u64::from(choice)),
+                Word::Text(b": "),
+                Word::Count(u64::from(count)),
+                Word::Text(b" parameters"),
+            ],
+        ),
+        RowError::TooWide { state, choice } => write_words(
+            notes,
+            &[
+                Word::Text(b"state "),
+                Word::Count(u64::from(state)),
+                Word::Text(b" choice "),
+                Word::Count(u64::from(choice)),
+                Word::Text(b": too wide"),
+            ],
+        ),
+    }
+}
+
+fn write_rows_note<E: Sink>(notes: &mut E, error: RowError) -> Result<(), WriteFault>
+    ensures { Wrote E.taken E.faults notes.old notes.new result (rows_note error) }
+{
+    write_all(notes, b"rows: ")?;
+    write_row_words(notes, error)?;
+    write_all(notes, b"\n")
+}
+
 fn write_note<E: Sink>(notes: &mut E, refusal: Refusal) -> Result<(), WriteFault>
     ensures { Wrote E.taken E.faults notes.old notes.new result (note_of refusal) }
 {
     match refusal {
         Refusal::Usage(field) => write_all(notes, usage_note(field)),
+        Refusal::Region(error) => write_region_note(notes, error),
         Refusal::Model(error) => write_model_note(notes, error),
+        Refusal::Rows(error) => write_rows_note(notes, error),
         Refusal::Unbuilt => write_all(notes, b"model: unbuilt\n"),
         Refusal::ReadFault => write_all(notes, b"read fault\n"),
         Refusal::WriteFault => write_all(notes, b"write fault\n"),
@@ -100,31 +200,33 @@ pub fn run<S: Source, K: Sink, E: Sink>(
     out: &mut K,
     notes: &mut E,
 ) -> Status
-    // Done: the source gave a text that stands for a model, that model is built, and out took its report and nothing else.
+    // Done: the source gave a text that stands for a model, its rows are admitted over the region, it is built, and out took its report and nothing else.
     ensures done { result ≡ Status.Done → (j : JobData) × (job (map string_bytes words.now.items) ≡ Ok j)
         × WasRead (Reports (Appends (K.taken out.old) (K.taken out.new)) j) (S.left source.old) (S.left source.new) }
 
     // Each refusal has its cause.
-    ensures usage { result ≡ Status.Usage → IsErr (job (map string_bytes words.now.items)) }
+    ensures usage { result ≡ Status.Usage → IsErr (job (map string_bytes words.now.items)) ⊎ ((note : List ℕ) × RefusesText Status.Usage (job (map string_bytes words.now.items)) (S.left source.old) (S.left source.new) note) }
     ensures at_fault { IsErr (job (map string_bytes words.now.items)) → (result ≡ Status.Usage) ⊎ (result ≡ Status.Memory) }
     ensures not_plain { job (map string_bytes words.now.items) ≡ Err Field.Words → result ≡ Status.Usage }
-    ensures model { result ≡ Status.ModelRefused → (j : JobData) × (job (map string_bytes words.now.items) ≡ Ok j)
-        × (note : List ℕ) × WasRead (IsRefused j.goal note) (S.left source.old) (S.left source.new) }
+    ensures model { result ≡ Status.ModelRefused → (note : List ℕ) × RefusesText Status.ModelRefused (job (map string_bytes words.now.items)) (S.left source.old) (S.left source.new) note }
+    ensures rows { result ≡ Status.RowsRefused → (note : List ℕ) × RefusesText Status.RowsRefused (job (map string_bytes words.now.items)) (S.left source.old) (S.left source.new) note }
     ensures read_fault { result ≡ Status.ReadFault → Rose (S.faults source.old) (S.faults source.new) }
     ensures write_fault { result ≡ Status.WriteFault → Rose (K.faults out.old) (K.faults out.new) }
     ensures too_long { result ≡ Status.TooLong → TakenHas (λ bytes. text_limit < length bytes) (S.left source.old) (S.left source.new) }
     ensures within { result ≢ Status.TooLong → TakenHas (λ bytes. length bytes ≤ text_limit) (S.left source.old) (S.left source.new) }
-    ensures never { (result ≢ Status.NotSound) × (result ≢ Status.RowsRefused) }
+    ensures never { result ≢ Status.NotSound }
 
-    // A job and a text that stands for a model that is built give Done or Memory, where no fault is counted; with any other text it is ModelRefused or Memory.
-    ensures complete { (j : JobData) (text : List ℕ) (m : ModelData) → job (map string_bytes words.now.items) ≡ Ok j → S.left source.old ≡ Some text
-        → drn text j.goal ≡ Ok m → is_built m ≡ true → length text ≤ text_limit
+    // A job, a text that stands for a model that is built, and a region over which its rows are admitted give Done or Memory, where no fault is counted.
+    ensures complete { (j : JobData) (text : List ℕ) (m : ModelData) (root : Region) → job (map string_bytes words.now.items) ≡ Ok j → S.left source.old ≡ Some text
+        → drn text j.goal ≡ Ok m → region m.names j.depth j.region ≡ Ok root → IsAdmitted (case_of m root j.precision) → is_built m ≡ true → length text ≤ text_limit
         → (Rose (S.faults source.old) (S.faults source.new) → ⊥) → (Rose (K.faults out.old) (K.faults out.new) → ⊥)
         → (result ≡ Status.Done) ⊎ (result ≡ Status.Memory) }
-    ensures refused { (j : JobData) (text note : List ℕ) → job (map string_bytes words.now.items) ≡ Ok j → S.left source.old ≡ Some text
-        → IsRefused j.goal note text → length text ≤ text_limit
+
+    // A job that is refused at its text gives that refusal's status or Memory, where no fault is counted.
+    ensures refused { (j : JobData) (text : List ℕ) (why : Refusal) → job (map string_bytes words.now.items) ≡ Ok j → S.left source.old ≡ Some text
+        → IsRefused j why text → length text ≤ text_limit
         → (Rose (S.faults source.old) (S.faults source.new) → ⊥) → (Rose (K.faults out.old) (K.faults out.new) → ⊥)
-        → (result ≡ Status.ModelRefused) ⊎ (result ≡ Status.Memory) }
+        → (result ≡ status_of why) ⊎ (result ≡ Status.Memory) }
 
     // What stands after a refusal: the front of the report after a write fault, else out as it was.
     ensures part { result ≡ Status.WriteFault → (j : JobData) × (job (map string_bytes words.now.items) ≡ Ok j)

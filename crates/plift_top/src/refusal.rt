@@ -1,11 +1,13 @@
 // Why a command gave up.
 ghost use Rattle.std.specs.Prelude.{◌≡◌};
-ghost use Rattle.plift_top.specs.declared.refusal.Refusal.TheVariants.{Memory, WriteFault, Usage};
-ghost use Rattle.plift_top.specs.Refused.{refusal_of, model_refusal};
+ghost use Rattle.plift_top.specs.declared.refusal.Refusal.TheVariants.{Memory, WriteFault, Usage, Rows};
+ghost use Rattle.plift_top.specs.Refused.{refusal_of, model_refusal, region_refusal};
 
 use crate::job::Field;
 use drn_read::{DrnCause, DrnError};
 use lift_base::ReadError;
+use lift_grid::RegionError;
+use lift_rows::RowError;
 use std::alloc::AllocError;
 
 /// Why a command gave up, with what its note tells.
@@ -15,6 +17,10 @@ pub enum Refusal {
     Usage(Field),
     /// The text stands for no model.
     Model(DrnError),
+    /// The region's text names no rectangle of the model's parameters.
+    Region(RegionError),
+    /// A row of the model isn't admitted over the region.
+    Rows(RowError),
     /// The model isn't of those that this program verifies.
     Unbuilt,
     ReadFault,
@@ -68,5 +74,24 @@ impl From<DrnError> for Refusal {
             DrnCause::Memory => Refusal::Memory,
             _ => Refusal::Model(error),
         }
+    }
+}
+
+impl From<RegionError> for Refusal {
+    ghost from_gives = { λ error e. e ≡ region_refusal error };
+
+    fn from(error: RegionError) -> Self {
+        match error {
+            RegionError::Memory => Refusal::Memory,
+            _ => Refusal::Region(error),
+        }
+    }
+}
+
+impl From<RowError> for Refusal {
+    ghost from_gives = { λ error e. e ≡ Rows error };
+
+    fn from(error: RowError) -> Self {
+        Refusal::Rows(error)
     }
 }

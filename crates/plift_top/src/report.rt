@@ -1,27 +1,28 @@
 // Writes a report.
-ghost use Rattle.std.specs.Prelude.{◌≡◌, ◌<◌, ◌≤◌, ◌∷◌, ◌^◌, ℕ, map, length};
+ghost use Rattle.std.specs.Prelude.{◌≡◌, ◌<◌, ◌∷◌, length};
 ghost use Rattle.std.specs.List.{concat, flat_map};
 ghost use Rattle.std.specs.Fmt.{decimal};
 ghost use Rattle.lift_base.specs.Outside.{Wrote};
 ghost use Rattle.lift_model.specs.Model.{choices};
-ghost use Rattle.plift_top.specs.Report.{kind_name, kind_lines, parameters_line, size_lines, head_lines, goal_states, goal_line, term_word, entry_line, row_line, row_lines, state_lines, rows_lines, job_lines, leaf_line, report_text};
-ghost use Rattle.plift_top.specs.Given.{job_data};
+ghost use Rattle.plift_top.specs.Report.{kind_name, kind_lines, parameters_line, size_lines, head_lines, goal_states, goal_line, term_word, entry_line, row_line, row_lines, state_lines, rows_lines, model_lines, asked_lines, box_line, leaf_line, report_text};
 ghost use Rattle.plift_top.specs.Written.{leaf_of};
 
-use crate::job::Job;
+use corner_lift::Case;
 use lift_base::{Names, Sink, Text, Word, WriteFault, write_all, write_words};
+use lift_cert::Bound;
+use lift_grid::Rect;
 use lift_model::{Entry, Kind, Model, Row};
 use lift_poly::MultiAffine;
 
-/// A report whose tree is one leaf.
+/// A report of a case whose tree is one leaf.
 #[derive(Clone, Copy)]
-pub struct Report<'a> {
-    pub model: &'a Model,
-    pub job: &'a Job<'a>,
-    pub verdict: Verdict<'a>,
+pub struct Report<'c, 'm, 'x> {
+    pub case: &'c Case<'m>,
+    pub bound: Bound,
+    pub verdict: Verdict<'x>,
 }
 
-/// What is decided of the whole region.
+/// What is decided of the whole root.
 #[derive(Clone, Copy, Debug)]
 pub enum Verdict<'a> {
     /// A certificate, with one number for each state.
@@ -233,34 +234,36 @@ fn write_rows<K: Sink>(out: &mut K, model: &Model) -> Result<(), WriteFault>
     Ok(())
 }
 
-// The grid of a region without parameters.
-fn grid_of(depth: u32) -> u64
-    requires { depth ≤ 20 }
-    ensures { result ≡ 2 ^ depth }
+#[tactic(auto, unfolding(crate::specs::Report::asked_lines))]
+fn write_asked<K: Sink>(out: &mut K, case: &Case, bound: Bound) -> Result<(), WriteFault>
+    ensures { Wrote K.taken K.faults out.old out.new result (concat (asked_lines case.now bound)) }
 {
-    1 << depth
-}
-
-#[tactic(auto, unfolding(crate::specs::Report::job_lines))]
-fn write_job<K: Sink>(out: &mut K, job: &Job) -> Result<(), WriteFault>
-    requires { job.now.depth ≤ 20 }
-    ensures { Wrote K.taken K.faults out.old out.new result (concat (job_lines (job_data job.now))) }
-{
+    let grid = case.grid();
     write_words(
         out,
         &[
             Word::Text(b"bound "),
-            Word::Count(u64::from(job.bound.num)),
+            Word::Count(u64::from(bound.num)),
             Word::Text(b"/"),
-            Word::Count(u64::from(job.bound.den)),
+            Word::Count(u64::from(bound.den)),
             Word::Text(b"\nprecision "),
-            Word::Count(u64::from(job.precision)),
+            Word::Count(u64::from(case.w())),
             Word::Text(b"\ndepth "),
-            Word::Count(u64::from(job.depth)),
+            Word::Count(u64::from(grid.depth)),
             Word::Text(b"\ngrid "),
-            Word::Count(grid_of(job.depth)),
-            Word::Text(b"\nbox\n"),
+            Word::Number(i128::from(grid.d)),
+            Word::Text(b"\n"),
         ],
+    )
+}
+
+fn write_box<K: Sink>(out: &mut K, root: &Rect) -> Result<(), WriteFault>
+    ensures { Wrote K.taken K.faults out.old out.new result (box_line root.now) }
+{
+    let sides = root.sides();
+    write_words(
+        out,
+        &[Word::Text(b"box"), Word::Numbers(sides), Word::Text(b"\n")],
     )
 }
 
@@ -276,27 +279,33 @@ fn write_leaf<K: Sink>(out: &mut K, verdict: &Verdict) -> Result<(), WriteFault>
     }
 }
 
-// Writes the whole report. Takes no memory.
-fn write_report<K: Sink>(
-    out: &mut K,
-    model: &Model,
-    job: &Job,
-    verdict: &Verdict,
-) -> Result<(), WriteFault>
-    requires { job.now.depth ≤ 20 }
-    ensures { Wrote K.taken K.faults out.old out.new result (report_text model.now (job_data job.now) (leaf_of verdict.now)) }
+fn write_model<K: Sink>(out: &mut K, model: &Model) -> Result<(), WriteFault>
+    ensures { Wrote K.taken K.faults out.old out.new result (concat (model_lines model.now)) }
 {
     write_head(out, model)?;
     write_goal(out, model)?;
-    write_rows(out, model)?;
-    write_job(out, job)?;
+    write_rows(out, model)
+}
+
+// Writes the whole report. Takes no memory.
+fn write_report<K: Sink>(
+    out: &mut K,
+    case: &Case,
+    bound: Bound,
+    verdict: &Verdict,
+) -> Result<(), WriteFault>
+    ensures { Wrote K.taken K.faults out.old out.new result (report_text case.now bound (leaf_of verdict.now)) }
+{
+    write_model(out, case.model())?;
+    write_asked(out, case, bound)?;
+    write_box(out, case.root())?;
     write_leaf(out, verdict)
 }
 
-impl<'a> Text for Report<'a> {
-    ghost text = { λ r. report_text r.model.now (job_data r.job.now) (leaf_of r.verdict) };
+impl<'c, 'm, 'x> Text for Report<'c, 'm, 'x> {
+    ghost text = { λ r. report_text r.case.now r.bound (leaf_of r.verdict) };
 
     fn write_to<K: Sink>(&self, out: &mut K) -> Result<(), WriteFault> {
-        write_report(out, self.model, self.job, &self.verdict)
+        write_report(out, self.case, self.bound, &self.verdict)
     }
 }

@@ -7,9 +7,9 @@ pub enum Status {
     NotSound = 1,
     /// The command line is at fault.
     Usage = 2,
-    /// The text isn't a model that this program reads.
+    /// The text stands for no model, or for one that this program doesn't verify yet.
     ModelRefused = 3,
-    /// A row of the model is no distribution over the region. Comes with regions.
+    /// A row of the model is no distribution over the region, or too wide.
     RowsRefused = 4,
     /// The source failed.
     ReadFault = 5,

@@ -33,6 +33,25 @@ const TENTH: &str = "@type: DTMC\n@model\nstate 0 init\n1 : 1/10\n2 : 9/10\n\
 const LESS: &str = "@type: DTMC\n@model\nstate 0 init\n1 : 1/4\n2 : 1/2\n\
     state 1 heads\n1 : 1\nstate 2\n2 : 1\n";
 
+// Printed decimals that don't add up.
+const DECIMALS: &str = "@type: DTMC\n@model\nstate 0 init\n1 : 0.3333\n2 : 0.6666\n\
+    state 1 heads\n1 : 1\nstate 2\n2 : 1\n";
+
+// The two values are of different parameters, so that they sum to 1 where these are equal alone.
+const APART_COIN: &str = "@type: DTMC\n@parameters\np q\n@model\nstate 0 init\n1 : p\n2 : 1-q\n\
+    state 1 heads\n1 : 1\nstate 2\n2 : 1\n";
+
+const TWO: &str = "@type: DTMC\n@parameters\np q\n@model\nstate 0 init\n1 : p*q\n2 : 1-p*q\n\
+    state 1 heads\n1 : 1\nstate 2\n2 : 1\n";
+
+const FOUR: &str =
+    "@type: DTMC\n@parameters\np q r s\n@model\nstate 0 init\n1 : p*q*r*s\n2 : 1-p*q*r*s\n\
+    state 1 heads\n1 : 1\nstate 2\n2 : 1\n";
+
+const FIVE: &str = "@type: DTMC\n@parameters\na b c d e\n@model\nstate 0 init\n\
+    1 : 1/8*a+1/8*b+1/8*c\n2 : 1/8*d+1/8*e\n0 : 1/2-1/8*a-1/8*b-1/8*c\n3 : 1/2-1/8*d-1/8*e\n\
+    state 1 heads\n1 : 1\nstate 2\n2 : 1\nstate 3\n3 : 1\n";
+
 // A value below 0, in a row that sums to 1.
 const BELOW: &str = "@type: DTMC\n@model\nstate 0 init\n1 : -1/4\n2 : 5/4\n\
     state 1 heads\n1 : 1\nstate 2\n2 : 1\n";
@@ -133,11 +152,7 @@ const DECIDED: [Run; 9] = [
     ),
 ];
 
-const REFUSED: [Run; 25] = [
-    (HALF, COIN, Status::ModelRefused, "", "model: unbuilt\n"),
-    (HALF, TWIN, Status::ModelRefused, "", "model: unbuilt\n"),
-    (HALF, LESS, Status::ModelRefused, "", "model: unbuilt\n"),
-    (HALF, BELOW, Status::ModelRefused, "", "model: unbuilt\n"),
+const REFUSED: [Run; 20] = [
     (
         HALF,
         "",
@@ -222,13 +237,6 @@ const REFUSED: [Run; 25] = [
         PLAIN_REPORT,
         "",
     ),
-    (
-        "verify --goal heads --bound 1/2 --region 0<=p<=1",
-        PLAIN,
-        Status::Usage,
-        "",
-        "usage: words\n",
-    ),
     ("check", PLAIN, Status::Usage, "", "usage: words\n"),
     ("", PLAIN, Status::Usage, "", "usage: words\n"),
     (
@@ -275,6 +283,92 @@ const REFUSED: [Run; 25] = [
     ),
 ];
 
+const REGIONS: [Run; 10] = [
+    (
+        "verify --goal heads --bound 1/2 --precision 4 --region 1/10<=p<=2/5",
+        COIN,
+        Status::ModelRefused,
+        "",
+        "model: unbuilt\n",
+    ),
+    (
+        "verify --goal heads --bound 1/2 --precision 4 --region 2/5<=p<=3/5",
+        TWIN,
+        Status::ModelRefused,
+        "",
+        "model: unbuilt\n",
+    ),
+    (
+        "verify --goal heads --bound 1/2 --precision 4 --region 1/2<=p<=3/2",
+        COIN,
+        Status::RowsRefused,
+        "",
+        "rows: state 0 choice 0: target 2 at corner 1 has weight -1\n",
+    ),
+    (
+        "verify --goal heads --bound 1/2 --precision 4 --region 1/10<=p<=2/5,1/10<=q<=2/5",
+        APART_COIN,
+        Status::RowsRefused,
+        "",
+        "rows: state 0 choice 0: set 1 sums to 1\n",
+    ),
+    (
+        "verify --goal heads --bound 1/2 --precision 4",
+        DECIMALS,
+        Status::RowsRefused,
+        "",
+        "rows: state 0 choice 0: set 0 sums to 9999\n",
+    ),
+    (
+        "verify --goal heads --bound 1/2 --precision 4",
+        LESS,
+        Status::RowsRefused,
+        "",
+        "rows: state 0 choice 0: set 0 sums to 3\n",
+    ),
+    (
+        "verify --goal heads --bound 1/2 --precision 4",
+        BELOW,
+        Status::RowsRefused,
+        "",
+        "rows: state 0 choice 0: target 1 at corner 0 has weight -1\n",
+    ),
+    (
+        "verify --goal heads --bound 1/2 --depth 20 --region 1/1000<=p<=3/1000,1/1000<=q<=3/1000,1/1000<=r<=3/1000,1/1000<=s<=3/1000",
+        FOUR,
+        Status::RowsRefused,
+        "",
+        "rows: state 0 choice 0: too wide\n",
+    ),
+    (
+        "verify --goal heads --bound 1/2 --depth 2 --region 1/1000<=p<=3/1000,1/1000<=q<=3/1000,1/1000<=r<=3/1000,1/1000<=s<=3/1000",
+        FOUR,
+        Status::ModelRefused,
+        "",
+        "model: unbuilt\n",
+    ),
+    (
+        "verify --goal heads --bound 1/2 --precision 4 --region 0<=a<=1,0<=b<=1,0<=c<=1,0<=d<=1,0<=e<=1",
+        FIVE,
+        Status::RowsRefused,
+        "",
+        "rows: state 0 choice 0: 5 parameters\n",
+    ),
+];
+
+// A region, the text, and what is told of the region.
+const BAD_REGIONS: [(&str, &str, &str); 9] = [
+    ("1/10<=p<=2/5", TWO, "Missing"),
+    ("1/10<=p<=2/5,1/10<=q<=2/5,0<=q<=1", TWO, "Repeated"),
+    ("1/10<=p<=2/5,1/2<=q<=1/2", TWO, "EmptyInterval"),
+    ("1/10<=p<=2/5,1/10<=z<=2/5", TWO, "UnknownName"),
+    ("1/10<p<2/5", TWO, "Syntax"),
+    ("1/10<=p<=2/5,", TWO, "Syntax"),
+    ("0<=p<=1", PLAIN, "UnknownName"),
+    ("0<=p<=4611686018427387904", COIN, "Wide"),
+    ("", COIN, "Missing"),
+];
+
 // Whether the words and the text of a run give what stands beside them.
 fn is_answered(alloc: Global, run_of: Run) -> Result<bool, Fail> {
     let (line, text, status, end, told) = run_of;
@@ -312,6 +406,34 @@ fn refusals_are_told(rt: HostRuntime) -> Result<(), Fail> {
     Ok(())
 }
 
+#[test]
+fn regions_at_fault_are_told(rt: HostRuntime) -> Result<(), Fail> {
+    let alloc = rt.alloc();
+    for (region, text, name) in BAD_REGIONS {
+        let mut line = words(alloc, HALF, ' ')?;
+        line.push(String::from_str(alloc, "--region")?)?;
+        line.push(String::from_str(alloc, region)?)?;
+        let mut source = SureSource::new(Vec::from_slice(alloc, text.as_bytes())?);
+        let mut out = MemSink::new(alloc, 10, 1, Vec::new(alloc))?;
+        let mut notes = MemSink::new(alloc, 100, 3, Vec::new(alloc))?;
+        let got = run(alloc, &line, &mut source, &mut out, &mut notes);
+        assert!(rt; got == Status::Usage, "{region}");
+        assert!(rt; out.taken().is_empty(), "{region}");
+        let told = format!(in alloc; "usage: --region {name}\n")?;
+        assert!(rt; notes.taken() == told.as_bytes(), "{region}");
+    }
+    Ok(())
+}
+
+// What is refused over its region, and what is admitted and not built.
+#[test]
+fn rows_are_admitted_or_told(rt: HostRuntime) -> Result<(), Fail> {
+    for row in REGIONS {
+        assert!(rt; is_answered(rt.alloc(), row)?, "{} on {}", row.0, row.1);
+    }
+    Ok(())
+}
+
 // Faults: of the source's third call, of the sink's second, of a sink without room, and of the notes.
 #[test]
 fn faults_are_told(rt: HostRuntime) -> Result<(), Fail> {
@@ -339,7 +461,7 @@ fn faults_are_told(rt: HostRuntime) -> Result<(), Fail> {
             "write fault\n",
         ),
         (PLAIN, 8, 0, 1000, 0, Status::Done, PLAIN_REPORT, ""),
-        (COIN, 0, 0, 1000, 1, Status::ModelRefused, "", ""),
+        (CTMC, 0, 0, 1000, 1, Status::ModelRefused, "", ""),
     ] {
         let mut failing_reads = Vec::new(alloc);
         failing_reads.push(reads)?;
@@ -419,7 +541,7 @@ const WORDS: &str = "usage: words\n";
 const READ: &str = "read fault\n";
 
 // Each line: the words, and what is told, where reading fails at once.
-const LINES: [(&str, &str); 62] = [
+const LINES: [(&str, &str); 70] = [
     ("verify|--goal|heads|--bound|1/2", READ),
     ("verify|--goal=heads|--bound=1/2|--precision=4", READ),
     ("verify|--depth|0|--bound=1/2|--goal|heads", READ),
@@ -447,7 +569,21 @@ const LINES: [(&str, &str); 62] = [
     ("verify|--goal|heads|--bound|1/2|more", WORDS),
     ("verify|--goal|heads|--bound|1/2|--speed|4", WORDS),
     ("verify|--goal|heads|--bound|1/2|--prec|4", WORDS),
-    ("verify|--goal|heads|--bound|1/2|--region|0<=p<=1", WORDS),
+    ("verify|--goal|heads|--bound|1/2|--region|0<=p<=1", READ),
+    ("verify|--region=0<=p<=1|--goal|heads|--bound|1/2", READ),
+    ("verify|--goal|heads|--bound|1/2|--region|", READ),
+    ("verify|--goal|heads|--bound|1/2|--region| -1<=p<=1", READ),
+    ("verify|--goal|heads|--bound|1/2|--region|-1<=p<=1", WORDS),
+    ("verify|--goal|heads|--bound|1/2|--region=", WORDS),
+    ("verify|--goal|heads|--bound|1/2|--region", WORDS),
+    (
+        "verify|--region|a|--goal|heads|--bound|1/2|--region|a",
+        WORDS,
+    ),
+    (
+        "verify|--goal|heads|--bound|3/2|--region|a",
+        "usage: --bound\n",
+    ),
     ("verify|--bound|1/2|--goal|=x", READ),
     ("verify|--bound|1/2|--goal=a=b", READ),
     ("verify|--bound|1/2|--goal|two words", READ),

@@ -1,14 +1,15 @@
 // Verifies a model against a bound.
-ghost use Rattle.std.specs.Prelude.{◌≡◌, ◌≤◌, ◌<◌, ◌^◌, true, [], IfOk, length, IsTrue, ◌↔◌, pos, ◌*ℤ◌, ◌≤ℤ◌};
-ghost use Rattle.lift_base.specs.Outside.{Wrote};
-ghost use Rattle.lift_model.specs.Valid.{IsModel};
+ghost use Rattle.std.specs.Prelude.{◌≡◌, ◌≤◌, ◌<◌, ◌^◌, IfOk, true, length, IsTrue, ◌↔◌, pos, ◌*ℤ◌, ◌≤ℤ◌};
+ghost use Rattle.lift_grid.specs.Rectangle.{IsOnGrid};
+ghost use Rattle.lift_grid.specs.Parts.{region_of};
 ghost use Rattle.corner_lift.specs.Certificate.{IsLeastUpper, number};
-ghost use Rattle.plift_top.specs.Report.{report_text};
+ghost use Rattle.lift_rows.specs.Admitted.{IsAdmitted};
 ghost use Rattle.plift_top.specs.Built.{is_built};
 ghost use Rattle.plift_top.specs.Given.{job_data};
 ghost use Rattle.plift_top.specs.Written.{leaf_of};
-ghost use Rattle.plift_top.specs.Leaf.{IsRightLeaf, BoundsInside, case_data};
-ghost use Rattle.plift_top.specs.Verify.{Verifies, ReadsModel, KeepsLimit};
+ghost use Rattle.plift_top.specs.Leaf.{IsRightLeaf, BoundsSchedulers};
+ghost use Rattle.plift_top.specs.Verify.{Verifies, KeepsLimit};
+ghost use Rattle.plift_top.specs.Stages.{ReadsModel, NamesRoot, AdmitsCase, WritesCase, WritesOver};
 
 use crate::built::is_built;
 use crate::job::Job;
@@ -16,36 +17,48 @@ use crate::refusal::Refusal;
 use crate::report::{Report, Verdict};
 use corner_lift::Case;
 use drn_read::read_model;
-use lift_base::{Sink, Source, read_all, write_buffered};
+use lift_base::{Names, Sink, Source, read_all, write_buffered};
 use lift_cert::Bound;
-use lift_grid::{Grid, Rect};
+use lift_grid::{Grid, Rect, read_region};
 use lift_model::Model;
+use lift_rows::admit;
 use rounded_iter::least_upper;
 use std::alloc::{AllocError, Global};
 
 /// How many bytes a text may have.
 const TEXT_LIMIT: usize = 1 << 26;
 
-// The number of the grid of a region without sides.
-fn grid_of(depth: u32) -> i64
-    requires { depth ≤ 20 }
-    ensures { result ≡ pos (2 ^ depth) }
+// Reads the text, and the model that it stands for.
+fn model_of<S: Source>(alloc: Global, goal: &[u8], source: &mut S) -> Result<Model, Refusal>
+    ensures answer { ReadsModel S.left S.faults goal.now source.old source.new result }
+    ensures limit { KeepsLimit result (S.left source.old) (S.left source.new) }
 {
-    1 << depth
+    let text = read_all(alloc, source, TEXT_LIMIT)?;
+    let model = read_model(alloc, &text, goal)?;
+    Ok(model)
 }
 
-// The case of a model without parameters, whose region has no sides.
-fn case_of<'m>(model: &'m Model, root: &'m Rect, job: &Job) -> Case<'m>
-    requires valid { IsModel model.now }
-    requires built { is_built model.now ≡ true }
-    requires root { root.now ≡ [] }
-    ensures { result ≡ case_data model.now (job_data job.now) }
+// The rectangle that the job's region names, over its grid.
+fn root_of(alloc: Global, job: &Job, names: &Names) -> Result<(Grid, Rect), Refusal>
+    ensures answer { NamesRoot (job_data job.now) names.now result }
+    ensures on_grid { IfOk result (λ p. IsOnGrid p.0.d p.0.depth (length names.now) p.1) }
+    ensures depth { IfOk result (λ p. p.0.depth ≡ job.now.depth) }
 {
-    let grid = Grid {
-        d: grid_of(job.depth),
-        depth: job.depth,
-    };
-    Case::new(model, root, grid, job.precision)
+    let root = read_region(alloc, job.region, names, job.depth)?;
+    Ok(root)
+}
+
+// The case of a model over a root, where all its rows are admitted and it is built.
+fn case_of<'m>(model: &'m Model, root: &'m Rect, grid: Grid, job: &Job) -> Result<Case<'m>, Refusal>
+    requires grid { IsOnGrid grid.d grid.depth (length model.now.names) root.now }
+    requires depth { grid.depth ≡ job.now.depth }
+    ensures { AdmitsCase (job_data job.now) model.now (region_of (grid, root.now)) result }
+{
+    let case = admit(model, root, grid, job.precision)?;
+    if !is_built(model) {
+        return Err(Refusal::Unbuilt);
+    }
+    Ok(case)
 }
 
 // The least upper vector of a case on its root.
@@ -71,8 +84,8 @@ fn is_within(bound: Bound, x: &[i64], s: u32, precision: u32) -> bool
 // Whether the least upper vector is within the bound decides the root.
 fn decide<'x>(case: &Case, bound: Bound, x: &'x [i64]) -> Verdict<'x>
     requires { let k = case.now in IsLeastUpper k.model k.d k.root k.w x.now }
-    ensures right { let k = case.now in IsRightLeaf k.model k.d k.root k.w bound (leaf_of result) }
-    ensures schedulers { BoundsInside case.now bound (leaf_of result) }
+    ensures right { IsRightLeaf case.now bound (leaf_of result) }
+    ensures schedulers { BoundsSchedulers case.now bound (leaf_of result) }
 {
     if is_within(bound, x, case.model().init(), case.w()) {
         Verdict::Accept(x)
@@ -81,21 +94,41 @@ fn decide<'x>(case: &Case, bound: Bound, x: &'x [i64]) -> Verdict<'x>
     }
 }
 
-// Reads a model for a goal label, one that is built.
-fn read_built<S: Source>(alloc: Global, goal: &[u8], source: &mut S) -> Result<Model, Refusal>
-    ensures answer { ReadsModel S.left S.faults goal.now source.old source.new result }
-    ensures valid { IfOk result IsModel }
-    ensures limit { KeepsLimit result (S.left source.old) (S.left source.new) }
+// Decides the root of a case that is admitted and built, and writes its report.
+fn write_case<K: Sink>(alloc: Global, case: &Case, bound: Bound, out: &mut K) -> Result<(), Refusal>
+    requires admitted { IsAdmitted case.now }
+    requires built { is_built case.now.model ≡ true }
+    ensures { WritesCase K.taken K.faults case.now bound out.old out.new result }
 {
-    let text = read_all(alloc, source, TEXT_LIMIT)?;
-    let model = read_model(alloc, &text, goal)?;
-    if !is_built(&model) {
-        return Err(Refusal::Unbuilt);
-    }
-    Ok(model)
+    let x = upper_of(alloc, case)?;
+    let verdict = decide(case, bound, &x);
+    let report = Report {
+        case,
+        bound,
+        verdict,
+    };
+    write_buffered(out, &report)?;
+    Ok(())
 }
 
-/// Reads a model from the source and writes its report.
+// Tests the rows of a model over a root, and writes the report of that case.
+fn write_over<K: Sink>(
+    alloc: Global,
+    job: &Job,
+    model: &Model,
+    root: &Rect,
+    grid: Grid,
+    out: &mut K,
+) -> Result<(), Refusal>
+    requires grid { IsOnGrid grid.d grid.depth (length model.now.names) root.now }
+    requires depth { grid.depth ≡ job.now.depth }
+    ensures { WritesOver K.taken K.faults (job_data job.now) model.now (region_of (grid, root.now)) out.old out.new result }
+{
+    let case = case_of(model, root, grid, job)?;
+    write_case(alloc, &case, job.bound, out)
+}
+
+/// Reads a model from the source, tests its rows over the job's region, and writes its report.
 pub fn verify<S: Source, K: Sink>(
     alloc: Global,
     job: &Job,
@@ -105,16 +138,7 @@ pub fn verify<S: Source, K: Sink>(
     ensures answer { Verifies S.left S.faults K.taken K.faults (job_data job.now) source.old source.new out.old out.new result }
     ensures limit { KeepsLimit result (S.left source.old) (S.left source.new) }
 {
-    let model = read_built(alloc, job.goal, source)?;
-    let root = Rect::from_sides(alloc, &[])?;
-    let case = case_of(&model, &root, job);
-    let x = upper_of(alloc, &case)?;
-    let verdict = decide(&case, job.bound, &x);
-    let report = Report {
-        model: &model,
-        job,
-        verdict,
-    };
-    write_buffered(out, &report)?;
-    Ok(())
+    let model = model_of(alloc, job.goal, source)?;
+    let (grid, root) = root_of(alloc, job, model.names())?;
+    write_over(alloc, job, &model, &root, grid, out)
 }

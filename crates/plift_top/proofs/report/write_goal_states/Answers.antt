@@ -1,4 +1,4 @@
-use Rattle.std.proofs.Common.{◌≡◌, ◌<◌, ◌+◌, ◌∷◌, ◌++◌, length, sym, ap, arith, ℕ, List}
+use Rattle.std.proofs.Common.{◌<◌, ◌∷◌, length, sym, ap, arith}
 use Rattle.std.specs.List.{flat_map}
 use Rattle.std.specs.Fmt.{decimal}
 use Rattle.lift_base.proofs.Writing.{next_piece, stops_there}

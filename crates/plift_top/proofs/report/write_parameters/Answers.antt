@@ -1,4 +1,4 @@
-use Rattle.std.proofs.Common.{append-nil, length, ◌++◌, codes}
+use Rattle.std.proofs.Common.{append-nil, length}
 use Rattle.std.specs.Fmt.{decimal}
 use Rattle.lift_base.proofs.Writing.{wrote_then, stopped}
 use Rattle.plift_top.proofs.Lines.{line-names}

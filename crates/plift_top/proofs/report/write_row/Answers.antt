@@ -1,4 +1,3 @@
-use Rattle.std.proofs.Common.{length}
 use Rattle.lift_base.proofs.Writing.{wrote_then, stopped}
 use Rattle.plift_top.specs.Report.{entry_line}
 use Rattle.plift_top.proofs.Lines.{concat-map}

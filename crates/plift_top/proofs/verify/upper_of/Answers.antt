@@ -1,8 +1,8 @@
-use Rattle.std.proofs.Common.{◌≡◌, length, arith, ◌∙◌, ap, subst, ℤ}
+use Rattle.std.proofs.Common.{◌≡◌, length, arith, ◌∙◌, ap, subst}
 use Rattle.std.proofs.Math.Seq.{take-append_seam}
 use Rattle.lift_grid.specs.Rectangle.{Spans, sides_of}
 use Rattle.corner_lift.specs.Certificate.{IsLeastUpper}
-use Rattle.plift_top.proofs.BuiltCases.{root_inside, root_spans}
+use Rattle.plift_top.proofs.Roots.{root_inside, root_spans}
 use Rattle.plift_top.proofs.verify.upper_of.Goals as goal
 
 pub least_upper-requires : goal.least_upper-requires

@@ -1,5 +1,5 @@
 use Rattle.plift_top.proofs.Reading.{refused_text}
-use Rattle.plift_top.proofs.verify.read_built.Goals as goal
+use Rattle.plift_top.proofs.verify.model_of.Goals as goal
 
 pub returns-in_err-model-clause-answer : goal.returns-in_err-model-clause-answer
 returns-in_err-model-clause-answer g c =
