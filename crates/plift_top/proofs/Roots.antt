@@ -1,25 +1,16 @@
 -- The root of a case, and the depth of a region.
-use Rattle.std.proofs.Common.{◌≡◌, ℕ, List, [], ◌∷◌, ℤ, pos, Bool, true, false, cond, Ok, Err, Result, length, refl, sym, ap, subst, ◌∙◌, arith, ◌*◌, ◌^◌}
+use Rattle.std.proofs.Common.{◌≡◌, ℕ, List, ℤ, pos, Bool, true, false, cond, Ok, Err, Result, length, sym, ap, subst, ◌∙◌, ◌*◌, ◌^◌}
 use Rattle.std.specs.Prelude.{nat_lt}
-use Rattle.lift_poly.proofs.Ring.{linear}
 use Rattle.lift_grid.specs.Rectangle.{Spans, AreSpans, spans_of, sides_of}
 use Rattle.lift_grid.specs.Region.{Region, Interval, ◌>>=◌, region, intervals_of, in_order, over_grid, spans_over, common_denominator}
 use Rattle.lift_grid.specs.declared.error.RegionError.{RegionError}
+use Rattle.lift_grid.proofs.Sides.{spans_of-sides_of}
 use Rattle.corner_lift.specs.Case.{Within, AreSidesInside}
-
--- a rectangle lies in itself
-pub within_itself : (ss : Spans) → Within ss ss
-within_itself [] = tt
-within_itself (s ∷ ss) = (omega (arith, linear), omega (arith, linear), within_itself ss)
-
--- a rectangle is given back by its ends
-spans-sides : (ss : Spans) → spans_of (sides_of ss) ≡ ss
-spans-sides [] = refl
-spans-sides (s ∷ ss) = ap (λ (rest : Spans). s ∷ rest) (spans-sides ss)
+use Rattle.lift_rows.proofs.RowTests.{within_itself}
 
 -- the spans of the ends of a case's root
 pub root_spans : (root : Spans) (sides : List ℤ) → sides ≡ sides_of root → spans_of sides ≡ root
-root_spans root sides is = ap spans_of is ∙ spans-sides root
+root_spans root sides is = ap spans_of is ∙ spans_of-sides_of root
 
 -- the ends of a case's root make a rectangle inside it
 pub root_inside : (root : Spans) (sides : List ℤ) → sides ≡ sides_of root → AreSpans root → AreSidesInside root sides

@@ -1,6 +1,6 @@
 use Rattle.std.proofs.Common.{◌≡◌, ◌<◌, length, arith, refl}
 use Rattle.lift_cert.proofs.Accepting.{accepting_bounds, least_refutes}
-use Rattle.plift_top.proofs.Roots.{within_itself}
+use Rattle.lift_rows.proofs.RowTests.{within_itself}
 use Rattle.plift_top.proofs.verify.decide.Goals as goal
 
 pub is_within-requires : goal.is_within-requires
