@@ -1,5 +1,5 @@
 ghost use Rattle.std.specs.Prelude.{◌≡◌};
-ghost use Rattle.lift_rows.specs.Number.{error_number};
+ghost use Rattle.lift_rows.specs.Number.{error_number, error_row};
 
 /// The first fault of a model that isn't admitted. `state` and `choice` name the row.
 #[derive(Clone, Copy, Debug, PartialEq, Eq)]
@@ -43,6 +43,17 @@ impl RowError {
             RowError::Negative { .. } => 2,
             RowError::RowParameters { .. } => 3,
             RowError::TooWide { .. } => 4,
+        }
+    }
+    /// The row: its state and its choice.
+    pub fn row(&self) -> (u32, u32)
+        ensures { result ≡ error_row self.now }
+    {
+        match *self {
+            RowError::RowSum { state, choice, .. }
+            | RowError::Negative { state, choice, .. }
+            | RowError::RowParameters { state, choice, .. }
+            | RowError::TooWide { state, choice } => (state, choice),
         }
     }
 }

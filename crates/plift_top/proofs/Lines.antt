@@ -1,6 +1,7 @@
 -- The lines of a report, as the pieces that are written one after the other.
 use Rattle.std.proofs.Common.{◌≡◌, ◌+◌, ◌<◌, ℕ, zero, suc, List, [], ◌∷◌, ◌++◌, length, map, get_or, drop, slice_get, Some, Bool, true, false, Ok, Err, Result, IsErr, take, refl, sym, ap, ap₂, subst, ◌∙◌, arith, add-one, append_assoc, append-nil, codes}
 use Rattle.std.specs.List.{flat_map, concat}
+use Rattle.std.specs.Fmt.{decimal}
 use Rattle.std.proofs.lemmas.List.Folds.{concat-append}
 use Rattle.std.specs.declared.option.Option.{Option}
 use Rattle.lift_base.specs.Outside.{Wrote}
@@ -11,6 +12,9 @@ use Rattle.lift_grid.specs.Rectangle.{Spans}
 use Rattle.corner_lift.specs.Case.{CaseData}
 use Rattle.lift_cert.specs.declared.bound.Bound.{Bound}
 use Rattle.plift_top.specs.Report.{Leaf, line, kind_lines, parameters_line, size_lines, head_lines, model_lines, asked_lines, box_line, leaf_line, report_text, goal_states, numbered}
+use Rattle.lift_rows.specs.Number.{error_row}
+use Rattle.lift_rows.specs.declared.error.RowError.{RowError}
+use Rattle.plift_top.specs.Answers.{row_fault, row_words}
 
 -- a line is its first word, each further word behind a space, and a line feed
 pub line-words : {X : Type 0} (f : X → List ℕ) (word : List ℕ) (xs : List X) → line (word ∷ map f xs) ≡ word ++ (flat_map (λ x. 32 ∷ f x) xs ++ codes "\n")
@@ -76,6 +80,10 @@ report_parts k bound leaf m root e f =
     ∙ ap₂ (λ (head rest : List ℕ). head ++ rest) (ap (λ (n : ModelData). concat (model_lines n)) (sym e))
     (concat-append (asked_lines k bound) (box_line k.root ∷ leaf_line leaf ∷ [])
     ∙ ap (λ (rest : List ℕ). concat (asked_lines k bound) ++ rest) (ap₂ (λ (box last : List ℕ). box ++ last) (ap box_line (sym f)) (append-nil (leaf_line leaf))))
+
+-- which row is at fault, piece by piece, and what is wrong with it
+pub row_parts : (error : RowError) → row_words error ≡ (codes "state " ++ (decimal (error_row error).0 ++ (codes " choice " ++ (decimal (error_row error).1 ++ codes ": ")))) ++ row_fault error
+row_parts error = simp append_assoc refl
 
 -- a loop over items that stops at one
 pub stopped_item : {X K T U V E F G : Type 0} {taken : K → Option (List ℕ)} {faults : K → ℕ} {old mid new : K} {y : T} {e : E} (f : X → List ℕ) (xs : List X) (i : ℕ) (x : X)

@@ -6,6 +6,7 @@ use Rattle.std.specs.Io.KnownBytes.{Appends}
 use Rattle.lift_base.specs.Outside.{Rose, AppendsFront}
 use Rattle.lift_grid.specs.Faults.{error_name}
 use Rattle.lift_grid.specs.declared.error.RegionError.{RegionError}
+use Rattle.lift_rows.specs.Number.{error_row}
 use Rattle.lift_rows.specs.declared.error.RowError.{RowError}
 use Rattle.lift_rows.specs.declared.error.RowError.TheVariants.{RowSum, Negative, RowParameters, TooWide}
 use Rattle.drn_read.specs.Faults.{cause_name}
@@ -48,15 +49,19 @@ abbrev pub model_note : DrnError → List ℕ
 model_note error = codes "model: line " ++ decimal error.line ++ codes ": " ++ cause_name error.cause ++ codes "\n"
 
 -- a row, by its state and choice
-abbrev pub row_place : ℕ → ℕ → List ℕ
-row_place s a = codes "state " ++ decimal s ++ codes " choice " ++ decimal a ++ codes ": "
+abbrev pub row_place : ℕ × ℕ → List ℕ
+row_place row = codes "state " ++ decimal row.0 ++ codes " choice " ++ decimal row.1 ++ codes ": "
 
--- a row's first fault, with its numbers
+-- what is wrong with a row, with its numbers
+abbrev pub row_fault : RowError → List ℕ
+row_fault (RowSum s a set sum) = codes "set " ++ decimal set ++ codes " sums to " ++ signed_decimal sum
+row_fault (Negative s a target corner weight) = codes "target " ++ decimal target ++ codes " at corner " ++ decimal corner ++ codes " has weight " ++ signed_decimal weight
+row_fault (RowParameters s a count) = decimal count ++ codes " parameters"
+row_fault (TooWide s a) = codes "too wide"
+
+-- which row is at fault, and what is wrong with it
 abbrev pub row_words : RowError → List ℕ
-row_words (RowSum s a set sum) = row_place s a ++ codes "set " ++ decimal set ++ codes " sums to " ++ signed_decimal sum
-row_words (Negative s a target corner weight) = row_place s a ++ codes "target " ++ decimal target ++ codes " at corner " ++ decimal corner ++ codes " has weight " ++ signed_decimal weight
-row_words (RowParameters s a count) = row_place s a ++ decimal count ++ codes " parameters"
-row_words (TooWide s a) = row_place s a ++ codes "too wide"
+row_words error = row_place (error_row error) ++ row_fault error
 
 -- the note of a row that isn't admitted
 abbrev pub rows_note : RowError → List ℕ

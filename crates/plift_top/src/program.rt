@@ -9,7 +9,7 @@ ghost use Rattle.drn_read.specs.Reading.{drn};
 ghost use Rattle.plift_top.specs.Job.{job, JobData};
 ghost use Rattle.plift_top.specs.Built.{is_built};
 ghost use Rattle.plift_top.specs.Verify.{WasRead, Reports, IsRefused, KeepsLimit, case_of, text_limit};
-ghost use Rattle.plift_top.specs.Answers.{status_of, usage_note, region_note, model_note, row_words, rows_note, note_of, RefusesText, HasNote, Told, Acts};
+ghost use Rattle.plift_top.specs.Answers.{status_of, usage_note, region_note, model_note, row_fault, row_words, rows_note, note_of, RefusesText, HasNote, Told, Acts};
 
 use crate::command::job_of;
 use crate::job::Field;
@@ -89,42 +89,28 @@ fn write_region_note<E: Sink>(notes: &mut E, error: RegionError) -> Result<(), W
     )
 }
 
-fn write_row_words<E: Sink>(notes: &mut E, error: RowError) -> Result<(), WriteFault>
-    ensures { Wrote E.taken E.faults notes.old notes.new result (row_words error) }
+fn write_row_fault<E: Sink>(notes: &mut E, error: RowError) -> Result<(), WriteFault>
+    ensures { Wrote E.taken E.faults notes.old notes.new result (row_fault error) }
 {
     match error {
-        RowError::RowSum {
-            state,
-            choice,
-            set,
-            sum,
-        } => write_words(
+        RowError::RowSum { set, sum, .. } => write_words(
             notes,
             &[
-                Word::Text(b"state "),
-                Word::Count(u64::from(state)),
-                Word::Text(b" choice "),
-                Word::Count(u64::from(choice)),
-                Word::Text(b": set "),
+                Word::Text(b"set "),
                 Word::Count(u64::from(set)),
                 Word::Text(b" sums to "),
                 Word::Number(sum),
             ],
         ),
         RowError::Negative {
-            state,
-            choice,
             target,
             corner,
             weight,
+            ..
         } => write_words(
             notes,
             &[
-                Word::Text(b"state "),
-                Word::Count(u64::from(state)),
-                Word::Text(b" choice "),
-                Word::Count(u64::from(choice)),
-                Word::Text(b": target "),
+                Word::Text(b"target "),
                 Word::Count(u64::from(target)),
                 Word::Text(b" at corner "),
                 Word::Count(u64::from(corner)),
@@ -132,33 +118,29 @@ fn write_row_words<E: Sink>(notes: &mut E, error: RowError) -> Result<(), WriteF
                 Word::Number(weight),
             ],
         ),
-        RowError::RowParameters {
-            state,
-            choice,
-            count,
-        } => write_words(
+        RowError::RowParameters { count, .. } => write_words(
             notes,
-            &[
-                Word::Text(b"state "),
-                Word::Count(u64::from(state)),
-                Word::Text(b" choice "),
-                Word::Count(u64::from(choice)),
-                Word::Text(b": "),
-                Word::Count(u64::from(count)),
-                Word::Text(b" parameters"),
-            ],
+            &[Word::Count(u64::from(count)), Word::Text(b" parameters")],
         ),
-        RowError::TooWide { state, choice } => write_words(
-            notes,
-            &[
-                Word::Text(b"state "),
-                Word::Count(u64::from(state)),
-                Word::Text(b" choice "),
-                Word::Count(u64::from(choice)),
-                Word::Text(b": too wide"),
-            ],
-        ),
+        RowError::TooWide { .. } => write_all(notes, b"too wide"),
     }
+}
+
+fn write_row_words<E: Sink>(notes: &mut E, error: RowError) -> Result<(), WriteFault>
+    ensures { Wrote E.taken E.faults notes.old notes.new result (row_words error) }
+{
+    let (state, choice) = error.row();
+    write_words(
+        notes,
+        &[
+            Word::Text(b"state "),
+            Word::Count(u64::from(state)),
+            Word::Text(b" choice "),
+            Word::Count(u64::from(choice)),
+            Word::Text(b": "),
+        ],
+    )?;
+    write_row_fault(notes, error)
 }
 
 fn write_rows_note<E: Sink>(notes: &mut E, error: RowError) -> Result<(), WriteFault>

@@ -1,20 +1,11 @@
-use Rattle.std.proofs.Common.{rules, ◌≡◌, to_z, of_z, append_assoc, append-nil}
-use Rattle.std.specs.Int.{w128}
+use Rattle.lift_base.proofs.Writing.{wrote_then, stopped}
+use Rattle.plift_top.proofs.Lines.{row_parts}
 use Rattle.plift_top.proofs.program.write_row_words.Goals as goal
 
-pub returns-in-RowSum : goal.returns-in-RowSum
-returns-in-RowSum g c =
-    let sum : to_z w128 (of_z w128 c.in-RowSum.sum) ≡ c.in-RowSum.sum = search rules in
-    rw c.in-RowSum.is (simp append_assoc (rw (append-nil, c.from.ensures, c.from-in-RowSum.ensures, c.from-in-RowSum-2.ensures, sum) at c.write_words.ensures))
+pub returns-in_err-write_words : goal.returns-in_err-write_words
+returns-in_err-write_words g c =
+    rw (row_parts c.args.error) (stopped _ _ _ c.from_residual.ensures.0 (rw (c.from.ensures, c.from-2.ensures, c.row-state.ensures) at c.in_err-write_words.ensures))
 
-pub returns-in-Negative : goal.returns-in-Negative
-returns-in-Negative g c =
-    let weight : to_z w128 (of_z w128 c.in-Negative.weight) ≡ c.in-Negative.weight = search rules in
-    rw c.in-Negative.is (simp append_assoc (rw (append-nil, c.from-in-Negative.ensures, c.from-in-Negative-2.ensures, c.from-in-Negative-3.ensures, c.from-in-Negative-4.ensures, weight) at c.write_words-in-Negative.ensures))
-
-pub returns-in-RowParameters : goal.returns-in-RowParameters
-returns-in-RowParameters g c =
-    rw c.in-RowParameters.is (simp append_assoc (rw (c.from-in-RowParameters.ensures, c.from-in-RowParameters-2.ensures, c.from-in-RowParameters-3.ensures) at c.write_words-in-RowParameters.ensures))
-
-pub returns-in-TooWide : goal.returns-in-TooWide
-returns-in-TooWide g c = rw c.in-TooWide.is (simp append_assoc (rw (c.from-in-TooWide.ensures, c.from-in-TooWide-2.ensures) at c.write_words-in-TooWide.ensures))
+pub returns : goal.returns
+returns g c =
+    rw (row_parts c.args.error) (wrote_then (rw (c.from.ensures, c.from-2.ensures, c.row-state.ensures) at c.in_ok-write_words.ensures) c.write_row_fault.ensures)
