@@ -7,9 +7,9 @@ use Rattle.lift_model.specs.declared.entry.Entry.{Entry}
 use Rattle.lift_model.specs.Model.{ModelData, support, moves_at}
 
 -- how many of the declared parameters are in the set
-abbrev pub width : Spans → ℕ → ℕ
-width [] set = 0
-width (span ∷ spans) set = set % 2 + width spans (set / 2)
+abbrev pub parameter_count : Spans → ℕ → ℕ
+parameter_count [] set = 0
+parameter_count (span ∷ spans) set = set % 2 + parameter_count spans (set / 2)
 
 -- the one where the bit is 0, else the other
 abbrev pub by_bit : {A : Type 0} → ℕ → A → A → A
@@ -24,7 +24,7 @@ corner d (span ∷ spans) set c =
 
 -- P holds at each corner of the row, of which there are 2 to the number of its parameters
 abbrev pub AtCorners : Spans → List Entry → (ℕ → Type 0) → Type 0
-AtCorners spans row P = (c : ℕ) → c < 2 ^ width spans (support row) → P c
+AtCorners spans row P = (c : ℕ) → c < 2 ^ parameter_count spans (support row) → P c
 
 -- stands for a place past the end of a row
 abbrev pub no_entry : Entry
@@ -40,4 +40,4 @@ corner_sum d spans row c number = weighted_sum number (moves_at (corner d spans 
 
 -- what the row's weights sum to at each of these corners
 abbrev pub whole : ModelData → ℤ → Spans → List Entry → ℤ
-whole m d spans row = m.common *ℤ power d (width spans (support row))
+whole m d spans row = m.common *ℤ power d (parameter_count spans (support row))

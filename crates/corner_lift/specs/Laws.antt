@@ -5,7 +5,7 @@ use Rattle.lift_grid.specs.Rectangle.{Spans, AreSpans, Inside, corner_side}
 use Rattle.lift_model.specs.declared.entry.Entry.{Entry}
 use Rattle.lift_model.specs.Process.{power, weighted_sum}
 use Rattle.lift_model.specs.Model.{support, choices, row_at, moves_at}
-use Rattle.corner_lift.specs.Corner.{AtCorners, corner, width, corner_weight, no_entry}
+use Rattle.corner_lift.specs.Corner.{AtCorners, corner, parameter_count, corner_weight, no_entry}
 use Rattle.corner_lift.specs.Case.{CaseData, IsCase, Within, row_whole}
 
 -- The corner bound for a single entry of a row: where its weight at each corner of the row lies from low to high, so does its weight at every valuation inside, each over its own total.
@@ -14,8 +14,8 @@ CornersBoundWeights = (d : ℤ) (spans : Spans) (row : List Entry) (entry : ℕ)
     → AtCorners spans row (λ c. low ≤ℤ corner_weight d spans row c entry)
     → AtCorners spans row (λ c. corner_weight d spans row c entry ≤ℤ high)
     → (v : Valuation) → Inside d spans v
-    → ((low *ℤ denominator v) ≤ℤ (weight v (slice_index_or row entry no_entry).poly *ℤ power d (width spans (support row))))
-    × ((weight v (slice_index_or row entry no_entry).poly *ℤ power d (width spans (support row))) ≤ℤ (high *ℤ denominator v))
+    → ((low *ℤ denominator v) ≤ℤ (weight v (slice_index_or row entry no_entry).poly *ℤ power d (parameter_count spans (support row))))
+    × ((weight v (slice_index_or row entry no_entry).poly *ℤ power d (parameter_count spans (support row))) ≤ℤ (high *ℤ denominator v))
 
 -- no weight of a case is negative at a corner of any rectangle inside the root
 abbrev pub WeightsAreNotNegative : Type 0

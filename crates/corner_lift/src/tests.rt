@@ -5,7 +5,7 @@ ghost use Rattle.corner_lift.specs.Certificate.{AreNumbers};
 ghost use Rattle.corner_lift.specs.Case.{AreSidesInside, corner_count};
 
 use super::*;
-use lift_base::Names;
+use lift_names::Names;
 use lift_grid::{Grid, Rect};
 use lift_model::{Entry, Kind, Model, Row};
 use lift_poly::MultiAffine;

@@ -10,7 +10,7 @@ ghost use Rattle.drn_expr.specs.Parsing.{IsFurther, IsFactor, IsTerm, IsValue, I
 use crate::error::ExprError;
 use crate::rat_poly::RatPoly;
 use drn_lexer::{Line, Symbol, SymbolForm, next_symbol};
-use lift_base::Names;
+use lift_names::Names;
 use lift_frac::read_literal;
 use std::alloc::Global;
 

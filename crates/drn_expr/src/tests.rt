@@ -1,6 +1,6 @@
 use super::*;
 use drn_lexer::Line;
-use lift_base::Names;
+use lift_names::Names;
 use std::alloc::Global;
 use std::test::Fail;
 

@@ -7,7 +7,7 @@ use crate::error::ExprError;
 use crate::parse::{ended, value};
 use crate::rat_poly::RatPoly;
 use drn_lexer::{Line, next_symbol};
-use lift_base::Names;
+use lift_names::Names;
 use std::alloc::Global;
 
 /// How many symbols a value may have.

@@ -17,7 +17,7 @@ use crate::text::{behind_colon, digits_len};
 use crate::value::value_of;
 use drn_expr::RatPoly;
 use drn_lexer::{Line, SymbolForm, next_symbol};
-use lift_base::Names;
+use lift_names::Names;
 use std::alloc::Global;
 
 /// How many digits a target may have.

@@ -21,7 +21,7 @@ use crate::type_line::kind_in;
 use crate::value::value_behind;
 use crate::word::Words;
 use drn_lexer::Line;
-use lift_base::Names;
+use lift_names::Names;
 use lift_model::Kind;
 use std::alloc::Global;
 

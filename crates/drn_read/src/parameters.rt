@@ -9,7 +9,7 @@ ghost use Rattle.drn_read.specs.Shown.{Tells, left, piece};
 use crate::error::DrnCause;
 use crate::text::is_name;
 use crate::word::{LineWord, Words};
-use lift_base::Names;
+use lift_names::Names;
 use std::alloc::AllocError;
 
 /// How many parameters a model may have.

@@ -5,7 +5,7 @@ ghost use Rattle.std.specs.Option.{option_map};
 ghost use Rattle.std.specs.Str.{bytes_eq};
 
 use drn_expr::RatPoly;
-use lift_base::Names;
+use lift_names::Names;
 use std::alloc::{AllocError, Global};
 use std::marker::Model;
 

@@ -7,7 +7,7 @@ use crate::error::DrnCause;
 use crate::text::behind_colon;
 use drn_expr::{RatPoly, read_value};
 use drn_lexer::Line;
-use lift_base::Names;
+use lift_names::Names;
 use std::alloc::Global;
 
 /// How many parameters one value may hold.

@@ -1,4 +1,3 @@
 pub mod Writing
-pub mod Naming
 pub mod Reading
 pub mod Gathering

@@ -3,4 +3,3 @@ pub mod Whole
 pub mod Memory
 pub mod Word
 pub mod Begins
-pub mod Names

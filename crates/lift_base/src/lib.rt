@@ -5,14 +5,12 @@ mod buffered;
 mod held;
 mod input;
 mod memory;
-mod names;
 mod output;
 mod standard;
 
 pub use buffered::{BufferedSink, Origin, Text, write_buffered};
 pub use input::{Got, ReadError, Source, read_all};
 pub use memory::{MemSink, MemSource, SureSink, SureSource};
-pub use names::Names;
 pub use output::{Put, Sink, Word, WriteFault, put_number, write_all, write_numbers, write_words};
 pub use standard::{StdSink, StdSource};
 

@@ -4,3 +4,4 @@ pub mod Grammar
 pub mod Literal
 pub mod Parts
 pub mod Ratio
+pub mod Limits

@@ -4,11 +4,19 @@ use Rattle.std.specs.List.{AllPairs}
 use Rattle.lift_poly.specs.Polynomial.{Valuation}
 use Rattle.lift_grid.specs.Rectangle.{Spans, Inside}
 
--- A node: a split on a parameter with the trees of the lower and the upper half; an accepting leaf with its precision u and its numbers, which are over 2^u; a rejecting leaf with its precision, its e and k, from which its rate follows, its numbers, picks and ranks; or an unknown leaf.
+-- What a rejecting certificate consists of: for each state a number, the choice that it picks and its rank, and the numbers e and k, from which its rate follows.
+pub record RejectData : Type 0 where
+  pub numbers : List ℤ
+  pub picks : List ℕ
+  pub ranks : List ℕ
+  pub e : ℕ
+  pub k : ℕ
+
+-- A node: a split on a parameter with the trees of the lower and the upper half; an accepting leaf with its precision u and its numbers, which are over 2^u; a rejecting leaf with its precision and its certificate; or an unknown leaf.
 pub data Tree : Type 0 where
   split : ℕ → Tree → Tree → Tree
   accept : ℕ → List ℤ → Tree
-  reject : ℕ → ℕ → ℕ → List ℤ → List ℕ → List ℕ → Tree
+  reject : ℕ → RejectData → Tree
   unknown : Tree
 
 -- the midpoint of a span, exact where the ends have an even sum
@@ -37,7 +45,7 @@ pub record Leaf : Type 0 where
 abbrev pub leaves : Spans → ℕ → Tree → List Leaf
 leaves ss depth (split axis lower upper) = leaves (lower_half axis ss) (depth + 1) lower ++ leaves (upper_half axis ss) (depth + 1) upper
 leaves ss depth (accept u x) = record { spans = ss; depth = depth; node = accept u x } ∷ []
-leaves ss depth (reject u e k y picks ranks) = record { spans = ss; depth = depth; node = reject u e k y picks ranks } ∷ []
+leaves ss depth (reject u r) = record { spans = ss; depth = depth; node = reject u r } ∷ []
 leaves ss depth unknown = record { spans = ss; depth = depth; node = unknown } ∷ []
 
 -- some parameter's span of the one ends at or before the place where that of the other begins

@@ -9,7 +9,7 @@ use crate::clause::{ClauseText, clause_at};
 use crate::error::RegionError;
 use crate::interval::Interval;
 use crate::text::is_blank;
-use lift_base::Names;
+use lift_names::Names;
 use lift_frac::FracError;
 use std::alloc::{AllocError, Global};
 use std::cmp::Ordering;

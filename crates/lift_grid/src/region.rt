@@ -9,7 +9,7 @@ use crate::error::RegionError;
 use crate::interval::Interval;
 use crate::intervals::{in_order, intervals_of};
 use crate::rect::{Grid, Rect};
-use lift_base::Names;
+use lift_names::Names;
 use lift_frac::{Frac, gcd};
 use std::alloc::Global;
 

@@ -1,7 +1,7 @@
 ghost use Rattle.std.specs.Prelude.{◌<◌, IsBitSet};
 
 use super::*;
-use lift_base::Names;
+use lift_names::Names;
 use std::alloc::{AllocError, Global};
 use std::test::Fail;
 

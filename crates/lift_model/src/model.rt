@@ -4,7 +4,7 @@ ghost use Rattle.lift_model.specs.Valid.{IsModel};
 
 use crate::kind::Kind;
 use crate::row::{Row, choices_support};
-use lift_base::Names;
+use lift_names::Names;
 
 /// A parametric Markov model: its kind, its common denominator, its parameters, its goal states, its
 /// initial state, and for each state its choices. The probability of an entry is its polynomial over

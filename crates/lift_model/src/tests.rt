@@ -2,7 +2,7 @@ ghost use Rattle.std.specs.Prelude.{◌≡◌, [], ◌∷◌, pos, IfOk};
 ghost use Rattle.lift_poly.specs.MultiAffine.{IsMultiAffine};
 
 use super::*;
-use lift_base::Names;
+use lift_names::Names;
 use lift_poly::MultiAffine;
 use std::alloc::{AllocError, Global};
 use std::test::Fail;

@@ -5,7 +5,7 @@ ghost use Rattle.lift_model.specs.declared.kind.Kind.TheVariants.{Dtmc};
 ghost use Rattle.lift_model.specs.Valid.{IsModel};
 
 use super::*;
-use lift_base::Names;
+use lift_names::Names;
 use lift_grid::{Grid, Rect};
 use lift_model::{Entry, Kind, Model, Row};
 use lift_poly::MultiAffine;

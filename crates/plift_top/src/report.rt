@@ -8,7 +8,8 @@ ghost use Rattle.plift_top.specs.Report.{kind_name, kind_lines, parameters_line,
 ghost use Rattle.plift_top.specs.Written.{leaf_of};
 
 use corner_lift::Case;
-use lift_base::{Names, Sink, Text, Word, WriteFault, write_all, write_words};
+use lift_base::{Sink, Text, Word, WriteFault, write_all, write_words};
+use lift_names::Names;
 use lift_cert::Bound;
 use lift_grid::Rect;
 use lift_model::{Entry, Kind, Model, Row};

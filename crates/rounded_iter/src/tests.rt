@@ -5,7 +5,7 @@ ghost use Rattle.corner_lift.specs.Case.{IsCase};
 
 use crate::least_upper;
 use corner_lift::Case;
-use lift_base::Names;
+use lift_names::Names;
 use lift_grid::{Grid, Rect};
 use lift_model::{Entry, Kind, Model, Row};
 use lift_poly::MultiAffine;

@@ -1,7 +1,7 @@
 // Names, in order and by position.
 ghost use Rattle.std.specs.Prelude.{◌≡◌, ◌-◌, ◌^◌, ◌<◌, ◌↔◌, ◌++◌, ◌∷◌, [], List, ℕ, length, IfOk, OnErr, IsSome, IsTrue, Contains, Some, slice_get, position, if◌then◌else◌};
 ghost use Rattle.std.specs.Str.{bytes_eq};
-ghost use Rattle.lift_base.specs.Names.{AreNames};
+ghost use Rattle.lift_names.specs.Names.{AreNames};
 
 use indexmap::IndexSet;
 use std::alloc::{AllocError, Global};
@@ -16,7 +16,7 @@ pub struct Names {
 
 impl Model for Names {
     ghost use Rattle.std.specs.Prelude.{List, ℕ};
-    ghost use Rattle.lift_base.specs.Names.{AreNames, texts};
+    ghost use Rattle.lift_names.specs.Names.{AreNames, texts};
 
     ghost Value = { List (List ℕ) };
 

@@ -1,8 +1,8 @@
 use Rattle.std.proofs.Common.{◌≡◌, sym, ap, ◌∙◌, refl, ◌++◌, ◌∷◌, []}
 use Rattle.std.proofs.lemmas.Bool.Decides.{not_from_Decides}
-use Rattle.lift_base.specs.Names.{AreNames, texts}
-use Rattle.lift_base.proofs.Naming.{there, goes_last, one_more_name}
-use Rattle.lift_base.proofs.names.Names.push.Goals as goal
+use Rattle.lift_names.specs.Names.{AreNames, texts}
+use Rattle.lift_names.proofs.Naming.{there, goes_last, one_more_name}
+use Rattle.lift_names.proofs.names.Names.push.Goals as goal
 
 pub returns-then-contains-clause-added : goal.returns-then-contains-clause-added
 returns-then-contains-clause-added c = (

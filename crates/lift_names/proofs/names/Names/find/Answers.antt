@@ -1,7 +1,7 @@
 use Rattle.std.proofs.Common.{◌∙◌, sym, ap, is_some}
 use Rattle.std.proofs.lemmas.Bool.Decides.{Decides-at}
-use Rattle.lift_base.proofs.Naming.{place_of, there}
-use Rattle.lift_base.proofs.names.Names.find.Goals as goal
+use Rattle.lift_names.proofs.Naming.{place_of, there}
+use Rattle.lift_names.proofs.names.Names.find.Goals as goal
 
 pub returns-in_err-place-clause-place : goal.returns-in_err-place-clause-place
 returns-in_err-place-clause-place c = c.from_residual.ensures ∙ sym c.in_err-place.was ∙ c.get_index_of.ensures.index ∙ place_of _ _ _ c.self.view_is

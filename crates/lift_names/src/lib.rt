@@ -1,0 +1,6 @@
+//! Lists of distinct names.
+#![tactic(auto)]
+
+mod names;
+
+pub use names::Names;
