@@ -62,6 +62,7 @@ pub fn read_value(
         → result ≡ reading names.now (slice_range text.now from line.to) }
     ensures meaning { IfOk result (IsWorth names.now (slice_range text.now from line.to)) }
 {
+    // The clause on the meaning rests on it.
     literals_follow();
     if is_long(text, line, from) {
         return Err(ExprError::Long);
