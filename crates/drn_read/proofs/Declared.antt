@@ -9,7 +9,7 @@ use Rattle.std.proofs.lemmas.List.{append-nil, length_push}
 use Rattle.std.proofs.lemmas.List.Elements.{All-push, All-weaker}
 use Rattle.std.proofs.lemmas.List.Quantifiers.{all_pairs_push}
 use Rattle.std.proofs.lemmas.Slice.Eq.{bytes_eq-Decides}
-use Rattle.drn_lexer.specs.Bytes.{first_passes}
+use Rattle.lift_bytes.specs.Bytes.{first_passes}
 use Rattle.drn_lexer.specs.Cutting.{Piece}
 use Rattle.drn_lexer.specs.Lines.{TextLine, content, is_blank_line}
 use Rattle.drn_lexer.specs.Words.{WordKind, words}
@@ -20,8 +20,8 @@ use Rattle.drn_expr.proofs.Valid.{IsOver, reading_over}
 use Rattle.drn_read.specs.Faults.{when, first_of, fault_of, valued}
 use Rattle.drn_read.specs.Parts.{is_empty}
 use Rattle.drn_read.specs.Text.{with_few_parameters, value_of, is_name}
-use Rattle.drn_read.specs.Sections.{Header, Placeholder, is_head, section_of, place_name, place_value, placeholder}
-use Rattle.drn_read.specs.Judging.{name_fault, names_fault, count_fault, place_fault, head_fault, header_fault, headed, unless_blank}
+use Rattle.drn_read.specs.Sections.{Header, Placeholder, is_head, section_of, placeholder_name, placeholder_value, placeholder}
+use Rattle.drn_read.specs.Judging.{name_fault, names_fault, count_fault, placeholder_fault, head_fault, header_fault, headed, unless_blank, new_name_fault, most_placeholders, placeholder_name_fault, nameless_fault}
 use Rattle.drn_read.specs.Keeping.{with_section, with_head, headed_with, with_names, with_state_count, with_choice_count, with_placeholder, unless_blank_with, header_with}
 use Rattle.drn_read.specs.declared.error.DrnCause.{DrnCause}
 use Rattle.drn_read.specs.declared.error.DrnCause.TheVariants.{Syntax, RepeatedName, LimitName, LimitParameters, LimitPlaces, LimitValueParameters}
@@ -30,6 +30,7 @@ use Rattle.drn_read.specs.declared.section.Phase.TheVariants as phase
 use Rattle.drn_read.specs.declared.section.Section.{Section}
 use Rattle.drn_read.proofs.Kept.{AreNames, IsDeclared}
 use Rattle.drn_read.proofs.Lists.{any_false}
+use Rattle.lift_model.specs.Valid.{most_name_bytes}
 
 -- ---- tests
 
@@ -110,39 +111,39 @@ more_names names more places h d = record {
       (λ place over. over_more (length names) (length (names ++ more)) place.value (omega (arith, length-append names more)) over) places d.values;
 }
 
-place_over : (names : List (List ℕ)) (line : List ℕ) (v : OverOne) → place_value names line ≡ Ok v → IsOver (length names) v
+place_over : (names : List (List ℕ)) (line : List ℕ) (v : OverOne) → placeholder_value names line ≡ Ok v → IsOver (length names) v
 place_over names line v e = by_colon _ e
   where
     by_colon : (o : Option (List ℕ)) → (elim o as (λ o. Result OverOne DrnCause) [ Some text ↦ value_of names text | None ↦ Err Syntax ]) ≡ Ok v → IsOver (length names) v
     by_colon (Some text) e = value_over names text v e
     by_colon None e = cc
 
-placed : (names : List (List ℕ)) (line : List ℕ) (places : List Placeholder) → length places < 65536 → (v : OverOne) → place_value names line ≡ Ok v → IsDeclared names places
+placed : (names : List (List ℕ)) (line : List ℕ) (places : List Placeholder) → length places < 65536 → (v : OverOne) → placeholder_value names line ≡ Ok v → IsDeclared names places
     → IsDeclared names (places ++ placeholder names line)
 placed names line places few v e d =
-    let new : Placeholder = record { name = place_name line; value = v } in
+    let new : Placeholder = record { name = placeholder_name line; value = v } in
     let one : placeholder names line ≡ new ∷ [] =
-    ap (λ (r : Result OverOne DrnCause). elim r as (λ r. List Placeholder) [ Ok value ↦ record { name = place_name line; value = value } ∷ [] | Err cause ↦ [] ]) e in
+    ap (λ (r : Result OverOne DrnCause). elim r as (λ r. List Placeholder) [ Ok value ↦ record { name = placeholder_name line; value = value } ∷ [] | Err cause ↦ [] ]) e in
     subst (λ more. IsDeclared names (places ++ more)) (sym one) (record {
       parameters = d.parameters;
       few = omega (arith, length_push places new, few);
       values = All-push (λ place. IsOver (length names) place.value) places new d.values (place_over names line v e);
     })
 
-place_sound : (h : Header) (line : List ℕ) → place_fault h line ≡ None → IsDeclared h.names h.placeholders → IsDeclared h.names (with_placeholder h line).placeholders
+place_sound : (h : Header) (line : List ℕ) → placeholder_fault h line ≡ None → IsDeclared h.names h.placeholders → IsDeclared h.names (with_placeholder h line).placeholders
 place_sound h line e d =
-    let syntax_test = when (not (first_passes (λ b. b == 36) line) || is_empty (place_name line)) Syntax in
-    let long = when (nat_lt 64 (length (place_name line))) LimitName in
-    let repeated = when (list_any (λ place. bytes_eq (place_name line) place.name) h.placeholders) RepeatedName in
-    let many = when (nat_le 65536 (length h.placeholders)) LimitPlaces in
-    let value = fault_of (place_value h.names line) in
-    let a = first_none syntax_test (long ∷ repeated ∷ many ∷ value ∷ []) e in
-    let b = first_none long (repeated ∷ many ∷ value ∷ []) a.1 in
-    let c = first_none repeated (many ∷ value ∷ []) b.1 in
-    let f = first_none many (value ∷ []) c.1 in
-    let g = first_none value [] f.1 in
-    let few = leb-false 65536 (length h.placeholders) (when_none (nat_le 65536 (length h.placeholders)) LimitPlaces f.0) in
-    let read = fault_none (place_value h.names line) g.0 in
+    let name = placeholder_name line in
+    let long = when (nat_lt most_name_bytes (length name)) LimitName in
+    let repeated = when (list_any (λ p. bytes_eq name p.name) h.placeholders) RepeatedName in
+    let many = when (nat_le most_placeholders (length h.placeholders)) LimitPlaces in
+    let value = fault_of (placeholder_value h.names line) in
+    let a = first_none (placeholder_name_fault h.placeholders line) (value ∷ []) e in
+    let b = first_none (nameless_fault line) (new_name_fault h.placeholders name ∷ []) a.0 in
+    let c = first_none (new_name_fault h.placeholders name) [] b.1 in
+    let f = first_none long (repeated ∷ many ∷ []) c.0 in
+    let g = first_none repeated (many ∷ []) f.1 in
+    let few = leb-false most_placeholders (length h.placeholders) (when_none (nat_le most_placeholders (length h.placeholders)) LimitPlaces (first_none many [] g.1).0) in
+    let read = fault_none (placeholder_value h.names line) (first_none value [] a.1).0 in
     placed h.names line h.placeholders few read.0 read.1 d
 
 -- ---- a line before the model
@@ -188,7 +189,7 @@ header_stays h phase.ChoiceCount line e d =
     blank_stays g line (with_choice_count g (content line)) (count_fault (content line)) e d (λ f. d)
 header_stays h phase.Placeholders line e d =
     let g : Header = record h { phase = phase.Placeholders } in
-    headed_stays g line (unless_blank_with g line (with_placeholder g (content line))) (unless_blank line (place_fault g (content line))) e d
-    (λ f. blank_stays g line (with_placeholder g (content line)) (place_fault g (content line)) f d (λ k. place_sound g (content line) k d))
+    headed_stays g line (unless_blank_with g line (with_placeholder g (content line))) (unless_blank line (placeholder_fault g (content line))) e d
+    (λ f. blank_stays g line (with_placeholder g (content line)) (placeholder_fault g (content line)) f d (λ k. place_sound g (content line) k d))
 header_stays h phase.Sections line e d = headed_stays (record h { phase = phase.Sections }) line (record h { phase = phase.Sections }) (unless_blank line (Some Syntax)) e d (λ f. d)
 header_stays h phase.Model line e d = headed_stays (record h { phase = phase.Model }) line (record h { phase = phase.Model }) (unless_blank line (Some Syntax)) e d (λ f. d)

@@ -22,14 +22,14 @@ use Rattle.lift_model.specs.declared.kind.Kind.{Kind}
 use Rattle.lift_model.specs.declared.entry.Entry.{Entry}
 use Rattle.lift_model.specs.Model.{ModelData}
 use Rattle.drn_read.specs.Sections.{Header}
-use Rattle.drn_read.specs.Faults.{first_of, when}
+use Rattle.drn_read.specs.Faults.{first_of, when, told}
 use Rattle.drn_read.specs.States.{StateText}
 use Rattle.drn_read.specs.Parts.{last}
 use Rattle.drn_read.specs.Judging.{choiceless}
 use Rattle.drn_read.specs.declared.error.DrnCause.TheVariants.{NoChoice, TargetRange, CommonDenominator}
 use Rattle.drn_read.specs.declared.error.DrnError.{DrnError}
-use Rattle.drn_read.specs.Reading.{lcm, all_transitions, common, is_large, entry, kind_or_chain, model}
-use Rattle.drn_read.specs.Shown.{first_in, outside, with_den, Becomes, refusal, told, common_fault}
+use Rattle.drn_read.specs.Reading.{lcm, all_transitions, common, is_large, entry, kind_or_chain, model, common_fault}
+use Rattle.drn_read.specs.Shown.{first_in, outside, with_den, Becomes, refusal}
 use Rattle.drn_read.specs.declared.state.Transition.{Transition}
 
 -- ---- what is found first

@@ -17,7 +17,8 @@ pub mod Naming
 pub mod Pairing
 pub mod Phases
 pub mod Pieces
-pub mod PlaceLines
+pub mod PlaceholderLines
+pub mod Ranges
 pub mod Running
 mod Samples
 pub mod Sound

@@ -13,7 +13,8 @@ use Rattle.drn_read.specs.Faults.{lexed}
 use Rattle.drn_read.specs.Judging.{Said, line_fault}
 use Rattle.drn_read.specs.Reading.{said, first_fault, last_number, end_fault, model, ended, drn, IsAnswer}
 use Rattle.drn_read.specs.Keeping.{with_line}
-use Rattle.drn_read.specs.Shown.{Spans, AtEnd, Told}
+use Rattle.drn_read.specs.Shown.{rest, IsSource, AtEnd, TellsLine}
+use Rattle.drn_read.specs.declared.cursor.Cursor.{Cursor}
 use Rattle.drn_read.specs.declared.error.DrnCause.TheVariants.{Memory}
 use Rattle.drn_read.specs.declared.error.DrnError.{DrnError}
 use Rattle.drn_read.proofs.Kept.{IsSound}
@@ -39,20 +40,20 @@ at_start label text place kept e n s = record {
   number = n;
 }
 
-spans : (text : List ℕ) (old new : Place) (line : Line) (l : IsNextLine text old new line) → Spans text line l.source
-spans text old new line l = record { says = l.content; number = ap (λ (k : Line). k.number) l.span }
+is_source : (text : List ℕ) (old new : Place) (line : Line) (cursor : Cursor) (l : IsNextLine text old new line) → rest cursor ≡ slice_range text line.from line.to → cursor.line ≡ line → IsSource cursor l.source
+is_source text old new line cursor l e f = record { says = e ∙ l.content; number = ap (λ (k : Line). k.number) (f ∙ l.span) }
 
 place_by : (text : List ℕ) (old : Place) (ls rest : List TextLine) (source : TextLine) → ls ≡ source ∷ rest → own_fault source ≡ None → place_after text old ls ≡ place_behind text source
 place_by text old ls rest source e f = rw e (rw (place_after, f) refl)
 
 -- a line without fault was read
-pub one_more : (label text : List ℕ) (old new : Place) (kept after : Said) (line : Line) → AtPlace label text old kept → IsNextLine text old new line
+pub one_more : (label text : List ℕ) (old new : Place) (kept after : Said) (line : Line) (cursor : Cursor) → AtPlace label text old kept → IsNextLine text old new line → rest cursor ≡ slice_range text line.from line.to → cursor.line ≡ line
     → new ≡ place_after text old (behind_comments (lines_at text old))
-    → ((source : TextLine) → Spans text line source → line_fault kept source ≡ None) → ((source : TextLine) → Spans text line source → after ≡ with_line label kept source)
+    → ((source : TextLine) → IsSource cursor source → line_fault kept source ≡ None) → ((source : TextLine) → IsSource cursor source → after ≡ with_line label kept source)
     → AtPlace label text new after
-one_more label text old new kept after line h l p calm grown =
+one_more label text old new kept after line cursor h l e f p calm grown =
     let s : TextLine = l.source in
-    let sp = spans text old new line l in
+    let sp = is_source text old new line cursor l e f in
     let none : line_fault (said label h.before) s ≡ None = ap (λ (k : Said). line_fault k s) (sym h.said_is) ∙ calm s sp in
     let r : Passed label h.before (lines_at text old) (lines_at text new) s = passes label h.before (lines_at text old) (lines_at text new) s l.first l.sound none in
     let whole : lines text ≡ r.earlier ++ s ∷ lines_at text new = sym (sym (append_assoc r.earlier (s ∷ []) (lines_at text new)) ∙ ap (λ ls. ls ++ lines_at text new) (sym r.front_is) ∙ r.all ∙ h.all) in
@@ -75,11 +76,11 @@ unfolding drn end_fault
 drn_end label text e = rw (drn, e) refl
 
 -- a line at fault
-pub refused : (label text : List ℕ) (old new : Place) (kept : Said) (line : Line) (error : DrnError) → AtPlace label text old kept → IsNextLine text old new line
-    → ((source : TextLine) → Spans text line source → line_fault kept source ≡ Some error) → drn text label ≡ Err error
-refused label text old new kept line error h l wrong =
+pub refused : (label text : List ℕ) (old new : Place) (kept : Said) (line : Line) (cursor : Cursor) (error : DrnError) → AtPlace label text old kept → IsNextLine text old new line → rest cursor ≡ slice_range text line.from line.to → cursor.line ≡ line
+    → ((source : TextLine) → IsSource cursor source → line_fault kept source ≡ Some error) → drn text label ≡ Err error
+refused label text old new kept line cursor error h l e f wrong =
     let s : TextLine = l.source in
-    let some : line_fault (said label h.before) s ≡ Some error = ap (λ (k : Said). line_fault k s) (sym h.said_is) ∙ wrong s (spans text old new line l) in
+    let some : line_fault (said label h.before) s ≡ Some error = ap (λ (k : Said). line_fault k s) (sym h.said_is) ∙ wrong s (is_source text old new line cursor l e f) in
     drn_fault label text error (h.fault ∙ stops label h.before (lines_at text old) (lines_at text new) s error l.first l.sound some)
 
 -- the first of these lines has a fault of its own
@@ -139,6 +140,6 @@ fault_at_end number kept error e = rw (ended, e) refl
 
 -- what the end gives is what the text stands for
 pub answered : (label text : List ℕ) (number : ℕ) (kept : Said) (result : Result ModelData DrnError) → AtEnd label text number kept
-    → Told result (end_fault number kept) → IfOk result (λ m. m ≡ model kept) → IsAnswer result (drn text label)
+    → TellsLine result (end_fault number kept) → IfOk result (λ m. m ≡ model kept) → IsAnswer result (drn text label)
 answered label text number kept (Ok m) h none same = h.right ∙ no_fault_at_end number kept none ∙ ap (λ (m : ModelData). Ok m) (sym same)
 answered label text number kept (Err error) h some same = λ ne. h.right ∙ fault_at_end number kept error (some ne)

@@ -7,7 +7,7 @@ use Rattle.drn_lexer.specs.Bytes.{is_text_byte}
 use Rattle.drn_lexer.specs.Lines.{TextLine, content, numbered, lines, lines_from, without_empty_end, is_comment, is_long, own_fault, is_passed_over, behind_comments}
 use Rattle.drn_lexer.specs.declared.error.LexError.{LexError}
 use Rattle.drn_lexer.specs.declared.error.LexError.TheVariants.{NotText, LongLine}
-use Rattle.drn_read.specs.Faults.{at, lexed}
+use Rattle.drn_read.specs.Faults.{lexed, told}
 use Rattle.drn_read.specs.Judging.{Said, line_fault}
 use Rattle.drn_read.specs.Reading.{said, judge, first_fault, last_number}
 use Rattle.drn_read.specs.Keeping.{with_line}
@@ -39,7 +39,7 @@ unfolding or_else
 ends_at label before l ls fault e = first_fault-cons label before l ls ∙ ap (or_else (first_fault label (before ++ l ∷ []) ls)) e
 
 judge_by : (label : List ℕ) (before : List TextLine) (l : TextLine) → Option LexError → Bool → Option DrnError
-judge_by label before l (Some fault) comment = at l (Some (lexed fault))
+judge_by label before l (Some fault) comment = told l.number (Some (lexed fault))
 judge_by label before l None true = None
 judge_by label before l None false = line_fault (said label before) l
 

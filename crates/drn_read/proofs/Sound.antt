@@ -13,7 +13,7 @@ use Rattle.drn_read.specs.Reading.{said, end_fault, model}
 use Rattle.drn_read.specs.declared.section.Phase.{Phase}
 use Rattle.drn_read.specs.declared.section.Phase.TheVariants as phase
 use Rattle.drn_read.proofs.Declared.{Stays, header_stays}
-use Rattle.drn_read.proofs.Stated.{model_stays, at_none}
+use Rattle.drn_read.proofs.Stated.{model_stays, told_none}
 use Rattle.drn_read.proofs.Kept.{IsState, AreStates, IsSound}
 use Rattle.drn_read.proofs.Whole.{whole_model}
 
@@ -53,12 +53,12 @@ goes_on_in label kept phase.Model line h e = record {
   states = model_stays label (in_phase phase.Model kept).header kept.states line e h.declared.values h.states;
   before = λ ne. absurd (ne refl);
 }
-goes_on_in label kept phase.Sections line h e = declared_on label kept phase.Sections line (λ same. cc) h (at_none line (header_fault (in_phase phase.Sections kept).header line) e)
-goes_on_in label kept phase.NameList line h e = declared_on label kept phase.NameList line (λ same. cc) h (at_none line (header_fault (in_phase phase.NameList kept).header line) e)
-goes_on_in label kept phase.RewardList line h e = declared_on label kept phase.RewardList line (λ same. cc) h (at_none line (header_fault (in_phase phase.RewardList kept).header line) e)
-goes_on_in label kept phase.StateCount line h e = declared_on label kept phase.StateCount line (λ same. cc) h (at_none line (header_fault (in_phase phase.StateCount kept).header line) e)
-goes_on_in label kept phase.ChoiceCount line h e = declared_on label kept phase.ChoiceCount line (λ same. cc) h (at_none line (header_fault (in_phase phase.ChoiceCount kept).header line) e)
-goes_on_in label kept phase.Placeholders line h e = declared_on label kept phase.Placeholders line (λ same. cc) h (at_none line (header_fault (in_phase phase.Placeholders kept).header line) e)
+goes_on_in label kept phase.Sections line h e = declared_on label kept phase.Sections line (λ same. cc) h (told_none line.number (header_fault (in_phase phase.Sections kept).header line) e)
+goes_on_in label kept phase.NameList line h e = declared_on label kept phase.NameList line (λ same. cc) h (told_none line.number (header_fault (in_phase phase.NameList kept).header line) e)
+goes_on_in label kept phase.RewardList line h e = declared_on label kept phase.RewardList line (λ same. cc) h (told_none line.number (header_fault (in_phase phase.RewardList kept).header line) e)
+goes_on_in label kept phase.StateCount line h e = declared_on label kept phase.StateCount line (λ same. cc) h (told_none line.number (header_fault (in_phase phase.StateCount kept).header line) e)
+goes_on_in label kept phase.ChoiceCount line h e = declared_on label kept phase.ChoiceCount line (λ same. cc) h (told_none line.number (header_fault (in_phase phase.ChoiceCount kept).header line) e)
+goes_on_in label kept phase.Placeholders line h e = declared_on label kept phase.Placeholders line (λ same. cc) h (told_none line.number (header_fault (in_phase phase.Placeholders kept).header line) e)
 
 pub goes_on : (label : List ℕ) (kept : Said) (line : TextLine) → IsSound kept → line_fault kept line ≡ None → IsSound (with_line label kept line)
 goes_on label kept line h e = goes_on_in label kept kept.header.phase line h e

@@ -20,7 +20,7 @@ use Rattle.lift_model.specs.Valid.{IsEntry, IsRow, IsModel}
 use Rattle.drn_expr.proofs.Least.{quotient_positive}
 use Rattle.drn_expr.proofs.Meanings.{product_above}
 use Rattle.drn_expr.proofs.Valid.{IsOver, sets_scaled}
-use Rattle.drn_read.specs.Faults.{when}
+use Rattle.drn_read.specs.Faults.{when, told}
 use Rattle.drn_read.specs.States.{StateText}
 use Rattle.drn_read.specs.Judging.{Said, has, choice_count, choiceless}
 use Rattle.drn_read.specs.Reading.{all_transitions, lcm, common, scaled, is_large, mismatch, end_fault, entry, kind_or_chain, model}
@@ -46,21 +46,16 @@ record IsWhole (states : List StateText) : Type 0 where
   denominator : common states < 2 ^ 62
   sizes : All (λ t. is_large (common states) t ≡ false) (all_transitions states)
 
--- a cause, told of the last line
-told : ℕ → Option DrnCause → Option DrnError
-told number cause = option_map (λ c. record { line = number; cause = c }) cause
-
-told_none : (number : ℕ) (b : Bool) (cause : DrnCause) → told number (when b cause) ≡ None → b ≡ false
-unfolding told
-told_none number true cause e = cc
-told_none number false cause e = refl
+none_told : (number : ℕ) (b : Bool) (cause : DrnCause) → told number (when b cause) ≡ None → b ≡ false
+none_told number true cause e = cc
+none_told number false cause e = refl
 
 not_found : (o : Option Transition) (f : Transition → DrnError) → option_map f o ≡ None → o ≡ None
 not_found None f e = refl
 not_found (Some t) f e = cc
 
 at_end : (number : ℕ) (said : Said) → end_fault number said ≡ None → IsWhole said.states
-unfolding end_fault told
+unfolding end_fault
 at_end number said e =
     let states = said.states in
     let count : ℕ = length states in
@@ -82,16 +77,16 @@ at_end number said e =
     let i = first_none init (goal ∷ wide ∷ []) h.1 in
     let j = first_none goal (wide ∷ []) i.1 in
     let k = first_none wide [] j.1 in
-    let small = or_parts (nat_le (2 ^ 62) c) large (told_none number (nat_le (2 ^ 62) c || large) CommonDenominator k.0) in
-    let some : count ≡ 0 → ⊥ = eqb-false count 0 (told_none number (count == 0) NoState d.0) in
+    let small = or_parts (nat_le (2 ^ 62) c) large (none_told number (nat_le (2 ^ 62) c || large) CommonDenominator k.0) in
+    let some : count ≡ 0 → ⊥ = eqb-false count 0 (none_told number (count == 0) NoState d.0) in
     record {
       last = b.0;
       some = omega (arith, some);
       targets =
           All-weaker (λ (t : Transition). nat_le count t.target ≡ false) (λ t. t.target < count) (λ t no. leb-false count t.target no) (all_transitions states)
           (find_none (λ (t : Transition). nat_le count t.target) (all_transitions states) (not_found found range h.0));
-      init = eqb-true (count_by (λ s. s.init) states) 1 (not-false (count_by (λ s. s.init) states == 1) (told_none number (not (count_by (λ s. s.init) states == 1)) InitCount i.0));
-      goal = not-false (list_any (λ s. s.goal) states) (told_none number (not (list_any (λ s. s.goal) states)) UnknownLabel j.0);
+      init = eqb-true (count_by (λ s. s.init) states) 1 (not-false (count_by (λ s. s.init) states == 1) (none_told number (not (count_by (λ s. s.init) states == 1)) InitCount i.0));
+      goal = not-false (list_any (λ s. s.goal) states) (none_told number (not (list_any (λ s. s.goal) states)) UnknownLabel j.0);
       denominator = leb-false (2 ^ 62) c small.0;
       sizes = any_false (is_large c) (all_transitions states) small.1;
     }

@@ -1,6 +1,7 @@
 // The common denominator of all values.
 ghost use Rattle.std.specs.Prelude.{◌≡◌, ◌^◌, fold, map};
 ghost use Rattle.lift_frac.specs.Parts.{capped};
+ghost use Rattle.lift_model.specs.Valid.{common_limit};
 ghost use Rattle.drn_read.specs.Reading.{lcm, common};
 ghost use Rattle.drn_read.specs.Shown.{with_den, Becomes};
 
@@ -49,7 +50,7 @@ fn joined_state(common: Option<u64>, choices: &[Vec<Transition>]) -> Option<u64>
 
 /// The least common multiple of the denominators of all values; none from 2^62 on.
 pub(crate) fn common_denominator(states: &[State]) -> Option<u64>
-    ensures { result ≡ capped (2 ^ 62) (common states.now) }
+    ensures { result ≡ capped common_limit (common states.now) }
 {
     let mut least = Some(1);
     for state in states {

@@ -1,6 +1,6 @@
 use Rattle.std.proofs.Common.{◌≡◌, rules, sym, ◌∙◌, ap, length}
 use Rattle.drn_read.proofs.Pairing.{length-paired}
-use Rattle.drn_read.proofs.places.Places.len.Goals as goal
+use Rattle.drn_read.proofs.placeholders.Placeholders.len.Goals as goal
 
 pub returns : goal.returns
 returns c =

@@ -3,7 +3,7 @@ use Rattle.std.specs.Prelude.{is_some}
 use Rattle.std.specs.List.{list_any}
 use Rattle.std.specs.Str.{bytes_eq}
 use Rattle.drn_read.proofs.Pairing.{any_position, any-paired}
-use Rattle.drn_read.proofs.places.Places.contains.Goals as goal
+use Rattle.drn_read.proofs.placeholders.Placeholders.contains.Goals as goal
 
 pub returns : goal.returns
 returns c =

@@ -1,5 +1,5 @@
 use Rattle.drn_read.proofs.Pairing.{one_more}
-use Rattle.drn_read.proofs.places.Places.push.Goals as goal
+use Rattle.drn_read.proofs.placeholders.Placeholders.push.Goals as goal
 
 pub invariant_of-self-in-Ok : goal.invariant_of-self-in-Ok
 invariant_of-self-in-Ok c =
