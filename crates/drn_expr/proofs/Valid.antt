@@ -7,6 +7,7 @@ use Rattle.std.proofs.lemmas.Bool.{cases_order, leb-false, or_parts}
 use Rattle.std.proofs.lemmas.List.Elements.{All-nil, All-cons, All-head, All-tail, All-append, All-map}
 use Rattle.std.proofs.lemmas.Nat.{or_lt, pow_pos}
 use Rattle.std.proofs.Math.Nat.{div-mul_cancel}
+use Rattle.lift_frac.specs.Limits.{size_limit}
 use Rattle.lift_poly.specs.Polynomial.{Term, IsPolynomial, constant}
 use Rattle.lift_poly.specs.Arithmetic as poly
 use Rattle.lift_poly.specs.Arithmetic.{coefficient, kept, with_term, collected, times, scaled, products_of, products, support}
@@ -103,12 +104,12 @@ lowest_over k ts d above h sets narrow =
     let both = common_divides d ts in
     let q = poly.quotient ts (pos g) in
     let back : times (pos g) q ≡ ts = times-quotient (pos g) ts both.1 in
-    let small = or_parts (nat_le (2 ^ 62) (d / g)) (list_any is_large q) narrow in
+    let small = or_parts (nat_le size_limit (d / g)) (list_any is_large q) narrow in
     record {
       value = record {
         polynomial = polynomial_from_canonical 0 q (canonical_of_times 0 (pos g) q (subst (Canonical 0) (sym back) (canonical_from_polynomial ts h)));
         positive = quotient_positive (d / g) g d (div-mul_cancel g both.0) above;
-        den = leb-false (2 ^ 62) (d / g) small.0;
+        den = leb-false size_limit (d / g) small.0;
         sizes = small_sizes q small.1;
         lowest = nothing_common d g ts q (positive_divisor g d both.0 above) refl back;
       };

@@ -1,5 +1,5 @@
-ghost use Rattle.std.specs.Prelude.{◌≡◌, ◌≤◌, length};
-ghost use Rattle.std.specs.List.{suffix_len};
+ghost use Rattle.std.specs.Prelude.{◌≡◌, ◌+◌, ◌≤◌, length};
+ghost use Rattle.std.specs.List.{prefix_len, suffix_len};
 ghost use Rattle.lift_bytes.specs.Bytes.{is_blank};
 ghost use Rattle.lift_bytes.specs.Trimming.{trimmed_front, trimmed_end, trimmed};
 
@@ -20,21 +20,24 @@ fn blanks_at_end(text: &[u8]) -> usize
 
 /// Without the blanks at the front.
 pub fn trimmed_front(text: &[u8]) -> &[u8]
-    ensures { result.now ≡ trimmed_front text.now }
+    ensures trimmed { result.now ≡ trimmed_front text.now }
+    ensures within { prefix_len is_blank text.now + length result.now ≤ length text.now }
 {
     &text[blanks_len(text)..]
 }
 
 /// Without the blanks at the end.
 pub fn trimmed_end(text: &[u8]) -> &[u8]
-    ensures { result.now ≡ trimmed_end text.now }
+    ensures trimmed { result.now ≡ trimmed_end text.now }
+    ensures within { length result.now ≤ length text.now }
 {
     &text[..text.len() - blanks_at_end(text)]
 }
 
 /// Without the blanks at both ends.
 pub fn trimmed(text: &[u8]) -> &[u8]
-    ensures { result.now ≡ trimmed text.now }
+    ensures trimmed { result.now ≡ trimmed text.now }
+    ensures within { prefix_len is_blank text.now + length result.now ≤ length text.now }
 {
     trimmed_end(trimmed_front(text))
 }
