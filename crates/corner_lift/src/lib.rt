@@ -8,8 +8,5 @@ mod row;
 mod weighted;
 
 pub use case::Case;
-pub use laws::corners_bound_weights;
+pub use laws::{corners_bound_weights, rows_at_corners, rows_inside};
 pub use row::{raw_weight, row_max, row_min, row_value, weight_into, whole};
-
-#[cfg(test)]
-mod tests;
