@@ -15,7 +15,6 @@ use Rattle.std.specs.Prelude.{nat_le, All}
 use Rattle.std.proofs.lemmas.Bool.{leb-false}
 use Rattle.std.proofs.lemmas.List.Elements.{All-weaker}
 use Rattle.drn_read.proofs.Lists.{find_none, All-from_flat_map}
-use Rattle.lift_frac.specs.Gcd.{gcd}
 use Rattle.lift_frac.specs.Parts.{capped}
 use Rattle.lift_frac.proofs.Euclid.{gcd_is, small, positive}
 use Rattle.lift_model.specs.declared.kind.Kind.{Kind}
@@ -28,7 +27,8 @@ use Rattle.drn_read.specs.Parts.{last}
 use Rattle.drn_read.specs.Judging.{choiceless}
 use Rattle.drn_read.specs.declared.error.DrnCause.TheVariants.{NoChoice, TargetRange, CommonDenominator}
 use Rattle.drn_read.specs.declared.error.DrnError.{DrnError}
-use Rattle.drn_read.specs.Reading.{lcm, all_transitions, common, is_large, entry, kind_or_chain, model, common_fault}
+use Rattle.lift_frac.specs.Gcd.{gcd, lcm}
+use Rattle.drn_read.specs.Reading.{all_transitions, common, is_large, entry, kind_or_chain, model, common_fault}
 use Rattle.drn_read.specs.Shown.{first_in, outside, with_den, Becomes, refusal}
 use Rattle.drn_read.specs.declared.state.Transition.{Transition}
 

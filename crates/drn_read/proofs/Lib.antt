@@ -21,6 +21,7 @@ pub mod PlaceholderLines
 pub mod Ranges
 pub mod Running
 mod Samples
+pub mod Sets
 pub mod Sound
 pub mod Stated
 pub mod Tallies

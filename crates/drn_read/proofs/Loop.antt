@@ -12,22 +12,19 @@ use Rattle.drn_lexer.specs.declared.line.Place.{Place}
 use Rattle.drn_read.specs.Faults.{lexed}
 use Rattle.drn_read.specs.Judging.{Said, line_fault}
 use Rattle.drn_read.specs.Reading.{said, first_fault, last_number, end_fault, model, ended, drn, IsAnswer}
+use Rattle.drn_read.specs.Laws.{TextsAreValid}
 use Rattle.drn_read.specs.Keeping.{with_line}
-use Rattle.drn_read.specs.Shown.{rest, IsSource, AtEnd, TellsLine}
+use Rattle.drn_read.specs.Shown.{rest, IsSource, TellsLine}
 use Rattle.drn_read.specs.declared.cursor.Cursor.{Cursor}
 use Rattle.drn_read.specs.declared.error.DrnCause.TheVariants.{Memory}
 use Rattle.drn_read.specs.declared.error.DrnError.{DrnError}
-use Rattle.drn_read.proofs.Kept.{IsSound}
 use Rattle.drn_read.proofs.Running.{Passed, passes, stops, lexer_stops, ends, line_number, last_is_length}
-use Rattle.drn_read.proofs.Sound.{starts, goes_on}
-use Rattle.drn_read.proofs.Sound.{ends as is_model}
 
 pub record AtPlace (label text : List ℕ) (place : Place) (kept : Said) : Type 0 where
   pub before : List TextLine
   pub all : before ++ lines_at text place ≡ lines text
   pub fault : first_fault label [] (lines text) ≡ first_fault label before (lines_at text place)
   pub said_is : kept ≡ said label before
-  pub sound : IsSound kept
   pub number : place.number ≡ length before + 1
 
 pub at_start : (label text : List ℕ) (place : Place) (kept : Said) → lines_at text place ≡ lines text → place.number ≡ 1 → kept ≡ said label [] → AtPlace label text place kept
@@ -36,7 +33,6 @@ at_start label text place kept e n s = record {
   all = e;
   fault = ap (first_fault label []) (sym e);
   said_is = s;
-  sound = subst IsSound (sym s) (starts label);
   number = n;
 }
 
@@ -63,7 +59,6 @@ one_more label text old new kept after line cursor h l e f p calm grown =
       all = r.all ∙ h.all;
       fault = h.fault ∙ r.fault;
       said_is = grown s sp ∙ ap (λ (k : Said). with_line label k s) h.said_is ∙ sym r.said_is;
-      sound = subst IsSound (sym (grown s sp)) (goes_on label kept s h.sound (calm s sp));
       number = omega (arith, at, line_number text r.earlier (lines_at text new) s whole, ap length r.front_is, length-append r.earlier (s ∷ []));
     }
 
@@ -120,26 +115,27 @@ end_place : (text : List ℕ) (old : Place) (ls : List TextLine) → ls ≡ [] �
 end_place text old ls e = rw e refl
 
 pub at_end : (label text : List ℕ) (old new : Place) (kept : Said) → AtPlace label text old kept → Ok None ≡ answer_of (behind_comments (lines_at text old))
-    → new ≡ place_after text old (behind_comments (lines_at text old)) → AtEnd label text (new.number - 1) kept
+    → new ≡ place_after text old (behind_comments (lines_at text old)) → drn text label ≡ ended (new.number - 1) kept
 at_end label text old new kept h e p =
     let left : behind_comments (lines_at text old) ≡ [] = none_left (behind_comments (lines_at text old)) e in
     let r = ends label h.before (lines_at text old) left in
     let whole : kept ≡ said label (lines text) = h.said_is ∙ sym r.1 ∙ ap (said label) h.all in
     let n : new.number ≡ old.number + length (lines_at text old) = ap (λ (k : Place). k.number) p ∙ end_place text old (behind_comments (lines_at text old)) left in
     let last : last_number (lines text) ≡ new.number - 1 = omega (arith, n, h.number, last_is_length text, ap length h.all, length-append h.before (lines_at text old)) in
-    record {
-      valid = is_model (new.number - 1) kept h.sound;
-      right = drn_end label text (h.fault ∙ r.0) ∙ ap (λ n. ended n (said label (lines text))) last ∙ ap (ended (new.number - 1)) (sym whole);
-    }
+    drn_end label text (h.fault ∙ r.0) ∙ ap (λ n. ended n (said label (lines text))) last ∙ ap (ended (new.number - 1)) (sym whole)
 
-no_fault_at_end : (number : ℕ) (kept : Said) → end_fault number kept ≡ None → ended number kept ≡ Ok (model kept)
+pub no_fault_at_end : (number : ℕ) (kept : Said) → end_fault number kept ≡ None → ended number kept ≡ Ok (model kept)
 no_fault_at_end number kept e = rw (ended, e) refl
 
 fault_at_end : (number : ℕ) (kept : Said) (error : DrnError) → end_fault number kept ≡ Some error → ended number kept ≡ Err error
 fault_at_end number kept error e = rw (ended, e) refl
 
 -- what the end gives is what the text stands for
-pub answered : (label text : List ℕ) (number : ℕ) (kept : Said) (result : Result ModelData DrnError) → AtEnd label text number kept
+pub answered : (label text : List ℕ) (number : ℕ) (kept : Said) (result : Result ModelData DrnError) → drn text label ≡ ended number kept
     → TellsLine result (end_fault number kept) → IfOk result (λ m. m ≡ model kept) → IsAnswer result (drn text label)
-answered label text number kept (Ok m) h none same = h.right ∙ no_fault_at_end number kept none ∙ ap (λ (m : ModelData). Ok m) (sym same)
-answered label text number kept (Err error) h some same = λ ne. h.right ∙ fault_at_end number kept error (some ne)
+answered label text number kept (Ok m) h none same = h ∙ no_fault_at_end number kept none ∙ ap (λ (m : ModelData). Ok m) (sym same)
+answered label text number kept (Err error) h some same = λ ne. h ∙ fault_at_end number kept error (some ne)
+
+-- a text without a fault stands for a valid model
+pub valid_at_end : (label text : List ℕ) (number : ℕ) (kept : Said) → TextsAreValid → drn text label ≡ ended number kept → end_fault number kept ≡ None → IsModel (model kept)
+valid_at_end label text number kept law h e = (law text label (model kept) (h ∙ no_fault_at_end number kept e)).valid

@@ -28,12 +28,12 @@ first_fault-cons : (label : List ℕ) (before : List TextLine) (l : TextLine) (l
 unfolding first_fault or_else
 first_fault-cons label before l ls = refl
 
-goes_on : (label : List ℕ) (before : List TextLine) (l : TextLine) (ls : List TextLine) → judge label before l ≡ None
+pub goes_on : (label : List ℕ) (before : List TextLine) (l : TextLine) (ls : List TextLine) → judge label before l ≡ None
     → first_fault label before (l ∷ ls) ≡ first_fault label (before ++ l ∷ []) ls
 unfolding or_else
 goes_on label before l ls e = first_fault-cons label before l ls ∙ ap (or_else (first_fault label (before ++ l ∷ []) ls)) e
 
-ends_at : (label : List ℕ) (before : List TextLine) (l : TextLine) (ls : List TextLine) (fault : DrnError) → judge label before l ≡ Some fault
+pub ends_at : (label : List ℕ) (before : List TextLine) (l : TextLine) (ls : List TextLine) (fault : DrnError) → judge label before l ≡ Some fault
     → first_fault label before (l ∷ ls) ≡ Some fault
 unfolding or_else
 ends_at label before l ls fault e = first_fault-cons label before l ls ∙ ap (or_else (first_fault label (before ++ l ∷ []) ls)) e
@@ -54,11 +54,11 @@ judged_comment : (label : List ℕ) (before : List TextLine) (l : TextLine) → 
 unfolding judge_by
 judged_comment label before l e f = judge-is label before l None true e f
 
-judged_plain : (label : List ℕ) (before : List TextLine) (l : TextLine) → own_fault l ≡ None → is_comment l ≡ false → judge label before l ≡ line_fault (said label before) l
+pub judged_plain : (label : List ℕ) (before : List TextLine) (l : TextLine) → own_fault l ≡ None → is_comment l ≡ false → judge label before l ≡ line_fault (said label before) l
 unfolding judge_by
 judged_plain label before l e f = judge-is label before l None false e f
 
-judged_own : (label : List ℕ) (before : List TextLine) (l : TextLine) (fault : LexError) → own_fault l ≡ Some fault → judge label before l ≡ Some (record { line = l.number; cause = lexed fault })
+pub judged_own : (label : List ℕ) (before : List TextLine) (l : TextLine) (fault : LexError) → own_fault l ≡ Some fault → judge label before l ≡ Some (record { line = l.number; cause = lexed fault })
 unfolding judge_by
 judged_own label before l fault e = judge-is label before l (Some fault) (is_comment l) e refl
 

@@ -1,6 +1,6 @@
 -- Lines of the model: its states stay sound.
 use Rattle.std.proofs.Common.{◌≡◌, ◌≢◌, ◌==◌, ℕ, zero, ◌+◌, ◌<◌, ◌≤◌, Bool, true, false, cond, not, List, [], ◌∷◌, ◌++◌, length, get_or, take, All, Option, Some, None, Result, Ok, Err, refl, sym, ap, subst, ◌∙◌, arith}
-use Rattle.std.specs.Prelude.{nat_lt, nat_le, is_some, codes, drop}
+use Rattle.std.specs.Prelude.{nat_le, is_some, codes}
 use Rattle.std.specs.List.{list_any, find, sum_by}
 use Rattle.std.specs.Char.{is_ascii_digit}
 use Rattle.std.specs.Option.{option_and_then}
@@ -15,20 +15,17 @@ use Rattle.std.proofs.lemmas.List.Sums.{sum_by-cons, sum_by_push}
 use Rattle.std.proofs.lemmas.Slice.Eq.{bytes_eq-Decides}
 use Rattle.lift_model.specs.declared.kind.Kind.{Kind}
 use Rattle.lift_model.specs.declared.kind.Kind.TheVariants.{Dtmc, Mdp}
-use Rattle.lift_bytes.specs.Bytes.{is_blank, first_passes, behind}
+use Rattle.lift_bytes.specs.Bytes.{is_blank, behind}
 use Rattle.drn_lexer.specs.Cutting.{Piece, pieces_behind}
 use Rattle.drn_lexer.specs.Lines.{TextLine, content, is_blank_line}
 use Rattle.drn_lexer.specs.Symbols.{symbols}
 use Rattle.drn_lexer.specs.Words.{WordKind, words, word_front}
-use Rattle.drn_lexer.specs.declared.symbol.SymbolForm.{SymbolForm}
-use Rattle.drn_lexer.specs.declared.symbol.SymbolForm.TheVariants as symbol
 use Rattle.drn_expr.specs.RatPolys.{OverOne}
-use Rattle.drn_expr.proofs.Valid.{IsOver}
 use Rattle.drn_read.specs.Faults.{when, first_of, fault_of, told}
 use Rattle.drn_read.specs.Parts.{last, is_empty}
 use Rattle.drn_read.specs.Text.{behind_colon, is_digits, value_of}
 use Rattle.drn_read.specs.Sections.{Header, Placeholder, is_head}
-use Rattle.drn_read.specs.States.{StateText, ModelLine, model_line, is_transition, target_of, target_text, value_of_placeholder, named_value, entry_value, begins_with, is_state, is_action, state, transition, lone_name}
+use Rattle.drn_read.specs.States.{StateText, ModelLine, model_line, is_transition, target_of, value_of_placeholder, named_value, entry_value, begins_with, is_state, is_action, state, transition, lone_name}
 use Rattle.drn_read.specs.Judging.{choice_count, transition_count, open_choice, target_fault, transition_fault, state_fault, number_fault, labels_fault, choiceless, name_and_group_fault, action_fault, words_fault, model_fault, target_text_fault, room_fault, choice_fault}
 use Rattle.drn_read.specs.Keeping.{on_last, with_choice, with_transitions, states_with}
 use Rattle.drn_read.specs.declared.error.DrnCause.{DrnCause}
@@ -36,7 +33,7 @@ use Rattle.drn_read.specs.declared.error.DrnCause.TheVariants.{Syntax, UnknownPl
 use Rattle.drn_read.specs.declared.error.DrnError.{DrnError}
 use Rattle.drn_read.specs.declared.state.Transition.{Transition}
 use Rattle.drn_read.proofs.Declared.{first_none, when_none, fault_none, value_over}
-use Rattle.drn_read.proofs.Kept.{IsChoice, IsState, AreStates}
+use Rattle.drn_read.proofs.Kept.{IsValue, IsChoice, IsState, AreStates}
 use Rattle.drn_read.proofs.Lists.{split, last-push, on_last-push, All-front, All-end, any_false, find_keeps}
 use Rattle.lift_model.specs.Valid.{most_transitions, most_choices}
 
@@ -64,7 +61,7 @@ none_last [] e = refl
 none_last (x ∷ xs) e = let s = split (x ∷ xs) refl in absurd (both_ways (is_some (last (x ∷ xs))) e (ap is_some (ap last s.is ∙ last-push s.front s.end)))
 
 no_transition : (count : ℕ) → IsChoice count []
-no_transition count = record { distinct = λ i j d lt within. absurd (omega arith); values = All-nil (λ t. IsOver count t.value) }
+no_transition count = record { distinct = λ i j d lt within. absurd (omega arith); values = All-nil (λ t. IsValue count t.value) }
 
 -- ---- one more choice
 
@@ -90,12 +87,12 @@ choice_added kind count states some one few h =
 
 -- ---- one more transition
 
-row_added : (count : ℕ) (c : List Transition) (t : Transition) → list_any (λ u. u.target == t.target) c ≡ false → IsOver count t.value → IsChoice count c → IsChoice count (c ++ t ∷ [])
+row_added : (count : ℕ) (c : List Transition) (t : Transition) → list_any (λ u. u.target == t.target) c ≡ false → IsValue count t.value → IsChoice count c → IsChoice count (c ++ t ∷ [])
 row_added count c t new over h = record {
   distinct =
       all_pairs_push (λ a b. a.target ≢ b.target) c t h.distinct
       (λ k d lt same. both_ways ((get_or c k d).target == t.target) (any_false (λ (u : Transition). u.target == t.target) c new k d lt) (eq-eqb (get_or c k d).target t.target same));
-  values = All-push (λ u. IsOver count u.value) c t h.values over;
+  values = All-push (λ u. IsValue count u.value) c t h.values over;
 }
 
 -- the fault of a target, by the last choice of the last state
@@ -107,7 +104,7 @@ target_by states target o = elim o [
 
 transition_added_by : (kind : Option Kind) (count : ℕ) (front : List StateText) (s : StateText) (cs : List (List Transition)) (t : Transition)
     → target_by (front ++ record s { choices = cs } ∷ []) t.target (last cs) ≡ None
-    → transition_count (front ++ record s { choices = cs } ∷ []) < 262144 → IsOver count t.value → AreStates kind count (front ++ record s { choices = cs } ∷ [])
+    → transition_count (front ++ record s { choices = cs } ∷ []) < 262144 → IsValue count t.value → AreStates kind count (front ++ record s { choices = cs } ∷ [])
     → AreStates kind count (front ++ with_transitions (t ∷ []) (record s { choices = cs }) ∷ [])
 unfolding target_by
 transition_added_by kind count front s [] t e few over h =
@@ -140,13 +137,13 @@ transition_added_by kind count front s (c ∷ cs) t e few over h =
     (omega (arith, total, few, sum_by_push (λ (u : StateText). sum_by length u.choices) front before))
 
 transition_added_to : (kind : Option Kind) (count : ℕ) (front : List StateText) (s : StateText) (t : Transition) → target_fault (front ++ s ∷ []) t.target ≡ None
-    → transition_count (front ++ s ∷ []) < 262144 → IsOver count t.value → AreStates kind count (front ++ s ∷ []) → AreStates kind count (front ++ with_transitions (t ∷ []) s ∷ [])
+    → transition_count (front ++ s ∷ []) < 262144 → IsValue count t.value → AreStates kind count (front ++ s ∷ []) → AreStates kind count (front ++ with_transitions (t ∷ []) s ∷ [])
 unfolding target_by
 transition_added_to kind count front s t e few over h =
     transition_added_by kind count front s s.choices t (subst (λ o. target_by (front ++ s ∷ []) t.target o ≡ None) (open_is front s) e) few over h
 
 transition_added : (kind : Option Kind) (count : ℕ) (states : List StateText) (t : Transition) → is_empty states ≡ false → target_fault states t.target ≡ None → transition_count states < 262144
-    → IsOver count t.value → AreStates kind count states → AreStates kind count (on_last (with_transitions (t ∷ [])) states)
+    → IsValue count t.value → AreStates kind count states → AreStates kind count (on_last (with_transitions (t ∷ [])) states)
 transition_added kind count states t some e few over h =
     let x = split states some in
     subst (λ ss. AreStates kind count (on_last (with_transitions (t ∷ [])) ss)) (sym x.is)
@@ -178,30 +175,30 @@ state_added kind count states s none e few h = record {
 
 -- ---- the value of a transition
 
-place_over : (count : ℕ) (places : List Placeholder) (name : List ℕ) (v : OverOne) → All (λ place. IsOver count place.value) places → value_of_placeholder places name ≡ Ok v → IsOver count v
+place_over : (count : ℕ) (places : List Placeholder) (name : List ℕ) (v : OverOne) → All (λ place. IsValue count place.value) places → value_of_placeholder places name ≡ Ok v → IsValue count v
 place_over count places name v h e = by_found (find (λ place. bytes_eq name place.name) places) refl e
   where
-    by_found : (o : Option Placeholder) → find (λ place. bytes_eq name place.name) places ≡ o → (elim o as (λ o. Result OverOne DrnCause) [ Some place ↦ Ok place.value | None ↦ Err UnknownPlace ]) ≡ Ok v → IsOver count v
+    by_found : (o : Option Placeholder) → find (λ place. bytes_eq name place.name) places ≡ o → (elim o as (λ o. Result OverOne DrnCause) [ Some place ↦ Ok place.value | None ↦ Err UnknownPlace ]) ≡ Ok v → IsValue count v
     by_found (Some place) is e =
         let f : place.value ≡ v = cc in
-        subst (IsOver count) f (find_keeps (λ (p : Placeholder). IsOver count p.value) (λ (p : Placeholder). bytes_eq name p.name) places place h is)
+        subst (IsValue count) f (find_keeps (λ (p : Placeholder). IsValue count p.value) (λ (p : Placeholder). bytes_eq name p.name) places place h is)
     by_found None is e = cc
 
-named_over : (names : List (List ℕ)) (places : List Placeholder) (text : List ℕ) (v : OverOne) → All (λ place. IsOver (length names) place.value) places → named_value names places text ≡ Ok v → IsOver (length names) v
+named_over : (names : List (List ℕ)) (places : List Placeholder) (text : List ℕ) (v : OverOne) → All (λ place. IsValue (length names) place.value) places → named_value names places text ≡ Ok v → IsValue (length names) v
 named_over names places text v h e = by_name (lone_name (symbols text)) e
   where
-    by_name : (o : Option (List ℕ)) → (elim o as (λ o. Result OverOne DrnCause) [ Some name ↦ value_of_placeholder places name | None ↦ value_of names text ]) ≡ Ok v → IsOver (length names) v
+    by_name : (o : Option (List ℕ)) → (elim o as (λ o. Result OverOne DrnCause) [ Some name ↦ value_of_placeholder places name | None ↦ value_of names text ]) ≡ Ok v → IsValue (length names) v
     by_name (Some name) e = place_over (length names) places name v h e
     by_name None e = value_over names text v e
 
-entry_over : (names : List (List ℕ)) (places : List Placeholder) (line : List ℕ) (v : OverOne) → All (λ place. IsOver (length names) place.value) places → entry_value names places line ≡ Ok v → IsOver (length names) v
+entry_over : (names : List (List ℕ)) (places : List Placeholder) (line : List ℕ) (v : OverOne) → All (λ place. IsValue (length names) place.value) places → entry_value names places line ≡ Ok v → IsValue (length names) v
 entry_over names places line v h e = by_colon (behind_colon (behind is_ascii_digit line)) e
   where
-    by_colon : (o : Option (List ℕ)) → (elim o as (λ o. Result OverOne DrnCause) [ Some text ↦ named_value names places text | None ↦ Err Syntax ]) ≡ Ok v → IsOver (length names) v
+    by_colon : (o : Option (List ℕ)) → (elim o as (λ o. Result OverOne DrnCause) [ Some text ↦ named_value names places text | None ↦ Err Syntax ]) ≡ Ok v → IsValue (length names) v
     by_colon (Some text) e = named_over names places text v h e
     by_colon None e = cc
 
-transition_stays : (h : Header) (states : List StateText) (line : TextLine) → transition_fault h states (content line) ≡ None → All (λ place. IsOver (length h.names) place.value) h.placeholders
+transition_stays : (h : Header) (states : List StateText) (line : TextLine) → transition_fault h states (content line) ≡ None → All (λ place. IsValue (length h.names) place.value) h.placeholders
     → AreStates h.kind (length h.names) states → AreStates h.kind (length h.names) (on_last (with_transitions (transition (model_line h.names h.placeholders line))) states)
 transition_stays h states line e values sound =
     let text = content line in
@@ -318,7 +315,7 @@ neither P false false A B C e f h = h
 
 -- ---- a line of the model
 
-pub model_stays : (label : List ℕ) (h : Header) (states : List StateText) (line : TextLine) → model_fault h states line ≡ None → All (λ place. IsOver (length h.names) place.value) h.placeholders
+pub model_stays : (label : List ℕ) (h : Header) (states : List StateText) (line : TextLine) → model_fault h states line ≡ None → All (λ place. IsValue (length h.names) place.value) h.placeholders
     → AreStates h.kind (length h.names) states → AreStates h.kind (length h.names) (states_with label h states line)
 model_stays label h states line e values sound = by_head (is_head line) e
   where

@@ -136,10 +136,8 @@ target_fault states target = elim (open_choice states) [
 
 -- the digits of a transition's line, and the colon behind them
 abbrev pub target_text_fault : List ℕ → Option DrnCause
-target_text_fault line = first_of (
-    when (nat_lt most_digits (length (target_text line))) Syntax
-    ∷ when (not (first_passes (λ b. b == colon) (behind is_blank (behind is_ascii_digit line)))) Syntax
-    ∷ [])
+target_text_fault line =
+    when (nat_lt most_digits (length (target_text line)) || not (first_passes (λ b. b == colon) (behind is_blank (behind is_ascii_digit line)))) Syntax
 
 -- one more transition, to this target
 abbrev pub room_fault : List StateText → ℕ → Option DrnCause

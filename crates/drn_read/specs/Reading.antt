@@ -1,8 +1,8 @@
 -- What a model text stands for: a model, or a refusal with its line and cause. Each line is judged by what the lines before it say, and after the last line the whole text is judged.
-use Rattle.std.specs.Prelude.{if◌then◌else◌, ◌≡◌, ◌≢◌, ℕ, pos, Bool, true, false, not, nat_le, List, [], ◌∷◌, ◌++◌, ◌==◌, ◌||◌, ◌*◌, ◌/◌, ◌^◌, length, map, find, fold, count_by, is_some, unsigned_abs, Option, Some, None, Result, Ok, Err}
+use Rattle.std.specs.Prelude.{if◌then◌else◌, ◌≡◌, ◌≢◌, ℕ, pos, Bool, true, false, not, nat_le, List, [], ◌∷◌, ◌++◌, ◌==◌, ◌||◌, ◌/◌, length, map, find, fold, count_by, is_some, unsigned_abs, Option, Some, None, Result, Ok, Err}
 use Rattle.std.specs.List.{list_any, flat_map, position_or_len}
 use Rattle.std.specs.Option.{option_map}
-use Rattle.lift_frac.specs.Gcd.{gcd}
+use Rattle.lift_frac.specs.Gcd.{lcm}
 use Rattle.lift_poly.specs.Polynomial.{Term}
 use Rattle.lift_poly.specs.Arithmetic as poly
 use Rattle.lift_model.specs.declared.kind.Kind.{Kind}
@@ -52,10 +52,6 @@ first_fault label before (line ∷ lines) = elim (judge label before line) [
 abbrev pub all_transitions : List StateText → List Transition
 all_transitions states = flat_map (λ s. flat_map (λ choice. choice) s.choices) states
 
--- the least common multiple of two numbers
-abbrev pub lcm : ℕ → ℕ → ℕ
-lcm a b = a / gcd a b * b
-
 -- the common denominator: the least common multiple of the denominators of all values
 abbrev pub common : List StateText → ℕ
 common states = fold (λ c t. lcm c t.value.den) 1 (all_transitions states)
@@ -70,8 +66,7 @@ is_large c t = list_any (λ term. nat_le coefficient_limit (unsigned_abs term.1)
 
 -- a number that was announced isn't this one
 abbrev pub differs : Option ℕ → ℕ → Bool
-differs None number = false
-differs (Some announced) number = not (announced == number)
+differs announced number = elim announced [ Some n ↦ not (n == number) | None ↦ false ]
 
 -- the first number that was announced and isn't the one that was read: that of states, and then that of choices
 abbrev pub mismatch : Header → ℕ → ℕ → Option Section

@@ -14,7 +14,6 @@ use Rattle.drn_expr.specs.RatPolys.{OverOne}
 use Rattle.drn_read.specs.Parts.{Part, parts, last}
 use Rattle.drn_read.specs.Text.{at_sign, value_behind}
 use Rattle.drn_read.specs.declared.error.DrnCause.{DrnCause}
-use Rattle.drn_read.specs.declared.error.DrnCause.TheVariants.{Syntax}
 use Rattle.drn_read.specs.declared.section.Phase.{Phase}
 use Rattle.drn_read.specs.declared.section.Phase.TheVariants as phase
 use Rattle.drn_read.specs.declared.section.Section.{Section}

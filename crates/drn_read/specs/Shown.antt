@@ -5,7 +5,7 @@ use Rattle.std.specs.Str.{bytes_eq}
 use Rattle.lift_bytes.specs.Bytes.{is_name_byte, behind}
 use Rattle.lift_frac.specs.Parts.{capped}
 use Rattle.lift_poly.specs.Polynomial.{Term}
-use Rattle.lift_model.specs.Valid.{coefficient_limit, common_limit, IsModel}
+use Rattle.lift_model.specs.Valid.{coefficient_limit, common_limit}
 use Rattle.drn_lexer.specs.Cutting.{Piece}
 use Rattle.drn_lexer.specs.Lines.{TextLine, content, lines_at, behind_comments, answer_of}
 use Rattle.drn_lexer.specs.Spans.{IsNextLine}
@@ -20,7 +20,8 @@ use Rattle.drn_read.specs.Faults.{first_of, lexed}
 use Rattle.drn_read.specs.Sections.{Placeholder, placeholder_name}
 use Rattle.drn_read.specs.States.{is_label}
 use Rattle.drn_read.specs.Judging.{Said, most_placeholders}
-use Rattle.drn_read.specs.Reading.{end_fault, model, ended, drn, lcm}
+use Rattle.lift_frac.specs.Gcd.{lcm}
+use Rattle.drn_read.specs.Reading.{ended, drn}
 use Rattle.drn_read.specs.declared.error.DrnCause.{DrnCause}
 use Rattle.drn_read.specs.declared.error.DrnCause.TheVariants.{OpenQuote, Memory}
 use Rattle.drn_read.specs.declared.error.DrnError.{DrnError}
@@ -85,14 +86,9 @@ abbrev pub paired : List (List ℕ) → List OverOne → List Placeholder
 paired (name ∷ names) (value ∷ values) = record { name = name; value = value } ∷ paired names values
 paired _ _ = []
 
--- At the end of a text without a fault in its lines, whose last line has this number: these are what its lines say, and without a fault at the end they stand for a valid model.
-pub record AtEnd (label text : List ℕ) (number : ℕ) (kept : Said) : Type 0 where
-  pub valid : end_fault number kept ≡ None → IsModel (model kept)
-  pub right : drn text label ≡ ended number kept
-
 -- the lines of a text were read, and the number of the last one was given
 abbrev pub ReadsLines : List ℕ → List ℕ → Result ℕ DrnError → Said → Type 0
-ReadsLines label text (Ok number) kept = AtEnd label text number kept
+ReadsLines label text (Ok number) kept = drn text label ≡ ended number kept
 ReadsLines label text (Err error) kept = error.cause ≢ Memory → drn text label ≡ Err error
 
 -- the next line that is no comment is refused by this fault of its own, with its number

@@ -2,24 +2,24 @@
 ghost use Rattle.std.specs.Prelude.{◌≡◌, ◌^◌, fold, map};
 ghost use Rattle.lift_frac.specs.Parts.{capped};
 ghost use Rattle.lift_model.specs.Valid.{common_limit};
-ghost use Rattle.drn_read.specs.Reading.{lcm, common};
+ghost use Rattle.lift_frac.specs.Gcd.{lcm};
+ghost use Rattle.drn_read.specs.Reading.{common};
 ghost use Rattle.drn_read.specs.Shown.{with_den, Becomes};
 
 use crate::state::{State, Transition};
 use drn_expr::RatPoly;
-use lift_frac::gcd;
+use lift_frac::lcm;
 
 /// The common denominator is below this.
-const LIMIT: u128 = 1 << 62;
+const COMMON_LIMIT: u128 = 1 << 62;
 
 /// The least common multiple with a value's denominator. A multiple never falls, so none stays none.
 fn joined(common: Option<u64>, value: &RatPoly) -> Option<u64>
     ensures { Becomes common result (λ c. lcm c value.now.den) }
 {
-    let den = value.den() as u128;
-    let common = u128::from(common?);
-    let least = common / gcd(common, den) * den;
-    if least < LIMIT {
+    let den = value.den() as u64;
+    let least = lcm(common?, den);
+    if least < COMMON_LIMIT {
         Some(least as u64)
     } else {
         None

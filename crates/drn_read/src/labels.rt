@@ -102,11 +102,7 @@ fn test_number(before: usize, word: LineWord<'_>) -> Result<(), DrnCause>
 
 /// The words behind `state`: the number of the state, where so many stand before it, a group that is
 /// passed over, and labels.
-pub(crate) fn read_state(
-    before: usize,
-    words: Cursor<'_>,
-    goal: &[u8],
-) -> Result<Labels, DrnCause>
+pub(crate) fn read_state(before: usize, words: Cursor<'_>, goal: &[u8]) -> Result<Labels, DrnCause>
     requires { before ≤ most_states }
     ensures fault { fault_of result ≡ state_fault before (left words.entry) }
     ensures labels { IfOk result (Carries goal.now (drop 1 (left words.entry))) }

@@ -18,6 +18,7 @@ mod extend;
 mod front;
 mod header;
 mod labels;
+mod laws;
 mod model_lines;
 mod parameters;
 mod placeholder_line;
@@ -34,6 +35,7 @@ use cursor::Cursor;
 use drn_lexer::{Line, Place, next_line};
 use end::finish;
 pub use error::{DrnCause, DrnError};
+pub use laws::texts_are_valid;
 use lift_model::Model;
 use reader::Reader;
 use std::alloc::Global;
@@ -83,6 +85,7 @@ pub fn read_model(alloc: Global, text: &[u8], label: &[u8]) -> Result<Model, Drn
 {
     let mut reader = Reader::new(alloc);
     let number = read_lines(&mut reader, text, label)?;
+    texts_are_valid();
     let Reader { header, model } = reader;
     let choices = model.choices();
     finish(alloc, number, header, model.into_states(), choices)

@@ -260,11 +260,7 @@ impl ModelReader {
     }
 
     /// A transition's line.
-    fn read_transition(
-        &mut self,
-        header: &HeaderReader,
-        line: Cursor<'_>,
-    ) -> Result<(), DrnCause>
+    fn read_transition(&mut self, header: &HeaderReader, line: Cursor<'_>) -> Result<(), DrnCause>
         ensures fault { Tells result (transition_fault header.now self.old (rest line.entry)) }
         ensures after { let content = rest line.entry in
             let value = entry_value header.now.names header.now.placeholders content in
@@ -278,7 +274,12 @@ impl ModelReader {
             return Err(DrnCause::Syntax);
         };
         self.test_room(front.target)?;
-        let value = named_value(self.alloc, front.value, header.names(), header.placeholders())?;
+        let value = named_value(
+            self.alloc,
+            front.value,
+            header.names(),
+            header.placeholders(),
+        )?;
         self.add_transition(Transition {
             line: line.line.number,
             target: front.target,

@@ -15,14 +15,14 @@ use lift_poly::{MultiAffine, PolyError};
 use std::alloc::Global;
 
 /// The size from which on a coefficient over the common denominator is too large.
-const LIMIT: u128 = 1 << 100;
+const COEFFICIENT_LIMIT: u128 = 1 << 100;
 
 /// Whether a coefficient is too large.
 fn has_large(poly: &MultiAffine) -> bool
     ensures { result ≡ list_any is_over poly.now }
 {
     for i in 0..poly.len() {
-        if poly.term(i).1.unsigned_abs() >= LIMIT {
+        if poly.term(i).1.unsigned_abs() >= COEFFICIENT_LIMIT {
             return true;
         }
     }

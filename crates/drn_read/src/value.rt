@@ -15,11 +15,7 @@ use std::alloc::Global;
 const MOST_VALUE_PARAMETERS: u32 = 4;
 
 /// The value that is left of the line.
-pub(crate) fn value_of(
-    alloc: Global,
-    value: Cursor<'_>,
-    names: &Names,
-) -> Result<RatPoly, DrnCause>
+pub(crate) fn value_of(alloc: Global, value: Cursor<'_>, names: &Names) -> Result<RatPoly, DrnCause>
     requires { length names.now ≤ most_parameters }
     ensures { result ≢ Err DrnCause.Memory → result ≡ value_of names.now (rest value.entry) }
 {

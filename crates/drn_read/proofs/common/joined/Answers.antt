@@ -1,5 +1,5 @@
 use Rattle.std.proofs.Common.{sym, subst}
-use Rattle.drn_read.specs.Reading.{lcm}
+use Rattle.lift_frac.specs.Gcd.{lcm}
 use Rattle.drn_read.specs.Shown.{Becomes}
 use Rattle.drn_read.proofs.Ends.{no_more}
 use Rattle.drn_read.proofs.common.joined.Goals as goal

@@ -1,11 +1,11 @@
-use Rattle.std.proofs.Common.{◌≡◌, ◌≤◌, ℕ, List, length, take, drop, None, Some, rules, subst, sym, ap, ◌∙◌}
+use Rattle.std.proofs.Common.{◌≡◌, ◌≤◌, ℕ, List, drop, Some, rules, subst, sym, ap, ◌∙◌}
 use Rattle.drn_read.specs.Judging.{target_text_fault}
 use Rattle.drn_read.specs.ModelSteps.{IsTransitionFront}
 use Rattle.drn_read.specs.declared.front.TransitionFront.{TransitionFront}
 use Rattle.drn_read.specs.declared.error.DrnCause.TheVariants.{Syntax}
 use Rattle.drn_read.specs.Text.{most_digits, behind_colon}
 use Rattle.drn_read.specs.Shown.{rest}
-use Rattle.drn_read.proofs.Entries.{digits_end, long_text, no_colon, front_is}
+use Rattle.drn_read.proofs.Entries.{digits_end, long_text, front_is}
 use Rattle.drn_read.proofs.entry.transition_front.Goals as goal
 
 pub returns-then-digits-gt-MOST_DIGITS-clause-none : goal.returns-then-digits-gt-MOST_DIGITS-clause-none

@@ -6,7 +6,6 @@ use Rattle.drn_read.specs.Judging.{room_fault}
 use Rattle.drn_read.specs.Shown.{rest}
 use Rattle.drn_read.proofs.ModelTests.{entry_value_is, front_there}
 use Rattle.drn_read.proofs.model_lines.ModelReader.read_transition.Goals as goal
-use Rattle.drn_read.specs.Faults.{told}
 
 pub returns-in_err-value-clause-fault : goal.returns-in_err-value-clause-fault
 returns-in_err-value-clause-fault c =

@@ -1,0 +1,5 @@
+use Rattle.drn_read.proofs.Sound.{text_valid}
+use Rattle.drn_read.proofs.laws.texts_are_valid.Goals as goal
+
+pub returns : goal.returns
+returns c = text_valid
