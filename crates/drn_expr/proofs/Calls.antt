@@ -1,5 +1,5 @@
 -- What the operations on polynomials over one denominator answer.
-use Rattle.std.proofs.Common.{◌≡◌, ◌≢◌, ℕ, zero, suc, ◌+◌, ◌*◌, ◌/◌, ◌^◌, ◌<◌, ◌≤◌, ◌==◌, Bool, true, false, cond, ◌||◌, List, [], ◌∷◌, get_or, ℤ, pos, negsuc, ◌*ℤ◌, ◌<ℤ◌, All, Some, take, Result, Ok, Err, unsigned_abs, bit_and, int_eq, refl, sym, ap, subst, ◌∙◌, arith}
+use Rattle.std.proofs.Common.{◌≡◌, ◌≢◌, ℕ, zero, suc, ◌+◌, ◌*◌, ◌/◌, ◌<◌, ◌≤◌, ◌==◌, Bool, true, false, cond, ◌||◌, List, [], ◌∷◌, get_or, ℤ, pos, negsuc, ◌*ℤ◌, ◌<ℤ◌, All, Some, take, Result, Ok, Err, unsigned_abs, bit_and, int_eq, refl, sym, ap, subst, ◌∙◌, arith}
 use Rattle.std.specs.Prelude.{nat_le, slice_get}
 use Rattle.std.specs.List.{list_any}
 use Rattle.std.specs.Int.{◌∣◌, IsGcd}

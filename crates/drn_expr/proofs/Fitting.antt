@@ -19,7 +19,7 @@ use Rattle.lift_poly.proofs.Ring.{linear}
 use Rattle.drn_lexer.specs.declared.symbol.SymbolForm.{SymbolForm}
 use Rattle.drn_lexer.specs.declared.symbol.SymbolForm.TheVariants as form
 use Rattle.drn_expr.specs.Trees.{Expr, Literal, Parameter, Sum, Difference, Product, Quotient, Negative, ◌>>=◌}
-use Rattle.drn_expr.specs.Grammar.{Symbol, Parsed, value, term, factor, more_terms, more_factors, joins_terms, joins_factors, closed, ended, tree, literal_tree, name_tree}
+use Rattle.drn_expr.specs.Grammar.{most_nesting, Symbol, Parsed, value, term, factor, more_terms, more_factors, joins_terms, joins_factors, closed, ended, tree, literal_tree, name_tree}
 use Rattle.drn_expr.proofs.Forms.{unary, paren, factor_by, factor-is, more_by, more_terms-is, more_factors-is}
 
 -- a ratio in lowest terms, with a denominator above 0 and parts that are small
@@ -161,8 +161,8 @@ paren_good k p false h = bind_good k p (λ e. closed e.0 e.1) h (λ r f. closed_
 
 factor_form : (k : ℕ) (inner whole literal name : Parsed) (depth : ℕ) (f : SymbolForm) → Good k inner → Good k whole → Good k literal → Good k name → Good k (factor_by inner whole literal name depth f)
 unfolding Good factor_by
-factor_form k inner whole literal name depth form.Minus a b c d = unary_good k inner (depth == 64) a
-factor_form k inner whole literal name depth form.Left a b c d = paren_good k whole (depth == 64) b
+factor_form k inner whole literal name depth form.Minus a b c d = unary_good k inner (depth == most_nesting) a
+factor_form k inner whole literal name depth form.Left a b c d = paren_good k whole (depth == most_nesting) b
 factor_form k inner whole literal name depth form.Literal a b c d = c
 factor_form k inner whole literal name depth form.Name a b c d = d
 factor_form k inner whole literal name depth _ a b c d = tt
