@@ -14,9 +14,8 @@ use Rattle.drn_lexer.specs.Cutting.{Piece}
 use Rattle.drn_lexer.specs.Lines.{TextLine, content, is_blank_line}
 use Rattle.drn_lexer.specs.Words.{WordKind, words}
 use Rattle.drn_expr.specs.Values.{reading}
-use Rattle.drn_expr.specs.RatPolys.{OverOne}
+use Rattle.drn_expr.specs.RatPolys.{OverOne, IsOver}
 use Rattle.drn_expr.specs.declared.error.ExprError.{ExprError}
-use Rattle.drn_expr.proofs.Valid.{IsOver, reading_over}
 use Rattle.lift_poly.specs.Arithmetic.{support}
 use Rattle.drn_read.specs.Laws.{IsShortName}
 use Rattle.drn_read.specs.Faults.{when, first_of, fault_of, valued}
@@ -29,7 +28,7 @@ use Rattle.drn_read.specs.declared.error.DrnCause.TheVariants.{Syntax, RepeatedN
 use Rattle.drn_read.specs.declared.section.Phase.{Phase}
 use Rattle.drn_read.specs.declared.section.Phase.TheVariants as phase
 use Rattle.drn_read.specs.declared.section.Section.{Section}
-use Rattle.drn_read.proofs.Kept.{IsValue, AreNames, IsDeclared}
+use Rattle.drn_read.proofs.Kept.{Laws, IsValue, AreNames, IsDeclared}
 use Rattle.drn_read.proofs.Lists.{any_false}
 use Rattle.lift_model.specs.Valid.{most_name_bytes, most_parameters}
 
@@ -60,11 +59,11 @@ few_is p v e = by_test (nat_lt most_value_parameters (count_ones (support p.term
         let few : count_ones (support p.terms) ≤ most_value_parameters = grind (arith, nat_tests) in
         (same, subst (λ (q : OverOne). count_ones (support q.terms) ≤ most_value_parameters) same few)
 
-pub value_over : (names : List (List ℕ)) (text : List ℕ) (v : OverOne) → value_of names text ≡ Ok v → IsValue (length names) v
-value_over names text v e = by_reading (reading names text) refl e
+pub value_over : (laws : Laws) (names : List (List ℕ)) (text : List ℕ) (v : OverOne) → value_of names text ≡ Ok v → IsValue (length names) v
+value_over laws names text v e = by_reading (reading names text) refl e
   where
     by_reading : (r : Result OverOne ExprError) → reading names text ≡ r → (elim r as (λ r. Result OverOne DrnCause) [ Ok p ↦ with_few_parameters p | Err fault ↦ Err (valued fault) ]) ≡ Ok v → IsValue (length names) v
-    by_reading (Ok p) is e = let f = few_is p v e in record { over = subst (IsOver (length names)) f.0 (reading_over names text p is); few = f.1 }
+    by_reading (Ok p) is e = let f = few_is p v e in record { over = subst (IsOver (length names)) f.0 (laws.readings names text p is); few = f.1 }
     by_reading (Err fault) is e = cc
 
 -- a value over so many parameters is over more of them
@@ -72,7 +71,7 @@ over_more : (k m : ℕ) (p : OverOne) → k ≤ m → IsValue k p → IsValue m 
 over_more k m p le h = record {
   over = record {
     value = h.over.value;
-    sets = record { each = All-weaker (λ t. t.0 < 2 ^ k) (λ t. t.0 < 2 ^ m) (λ t lt. let more = pow-le-pow_right {n = 2} (omega arith) le in omega (arith, lt, more)) p.terms h.over.sets.each };
+    sets = All-weaker (λ t. t.0 < 2 ^ k) (λ t. t.0 < 2 ^ m) (λ t lt. let more = pow-le-pow_right {n = 2} (omega arith) le in omega (arith, lt, more)) p.terms h.over.sets;
   };
   few = h.few;
 }
@@ -121,27 +120,27 @@ more_names names more places h d = record {
       (λ place over. over_more (length names) (length (names ++ more)) place.value (omega (arith, length-append names more)) over) places d.values;
 }
 
-place_over : (names : List (List ℕ)) (line : List ℕ) (v : OverOne) → placeholder_value names line ≡ Ok v → IsValue (length names) v
-place_over names line v e = by_colon _ e
+place_over : (laws : Laws) (names : List (List ℕ)) (line : List ℕ) (v : OverOne) → placeholder_value names line ≡ Ok v → IsValue (length names) v
+place_over laws names line v e = by_colon _ e
   where
     by_colon : (o : Option (List ℕ)) → (elim o as (λ o. Result OverOne DrnCause) [ Some text ↦ value_of names text | None ↦ Err Syntax ]) ≡ Ok v → IsValue (length names) v
-    by_colon (Some text) e = value_over names text v e
+    by_colon (Some text) e = value_over laws names text v e
     by_colon None e = cc
 
-placed : (names : List (List ℕ)) (line : List ℕ) (places : List Placeholder) → length places < most_placeholders → (v : OverOne) → placeholder_value names line ≡ Ok v → IsDeclared names places
+placed : (laws : Laws) (names : List (List ℕ)) (line : List ℕ) (places : List Placeholder) → length places < most_placeholders → (v : OverOne) → placeholder_value names line ≡ Ok v → IsDeclared names places
     → IsDeclared names (places ++ placeholder names line)
-placed names line places few v e d =
+placed laws names line places few v e d =
     let new : Placeholder = record { name = placeholder_name line; value = v } in
     let one : placeholder names line ≡ new ∷ [] =
     ap (λ (r : Result OverOne DrnCause). elim r as (λ r. List Placeholder) [ Ok value ↦ record { name = placeholder_name line; value = value } ∷ [] | Err cause ↦ [] ]) e in
     subst (λ more. IsDeclared names (places ++ more)) (sym one) (record {
       parameters = d.parameters;
       few = omega (arith, length_push places new, few);
-      values = All-push (λ place. IsValue (length names) place.value) places new d.values (place_over names line v e);
+      values = All-push (λ place. IsValue (length names) place.value) places new d.values (place_over laws names line v e);
     })
 
-place_sound : (h : Header) (line : List ℕ) → placeholder_fault h line ≡ None → IsDeclared h.names h.placeholders → IsDeclared h.names (with_placeholder h line).placeholders
-place_sound h line e d =
+place_sound : (laws : Laws) (h : Header) (line : List ℕ) → placeholder_fault h line ≡ None → IsDeclared h.names h.placeholders → IsDeclared h.names (with_placeholder h line).placeholders
+place_sound laws h line e d =
     let name = placeholder_name line in
     let long = when (nat_lt most_name_bytes (length name)) LimitName in
     let repeated = when (list_any (λ p. bytes_eq name p.name) h.placeholders) RepeatedName in
@@ -154,7 +153,7 @@ place_sound h line e d =
     let g = first_none repeated (many ∷ []) f.1 in
     let few = leb-false most_placeholders (length h.placeholders) (when_none (nat_le most_placeholders (length h.placeholders)) LimitPlaces (first_none many [] g.1).0) in
     let read = fault_none (placeholder_value h.names line) (first_none value [] a.1).0 in
-    placed h.names line h.placeholders few read.0 read.1 d
+    placed laws h.names line h.placeholders few read.0 read.1 d
 
 -- ---- a line before the model
 
@@ -183,23 +182,23 @@ blank_stays h line after fault e d next = by_blank (is_blank_line line) e
     by_blank true e = d
     by_blank false e = next e
 
-pub header_stays : (h : Header) (p : Phase) (line : TextLine) → header_fault (record h { phase = p }) line ≡ None → Stays h → Stays (header_with (record h { phase = p }) line)
-header_stays h phase.NameList line e d =
+pub header_stays : (laws : Laws) (h : Header) (p : Phase) (line : TextLine) → header_fault (record h { phase = p }) line ≡ None → Stays h → Stays (header_with (record h { phase = p }) line)
+header_stays laws h phase.NameList line e d =
     let g : Header = record h { phase = phase.NameList } in
     headed_stays g line (with_names g (content line)) (names_fault h.names (words (content line))) e d
     (λ f. more_names h.names (map (λ word. word.bytes) (words (content line))) h.placeholders (names_sound h.names (words (content line)) f d.parameters) d)
-header_stays h phase.RewardList line e d =
+header_stays laws h phase.RewardList line e d =
     let g : Header = record h { phase = phase.RewardList } in
     headed_stays g line (record h { phase = phase.Sections }) None e d (λ f. d)
-header_stays h phase.StateCount line e d =
+header_stays laws h phase.StateCount line e d =
     let g : Header = record h { phase = phase.StateCount } in
     blank_stays g line (with_state_count g (content line)) (count_fault (content line)) e d (λ f. d)
-header_stays h phase.ChoiceCount line e d =
+header_stays laws h phase.ChoiceCount line e d =
     let g : Header = record h { phase = phase.ChoiceCount } in
     blank_stays g line (with_choice_count g (content line)) (count_fault (content line)) e d (λ f. d)
-header_stays h phase.Placeholders line e d =
+header_stays laws h phase.Placeholders line e d =
     let g : Header = record h { phase = phase.Placeholders } in
     headed_stays g line (unless_blank_with g line (with_placeholder g (content line))) (unless_blank line (placeholder_fault g (content line))) e d
-    (λ f. blank_stays g line (with_placeholder g (content line)) (placeholder_fault g (content line)) f d (λ k. place_sound g (content line) k d))
-header_stays h phase.Sections line e d = headed_stays (record h { phase = phase.Sections }) line (record h { phase = phase.Sections }) (unless_blank line (Some Syntax)) e d (λ f. d)
-header_stays h phase.Model line e d = headed_stays (record h { phase = phase.Model }) line (record h { phase = phase.Model }) (unless_blank line (Some Syntax)) e d (λ f. d)
+    (λ f. blank_stays g line (with_placeholder g (content line)) (placeholder_fault g (content line)) f d (λ k. place_sound laws g (content line) k d))
+header_stays laws h phase.Sections line e d = headed_stays (record h { phase = phase.Sections }) line (record h { phase = phase.Sections }) (unless_blank line (Some Syntax)) e d (λ f. d)
+header_stays laws h phase.Model line e d = headed_stays (record h { phase = phase.Model }) line (record h { phase = phase.Model }) (unless_blank line (Some Syntax)) e d (λ f. d)

@@ -1,6 +1,6 @@
 -- A transition's line by its pieces.
 use Rattle.std.proofs.Common.{◌≡◌, ◌==◌, ◌&&◌, ◌||◌, ◌≤◌, ◌<◌, ◌+◌, ◌^◌, ℕ, length-take-le, one-add, Bool, true, false, cond, List, [], ◌∷◌, length, take, drop, Option, Some, None, refl, sym, ◌∙◌, ap, arith}
-use Rattle.std.specs.Prelude.{is_some, nat_lt, not, slice_range}
+use Rattle.std.specs.Prelude.{is_some, nat_lt, not}
 use Rattle.std.specs.List.{list_all, prefix_len}
 use Rattle.std.specs.Char.{is_ascii_digit, digit_value}
 use Rattle.std.specs.Int.{IsInRange}
@@ -11,7 +11,7 @@ use Rattle.std.proofs.lemmas.Int.Digits.{digits_value-lt}
 use Rattle.std.proofs.lemmas.Str.{digit_value_digit}
 use Rattle.lift_frac.specs.Parts.{capped}
 use Rattle.lift_bytes.specs.Bytes.{colon, is_blank, first_passes, behind}
-use Rattle.drn_read.specs.Faults.{when, first_of}
+use Rattle.drn_read.specs.Faults.{when}
 use Rattle.drn_read.specs.Text.{most_digits, behind_colon}
 use Rattle.drn_read.specs.States.{target_text}
 use Rattle.drn_read.specs.Judging.{target_text_fault}

@@ -4,8 +4,10 @@ use Rattle.lift_model.specs.declared.kind.Kind.{Kind}
 use Rattle.lift_model.specs.declared.kind.Kind.TheVariants.{Mdp}
 use Rattle.lift_poly.specs.Arithmetic.{support}
 use Rattle.lift_model.specs.Valid.{most_states, most_choices, most_transitions, most_parameters}
-use Rattle.drn_expr.specs.RatPolys.{OverOne}
-use Rattle.drn_expr.proofs.Valid.{IsOver}
+use Rattle.drn_expr.specs.RatPolys.{OverOne, IsOver}
+use Rattle.lift_frac.specs.Laws.{LcmIsAtLeast}
+use Rattle.lift_poly.specs.Laws.{TermsSumToPolynomial}
+use Rattle.drn_expr.specs.Laws.{ReadingIsOver}
 use Rattle.drn_read.specs.Text.{most_value_parameters}
 use Rattle.drn_read.specs.Laws.{IsShortName}
 use Rattle.drn_read.specs.Sections.{Placeholder}
@@ -13,6 +15,12 @@ use Rattle.drn_read.specs.States.{StateText}
 use Rattle.drn_read.specs.Judging.{Said, most_placeholders, choice_count, transition_count}
 use Rattle.drn_read.specs.declared.section.Phase.TheVariants as phase
 use Rattle.drn_read.specs.declared.state.Transition.{Transition}
+
+-- the laws below that this rests on
+pub record Laws : Type 0 where
+  pub readings : ReadingIsOver
+  pub sums : TermsSumToPolynomial
+  pub multiples : LcmIsAtLeast
 
 -- a value over so many parameters, of which it holds few
 pub record IsValue (count : ℕ) (p : OverOne) : Type 0 where

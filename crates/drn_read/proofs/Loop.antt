@@ -1,10 +1,9 @@
 -- What a reader that goes by places keeps: it has said what the lines before its place say, and none of them has a fault.
-use Rattle.std.proofs.Common.{◌≡◌, ◌≢◌, ◌+◌, ◌-◌, ℕ, refl, List, [], ◌∷◌, ◌++◌, length, sym, subst, ◌∙◌, ap, append_assoc, arith, length-append, Option, Some, None, Result, Ok, Err}
+use Rattle.std.proofs.Common.{◌≡◌, ◌+◌, ◌-◌, ℕ, refl, List, [], ◌∷◌, ◌++◌, length, sym, ◌∙◌, ap, append_assoc, arith, length-append, Option, Some, None, Result, Ok, Err}
 use Rattle.std.specs.Prelude.{slice_range, IfOk}
-use Rattle.std.proofs.lemmas.List.{append-nil}
 use Rattle.lift_model.specs.Model.{ModelData}
 use Rattle.lift_model.specs.Valid.{IsModel}
-use Rattle.drn_lexer.specs.Lines.{TextLine, content, lines, lines_at, behind_comments, own_fault, span_of, answer_of, place_after, place_behind}
+use Rattle.drn_lexer.specs.Lines.{TextLine, lines, lines_at, behind_comments, own_fault, span_of, answer_of, place_after, place_behind}
 use Rattle.drn_lexer.specs.Spans.{IsNextLine}
 use Rattle.drn_lexer.specs.declared.error.LexError.{LexError}
 use Rattle.drn_lexer.specs.declared.line.Line.{Line}
@@ -16,7 +15,6 @@ use Rattle.drn_read.specs.Laws.{TextsAreValid}
 use Rattle.drn_read.specs.Keeping.{with_line}
 use Rattle.drn_read.specs.Shown.{rest, IsSource, TellsLine}
 use Rattle.drn_read.specs.declared.cursor.Cursor.{Cursor}
-use Rattle.drn_read.specs.declared.error.DrnCause.TheVariants.{Memory}
 use Rattle.drn_read.specs.declared.error.DrnError.{DrnError}
 use Rattle.drn_read.proofs.Running.{Passed, passes, stops, lexer_stops, ends, line_number, last_is_length}
 

@@ -1,29 +1,23 @@
 -- The tests of a line of the model, step by step.
-use Rattle.std.proofs.Common.{◌≡◌, ◌==◌, ℕ, Bool, true, false, not, List, [], ◌∷◌, length, Option, Some, None, Result, Ok, Err, ◌++◌, refl, sym, ◌∙◌, ap, arith}
-use Rattle.std.specs.Prelude.{OnOk, is_some, nat_lt, nat_le, slice_range, drop, codes, if◌then◌else◌}
+use Rattle.std.proofs.Common.{◌≡◌, ◌==◌, ℕ, Bool, true, false, List, [], ◌∷◌, length, Option, Some, None, Result, Ok, Err, ◌++◌, refl, sym, ◌∙◌, ap, arith}
+use Rattle.std.specs.Prelude.{OnOk, drop, codes, if◌then◌else◌}
 use Rattle.std.specs.Str.{bytes_eq}
-use Rattle.std.specs.Char.{is_ascii_digit}
-use Rattle.lift_model.specs.declared.kind.Kind.{Kind}
-use Rattle.lift_model.specs.declared.kind.Kind.TheVariants.{Dtmc, Mdp}
-use Rattle.lift_bytes.specs.Bytes.{is_blank, first_passes, behind, colon}
 use Rattle.drn_lexer.specs.Cutting.{Piece}
 use Rattle.drn_lexer.specs.Lines.{TextLine}
 use Rattle.drn_lexer.specs.Words.{WordKind, words}
-use Rattle.drn_lexer.specs.Symbols.{symbols}
-use Rattle.drn_lexer.specs.declared.line.Line.{Line}
 use Rattle.drn_expr.specs.RatPolys.{OverOne}
 use Rattle.drn_read.specs.Faults.{when, first_of, fault_of, told}
 use Rattle.drn_read.specs.Parts.{is_empty}
 use Rattle.drn_read.specs.Sections.{Header, Placeholder}
-use Rattle.drn_read.specs.States.{StateText, begins_with, is_transition, target_text, target_of, named_value, entry_value}
-use Rattle.drn_read.specs.Judging.{words_fault, transition_fault, target_fault, transition_count, choice_count, action_fault, open_choice, name_and_group_fault, target_text_fault, room_fault, choice_fault}
+use Rattle.drn_read.specs.States.{StateText, begins_with, is_transition, target_of, named_value, entry_value}
+use Rattle.drn_read.specs.Judging.{words_fault, transition_fault, target_text_fault, room_fault}
 use Rattle.drn_read.specs.Keeping.{states_with, on_last, with_choice, with_transitions}
 use Rattle.drn_read.specs.Shown.{TellsLine, IsSource, rest}
 use Rattle.drn_read.specs.declared.cursor.Cursor.{Cursor}
 use Rattle.drn_read.specs.declared.front.TransitionFront.{TransitionFront}
 use Rattle.drn_read.specs.ModelSteps.{transition_at, new_state, words_with, IsTransitionFront, on_line}
 use Rattle.drn_read.specs.declared.error.DrnCause.{DrnCause}
-use Rattle.drn_read.specs.declared.error.DrnCause.TheVariants.{Syntax, ExtraChoice, LimitChoices, LimitTransitions}
+use Rattle.drn_read.specs.declared.error.DrnCause.TheVariants.{Syntax}
 use Rattle.drn_read.specs.declared.error.DrnError.{DrnError}
 use Rattle.drn_read.proofs.Stated.{words_digit}
 

@@ -1,6 +1,5 @@
 -- A placeholder's line: its name, and then its value.
-use Rattle.std.proofs.Common.{◌≡◌, ◌≢◌, ◌+◌, ℕ, refl, List, [], ◌∷◌, ◌++◌, drop, sym, ◌∙◌, ap, arith, Option, Some, None, Result, Ok, Err}
-use Rattle.std.specs.Prelude.{slice_range}
+use Rattle.std.proofs.Common.{◌≡◌, ◌≢◌, ℕ, refl, List, [], ◌∷◌, ◌++◌, drop, sym, ◌∙◌, ap, Option, Some, None, Result, Ok, Err}
 use Rattle.lift_bytes.specs.Bytes.{is_name_byte, behind}
 use Rattle.drn_expr.specs.RatPolys.{OverOne}
 use Rattle.drn_read.specs.Faults.{first_of, fault_of}

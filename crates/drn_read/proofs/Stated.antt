@@ -33,7 +33,7 @@ use Rattle.drn_read.specs.declared.error.DrnCause.TheVariants.{Syntax, UnknownPl
 use Rattle.drn_read.specs.declared.error.DrnError.{DrnError}
 use Rattle.drn_read.specs.declared.state.Transition.{Transition}
 use Rattle.drn_read.proofs.Declared.{first_none, when_none, fault_none, value_over}
-use Rattle.drn_read.proofs.Kept.{IsValue, IsChoice, IsState, AreStates}
+use Rattle.drn_read.proofs.Kept.{Laws, IsValue, IsChoice, IsState, AreStates}
 use Rattle.drn_read.proofs.Lists.{split, last-push, on_last-push, All-front, All-end, any_false, find_keeps}
 use Rattle.lift_model.specs.Valid.{most_transitions, most_choices}
 
@@ -184,23 +184,23 @@ place_over count places name v h e = by_found (find (λ place. bytes_eq name pla
         subst (IsValue count) f (find_keeps (λ (p : Placeholder). IsValue count p.value) (λ (p : Placeholder). bytes_eq name p.name) places place h is)
     by_found None is e = cc
 
-named_over : (names : List (List ℕ)) (places : List Placeholder) (text : List ℕ) (v : OverOne) → All (λ place. IsValue (length names) place.value) places → named_value names places text ≡ Ok v → IsValue (length names) v
-named_over names places text v h e = by_name (lone_name (symbols text)) e
+named_over : (laws : Laws) (names : List (List ℕ)) (places : List Placeholder) (text : List ℕ) (v : OverOne) → All (λ place. IsValue (length names) place.value) places → named_value names places text ≡ Ok v → IsValue (length names) v
+named_over laws names places text v h e = by_name (lone_name (symbols text)) e
   where
     by_name : (o : Option (List ℕ)) → (elim o as (λ o. Result OverOne DrnCause) [ Some name ↦ value_of_placeholder places name | None ↦ value_of names text ]) ≡ Ok v → IsValue (length names) v
     by_name (Some name) e = place_over (length names) places name v h e
-    by_name None e = value_over names text v e
+    by_name None e = value_over laws names text v e
 
-entry_over : (names : List (List ℕ)) (places : List Placeholder) (line : List ℕ) (v : OverOne) → All (λ place. IsValue (length names) place.value) places → entry_value names places line ≡ Ok v → IsValue (length names) v
-entry_over names places line v h e = by_colon (behind_colon (behind is_ascii_digit line)) e
+entry_over : (laws : Laws) (names : List (List ℕ)) (places : List Placeholder) (line : List ℕ) (v : OverOne) → All (λ place. IsValue (length names) place.value) places → entry_value names places line ≡ Ok v → IsValue (length names) v
+entry_over laws names places line v h e = by_colon (behind_colon (behind is_ascii_digit line)) e
   where
     by_colon : (o : Option (List ℕ)) → (elim o as (λ o. Result OverOne DrnCause) [ Some text ↦ named_value names places text | None ↦ Err Syntax ]) ≡ Ok v → IsValue (length names) v
-    by_colon (Some text) e = named_over names places text v h e
+    by_colon (Some text) e = named_over laws names places text v h e
     by_colon None e = cc
 
-transition_stays : (h : Header) (states : List StateText) (line : TextLine) → transition_fault h states (content line) ≡ None → All (λ place. IsValue (length h.names) place.value) h.placeholders
+transition_stays : (laws : Laws) (h : Header) (states : List StateText) (line : TextLine) → transition_fault h states (content line) ≡ None → All (λ place. IsValue (length h.names) place.value) h.placeholders
     → AreStates h.kind (length h.names) states → AreStates h.kind (length h.names) (on_last (with_transitions (transition (model_line h.names h.placeholders line))) states)
-transition_stays h states line e values sound =
+transition_stays laws h states line e values sound =
     let text = content line in
     let none = when (is_empty states) Syntax in
     let written = target_text_fault text in
@@ -221,7 +221,7 @@ transition_stays h states line e values sound =
     subst (λ more. AreStates h.kind (length h.names) (on_last (with_transitions more) states)) (sym one)
     (transition_added h.kind (length h.names) states new (when_none (is_empty states) Syntax a.0) d.0
     (leb-false most_transitions (transition_count states) (when_none (nat_le most_transitions (transition_count states)) LimitTransitions f.0))
-    (entry_over h.names h.placeholders text read.0 values read.1) sound)
+    (entry_over laws h.names h.placeholders text read.0 values read.1) sound)
 
 -- ---- an action
 
@@ -315,9 +315,9 @@ neither P false false A B C e f h = h
 
 -- ---- a line of the model
 
-pub model_stays : (label : List ℕ) (h : Header) (states : List StateText) (line : TextLine) → model_fault h states line ≡ None → All (λ place. IsValue (length h.names) place.value) h.placeholders
+pub model_stays : (laws : Laws) (label : List ℕ) (h : Header) (states : List StateText) (line : TextLine) → model_fault h states line ≡ None → All (λ place. IsValue (length h.names) place.value) h.placeholders
     → AreStates h.kind (length h.names) states → AreStates h.kind (length h.names) (states_with label h states line)
-model_stays label h states line e values sound = by_head (is_head line) e
+model_stays laws label h states line e values sound = by_head (is_head line) e
   where
     P : List StateText → Type 0
     P = AreStates h.kind (length h.names)
@@ -339,7 +339,7 @@ model_stays label h states line e values sound = by_head (is_head line) e
         → P (cond (is_state l) fresh (cond (is_action l) chosen moved))
     by_transition true is e =
         neither P (is_state l) (is_action l) fresh chosen moved (words_digit 115 (codes "tate") (content line) (omega arith) is) (words_digit 97 (codes "ction") (content line) (omega arith) is)
-        (transition_stays h states line (told_none line.number (transition_fault h states (content line)) e) values sound)
+        (transition_stays laws h states line (told_none line.number (transition_fault h states (content line)) e) values sound)
     by_transition false is e =
         words_stay P h states line fresh chosen moved (words (content line)) e
         (λ x few. state_added h.kind (length h.names) states (state label (record { head = l; body = [] })) refl x few sound)

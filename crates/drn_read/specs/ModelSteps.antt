@@ -1,5 +1,5 @@
 -- What the reader of the model's lines keeps, in steps. No public clause rests on it.
-use Rattle.std.specs.Prelude.{◌≡◌, ◌==◌, ◌≤◌, ◌++◌, ℕ, if◌then◌else◌, List, [], ◌∷◌, drop, length, codes, unwrap_or, Option, Some, None, Result, Ok, Err}
+use Rattle.std.specs.Prelude.{◌≡◌, ◌==◌, ◌≤◌, ◌++◌, ℕ, if◌then◌else◌, List, [], ◌∷◌, drop, length, codes, unwrap_or, Some, None, Result, Ok, Err}
 use Rattle.std.specs.List.{list_any}
 use Rattle.std.specs.Char.{is_ascii_digit}
 use Rattle.std.specs.Ordering.{nat_cmp}

@@ -8,7 +8,7 @@ ghost use Rattle.drn_read.specs.Shown.{with_den, Becomes};
 
 use crate::state::{State, Transition};
 use drn_expr::RatPoly;
-use lift_frac::lcm;
+use lift_frac::{divisors_and_multiples, lcm};
 
 /// The common denominator is below this.
 const COMMON_LIMIT: u128 = 1 << 62;
@@ -17,6 +17,7 @@ const COMMON_LIMIT: u128 = 1 << 62;
 fn joined(common: Option<u64>, value: &RatPoly) -> Option<u64>
     ensures { Becomes common result (λ c. lcm c value.now.den) }
 {
+    divisors_and_multiples();
     let den = value.den() as u64;
     let least = lcm(common?, den);
     if least < COMMON_LIMIT {

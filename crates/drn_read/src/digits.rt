@@ -6,6 +6,8 @@ ghost use Rattle.std.specs.Str.Parse.{digits_value};
 ghost use Rattle.lift_frac.specs.Parts.{capped};
 ghost use Rattle.drn_read.specs.Text.{most_digits, is_digits};
 
+use lift_frac::number_below;
+
 /// How many digits a number and a target may have.
 pub(crate) const MOST_DIGITS: usize = 20;
 
@@ -30,12 +32,5 @@ pub(crate) fn number_of(digits: &[u8]) -> Option<u128>
     requires { list_all is_ascii_digit digits.now ≡ true }
     ensures { result ≡ capped (10 ^ most_digits) (digits_value 10 digits.now) }
 {
-    let mut number = 0;
-    for digit in digits {
-        number = number * 10 + u128::from(*digit - b'0');
-        if number >= BEYOND_TWENTY {
-            return None;
-        }
-    }
-    Some(number)
+    number_below(digits, BEYOND_TWENTY)
 }

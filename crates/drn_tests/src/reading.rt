@@ -297,7 +297,10 @@ fn refuses_the_first_fault(rt: HostRuntime) -> Result<(), Fail> {
         assert!(rt; text.len() < 100000);
         let line = cells.next();
         let cause = cells.next().unwrap_or("");
-        assert!(rt; is_refused(rt.alloc(), &text, "heads", line, cause), "{row}");
+        assert!(rt;
+            is_refused(rt.alloc(), &text, "heads", line, cause),
+            "{row}"
+        );
     }
     Ok(())
 }
