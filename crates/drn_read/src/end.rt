@@ -11,6 +11,7 @@ ghost use Rattle.drn_read.specs.Shown.{Tells, TellsLine, refusal, outside, first
 use crate::common::common_denominator;
 use crate::error::{DrnCause, DrnError};
 use crate::header::HeaderReader;
+use crate::reader::Reader;
 use crate::rows::all_rows;
 use crate::section::Section;
 use crate::state::{State, Transition};
@@ -253,20 +254,15 @@ fn parts_of(alloc: Global, states: &[State]) -> Result<Parts, DrnCause>
 }
 
 /// The model that a text stands for whose lines are without fault, or the first fault that its end
-/// shows. `number` is that of its last line, and `choices` that of its choices. Linear.
-pub(crate) fn finish(
-    alloc: Global,
-    number: u32,
-    header: HeaderReader,
-    states: Vec<State>,
-    choices: usize,
-) -> Result<Model, DrnError>
-    requires choices { choices ≡ choice_count states.items }
-    requires few { length states.items ≤ most_states }
-    requires valid { end_fault number (record { header = header; states = states.items }) ≡ None → IsModel (model (record { header = header; states = states.items })) }
-    ensures fault { TellsLine result (end_fault number (record { header = header; states = states.items })) }
-    ensures model { IfOk result (λ m. m ≡ model (record { header = header; states = states.items })) }
+/// shows. `number` is that of its last line. Linear.
+pub(crate) fn finish(alloc: Global, number: u32, reader: Reader) -> Result<Model, DrnError>
+    requires { end_fault number reader ≡ None → IsModel (model reader) }
+    ensures fault { TellsLine result (end_fault number reader) }
+    ensures model { IfOk result (λ m. m ≡ model reader) }
 {
+    let Reader { header, model } = reader;
+    let choices = model.choices();
+    let states = model.into_states();
     test_whole(number, &header, &states, choices)?;
     let parts = match parts_of(alloc, &states) {
         Ok(parts) => parts,

@@ -86,7 +86,5 @@ pub fn read_model(alloc: Global, text: &[u8], label: &[u8]) -> Result<Model, Drn
     let mut reader = Reader::new(alloc);
     let number = read_lines(&mut reader, text, label)?;
     texts_are_valid();
-    let Reader { header, model } = reader;
-    let choices = model.choices();
-    finish(alloc, number, header, model.into_states(), choices)
+    finish(alloc, number, reader)
 }

@@ -71,7 +71,7 @@ fn is_transition(content: &[u8]) -> bool
 }
 
 /// The same outcome, whose fault is told of this line.
-fn on_line(line: u32, outcome: Result<(), DrnCause>) -> Result<(), DrnError>
+pub(crate) fn on_line(line: u32, outcome: Result<(), DrnCause>) -> Result<(), DrnError>
     ensures { result ≡ on_line line outcome }
 {
     match outcome {

@@ -9,7 +9,7 @@ ghost use Rattle.drn_read.specs.Shown.{TellsLine, IsSource};
 use crate::cursor::Cursor;
 use crate::error::DrnError;
 use crate::header::HeaderReader;
-use crate::model_lines::ModelReader;
+use crate::model_lines::{ModelReader, on_line};
 use crate::section::Phase;
 use std::alloc::Global;
 
@@ -47,15 +47,9 @@ impl Reader {
         ensures after { OnOk result ((source : TextLine) → IsSource line.entry source
             → self.new ≡ with_line label.now self.old source) }
     {
-        if self.header.phase() == Phase::Model {
+        if let Phase::Model = self.header.phase() {
             return self.model.read_line(&self.header, label, line);
         }
-        match self.header.read_line(line) {
-            Ok(()) => Ok(()),
-            Err(cause) => Err(DrnError {
-                line: line.line.number,
-                cause,
-            }),
-        }
+        on_line(line.line.number, self.header.read_line(line))
     }
 }
