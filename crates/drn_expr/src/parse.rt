@@ -1,12 +1,15 @@
 //! The parser: a value is expanded while it is read, and an operation that fails waits for the end,
 //! since every fault in place is told before it.
-ghost use Rattle.std.specs.Prelude.{◌≡◌, ◌≢◌, ◌+◌, ◌<◌, ◌≤◌, length, IfOk, IfErr, IfSome, Err, slice_range, position};
+ghost use Rattle.std.specs.Prelude.{◌≡◌, ◌≢◌, ◌+◌, ◌<◌, ◌≤◌, length, IfOk, IfErr, IfSome, Err};
+ghost use Rattle.std.specs.Prelude.{slice_range, position};
 ghost use Rattle.std.specs.Str.{bytes_eq};
 ghost use Rattle.lift_frac.specs.Literal.{reading};
 ghost use Rattle.drn_lexer.specs.Spans.{LiesIn, IsOn};
 ghost use Rattle.lift_poly.specs.Limits.{parameter_limit};
-ghost use Rattle.drn_expr.specs.Grammar.{most_nesting, misfit, literal_tree, name_tree, joins_terms, joins_factors};
-ghost use Rattle.drn_expr.specs.Parsing.{IsFurther, IsFactor, IsTerm, IsValue, IsClosed, IsEnded, IsOperator, IsOperand, combined, opposite, join_of};
+ghost use Rattle.drn_expr.specs.Grammar.{most_nesting, misfit, literal_tree, name_tree};
+ghost use Rattle.drn_expr.specs.Grammar.{joins_terms, joins_factors};
+ghost use Rattle.drn_expr.specs.Parsing.{IsFurther, IsFactor, IsTerm, IsValue, IsClosed, IsEnded};
+ghost use Rattle.drn_expr.specs.Parsing.{IsOperator, IsOperand, combined, opposite, join_of};
 
 use crate::error::ExprError;
 use crate::rat_poly::RatPoly;
@@ -176,7 +179,8 @@ fn literal(alloc: Global, text: &[u8], symbol: Symbol) -> Result<Part, ExprError
 fn parameter(alloc: Global, text: &[u8], symbol: Symbol, names: &Names) -> Result<Part, ExprError>
     requires within { (symbol.from ≤ symbol.to) × (symbol.to ≤ length text.now) }
     requires names { length names.now ≤ parameter_limit }
-    ensures { let place = position (bytes_eq (slice_range text.now symbol.from symbol.to)) names.now in
+    ensures { let name = slice_range text.now symbol.from symbol.to in
+        let place = position (bytes_eq name) names.now in
         IsOperand symbol.to result (name_tree place) }
 {
     match names.find(&text[symbol.from..symbol.to]) {

@@ -1,4 +1,5 @@
-ghost use Rattle.std.specs.Prelude.{◌≡◌, ◌≢◌, ◌<◌, ◌^◌, ℤ, pos, [], ◌∷◌, ℕ, unsigned_abs, Ok, Err, IfOk};
+ghost use Rattle.std.specs.Prelude.{◌≡◌, ◌≢◌, ◌<◌, ◌^◌, ℤ, pos, [], ◌∷◌, ℕ, unsigned_abs, Ok, Err};
+ghost use Rattle.std.specs.Prelude.{IfOk};
 ghost use Rattle.std.specs.List.{list_any};
 ghost use Rattle.lift_frac.specs.Limits.{product_limit};
 ghost use Rattle.lift_poly.specs.Limits.{parameter_limit};
@@ -12,8 +13,8 @@ use lift_poly::MultiAffine;
 use std::alloc::{AllocError, Global};
 use std::marker::Model;
 
-/// A polynomial over one denominator, in lowest terms: the denominator is from 1 to 2^62 - 1 and has
-/// no factor in common with all coefficients, each of which has a size below 2^62.
+/// A polynomial over one denominator, in lowest terms: the denominator is from 1 to 2^62 - 1 and
+/// has no factor in common with all coefficients, each of which has a size below 2^62.
 #[derive(Drop)]
 pub struct RatPoly {
     poly: MultiAffine,

@@ -1,4 +1,5 @@
-ghost use Rattle.std.specs.Prelude.{◌≡◌, ◌≢◌, ◌≤◌, ◌<◌, ◌^◌, length, nat_lt, slice_range, Err, IfOk};
+ghost use Rattle.std.specs.Prelude.{◌≡◌, ◌≢◌, ◌≤◌, ◌<◌, ◌^◌, length, nat_lt, slice_range, Err};
+ghost use Rattle.std.specs.Prelude.{IfOk};
 ghost use Rattle.drn_lexer.specs.Spans.{LiesIn, IsOn};
 ghost use Rattle.lift_poly.specs.Limits.{parameter_limit};
 ghost use Rattle.drn_expr.specs.Grammar.{most_symbols};
@@ -38,12 +39,12 @@ fn is_long(text: &[u8], line: Line, from: usize) -> bool
 ///
 /// Without an expansion, the first refusal is answered. `Long` exactly where there are more than
 /// 4,096 symbols. Else the first fault in place, from the left: `Power` at a `^` where an operator
-/// could stand, `Deep` at the 65th enclosing parenthesis or unary minus, `UnknownName` at a name that
-/// isn't declared, `Wide` at a literal that is too large, and `Syntax` at any other symbol that
-/// doesn't fit, or at the end. Else the first operation that fails, operands from left to right
-/// before their operation: `SharedParameter`, `ParametricDivisor`, `DivisionByZero`, and `Wide` where
-/// the exact result, over its least denominator, has a denominator or a coefficient of size 2^62 or
-/// more. `Memory` only where memory is wanting.
+/// could stand, `Deep` at the 65th enclosing parenthesis or unary minus, `UnknownName` at a name
+/// that isn't declared, `Wide` at a literal that is too large, and `Syntax` at any other symbol
+/// that doesn't fit, or at the end. Else the first operation that fails, operands from left to
+/// right before their operation: `SharedParameter`, `ParametricDivisor`, `DivisionByZero`, and
+/// `Wide` where the exact result, over its least denominator, has a denominator or a coefficient
+/// of size 2^62 or more. `Memory` only where memory is wanting.
 ///
 /// At every valuation of the names the polynomial is worth what the value means.
 pub fn read_value(

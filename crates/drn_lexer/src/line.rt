@@ -1,7 +1,10 @@
-ghost use Rattle.std.specs.Prelude.{◌≡◌, ℕ, List, ◌↔◌, ◌==◌, ◌+◌, ◌-◌, ◌<◌, ◌≤◌, ◌^◌, length, slice_range, IsTrue, IfNone, IfSome, IfOk, OnErr, Ok, None};
+ghost use Rattle.std.specs.Prelude.{◌≡◌, ℕ, List, ◌↔◌, ◌==◌, ◌+◌, ◌-◌, ◌<◌, ◌≤◌, ◌^◌, length};
+ghost use Rattle.std.specs.Prelude.{slice_range, IsTrue, IfNone, IfSome, IfOk, OnErr, Ok, None};
 ghost use Rattle.std.specs.List.{list_all};
 ghost use Rattle.drn_lexer.specs.Bytes.{is_text_byte};
-ghost use Rattle.drn_lexer.specs.Lines.{text_limit, without_return, content, span_of, lines_at, lines, behind_comments, is_passed_over, answer_of, place_behind, place_after};
+ghost use Rattle.drn_lexer.specs.Lines.{text_limit, without_return, content, span_of, lines_at};
+ghost use Rattle.drn_lexer.specs.Lines.{lines, behind_comments, is_passed_over, answer_of};
+ghost use Rattle.drn_lexer.specs.Lines.{place_behind, place_after};
 ghost use Rattle.drn_lexer.specs.Steps.{text_line, IsAtEnd, IsFirstLine, judged};
 ghost use Rattle.drn_lexer.specs.Spans.{LiesIn, IsNextLine};
 

@@ -1,4 +1,6 @@
-ghost use Rattle.std.specs.Prelude.{◌≡◌, ℕ, ◌↔◌, ◌+◌, ◌-◌, ◌<◌, ◌≤◌, ◌==◌, ◌∷◌, length, slice_range, Ok, Err, None, IfOk, IfErr, IfSome, IsTrue, Some, if◌then◌else◌};
+ghost use Rattle.std.specs.Prelude.{◌≡◌, ℕ, ◌↔◌, ◌+◌, ◌-◌, ◌<◌, ◌≤◌, ◌==◌, ◌∷◌, length};
+ghost use Rattle.std.specs.Prelude.{slice_range, Ok, Err, None, IfOk, IfErr, IfSome, IsTrue, Some};
+ghost use Rattle.std.specs.Prelude.{if◌then◌else◌};
 ghost use Rattle.std.specs.List.{prefix_len, list_all, list_any, position_or_len};
 ghost use Rattle.lift_bytes.specs.Bytes.{is_blank};
 ghost use Rattle.lift_bytes.specs.Trimming.{trimmed_front};
@@ -47,7 +49,8 @@ fn plain_len(text: &[u8]) -> usize
 fn closed_len(text: &[u8], end: u8) -> Option<usize>
     ensures within { IfSome result (λ len. len ≤ length text.now) }
     ensures len { let is_end = λ (b : ℕ). b == end in
-        result ≡ (if list_any is_end text.now then Some (position_or_len is_end text.now + 1) else None) }
+        result ≡ (if list_any is_end text.now
+        then Some (position_or_len is_end text.now + 1) else None) }
 {
     let len = len_before(text, end);
     if len < text.len() {

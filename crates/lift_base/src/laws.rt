@@ -1,4 +1,5 @@
-ghost use Rattle.lift_base.specs.Laws.{WritesNothing, WritesBoth, StopsBefore, BeginsWithAll, GoesOn, StopsThere, EndsWithAll};
+ghost use Rattle.lift_base.specs.Laws.{WritesNothing, WritesBoth, StopsBefore, BeginsWithAll};
+ghost use Rattle.lift_base.specs.Laws.{GoesOn, StopsThere, EndsWithAll};
 
 use crate::output::Sink;
 

@@ -1,7 +1,9 @@
 // Sources and sinks in memory.
-ghost use Rattle.std.specs.Prelude.{◌≡◌, ◌+◌, ◌-◌, ◌^◌, ◌<◌, ◌≤◌, [], List, ℕ, Some, None, IfOk, min, drop, take, length, vec_len, vec_capacity};
+ghost use Rattle.std.specs.Prelude.{◌≡◌, ◌+◌, ◌-◌, ◌^◌, ◌<◌, ◌≤◌, [], List, ℕ, Some, None, IfOk};
+ghost use Rattle.std.specs.Prelude.{min, drop, take, length, vec_len, vec_capacity};
 ghost use Rattle.lift_base.specs.Outside.{Reads, Puts};
-ghost use Rattle.lift_base.specs.Memory.{MemoryInput, MemoryOutput, memory_read, memory_left, memory_write, memory_kept, added};
+ghost use Rattle.lift_base.specs.Memory.{MemoryInput, MemoryOutput, memory_read, memory_left};
+ghost use Rattle.lift_base.specs.Memory.{memory_write, memory_kept, added};
 ghost use Rattle.lift_base.specs.declared.input.Got.TheVariants.{Bytes};
 ghost use Rattle.lift_base.specs.declared.output.Put.TheVariants.{Took};
 
@@ -24,7 +26,13 @@ pub struct MemSource {
 impl Model for MemSource {
     ghost Value = { MemoryInput };
 
-    ghost view = { λ s. record { left = drop s.at s.bytes.items; step = s.step; failing = s.failing.items; calls = s.calls; faults = s.faults } };
+    ghost view = { λ s. record {
+      left = drop s.at s.bytes.items;
+      step = s.step;
+      failing = s.failing.items;
+      calls = s.calls;
+      faults = s.faults;
+    } };
 
     ghost invariant = { λ s. (s.at ≤ vec_len s.bytes) × (1 ≤ s.step) };
 }
@@ -33,7 +41,13 @@ impl MemSource {
     /// All of `bytes` is left.
     pub fn new(bytes: Vec<u8>, step: usize, failing: Vec<u64>) -> Self
         requires { 1 ≤ step }
-        ensures { result ≡ record { left = bytes.items; step = step; failing = failing.items; calls = 0; faults = 0 } }
+        ensures { result ≡ record {
+          left = bytes.items;
+          step = step;
+          failing = failing.items;
+          calls = 0;
+          faults = 0;
+        } }
     {
         MemSource {
             bytes,
@@ -133,9 +147,17 @@ pub struct MemSink {
 impl Model for MemSink {
     ghost Value = { MemoryOutput };
 
-    ghost view = { λ s. record { taken = s.bytes.items; room = s.room; step = s.step; failing = s.failing.items; calls = s.calls; faults = s.faults } };
+    ghost view = { λ s. record {
+      taken = s.bytes.items;
+      room = s.room;
+      step = s.step;
+      failing = s.failing.items;
+      calls = s.calls;
+      faults = s.faults;
+    } };
 
-    ghost invariant = { λ s. (vec_len s.bytes ≤ s.room) × (s.room ≤ vec_capacity s.bytes) × (1 ≤ s.step) };
+    ghost invariant = { λ s.
+        (vec_len s.bytes ≤ s.room) × (s.room ≤ vec_capacity s.bytes) × (1 ≤ s.step) };
 }
 
 impl MemSink {
@@ -147,7 +169,14 @@ impl MemSink {
         failing: Vec<u64>,
     ) -> Result<Self, AllocError>
         requires { 1 ≤ step }
-        ensures { IfOk result (λ s. s ≡ record { taken = []; room = room; step = step; failing = failing.items; calls = 0; faults = 0 }) }
+        ensures { IfOk result (λ s. s ≡ record {
+          taken = [];
+          room = room;
+          step = step;
+          failing = failing.items;
+          calls = 0;
+          faults = 0;
+        }) }
     {
         let bytes = Vec::with_capacity(alloc, room)?;
         Ok(MemSink {

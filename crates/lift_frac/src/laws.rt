@@ -1,4 +1,5 @@
-ghost use Rattle.lift_frac.specs.Laws.{GcdIsGreatest, GcdIsUnique, GcdIsWithin, LcmIsMultiple, LcmIsAtLeast};
+ghost use Rattle.lift_frac.specs.Laws.{GcdIsGreatest, GcdIsUnique, GcdIsWithin, LcmIsMultiple};
+ghost use Rattle.lift_frac.specs.Laws.{LcmIsAtLeast};
 
 /// Holds the laws of greatest common divisors and least common multiples, for who reasons about
 /// them. It does nothing.

@@ -1,10 +1,12 @@
-ghost use Rattle.std.specs.Prelude.{◌≡◌, ◌==◌, ◌+◌, ◌-◌, ◌<◌, ◌≤◌, length, ℕ, ◌++◌, true, IsTrue, take, drop, ◌↔◌};
+ghost use Rattle.std.specs.Prelude.{◌≡◌, ◌==◌, ◌+◌, ◌-◌, ◌<◌, ◌≤◌, length, ℕ, ◌++◌, true, IsTrue};
+ghost use Rattle.std.specs.Prelude.{take, drop, ◌↔◌};
 ghost use Rattle.std.specs.List.{suffix_len, list_all};
 ghost use Rattle.std.specs.Char.{is_ascii_digit};
 ghost use Rattle.std.specs.Str.Parse.{digits_value_after, digits_value};
 ghost use Rattle.lift_frac.specs.Frac.{answer_of};
 ghost use Rattle.lift_frac.specs.Grammar.{Writes};
-ghost use Rattle.lift_frac.specs.Literal.{Literal, begins_digit, literal_at, digits_of, zeros, scaled, value_of, reading};
+ghost use Rattle.lift_frac.specs.Literal.{Literal, begins_digit, literal_at, digits_of, zeros};
+ghost use Rattle.lift_frac.specs.Literal.{scaled, value_of, reading};
 ghost use Rattle.lift_bytes.specs.Bytes.{zero_digit};
 ghost use Rattle.lift_frac.specs.Limits.{size_limit};
 ghost use Rattle.lift_frac.specs.Parts.{exponent_limit, power_limit, literal_of, capped, AreDigits};
@@ -165,7 +167,8 @@ pub fn literal_len(text: &[u8]) -> usize
     ensures within { (0 < result) × (result ≤ length text.now) }
     ensures literal { Writes (take result text.now) (literal_at text.now).0 }
     ensures rest { drop result text.now ≡ (literal_at text.now).1 }
-    ensures longest { (n : ℕ) (l : Literal) → n ≤ length text.now → Writes (take n text.now) l → n ≤ result }
+    ensures longest { (n : ℕ) (l : Literal) → n ≤ length text.now → Writes (take n text.now) l
+        → n ≤ result }
 {
     let (_, rest) = literal_at(text);
     text.len() - rest.len()

@@ -2,7 +2,8 @@ ghost use Rattle.std.specs.Prelude.{◌≡◌, ◌<◌, ◌≤◌, length, true,
 ghost use Rattle.std.specs.List.{prefix_len, list_all};
 ghost use Rattle.std.specs.Option.{option_map};
 ghost use Rattle.std.specs.Char.{is_ascii_digit};
-ghost use Rattle.lift_frac.specs.Literal.{begins_digit, digits_at, behind_digits, decimals_at, sign_at, exponent_at, literal_at, is_literal};
+ghost use Rattle.lift_frac.specs.Literal.{begins_digit, digits_at, behind_digits, decimals_at};
+ghost use Rattle.lift_frac.specs.Literal.{sign_at, exponent_at, literal_at, is_literal};
 ghost use Rattle.lift_frac.specs.Parts.{literal_of, AreDigits};
 
 /// The parts of a literal, each a piece of its text. What isn't written is empty.
@@ -111,7 +112,8 @@ pub(crate) fn literal_at(text: &[u8]) -> (Parts<'_>, &[u8])
 /// The parts of a text that is a literal.
 pub(crate) fn parts_of(text: &[u8]) -> Option<Parts<'_>>
     ensures digits { IfSome result AreDigits }
-    ensures value { option_map literal_of result ≡ (if is_literal text.now then Some (literal_at text.now).0 else None) }
+    ensures value { option_map literal_of result
+        ≡ (if is_literal text.now then Some (literal_at text.now).0 else None) }
 {
     let (parts, rest) = literal_at(text);
     if begins_digit(text) && rest.is_empty() {

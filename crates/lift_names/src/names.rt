@@ -1,5 +1,7 @@
 // Names, in order and by position.
-ghost use Rattle.std.specs.Prelude.{◌≡◌, ◌+◌, ◌<◌, ◌↔◌, ◌++◌, ◌∷◌, [], List, ℕ, length, IfOk, OnErr, IsSome, IsTrue, Contains, Some, slice_get, position, if◌then◌else◌};
+ghost use Rattle.std.specs.Prelude.{◌≡◌, ◌+◌, ◌<◌, ◌↔◌, ◌++◌, ◌∷◌, [], List, ℕ, length, IfOk};
+ghost use Rattle.std.specs.Prelude.{OnErr, IsSome, IsTrue, Contains, Some, slice_get, position};
+ghost use Rattle.std.specs.Prelude.{if◌then◌else◌};
 ghost use Rattle.std.specs.Str.{bytes_eq};
 ghost use Rattle.lift_names.specs.Names.{names_limit, AreNames};
 
@@ -66,7 +68,8 @@ impl Names {
     pub fn push(&mut self, name: &[u8]) -> Result<bool, AllocError>
         requires { length self.old + 1 < names_limit }
         ensures added { IfOk result (λ added. IsTrue added ↔ ¬ Contains self.old name.now) }
-        ensures after { IfOk result (λ added. self.new ≡ (if added then self.old ++ name.now ∷ [] else self.old)) }
+        ensures after { IfOk result (λ added.
+            self.new ≡ (if added then self.old ++ name.now ∷ [] else self.old)) }
         ensures err { OnErr result (self.new ≡ self.old) }
     {
         if self.set.contains(name) {

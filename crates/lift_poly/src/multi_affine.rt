@@ -1,7 +1,9 @@
-ghost use Rattle.std.specs.Prelude.{◌≡◌, ◌≢◌, ◌<◌, ◌^◌, ℤ, pos, [], ◌∷◌, ◌++◌, List, ℕ, ◌<ℤ◌, unsigned_abs, All, length, IfOk, slice_get, Some, Ok, Err};
+ghost use Rattle.std.specs.Prelude.{◌≡◌, ◌≢◌, ◌<◌, ◌^◌, ℤ, pos, [], ◌∷◌, ◌++◌, List, ℕ, ◌<ℤ◌};
+ghost use Rattle.std.specs.Prelude.{unsigned_abs, All, length, IfOk, slice_get, Some, Ok, Err};
 ghost use Rattle.lift_poly.specs.Limits.{parameter_limit, term_limit, summand_limit};
 ghost use Rattle.lift_poly.specs.Polynomial.{Term, constant};
-ghost use Rattle.lift_poly.specs.Arithmetic.{coefficient, sum, times, scaled, quotient, support, DividesEach, IsContent, abs_sum};
+ghost use Rattle.lift_poly.specs.Arithmetic.{coefficient, sum, times, scaled, quotient, support};
+ghost use Rattle.lift_poly.specs.Arithmetic.{DividesEach, IsContent, abs_sum};
 ghost use Rattle.lift_poly.specs.MultiAffine.{IsMultiAffine, narrow, product_answer};
 
 use crate::error::PolyError;
@@ -11,8 +13,8 @@ use crate::terms::{
 use std::alloc::{AllocError, Global};
 use std::marker::Model;
 
-/// A polynomial in at most 16 parameters that is affine in each of them: a finite map from parameter
-/// sets to whole numbers that aren't 0. Bit i of a set stands for parameter i.
+/// A polynomial in at most 16 parameters that is affine in each of them: a finite map from sets of
+/// parameters to whole numbers that aren't 0. Bit i of a set stands for parameter i.
 ///
 /// Each coefficient has a size below 2^125. A polynomial is its terms by ascending set, so two are
 /// equal exactly where they have the same coefficient at each set.

@@ -1,8 +1,11 @@
 //! The arithmetic on lists of terms, of which `MultiAffine` is made.
-ghost use Rattle.std.specs.Prelude.{◌≡◌, ◌≢◌, ◌+◌, ◌*ℤ◌, ◌<ℤ◌, pos, [], ◌∷◌, ◌++◌, true, false, bit_and, unsigned_abs, Ok, Err, OnOk, IfOk, IfErr, if◌then◌else◌};
+ghost use Rattle.std.specs.Prelude.{◌≡◌, ◌≢◌, ◌+◌, ◌*ℤ◌, ◌<ℤ◌, pos, [], ◌∷◌, ◌++◌, true, false};
+ghost use Rattle.std.specs.Prelude.{bit_and, unsigned_abs, Ok, Err, OnOk, IfOk, IfErr};
+ghost use Rattle.std.specs.Prelude.{if◌then◌else◌};
 ghost use Rattle.std.specs.List.{list_any};
 ghost use Rattle.std.specs.Int.{IsGcd};
-ghost use Rattle.lift_poly.specs.Arithmetic.{kept, sum, times, scaled, quotient, products_of, product, support, DividesEach};
+ghost use Rattle.lift_poly.specs.Arithmetic.{kept, sum, times, scaled, quotient, products_of};
+ghost use Rattle.lift_poly.specs.Arithmetic.{product, support, DividesEach};
 ghost use Rattle.lift_poly.specs.MultiAffine.{IsMultiAffine, is_wide};
 
 use crate::error::PolyError;
@@ -46,7 +49,8 @@ pub(crate) fn push_term(terms: &mut Vec<(u16, i128)>, term: (u16, i128)) -> Resu
 pub(crate) fn push_kept(terms: &mut Vec<(u16, i128)>, term: (u16, i128)) -> Result<(), PolyError>
     ensures kept { OnOk result (terms.new.items ≡ terms.old.items ++ kept term []) }
     ensures fits { OnOk result (is_wide term ≡ false) }
-    ensures causes { IfErr result (λ e. e ≢ PolyError.Memory → (e ≡ PolyError.Wide) × (is_wide term ≡ true)) }
+    ensures causes { IfErr result (λ e. e ≢ PolyError.Memory
+        → (e ≡ PolyError.Wide) × (is_wide term ≡ true)) }
 {
     let coefficient = within_limit(term.1)?;
     if coefficient != 0 {
@@ -127,8 +131,8 @@ pub(crate) fn multiple_terms(
     Ok(multiple)
 }
 
-/// The terms of the product of two polynomials that share no parameter. With n products of terms, it
-/// takes a time of n log n.
+/// The terms of the product of two polynomials that share no parameter. With n products of terms,
+/// it takes a time of n log n.
 pub(crate) fn product_terms(
     alloc: Global,
     left: &[(u16, i128)],

@@ -1,4 +1,5 @@
-//! Tests of the crates on numbers, rectangles, models, corners and certificates. Each is a table of one text.
+//! Tests of the crates on numbers, rectangles, models, corners and certificates. Each is a table of
+//! one text.
 #![tactic(auto)]
 
 #[cfg(test)]
