@@ -35,13 +35,13 @@ use Rattle.drn_read.specs.declared.state.Transition.{Transition}
 use Rattle.drn_read.proofs.Declared.{first_none, when_none, fault_none, value_over}
 use Rattle.drn_read.proofs.Kept.{Laws, IsValue, IsChoice, IsState, AreStates}
 use Rattle.drn_read.proofs.Lists.{split, last-push, on_last-push, All-front, All-end, any_false, find_keeps}
-use Rattle.lift_model.specs.Valid.{most_transitions, most_choices}
+use Rattle.lift_model.specs.Valid.{most_transitions, most_choices, most_states}
 
 -- ---- a changed last state
 
 -- another last state, where its choices and transitions are within the limits
 changed : (kind : Option Kind) (count : ℕ) (front : List StateText) (s t : StateText) → AreStates kind count (front ++ s ∷ []) → IsState kind count t
-    → choice_count front + length t.choices ≤ 131072 → transition_count front + sum_by length t.choices ≤ 262144 → AreStates kind count (front ++ t ∷ [])
+    → choice_count front + length t.choices ≤ most_choices → transition_count front + sum_by length t.choices ≤ most_transitions → AreStates kind count (front ++ t ∷ [])
 changed kind count front s t h is few_choices few_transitions = record {
   few = omega (arith, h.few, length_push front s, length_push front t);
   choices = omega (arith, sum_by_push (λ (u : StateText). length u.choices) front t);
@@ -65,7 +65,7 @@ no_transition count = record { distinct = λ i j d lt within. absurd (omega arit
 
 -- ---- one more choice
 
-choice_added_to : (kind : Option Kind) (count : ℕ) (front : List StateText) (s : StateText) → (kind ≢ Some Mdp → is_some (open_choice (front ++ s ∷ [])) ≡ false) → choice_count (front ++ s ∷ []) < 131072
+choice_added_to : (kind : Option Kind) (count : ℕ) (front : List StateText) (s : StateText) → (kind ≢ Some Mdp → is_some (open_choice (front ++ s ∷ [])) ≡ false) → choice_count (front ++ s ∷ []) < most_choices
     → AreStates kind count (front ++ s ∷ []) → AreStates kind count (front ++ with_choice s ∷ [])
 choice_added_to kind count front s one few h =
     let is = the_last kind count front s h in
@@ -77,13 +77,13 @@ choice_added_to kind count front s one few h =
     (omega (arith, few, sum_by_push (λ (u : StateText). length u.choices) front s, length_push s.choices []))
     (omega (arith, h.transitions, sum_by_push (λ (u : StateText). sum_by length u.choices) front s, sum_by_push length s.choices []))
 
-choice_added : (kind : Option Kind) (count : ℕ) (states : List StateText) → is_empty states ≡ false → (kind ≢ Some Mdp → is_some (open_choice states) ≡ false) → choice_count states < 131072
+choice_added : (kind : Option Kind) (count : ℕ) (states : List StateText) → is_empty states ≡ false → (kind ≢ Some Mdp → is_some (open_choice states) ≡ false) → choice_count states < most_choices
     → AreStates kind count states → AreStates kind count (on_last with_choice states)
 choice_added kind count states some one few h =
     let x = split states some in
     subst (λ ss. AreStates kind count (on_last with_choice ss)) (sym x.is)
     (subst (AreStates kind count) (sym (on_last-push with_choice x.front x.end))
-    (choice_added_to kind count x.front x.end (λ ne. ap (λ ss. is_some (open_choice ss)) (sym x.is) ∙ one ne) (subst (λ ss. choice_count ss < 131072) x.is few) (subst (AreStates kind count) x.is h)))
+    (choice_added_to kind count x.front x.end (λ ne. ap (λ ss. is_some (open_choice ss)) (sym x.is) ∙ one ne) (subst (λ ss. choice_count ss < most_choices) x.is few) (subst (AreStates kind count) x.is h)))
 
 -- ---- one more transition
 
@@ -98,19 +98,19 @@ row_added count c t new over h = record {
 -- the fault of a target, by the last choice of the last state
 target_by : List StateText → ℕ → Option (List Transition) → Option DrnCause
 target_by states target o = elim o [
-  | None ↦ when (nat_le 131072 (choice_count states)) LimitChoices
+  | None ↦ when (nat_le most_choices (choice_count states)) LimitChoices
   | Some choice ↦ when (list_any (λ t. t.target == target) choice) RepeatedTarget
 ]
 
 transition_added_by : (kind : Option Kind) (count : ℕ) (front : List StateText) (s : StateText) (cs : List (List Transition)) (t : Transition)
     → target_by (front ++ record s { choices = cs } ∷ []) t.target (last cs) ≡ None
-    → transition_count (front ++ record s { choices = cs } ∷ []) < 262144 → IsValue count t.value → AreStates kind count (front ++ record s { choices = cs } ∷ [])
+    → transition_count (front ++ record s { choices = cs } ∷ []) < most_transitions → IsValue count t.value → AreStates kind count (front ++ record s { choices = cs } ∷ [])
     → AreStates kind count (front ++ with_transitions (t ∷ []) (record s { choices = cs }) ∷ [])
 unfolding target_by
 transition_added_by kind count front s [] t e few over h =
     let before : StateText = record s { choices = [] } in
     let after : StateText = record s { choices = (t ∷ []) ∷ [] } in
-    let limit = leb-false 131072 (choice_count (front ++ before ∷ [])) (when_none (nat_le 131072 (choice_count (front ++ before ∷ []))) LimitChoices e) in
+    let limit = leb-false most_choices (choice_count (front ++ before ∷ [])) (when_none (nat_le most_choices (choice_count (front ++ before ∷ []))) LimitChoices e) in
     changed kind count front before after h
     (record { one = λ ne. omega arith; choices = All-cons (IsChoice count) (t ∷ []) [] (row_added count [] t refl over (no_transition count)) (All-nil (IsChoice count)) })
     (omega (arith, limit, sum_by_push (λ (u : StateText). length u.choices) front before))
@@ -137,18 +137,18 @@ transition_added_by kind count front s (c ∷ cs) t e few over h =
     (omega (arith, total, few, sum_by_push (λ (u : StateText). sum_by length u.choices) front before))
 
 transition_added_to : (kind : Option Kind) (count : ℕ) (front : List StateText) (s : StateText) (t : Transition) → target_fault (front ++ s ∷ []) t.target ≡ None
-    → transition_count (front ++ s ∷ []) < 262144 → IsValue count t.value → AreStates kind count (front ++ s ∷ []) → AreStates kind count (front ++ with_transitions (t ∷ []) s ∷ [])
+    → transition_count (front ++ s ∷ []) < most_transitions → IsValue count t.value → AreStates kind count (front ++ s ∷ []) → AreStates kind count (front ++ with_transitions (t ∷ []) s ∷ [])
 unfolding target_by
 transition_added_to kind count front s t e few over h =
     transition_added_by kind count front s s.choices t (subst (λ o. target_by (front ++ s ∷ []) t.target o ≡ None) (open_is front s) e) few over h
 
-transition_added : (kind : Option Kind) (count : ℕ) (states : List StateText) (t : Transition) → is_empty states ≡ false → target_fault states t.target ≡ None → transition_count states < 262144
+transition_added : (kind : Option Kind) (count : ℕ) (states : List StateText) (t : Transition) → is_empty states ≡ false → target_fault states t.target ≡ None → transition_count states < most_transitions
     → IsValue count t.value → AreStates kind count states → AreStates kind count (on_last (with_transitions (t ∷ [])) states)
 transition_added kind count states t some e few over h =
     let x = split states some in
     subst (λ ss. AreStates kind count (on_last (with_transitions (t ∷ [])) ss)) (sym x.is)
     (subst (AreStates kind count) (sym (on_last-push (with_transitions (t ∷ [])) x.front x.end))
-    (transition_added_to kind count x.front x.end t (subst (λ ss. target_fault ss t.target ≡ None) x.is e) (subst (λ ss. transition_count ss < 262144) x.is few) over (subst (AreStates kind count) x.is h)))
+    (transition_added_to kind count x.front x.end t (subst (λ ss. target_fault ss t.target ≡ None) x.is e) (subst (λ ss. transition_count ss < most_transitions) x.is few) over (subst (AreStates kind count) x.is h)))
 
 -- ---- one more state
 
@@ -164,7 +164,7 @@ some_choice kind count (s ∷ ss) e h =
     by_choices [] fault e = cc
     by_choices (c ∷ cs) fault e = omega arith
 
-state_added : (kind : Option Kind) (count : ℕ) (states : List StateText) (s : StateText) → s.choices ≡ [] → choiceless states ≡ None → length states < 65536 → AreStates kind count states → AreStates kind count (states ++ s ∷ [])
+state_added : (kind : Option Kind) (count : ℕ) (states : List StateText) (s : StateText) → s.choices ≡ [] → choiceless states ≡ None → length states < most_states → AreStates kind count states → AreStates kind count (states ++ s ∷ [])
 state_added kind count states s none e few h = record {
   few = omega (arith, length_push states s);
   choices = omega (arith, h.choices, sum_by_push (λ (u : StateText). length u.choices) states s, ap length none);
@@ -269,28 +269,28 @@ pub told_none : (number : ℕ) (cause : Option DrnCause) → told number cause �
 told_none number None e = refl
 told_none number (Some cause) e = cc
 
-number_small : (before : ℕ) (w : Piece WordKind) (form : WordKind) → number_fault before (record w { form = form }) ≡ None → before < 65536
+number_small : (before : ℕ) (w : Piece WordKind) (form : WordKind) → number_fault before (record w { form = form }) ≡ None → before < most_states
 number_small before w (Err fault) e = cc
 number_small before w (Ok form) e =
     let digits = when (not (is_digits w.bytes)) Syntax in
     let order = when (not (digits_value 10 w.bytes == before)) StateOrder in
-    let many = when (nat_le 65536 before) LimitStates in
+    let many = when (nat_le most_states before) LimitStates in
     let a = first_none digits (order ∷ many ∷ []) e in
     let b = first_none order (many ∷ []) a.1 in
     let c = first_none many [] b.1 in
-    leb-false 65536 before (when_none (nat_le 65536 before) LimitStates c.0)
+    leb-false most_states before (when_none (nat_le most_states before) LimitStates c.0)
 
-state_small : (before : ℕ) (ws : List (Piece WordKind)) → state_fault before ws ≡ None → before < 65536
+state_small : (before : ℕ) (ws : List (Piece WordKind)) → state_fault before ws ≡ None → before < most_states
 state_small before [] e = cc
 state_small before (w ∷ ws) e = by_number (number_fault before w) refl e
   where
-    by_number : (o : Option DrnCause) → number_fault before w ≡ o → (elim o as (λ o. Option DrnCause) [ Some cause ↦ Some cause | None ↦ labels_fault true ws ]) ≡ None → before < 65536
+    by_number : (o : Option DrnCause) → number_fault before w ≡ o → (elim o as (λ o. Option DrnCause) [ Some cause ↦ Some cause | None ↦ labels_fault true ws ]) ≡ None → before < most_states
     by_number (Some cause) is e = cc
     by_number None is e = number_small before w w.form is
 
 -- a line that is no transition begins a state or a choice
 words_stay : (P : List StateText → Type 0) (h : Header) (states : List StateText) (line : TextLine) (A B C : List StateText) (ws : List (Piece WordKind)) → words_fault h states line ws ≡ None
-    → (choiceless states ≡ None → length states < 65536 → P A) → ((others : List (Piece WordKind)) → action_fault h states others ≡ None → P B)
+    → (choiceless states ≡ None → length states < most_states → P A) → ((others : List (Piece WordKind)) → action_fault h states others ≡ None → P B)
     → P (cond (begins_with (codes "state") ws) A (cond (begins_with (codes "action") ws) B C))
 words_stay P h states line A B C [] e a b = cc
 words_stay P h states line A B C (w ∷ ws) e a b = by_form w.form e

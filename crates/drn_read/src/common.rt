@@ -13,7 +13,8 @@ use lift_frac::{divisors_and_multiples, lcm};
 /// The common denominator is below this.
 const COMMON_LIMIT: u128 = 1 << 62;
 
-/// The least common multiple with a value's denominator. A multiple never falls, so none stays none.
+/// The least common multiple with a value's denominator. A multiple never falls, so none stays
+/// none.
 fn joined(common: Option<u64>, value: &RatPoly) -> Option<u64>
     ensures { Becomes common result (λ c. lcm c value.now.den) }
 {
@@ -40,7 +41,8 @@ fn joined_choice(common: Option<u64>, choice: &[Transition]) -> Option<u64>
 
 /// The same over the choices of a state.
 fn joined_state(common: Option<u64>, choices: &[Vec<Transition>]) -> Option<u64>
-    ensures { Becomes common result (λ c. fold (fold with_den) c (map (λ row. row.items) choices.now)) }
+    ensures { Becomes common result (λ c.
+        fold (fold with_den) c (map (λ row. row.items) choices.now)) }
 {
     let mut least = common;
     for choice in choices {

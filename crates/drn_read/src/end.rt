@@ -1,16 +1,20 @@
 // What stands at the end of a text: its last tests, and the model.
-ghost use Rattle.std.specs.Prelude.{◌≡◌, ◌==◌, ◌<◌, ◌≤◌, ◌∷◌, [], pos, not, nat_le, length, map, find, count_by, is_some, position, All, Some, None, IfOk, OnOk, ◌^◌};
+ghost use Rattle.std.specs.Prelude.{◌≡◌, ◌==◌, ◌<◌, ◌≤◌, ◌∷◌, [], pos, not, nat_le, length, map};
+ghost use Rattle.std.specs.Prelude.{find, count_by, is_some, position, All, Some, None, IfOk, OnOk};
+ghost use Rattle.std.specs.Prelude.{◌^◌};
 ghost use Rattle.std.specs.List.{list_any, position_or_len};
 ghost use Rattle.std.specs.Option.{option_map};
 ghost use Rattle.lift_model.specs.Valid.{most_states, common_limit, IsModel};
 ghost use Rattle.drn_read.specs.Faults.{when, first_of, told};
 ghost use Rattle.drn_read.specs.Judging.{has, choice_count, choiceless};
-ghost use Rattle.drn_read.specs.Reading.{differs, mismatch, kind_or_chain, all_transitions, common, entry, common_fault, end_fault, model};
+ghost use Rattle.drn_read.specs.Reading.{differs, mismatch, kind_or_chain, all_transitions, common};
+ghost use Rattle.drn_read.specs.Reading.{entry, common_fault, end_fault, model};
 ghost use Rattle.drn_read.specs.Shown.{Tells, TellsLine, refusal, outside, first_in, TargetsBelow};
 
 use crate::common::common_denominator;
 use crate::error::{DrnCause, DrnError};
 use crate::header::HeaderReader;
+use crate::last::test_last_state;
 use crate::reader::Reader;
 use crate::rows::all_rows;
 use crate::section::Section;
@@ -33,26 +37,14 @@ fn test(number: u32, fails: bool, cause: DrnCause) -> Result<(), DrnError>
 
 /// A section `@model` stands there.
 fn test_model_section(number: u32, header: &HeaderReader) -> Result<(), DrnError>
-    ensures { refusal result ≡ told number (when (not (has Section.Model header.now)) DrnCause.MissingSection) }
+    ensures { refusal result
+        ≡ told number (when (not (has Section.Model header.now)) DrnCause.MissingSection) }
 {
     test(
         number,
         !header.has(Section::Model),
         DrnCause::MissingSection,
     )
-}
-
-/// The last state has a choice; else its own line is told.
-fn test_last_state(states: &[State]) -> Result<(), DrnError>
-    ensures { refusal result ≡ choiceless states.now }
-{
-    match states {
-        [.., last] if last.choices.is_empty() => Err(DrnError {
-            line: last.line,
-            cause: DrnCause::NoChoice,
-        }),
-        _ => Ok(()),
-    }
 }
 
 /// There is a state.
@@ -93,7 +85,8 @@ fn test_counts(
     states: &[State],
     choices: usize,
 ) -> Result<(), DrnError>
-    ensures { refusal result ≡ told number (when (is_some (mismatch header.now (length states.now) choices)) DrnCause.CountMismatch) }
+    ensures { let wrong = is_some (mismatch header.now (length states.now) choices) in
+        refusal result ≡ told number (when wrong DrnCause.CountMismatch) }
 {
     let wrong = mismatch(header, states.len(), choices);
     test(number, wrong.is_some(), DrnCause::CountMismatch)
@@ -137,8 +130,11 @@ fn outside(states: &[State], count: usize) -> Option<u32>
 
 /// Each target is a state; else the line of the first transition is told whose target is none.
 fn test_targets(states: &[State]) -> Result<(), DrnError>
-    ensures fault { refusal result ≡ option_map (λ t. record { line = t.line; cause = DrnCause.TargetRange }) (find (λ t. nat_le (length states.now) t.target) (all_transitions states.now)) }
-    ensures targets { OnOk result (All (λ s. All (TargetsBelow (length states.now)) s.choices) states.now) }
+    ensures fault { refusal result
+        ≡ option_map (λ t. record { line = t.line; cause = DrnCause.TargetRange })
+        (find (λ t. nat_le (length states.now) t.target) (all_transitions states.now)) }
+    ensures targets { OnOk result
+        (All (λ s. All (TargetsBelow (length states.now)) s.choices) states.now) }
 {
     match outside(states, states.len()) {
         Some(line) => Err(DrnError {
@@ -158,7 +154,8 @@ fn init_count(states: &[State]) -> usize
 
 /// Exactly one state carries `init`.
 fn test_init(number: u32, states: &[State]) -> Result<(), DrnError>
-    ensures { refusal result ≡ told number (when (not (count_by (λ s. s.init) states.now == 1)) DrnCause.InitCount) }
+    ensures { refusal result
+        ≡ told number (when (not (count_by (λ s. s.init) states.now == 1)) DrnCause.InitCount) }
 {
     test(number, init_count(states) != 1, DrnCause::InitCount)
 }
@@ -172,7 +169,8 @@ fn has_goal(states: &[State]) -> bool
 
 /// A state carries the goal's label.
 fn test_goal(number: u32, states: &[State]) -> Result<(), DrnError>
-    ensures { refusal result ≡ told number (when (not (list_any (λ s. s.goal) states.now)) DrnCause.UnknownLabel) }
+    ensures { refusal result
+        ≡ told number (when (not (list_any (λ s. s.goal) states.now)) DrnCause.UnknownLabel) }
 {
     test(number, !has_goal(states), DrnCause::UnknownLabel)
 }
@@ -186,8 +184,10 @@ fn test_whole(
     choices: usize,
 ) -> Result<(), DrnError>
     requires { choices ≡ choice_count states.now }
-    ensures fault { end_fault number (record { header = header.now; states = states.now }) ≡ first_of (refusal result ∷ told number (common_fault states.now) ∷ []) }
-    ensures targets { OnOk result (All (λ s. All (TargetsBelow (length states.now)) s.choices) states.now) }
+    ensures fault { end_fault number (record { header = header.now; states = states.now })
+        ≡ first_of (refusal result ∷ told number (common_fault states.now) ∷ []) }
+    ensures targets { OnOk result
+        (All (λ s. All (TargetsBelow (length states.now)) s.choices) states.now) }
 {
     test_model_section(number, header)?;
     test_last_state(states)?;
@@ -235,15 +235,16 @@ struct Parts {
     rows: Vec<Vec<Row>>,
 }
 
-/// The parts of the model. `CommonDenominator` exactly where the common denominator is 2^62 or more,
-/// or a coefficient over it has a size of 2^100 or more.
+/// The parts of the model. `CommonDenominator` exactly where the common denominator is 2^62 or
+/// more, or a coefficient over it has a size of 2^100 or more.
 fn parts_of(alloc: Global, states: &[State]) -> Result<Parts, DrnCause>
     requires { All (λ s. All (TargetsBelow most_states) s.choices) states.now }
     ensures fault { Tells result (common_fault states.now) }
     ensures common { IfOk result (λ parts. parts.common ≡ common states.now) }
     ensures small { IfOk result (λ parts. parts.common < common_limit) }
     ensures goal { IfOk result (λ parts. parts.goal.items ≡ map (λ s. s.goal) states.now) }
-    ensures rows { IfOk result (λ parts. map (λ v. v.items) parts.rows.items ≡ map (λ s. map (map (entry (common states.now))) s.choices) states.now) }
+    ensures rows { IfOk result (λ parts. map (λ v. v.items) parts.rows.items
+        ≡ map (λ s. map (map (entry (common states.now))) s.choices) states.now) }
 {
     let Some(common) = common_denominator(states) else {
         return Err(DrnCause::CommonDenominator);

@@ -77,7 +77,8 @@ fn value_of_placeholder(
     placeholders: &Placeholders,
     name: &[u8],
 ) -> Result<RatPoly, DrnCause>
-    ensures { result ≢ Err DrnCause.Memory → result ≡ value_of_placeholder placeholders.now name.now }
+    ensures { result ≢ Err DrnCause.Memory
+        → result ≡ value_of_placeholder placeholders.now name.now }
 {
     match placeholders.find(name) {
         Some(value) => Ok(value.copy(alloc)?),

@@ -178,7 +178,8 @@ impl DrnCause {
     }
 }
 
-/// Where and why a model text is refused. Lines are numbered from 1; the empty text has line 0 alone.
+/// Where and why a model text is refused. Lines are numbered from 1; the empty text has line 0
+/// alone.
 #[derive(Clone, Copy)]
 pub struct DrnError {
     pub line: u32,

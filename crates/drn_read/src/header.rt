@@ -4,9 +4,12 @@ ghost use Rattle.std.specs.Str.Parse.{digits_value};
 ghost use Rattle.drn_lexer.specs.Lines.{TextLine};
 ghost use Rattle.lift_model.specs.Valid.{most_parameters};
 ghost use Rattle.drn_read.specs.Faults.{fault_of};
-ghost use Rattle.drn_read.specs.Sections.{header, section_number, is_same, phase_in, kind_of, type_text};
-ghost use Rattle.drn_read.specs.Judging.{has, section_fault, head_fault, names_fault, count_fault, placeholder_fault, header_fault};
-ghost use Rattle.drn_read.specs.Keeping.{with_section, with_head, with_names, with_state_count, with_choice_count, with_placeholder, header_with};
+ghost use Rattle.drn_read.specs.Sections.{header, section_number, is_same, phase_in, kind_of};
+ghost use Rattle.drn_read.specs.Sections.{type_text};
+ghost use Rattle.drn_read.specs.Judging.{has, section_fault, head_fault, names_fault, count_fault};
+ghost use Rattle.drn_read.specs.Judging.{placeholder_fault, header_fault};
+ghost use Rattle.drn_read.specs.Keeping.{with_section, with_head, with_names, with_state_count};
+ghost use Rattle.drn_read.specs.Keeping.{with_choice_count, with_placeholder, header_with};
 ghost use Rattle.drn_read.specs.Shown.{Tells, IsSource, rest, left};
 
 use crate::cursor::Cursor;
@@ -91,7 +94,15 @@ impl std::marker::Model for HeaderReader {
 
     ghost Value = { Header };
 
-    ghost view = { λ h. record { phase = h.phase; seen = h.seen.items; kind = h.kind; names = h.names; placeholders = h.placeholders; state_count = h.state_count; choice_count = h.choice_count } };
+    ghost view = { λ h. record {
+      phase = h.phase;
+      seen = h.seen.items;
+      kind = h.kind;
+      names = h.names;
+      placeholders = h.placeholders;
+      state_count = h.state_count;
+      choice_count = h.choice_count;
+    } };
 
     ghost invariant = { λ h. length h.names ≤ most_parameters };
 }
@@ -188,7 +199,8 @@ impl HeaderReader {
 
     /// The type behind a line that begins this section.
     fn kind_behind(&self, section: Section, line: &[u8]) -> Option<Kind>
-        ensures { result ≡ (if is_same section Section.ModelType then kind_of (type_text line.now) else self.now.kind) }
+        ensures { result ≡ (if is_same section Section.ModelType
+            then kind_of (type_text line.now) else self.now.kind) }
     {
         if is_same(section, Section::ModelType) {
             kind_in(line)
@@ -266,9 +278,9 @@ impl HeaderReader {
         Ok(())
     }
 
-    /// Reads the next line, which stands before the model, and keeps what it says. An error names the
-    /// line's first fault, and after it the reader is of no more use. Linear in the line: no earlier
-    /// line is gone over again.
+    /// Reads the next line, which stands before the model, and keeps what it says. An error names
+    /// the line's first fault, and after it the reader is of no more use. Linear in the line: no
+    /// earlier line is gone over again.
     pub fn read_line(&mut self, line: Cursor<'_>) -> Result<(), DrnCause>
         ensures fault { (source : TextLine) → IsSource line.entry source
             → Tells result (header_fault self.old source) }

@@ -3,7 +3,9 @@ ghost use Rattle.std.specs.Prelude.{◌≡◌, ◌≤◌, ◌∷◌, true, drop,
 ghost use Rattle.lift_model.specs.Valid.{most_states};
 ghost use Rattle.drn_read.specs.Faults.{fault_of};
 ghost use Rattle.drn_read.specs.States.{is_label};
-ghost use Rattle.drn_read.specs.Judging.{is_closed, label_fault, state_word_fault, labels_fault, number_fault, state_fault, more_fault, group_fault, name_and_group_fault};
+ghost use Rattle.drn_read.specs.Judging.{is_closed, label_fault, state_word_fault, labels_fault};
+ghost use Rattle.drn_read.specs.Judging.{number_fault, state_fault, more_fault, group_fault};
+ghost use Rattle.drn_read.specs.Judging.{name_and_group_fault};
 ghost use Rattle.drn_read.specs.Shown.{left, piece, Carries};
 
 use crate::cursor::{Cursor, LineWord};
@@ -100,8 +102,8 @@ fn test_number(before: usize, word: LineWord<'_>) -> Result<(), DrnCause>
     Ok(())
 }
 
-/// The words behind `state`: the number of the state, where so many stand before it, a group that is
-/// passed over, and labels.
+/// The words behind `state`: the number of the state, where so many stand before it, a group that
+/// is passed over, and labels.
 pub(crate) fn read_state(before: usize, words: Cursor<'_>, goal: &[u8]) -> Result<Labels, DrnCause>
     requires { before ≤ most_states }
     ensures fault { fault_of result ≡ state_fault before (left words.entry) }

@@ -1,12 +1,15 @@
 // Reads the lines of the model.
-ghost use Rattle.std.specs.Prelude.{◌≤◌, ◌≡◌, ◌==◌, ◌<◌, ◌++◌, ◌∷◌, [], None, drop, false, is_some, length, slice_range, OnOk, OnErr};
+ghost use Rattle.std.specs.Prelude.{◌≤◌, ◌≡◌, ◌==◌, ◌<◌, ◌++◌, ◌∷◌, [], None, drop, false, is_some};
+ghost use Rattle.std.specs.Prelude.{length, slice_range, OnOk, OnErr};
 ghost use Rattle.std.specs.Option.{option_copied};
 ghost use Rattle.drn_lexer.specs.Lines.{TextLine};
 ghost use Rattle.lift_model.specs.Valid.{most_states, most_choices};
 ghost use Rattle.drn_read.specs.Faults.{first_of, fault_of, told};
 ghost use Rattle.drn_read.specs.Parts.{last, is_empty};
 ghost use Rattle.drn_read.specs.States.{is_transition, target_of, entry_value};
-ghost use Rattle.drn_read.specs.Judging.{model_fault, words_fault, transition_fault, target_fault, action_fault, state_fault, choiceless, open_choice, choice_count, is_chain, choice_fault, room_fault};
+ghost use Rattle.drn_read.specs.Judging.{model_fault, words_fault, transition_fault, target_fault};
+ghost use Rattle.drn_read.specs.Judging.{action_fault, state_fault, choiceless, open_choice};
+ghost use Rattle.drn_read.specs.Judging.{choice_count, is_chain, choice_fault, room_fault};
 ghost use Rattle.drn_read.specs.Keeping.{states_with, on_last, with_choice, with_transitions};
 ghost use Rattle.drn_read.specs.Shown.{Tells, TellsLine, IsSource, rest, left, piece};
 ghost use Rattle.drn_read.specs.ModelSteps.{on_line, transition_at, new_state, words_with};
@@ -16,6 +19,7 @@ use crate::entry::{named_value, transition_front};
 use crate::error::{DrnCause, DrnError};
 use crate::header::HeaderReader;
 use crate::labels::{Labels, read_action, read_state};
+use crate::last::test_last_state;
 use crate::state::{State, Transition};
 use crate::text::is_head;
 use lift_model::Kind;
@@ -97,7 +101,8 @@ fn push_transition(
     transition: Transition,
 ) -> Result<(), AllocError>
     requires { is_empty states.old.items ≡ false }
-    ensures ok { OnOk result (states.new.items ≡ on_last (with_transitions (transition ∷ [])) states.old.items) }
+    ensures ok { OnOk result (states.new.items
+        ≡ on_last (with_transitions (transition ∷ [])) states.old.items) }
     ensures err { OnErr result (states.new.items ≡ states.old.items) }
 {
     let last = states.len() - 1;
@@ -159,20 +164,6 @@ impl ModelReader {
         }
     }
 
-    /// The last state has a choice, if there is a state. Its own line is told.
-    #[tactic(auto, using(crate::proofs::LastOnes::is_choiceless, crate::proofs::LastOnes::is_closed))]
-    fn test_last_state(&self) -> Result<(), DrnError>
-        ensures { TellsLine result (choiceless self.now) }
-    {
-        match self.last_state() {
-            Some(state) if state.is_choiceless() => Err(DrnError {
-                line: state.line,
-                cause: DrnCause::NoChoice,
-            }),
-            _ => Ok(()),
-        }
-    }
-
     /// A target begins the first choice of its state, or is a new one of the last choice.
     fn test_target(&self, target: u128) -> Result<(), DrnCause>
         ensures { fault_of result ≡ target_fault self.now target }
@@ -217,7 +208,9 @@ impl ModelReader {
     /// One more state, of this line and without choice.
     fn add_state(&mut self, line: u32, labels: Labels) -> Result<(), AllocError>
         requires { length self.old < most_states }
-        ensures { OnOk result (self.new ≡ self.old ++ record { line = line; init = labels.init; goal = labels.goal; choices = [] } ∷ []) }
+        ensures { OnOk result (self.new
+            ≡ self.old
+            ++ record { line = line; init = labels.init; goal = labels.goal; choices = [] } ∷ []) }
     {
         self.states.push(State {
             line,
@@ -302,7 +295,8 @@ impl ModelReader {
     /// The words behind `state`, on this line: they begin a state.
     fn begin_state(&mut self, label: &[u8], line: u32, words: Cursor<'_>) -> Result<(), DrnCause>
         ensures fault { Tells result (state_fault (length self.old) (left words.entry)) }
-        ensures after { OnOk result (self.new ≡ self.old ++ new_state label.now line (drop 1 (left words.entry)) ∷ []) }
+        ensures after { OnOk result (self.new
+            ≡ self.old ++ new_state label.now line (drop 1 (left words.entry)) ∷ []) }
     {
         let labels = read_state(self.states.len(), words, label)?;
         self.add_state(line, labels)?;
@@ -317,10 +311,12 @@ impl ModelReader {
         words: Cursor<'_>,
     ) -> Result<(), DrnError>
         ensures fault { (source : TextLine) → line ≡ source.number
-            → TellsLine result (first_of (choiceless self.old ∷ told source.number (state_fault (length self.old) (left words.entry)) ∷ [])) }
-        ensures after { OnOk result (self.new ≡ self.old ++ new_state label.now line (drop 1 (left words.entry)) ∷ []) }
+            → TellsLine result (first_of (choiceless self.old
+            ∷ told source.number (state_fault (length self.old) (left words.entry)) ∷ [])) }
+        ensures after { OnOk result (self.new
+            ≡ self.old ++ new_state label.now line (drop 1 (left words.entry)) ∷ []) }
     {
-        self.test_last_state()?;
+        test_last_state(&self.states)?;
         on_line(line, self.begin_state(label, line, words))
     }
 
@@ -334,8 +330,10 @@ impl ModelReader {
         behind: Cursor<'_>,
     ) -> Result<(), DrnError>
         ensures fault { (source : TextLine) → line ≡ source.number
-            → TellsLine result (words_fault header.now self.old source (piece word.entry ∷ left behind.entry)) }
-        ensures after { OnOk result (self.new ≡ words_with label.now self.old line (piece word.entry ∷ left behind.entry)) }
+            → TellsLine result
+            (words_fault header.now self.old source (piece word.entry ∷ left behind.entry)) }
+        ensures after { OnOk result (self.new
+            ≡ words_with label.now self.old line (piece word.entry ∷ left behind.entry)) }
     {
         if word.bytes == b"state".as_slice() {
             self.close_and_begin_state(label, line, behind)
@@ -359,7 +357,8 @@ impl ModelReader {
     ) -> Result<(), DrnError>
         ensures fault { (source : TextLine) → line ≡ source.number
             → TellsLine result (words_fault header.now self.old source (left words.entry)) }
-        ensures after { OnOk result (self.new ≡ words_with label.now self.old line (left words.entry)) }
+        ensures after { OnOk result (self.new
+            ≡ words_with label.now self.old line (left words.entry)) }
     {
         let mut words = words;
         match words.next_word() {
@@ -372,9 +371,10 @@ impl ModelReader {
         }
     }
 
-    /// Reads the next line of the model, for a goal's label. It is refused exactly where it has a fault,
-    /// and its first fault is told; `Memory` only where memory is wanting. A name takes one look-up and
-    /// a target one search among those of its choice, and the rest is linear in the line.
+    /// Reads the next line of the model, for a goal's label. It is refused exactly where it has a
+    /// fault, and its first fault is told; `Memory` only where memory is wanting. A name takes one
+    /// look-up and a target one search among those of its choice, and the rest is linear in the
+    /// line.
     pub fn read_line(
         &mut self,
         header: &HeaderReader,

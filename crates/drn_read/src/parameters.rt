@@ -73,7 +73,8 @@ fn read_name(names: &mut Names, word: LineWord<'_>) -> Result<(), DrnCause>
 pub(crate) fn read_names(names: &mut Names, words: Cursor<'_>) -> Result<(), DrnCause>
     requires { length names.old ≤ most_parameters }
     ensures fault { Tells result (names_fault names.old (left words.entry)) }
-    ensures names { OnOk result (names.new ≡ names.old ++ map (λ word. word.bytes) (left words.entry)) }
+    ensures names { OnOk result (names.new
+        ≡ names.old ++ map (λ word. word.bytes) (left words.entry)) }
     ensures few { length names.new ≤ most_parameters }
 {
     let mut words = words;

@@ -5,7 +5,8 @@ ghost use Rattle.std.specs.Str.{bytes_eq};
 ghost use Rattle.lift_bytes.specs.Bytes.{dollar, first_passes, is_name_byte, behind};
 ghost use Rattle.drn_read.specs.Faults.{fault_of};
 ghost use Rattle.drn_read.specs.Sections.{placeholder_name};
-ghost use Rattle.drn_read.specs.Judging.{most_placeholders, nameless_fault, new_name_fault, placeholder_name_fault};
+ghost use Rattle.drn_read.specs.Judging.{most_placeholders, nameless_fault, new_name_fault};
+ghost use Rattle.drn_read.specs.Judging.{placeholder_name_fault};
 ghost use Rattle.drn_read.specs.Shown.{IsNewName};
 
 use crate::error::DrnCause;
@@ -39,7 +40,8 @@ fn name_of(line: &[u8]) -> Result<&[u8], DrnCause>
     ensures fault { fault_of result ≡ nameless_fault line.now }
     ensures within { IfOk result (λ name. 1 + length name.now ≤ length line.now) }
     ensures name { IfOk result (λ name. name.now ≡ placeholder_name line.now) }
-    ensures behind { IfOk result (λ name. drop (1 + length name.now) line.now ≡ behind is_name_byte (drop 1 line.now)) }
+    ensures behind { IfOk result (λ name.
+        drop (1 + length name.now) line.now ≡ behind is_name_byte (drop 1 line.now)) }
 {
     if !begins_dollar(line) {
         return Err(DrnCause::Syntax);
@@ -55,7 +57,8 @@ fn name_of(line: &[u8]) -> Result<&[u8], DrnCause>
 fn test_name(placeholders: &Placeholders, name: &[u8]) -> Result<(), DrnCause>
     ensures fault { fault_of result ≡ new_name_fault placeholders.now name.now }
     ensures room { IfOk result (λ _. length placeholders.now < most_placeholders) }
-    ensures new { IfOk result (λ _. list_any (λ p. bytes_eq name.now p.name) placeholders.now ≡ false) }
+    ensures new { IfOk result (λ _.
+        list_any (λ p. bytes_eq name.now p.name) placeholders.now ≡ false) }
 {
     if name.len() > LONGEST_NAME {
         return Err(DrnCause::LimitName);

@@ -27,7 +27,8 @@ impl Model for Placeholders {
 
     ghost view = { λ p. paired p.names p.values.items };
 
-    ghost invariant = { λ p. (length p.names ≡ length p.values.items) × (length p.names ≤ most_placeholders) };
+    ghost invariant = { λ p. (length p.names ≡ length p.values.items)
+        × (length p.names ≤ most_placeholders) };
 }
 
 impl Placeholders {
@@ -57,7 +58,8 @@ impl Placeholders {
 
     /// The value of the placeholder of this name.
     pub fn find(&self, name: &[u8]) -> Option<&RatPoly>
-        ensures { option_map (λ value. value.now) result ≡ option_map (λ p. p.value) (find (λ p. bytes_eq name.now p.name) self.now) }
+        ensures { option_map (λ value. value.now) result
+            ≡ option_map (λ p. p.value) (find (λ p. bytes_eq name.now p.name) self.now) }
     {
         let position = self.names.find(name)?;
         Some(&self.values[position as usize])
@@ -67,7 +69,8 @@ impl Placeholders {
     pub fn push(&mut self, name: &[u8], value: RatPoly) -> Result<(), AllocError>
         requires room { length self.old < most_placeholders }
         requires new { list_any (λ p. bytes_eq name.now p.name) self.old ≡ false }
-        ensures { OnOk result (self.new ≡ self.old ++ record { name = name.now; value = value } ∷ []) }
+        ensures { OnOk result (self.new
+            ≡ self.old ++ record { name = name.now; value = value } ∷ []) }
     {
         self.values.push(value)?;
         match self.names.push(name) {

@@ -29,7 +29,8 @@ fn has_large(poly: &MultiAffine) -> bool
     false
 }
 
-/// How a fault of a polynomial is told: one whose coefficient is too wide is too large all the more.
+/// How a fault of a polynomial is told: one whose coefficient is too wide is too large all the
+/// more.
 fn cause_of(error: PolyError) -> DrnCause
     ensures memory { error ≡ PolyError.Memory → result ≡ DrnCause.Memory }
     ensures wide { error ≢ PolyError.Memory → result ≡ CommonDenominator }
@@ -43,7 +44,8 @@ fn cause_of(error: PolyError) -> DrnCause
 /// A value's polynomial over the common denominator, which is a multiple of the value's own.
 /// `CommonDenominator` exactly where a coefficient is too large.
 fn scaled(alloc: Global, common: u64, value: &RatPoly) -> Result<MultiAffine, DrnCause>
-    ensures fault { Tells result (when (list_any is_over (scaled common value.now)) CommonDenominator) }
+    ensures fault { Tells result
+        (when (list_any is_over (scaled common value.now)) CommonDenominator) }
     ensures poly { IfOk result (λ p. p ≡ scaled common value.now) }
 {
     let factor = common / value.den() as u64;
@@ -86,8 +88,10 @@ fn row_of(alloc: Global, common: u64, choice: &[Transition]) -> Result<Row, DrnC
 /// The choices of a state as rows.
 fn rows_of(alloc: Global, common: u64, choices: &[Vec<Transition>]) -> Result<Vec<Row>, DrnCause>
     requires { All (TargetsBelow most_states) (map (λ row. row.items) choices.now) }
-    ensures fault { Tells result (when (list_any (list_any (is_large common)) (map (λ row. row.items) choices.now)) CommonDenominator) }
-    ensures rows { IfOk result (λ rows. rows.items ≡ map (map (entry common)) (map (λ row. row.items) choices.now)) }
+    ensures fault { let large = list_any (list_any (is_large common)) (map (λ row. row.items) choices.now) in
+        Tells result (when large CommonDenominator) }
+    ensures rows { IfOk result (λ rows. rows.items
+        ≡ map (map (entry common)) (map (λ row. row.items) choices.now)) }
 {
     let mut rows = Vec::new(alloc);
     for choice in choices {
@@ -96,16 +100,18 @@ fn rows_of(alloc: Global, common: u64, choices: &[Vec<Transition>]) -> Result<Ve
     Ok(rows)
 }
 
-/// The rows of each state over the common denominator. `CommonDenominator` exactly where a coefficient
-/// has a size of 2^100 or more. Linear in the number of terms.
+/// The rows of each state over the common denominator. `CommonDenominator` exactly where a
+/// coefficient has a size of 2^100 or more. Linear in the number of terms.
 pub(crate) fn all_rows(
     alloc: Global,
     common: u64,
     states: &[State],
 ) -> Result<Vec<Vec<Row>>, DrnCause>
     requires { All (λ s. All (TargetsBelow most_states) s.choices) states.now }
-    ensures fault { Tells result (when (list_any (λ s. list_any (list_any (is_large common)) s.choices) states.now) CommonDenominator) }
-    ensures rows { IfOk result (λ rows. map (λ v. v.items) rows.items ≡ map (λ s. map (map (entry common)) s.choices) states.now) }
+    ensures fault { let large = list_any (λ s. list_any (list_any (is_large common)) s.choices) states.now in
+        Tells result (when large CommonDenominator) }
+    ensures rows { IfOk result (λ rows. map (λ v. v.items) rows.items
+        ≡ map (λ s. map (map (entry common)) s.choices) states.now) }
 {
     let mut rows = Vec::new(alloc);
     for state in states {

@@ -1,7 +1,7 @@
 use Rattle.std.proofs.Common.{◌≡◌, ◌==◌, true, false, length, arith}
 use Rattle.std.proofs.lemmas.Grind.{common_steps}
 use Rattle.drn_read.proofs.Ends.{last_told}
-use Rattle.drn_read.proofs.end.test_last_state.Goals as goal
+use Rattle.drn_read.proofs.last.test_last_state.Goals as goal
 
 pub returns-in-len1-up : goal.returns-in-len1-up
 returns-in-len1-up c =
