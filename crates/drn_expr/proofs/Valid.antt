@@ -14,7 +14,8 @@ use Rattle.lift_poly.specs.Arithmetic.{coefficient, kept, with_term, collected, 
 use Rattle.lift_poly.proofs.Canonical.{Canonical, canonical_from_polynomial, polynomial_from_canonical, polynomial-collected, kept_case, with_term-before, with_term-at, with_term-after}
 use Rattle.lift_poly.proofs.Division.{times-quotient}
 use Rattle.lift_poly.proofs.Ring.{mul-zero}
-use Rattle.lift_frac.specs.Ratio.{Ratio}
+use Rattle.lift_frac.specs.Laws.{ReadingIsFraction}
+use Rattle.lift_frac.specs.Ratio.{Ratio, IsFraction}
 use Rattle.drn_lexer.specs.Symbols.{symbols}
 use Rattle.drn_expr.specs.Trees.{Expr, Literal, Parameter, Sum, Difference, Product, Quotient, Negative, ◌>>=◌}
 use Rattle.drn_expr.specs.Grammar.{most_symbols, tree}
@@ -25,7 +26,7 @@ use Rattle.drn_expr.specs.declared.error.ExprError.{ExprError}
 use Rattle.drn_expr.specs.declared.error.ExprError.TheVariants.{SharedParameter, ParametricDivisor, Wide, Long}
 use Rattle.drn_expr.proofs.Calls.{small_sizes, number_poly, parameter_poly, negative_poly, positive_size}
 use Rattle.drn_expr.proofs.Divisors.{common_divides, nothing_common}
-use Rattle.drn_expr.proofs.Fitting.{IsNumber, Fits, tree_fits}
+use Rattle.drn_expr.proofs.Fitting.{Fits, tree_fits}
 use Rattle.drn_expr.proofs.Least.{positive_divisor, quotient_positive}
 use Rattle.drn_expr.proofs.Meanings.{bind_ok, if_ok, product_above}
 
@@ -127,7 +128,7 @@ collected_over k ts d p above sets e = narrow_over k (collected ts) d p above (p
 
 -- ---- each operation
 
-number_over : (k : ℕ) (q : Ratio) → IsNumber q → IsOver k (record { terms = constant q.num; den = unsigned_abs q.den })
+number_over : (k : ℕ) (q : Ratio) → IsFraction q → IsOver k (record { terms = constant q.num; den = unsigned_abs q.den })
 number_over k q h = record {
   value = number_poly q.num (unsigned_abs q.den) (constant q.num) refl (polynomial-collected ((0, q.num) ∷ [])) (positive_size q.den h.positive) h.den h.num h.lowest;
   sets = (sets_collected k ((0, q.num) ∷ []) (more_sets k (0, q.num) [] (pow_pos k) (no_sets k))).each;
@@ -193,14 +194,14 @@ expansion_over k (Quotient a b) p fits e =
     quotient_over k x.0 y.0 p (expansion_over k a x.0 fits.0 x.1) y.2
 
 -- a value that was read is a polynomial in lowest terms over the names
-pub reading_over : (names : List (List ℕ)) (text : List ℕ) (p : OverOne) → reading names text ≡ Ok p → IsOver (length names) p
-reading_over names text p e = by_length (nat_lt most_symbols (length (symbols text))) e
+pub reading_over : ReadingIsFraction → (names : List (List ℕ)) (text : List ℕ) (p : OverOne) → reading names text ≡ Ok p → IsOver (length names) p
+reading_over law names text p e = by_length (nat_lt most_symbols (length (symbols text))) e
   where
     by_length : (long : Bool) → (elim long as (λ b. Result OverOne ExprError) [ true ↦ Err Long | false ↦ (tree names (symbols text) >>= (λ e. expansion e)) ]) ≡ Ok p → IsOver (length names) p
     by_length true e = cc
     by_length false e =
         let read = bind_ok (tree names (symbols text)) (λ e. expansion e) p e in
-        expansion_over (length names) read.0 p (tree_fits names (symbols text) read.0 read.1) read.2
+        expansion_over (length names) read.0 p (tree_fits law names (symbols text) read.0 read.1) read.2
 
 -- a multiple holds no other names
 pub multiples_over : (k : ℕ) (by : ℤ) (ts : List Term) → All (λ t. t.0 < 2 ^ k) ts → All (λ t. t.0 < 2 ^ k) (scaled by ts)

@@ -10,6 +10,7 @@ use crate::error::ExprError;
 use crate::parse::{ended, value};
 use crate::rat_poly::RatPoly;
 use drn_lexer::{Line, next_symbol};
+use lift_frac::literals_follow;
 use lift_names::Names;
 use std::alloc::Global;
 
@@ -61,6 +62,7 @@ pub fn read_value(
         → result ≡ reading names.now (slice_range text.now from line.to) }
     ensures meaning { IfOk result (IsWorth names.now (slice_range text.now from line.to)) }
 {
+    literals_follow();
     if is_long(text, line, from) {
         return Err(ExprError::Long);
     }

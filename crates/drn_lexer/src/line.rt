@@ -86,7 +86,8 @@ fn without_return(bytes: &[u8]) -> &[u8]
 fn content_of(text: &[u8], raw: Line) -> Line
     requires { LiesIn raw text.now }
     ensures span { result ≡ span_of (text_line text.now raw) }
-    ensures content { slice_range text.now result.from result.to ≡ content (text_line text.now raw) }
+    ensures content { slice_range text.now result.from result.to
+        ≡ content (text_line text.now raw) }
     ensures lies { LiesIn result text.now }
 {
     let bytes = without_return(&text[raw.from..raw.to]);
@@ -148,9 +149,11 @@ pub fn next_line(text: &[u8], place: &mut Place) -> Result<Option<Line>, LexErro
         place.new ≡ place_after text.now place.old left }
 
     // What follows from these, as callers go on with it.
-    ensures none { (result ≡ Ok None) ↔ IsTrue (list_all is_passed_over (lines_at text.now place.old)) }
+    ensures none { (result ≡ Ok None)
+        ↔ IsTrue (list_all is_passed_over (lines_at text.now place.old)) }
     ensures line { IfOk result (λ found. IfSome found (IsNextLine text.now place.old place.new)) }
-    ensures refused { OnErr result (behind_comments (lines_at text.now place.old) ≡ lines_at text.now place.new) }
+    ensures refused { OnErr result
+        (behind_comments (lines_at text.now place.old) ≡ lines_at text.now place.new) }
     ensures at { place.new.at ≤ length text.now }
     ensures number { place.new.number ≤ place.new.at + 1 }
 {

@@ -97,7 +97,8 @@ pub fn unquoted(form: WordForm, bytes: &[u8]) -> &[u8]
 pub fn next_word(text: &[u8], line: Line, at: usize) -> Result<Option<Word>, LexError>
     requires line { LiesIn line text.now }
     requires place { IsOn at line }
-    ensures none { (result ≡ Ok None) ↔ IsTrue (list_all is_blank (slice_range text.now at line.to)) }
+    ensures none { (result ≡ Ok None)
+        ↔ IsTrue (list_all is_blank (slice_range text.now at line.to)) }
     ensures answer { let rest = slice_range text.now at line.to in
         result ≡ first_word (at + prefix_len is_blank rest) (words rest) }
     ensures quote { let rest = slice_range text.now at line.to in

@@ -27,8 +27,8 @@ impl Origin for Brand {
 }
 
 /// A buffer before a sink. It holds back up to 8192 bytes, in an array of its own, and hands them
-/// on together; a piece that is larger goes on directly. What it has taken is what the sink took, and
-/// behind that what is still held. It can't be dropped: end with `flush` and `into_inner`.
+/// on together; a piece that is larger goes on directly. What it has taken is what the sink took,
+/// and behind that what is still held. It can't be dropped: end with `flush` and `into_inner`.
 pub struct BufferedSink<K: Sink, O: Origin = Brand> {
     inner: K,
     held: Held,

@@ -9,3 +9,4 @@ pub mod Powers
 pub mod Products
 pub mod Reducing
 pub mod Writing
+pub mod Values

@@ -1,7 +1,9 @@
--- What common divisors and multiples are.
-use Rattle.std.specs.Prelude.{◌≡◌, ◌<◌, ◌≤◌, ℕ}
+-- What common divisors and multiples are, and what literals stand for.
+use Rattle.std.specs.Prelude.{◌≡◌, ◌<◌, ◌≤◌, ℕ, List, Ok}
 use Rattle.std.specs.Int.{IsGcd, ◌∣◌}
 use Rattle.lift_frac.specs.Gcd.{gcd, lcm}
+use Rattle.lift_frac.specs.Literal.{reading}
+use Rattle.lift_frac.specs.Ratio.{Ratio, IsFraction}
 
 -- the greatest common divisor divides both numbers, and what divides both divides it
 abbrev pub GcdIsGreatest : Type 0
@@ -22,3 +24,9 @@ LcmIsMultiple = (a b : ℕ) → (a ∣ lcm a b) × (b ∣ lcm a b)
 -- it isn't less than the first number, unless the second is 0
 abbrev pub LcmIsAtLeast : Type 0
 LcmIsAtLeast = (a b : ℕ) → 0 < b → a ≤ lcm a b
+
+-- ---- literals
+
+-- a text that reads as a literal is worth a fraction
+abbrev pub ReadingIsFraction : Type 0
+ReadingIsFraction = (text : List ℕ) (q : Ratio) → reading text ≡ Ok q → IsFraction q

@@ -1,5 +1,5 @@
 -- Ratios of whole numbers in lowest terms.
-use Rattle.std.specs.Prelude.{ℤ, pos, ◌*ℤ◌, ◌/◌, unsigned_abs, Bool, nat_le, ◌||◌, Result, Ok, Err, if◌then◌else◌}
+use Rattle.std.specs.Prelude.{◌≡◌, ◌<◌, ℤ, pos, ◌<ℤ◌, ◌*ℤ◌, ◌/◌, unsigned_abs, Bool, nat_le, ◌||◌, Result, Ok, Err, if◌then◌else◌}
 use Rattle.std.specs.Int.{int_signum}
 use Rattle.lift_frac.specs.Gcd.{gcd}
 use Rattle.lift_frac.specs.Limits.{size_limit}
@@ -20,6 +20,13 @@ lowest n d =
 -- a part is too large for a fraction: its size has reached the limit
 abbrev pub is_wide : Ratio → Bool
 is_wide q = nat_le size_limit (unsigned_abs q.num) || nat_le size_limit (unsigned_abs q.den)
+
+-- what every fraction is: it is in lowest terms with a denominator above 0, and neither part is too large
+pub record IsFraction (q : Ratio) : Type 0 where
+  pub positive : pos 0 <ℤ q.den
+  pub num : unsigned_abs q.num < size_limit
+  pub den : unsigned_abs q.den < size_limit
+  pub lowest : gcd (unsigned_abs q.num) (unsigned_abs q.den) ≡ 1
 
 -- n / d in lowest terms, or Wide where a part of that is too large
 abbrev pub fraction : ℤ → ℤ → Result Ratio FracError

@@ -73,7 +73,8 @@ impl Frac {
 
     /// The exact product. `Wide` exactly where it has a part of 2^62 or more in lowest terms.
     pub fn mul(self, other: Frac) -> Result<Frac, FracError>
-        ensures answer { answer_of result ≡ fraction (self.num *ℤ other.num) (self.den *ℤ other.den) }
+        ensures answer { answer_of result
+            ≡ fraction (self.num *ℤ other.num) (self.den *ℤ other.den) }
         ensures value { IfOk result (IsQuotient (self.num *ℤ other.num) (self.den *ℤ other.den)) }
     {
         Frac::reduced(self.num * other.num, self.den * other.den)

@@ -1,3 +1,4 @@
+ghost use Rattle.lift_frac.specs.Laws.{ReadingIsFraction};
 ghost use Rattle.lift_frac.specs.Laws.{GcdIsGreatest, GcdIsUnique, GcdIsWithin, LcmIsMultiple};
 ghost use Rattle.lift_frac.specs.Laws.{LcmIsAtLeast};
 
@@ -9,4 +10,9 @@ pub fn divisors_and_multiples()
     ensures within { GcdIsWithin }
     ensures multiple { LcmIsMultiple }
     ensures at_least { LcmIsAtLeast }
+{}
+
+/// Holds the law of literals, for who reasons about them. It does nothing.
+pub fn literals_follow()
+    ensures { ReadingIsFraction }
 {}

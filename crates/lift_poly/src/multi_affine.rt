@@ -156,7 +156,8 @@ impl MultiAffine {
     /// `Wide` exactly where one of the product's coefficients has a size of 2^125 or more. With n
     /// terms in the product, it takes a time of n log n.
     pub fn mul(&self, alloc: Global, other: &MultiAffine) -> Result<MultiAffine, PolyError>
-        ensures answer { result ≢ Err PolyError.Memory → result ≡ product_answer self.now other.now }
+        ensures answer { result ≢ Err PolyError.Memory
+            → result ≡ product_answer self.now other.now }
         ensures fits { IfOk result IsMultiAffine }
     {
         if self.support() & other.support() != 0 {

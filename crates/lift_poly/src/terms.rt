@@ -65,7 +65,8 @@ pub(crate) fn push_products(
     term: (u16, i128),
     others: &[(u16, i128)],
 ) -> Result<(), PolyError>
-    ensures products { OnOk result (terms.new.items ≡ terms.old.items ++ products_of term others.now) }
+    ensures products { OnOk result (terms.new.items
+        ≡ terms.old.items ++ products_of term others.now) }
     ensures fits { OnOk result (list_any is_wide (products_of term others.now) ≡ false) }
     ensures causes { IfErr result (λ e. e ≢ PolyError.Memory
         → (e ≡ PolyError.Wide) × (list_any is_wide (products_of term others.now) ≡ true)) }

@@ -3,4 +3,4 @@ use Rattle.drn_expr.proofs.Whole.{reading_worth}
 use Rattle.drn_expr.proofs.laws.readings_follow.Goals as goal
 
 pub returns : goal.returns
-returns c = record { over = reading_over; worth = reading_worth; multiples = multiples_over }
+returns c = record { over = reading_over c.literals_follow.ensures; worth = reading_worth c.literals_follow.ensures; multiples = multiples_over }

@@ -1,0 +1,94 @@
+-- What a literal is worth: a fraction in lowest terms.
+use Rattle.std.proofs.Common.{◌≡◌, ◌≢◌, ℕ, zero, suc, ◌-◌, ◌*◌, ◌/◌, ◌^◌, ◌<◌, ◌==◌, Bool, true, false, cond, refl, List, ℤ, pos, ◌<ℤ◌, unsigned_abs, sym, ap, subst, ◌∙◌, arith, Result, Ok, Err, pow-suc}
+use Rattle.std.specs.Prelude.{nat_le}
+use Rattle.std.proofs.Math.Nat.{div-mul_cancel}
+use Rattle.std.proofs.lemmas.Bool.{leb-false, or_parts}
+use Rattle.std.proofs.lemmas.Int.{ints}
+use Rattle.lift_frac.specs.Limits.{size_limit}
+use Rattle.lift_frac.specs.Gcd.{gcd}
+use Rattle.lift_frac.specs.Ratio.{Ratio, IsFraction, lowest, is_wide, fraction}
+use Rattle.lift_frac.specs.Literal as lit
+use Rattle.lift_frac.specs.Literal.{literal_at, is_literal, number, up, down, is_far, scaled, value_of, reading}
+use Rattle.lift_frac.specs.declared.error.FracError.{FracError}
+use Rattle.lift_frac.specs.declared.error.FracError.TheVariants.{Wide, BadLiteral}
+use Rattle.lift_frac.proofs.Euclid.{gcd_is, positive, gcd-one}
+use Rattle.lift_frac.proofs.LowestTerms.{gcd-quotients, size_above}
+
+above_zero : (n : ℕ) → 0 < n → pos 0 <ℤ pos n
+above_zero n h = omega (arith, ints)
+
+not_zero : (d : ℕ) → 0 < d → pos d ≢ pos 0
+not_zero d h e = omega (arith, ints, e)
+
+ten_above : (k : ℕ) → 0 < 10 ^ k
+ten_above zero = omega arith
+ten_above (suc k) = let h = ten_above k in omega (arith, pow-suc 10 k)
+
+quotient_above : (q g d : ℕ) → q * g ≡ d → 0 < d → 0 < q
+quotient_above zero g d e h = absurd (omega arith)
+quotient_above (suc q) g d e h = omega arith
+
+lowest_fraction : (n : ℤ) (d : ℕ) → 0 < d → is_wide (lowest n (pos d)) ≡ false → IsFraction (lowest n (pos d))
+lowest_fraction n d h narrow =
+    let g : ℕ = gcd (unsigned_abs n) d in
+    let is = gcd_is (unsigned_abs n) d in
+    let above : 0 < g = positive (unsigned_abs n) d g is h in
+    let some = quotient_above (d / g) g d (div-mul_cancel g is.1) h in
+    let small = or_parts (nat_le size_limit (unsigned_abs (lowest n (pos d)).num)) (nat_le size_limit (d / g)) narrow in
+    record {
+      positive = above_zero _ some;
+      num = leb-false size_limit (unsigned_abs (lowest n (pos d)).num) small.0;
+      den = leb-false size_limit (d / g) small.1;
+      lowest = ap (λ k. gcd k (d / g)) (size_above n (pos d) g (not_zero d h)) ∙ gcd-quotients (unsigned_abs n) d g above is;
+    }
+
+narrow_fraction : (q r : Ratio) (b : Bool) → cond b (Err Wide) (Ok q) ≡ Ok r → (b ≡ false → IsFraction q) → IsFraction r
+narrow_fraction q r true e h = cc
+narrow_fraction q r false e h = let f : q ≡ r = cc in subst IsFraction f (h refl)
+
+no_fraction : IsFraction (record { num = pos 0; den = pos 1 })
+no_fraction = record { positive = above_zero 1 (omega arith); num = omega arith; den = omega arith; lowest = gcd-one 0 }
+
+scaled_by : ℕ → ℕ → ℕ → Bool → Result Ratio FracError
+scaled_by n u d true = Err Wide
+scaled_by n u d false = fraction (pos (n * 10 ^ (u - d))) (pos (10 ^ (d - u)))
+
+value_by : ℕ → ℕ → ℕ → Bool → Result Ratio FracError
+value_by n u d true = Ok (record { num = pos 0; den = pos 1 })
+value_by n u d false = scaled n u d
+
+reading_by : lit.Literal → Bool → Result Ratio FracError
+reading_by l true = value_of l
+reading_by l false = Err BadLiteral
+
+scaled_fraction : (n u d : ℕ) (b : Bool) (r : Ratio) → scaled_by n u d b ≡ Ok r → IsFraction r
+unfolding scaled_by
+scaled_fraction n u d true r e = cc
+scaled_fraction n u d false r e =
+    let q = lowest (pos (n * 10 ^ (u - d))) (pos (10 ^ (d - u))) in
+    narrow_fraction q r (is_wide q) e (lowest_fraction (pos (n * 10 ^ (u - d))) (10 ^ (d - u)) (ten_above (d - u)))
+
+scaled-is : (n u d : ℕ) → scaled n u d ≡ scaled_by n u d (is_far n u d)
+unfolding scaled_by
+scaled-is n u d = refl
+
+value_fraction : (n u d : ℕ) (b : Bool) (r : Ratio) → value_by n u d b ≡ Ok r → IsFraction r
+unfolding value_by
+value_fraction n u d true r e = let f : record { num = pos 0; den = pos 1 } ≡ r = cc in subst IsFraction f no_fraction
+value_fraction n u d false r e = scaled_fraction n u d (is_far n u d) r (sym (scaled-is n u d) ∙ e)
+
+value-is : (l : lit.Literal) → value_of l ≡ value_by (number l) (up l) (down l) (number l == 0)
+unfolding value_by
+value-is l = refl
+
+reading_fraction_by : (l : lit.Literal) (b : Bool) (r : Ratio) → reading_by l b ≡ Ok r → IsFraction r
+unfolding reading_by
+reading_fraction_by l true r e = value_fraction (number l) (up l) (down l) (number l == 0) r (sym (value-is l) ∙ e)
+reading_fraction_by l false r e = cc
+
+reading-is : (text : List ℕ) → reading text ≡ reading_by (literal_at text).0 (is_literal text)
+unfolding reading_by
+reading-is text = refl
+
+pub reading_fraction : (text : List ℕ) (r : Ratio) → reading text ≡ Ok r → IsFraction r
+reading_fraction text r e = reading_fraction_by (literal_at text).0 (is_literal text) r (sym (reading-is text) ∙ e)
