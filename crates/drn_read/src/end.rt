@@ -1,12 +1,12 @@
 // What stands at the end of a text: its last tests, and the model.
-ghost use Rattle.std.specs.Prelude.{◌≡◌, ◌==◌, ◌<◌, ◌≤◌, ◌∷◌, [], pos, not, nat_le, length, map};
+ghost use Rattle.std.specs.Prelude.{◌≡◌, ◌==◌, ◌<◌, ◌≤◌, ◌∷◌, [], not, nat_le, length, map};
 ghost use Rattle.std.specs.Prelude.{find, count_by, is_some, position, All, Some, None, IfOk, OnOk};
 ghost use Rattle.std.specs.Prelude.{◌^◌};
 ghost use Rattle.std.specs.List.{list_any, position_or_len};
 ghost use Rattle.std.specs.Option.{option_map};
 ghost use Rattle.lift_model.specs.Valid.{most_states, common_limit, IsModel};
 ghost use Rattle.drn_read.specs.Faults.{when, first_of, told};
-ghost use Rattle.drn_read.specs.Judging.{has, choice_count, choiceless};
+ghost use Rattle.drn_read.specs.Judging.{has, choice_count};
 ghost use Rattle.drn_read.specs.Reading.{differs, mismatch, kind_or_chain, all_transitions, common};
 ghost use Rattle.drn_read.specs.Reading.{entry, common_fault, end_fault, model};
 ghost use Rattle.drn_read.specs.Shown.{Tells, TellsLine, refusal, outside, first_in, TargetsBelow};

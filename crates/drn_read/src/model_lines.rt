@@ -1,6 +1,6 @@
 // Reads the lines of the model.
 ghost use Rattle.std.specs.Prelude.{◌≤◌, ◌≡◌, ◌==◌, ◌<◌, ◌++◌, ◌∷◌, [], None, drop, false, is_some};
-ghost use Rattle.std.specs.Prelude.{length, slice_range, OnOk, OnErr};
+ghost use Rattle.std.specs.Prelude.{length, OnOk, OnErr};
 ghost use Rattle.std.specs.Option.{option_copied};
 ghost use Rattle.drn_lexer.specs.Lines.{TextLine};
 ghost use Rattle.lift_model.specs.Valid.{most_states, most_choices};
