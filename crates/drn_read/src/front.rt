@@ -1,3 +1,4 @@
+// The front of a transition's line.
 use crate::cursor::Cursor;
 
 /// The target of a transition's line, and what is left behind the colon.

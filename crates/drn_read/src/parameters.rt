@@ -17,7 +17,7 @@ use std::alloc::AllocError;
 const MOST_PARAMETERS: u32 = 16;
 
 /// How many bytes a name may have.
-pub(crate) const LONGEST_NAME: usize = 64;
+pub(crate) const MOST_NAME_BYTES: usize = 64;
 
 /// Whether the name is one of these. One look-up.
 fn is_among(name: &[u8], names: &Names) -> bool
@@ -34,7 +34,7 @@ fn test_name(names: &Names, word: LineWord<'_>) -> Result<(), DrnCause>
     if !is_name(word.bytes) {
         return Err(DrnCause::Syntax);
     }
-    if word.bytes.len() > LONGEST_NAME {
+    if word.bytes.len() > MOST_NAME_BYTES {
         return Err(DrnCause::LimitName);
     }
     if is_among(word.bytes, names) {

@@ -10,7 +10,7 @@ ghost use Rattle.drn_read.specs.Judging.{placeholder_name_fault};
 ghost use Rattle.drn_read.specs.Shown.{IsNewName};
 
 use crate::error::DrnCause;
-use crate::parameters::LONGEST_NAME;
+use crate::parameters::MOST_NAME_BYTES;
 use crate::placeholders::Placeholders;
 use lift_bytes::name_len;
 
@@ -60,7 +60,7 @@ fn test_name(placeholders: &Placeholders, name: &[u8]) -> Result<(), DrnCause>
     ensures new { IfOk result (λ _.
         list_any (λ p. bytes_eq name.now p.name) placeholders.now ≡ false) }
 {
-    if name.len() > LONGEST_NAME {
+    if name.len() > MOST_NAME_BYTES {
         return Err(DrnCause::LimitName);
     }
     if placeholders.contains(name) {
