@@ -221,8 +221,7 @@ name_and_group_fault (w ∷ ws) = elim w.form [
 
 -- a state of a chain has one choice, and so has one of a model without type
 abbrev pub is_chain : Option Kind → Bool
-is_chain (Some Mdp) = false
-is_chain _ = true
+is_chain kind = elim kind [ Some Mdp ↦ false | _ ↦ true ]
 
 -- one more choice
 abbrev pub choice_fault : Option Kind → List StateText → Option DrnCause

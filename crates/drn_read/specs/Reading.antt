@@ -1,7 +1,7 @@
 -- What a model text stands for: a model, or a refusal with its line and cause. Each line is judged by what the lines before it say, and after the last line the whole text is judged.
 use Rattle.std.specs.Prelude.{if◌then◌else◌, ◌≡◌, ◌≢◌, ℕ, pos, Bool, true, false, not, nat_le, List, [], ◌∷◌, ◌++◌, ◌==◌, ◌||◌, ◌/◌, length, map, find, fold, count_by, is_some, unsigned_abs, Option, Some, None, Result, Ok, Err}
 use Rattle.std.specs.List.{list_any, flat_map, position_or_len}
-use Rattle.std.specs.Option.{option_map}
+use Rattle.std.specs.Option.{option_map, unwrap_or}
 use Rattle.lift_frac.specs.Gcd.{lcm}
 use Rattle.lift_poly.specs.Polynomial.{Term}
 use Rattle.lift_poly.specs.Arithmetic as poly
@@ -97,8 +97,7 @@ entry c t = record { target = t.target; poly = scaled c t.value }
 
 -- the type that was named, a chain where none was
 abbrev pub kind_or_chain : Option Kind → Kind
-kind_or_chain (Some kind) = kind
-kind_or_chain None = Dtmc
+kind_or_chain kind = unwrap_or kind Dtmc
 
 -- The model. A choice is a row, whose entries keep the order of their lines; an entry of value 0 is kept.
 unfoldable pub model : Said → ModelData
