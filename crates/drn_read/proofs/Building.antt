@@ -14,9 +14,10 @@ use Rattle.std.proofs.lemmas.List.{map-append}
 use Rattle.std.proofs.lemmas.List.Folds.{list_any_more}
 use Rattle.std.proofs.lemmas.Option.{slice_get_within, get_or_from_slice_get}
 use Rattle.std.specs.List.{slice_get}
-use Rattle.std.specs.Prelude.{unsigned_abs, ◌^◌}
+use Rattle.std.specs.Prelude.{unsigned_abs}
 use Rattle.std.proofs.lemmas.Bool.Decides.{nat_tests}
 use Rattle.lift_poly.specs.Polynomial.{Term}
+use Rattle.lift_model.specs.Valid.{coefficient_limit}
 
 -- none of these is too large, and this was built of them
 pub record Built {A B : Type 0} (large : A → Bool) (make : A → B) (xs : List A) (built : List B) : Type 0 where
@@ -37,12 +38,12 @@ any_here p (y ∷ xs) (suc i) x h e = rw (any_here p xs i x (omega arith) e) (by
     by_test true = refl
     by_test false = refl
 
-pub large_at : (ts : List Term) (i : ℕ) (t : Term) → slice_get ts i ≡ Some t → 2 ^ 100 ≤ unsigned_abs t.1 → true ≡ list_any is_over ts
+pub large_at : (ts : List Term) (i : ℕ) (t : Term) → slice_get ts i ≡ Some t → coefficient_limit ≤ unsigned_abs t.1 → true ≡ list_any is_over ts
 large_at ts i t at large =
     let test : is_over t ≡ true = grind (arith, nat_tests) in
     sym (any_here is_over ts i t (slice_get_within ts i t at) (ap is_over (get_or_from_slice_get ts i t t at) ∙ test))
 
-pub small_more : (ts : List Term) (i : ℕ) (t : Term) → slice_get ts i ≡ Some t → unsigned_abs t.1 < 2 ^ 100 → list_any is_over (take i ts) ≡ false → list_any is_over (take (i + 1) ts) ≡ false
+pub small_more : (ts : List Term) (i : ℕ) (t : Term) → slice_get ts i ≡ Some t → unsigned_abs t.1 < coefficient_limit → list_any is_over (take i ts) ≡ false → list_any is_over (take (i + 1) ts) ≡ false
 small_more ts i t at size before =
     let test : is_over t ≡ false = grind (arith, nat_tests) in
     list_any_more is_over ts i t (slice_get_within ts i t at) ∙ ap (λ b. b || is_over (get_or ts i t)) before ∙ ap is_over (get_or_from_slice_get ts i t t at) ∙ test

@@ -1,12 +1,11 @@
 -- The last state and its last choice.
-use Rattle.std.proofs.Common.{◌≡◌, ◌==◌, ◌+◌, ◌-◌, ℕ, zero, suc, true, false, not, List, [], ◌∷◌, ◌++◌, length, get_or, set, Some, None, refl, sym, ◌∙◌, ap, arith}
+use Rattle.std.proofs.Common.{◌≡◌, ◌==◌, ◌+◌, ◌-◌, ℕ, zero, suc, false, not, List, [], ◌∷◌, ◌++◌, length, get_or, set, Some, None, refl, sym, ◌∙◌, ap, arith}
 use Rattle.std.specs.Prelude.{map, is_some, slice_get, OnOk, Result, Ok, Err}
 use Rattle.std.proofs.lemmas.Bool.Decides.{nat_tests}
 use Rattle.drn_read.specs.Parts.{last, is_empty}
 use Rattle.drn_read.specs.States.{StateText}
-use Rattle.drn_read.specs.Judging.{open_choice, choiceless}
+use Rattle.drn_read.specs.Judging.{open_choice}
 use Rattle.drn_read.specs.Keeping.{on_last}
-use Rattle.drn_read.specs.declared.error.DrnCause.TheVariants.{NoChoice}
 
 -- ---- the last element of a list
 
@@ -77,9 +76,3 @@ has_choice states s e = some_last s.choices ∙ rw (← e) refl
 
 pub has_no_choice : (states : List StateText) → None ≡ last states → false ≡ is_some (open_choice states)
 has_no_choice states e = rw (← e) refl
-
-pub is_choiceless : (states : List StateText) (s : StateText) → Some s ≡ last states → is_empty s.choices ≡ true → choiceless states ≡ Some (record { line = s.line; cause = NoChoice })
-is_choiceless states s e f = rw (← e) (rw f refl)
-
-pub is_closed : (states : List StateText) (s : StateText) → Some s ≡ last states → is_empty s.choices ≡ false → choiceless states ≡ None
-is_closed states s e f = rw (← e) (rw f refl)

@@ -1,5 +1,5 @@
 -- Names and values that stand beside each other.
-use Rattle.std.proofs.Common.{◌≡◌, ◌+◌, ◌<◌, ◌≤◌, ℕ, zero, suc, Bool, true, false, cond, refl, List, [], ◌∷◌, ◌++◌, length, sym, ◌∙◌, ap, arith, one-add, length-append, Option, None, Some}
+use Rattle.std.proofs.Common.{◌≡◌, ◌+◌, ◌<◌, ◌≤◌, ℕ, suc, Bool, true, false, cond, refl, List, [], ◌∷◌, ◌++◌, length, sym, ◌∙◌, ap, arith, one-add, length-append, None, Some}
 use Rattle.std.specs.Prelude.{position, find, slice_get, slice_index_or, is_some, nat_lt, ◌↔◌, IsTrue, Contains, if◌then◌else◌}
 use Rattle.std.specs.List.{list_any, position_or_len}
 use Rattle.std.specs.Option.{option_map}
@@ -11,6 +11,7 @@ use Rattle.std.proofs.lemmas.Map.Views.{list_any-from_Contains}
 use Rattle.drn_expr.specs.RatPolys.{OverOne}
 use Rattle.drn_read.specs.Sections.{Placeholder}
 use Rattle.drn_read.specs.Shown.{paired}
+use Rattle.drn_read.specs.Judging.{most_placeholders}
 
 pub length-paired : (names : List (List ℕ)) (values : List OverOne) → length names ≡ length values → length (paired names values) ≡ length values
 length-paired [] [] e = refl
@@ -115,9 +116,9 @@ no_value p names values view same is e =
 
 -- one more name and one more value
 pub one_more : (names new : List (List ℕ)) (values values' : List OverOne) (view : List Placeholder) (name : List ℕ) (value : OverOne) (added : Bool)
-    → length names ≡ length values → paired names values ≡ view → length view < 65536 → list_any (λ place. bytes_eq name place.name) view ≡ false
+    → length names ≡ length values → paired names values ≡ view → length view < most_placeholders → list_any (λ place. bytes_eq name place.name) view ≡ false
     → (IsTrue added ↔ (Contains names name → ⊥)) → new ≡ (if added then names ++ name ∷ [] else names) → values' ≡ values ++ value ∷ []
-    → (paired new values' ≡ view ++ record { name = name; value = value } ∷ []) × (length new ≡ length values') × (length new ≤ 65536)
+    → (paired new values' ≡ view ++ record { name = name; value = value } ∷ []) × (length new ≡ length values') × (length new ≤ most_placeholders)
 one_more names new values values' view name value added same is room absent h e more =
     let out : list_any (bytes_eq name) names ≡ false = sym (any-paired (bytes_eq name) names values same) ∙ ap (list_any (λ place. bytes_eq name place.name)) is ∙ absent in
     let last : new ≡ names ++ name ∷ [] = name_goes_last names new name added h e out in

@@ -16,14 +16,15 @@ use Rattle.std.proofs.lemmas.List.Sums.{sum_by-cons, sum_by_push}
 use Rattle.drn_read.specs.Faults.{when}
 use Rattle.drn_read.specs.Parts.{last, is_empty}
 use Rattle.drn_read.specs.States.{StateText}
-use Rattle.drn_read.specs.Judging.{choice_count, transition_count, open_choice, target_fault}
+use Rattle.drn_read.specs.Judging.{choice_count, transition_count, open_choice, target_fault, room_fault}
 use Rattle.drn_read.specs.Keeping.{on_last, with_choice, with_transitions}
-use Rattle.drn_read.specs.ModelSteps.{open_row, room_fault, IsKept}
+use Rattle.drn_read.specs.ModelSteps.{open_row, IsKept}
 use Rattle.drn_read.specs.declared.error.DrnCause.{DrnCause}
 use Rattle.drn_read.specs.declared.error.DrnCause.TheVariants.{RepeatedTarget, LimitChoices, LimitTransitions}
 use Rattle.drn_read.specs.declared.state.Transition.{Transition}
 use Rattle.drn_read.proofs.Declared.{first_none, when_none}
 use Rattle.drn_read.proofs.Lists.{split, last-push, on_last-push}
+use Rattle.lift_model.specs.Valid.{most_states, most_choices, most_transitions}
 
 -- the last state of some states was changed: it has so many more choices and transitions
 record Changed (old new : List StateText) (s t : StateText) (choices transitions : ℕ) : Type 0 where
@@ -92,24 +93,24 @@ more_targets row t q old new e f =
 -- there is room for a transition to this target
 record RoomFor (states : List StateText) (target : ℕ) : Type 0 where
   pub new : list_any (λ t. t.target == target) (open_row states) ≡ false
-  pub transitions : transition_count states < 262144
-  pub choices : is_some (open_choice states) ≡ false → choice_count states < 131072
+  pub transitions : transition_count states < most_transitions
+  pub choices : is_some (open_choice states) ≡ false → choice_count states < most_choices
 
 room_for : (states : List StateText) (target : ℕ) → room_fault states target ≡ None → RoomFor states target
 room_for states target e =
-    let many = when (nat_le 262144 (transition_count states)) LimitTransitions in
+    let many = when (nat_le most_transitions (transition_count states)) LimitTransitions in
     let a = first_none (target_fault states target) (many ∷ []) e in
     let b = first_none many [] a.1 in
-    let few = leb-false 262144 (transition_count states) (when_none (nat_le 262144 (transition_count states)) LimitTransitions b.0) in
+    let few = leb-false most_transitions (transition_count states) (when_none (nat_le most_transitions (transition_count states)) LimitTransitions b.0) in
     by_open (open_choice states) refl few a.0
   where
-    by_open : (o : Option (List Transition)) → open_choice states ≡ o → transition_count states < 262144
-        → (elim o as (λ o. Option DrnCause) [ None ↦ when (nat_le 131072 (choice_count states)) LimitChoices | Some choice ↦ when (list_any (λ t. t.target == target) choice) RepeatedTarget ]) ≡ None
+    by_open : (o : Option (List Transition)) → open_choice states ≡ o → transition_count states < most_transitions
+        → (elim o as (λ o. Option DrnCause) [ None ↦ when (nat_le most_choices (choice_count states)) LimitChoices | Some choice ↦ when (list_any (λ t. t.target == target) choice) RepeatedTarget ]) ≡ None
         → RoomFor states target
     by_open None is few e = record {
       new = ap (λ o. list_any (λ (t : Transition). t.target == target) (unwrap_or o [])) is;
       transitions = few;
-      choices = λ none. leb-false 131072 (choice_count states) (when_none (nat_le 131072 (choice_count states)) LimitChoices e);
+      choices = λ none. leb-false most_choices (choice_count states) (when_none (nat_le most_choices (choice_count states)) LimitChoices e);
     }
     by_open (Some choice) is few e = record {
       new = ap (λ o. list_any (λ (t : Transition). t.target == target) (unwrap_or o [])) is ∙ when_none (list_any (λ t. t.target == target) choice) RepeatedTarget e;
@@ -120,7 +121,7 @@ room_for states target e =
 -- ---- steps
 
 -- one more state without choice
-pub kept_state : (states new : List StateText) (s : StateText) (choices transitions : ℕ) (old targets : BTreeSet ℕ) → IsKept states choices transitions old → length states < 65536
+pub kept_state : (states new : List StateText) (s : StateText) (choices transitions : ℕ) (old targets : BTreeSet ℕ) → IsKept states choices transitions old → length states < most_states
     → s.choices ≡ [] → new ≡ states ++ s ∷ [] → targets.keys ≡ [] → IsKept new choices transitions targets
 kept_state states new s choices transitions old targets h room none is empty = record {
   choices_are = omega (arith, h.choices_are, ap choice_count is, sum_by_push (λ (u : StateText). length u.choices) states s, ap length none);
@@ -132,7 +133,7 @@ kept_state states new s choices transitions old targets h room none is empty = r
 }
 
 -- one more choice
-pub kept_choice : (states new : List StateText) (choices transitions : ℕ) (old targets : BTreeSet ℕ) → IsKept states choices transitions old → is_empty states ≡ false → choice_count states < 131072
+pub kept_choice : (states new : List StateText) (choices transitions : ℕ) (old targets : BTreeSet ℕ) → IsKept states choices transitions old → is_empty states ≡ false → choice_count states < most_choices
     → new ≡ on_last with_choice states → targets.keys ≡ [] → IsKept new (choices + 1) transitions targets
 kept_choice states new choices transitions old targets h some room is empty =
     let c = changed_last states with_choice 1 0 some (λ s e. (length_push s.choices [], sum_by_push length s.choices [])) in
@@ -187,7 +188,7 @@ kept_transition states new t choices transitions begins old targets h some room 
       targets_are = λ q. more_targets (open_row states) t q (contains nat_cmp old q) (contains nat_cmp targets q) (add q) (h.targets_are q) ∙ sym (ap (list_any (λ (u : Transition). u.target == q)) row);
     }
   where
-    few_more : (b : Bool) → b ≡ not (is_some (open_choice states)) → (is_some (open_choice states) ≡ false → choice_count states < 131072) → choices + from_bool b ≤ 131072
+    few_more : (b : Bool) → b ≡ not (is_some (open_choice states)) → (is_some (open_choice states) ≡ false → choice_count states < most_choices) → choices + from_bool b ≤ most_choices
     few_more true e room = let few = room (unless (is_some (open_choice states)) e) in omega (arith, few, h.choices_are)
       where
         unless : (b : Bool) → true ≡ not b → b ≡ false

@@ -13,11 +13,6 @@ parts begins (l ∷ ls) =
     let rest = parts begins ls in
     if begins l then ([], record { head = l; body = rest.0 } ∷ rest.1) else (l ∷ rest.0, rest.1)
 
--- the first, if there is one
-abbrev pub first : {A : Type 0} → List A → Option A
-first [] = None
-first (x ∷ xs) = Some x
-
 -- the last, if there is one
 abbrev pub last : {A : Type 0} → List A → Option A
 last [] = None

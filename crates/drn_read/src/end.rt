@@ -1,16 +1,21 @@
 // What stands at the end of a text: its last tests, and the model.
-ghost use Rattle.std.specs.Prelude.{◌≡◌, ◌==◌, ◌<◌, ◌≤◌, ◌∷◌, [], pos, not, nat_le, length, map, find, count_by, is_some, position, All, Some, None, IfOk, OnOk, ◌^◌};
+ghost use Rattle.std.specs.Prelude.{◌≡◌, ◌==◌, ◌<◌, ◌≤◌, ◌∷◌, [], not, nat_le, length, map};
+ghost use Rattle.std.specs.Prelude.{find, count_by, is_some, position, All, Some, None, IfOk, OnOk};
+ghost use Rattle.std.specs.Prelude.{◌^◌};
 ghost use Rattle.std.specs.List.{list_any, position_or_len};
 ghost use Rattle.std.specs.Option.{option_map};
-ghost use Rattle.lift_model.specs.Valid.{IsModel};
-ghost use Rattle.drn_read.specs.Faults.{when, first_of};
-ghost use Rattle.drn_read.specs.Judging.{has, choice_count, choiceless};
-ghost use Rattle.drn_read.specs.Reading.{differs, mismatch, kind_or_chain, all_transitions, common, entry, end_fault, model};
-ghost use Rattle.drn_read.specs.Shown.{Tells, Told, refusal, told, outside, first_in, TargetsBelow, common_fault};
+ghost use Rattle.lift_model.specs.Valid.{most_states, common_limit, IsModel};
+ghost use Rattle.drn_read.specs.Faults.{when, first_of, told};
+ghost use Rattle.drn_read.specs.Judging.{has, choice_count};
+ghost use Rattle.drn_read.specs.Reading.{differs, mismatch, kind_or_chain, all_transitions, common};
+ghost use Rattle.drn_read.specs.Reading.{entry, common_fault, end_fault, model};
+ghost use Rattle.drn_read.specs.Shown.{Tells, TellsLine, refusal, outside, first_in, TargetsBelow};
 
 use crate::common::common_denominator;
 use crate::error::{DrnCause, DrnError};
 use crate::header::HeaderReader;
+use crate::last::test_last_state;
+use crate::reader::Reader;
 use crate::rows::all_rows;
 use crate::section::Section;
 use crate::state::{State, Transition};
@@ -32,26 +37,14 @@ fn test(number: u32, fails: bool, cause: DrnCause) -> Result<(), DrnError>
 
 /// A section `@model` stands there.
 fn test_model_section(number: u32, header: &HeaderReader) -> Result<(), DrnError>
-    ensures { refusal result ≡ told number (when (not (has Section.Model header.now)) DrnCause.MissingSection) }
+    ensures { refusal result
+        ≡ told number (when (not (has Section.Model header.now)) DrnCause.MissingSection) }
 {
     test(
         number,
         !header.has(Section::Model),
         DrnCause::MissingSection,
     )
-}
-
-/// The last state has a choice; else its own line is told.
-fn test_last_state(states: &[State]) -> Result<(), DrnError>
-    ensures { refusal result ≡ choiceless states.now }
-{
-    match states {
-        [.., last] if last.choices.is_empty() => Err(DrnError {
-            line: last.line,
-            cause: DrnCause::NoChoice,
-        }),
-        _ => Ok(()),
-    }
 }
 
 /// There is a state.
@@ -92,7 +85,8 @@ fn test_counts(
     states: &[State],
     choices: usize,
 ) -> Result<(), DrnError>
-    ensures { refusal result ≡ told number (when (is_some (mismatch header.now (length states.now) choices)) DrnCause.CountMismatch) }
+    ensures { let wrong = is_some (mismatch header.now (length states.now) choices) in
+        refusal result ≡ told number (when wrong DrnCause.CountMismatch) }
 {
     let wrong = mismatch(header, states.len(), choices);
     test(number, wrong.is_some(), DrnCause::CountMismatch)
@@ -136,8 +130,11 @@ fn outside(states: &[State], count: usize) -> Option<u32>
 
 /// Each target is a state; else the line of the first transition is told whose target is none.
 fn test_targets(states: &[State]) -> Result<(), DrnError>
-    ensures fault { refusal result ≡ option_map (λ t. record { line = t.line; cause = DrnCause.TargetRange }) (find (λ t. nat_le (length states.now) t.target) (all_transitions states.now)) }
-    ensures targets { OnOk result (All (λ s. All (TargetsBelow (length states.now)) s.choices) states.now) }
+    ensures fault { refusal result
+        ≡ option_map (λ t. record { line = t.line; cause = DrnCause.TargetRange })
+        (find (λ t. nat_le (length states.now) t.target) (all_transitions states.now)) }
+    ensures targets { OnOk result
+        (All (λ s. All (TargetsBelow (length states.now)) s.choices) states.now) }
 {
     match outside(states, states.len()) {
         Some(line) => Err(DrnError {
@@ -157,7 +154,8 @@ fn init_count(states: &[State]) -> usize
 
 /// Exactly one state carries `init`.
 fn test_init(number: u32, states: &[State]) -> Result<(), DrnError>
-    ensures { refusal result ≡ told number (when (not (count_by (λ s. s.init) states.now == 1)) DrnCause.InitCount) }
+    ensures { refusal result
+        ≡ told number (when (not (count_by (λ s. s.init) states.now == 1)) DrnCause.InitCount) }
 {
     test(number, init_count(states) != 1, DrnCause::InitCount)
 }
@@ -171,7 +169,8 @@ fn has_goal(states: &[State]) -> bool
 
 /// A state carries the goal's label.
 fn test_goal(number: u32, states: &[State]) -> Result<(), DrnError>
-    ensures { refusal result ≡ told number (when (not (list_any (λ s. s.goal) states.now)) DrnCause.UnknownLabel) }
+    ensures { refusal result
+        ≡ told number (when (not (list_any (λ s. s.goal) states.now)) DrnCause.UnknownLabel) }
 {
     test(number, !has_goal(states), DrnCause::UnknownLabel)
 }
@@ -185,8 +184,10 @@ fn test_whole(
     choices: usize,
 ) -> Result<(), DrnError>
     requires { choices ≡ choice_count states.now }
-    ensures fault { end_fault number (record { header = header.now; states = states.now }) ≡ first_of (refusal result ∷ told number (common_fault states.now) ∷ []) }
-    ensures targets { OnOk result (All (λ s. All (TargetsBelow (length states.now)) s.choices) states.now) }
+    ensures fault { end_fault number (record { header = header.now; states = states.now })
+        ≡ first_of (refusal result ∷ told number (common_fault states.now) ∷ []) }
+    ensures targets { OnOk result
+        (All (λ s. All (TargetsBelow (length states.now)) s.choices) states.now) }
 {
     test_model_section(number, header)?;
     test_last_state(states)?;
@@ -206,7 +207,7 @@ fn init_place(states: &[State]) -> Option<usize>
 
 /// The first state that carries `init`, the number of states where none does.
 fn first_init(states: &[State]) -> u32
-    requires { length states.now ≤ 65536 }
+    requires { length states.now ≤ most_states }
     ensures { result ≡ position_or_len (λ s. s.init) states.now }
 {
     init_place(states).unwrap_or(states.len()) as u32
@@ -234,15 +235,16 @@ struct Parts {
     rows: Vec<Vec<Row>>,
 }
 
-/// The parts of the model. `CommonDenominator` exactly where the common denominator is 2^62 or more,
-/// or a coefficient over it has a size of 2^100 or more.
+/// The parts of the model. `CommonDenominator` exactly where the common denominator is 2^62 or
+/// more, or a coefficient over it has a size of 2^100 or more.
 fn parts_of(alloc: Global, states: &[State]) -> Result<Parts, DrnCause>
-    requires { All (λ s. All (TargetsBelow 65536) s.choices) states.now }
+    requires { All (λ s. All (TargetsBelow most_states) s.choices) states.now }
     ensures fault { Tells result (common_fault states.now) }
     ensures common { IfOk result (λ parts. parts.common ≡ common states.now) }
-    ensures small { IfOk result (λ parts. parts.common < 2 ^ 62) }
+    ensures small { IfOk result (λ parts. parts.common < common_limit) }
     ensures goal { IfOk result (λ parts. parts.goal.items ≡ map (λ s. s.goal) states.now) }
-    ensures rows { IfOk result (λ parts. map (λ v. v.items) parts.rows.items ≡ map (λ s. map (map (entry (common states.now))) s.choices) states.now) }
+    ensures rows { IfOk result (λ parts. map (λ v. v.items) parts.rows.items
+        ≡ map (λ s. map (map (entry (common states.now))) s.choices) states.now) }
 {
     let Some(common) = common_denominator(states) else {
         return Err(DrnCause::CommonDenominator);
@@ -253,20 +255,15 @@ fn parts_of(alloc: Global, states: &[State]) -> Result<Parts, DrnCause>
 }
 
 /// The model that a text stands for whose lines are without fault, or the first fault that its end
-/// shows. `number` is that of its last line, and `choices` that of its choices. Linear.
-pub(crate) fn finish(
-    alloc: Global,
-    number: u32,
-    header: HeaderReader,
-    states: Vec<State>,
-    choices: usize,
-) -> Result<Model, DrnError>
-    requires choices { choices ≡ choice_count states.items }
-    requires few { length states.items ≤ 65536 }
-    requires valid { end_fault number (record { header = header; states = states.items }) ≡ None → IsModel (model (record { header = header; states = states.items })) }
-    ensures fault { Told result (end_fault number (record { header = header; states = states.items })) }
-    ensures model { IfOk result (λ m. m ≡ model (record { header = header; states = states.items })) }
+/// shows. `number` is that of its last line. Linear.
+pub(crate) fn finish(alloc: Global, number: u32, reader: Reader) -> Result<Model, DrnError>
+    requires { end_fault number reader ≡ None → IsModel (model reader) }
+    ensures fault { TellsLine result (end_fault number reader) }
+    ensures model { IfOk result (λ m. m ≡ model reader) }
 {
+    let Reader { header, model } = reader;
+    let choices = model.choices();
+    let states = model.into_states();
     test_whole(number, &header, &states, choices)?;
     let parts = match parts_of(alloc, &states) {
         Ok(parts) => parts,

@@ -7,7 +7,7 @@ use drn_lexer::LexError;
 use std::alloc::{AllocError, AllocFailed};
 
 /// Why a model text is refused.
-#[derive(Clone, Copy, Debug, PartialEq, Eq)]
+#[derive(Clone, Copy)]
 pub enum DrnCause {
     /// A line that isn't a comment holds a byte that is neither a tab nor from 32 to 126.
     NotText,
@@ -178,8 +178,9 @@ impl DrnCause {
     }
 }
 
-/// Where and why a model text is refused. Lines are numbered from 1; the empty text has line 0 alone.
-#[derive(Clone, Copy, Debug, PartialEq, Eq)]
+/// Where and why a model text is refused. Lines are numbered from 1; the empty text has line 0
+/// alone.
+#[derive(Clone, Copy)]
 pub struct DrnError {
     pub line: u32,
     pub cause: DrnCause,

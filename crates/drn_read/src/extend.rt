@@ -24,8 +24,8 @@ impl State {
         Ok(())
     }
 
-    /// One more transition of the last choice, which is a first choice where there is none. Nothing has
-    /// changed where memory is wanting.
+    /// One more transition of the last choice, which is a first choice where there is none. Nothing
+    /// has changed where memory is wanting.
     pub fn add_transition(
         &mut self,
         alloc: Global,

@@ -2,7 +2,7 @@ ghost use Rattle.std.specs.Prelude.{◌≡◌};
 ghost use Rattle.drn_read.specs.Sections.{section_of};
 
 /// A section of a model text.
-#[derive(Clone, Copy, Debug, PartialEq, Eq)]
+#[derive(Clone, Copy)]
 pub enum Section {
     /// `@type:` and the model's type behind it.
     ModelType,
@@ -23,7 +23,7 @@ pub enum Section {
 }
 
 /// What may stand next in a model text.
-#[derive(Clone, Copy, Debug, PartialEq, Eq)]
+#[derive(Clone, Copy)]
 pub enum Phase {
     /// A section.
     Sections,

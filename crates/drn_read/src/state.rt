@@ -24,5 +24,10 @@ impl Model for State {
 
     ghost Value = { StateText };
 
-    ghost view = { λ s. record { line = s.line; init = s.init; goal = s.goal; choices = map (λ row. row.items) s.choices.items } };
+    ghost view = { λ s. record {
+      line = s.line;
+      init = s.init;
+      goal = s.goal;
+      choices = map (λ row. row.items) s.choices.items;
+    } };
 }

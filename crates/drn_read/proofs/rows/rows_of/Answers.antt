@@ -5,11 +5,12 @@ use Rattle.drn_read.specs.Reading.{is_large, entry}
 use Rattle.drn_read.specs.declared.state.Transition.{Transition}
 use Rattle.drn_read.specs.declared.error.DrnCause.TheVariants.{CommonDenominator}
 use Rattle.drn_read.proofs.Building.{fault_kept_over, each_row, all_built}
+use Rattle.lift_model.specs.Valid.{most_states}
 use Rattle.drn_read.proofs.rows.rows_of.Goals as goal
 
 pub row_of-requires : goal.row_of-requires
 row_of-requires c =
-    let Inside : Transition → Type 0 = λ t. t.target < 65536 in
+    let Inside : Transition → Type 0 = λ t. t.target < most_states in
     subst (All Inside) (sym c.deref.ensures.value) (each_row Inside (λ row. row.items) c.args.choices.now c.loop-choice.choice-index c.choice-item.result c.requires c.loop-choice-test.true c.choice-item.is)
 
 pub returns-in_err-row_of-clause-fault : goal.returns-in_err-row_of-clause-fault
