@@ -1,0 +1,100 @@
+-- What several writes in a row leave.
+use Rattle.std.proofs.Common.{◌≡◌, ◌<◌, ◌≤◌, ℕ, List, [], ◌∷◌, ◌++◌, length, take, drop, Ok, Err, refl, sym, ap, ◌∙◌, append_assoc, append-nil, arith, subst, Result, IsErr, get_or, zero, suc}
+use Rattle.std.specs.List.{flat_map}
+use Rattle.std.specs.declared.option.Option.{Option}
+use Rattle.std.specs.Io.KnownBytes.{Appends}
+use Rattle.std.proofs.KnownBytes.{Appends-nil, Appends-trans}
+use Rattle.lift_base.specs.Outside.{Rose, Wrote}
+
+-- What a writing loop keeps: the front of the bytes was appended, the rest is still to come, and no fault was counted.
+pub record WroteUpTo {K : Type 0} (taken : K → Option (List ℕ)) (faults : K → ℕ) (old new : K) (bytes rest : List ℕ) : Type 0 where
+  pub front : List ℕ
+  pub parts : bytes ≡ front ++ rest
+  pub appended : Appends (taken old) (taken new) front
+  pub calm : faults new ≡ faults old
+
+pub at_first : {K : Type 0} (taken : K → Option (List ℕ)) (faults : K → ℕ) (k : K) (bytes : List ℕ) → WroteUpTo taken faults k k bytes bytes
+at_first taken faults k bytes = record { front = []; parts = refl; appended = Appends-nil (taken k); calm = refl }
+
+-- one call after another: what both write, where the first wrote all
+pub wrote_then : {K T U E F : Type 0} {taken : K → Option (List ℕ)} {faults : K → ℕ} {old mid new : K} {x : T} {result : Result U F} {a b : List ℕ}
+    → Wrote {E = E} taken faults old mid (Ok x) a → Wrote taken faults mid new result b → Wrote taken faults old new result (a ++ b)
+wrote_then {taken = taken} {faults = faults} {old = old} {mid = mid} {new = new} {result = Ok y} {a = a} {b = b} p q = record {
+  whole = Appends-trans (taken old) (taken mid) (taken new) a b p.whole q.whole;
+  calm = q.calm ∙ p.calm;
+  part = tt;
+  cause = tt;
+  later = omega (arith, p.later, q.later);
+}
+wrote_then {taken = taken} {faults = faults} {old = old} {mid = mid} {new = new} {result = Err e} {a = a} {b = b} p q = record {
+  whole = tt;
+  calm = tt;
+  part = (a ++ q.part.0, q.part.1, ap (λ (r : List ℕ). a ++ r) q.part.2 ∙ sym (append_assoc a q.part.0 q.part.1), Appends-trans (taken old) (taken mid) (taken new) a q.part.0 p.whole q.part.3);
+  cause = subst (λ n. Rose n (faults new)) p.calm q.cause;
+  later = omega (arith, p.later, q.later);
+}
+
+-- a call that failed, before others that weren't made
+pub stopped : {K T U E F : Type 0} {taken : K → Option (List ℕ)} {faults : K → ℕ} {old new : K} {e : E} (a b : List ℕ) (result : Result U F) → IsErr result
+    → Wrote {T = T} taken faults old new (Err e) a → Wrote taken faults old new result (a ++ b)
+stopped a b (Ok x) bad p = absurd (cc)
+stopped a b (Err f) bad p = record {
+  whole = tt;
+  calm = tt;
+  part = (p.part.0, p.part.1 ++ b, ap (λ (r : List ℕ). r ++ b) p.part.2 ∙ append_assoc p.part.0 p.part.1 b, p.part.3);
+  cause = p.cause;
+  later = p.later;
+}
+
+-- nothing is written
+pub wrote_nothing : {K T E : Type 0} (taken : K → Option (List ℕ)) (faults : K → ℕ) (k : K) (x : T) → Wrote {E = E} taken faults k k (Ok x) []
+wrote_nothing taken faults k x = record { whole = Appends-nil (taken k); calm = refl; part = tt; cause = tt; later = omega arith }
+
+pub ruleset writing = (wrote_then, stopped, wrote_nothing)
+
+-- the pieces before an item, the item's, and those behind it
+pub flat_map_at : {X : Type 0} (f : X → List ℕ) (xs : List X) (i : ℕ) (d : X) → i < length xs
+    → flat_map f xs ≡ (flat_map f (take i xs) ++ f (get_or xs i d)) ++ flat_map f (drop (suc i) xs)
+flat_map_at f [] i d h = absurd (omega arith)
+flat_map_at f (x ∷ xs) zero d h = refl
+flat_map_at f (x ∷ xs) (suc i) d h =
+    ap (λ (r : List ℕ). f x ++ r) (flat_map_at f xs i d (omega arith))
+    ∙ sym (append_assoc (f x) (flat_map f (take i xs) ++ f (get_or xs i d)) (flat_map f (drop (suc i) xs)))
+    ∙ ap (λ (r : List ℕ). r ++ flat_map f (drop (suc i) xs)) (sym (append_assoc (f x) (flat_map f (take i xs)) (f (get_or xs i d))))
+
+-- a loop that writes an item's bytes each turn, and stops at one
+pub stopped_at : {X K T U V E F G : Type 0} {taken : K → Option (List ℕ)} {faults : K → ℕ} {old mid new : K} {x : T} {e : E} (f : X → List ℕ) (xs : List X) (i : ℕ) (d : X)
+    (result : Result U F) → IsErr result → i < length xs → Wrote {E = G} taken faults old mid (Ok x) (flat_map f (take i xs))
+    → Wrote {T = V} taken faults mid new (Err e) (f (get_or xs i d)) → Wrote taken faults old new result (flat_map f xs)
+stopped_at {taken = taken} {faults = faults} {old = old} {new = new} f xs i d result bad h p q =
+    subst (λ (text : List ℕ). Wrote taken faults old new result text) (sym (flat_map_at f xs i d h)) (stopped _ _ result bad (wrote_then p q))
+
+-- a call wrote the next piece of what is to come
+pub next_piece : {K T E : Type 0} {taken : K → Option (List ℕ)} {faults : K → ℕ} {old mid new : K} {x : T} {all rest : List ℕ} (piece more : List ℕ)
+    → WroteUpTo taken faults old mid all rest → rest ≡ piece ++ more → Wrote {E = E} taken faults mid new (Ok x) piece → WroteUpTo taken faults old new all more
+next_piece {taken = taken} {old = old} {mid = mid} {new = new} piece more so_far is p = record {
+  front = so_far.front ++ piece;
+  parts = so_far.parts ∙ ap (λ r. so_far.front ++ r) is ∙ sym (append_assoc so_far.front piece more);
+  appended = Appends-trans (taken old) (taken mid) (taken new) so_far.front piece so_far.appended p.whole;
+  calm = p.calm ∙ so_far.calm;
+}
+
+-- a call failed at the next piece
+pub stops_there : {K T U E F : Type 0} {taken : K → Option (List ℕ)} {faults : K → ℕ} {old mid new : K} {e : E} {all rest : List ℕ} (piece more : List ℕ) (result : Result U F) → IsErr result
+    → WroteUpTo taken faults old mid all rest → rest ≡ piece ++ more → Wrote {T = T} taken faults mid new (Err e) piece → Wrote taken faults old new result all
+stops_there {F = F} {taken = taken} {faults = faults} {old = old} {mid = mid} {new = new} {all = all} piece more result bad so_far is p =
+    let before : Wrote {T = Unit {0}} {E = F} taken faults old mid (Ok tt) so_far.front
+    = record { whole = so_far.appended; calm = so_far.calm; part = tt; cause = tt; later = omega (arith, so_far.calm) } in
+    let text : (so_far.front ++ piece) ++ more ≡ all = append_assoc so_far.front piece more ∙ ap (λ r. so_far.front ++ r) (sym is) ∙ sym so_far.parts in
+    subst (λ (t : List ℕ). Wrote taken faults old new result t) text (stopped _ _ result bad (wrote_then before p))
+
+-- nothing is to come
+pub all_written : {K T E : Type 0} {taken : K → Option (List ℕ)} {faults : K → ℕ} {old new : K} {all : List ℕ} (x : T)
+    → WroteUpTo taken faults old new all [] → Wrote {E = E} taken faults old new (Ok x) all
+all_written {taken = taken} {old = old} {new = new} x so_far = record {
+  whole = subst (λ (t : List ℕ). Appends (taken old) (taken new) t) (sym (so_far.parts ∙ append-nil so_far.front)) so_far.appended;
+  calm = so_far.calm;
+  part = tt;
+  cause = tt;
+  later = omega (arith, so_far.calm);
+}
