@@ -1,7 +1,8 @@
 -- What reading the command line gives, without where it lies in memory.
-use Rattle.std.specs.Prelude.{◌≡◌, ◌≢◌, Ok, Err, Result, option_map}
+use Rattle.std.specs.Prelude.{◌≡◌, ◌≢◌, List, String, string_bytes, map, Ok, Err, Result, option_map}
+use Rattle.std.specs.declared.alloc.Global.{Global}
 use Rattle.plift_words.specs.Line as line
-use Rattle.plift_words.specs.Job.{JobData, VerifyData}
+use Rattle.plift_words.specs.Job.{JobData, VerifyData, job}
 use Rattle.plift_words.specs.declared.line.Setting.{Setting}
 use Rattle.plift_words.specs.declared.job.Job.{Job}
 use Rattle.plift_words.specs.declared.job.Job.TheVariants as code
@@ -14,6 +15,10 @@ use Rattle.plift_words.specs.declared.error.WordsError.TheVariants as error
 -- an option
 abbrev pub setting_of : Setting → line.Setting
 setting_of s = record { name = s.name.now; value = option_map (λ v. v.now) s.value }
+
+-- the job that some words ask for, or their part at fault
+abbrev pub asked : List (String Global) → Result JobData Field
+asked words = job (map string_bytes words)
 
 -- what is to be verified
 abbrev pub verify_data : VerifyJob → VerifyData

@@ -1,10 +1,10 @@
 // Reads the command line.
-ghost use Rattle.std.specs.Prelude.{◌≡◌, ◌≤◌, map, string_bytes, codes, option_and_then, IfSome};
+ghost use Rattle.std.specs.Prelude.{◌≡◌, ◌≤◌, codes, option_and_then, IfSome};
 ghost use Rattle.std.specs.Option.{option_map};
 ghost use Rattle.clap.specs.Words.{found_of, first_value};
 ghost use Rattle.plift_words.specs.Values.{goal_of, bound_of};
-ghost use Rattle.plift_words.specs.Job.{job, job_of, number_or, text_or_nothing};
-ghost use Rattle.plift_words.specs.Given.{answer_data, Asks};
+ghost use Rattle.plift_words.specs.Job.{job_of, number_or, text_or_nothing};
+ghost use Rattle.plift_words.specs.Given.{answer_data, asked, Asks};
 
 use crate::error::WordsError;
 use crate::job::{Field, Job, VerifyJob};
@@ -85,7 +85,7 @@ fn job_in<'a>(matches: &ArgMatches<'a>) -> Result<Job<'a>, Field>
 /// What the words after the program's name ask for. `Usage` with the part of them that is at fault,
 /// or `Memory`, which comes only where the line is plain.
 pub fn job_of(alloc: Global, words: &[String]) -> Result<Job<'_>, WordsError>
-    ensures { Asks (job (map string_bytes words.entry.now)) result }
+    ensures { Asks (asked words.entry.now) result }
 {
     if !is_plain(words) {
         return Err(WordsError::Usage(Field::Words));
