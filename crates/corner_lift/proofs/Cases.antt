@@ -18,31 +18,32 @@ use Rattle.lift_model.specs.Process.{Move, power, weighted_sum}
 use Rattle.lift_model.specs.Model.{ModelData, support, choices, row_at, moves_at}
 use Rattle.lift_model.specs.Valid.{IsEntry, IsRow, IsModel}
 use Rattle.lift_model.proofs.Sums.{AreNonNegative, weighted_sum-least, weighted_sum-mono}
-use Rattle.corner_lift.specs.Corner.{corner, width, corner_sum, whole}
-use Rattle.corner_lift.specs.Certificate.{number, AreNumbers}
-use Rattle.corner_lift.specs.Case.{CaseData, IsCase, IsAdmittedRow, IsRowOf, IsGreatest, IsLeast, BoundsAbove, BoundsBelow, row_value, row_whole, corner_count, greatest_size, abs_sum, row_coefficient, Within, AreSidesInside}
+use Rattle.corner_lift.specs.Corner.{corner, parameter_count, corner_sum, whole}
+use Rattle.corner_lift.specs.Certificate.{AreNumbers}
+use Rattle.corner_lift.specs.Case.{number, CaseData, IsAsked, IsCase, IsAdmittedRow, IsRowOf, IsGreatest, IsLeast, BoundsAbove, BoundsBelow, row_value, row_whole, corner_count, greatest_size, abs_sum, row_coefficient, Within, AreSidesInside, row_parameters, engine_limit}
 use Rattle.corner_lift.specs.Ends.{End, greatest_end, StandFor, moves_by}
 use Rattle.corner_lift.proofs.CornerBound.{InsideOn, Inside-on, CornersNonpos, corner_bound, corner-inside}
 use Rattle.corner_lift.proofs.RowBound.{PartOf, terms_in, TermsIn-more, scaled, weight-scaled_by, less, weight-less, less_in, TermsIn-append, denominator-corner, power-pos, minus-one, row_sum, row_upper_at, row_lower_at}
 use Rattle.lift_poly.proofs.Weights.{weight-append}
 use Rattle.corner_lift.proofs.Coefficients.{row_total}
+use Rattle.corner_lift.proofs.Rows.{number_range}
 use Rattle.corner_lift.proofs.Summing.{entry_part, moves_stand}
 
 -- ---- sets
 
 -- how many parameters a set has
-pub width-ones : (ss : Spans) (set : ℕ) → set < 2 ^ length ss → width ss set ≡ count_ones set
-width-ones [] set lt = omega (arith, ones_le_self set)
-width-ones (s ∷ ss) set lt =
+pub parameter_count-ones : (ss : Spans) (set : ℕ) → set < 2 ^ length ss → parameter_count ss set ≡ count_ones set
+parameter_count-ones [] set lt = omega (arith, ones_le_self set)
+parameter_count-ones (s ∷ ss) set lt =
     let power : 2 ^ suc (length ss) ≡ 2 * 2 ^ length ss = omega arith in
-    omega (arith, ones_step set, width-ones ss (set / 2) (omega arith))
+    omega (arith, ones_step set, parameter_count-ones ss (set / 2) (omega arith))
 
 -- a set has as many parameters in any rectangle
-pub width-within : (ss root : Spans) (set : ℕ) → Within ss root → width ss set ≡ width root set
-width-within [] [] set h = refl
-width-within (s ∷ ss) (r ∷ root) set h = ap (λ n. set % 2 + n) (width-within ss root (set / 2) h.2)
-width-within [] (r ∷ root) set h = absurd h
-width-within (s ∷ ss) [] set h = absurd h
+pub parameter_count-within : (ss root : Spans) (set : ℕ) → Within ss root → parameter_count ss set ≡ parameter_count root set
+parameter_count-within [] [] set h = refl
+parameter_count-within (s ∷ ss) (r ∷ root) set h = ap (λ n. set % 2 + n) (parameter_count-within ss root (set / 2) h.2)
+parameter_count-within [] (r ∷ root) set h = absurd h
+parameter_count-within (s ∷ ss) [] set h = absurd h
 
 pub length-within : (ss root : Spans) → Within ss root → length ss ≡ length root
 length-within [] [] h = refl
@@ -80,7 +81,7 @@ pub power-le : (a b n : ℕ) → a ≤ b → a ^ n ≤ b ^ n
 power-le a b zero le = rw (pow-zero a, pow-zero b) (omega arith)
 power-le a b (suc n) le = rw (pow-suc a n, pow-suc b n) (mul-le-mul (power-le a b n le) le)
 
--- products over ends that are no larger than the root's fit with the width of the row
+-- products over ends that are no larger than the root's fit with the parameter_count of the row
 pub ends_room : (sum small great n m : ℕ) → small ≤ great → n ≡ m → sum * small ^ n ≤ sum * great ^ m
 ends_room sum small great n m le e = rw e (mul-le-mul_left sum (power-le small great m le))
 
@@ -89,21 +90,21 @@ ends_room sum small great n m le e = rw e (mul-le-mul_left sum (power-le small g
 pub row_of_model : (m : ModelData) (s a : ℕ) → IsModel m → s < length m.states → a < length (choices m s) → IsRow (length m.states) (length m.names) (row_at m s a)
 row_of_model m s a is state choice = is.rows s [] state a [] choice
 
-pub admitted_row : (k : CaseData) (s a : ℕ) → IsCase k → s < length k.model.states → a < length (choices k.model s) → IsAdmittedRow k.model k.d k.root k.w (row_at k.model s a)
-admitted_row k s a is state choice = is.rows s [] state a [] choice
+pub admitted_row : (k : CaseData) (s a : ℕ) → IsCase k → s < length k.model.states → a < length (choices k.model s) → IsAdmittedRow k (row_at k.model s a)
+admitted_row k s a is state choice = is.admitted s [] state a [] choice
 
 -- a number from 0 to 2 ^ w has at most that size
 pub number_size : (n : ℤ) (w : ℕ) → pos 0 ≤ℤ n → n ≤ℤ pos (2 ^ w) → unsigned_abs n ≤ 2 ^ w
 number_size (pos n) w least most = omega (arith, linear)
 number_size (negsuc n) w least most = absurd (omega (arith, linear))
 
-pub number_sizes : (m : ModelData) (w : ℕ) (x : List ℤ) → AreNumbers m w x → All (λ n. unsigned_abs n ≤ 2 ^ w) x
-number_sizes m w x h = λ i d lt. let here = h.range i d lt in number_size (get_or x i d) w here.0 here.1
+pub number_sizes : (k : CaseData) (x : List ℤ) → AreNumbers k x → All (λ n. unsigned_abs n ≤ 2 ^ k.w) x
+number_sizes k x h = λ i d lt. let here = h.range i d lt in number_size (get_or x i d) k.w here.0 here.1
 
 -- ---- one polynomial
 
 -- what holds of a polynomial at each corner of a set that it is part of holds at each valuation inside
-poly_upper : (d : ℤ) → pos 0 <ℤ d → (ss : Spans) → AreSpans ss → (set : ℕ) (terms : List Term) (k : ℤ) → PartOf (polynomial.support terms) set → ((c : ℕ) → c < 2 ^ width ss set → weight (corner d ss set c) terms ≤ℤ (k *ℤ power d (width ss set))) → (v : Valuation) → InsideOn d ss set v → weight v terms ≤ℤ (k *ℤ denominator v)
+poly_upper : (d : ℤ) → pos 0 <ℤ d → (ss : Spans) → AreSpans ss → (set : ℕ) (terms : List Term) (k : ℤ) → PartOf (polynomial.support terms) set → ((c : ℕ) → c < 2 ^ parameter_count ss set → weight (corner d ss set c) terms ≤ℤ (k *ℤ power d (parameter_count ss set))) → (v : Valuation) → InsideOn d ss set v → weight v terms ≤ℤ (k *ℤ denominator v)
 unfolding CornersNonpos
 poly_upper d positive ss spans set terms k part h v inside =
     let all = terms ++ less k in
@@ -136,18 +137,18 @@ minus = neg_ℤ (pos 1)
 times-minus : (a : ℤ) → a *ℤ neg_ℤ (pos 1) ≡ neg_ℤ a
 times-minus a = mul-comm a (neg_ℤ (pos 1)) ∙ minus-one a
 
-poly_lower : (d : ℤ) → pos 0 <ℤ d → (ss : Spans) → AreSpans ss → (set : ℕ) (terms : List Term) (k : ℤ) → PartOf (polynomial.support terms) set → ((c : ℕ) → c < 2 ^ width ss set → (k *ℤ power d (width ss set)) ≤ℤ weight (corner d ss set c) terms) → (v : Valuation) → InsideOn d ss set v → (k *ℤ denominator v) ≤ℤ weight v terms
+poly_lower : (d : ℤ) → pos 0 <ℤ d → (ss : Spans) → AreSpans ss → (set : ℕ) (terms : List Term) (k : ℤ) → PartOf (polynomial.support terms) set → ((c : ℕ) → c < 2 ^ parameter_count ss set → (k *ℤ power d (parameter_count ss set)) ≤ℤ weight (corner d ss set c) terms) → (v : Valuation) → InsideOn d ss set v → (k *ℤ denominator v) ≤ℤ weight v terms
 poly_lower d positive ss spans set terms k part h v inside =
     let one : ℤ = neg_ℤ (pos 1) in
     let up = poly_upper d positive ss spans set (scaled one terms) (neg_ℤ k) (scaled_part one terms set part)
-    (λ c lt. omega (arith, linear, h c lt, weight-scaled_by (corner d ss set c) one terms, times-minus (weight (corner d ss set c) terms), neg_left k (power d (width ss set)))) v inside in
+    (λ c lt. omega (arith, linear, h c lt, weight-scaled_by (corner d ss set c) one terms, times-minus (weight (corner d ss set c) terms), neg_left k (power d (parameter_count ss set)))) v inside in
     omega (arith, linear, up, weight-scaled_by v one terms, times-minus (weight v terms), neg_left k (denominator v))
 
 -- the corner bound for one polynomial
-pub poly_between : (d : ℤ) → pos 0 <ℤ d → (ss : Spans) → AreSpans ss → (set : ℕ) (terms : List Term) (low high : ℤ) → PartOf (polynomial.support terms) set → ((c : ℕ) → c < 2 ^ width ss set → low ≤ℤ weight (corner d ss set c) terms) → ((c : ℕ) → c < 2 ^ width ss set → weight (corner d ss set c) terms ≤ℤ high) → (v : Valuation) → InsideOn d ss set v → ((low *ℤ denominator v) ≤ℤ (weight v terms *ℤ power d (width ss set))) × ((weight v terms *ℤ power d (width ss set)) ≤ℤ (high *ℤ denominator v))
+pub poly_between : (d : ℤ) → pos 0 <ℤ d → (ss : Spans) → AreSpans ss → (set : ℕ) (terms : List Term) (low high : ℤ) → PartOf (polynomial.support terms) set → ((c : ℕ) → c < 2 ^ parameter_count ss set → low ≤ℤ weight (corner d ss set c) terms) → ((c : ℕ) → c < 2 ^ parameter_count ss set → weight (corner d ss set c) terms ≤ℤ high) → (v : Valuation) → InsideOn d ss set v → ((low *ℤ denominator v) ≤ℤ (weight v terms *ℤ power d (parameter_count ss set))) × ((weight v terms *ℤ power d (parameter_count ss set)) ≤ℤ (high *ℤ denominator v))
 poly_between d positive ss spans set terms low high part lower upper v inside =
-    let p = power d (width ss set) in
-    let p_least : pos 0 ≤ℤ p = omega (arith, linear, power-pos d (width ss set) positive) in
+    let p = power d (parameter_count ss set) in
+    let p_least : pos 0 ≤ℤ p = omega (arith, linear, power-pos d (parameter_count ss set) positive) in
     let up = poly_upper d positive ss spans set (scaled p terms) high (scaled_part p terms set part)
     (λ c lt. omega (arith, linear, weight-scaled_by (corner d ss set c) p terms, mul-le p (weight (corner d ss set c) terms) high p_least (upper c lt), mul-comm p (weight (corner d ss set c) terms), mul-comm p high)) v inside in
     let down = poly_lower d positive ss spans set (scaled p terms) low (scaled_part p terms set part)
@@ -160,14 +161,14 @@ pub moves_least : (v : Valuation) (entries : List Entry) → All (λ entry. pos 
 moves_least v [] h = tt
 moves_least v (e ∷ entries) h = let least : Entry → Type 0 = λ entry. pos 0 ≤ℤ weight v entry.poly in (All-head least e entries h, moves_least v entries (All-tail least e entries h))
 
-module _ (k : CaseData) (row : List Entry) (ss : Spans) (positive : pos 0 <ℤ k.d) (root : AreSpans k.root) (spans : AreSpans ss) (within : Within ss k.root) (admitted : IsAdmittedRow k.model k.d k.root k.w row) where
+module _ (k : CaseData) (row : List Entry) (ss : Spans) (positive : pos 0 <ℤ k.d) (root : AreSpans k.root) (spans : AreSpans ss) (within : Within ss k.root) (admitted : IsAdmittedRow k row) where
   -- no weight is negative
   pub corner_least : (c : ℕ) → All (λ entry. pos 0 ≤ℤ weight (corner k.d ss (support row) c) entry.poly) row
   corner_least c i d lt =
       let entry = get_or row i d in
       let v = corner k.d ss (support row) c in
       let bound = poly_lower k.d positive k.root root (support row) entry.poly (pos 0) (entry_part row i d lt)
-      (λ b at. omega (arith, linear, admitted.least b at i d lt, zero-mul (power k.d (width k.root (support row))))) v
+      (λ b at. omega (arith, linear, admitted.least b at i d lt, zero-mul (power k.d (parameter_count k.root (support row))))) v
       (corner-inside k.d positive ss k.root spans within (support row) c) in
       omega (arith, linear, bound, zero-mul (denominator v))
 
@@ -176,7 +177,7 @@ module _ (k : CaseData) (row : List Entry) (ss : Spans) (positive : pos 0 <ℤ k
   inside_least v inside i d lt =
       let entry = get_or row i d in
       let bound = poly_lower k.d positive ss spans (support row) entry.poly (pos 0) (entry_part row i d lt)
-      (λ c at. omega (arith, linear, corner_least c i d lt, zero-mul (power k.d (width ss (support row))))) v
+      (λ c at. omega (arith, linear, corner_least c i d lt, zero-mul (power k.d (parameter_count ss (support row))))) v
       (Inside-on k.d ss (support row) v inside) in
       omega (arith, linear, bound, zero-mul (denominator v))
 
@@ -184,7 +185,7 @@ module _ (k : CaseData) (row : List Entry) (ss : Spans) (positive : pos 0 <ℤ k
   pub corner_total : (c : ℕ) → row_sum (corner k.d ss (support row) c) (λ s. pos 1) row ≡ whole k.model k.d k.root row
   corner_total c =
       row_total k.model.common row admitted.sum (corner k.d ss (support row) c)
-      ∙ ap (λ z. k.model.common *ℤ z) (denominator-corner k.d ss (support row) c ∙ ap (power k.d) (width-within ss k.root (support row) within))
+      ∙ ap (λ z. k.model.common *ℤ z) (denominator-corner k.d ss (support row) c ∙ ap (power k.d) (parameter_count-within ss k.root (support row) within))
 
   pub corner_moves : (c : ℕ) → AreNonNegative (moves_at (corner k.d ss (support row) c) row)
   corner_moves c = moves_least (corner k.d ss (support row) c) row (corner_least c)
@@ -236,17 +237,17 @@ grid_below d [] = le_refl (unsigned_abs d)
 grid_below d (s ∷ ss) = omega (arith, grid_below d ss)
 
 -- the whole's factors and a number of at most 2 ^ w
-number_room_of : (m : ModelData) (d : ℤ) (root : Spans) (w : ℕ) (row : List Entry) (n : ℕ) → n ≤ 2 ^ w → IsAdmittedRow m d root w row → unsigned_abs m.common * unsigned_abs d ^ width root (support row) * n < 2 ^ 126
-number_room_of m d root w row n le admitted =
-    let g = width root (support row) in
-    let first : unsigned_abs m.common ≤ abs_sum row = subst (λ z. unsigned_abs z ≤ abs_sum row) (admitted.sum 0) (row_coefficient_size row) in
-    let second : unsigned_abs d ^ g ≤ greatest_size d root ^ g = power-le (unsigned_abs d) (greatest_size d root) g (grid_below d root) in
-    let all : unsigned_abs m.common * unsigned_abs d ^ g * n ≤ abs_sum row * greatest_size d root ^ g * 2 ^ w = mul-le-mul (mul-le-mul first second) le in
+number_room_of : (k : CaseData) (row : List Entry) (n : ℕ) → n ≤ 2 ^ k.w → IsAdmittedRow k row → unsigned_abs k.model.common * unsigned_abs k.d ^ row_parameters k row * n < engine_limit
+number_room_of k row n le admitted =
+    let g = row_parameters k row in
+    let first : unsigned_abs k.model.common ≤ abs_sum row = subst (λ z. unsigned_abs z ≤ abs_sum row) (admitted.sum 0) (row_coefficient_size row) in
+    let second : unsigned_abs k.d ^ g ≤ greatest_size k.d k.root ^ g = power-le (unsigned_abs k.d) (greatest_size k.d k.root) g (grid_below k.d k.root) in
+    let all : unsigned_abs k.model.common * unsigned_abs k.d ^ g * n ≤ abs_sum row * greatest_size k.d k.root ^ g * 2 ^ k.w = mul-le-mul (mul-le-mul first second) le in
     omega (arith, all, admitted.narrow)
 
--- the whole, factor by factor, stays below 2 ^ 126
-pub whole_room : (m : ModelData) (d : ℤ) (root : Spans) (w : ℕ) (row : List Entry) → IsAdmittedRow m d root w row → unsigned_abs m.common * unsigned_abs d ^ width root (support row) < 2 ^ 126
-whole_room m d root w row admitted = let room = number_room_of m d root w row 1 (pow_pos w) admitted in omega (arith, room)
+-- the whole, factor by factor, stays below the engine's limit
+pub whole_room : (k : CaseData) (row : List Entry) → IsAdmittedRow k row → unsigned_abs k.model.common * unsigned_abs k.d ^ row_parameters k row < engine_limit
+whole_room k row admitted = let room = number_room_of k row 1 (pow_pos k.w) admitted in omega (arith, room)
 
 -- what the loop of a power keeps, with the factors that are left
 pub record IsRaised (d all product : ℤ) (left : ℕ) : Type 0 where
@@ -274,14 +275,17 @@ raised_all d all product h = sym (mul-comm product (pos 1) ∙ one-mul product) 
 -- ---- what the calls need of a case
 
 pub row_of_case : (k : CaseData) (s a : ℕ) → IsCase k → s < length k.model.states → a < length (choices k.model s) → IsRowOf k (row_at k.model s a)
-row_of_case k s a is state choice = record { valid = row_of_model k.model s a is.model state choice; admitted = admitted_row k s a is state choice }
+row_of_case k s a is state choice = record { valid = row_of_model k.model s a is.asked.model state choice; admitted = admitted_row k s a is state choice }
 
 -- how many parameters a choice has
-pub width_in_root : (k : CaseData) (s a : ℕ) → IsCase k → s < length k.model.states → a < length (choices k.model s) → count_ones (support (row_at k.model s a)) ≡ width k.root (support (row_at k.model s a))
-width_in_root k s a is state choice =
+pub parameters_asked : (k : CaseData) (s a : ℕ) → IsAsked k → s < length k.model.states → a < length (choices k.model s) → count_ones (support (row_at k.model s a)) ≡ row_parameters k (row_at k.model s a)
+parameters_asked k s a is state choice =
     let row = row_at k.model s a in
     let below : support row < 2 ^ length k.model.names = support_below (length k.model.states) (length k.model.names) row (row_of_model k.model s a is.model state choice).entries in
-    sym (width-ones k.root (support row) (subst (λ n. support row < 2 ^ n) (sym is.grid.one_each) below))
+    sym (parameter_count-ones k.root (support row) (subst (λ n. support row < 2 ^ n) (sym is.grid.one_each) below))
+
+pub parameters_in_root : (k : CaseData) (s a : ℕ) → IsCase k → s < length k.model.states → a < length (choices k.model s) → count_ones (support (row_at k.model s a)) ≡ row_parameters k (row_at k.model s a)
+parameters_in_root k s a is = parameters_asked k s a is.asked
 
 pub power-size : (first d : ℤ) (n : ℕ) → unsigned_abs (first *ℤ power d n) ≡ unsigned_abs first * unsigned_abs d ^ n
 power-size first d n = unsigned_abs-mul first (power d n) ∙ ap (λ k. unsigned_abs first * k) (size n)
@@ -291,10 +295,10 @@ power-size first d n = unsigned_abs-mul first (power d n) ∙ ap (λ k. unsigned
     size (suc n) = unsigned_abs-mul d (power d n) ∙ ap (λ k. unsigned_abs d * k) (size n) ∙ mul_comm (unsigned_abs d) (unsigned_abs d ^ n) ∙ sym (pow-suc (unsigned_abs d) n)
 
 -- a number of at most 2 ^ w, times the whole
-pub number_room : (m : ModelData) (d : ℤ) (root : Spans) (w : ℕ) (row : List Entry) (n : ℕ) → n ≤ 2 ^ w → IsAdmittedRow m d root w row → n * unsigned_abs (whole m d root row) < 2 ^ 126
-number_room m d root w row n le admitted =
-    let room = number_room_of m d root w row n le admitted in
-    rw (power-size m.common d (width root (support row)), mul_comm n (unsigned_abs m.common * unsigned_abs d ^ width root (support row))) room
+pub number_room : (k : CaseData) (row : List Entry) (n : ℕ) → n ≤ 2 ^ k.w → IsAdmittedRow k row → n * unsigned_abs (whole k.model k.d k.root row) < engine_limit
+number_room k row n le admitted =
+    let room = number_room_of k row n le admitted in
+    rw (power-size k.model.common k.d (row_parameters k row), mul_comm n (unsigned_abs k.model.common * unsigned_abs k.d ^ row_parameters k row)) room
 
 -- the same of a row that the code has
 pub row_in_case : (k : CaseData) (m : ModelData) (row : List Entry) (s a : ℕ) → m ≡ k.model → row ≡ row_at m s a → IsCase k → s < length k.model.states → a < length (choices k.model s) → IsRowOf k row
@@ -303,25 +307,25 @@ row_in_case k m row s a e f is state choice = rw (f, e) (row_of_case k s a is st
 module _ (k : CaseData) (row : List Entry) (sides : List ℤ) (is : IsCase k) (inside : AreSidesInside k.root sides) (of : IsRowOf k row) where
   pub pairs_of : support row < 2 ^ length (spans_of sides)
   pairs_of =
-      subst (λ n. support row < 2 ^ n) (sym (length-within (spans_of sides) k.root inside.within ∙ is.grid.one_each)) (support_below (length k.model.states) (length k.model.names) row of.valid.entries)
+      subst (λ n. support row < 2 ^ n) (sym (length-within (spans_of sides) k.root inside.within ∙ is.asked.grid.one_each)) (support_below (length k.model.states) (length k.model.names) row of.valid.entries)
 
-  pub width_of : width (spans_of sides) (support row) ≡ width k.root (support row)
-  width_of = width-within (spans_of sides) k.root (support row) inside.within
+  pub parameters_of : parameter_count (spans_of sides) (support row) ≡ parameter_count k.root (support row)
+  parameters_of = parameter_count-within (spans_of sides) k.root (support row) inside.within
 
-  pub few_of : width (spans_of sides) (support row) ≤ 4
-  few_of = omega (arith, width_of, of.admitted.few)
+  pub few_of : parameter_count (spans_of sides) (support row) ≤ 4
+  few_of = omega (arith, parameters_of, of.admitted.few)
 
-  pub ones_of : count_ones (support row) ≡ width k.root (support row)
-  ones_of = sym (width-ones (spans_of sides) (support row) pairs_of) ∙ width_of
+  pub ones_of : count_ones (support row) ≡ parameter_count k.root (support row)
+  ones_of = sym (parameter_count-ones (spans_of sides) (support row) pairs_of) ∙ parameters_of
 
-  pub room_of : (ends : List End) → length ends ≡ width (spans_of sides) (support row) → greatest_end k.d ends ≤ greatest_size k.d (spans_of sides) → abs_sum row * (greatest_end k.d ends ^ length ends * 2 ^ k.w) < 2 ^ 126
+  pub room_of : (ends : List End) → length ends ≡ parameter_count (spans_of sides) (support row) → greatest_end k.d ends ≤ greatest_size k.d (spans_of sides) → abs_sum row * (greatest_end k.d ends ^ length ends * 2 ^ k.w) < 2 ^ 126
   room_of ends count size =
       let small = le_trans size (size-within k.d (spans_of sides) k.root inside.rectangle.spans inside.within) in
-      let first = power-le (greatest_end k.d ends) (greatest_size k.d k.root) (width k.root (support row)) small in
-      let same : greatest_end k.d ends ^ length ends ≡ greatest_end k.d ends ^ width k.root (support row) = ap (λ n. greatest_end k.d ends ^ n) (count ∙ width_of) in
-      let second : greatest_end k.d ends ^ length ends * 2 ^ k.w ≤ greatest_size k.d k.root ^ width k.root (support row) * 2 ^ k.w = mul-le-mul_right (2 ^ k.w) (omega (arith, first, same)) in
+      let first = power-le (greatest_end k.d ends) (greatest_size k.d k.root) (parameter_count k.root (support row)) small in
+      let same : greatest_end k.d ends ^ length ends ≡ greatest_end k.d ends ^ parameter_count k.root (support row) = ap (λ n. greatest_end k.d ends ^ n) (count ∙ parameters_of) in
+      let second : greatest_end k.d ends ^ length ends * 2 ^ k.w ≤ greatest_size k.d k.root ^ parameter_count k.root (support row) * 2 ^ k.w = mul-le-mul_right (2 ^ k.w) (omega (arith, first, same)) in
       let third = mul-le-mul_left (abs_sum row) second in
-      omega (arith, third, mul_assoc (abs_sum row) (greatest_size k.d k.root ^ width k.root (support row)) (2 ^ k.w), of.admitted.narrow)
+      omega (arith, third, mul_assoc (abs_sum row) (greatest_size k.d k.root ^ parameter_count k.root (support row)) (2 ^ k.w), of.admitted.narrow)
 
   pub stands_of : (ends : List End) (c : ℕ) (z : ℕ → ℤ) → StandFor k.d ends (corner k.d (spans_of sides) (support row) c) (support row) → weighted_sum z (moves_by k.d ends row) ≡ corner_sum k.d (spans_of sides) row c z
   unfolding PartOf
@@ -364,13 +368,13 @@ least_more f n z y h below here one = record {
 
 module _ (k : CaseData) (s a : ℕ) (sides : List ℤ) (x : List ℤ) (is : IsCase k) (inside : AreSidesInside k.root sides) where
   same_whole : whole k.model k.d (spans_of sides) (row_at k.model s a) ≡ row_whole k s a
-  same_whole = ap (λ n. k.model.common *ℤ power k.d n) (width-within (spans_of sides) k.root (support (row_at k.model s a)) inside.within)
+  same_whole = ap (λ n. k.model.common *ℤ power k.d n) (parameter_count-within (spans_of sides) k.root (support (row_at k.model s a)) inside.within)
 
-  same_count : 2 ^ width (spans_of sides) (support (row_at k.model s a)) ≡ corner_count k s a
-  same_count = ap (λ n. 2 ^ n) (width-within (spans_of sides) k.root (support (row_at k.model s a)) inside.within)
+  same_count : 2 ^ parameter_count (spans_of sides) (support (row_at k.model s a)) ≡ corner_count k s a
+  same_count = ap (λ n. 2 ^ n) (parameter_count-within (spans_of sides) k.root (support (row_at k.model s a)) inside.within)
 
   common_positive : pos 0 <ℤ k.model.common
-  common_positive = omega (arith, linear, is.model.denominator.0)
+  common_positive = omega (arith, linear, is.asked.model.denominator.0)
 
   -- the greatest corner value bounds the row from above
   pub bounds_above : (z : ℤ) → IsGreatest (row_value k (spans_of sides) s a x) (corner_count k s a) z → BoundsAbove k (spans_of sides) s a x z
@@ -378,14 +382,14 @@ module _ (k : CaseData) (s a : ℕ) (sides : List ℤ) (x : List ℤ) (is : IsCa
       let ss = spans_of sides in
       let row = row_at k.model s a in
       let w = whole k.model k.d ss row in
-      let up = row_upper_at k.d is.grid.positive ss inside.rectangle.spans row (number x) k.model.common z common_positive (λ c lt. h.most c (subst (λ n. c < n) same_count lt)) v (Inside-on k.d ss (support row) v in_sides) in
+      let up = row_upper_at k.d is.asked.grid.positive ss inside.rectangle.spans row (number x) k.model.common z common_positive (λ c lt. h.most c (subst (λ n. c < n) same_count lt)) v (Inside-on k.d ss (support row) v in_sides) in
       rw (← same_whole) up
 
   pub bounds_below : (z : ℤ) → IsLeast (row_value k (spans_of sides) s a x) (corner_count k s a) z → BoundsBelow k (spans_of sides) s a x z
   bounds_below z h v in_sides =
       let ss = spans_of sides in
       let row = row_at k.model s a in
-      let down = row_lower_at k.d is.grid.positive ss inside.rectangle.spans row (number x) k.model.common z common_positive (λ c lt. h.least c (subst (λ n. c < n) same_count lt)) v (Inside-on k.d ss (support row) v in_sides) in
+      let down = row_lower_at k.d is.asked.grid.positive ss inside.rectangle.spans row (number x) k.model.common z common_positive (λ c lt. h.least c (subst (λ n. c < n) same_count lt)) v (Inside-on k.d ss (support row) v in_sides) in
       rw (← same_whole) down
 
 -- a loop that starts at 1 and ends at 1 << n ends at 2 ^ n
@@ -398,3 +402,11 @@ corners_done n w corner e few most least =
     let upper : corner ≤ 1 * 2 ^ n % 4294967296 = most (omega arith) in
     let same : 2 ^ n ≡ 2 ^ w = ap (λ k. 2 ^ k) e in
     omega arith
+
+-- the greatest corner value lies from 0 to 2 ^ w times the whole
+pub greatest_range : (k : CaseData) (s a n : ℕ) (sides x : List ℤ) (z : ℤ) → IsCase k → AreSidesInside k.root sides → s < length k.model.states → a < length (choices k.model s) → AreNumbers k x → IsGreatest (row_value k (spans_of sides) s a x) n z
+    → (pos 0 ≤ℤ z) × (z ≤ℤ (pos (2 ^ k.w) *ℤ row_whole k s a))
+greatest_range k s a n sides x z is inside state choice numbers h =
+    let top = pos (2 ^ k.w) in
+    let here = corner_sum_range k (row_at k.model s a) (spans_of sides) is.asked.grid.positive is.asked.spans inside.rectangle.spans inside.within (admitted_row k s a is state choice) h.attained.0 (number x) top (number_range k x numbers) in
+    subst (λ y. (pos 0 ≤ℤ y) × (y ≤ℤ (top *ℤ row_whole k s a))) (sym h.attained.1.1) here

@@ -5,7 +5,7 @@ use Rattle.lift_poly.specs.Polynomial.{Term, Valuation, factor, monomial, weight
 use Rattle.lift_poly.proofs.Ring.{linear, mul-assoc, mul-comm, mul-zero, zero-mul, mul-le, mul-le_cancel, mul-lt, as_diff, diffs, diff-same}
 use Rattle.lift_poly.proofs.Weights.{weight-split, parity}
 use Rattle.lift_grid.specs.Rectangle.{Spans, Inside, end_of, AreSpans}
-use Rattle.corner_lift.specs.Corner.{width, corner, by_bit}
+use Rattle.corner_lift.specs.Corner.{parameter_count, corner, by_bit}
 use Rattle.corner_lift.specs.Case.{Within}
 
 -- the polynomial in the other parameters that is left when the first one is given
@@ -94,12 +94,12 @@ corner-high D s ss set c e =
 
 -- the polynomial is at most 0 at every corner
 unfoldable pub CornersNonpos : ℤ → Spans → ℕ → List Term → Type 0
-CornersNonpos D ss set ts = (c : ℕ) → c < 2 ^ width ss set → weight (corner D ss set c) ts ≤ℤ pos 0
+CornersNonpos D ss set ts = (c : ℕ) → c < 2 ^ parameter_count ss set → weight (corner D ss set c) ts ≤ℤ pos 0
 
 corners-out : (D : ℤ) (s : ℤ × ℤ) (ss : Spans) (set : ℕ) (ts : List Term) → set % 2 ≡ 0 → CornersNonpos D (s ∷ ss) set ts → CornersNonpos D ss (set / 2) (fixed (pos 0, pos 1) ts)
 unfolding CornersNonpos
 corners-out D s ss set ts e h c lt =
-    let low : c < 2 ^ (set % 2 + width ss (set / 2)) = rw (e, zero-add) lt in
+    let low : c < 2 ^ (set % 2 + parameter_count ss (set / 2)) = rw (e, zero-add) lt in
     let at = h c low in
     let same : weight (corner D (s ∷ ss) set c) ts ≡ weight (corner D ss (set / 2) c) (fixed (pos 0, pos 1) ts) =
     ap (λ v. weight v ts) (corner-out D s ss set c e) ∙ weight-fixed (pos 0, pos 1) (corner D ss (set / 2) c) ts in
@@ -108,7 +108,7 @@ corners-out D s ss set ts e h c lt =
 corners-in : (D : ℤ) (s : ℤ × ℤ) (ss : Spans) (set : ℕ) (ts : List Term) (n d : ℤ) → set % 2 ≡ 1 → s.0 <ℤ s.1 → pos 0 <ℤ D → (s.0 *ℤ d) ≤ℤ (n *ℤ D) → (n *ℤ D) ≤ℤ (s.1 *ℤ d) → CornersNonpos D (s ∷ ss) set ts → CornersNonpos D ss (set / 2) (fixed (n, d) ts)
 unfolding CornersNonpos
 corners-in D s ss set ts n d e order positive above below h c lt =
-    let count : 2 ^ (set % 2 + width ss (set / 2)) ≡ 2 * 2 ^ width ss (set / 2) = rw (e, one-add) (omega arith) in
+    let count : 2 ^ (set % 2 + parameter_count ss (set / 2)) ≡ 2 * 2 ^ parameter_count ss (set / 2) = rw (e, one-add) (omega arith) in
     let rest = corner D ss (set / 2) c in
     let a = weight rest (fixed (pos 1, pos 0) ts) in
     let b = weight rest (fixed (pos 0, pos 1) ts) in

@@ -17,10 +17,10 @@ corners_bound_weights_lem d spans row entry low high positive are lt lower upper
     poly_between d positive spans are (support row) (get_or row entry no_entry).poly low high (entry_part row entry no_entry lt) lower upper v (Inside-on d spans (support row) v inside)
 
 pub weights_least : WeightsAreNotNegative
-weights_least k spans s a is are within state choice c at = corner_least k (row_at k.model s a) spans is.grid.positive is.spans are within (admitted_row k s a is state choice) c
+weights_least k spans s a is inside has c at = corner_least k (row_at k.model s a) spans is.asked.grid.positive is.asked.spans inside.rectangle inside.within (admitted_row k s a is has.state has.choice) c
 
 pub weights_sum : WeightsSumToWhole
-weights_sum k spans s a is are within state choice c at = corner_total k (row_at k.model s a) spans is.grid.positive is.spans are within (admitted_row k s a is state choice) c
+weights_sum k spans s a is inside has c at = corner_total k (row_at k.model s a) spans is.asked.grid.positive is.asked.spans inside.rectangle inside.within (admitted_row k s a is has.state has.choice) c
 
 -- how many parameters come before the next one
 place_next : (set k : ℕ) → count_ones (set % 2 ^ (k + 1)) ≡ set % 2 + count_ones (set / 2 % 2 ^ k)

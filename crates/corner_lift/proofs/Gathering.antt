@@ -9,7 +9,7 @@ use Rattle.lift_poly.specs.Polynomial.{factor, monomial}
 use Rattle.lift_poly.proofs.Ring.{mul-assoc, mul-comm, one-mul}
 use Rattle.lift_poly.proofs.Weights.{parity}
 use Rattle.lift_grid.specs.Rectangle.{Spans, spans_of, end_of}
-use Rattle.corner_lift.specs.Corner.{corner, width, by_bit}
+use Rattle.corner_lift.specs.Corner.{corner, parameter_count, by_bit}
 use Rattle.corner_lift.specs.Case.{greatest_size}
 use Rattle.corner_lift.specs.Ends.{End, product_at, StandFor, greatest_end}
 use Rattle.corner_lift.proofs.CornerBound.{corner-in, corner-out, halved, even_part}
@@ -75,7 +75,7 @@ ends_sizes d k (s ∷ ss) set c =
     (λ (e : set % 2 ≡ 1). rw (ends-in k s ss set c e) (omega (arith, end_size (c % 2) s, ends_sizes d (k + 1) ss (set / 2) (c / 2))))
     (parity set)
 
-pub ends_count : (k : ℕ) (ss : Spans) (set c : ℕ) → length (ends_from k ss set c) ≡ width ss set
+pub ends_count : (k : ℕ) (ss : Spans) (set c : ℕ) → length (ends_from k ss set c) ≡ parameter_count ss set
 unfolding ends_from
 ends_count k [] set c = refl
 ends_count k (s ∷ ss) set c =
@@ -152,7 +152,7 @@ module _ (ss : Spans) (support c : ℕ) (ends : List End) (left bits parameter :
       }
 
   -- one more fits
-  pub room_left : left % 2 ≡ 1 → length ends + 1 ≤ width ss support
+  pub room_left : left % 2 ≡ 1 → length ends + 1 ≤ parameter_count ss support
   room_left e =
       let s = get_or ss parameter (pos 0, pos 0) in
       let later = ends_from (parameter + 1) (drop (parameter + 1) ss) (left / 2) (bits / 2) in

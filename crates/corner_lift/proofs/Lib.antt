@@ -6,5 +6,4 @@ pub mod Gathering
 pub mod Summing
 pub mod Cases
 pub mod CornerEnds
-pub mod Products
-pub mod Samples
+pub mod RowLaws

@@ -11,7 +11,7 @@ use Rattle.lift_grid.specs.Rectangle.{Spans, AreSpans}
 use Rattle.lift_model.specs.declared.entry.Entry.{Entry}
 use Rattle.lift_model.specs.Process.{power, weighted_sum}
 use Rattle.lift_model.specs.Model.{support, moves_at}
-use Rattle.corner_lift.specs.Corner.{width, corner, corner_sum}
+use Rattle.corner_lift.specs.Corner.{parameter_count, corner, corner_sum}
 use Rattle.corner_lift.proofs.CornerBound.{TermsIn, InsideOn, CornersNonpos, corner_bound, mul-pos_lem, corner-in, corner-out}
 
 -- a row's weighted sum at a valuation
@@ -97,16 +97,16 @@ pub monomial-empty : (v : Valuation) → monomial v 0 ≡ denominator v
 monomial-empty [] = refl
 monomial-empty (x ∷ v) = ap (λ z. x.1 *ℤ z) (monomial-empty v)
 
-pub denominator-corner : (D : ℤ) (ss : Spans) (set c : ℕ) → denominator (corner D ss set c) ≡ power D (width ss set)
+pub denominator-corner : (D : ℤ) (ss : Spans) (set c : ℕ) → denominator (corner D ss set c) ≡ power D (parameter_count ss set)
 denominator-corner D [] set c = refl
 denominator-corner D (s ∷ ss) set c =
     ⊎_elim
     (λ (e : set % 2 ≡ 0).
     ap denominator (corner-out D s ss set c e) ∙ one-mul (denominator (corner D ss (set / 2) c)) ∙ denominator-corner D ss (set / 2) c
-    ∙ sym (ap (λ b. power D (b + width ss (set / 2))) e ∙ ap (power D) (zero-add (width ss (set / 2)))))
+    ∙ sym (ap (λ b. power D (b + parameter_count ss (set / 2))) e ∙ ap (power D) (zero-add (parameter_count ss (set / 2)))))
     (λ (e : set % 2 ≡ 1).
     ap denominator (corner-in D s ss set c e) ∙ ap (λ z. D *ℤ z) (denominator-corner D ss (set / 2) (c / 2))
-    ∙ sym (ap (λ b. power D (b + width ss (set / 2))) e ∙ ap (power D) (one-add (width ss (set / 2)))))
+    ∙ sym (ap (λ b. power D (b + parameter_count ss (set / 2))) e ∙ ap (power D) (one-add (parameter_count ss (set / 2)))))
     (parity set)
 
 -- ---- the bound
@@ -115,7 +115,7 @@ unfolding less
 weight-less v k = rw (monomial-empty v, as_diff k, as_diff (denominator v)) (simp diffs (diff-same _ _ _ _ (omega arith)))
 
 -- what holds at each corner of the row holds at each valuation inside
-pub row_upper : (D : ℤ) → pos 0 <ℤ D → (ss : Spans) → AreSpans ss → (row : List Entry) (z : ℕ → ℤ) (k : ℤ) → ((c : ℕ) → c < 2 ^ width ss (support row) → corner_sum D ss row c z ≤ℤ (k *ℤ power D (width ss (support row)))) → (v : Valuation) → InsideOn D ss (support row) v → row_sum v z row ≤ℤ (k *ℤ denominator v)
+pub row_upper : (D : ℤ) → pos 0 <ℤ D → (ss : Spans) → AreSpans ss → (row : List Entry) (z : ℕ → ℤ) (k : ℤ) → ((c : ℕ) → c < 2 ^ parameter_count ss (support row) → corner_sum D ss row c z ≤ℤ (k *ℤ power D (parameter_count ss (support row)))) → (v : Valuation) → InsideOn D ss (support row) v → row_sum v z row ≤ℤ (k *ℤ denominator v)
 unfolding CornersNonpos
 row_upper D positive ss ordered row z k h v inside =
     let all = row_terms z row ++ less k in
@@ -141,11 +141,11 @@ pub power-pos : (b : ℤ) (n : ℕ) → pos 0 <ℤ b → pos 0 <ℤ power b n
 power-pos b zero h = omega (arith, linear)
 power-pos b (suc n) h = mul-pos_lem b (power b n) h (power-pos b n h)
 
-pub row_lower : (D : ℤ) → pos 0 <ℤ D → (ss : Spans) → AreSpans ss → (row : List Entry) (z : ℕ → ℤ) (k : ℤ) → ((c : ℕ) → c < 2 ^ width ss (support row) → (k *ℤ power D (width ss (support row))) ≤ℤ corner_sum D ss row c z) → (v : Valuation) → InsideOn D ss (support row) v → (k *ℤ denominator v) ≤ℤ row_sum v z row
+pub row_lower : (D : ℤ) → pos 0 <ℤ D → (ss : Spans) → AreSpans ss → (row : List Entry) (z : ℕ → ℤ) (k : ℤ) → ((c : ℕ) → c < 2 ^ parameter_count ss (support row) → (k *ℤ power D (parameter_count ss (support row))) ≤ℤ corner_sum D ss row c z) → (v : Valuation) → InsideOn D ss (support row) v → (k *ℤ denominator v) ≤ℤ row_sum v z row
 row_lower D positive ss ordered row z k h v inside =
     let minus : ℤ = neg_ℤ (pos 1) in
-    let p = power D (width ss (support row)) in
-    let at_corners : (c : ℕ) → c < 2 ^ width ss (support row) → corner_sum D ss row c (λ s. minus *ℤ z s) ≤ℤ ((minus *ℤ k) *ℤ p) =
+    let p = power D (parameter_count ss (support row)) in
+    let at_corners : (c : ℕ) → c < 2 ^ parameter_count ss (support row) → corner_sum D ss row c (λ s. minus *ℤ z s) ≤ℤ ((minus *ℤ k) *ℤ p) =
     λ c lt. rw (row_sum-times (corner D ss (support row) c) minus z row, mul-assoc minus k p)
     (omega (arith, linear, h c lt, minus-one (row_sum (corner D ss (support row) c) z row), minus-one (k *ℤ p))) in
     let result = row_upper D positive ss ordered row (λ s. minus *ℤ z s) (minus *ℤ k) at_corners v inside in
@@ -156,21 +156,21 @@ swap_factors : (k c p : ℤ) → (k *ℤ c) *ℤ p ≡ (c *ℤ p) *ℤ k
 swap_factors k c p = rw (as_diff k, as_diff c, as_diff p) (simp diffs (diff-same _ _ _ _ (omega arith)))
 
 -- The corner bound from above, for a number that no corner's sum exceeds: each side over its own total.
-pub row_upper_at : (D : ℤ) → pos 0 <ℤ D → (ss : Spans) → AreSpans ss → (row : List Entry) (z : ℕ → ℤ) (common high : ℤ) → pos 0 <ℤ common → ((c : ℕ) → c < 2 ^ width ss (support row) → corner_sum D ss row c z ≤ℤ high) → (v : Valuation) → InsideOn D ss (support row) v → (row_sum v z row *ℤ (common *ℤ power D (width ss (support row)))) ≤ℤ (high *ℤ (common *ℤ denominator v))
+pub row_upper_at : (D : ℤ) → pos 0 <ℤ D → (ss : Spans) → AreSpans ss → (row : List Entry) (z : ℕ → ℤ) (common high : ℤ) → pos 0 <ℤ common → ((c : ℕ) → c < 2 ^ parameter_count ss (support row) → corner_sum D ss row c z ≤ℤ high) → (v : Valuation) → InsideOn D ss (support row) v → (row_sum v z row *ℤ (common *ℤ power D (parameter_count ss (support row)))) ≤ℤ (high *ℤ (common *ℤ denominator v))
 row_upper_at D positive ss spans row z common high common_positive upper v inside =
-    let p = power D (width ss (support row)) in
+    let p = power D (parameter_count ss (support row)) in
     let w = common *ℤ p in
-    let w_positive : pos 0 <ℤ w = mul-pos_lem common p common_positive (power-pos D (width ss (support row)) positive) in
+    let w_positive : pos 0 <ℤ w = mul-pos_lem common p common_positive (power-pos D (parameter_count ss (support row)) positive) in
     let highs = row_upper D positive ss spans row (λ s. w *ℤ z s) (high *ℤ common)
     (λ c lt. rw (row_sum-times (corner D ss (support row) c) w z row, swap_factors high common p) (mul-le w _ high (omega (arith, linear, w_positive)) (upper c lt))) v inside in
     omega (arith, linear, highs, row_sum-times v w z row, mul-comm w (row_sum v z row), mul-assoc high common (denominator v))
 
 -- the corner bound from below
-pub row_lower_at : (D : ℤ) → pos 0 <ℤ D → (ss : Spans) → AreSpans ss → (row : List Entry) (z : ℕ → ℤ) (common low : ℤ) → pos 0 <ℤ common → ((c : ℕ) → c < 2 ^ width ss (support row) → low ≤ℤ corner_sum D ss row c z) → (v : Valuation) → InsideOn D ss (support row) v → (low *ℤ (common *ℤ denominator v)) ≤ℤ (row_sum v z row *ℤ (common *ℤ power D (width ss (support row))))
+pub row_lower_at : (D : ℤ) → pos 0 <ℤ D → (ss : Spans) → AreSpans ss → (row : List Entry) (z : ℕ → ℤ) (common low : ℤ) → pos 0 <ℤ common → ((c : ℕ) → c < 2 ^ parameter_count ss (support row) → low ≤ℤ corner_sum D ss row c z) → (v : Valuation) → InsideOn D ss (support row) v → (low *ℤ (common *ℤ denominator v)) ≤ℤ (row_sum v z row *ℤ (common *ℤ power D (parameter_count ss (support row))))
 row_lower_at D positive ss spans row z common low common_positive lower v inside =
-    let p = power D (width ss (support row)) in
+    let p = power D (parameter_count ss (support row)) in
     let w = common *ℤ p in
-    let w_positive : pos 0 <ℤ w = mul-pos_lem common p common_positive (power-pos D (width ss (support row)) positive) in
+    let w_positive : pos 0 <ℤ w = mul-pos_lem common p common_positive (power-pos D (parameter_count ss (support row)) positive) in
     let lows = row_lower D positive ss spans row (λ s. w *ℤ z s) (low *ℤ common)
     (λ c lt. rw (row_sum-times (corner D ss (support row) c) w z row, swap_factors low common p) (mul-le w low _ (omega (arith, linear, w_positive)) (lower c lt))) v inside in
     omega (arith, linear, lows, row_sum-times v w z row, mul-comm w (row_sum v z row), mul-assoc low common (denominator v))

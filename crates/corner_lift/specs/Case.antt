@@ -112,7 +112,7 @@ Within _ _ = ⊥
 
 -- the rectangle lies inside the root
 pub record IsInside (root spans : Spans) : Type 0 where
-  pub spans : AreSpans spans
+  pub rectangle : AreSpans spans
   pub within : Within spans root
 
 -- the sides of a rectangle that lies inside the root

@@ -1,5 +1,7 @@
 ghost use Rattle.std.specs.Prelude.{◌≡◌};
-ghost use Rattle.corner_lift.specs.Case.{IsCase, greatest_depth};
+ghost use Rattle.lift_grid.specs.Parts.{region_of};
+ghost use Rattle.corner_lift.specs.Case.{IsCase, AreSidesInside, case_of, greatest_depth};
+ghost use Rattle.lift_grid.specs.Rectangle.{sides_of};
 
 use lift_grid::{Grid, Rect};
 use lift_model::Model;
@@ -20,20 +22,21 @@ pub struct Case<'m> {
 }
 
 impl<'m> std::marker::Model for Case<'m> {
-    ghost use Rattle.corner_lift.specs.Case.{CaseData, IsCase};
+    ghost use Rattle.lift_grid.specs.Parts.{region_of};
+    ghost use Rattle.corner_lift.specs.Case.{CaseData, IsCase, case_of};
 
     ghost Value = { CaseData };
 
-    ghost view = { λ c. record { model = c.model.now; root = c.root.now; d = c.grid.d; depth = c.grid.depth; w = c.w } };
+    ghost view = { λ c. case_of c.model.now (region_of (c.grid, c.root.now)) c.w };
 
-    ghost invariant = { λ c. IsCase (record { model = c.model.now; root = c.root.now; d = c.grid.d; depth = c.grid.depth; w = c.w }) };
+    ghost invariant = { λ c. IsCase (case_of c.model.now (region_of (c.grid, c.root.now)) c.w) };
 }
 
 impl<'m> Case<'m> {
     /// The case of these parts. Takes no memory.
     pub fn new(model: &'m Model, root: &'m Rect, grid: Grid, w: u32) -> Case<'m>
-        requires { IsCase (record { model = model.now; root = root.now; d = grid.d; depth = grid.depth; w = w }) }
-        ensures { result ≡ record { model = model.now; root = root.now; d = grid.d; depth = grid.depth; w = w } }
+        requires { IsCase (case_of model.now (region_of (grid, root.now)) w) }
+        ensures { result ≡ case_of model.now (region_of (grid, root.now)) w }
     {
         Case {
             model,
@@ -51,10 +54,11 @@ impl<'m> Case<'m> {
         self.model
     }
 
-    /// The root.
+    /// The root, which lies inside itself.
     pub fn root(&self) -> &'m Rect
         ensures value { result.now ≡ self.now.root }
         ensures case { IsCase self.now }
+        ensures inside { AreSidesInside self.now.root (sides_of self.now.root) }
     {
         self.root
     }
@@ -77,7 +81,7 @@ impl<'m> Case<'m> {
     }
 
     /// The greatest depth of a rectangle: 0 where no parameter is live, and else the grid's depth. Linear
-    /// in the number of the model's terms.
+    /// in the number of the model's choices.
     pub fn greatest_depth(&self) -> u32
         ensures { result ≡ greatest_depth self.now }
     {

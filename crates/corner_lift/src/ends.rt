@@ -2,8 +2,9 @@ ghost use Rattle.std.specs.Prelude.{◌≡◌, ◌≤◌, ◌<◌, ◌*◌, ◌^
 ghost use Rattle.lift_poly.specs.Polynomial.{factor};
 ghost use Rattle.lift_poly.specs.Arithmetic.{abs_sum};
 ghost use Rattle.lift_grid.specs.Rectangle.{spans_of};
-ghost use Rattle.corner_lift.specs.Corner.{width, corner as corner_point};
-ghost use Rattle.corner_lift.specs.Case.{greatest_size};
+ghost use Rattle.lift_model.specs.Valid.{most_parameters};
+ghost use Rattle.corner_lift.specs.Corner.{parameter_count, corner as corner_point};
+ghost use Rattle.corner_lift.specs.Case.{greatest_size, engine_limit, most_row_parameters};
 ghost use Rattle.corner_lift.specs.Ends.{product_at, weight_at, StandFor, greatest_end};
 
 use lift_poly::MultiAffine;
@@ -18,17 +19,19 @@ pub(crate) struct Ends {
 
 impl std::marker::Model for Ends {
     ghost use Rattle.std.specs.Prelude.{List, ℕ, ℤ, ◌≤◌, ◌<◌, take, All};
+    ghost use Rattle.lift_model.specs.Valid.{most_parameters};
+    ghost use Rattle.corner_lift.specs.Case.{most_row_parameters};
 
     ghost Value = { List (ℕ × ℤ) };
 
     ghost view = { λ e. take e.count e.chosen };
 
-    ghost invariant = { λ e. (e.count ≤ 4) × All (λ end. end.0 < 16) (take e.count e.chosen) };
+    ghost invariant = { λ e. (e.count ≤ most_row_parameters) × All (λ end. end.0 < most_parameters) (take e.count e.chosen) };
 }
 
 /// The end of a parameter that is in the set, and `d` for one that isn't.
 fn factor_of(set: u16, parameter: u32, end: i64, d: i64) -> i64
-    requires { parameter < 16 }
+    requires { parameter < most_parameters }
     ensures { result ≡ factor (set / 2 ^ parameter % 2) (end, d) }
 {
     if (set >> parameter) % 2 == 1 { end } else { d }
@@ -47,8 +50,8 @@ impl Ends {
 
     /// Adds a parameter with its end.
     fn push(&mut self, parameter: u32, end: i64)
-        requires room { length self.old < 4 }
-        requires parameter { parameter < 16 }
+        requires room { length self.old < most_row_parameters }
+        requires parameter { parameter < most_parameters }
         ensures { self.new ≡ self.old ++ (parameter, end) ∷ [] }
     {
         self.chosen[self.count] = (parameter, end);
@@ -59,9 +62,9 @@ impl Ends {
     /// of the set.
     pub(crate) fn at(sides: &[i64], support: u16, corner: u32) -> Ends
         requires pairs { support < 2 ^ length (spans_of sides.now) }
-        requires few { width (spans_of sides.now) support ≤ 4 }
+        requires few { parameter_count (spans_of sides.now) support ≤ most_row_parameters }
         ensures stand { (d : ℤ) → StandFor d result (corner_point d (spans_of sides.now) support corner) support }
-        ensures count { length result ≡ width (spans_of sides.now) support }
+        ensures count { length result ≡ parameter_count (spans_of sides.now) support }
         ensures sizes { (d : ℤ) → greatest_end d result ≤ greatest_size d (spans_of sides.now) }
     {
         let mut ends = Ends::none();
@@ -83,7 +86,7 @@ impl Ends {
     /// `d`.
     fn product(&self, d: i64, set: u16, coefficient: i128) -> i128
         requires positive { pos 0 <ℤ d }
-        requires room { unsigned_abs coefficient * greatest_end d self.now ^ length self.now < 2 ^ 126 }
+        requires room { unsigned_abs coefficient * greatest_end d self.now ^ length self.now < engine_limit }
         ensures { result ≡ coefficient *ℤ product_at d self.now set }
     {
         let mut product = coefficient;
@@ -96,7 +99,7 @@ impl Ends {
     /// What the polynomial weighs here. A multiplication for each parameter and term.
     pub(crate) fn weight(&self, d: i64, poly: &MultiAffine) -> i128
         requires positive { pos 0 <ℤ d }
-        requires room { abs_sum poly.now * greatest_end d self.now ^ length self.now < 2 ^ 126 }
+        requires room { abs_sum poly.now * greatest_end d self.now ^ length self.now < engine_limit }
         ensures value { result ≡ weight_at d self.now poly.now }
         ensures size { unsigned_abs result ≤ abs_sum poly.now * greatest_end d self.now ^ length self.now }
     {

@@ -1,12 +1,46 @@
-ghost use Rattle.corner_lift.specs.Laws.{CornersBoundWeights, WeightsAreNotNegative, WeightsSumToWhole, CornersChooseEnds};
+//! Laws of rows at corners and inside, for who reasons about them. The functions do nothing.
 
-/// Holds the laws of weights at corners, for who reasons about them: the corner bound for a single
-/// entry; that no weight of a case is negative at a corner of a rectangle inside the root, and that
-/// there a row's weights sum to the whole; and which end a corner chooses for a parameter. It does
-/// nothing.
+ghost use Rattle.corner_lift.specs.Laws.{
+  CornersBoundWeights,
+  WeightsAreNotNegative,
+  WeightsSumToWhole,
+  CornersChooseEnds,
+  BitsAreParameters,
+  ParametersAreTheRoots,
+  NumbersAreInRange,
+  SumsRise,
+  WeightsInside,
+  SumsAreTotals,
+  MeansAtMostInside,
+  MeansAtLeastInside,
+  RootIsInside,
+};
+
+/// Weights at corners: the corner bound for a single entry; that no weight of a case is negative at a
+/// corner of a rectangle inside the root, and that there a row's weights sum to the whole; and which
+/// end a corner chooses for a parameter.
 pub fn corners_bound_weights()
     ensures bound { CornersBoundWeights }
     ensures least { WeightsAreNotNegative }
     ensures sum { WeightsSumToWhole }
     ensures ends { CornersChooseEnds }
+{}
+
+/// Rows at corners: how many parameters a row has, in the root and in a rectangle inside it; in which
+/// range a vector's numbers lie; and that a greater vector has no lesser sum.
+pub fn rows_at_corners()
+    ensures bits { BitsAreParameters }
+    ensures parameters { ParametersAreTheRoots }
+    ensures numbers { NumbersAreInRange }
+    ensures rise { SumsRise }
+{}
+
+/// Rows at the valuations inside a rectangle inside the root: no weight is negative, they sum to the
+/// total, and a mean stays within what it keeps to at each corner. The root lies inside itself.
+pub fn rows_inside()
+    ensures weights { WeightsInside }
+    ensures sums { SumsAreTotals }
+    ensures most { MeansAtMostInside }
+    ensures least { MeansAtLeastInside }
+    ensures root { RootIsInside }
 {}

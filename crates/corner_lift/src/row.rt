@@ -1,19 +1,19 @@
-ghost use Rattle.std.specs.Prelude.{◌≡◌, ◌+◌, ◌-◌, ◌*◌, ◌^◌, ◌<◌, ◌≤◌, ◌*ℤ◌, ◌≤ℤ◌, ◌⊎◌, pos, length, unsigned_abs};
+ghost use Rattle.std.specs.Prelude.{◌≡◌, ℕ, ◌+◌, ◌*◌, ◌^◌, ◌<◌, ◌≤◌, ◌*ℤ◌, ◌≤ℤ◌, ◌⊎◌, pos, length, unsigned_abs};
 ghost use Rattle.lift_grid.specs.Rectangle.{spans_of};
 ghost use Rattle.lift_model.specs.Process.{power};
 ghost use Rattle.lift_model.specs.Model.{choices, row_at, support as support_of};
-ghost use Rattle.corner_lift.specs.Corner.{width, corner_sum, corner_weight};
-ghost use Rattle.corner_lift.specs.Certificate.{AreNumbers, number, lower, mark};
-ghost use Rattle.corner_lift.specs.Case.{IsCase, IsRowOf, AreSidesInside, IsGreatest, IsLeast, BoundsAbove, BoundsBelow, row_value, row_whole, corner_count, greatest_size, abs_sum};
+ghost use Rattle.corner_lift.specs.Corner.{parameter_count, corner_sum, corner_weight};
+ghost use Rattle.corner_lift.specs.Certificate.{AreNumbers, ranked_below, mark};
+ghost use Rattle.corner_lift.specs.Case.{number, IsCase, IsRowOf, AreSidesInside, IsGreatest, IsLeast, BoundsAbove, BoundsBelow, row_value, row_whole, corner_count, greatest_size, abs_sum, engine_limit, most_row_parameters};
 
 use crate::case::Case;
 use crate::ends::Ends;
 use crate::weighted::{sum_below, sum_of};
 use lift_model::{Model, Row};
 
-/// The weight of an entry of the state's choice, at a corner of that row. It has no case: the width is
-/// asked for here, with `d` from 1 to 2^62 - 1, one pair of sides for each declared parameter and at
-/// most 4 parameters in the row.
+/// The weight of an entry of the state's choice, at a corner of that row. It has no case: the parameter_count is
+/// asked for here, with `d` from 1 on, one pair of sides for each declared parameter and at most 4
+/// parameters in the row.
 pub fn raw_weight(
     model: &Model,
     d: i64,
@@ -23,16 +23,16 @@ pub fn raw_weight(
     entry: u32,
     corner: u32,
 ) -> i128
-    requires d { (pos 1 ≤ℤ d) × (d ≤ℤ pos (2 ^ 62 - 1)) }
+    requires positive { pos 1 ≤ℤ d }
     requires pairs { length sides.now ≡ 2 * length model.now.names }
     requires state { s < length model.now.states }
     requires choice { a < length (choices model.now s) }
     requires entry { entry < length (row_at model.now s a) }
-    requires few { width (spans_of sides.now) (support_of (row_at model.now s a)) ≤ 4 }
-    requires corner { corner < 2 ^ width (spans_of sides.now) (support_of (row_at model.now s a)) }
-    requires narrow { abs_sum (row_at model.now s a) * greatest_size d (spans_of sides.now) ^ width (spans_of sides.now) (support_of (row_at model.now s a)) < 2 ^ 126 }
+    requires few { parameter_count (spans_of sides.now) (support_of (row_at model.now s a)) ≤ most_row_parameters }
+    requires corner { corner < 2 ^ parameter_count (spans_of sides.now) (support_of (row_at model.now s a)) }
+    requires narrow { abs_sum (row_at model.now s a) * greatest_size d (spans_of sides.now) ^ parameter_count (spans_of sides.now) (support_of (row_at model.now s a)) < engine_limit }
     ensures value { result ≡ corner_weight d (spans_of sides.now) (row_at model.now s a) corner entry }
-    ensures size { unsigned_abs result < 2 ^ 126 }
+    ensures size { unsigned_abs result < engine_limit }
 {
     let row = model.row(s, a);
     let ends = Ends::at(sides, row.support(), corner);
@@ -44,7 +44,7 @@ pub fn raw_weight(
 /// `first` times so many factors `d`.
 fn times_power(first: i64, d: i64, count: u32) -> i128
     requires positive { pos 1 ≤ℤ d }
-    requires room { unsigned_abs first * unsigned_abs d ^ count < 2 ^ 126 }
+    requires room { unsigned_abs first * unsigned_abs d ^ count < engine_limit }
     ensures { result ≡ first *ℤ power d count }
 {
     let mut product = i128::from(first);
@@ -57,13 +57,15 @@ fn times_power(first: i64, d: i64, count: u32) -> i128
 }
 
 /// What the weights of the state's choice sum to at each corner of that row: the common denominator
-/// times the grid's number for each of its parameters. From 1 to 2^126 - 1.
+/// times the grid's number for each of its parameters. From 1 to 2^126 - 1, also when a number of up to
+/// 2^w is multiplied by it.
 pub fn whole(case: &Case, s: u32, a: u32) -> i128
     requires state { s < length case.now.model.states }
     requires choice { a < length (choices case.now.model s) }
     ensures value { result ≡ row_whole case.now s a }
     ensures positive { pos 1 ≤ℤ result }
-    ensures size { unsigned_abs result < 2 ^ 126 }
+    ensures size { unsigned_abs result < engine_limit }
+    ensures room { (n : ℕ) → n ≤ 2 ^ case.now.w → n * unsigned_abs result < engine_limit }
 {
     let model = case.model();
     let support = model.row(s, a).support();
@@ -76,7 +78,7 @@ fn value_at(case: &Case, sides: &[i64], row: &Row, support: u16, corner: u32, ve
     requires sides { AreSidesInside case.now.root sides.now }
     requires row { IsRowOf case.now row.now }
     requires support { support ≡ support_of row.now }
-    requires numbers { AreNumbers case.now.model case.now.w vec.now }
+    requires numbers { AreNumbers case.now vec.now }
     ensures { result ≡ corner_sum case.now.d (spans_of sides.now) row.now corner (number vec.now) }
 {
     let ends = Ends::at(sides, support, corner);
@@ -92,7 +94,7 @@ pub fn row_value(case: &Case, sides: &[i64], s: u32, a: u32, corner: u32, vec: &
     requires state { s < length case.now.model.states }
     requires choice { a < length (choices case.now.model s) }
     requires corner { corner < corner_count case.now s a }
-    requires numbers { AreNumbers case.now.model case.now.w vec.now }
+    requires numbers { AreNumbers case.now vec.now }
     ensures { result ≡ row_value case.now (spans_of sides.now) s a vec.now corner }
 {
     let row = case.model().row(s, a);
@@ -117,14 +119,15 @@ fn lesser(left: i128, right: i128) -> i128
     if left < right { left } else { right }
 }
 
-/// The greatest `row_value` over the corners of the row. At every valuation inside the sides the
-/// weighted mean is at most this over the whole.
+/// The greatest `row_value` over the corners of the row, from 0 to 2^w times the whole. At every
+/// valuation inside the sides the weighted mean is at most this over the whole.
 pub fn row_max(case: &Case, sides: &[i64], s: u32, a: u32, vec: &[i64]) -> i128
     requires sides { AreSidesInside case.now.root sides.now }
     requires state { s < length case.now.model.states }
     requires choice { a < length (choices case.now.model s) }
-    requires numbers { AreNumbers case.now.model case.now.w vec.now }
+    requires numbers { AreNumbers case.now vec.now }
     ensures greatest { IsGreatest (row_value case.now (spans_of sides.now) s a vec.now) (corner_count case.now s a) result }
+    ensures range { (pos 0 ≤ℤ result) × (result ≤ℤ (pos (2 ^ case.now.w) *ℤ row_whole case.now s a)) }
     ensures bound { BoundsAbove case.now (spans_of sides.now) s a vec.now result }
 {
     let row = case.model().row(s, a);
@@ -143,7 +146,7 @@ pub fn row_min(case: &Case, sides: &[i64], s: u32, a: u32, vec: &[i64]) -> i128
     requires sides { AreSidesInside case.now.root sides.now }
     requires state { s < length case.now.model.states }
     requires choice { a < length (choices case.now.model s) }
-    requires numbers { AreNumbers case.now.model case.now.w vec.now }
+    requires numbers { AreNumbers case.now vec.now }
     ensures least { IsLeast (row_value case.now (spans_of sides.now) s a vec.now) (corner_count case.now s a) result }
     ensures bound { BoundsBelow case.now (spans_of sides.now) s a vec.now result }
 {
@@ -173,7 +176,7 @@ pub fn weight_into(
     requires choice { a < length (choices case.now.model s) }
     requires corner { corner < corner_count case.now s a }
     requires ranks { length ranks.now ≡ length case.now.model.states }
-    ensures { result ≡ corner_sum case.now.d (spans_of sides.now) (row_at case.now.model s a) corner (lower (mark ranks.now) below) }
+    ensures { result ≡ corner_sum case.now.d (spans_of sides.now) (row_at case.now.model s a) corner (ranked_below (mark ranks.now) below) }
 {
     let row = case.model().row(s, a);
     let ends = Ends::at(sides, row.support(), corner);

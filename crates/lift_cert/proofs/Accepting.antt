@@ -10,18 +10,15 @@ use Rattle.lift_model.specs.Process.{Move, power, weighted_sum}
 use Rattle.lift_model.specs.Reach.{reach}
 use Rattle.lift_model.specs.declared.entry.Entry.{Entry}
 use Rattle.lift_model.specs.Model.{ModelData, support, choices, moves_at, process_at}
-use Rattle.lift_model.proofs.Sums.{AreNonNegative}
 use Rattle.lift_grid.specs.Rectangle.{Spans, AreSpans, Inside}
-use Rattle.corner_lift.specs.Corner.{corner, width}
-use Rattle.corner_lift.specs.Case.{CaseData, IsCase, IsAdmittedRow, Within}
-use Rattle.corner_lift.specs.Certificate.{number, IsUpper, IsAccepting, IsLeastUpper}
-use Rattle.corner_lift.proofs.Rows.{number_range}
-use Rattle.corner_lift.proofs.CornerBound.{Inside-on}
-use Rattle.corner_lift.proofs.RowBound.{row_upper}
-use Rattle.corner_lift.proofs.Cases.{moves_least, inside_least}
+use Rattle.corner_lift.specs.Case.{CaseData, IsCase, IsInside, number}
+use Rattle.corner_lift.specs.Certificate.{IsUpper, IsLeastUpper}
+use Rattle.corner_lift.specs.Laws.{NumbersAreInRange, WeightsInside, MeansAtMostInside}
+use Rattle.lift_cert.specs.Certificate.{IsAccepting, IsWithin}
+use Rattle.lift_cert.specs.Laws.{AcceptingBounds, LeastRefutes}
 use Rattle.lift_cert.specs.declared.bound.Bound.{Bound}
 use Rattle.lift_cert.specs.Bounded.{IsBoundedAt}
-use Rattle.lift_cert.proofs.Inductive.{IsInductive, reach_bound, power-least}
+use Rattle.lift_cert.proofs.Inductive.{AreNonNegative, IsInductive, reach_bound, power-least}
 
 swapped : (a r t : ℤ) → a *ℤ (r *ℤ t) ≡ t *ℤ (r *ℤ a)
 swapped a r t = rw (as_diff a, as_diff r, as_diff t) (simp diffs (diff-same _ _ _ _ (omega arith)))
@@ -66,45 +63,38 @@ denominator-least d (s ∷ ss) (x ∷ v) h = mul-nonneg x.1 (denominator v) (ome
 denominator-least d [] (x ∷ v) h = absurd h
 denominator-least d (s ∷ ss) [] h = absurd h
 
--- a valuation inside a rectangle of a case
-module _ (k : CaseData) (is : IsCase k) (ss : Spans) (spans : AreSpans ss) (within : Within ss k.root) (v : Valuation) (inside : Inside k.d ss v) where
+moves_least : (v : Valuation) (row : List Entry) → All (λ entry. pos 0 ≤ℤ weight v entry.poly) row → AreNonNegative (moves_at v row)
+moves_least v [] h = tt
+moves_least v (e ∷ row) h = let least : Entry → Type 0 = λ entry. pos 0 ≤ℤ weight v entry.poly in (All-head least e row h, moves_least v row (All-tail least e row h))
+
+-- What the laws of rows give, for a rectangle of a case and a valuation inside it.
+module _ (numbers : NumbersAreInRange) (weights : WeightsInside) (most : MeansAtMostInside) (k : CaseData) (spans : Spans) (is : IsCase k) (within : IsInside k.root spans) (v : Valuation) (inside : Inside k.d spans v) where
   -- an upper vector of the rectangle is inductive at each valuation inside
-  pub upper_inductive : (x : List ℤ) → IsUpper k.model k.d ss k.w x → IsInductive (process_at k.model v) (pos (2 ^ k.w)) (number x)
+  upper_inductive : (x : List ℤ) → IsUpper k spans x → IsInductive (process_at k.model v) (pos (2 ^ k.w)) (number x)
   upper_inductive x upper =
       let process = process_at k.model v in
-      let common_least : pos 0 ≤ℤ k.model.common = omega (arith, linear, is.model.denominator.0) in
+      let common_least : pos 0 ≤ℤ k.model.common = omega (arith, linear, is.asked.model.denominator.0) in
       record {
-        total = mul-nonneg k.model.common (denominator v) common_least (denominator-least k.d ss v inside);
-        least = λ s. (number_range k.model k.w x upper.numbers s).0;
+        total = mul-nonneg k.model.common (denominator v) common_least (denominator-least k.d spans v inside);
+        least = λ s. (numbers k x s upper.numbers).0;
         goal = upper.goal;
         weights =
             λ s. at_place (λ rows. AllByRecursion AreNonNegative (map (moves_at v) rows)) k.model.states s tt
-            (λ i d lt. all_moves AreNonNegative v (get_or k.model.states i d) (λ a r at. let row = get_or (get_or k.model.states i d) a r in moves_least v row (inside_least k row ss is.grid.positive is.spans spans within (is.rows i d lt a r at) v inside)));
+            (λ i d lt. all_moves AreNonNegative v (get_or k.model.states i d) (λ a r at. moves_least v (get_or (get_or k.model.states i d) a r) (weights k spans v is within inside i d lt a r at)));
         means =
-            λ s e. let top = number x s in
-            all_moves (λ moves. weighted_sum (number x) moves ≤ℤ (top *ℤ process.total)) v (choices k.model s)
-            (λ a r at. let row = get_or (choices k.model s) a r in
-            let bound = row_upper k.d is.grid.positive ss spans row (number x) (top *ℤ k.model.common)
-            (λ c lt. let here = upper.means s e a r at c lt in omega (arith, linear, here, mul-assoc top k.model.common (power k.d (width ss (support row))))) v
-            (Inside-on k.d ss (support row) v inside) in
-            omega (arith, linear, bound, mul-assoc top k.model.common (denominator v)));
+            λ s e. all_moves (λ moves. weighted_sum (number x) moves ≤ℤ (number x s *ℤ process.total)) v (choices k.model s)
+            (λ a r at. most k spans (get_or (choices k.model s) a r) x (number x s) is within (upper.means s e a r at) v inside);
       }
 
-  -- an accepting certificate of the rectangle bounds every scheduler there
-  pub accepting_bounds : (bound : Bound) (x : List ℤ) → IsAccepting k.model k.d ss k.w bound.num bound.den x → IsBoundedAt k.model v bound
-  accepting_bounds bound x accepting = inductive_bounded k.model v k.w x bound (upper_inductive x accepting.upper) accepting.limit
+  bounded : (bound : Bound) (x : List ℤ) → IsAccepting k spans bound x → IsBoundedAt k.model v bound
+  bounded bound x accepting = inductive_bounded k.model v k.w x bound (upper_inductive x accepting.upper) accepting.limit
+
+pub accepting_bounds : NumbersAreInRange → WeightsInside → MeansAtMostInside → AcceptingBounds
+accepting_bounds numbers weights most k spans bound x is within accepting v inside = bounded numbers weights most k spans is within v inside bound x accepting
 
 -- ---- the least upper vector decides
 
--- an accepting certificate stays one where its vector is lowered to the least upper vector
-pub least_accepts : (m : ModelData) (d : ℤ) (spans : Spans) (w num den : ℕ) (x y : List ℤ) → IsLeastUpper m d spans w x → IsAccepting m d spans w num den y → IsAccepting m d spans w num den x
-least_accepts m d spans w num den x y least accepting =
-    let lower = mul-le (pos den) (number x m.init) (number y m.init) (omega (arith, linear)) (least.least y accepting.upper m.init) in
-    record {
-      upper = least.upper;
-      limit = omega (arith, linear, accepting.limit, lower, mul-comm (number x m.init) (pos den), mul-comm (number y m.init) (pos den));
-    }
-
--- where the least upper vector isn't within the bound, no accepting certificate exists
-pub least_refutes : (m : ModelData) (d : ℤ) (spans : Spans) (w num den : ℕ) (x y : List ℤ) → IsLeastUpper m d spans w x → ((number x m.init *ℤ pos den) ≤ℤ (pos num *ℤ pos (2 ^ w)) → ⊥) → IsAccepting m d spans w num den y → ⊥
-least_refutes m d spans w num den x y least beyond accepting = beyond (least_accepts m d spans w num den x y least accepting).limit
+pub least_refutes : LeastRefutes
+least_refutes k spans bound x least beyond y accepting =
+    let lower = mul-le (pos bound.den) (number x k.model.init) (number y k.model.init) (omega (arith, linear)) (least.least y accepting.upper k.model.init) in
+    omega (arith, linear, beyond, accepting.limit, lower, mul-comm (number x k.model.init) (pos bound.den), mul-comm (number y k.model.init) (pos bound.den))

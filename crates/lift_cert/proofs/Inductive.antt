@@ -8,7 +8,10 @@ use Rattle.lift_model.specs.Plan.Plan.{stop, toss}
 use Rattle.lift_model.specs.Plan.Parts.{no_parts, part}
 use Rattle.lift_model.specs.Plan.Plans.{no_plans, plan}
 use Rattle.lift_model.specs.Reach.{moves_reach, parts_reach, plan_reach, reach}
-use Rattle.lift_model.proofs.Sums.{AreNonNegative}
+
+-- no move's weight is below 0
+abbrev pub AreNonNegative : List Move → Type 0
+AreNonNegative moves = AllByRecursion (λ move. pos 0 ≤ℤ move.1) moves
 
 -- x is top on goal states, and elsewhere at least each choice's weighted mean
 pub record IsInductive (process : Process) (top : ℤ) (x : ℕ → ℤ) : Type 0 where

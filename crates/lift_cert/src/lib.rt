@@ -2,8 +2,7 @@
 #![tactic(auto)]
 
 mod bound;
+mod laws;
 
 pub use bound::Bound;
-
-#[cfg(test)]
-mod tests;
+pub use laws::certificates_decide;

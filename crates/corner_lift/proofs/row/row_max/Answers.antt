@@ -2,10 +2,9 @@ use Rattle.std.proofs.Common.{rules, ◌≡◌, ◌∙◌, ap, subst, count_ones
 use mir.Syntax.{w128}
 use Rattle.lift_grid.specs.Rectangle.{spans_of}
 use Rattle.lift_model.specs.Model.{row_at, support}
-use Rattle.corner_lift.specs.Corner.{width, corner_sum}
-use Rattle.corner_lift.specs.Certificate.{number}
-use Rattle.corner_lift.specs.Case.{IsGreatest, row_value, corner_count}
-use Rattle.corner_lift.proofs.Cases.{row_in_case, greatest_one_at, greatest_more, bounds_above, width_in_root, admitted_row, corners_done}
+use Rattle.corner_lift.specs.Corner.{parameter_count, corner_sum}
+use Rattle.corner_lift.specs.Case.{number, IsGreatest, row_value, corner_count}
+use Rattle.corner_lift.proofs.Cases.{row_in_case, greatest_one_at, greatest_more, bounds_above, parameters_in_root, admitted_row, corners_done, greatest_range}
 use Rattle.corner_lift.proofs.row.row_max.Goals as goal
 use Rattle.corner_lift.proofs.row.row_max.Goals.{After-loop-corner}
 
@@ -41,13 +40,17 @@ all_tried : (c : After-loop-corner) → IsGreatest (row_value c.args.case.now (s
 all_tried c =
     let k = c.args.case.now in
     let is = c.model.ensures.case in
-    let ones = ap count_ones (c.support-support.ensures ∙ ap support (c.row-row.ensures.value ∙ ap (λ m. row_at m c.args.s c.args.a) c.model.ensures.value)) ∙ width_in_root k c.args.s c.args.a is c.requires.state c.requires.choice in
+    let ones = ap count_ones (c.support-support.ensures ∙ ap support (c.row-row.ensures.value ∙ ap (λ m. row_at m c.args.s c.args.a) c.model.ensures.value)) ∙ parameters_in_root k c.args.s c.args.a is c.requires.state c.requires.choice in
     let few = (admitted_row k c.args.s c.args.a is c.requires.state c.requires.choice).few in
     let f = row_value k (spans_of c.args.sides.now) c.args.s c.args.a c.args.vec.now in
-    subst (λ n. IsGreatest f n (to_z w128 c.loop-corner.greatest-bits)) (corners_done (count_ones c.support-support.result) (width k.root (support (row_at k.model c.args.s c.args.a))) c.loop-corner.corner ones few c.loop-corner.auto.corner-end c.loop-corner-test.false) c.loop-corner.invariant
+    subst (λ n. IsGreatest f n (to_z w128 c.loop-corner.greatest-bits)) (corners_done (count_ones c.support-support.result) (parameter_count k.root (support (row_at k.model c.args.s c.args.a))) c.loop-corner.corner ones few c.loop-corner.auto.corner-end c.loop-corner-test.false) c.loop-corner.invariant
 
 pub returns-clause-greatest : goal.returns-clause-greatest
 returns-clause-greatest c = all_tried c
 
 pub returns-clause-bound : goal.returns-clause-bound
 returns-clause-bound c = bounds_above c.args.case.now c.args.s c.args.a c.args.sides.now c.args.vec.now c.model.ensures.case c.requires.sides (to_z w128 c.loop-corner.greatest-bits) (all_tried c)
+
+pub returns-clause-range : goal.returns-clause-range
+returns-clause-range c =
+    greatest_range c.args.case.now c.args.s c.args.a (corner_count c.args.case.now c.args.s c.args.a) c.args.sides.now c.args.vec.now (to_z w128 c.loop-corner.greatest-bits) c.model.ensures.case c.requires.sides c.requires.state c.requires.choice c.requires.numbers (all_tried c)

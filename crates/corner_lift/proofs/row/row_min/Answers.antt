@@ -2,10 +2,9 @@ use Rattle.std.proofs.Common.{rules, ◌≡◌, ◌∙◌, ap, subst, count_ones
 use mir.Syntax.{w128}
 use Rattle.lift_grid.specs.Rectangle.{spans_of}
 use Rattle.lift_model.specs.Model.{row_at, support}
-use Rattle.corner_lift.specs.Corner.{width, corner_sum}
-use Rattle.corner_lift.specs.Certificate.{number}
-use Rattle.corner_lift.specs.Case.{IsLeast, row_value, corner_count}
-use Rattle.corner_lift.proofs.Cases.{row_in_case, least_one_at, least_more, bounds_below, width_in_root, admitted_row, corners_done}
+use Rattle.corner_lift.specs.Corner.{parameter_count, corner_sum}
+use Rattle.corner_lift.specs.Case.{number, IsLeast, row_value, corner_count}
+use Rattle.corner_lift.proofs.Cases.{row_in_case, least_one_at, least_more, bounds_below, parameters_in_root, admitted_row, corners_done}
 use Rattle.corner_lift.proofs.row.row_min.Goals as goal
 use Rattle.corner_lift.proofs.row.row_min.Goals.{After-loop-corner}
 
@@ -41,10 +40,10 @@ all_tried : (c : After-loop-corner) → IsLeast (row_value c.args.case.now (span
 all_tried c =
     let k = c.args.case.now in
     let is = c.model.ensures.case in
-    let ones = ap count_ones (c.support-support.ensures ∙ ap support (c.row-row.ensures.value ∙ ap (λ m. row_at m c.args.s c.args.a) c.model.ensures.value)) ∙ width_in_root k c.args.s c.args.a is c.requires.state c.requires.choice in
+    let ones = ap count_ones (c.support-support.ensures ∙ ap support (c.row-row.ensures.value ∙ ap (λ m. row_at m c.args.s c.args.a) c.model.ensures.value)) ∙ parameters_in_root k c.args.s c.args.a is c.requires.state c.requires.choice in
     let few = (admitted_row k c.args.s c.args.a is c.requires.state c.requires.choice).few in
     let f = row_value k (spans_of c.args.sides.now) c.args.s c.args.a c.args.vec.now in
-    subst (λ n. IsLeast f n (to_z w128 c.loop-corner.least-bits)) (corners_done (count_ones c.support-support.result) (width k.root (support (row_at k.model c.args.s c.args.a))) c.loop-corner.corner ones few c.loop-corner.auto.corner-end c.loop-corner-test.false) c.loop-corner.invariant
+    subst (λ n. IsLeast f n (to_z w128 c.loop-corner.least-bits)) (corners_done (count_ones c.support-support.result) (parameter_count k.root (support (row_at k.model c.args.s c.args.a))) c.loop-corner.corner ones few c.loop-corner.auto.corner-end c.loop-corner-test.false) c.loop-corner.invariant
 
 pub returns-clause-least : goal.returns-clause-least
 returns-clause-least c = all_tried c

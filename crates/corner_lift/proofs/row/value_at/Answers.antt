@@ -2,7 +2,7 @@ use Rattle.std.proofs.Common.{rules, subst, ◌∙◌, to_z-of_z, SFits}
 use mir.Syntax.{w128}
 use Rattle.lift_grid.specs.Rectangle.{spans_of}
 use Rattle.corner_lift.specs.Corner.{corner}
-use Rattle.corner_lift.specs.Certificate.{number}
+use Rattle.corner_lift.specs.Case.{number}
 use Rattle.corner_lift.specs.Ends.{StandFor}
 use Rattle.corner_lift.proofs.Cases.{pairs_of, few_of, room_of, stands_of}
 use Rattle.corner_lift.proofs.row.value_at.Goals as goal

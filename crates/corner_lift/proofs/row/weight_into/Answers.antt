@@ -4,7 +4,7 @@ use Rattle.lift_grid.specs.Rectangle.{spans_of}
 use Rattle.lift_model.specs.Model.{row_at}
 use Rattle.corner_lift.specs.Corner.{corner, corner_sum}
 use Rattle.corner_lift.specs.Case.{IsRowOf}
-use Rattle.corner_lift.specs.Certificate.{lower, mark}
+use Rattle.corner_lift.specs.Certificate.{ranked_below, mark}
 use Rattle.corner_lift.specs.Ends.{StandFor}
 use Rattle.corner_lift.proofs.Cases.{row_in_case, pairs_of, few_of, room_of, stands_of, targets_of}
 use Rattle.corner_lift.proofs.row.weight_into.Goals as goal
@@ -37,5 +37,5 @@ returns c =
     let row = row_in_case k c.model.result.now c.row-row.result.now c.args.s c.args.a c.model.ensures.value c.row-row.ensures.value c.model.ensures.case c.requires.state c.requires.choice in
     let stand = subst (λ set. StandFor k.d c.at-ends.result (corner k.d (spans_of sides) set c.args.corner) set) c.support.ensures (c.at-ends.ensures.stand k.d) in
     to_z-of_z sum_fits ∙ c.sum_below.ensures
-    ∙ stands_of k c.row-row.result.now sides c.model.ensures.case c.requires.sides row c.at-ends.result c.args.corner (lower (mark c.args.ranks.now) c.args.below) stand
-    ∙ ap (λ r. corner_sum k.d (spans_of sides) r c.args.corner (lower (mark c.args.ranks.now) c.args.below)) (c.row-row.ensures.value ∙ ap (λ m. row_at m c.args.s c.args.a) c.model.ensures.value)
+    ∙ stands_of k c.row-row.result.now sides c.model.ensures.case c.requires.sides row c.at-ends.result c.args.corner (ranked_below (mark c.args.ranks.now) c.args.below) stand
+    ∙ ap (λ r. corner_sum k.d (spans_of sides) r c.args.corner (ranked_below (mark c.args.ranks.now) c.args.below)) (c.row-row.ensures.value ∙ ap (λ m. row_at m c.args.s c.args.a) c.model.ensures.value)

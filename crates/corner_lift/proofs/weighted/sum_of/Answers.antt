@@ -1,7 +1,6 @@
 use Rattle.std.proofs.Common.{rules, ◌≡◌, ◌≤◌, ◌<◌, ◌+◌, ◌*◌, ◌^◌, ◌*ℤ◌, ◌+ℤ◌, ℕ, pos, length, slice_index_or, unsigned_abs, to_z, of_z, to_z-of_z, SFits, w64, refl, ap, ◌∙◌, arith}
 use mir.Syntax.{w128}
-use Rattle.corner_lift.specs.Case.{abs_sum}
-use Rattle.corner_lift.specs.Certificate.{number}
+use Rattle.corner_lift.specs.Case.{abs_sum, number}
 use Rattle.corner_lift.specs.Ends.{weight_at, greatest_end}
 use Rattle.corner_lift.proofs.Rows.{all_numbers}
 use Rattle.corner_lift.proofs.Summing.{IsRowSummed, row_summed_more, row_summed_fits, entry_size, entry_room, number_room, part_size}

@@ -1,5 +1,5 @@
 use Rattle.std.proofs.Common.{◌*◌, ◌^◌, length}
-use Rattle.corner_lift.specs.Certificate.{number}
+use Rattle.corner_lift.specs.Case.{number}
 use Rattle.corner_lift.specs.Ends.{greatest_end}
 use Rattle.corner_lift.proofs.Summing.{IsRowSummed}
 use Rattle.corner_lift.proofs.weighted.sum_of.Given as goal

@@ -1,0 +1,74 @@
+-- The laws of rows at corners and inside.
+use Rattle.std.proofs.Common.{◌≡◌, ℕ, ◌^◌, ◌<◌, List, [], ◌∷◌, length, get_or, ℤ, pos, ◌*ℤ◌, ◌≤ℤ◌, refl, ap, ◌∙◌, arith}
+use Rattle.lift_poly.specs.Polynomial.{denominator}
+use Rattle.lift_poly.proofs.Ring.{linear, mul-assoc}
+use Rattle.lift_grid.specs.Rectangle.{Spans, AreSides, sides_of, spans_of}
+use Rattle.lift_model.specs.Process.{power}
+use Rattle.lift_model.specs.Model.{support, row_at, moves_at}
+use Rattle.lift_model.proofs.Sums.{weighted_sum-mono}
+use Rattle.corner_lift.specs.Corner.{corner, parameter_count}
+use Rattle.corner_lift.specs.Case.{CaseData, IsCase, Within, AreSidesInside, number, row_parameters}
+use Rattle.corner_lift.specs.Laws.{BitsAreParameters, ParametersAreTheRoots, NumbersAreInRange, SumsRise, WeightsInside, SumsAreTotals, MeansAtMostInside, MeansAtLeastInside, RootIsInside}
+use Rattle.corner_lift.proofs.CornerBound.{Inside-on}
+use Rattle.corner_lift.proofs.Coefficients.{row_total}
+use Rattle.corner_lift.proofs.Rows.{number_range}
+use Rattle.corner_lift.proofs.RowBound.{row_upper, row_lower}
+use Rattle.corner_lift.proofs.Cases.{admitted_row, parameters_asked, parameter_count-within, corner_moves, inside_least}
+
+-- ---- at corners
+
+pub bits_are_parameters : BitsAreParameters
+bits_are_parameters k s a is has = parameters_asked k s a is has.state has.choice
+
+pub parameters_are_the_roots : ParametersAreTheRoots
+parameters_are_the_roots k spans row within = parameter_count-within spans k.root (support row) within
+
+pub numbers_are_in_range : NumbersAreInRange
+numbers_are_in_range k x s are = number_range k x are s
+
+pub sums_rise : SumsRise
+sums_rise k spans s a c x y is inside has le =
+    let row = row_at k.model s a in
+    weighted_sum-mono x y (moves_at (corner k.d spans (support row) c) row) le
+    (corner_moves k row spans is.asked.grid.positive is.asked.spans inside.rectangle inside.within (admitted_row k s a is has.state has.choice) c)
+
+-- ---- inside
+
+pub weights_inside : WeightsInside
+weights_inside k spans v is inside at i d lt a r here =
+    let row = get_or (get_or k.model.states i d) a r in
+    inside_least k row spans is.asked.grid.positive is.asked.spans inside.rectangle inside.within (is.admitted i d lt a r here) v at
+
+pub sums_are_totals : SumsAreTotals
+sums_are_totals m row v sums = row_total m.common row sums v
+
+pub means_at_most_inside : MeansAtMostInside
+means_at_most_inside k spans row x n is inside means v at =
+    let p = power k.d (parameter_count spans (support row)) in
+    let bound = row_upper k.d is.asked.grid.positive spans inside.rectangle row (number x) (n *ℤ k.model.common)
+    (λ c lt. let here = means c lt in omega (arith, linear, here, mul-assoc n k.model.common p)) v (Inside-on k.d spans (support row) v at) in
+    omega (arith, linear, bound, mul-assoc n k.model.common (denominator v))
+
+pub means_at_least_inside : MeansAtLeastInside
+means_at_least_inside k spans row y n is inside means v at =
+    let p = power k.d (parameter_count spans (support row)) in
+    let bound = row_lower k.d is.asked.grid.positive spans inside.rectangle row y (n *ℤ k.model.common)
+    (λ c lt. let here = means c lt in omega (arith, linear, here, mul-assoc n k.model.common p)) v (Inside-on k.d spans (support row) v at) in
+    omega (arith, linear, bound, mul-assoc n k.model.common (denominator v))
+
+within_itself : (spans : Spans) → Within spans spans
+within_itself [] = tt
+within_itself (s ∷ spans) = (omega (arith, linear), omega (arith, linear), within_itself spans)
+
+pub root_is_inside : RootIsInside
+root_is_inside k is = record { rectangle = is.asked.spans; within = within_itself k.root }
+
+spans_of-sides_of : (spans : Spans) → spans_of (sides_of spans) ≡ spans
+spans_of-sides_of [] = refl
+spans_of-sides_of (s ∷ spans) = ap (λ rest. s ∷ rest) (spans_of-sides_of spans)
+
+pub root_sides_inside : (k : CaseData) → IsCase k → AreSidesInside k.root (sides_of k.root)
+root_sides_inside k is =
+    let same = spans_of-sides_of k.root in
+    let sides : AreSides (sides_of k.root) = record { paired = ap sides_of same; spans = rw same is.asked.spans } in
+    record { rectangle = sides; within = rw same (within_itself k.root) }
