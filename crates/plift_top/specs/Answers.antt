@@ -80,6 +80,11 @@ note_of refusal.WriteFault = codes "write fault\n"
 note_of refusal.TooLong = codes "too long\n"
 note_of refusal.Memory = codes "out of memory\n"
 
+-- the status of an answer
+abbrev pub answered : {T : Type 0} → Result T Refusal → Status
+answered (Ok x) = status.Done
+answered (Err why) = status_of why
+
 -- the number that the process ends with
 abbrev pub status_number : Status → ℕ
 status_number status.Done = 0
@@ -128,6 +133,11 @@ pub record WroteNote {E : Type 0} (taken : E → Option (List ℕ)) (faults : E 
   pub part : AppendsFront (taken old) (taken new) note
   pub whole : NoFault (faults old) (faults new) → Appends (taken old) (taken new) note
   pub later : faults old ≤ faults new
+
+-- a refusal is told by its note, and nothing else is
+abbrev pub IsNoted : {E T : Type 0} → (E → Option (List ℕ)) → (E → ℕ) → E → E → Result T Refusal → Type 0
+IsNoted taken faults old new (Ok x) = new ≡ old
+IsNoted taken faults old new (Err why) = WroteNote taken faults old new (note_of why)
 
 -- the refusal of a line whose part f is at fault; want of memory may come in its place where the line is plain
 abbrev pub RefusesLine : {T : Type 0} → Field → Result T Refusal → Type 0
