@@ -2,9 +2,9 @@
 use Rattle.std.proofs.Common.{◌≡◌, ◌+◌, ◌-◌, ◌≤◌, ℕ, Bool, true, false, ◌&&◌, not, take, drop, get_or, List, [], ◌∷◌, length, sym, refl, ◌∙◌, ap, subst, arith, Option, Some, Result, Ok, Err}
 use Rattle.std.specs.Prelude.{◌==◌, slice_range, IfErr, if◌then◌else◌}
 use Rattle.std.specs.List.{prefix_len, list_any, position_or_len}
-use Rattle.drn_lexer.specs.Bytes.{is_blank}
+use Rattle.lift_bytes.specs.Bytes.{is_blank}
 use Rattle.drn_lexer.specs.Cutting.{Piece}
-use Rattle.drn_lexer.specs.Lines.{trimmed_front}
+use Rattle.lift_bytes.specs.Trimming.{trimmed_front}
 use Rattle.drn_lexer.specs.Symbols.{symbols}
 use Rattle.drn_lexer.specs.Words.{WordKind, words, word_front, begins_open_quote}
 use Rattle.drn_lexer.specs.Spans.{IsFirst, first_symbol, first_word}

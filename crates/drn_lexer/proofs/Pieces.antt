@@ -4,7 +4,7 @@ use Rattle.std.proofs.lemmas.Grind.{common_steps}
 use Rattle.std.proofs.lemmas.List.{take_rest}
 use Rattle.std.specs.Prelude.{slice_range}
 use Rattle.std.specs.List.{prefix_len, position_or_len, list_all, list_any}
-use Rattle.drn_lexer.specs.Bytes.{is_blank}
+use Rattle.lift_bytes.specs.Bytes.{is_blank}
 use Rattle.drn_lexer.specs.Cutting.{Piece, pieces_behind}
 use Rattle.drn_lexer.specs.Spans.{IsFirst}
 use Rattle.drn_lexer.specs.Steps.{IsBehindBlanks}

@@ -1,6 +1,6 @@
 -- Cutting a text into pieces, from the left.
 use Rattle.std.specs.Prelude.{ℕ, zero, suc, true, false, List, [], ◌∷◌, take}
-use Rattle.drn_lexer.specs.Bytes.{is_blank}
+use Rattle.lift_bytes.specs.Bytes.{is_blank}
 
 -- a piece of a text: its bytes, and what form they have
 pub record Piece (Form : Type 0) : Type 0 where

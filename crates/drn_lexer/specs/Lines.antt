@@ -1,7 +1,9 @@
 -- The lines of a model text, by this project's profile of the DRN format.
 use Rattle.std.specs.Prelude.{ℕ, Bool, true, false, nat_eq, nat_lt, List, [], ◌∷◌, ◌==◌, ◌&&◌, ◌||◌, ◌+◌, ◌-◌, ◌^◌, not, min, take, drop, length, codes, Option, Some, None, Result, Ok, Err, if◌then◌else◌}
-use Rattle.std.specs.List.{slice_split, prefix_len, suffix_len, list_all, starts_with, ends_with}
-use Rattle.drn_lexer.specs.Bytes.{is_blank, is_text_byte}
+use Rattle.std.specs.List.{slice_split, prefix_len, list_all, starts_with, ends_with}
+use Rattle.lift_bytes.specs.Bytes.{line_feed, carriage_return, is_blank}
+use Rattle.lift_bytes.specs.Trimming.{trimmed}
+use Rattle.drn_lexer.specs.Bytes.{is_text_byte}
 use Rattle.drn_lexer.specs.declared.error.LexError.{LexError}
 use Rattle.drn_lexer.specs.declared.error.LexError.TheVariants.{NotText, LongLine}
 use Rattle.drn_lexer.specs.declared.line.Line.{Line}
@@ -26,7 +28,7 @@ numbered number at (piece ∷ pieces) = record { number = number; at = at; bytes
 
 -- the lines of a text whose first one has this number and begins at this place
 unfoldable pub lines_from : ℕ → ℕ → List ℕ → List TextLine
-lines_from number at text = numbered number at (without_empty_end (slice_split (λ b. b == 10) text))
+lines_from number at text = numbered number at (without_empty_end (slice_split (λ b. b == line_feed) text))
 
 -- the lines of a text, cut at line feeds and numbered from 1
 abbrev pub lines : List ℕ → List TextLine
@@ -38,19 +40,11 @@ lines_at text place = lines_from place.number place.at (drop place.at text)
 
 -- without one carriage return at the end
 abbrev pub without_return : List ℕ → List ℕ
-without_return bytes = if ends_with nat_eq bytes (13 ∷ []) then take (length bytes - 1) bytes else bytes
-
--- without the blanks at the end
-abbrev pub trimmed_end : List ℕ → List ℕ
-trimmed_end bytes = take (length bytes - suffix_len is_blank bytes) bytes
-
--- without the blanks at the front
-abbrev pub trimmed_front : List ℕ → List ℕ
-trimmed_front bytes = drop (prefix_len is_blank bytes) bytes
+without_return bytes = if ends_with nat_eq bytes (carriage_return ∷ []) then take (length bytes - 1) bytes else bytes
 
 -- what a line says: its bytes without one carriage return at the end, and then without blanks at both ends
 abbrev pub content : TextLine → List ℕ
-content line = trimmed_end (trimmed_front (without_return line.bytes))
+content line = trimmed (without_return line.bytes)
 
 -- where that stands in the text
 abbrev pub span_of : TextLine → Line
@@ -66,9 +60,17 @@ is_comment line = starts_with nat_eq (content line) (codes "//")
 abbrev pub is_blank_line : TextLine → Bool
 is_blank_line line = length (content line) == 0
 
--- more than 2^20 bytes without the line feed
+-- a text has fewer bytes than this, so that the number of each line fits its type
+abbrev pub text_limit : ℕ
+text_limit = 2 ^ 31
+
+-- the most bytes of a line without its line feed
+abbrev pub line_limit : ℕ
+line_limit = 2 ^ 20
+
+-- more bytes than that
 abbrev pub is_long : TextLine → Bool
-is_long line = nat_lt (2 ^ 20) (length line.bytes)
+is_long line = nat_lt line_limit (length line.bytes)
 
 -- What is wrong with a line by itself. Its length is tested first, and a comment line may hold any bytes.
 abbrev pub own_fault : TextLine → Option LexError

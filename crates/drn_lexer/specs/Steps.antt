@@ -1,7 +1,7 @@
 -- What the private functions find, for their contracts alone.
 use Rattle.std.specs.Prelude.{◌≡◌, ◌<◌, ◌≤◌, ◌+◌, ◌-◌, ℕ, List, [], ◌∷◌, length, slice_range, Option, Some, None, Result, Ok, Err, if◌then◌else◌}
 use Rattle.std.specs.List.{prefix_len}
-use Rattle.drn_lexer.specs.Bytes.{is_blank}
+use Rattle.lift_bytes.specs.Bytes.{is_blank}
 use Rattle.drn_lexer.specs.Lines.{TextLine, lines_at, own_fault, is_comment, span_of, place_behind}
 use Rattle.drn_lexer.specs.Words.{WordKind}
 use Rattle.drn_lexer.specs.declared.error.LexError.{LexError}

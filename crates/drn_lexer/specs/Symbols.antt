@@ -3,15 +3,16 @@ use Rattle.std.specs.Prelude.{ℕ, List, ◌∷◌, ◌==◌, ◌&&◌, ◌-◌,
 use Rattle.std.specs.List.{prefix_len}
 use Rattle.std.specs.Char.{is_ascii_digit}
 use Rattle.lift_frac.specs.Literal.{literal_at}
-use Rattle.drn_lexer.specs.Bytes.{begins_name, is_name_byte, first_passes}
+use Rattle.lift_bytes.specs.Bytes.{dollar, left_parenthesis, right_parenthesis, star, plus, minus, slash, colon, caret, begins_name, is_name_byte, first_passes}
 use Rattle.drn_lexer.specs.Cutting.{Piece, pieces_behind}
 use Rattle.drn_lexer.specs.declared.symbol.SymbolForm.{SymbolForm}
 use Rattle.drn_lexer.specs.declared.symbol.SymbolForm.TheVariants.{Literal, Name, Dollar, Plus, Minus, Times, Over, Power, Left, Right, Colon, Other}
 
 -- A byte that is a symbol by itself: one of `+ - * / ^ ( ) :`, in this order, or any other.
 abbrev pub mark_form : ℕ → SymbolForm
-mark_form b = if b == 43 then Plus else (if b == 45 then Minus else (if b == 42 then Times else (if b == 47 then Over else
-    (if b == 94 then Power else (if b == 40 then Left else (if b == 41 then Right else (if b == 58 then Colon else Other)))))))
+mark_form b =
+    if b == plus then Plus else (if b == minus then Minus else (if b == star then Times else (if b == slash then Over else
+    (if b == caret then Power else (if b == left_parenthesis then Left else (if b == right_parenthesis then Right else (if b == colon then Colon else Other)))))))
 
 -- how many bytes the longest literal at the front has
 abbrev pub literal_len : List ℕ → ℕ
@@ -22,7 +23,7 @@ abbrev pub symbol_front : ℕ → List ℕ → ℕ × SymbolForm
 symbol_front b tail =
     if is_ascii_digit b then (literal_len (b ∷ tail) - 1, Literal)
     else (if begins_name b then (prefix_len is_name_byte tail, Name)
-    else (if (b == 36) && first_passes is_name_byte tail then (prefix_len is_name_byte tail, Dollar)
+    else (if (b == dollar) && first_passes is_name_byte tail then (prefix_len is_name_byte tail, Dollar)
     else (0, mark_form b)))
 
 -- the symbols of a text

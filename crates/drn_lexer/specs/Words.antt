@@ -1,7 +1,7 @@
 -- The words of a line, by this project's profile of the DRN format.
 use Rattle.std.specs.Prelude.{ℕ, Bool, false, List, [], ◌∷◌, ◌==◌, ◌&&◌, ◌+◌, ◌-◌, not, take, drop, length, Result, Ok, Err, if◌then◌else◌}
 use Rattle.std.specs.List.{list_any, position_or_len}
-use Rattle.drn_lexer.specs.Bytes.{is_blank}
+use Rattle.lift_bytes.specs.Bytes.{quote, left_bracket, right_bracket, is_blank}
 use Rattle.drn_lexer.specs.Cutting.{Piece, pieces_behind}
 use Rattle.drn_lexer.specs.declared.error.LexError.{LexError}
 use Rattle.drn_lexer.specs.declared.error.LexError.TheVariants.{OpenQuote}
@@ -20,8 +20,8 @@ runs_to end closed unclosed tail =
 -- The word that begins with the byte b: how many bytes of the tail belong to it, and its form. From `"` it runs to the next `"`, from `[` to the next `]`, and from any other byte to the next blank.
 abbrev pub word_front : ℕ → List ℕ → ℕ × WordKind
 word_front b tail =
-    if b == 34 then runs_to 34 (Ok Quoted) (Err OpenQuote) tail
-    else (if b == 91 then runs_to 93 (Ok Group) (Ok Group) tail
+    if b == quote then runs_to quote (Ok Quoted) (Err OpenQuote) tail
+    else (if b == left_bracket then runs_to right_bracket (Ok Group) (Ok Group) tail
     else (position_or_len is_blank tail, Ok Plain))
 
 -- what a word says: a quoted word without its quotes, and any other word as it stands
@@ -36,4 +36,4 @@ words line = pieces_behind word_front 0 line
 -- a quote at the front that has no end
 abbrev pub begins_open_quote : List ℕ → Bool
 begins_open_quote [] = false
-begins_open_quote (b ∷ tail) = (b == 34) && not (list_any (λ c. c == 34) tail)
+begins_open_quote (b ∷ tail) = (b == quote) && not (list_any (λ c. c == quote) tail)

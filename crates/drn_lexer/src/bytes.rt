@@ -1,50 +1,17 @@
 ghost use Rattle.std.specs.Prelude.{◌≡◌, ◌≤◌, ◌==◌, length};
-ghost use Rattle.std.specs.List.{prefix_len, position_or_len};
-ghost use Rattle.drn_lexer.specs.Bytes.{is_blank, begins_name, is_name_byte, is_text_byte};
+ghost use Rattle.std.specs.List.{position_or_len};
+ghost use Rattle.drn_lexer.specs.Bytes.{is_text_byte};
 ghost use Rattle.drn_lexer.specs.Spans.{LiesIn, IsOn};
 ghost use Rattle.drn_lexer.specs.Steps.{IsBehindBlanks};
 
 use crate::line::Line;
-
-/// A space or a tab.
-pub(crate) fn is_blank(byte: u8) -> bool
-    ensures { result ≡ is_blank byte }
-{
-    byte == b' ' || byte == b'\t'
-}
-
-/// A letter or an underscore.
-pub(crate) fn begins_name(byte: u8) -> bool
-    ensures { result ≡ begins_name byte }
-{
-    byte.is_ascii_alphabetic() || byte == b'_'
-}
-
-/// A letter, a digit or an underscore.
-pub(crate) fn is_name_byte(byte: u8) -> bool
-    ensures { result ≡ is_name_byte byte }
-{
-    begins_name(byte) || byte.is_ascii_digit()
-}
+use lift_bytes::blanks_len;
 
 /// A tab, or from a space to a tilde.
 pub(crate) fn is_text_byte(byte: u8) -> bool
     ensures { result ≡ is_text_byte byte }
 {
     byte == b'\t' || (b' '..=b'~').contains(&byte)
-}
-
-/// How many blanks stand at the front.
-pub(crate) fn blanks_len(text: &[u8]) -> usize
-    ensures within { result ≤ length text.now }
-    ensures len { result ≡ prefix_len is_blank text.now }
-{
-    for (i, byte) in text.iter().enumerate() {
-        if !is_blank(*byte) {
-            return i;
-        }
-    }
-    text.len()
 }
 
 /// How many bytes stand before the first one that is `end`; all of them where there is none.

@@ -1,5 +1,5 @@
-// The lines of a model text, the words of a line and the symbols of a value, each as a span of the
-// text. No call takes memory.
+//! The lines of a model text, the words of a line and the symbols of a value, each as a span of the
+//! text. No call takes memory.
 #![tactic(auto)]
 
 mod bytes;
@@ -12,6 +12,3 @@ pub use error::LexError;
 pub use line::{Line, Place, next_line};
 pub use symbol::{Symbol, SymbolForm, next_symbol};
 pub use word::{Word, WordForm, next_word, unquoted};
-
-#[cfg(test)]
-mod tests;

@@ -1,18 +1,19 @@
 ghost use Rattle.std.specs.Prelude.{◌≡◌, ℕ, List, ◌↔◌, ◌==◌, ◌+◌, ◌-◌, ◌<◌, ◌≤◌, ◌^◌, length, slice_range, IsTrue, IfNone, IfSome, IfOk, OnErr, Ok, None};
-ghost use Rattle.std.specs.List.{list_all, suffix_len};
-ghost use Rattle.drn_lexer.specs.Bytes.{is_blank, is_text_byte};
-ghost use Rattle.drn_lexer.specs.Lines.{without_return, content, span_of, lines_at, lines, behind_comments, is_passed_over, answer_of, place_behind, place_after};
+ghost use Rattle.std.specs.List.{list_all};
+ghost use Rattle.drn_lexer.specs.Bytes.{is_text_byte};
+ghost use Rattle.drn_lexer.specs.Lines.{text_limit, without_return, content, span_of, lines_at, lines, behind_comments, is_passed_over, answer_of, place_behind, place_after};
 ghost use Rattle.drn_lexer.specs.Steps.{text_line, IsAtEnd, IsFirstLine, judged};
 ghost use Rattle.drn_lexer.specs.Spans.{LiesIn, IsNextLine};
 
-use crate::bytes::{blanks_len, is_blank, is_text_byte, len_before};
+use crate::bytes::{is_text_byte, len_before};
 use crate::error::LexError;
+use lift_bytes::{blanks_len, trimmed};
 
-/// The greatest length of a line in bytes, its line feed not counted.
+/// The most bytes of a line without its line feed: `line_limit` in the definitions.
 const LINE_LIMIT: usize = 1 << 20;
 
 /// A place where a line of a text begins: its first byte, and the line's number.
-#[derive(Clone, Copy, Debug, PartialEq, Eq)]
+#[derive(Clone, Copy)]
 pub struct Place {
     pub at: usize,
     pub number: u32,
@@ -30,7 +31,7 @@ impl Place {
 }
 
 /// A line: the bytes of the text from `from` to before `to`, and its number from 1 on.
-#[derive(Clone, Copy, Debug, PartialEq, Eq)]
+#[derive(Clone, Copy)]
 pub struct Line {
     pub from: usize,
     pub to: usize,
@@ -57,7 +58,7 @@ fn raw_line(text: &[u8], place: Place) -> Option<Line>
 /// The place behind a line: behind its line feed, or at the end of the text.
 fn place_behind(text: &[u8], raw: Line) -> Place
     requires line { LiesIn raw text.now }
-    requires short { length text.now < 2 ^ 31 }
+    requires short { length text.now < text_limit }
     requires number { raw.number ≤ raw.from + 1 }
     ensures { result ≡ place_behind text.now (text_line text.now raw) }
 {
@@ -65,18 +66,6 @@ fn place_behind(text: &[u8], raw: Line) -> Place
         at: (raw.to + 1).min(text.len()),
         number: raw.number + 1,
     }
-}
-
-/// How many blanks stand at the end.
-fn blanks_at_end(text: &[u8]) -> usize
-    ensures within { result ≤ length text.now }
-    ensures len { result ≡ suffix_len is_blank text.now }
-{
-    let mut left = text.len();
-    while left > 0 && is_blank(text[left - 1]) {
-        left -= 1;
-    }
-    text.len() - left
 }
 
 /// A line's bytes without one carriage return at the end.
@@ -91,19 +80,17 @@ fn without_return(bytes: &[u8]) -> &[u8]
 
 /// Where what a line says stands: without a carriage return at the end, and without blanks at
 /// both ends.
-fn trimmed(text: &[u8], raw: Line) -> Line
+fn content_of(text: &[u8], raw: Line) -> Line
     requires { LiesIn raw text.now }
     ensures span { result ≡ span_of (text_line text.now raw) }
     ensures content { slice_range text.now result.from result.to ≡ content (text_line text.now raw) }
     ensures lies { LiesIn result text.now }
 {
     let bytes = without_return(&text[raw.from..raw.to]);
-    let blanks = blanks_len(bytes);
-    let rest = &bytes[blanks..];
-    let from = raw.from + blanks;
+    let from = raw.from + blanks_len(bytes);
     Line {
         from,
-        to: from + (rest.len() - blanks_at_end(rest)),
+        to: from + trimmed(bytes).len(),
         number: raw.number,
     }
 }
@@ -126,7 +113,7 @@ fn judged(text: &[u8], raw: Line) -> Result<Option<Line>, LexError>
     if raw.to - raw.from > LINE_LIMIT {
         return Err(LexError::LongLine);
     }
-    let line = trimmed(text, raw);
+    let line = content_of(text, raw);
     let content = &text[line.from..line.to];
     if content.starts_with(b"//") {
         Ok(None)
@@ -144,13 +131,13 @@ fn judged(text: &[u8], raw: Line) -> Result<Option<Line>, LexError>
 /// None exactly where nothing but comment lines, none of them too long, or nothing at all is
 /// left; `place` is then at the end of the text. `LongLine` exactly where the next line that isn't
 /// passed over has more than 2^20 bytes without its line feed, a comment or not, and else
-/// `NotText` exactly where it holds a byte that is neither a tab nor from 32 to 126; `place` then
-/// names that line.
+/// `NotText` exactly where it holds a byte that is neither a tab nor from a space to a tilde;
+/// `place` then names that line.
 ///
 /// The text has fewer than 2^31 bytes. `place.at` is at most its length, and `place.number` at
 /// most `place.at + 1`, and both stay so. The cost is linear in what is read.
 pub fn next_line(text: &[u8], place: &mut Place) -> Result<Option<Line>, LexError>
-    requires short { length text.now < 2 ^ 31 }
+    requires short { length text.now < text_limit }
     requires at { place.old.at ≤ length text.now }
     requires number { place.old.number ≤ place.old.at + 1 }
     ensures answer { result ≡ answer_of (behind_comments (lines_at text.now place.old)) }

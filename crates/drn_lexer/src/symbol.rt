@@ -1,15 +1,16 @@
 ghost use Rattle.std.specs.Prelude.{◌≡◌, ◌↔◌, ◌+◌, ◌-◌, ◌<◌, ◌≤◌, ◌∷◌, length, slice_range, IsNone, IfSome, IsTrue};
 ghost use Rattle.std.specs.List.{prefix_len, list_all};
-ghost use Rattle.drn_lexer.specs.Bytes.{is_blank, is_name_byte, first_passes};
+ghost use Rattle.lift_bytes.specs.Bytes.{is_blank, is_name_byte, first_passes};
 ghost use Rattle.drn_lexer.specs.Spans.{LiesIn, IsOn, first_symbol, IsNextSymbol};
 ghost use Rattle.drn_lexer.specs.Symbols.{symbols, mark_form, symbol_front};
 
-use crate::bytes::{begins_name, behind_blanks, is_name_byte};
+use crate::bytes::behind_blanks;
 use crate::line::Line;
+use lift_bytes::{begins_name, is_name_byte, name_len};
 use lift_frac::literal_len;
 
 /// What a symbol is.
-#[derive(Clone, Copy, Debug, PartialEq, Eq)]
+#[derive(Clone, Copy, Debug)]
 pub enum SymbolForm {
     /// A literal, as `2`, `0.5` or `1e-3`.
     Literal,
@@ -38,24 +39,11 @@ pub enum SymbolForm {
 }
 
 /// A symbol: the bytes of the text from `from` to before `to`.
-#[derive(Clone, Copy, Debug, PartialEq, Eq)]
+#[derive(Clone, Copy)]
 pub struct Symbol {
     pub from: usize,
     pub to: usize,
     pub form: SymbolForm,
-}
-
-/// How many letters, digits and underscores stand at the front.
-fn name_len(text: &[u8]) -> usize
-    ensures within { result ≤ length text.now }
-    ensures len { result ≡ prefix_len is_name_byte text.now }
-{
-    for (i, byte) in text.iter().enumerate() {
-        if !is_name_byte(*byte) {
-            return i;
-        }
-    }
-    text.len()
 }
 
 /// Whether a letter, a digit or an underscore stands at the front.

@@ -1,14 +1,15 @@
 ghost use Rattle.std.specs.Prelude.{◌≡◌, ℕ, ◌↔◌, ◌+◌, ◌-◌, ◌<◌, ◌≤◌, ◌==◌, ◌∷◌, length, slice_range, Ok, Err, None, IfOk, IfErr, IfSome, IsTrue, Some, if◌then◌else◌};
 ghost use Rattle.std.specs.List.{prefix_len, list_all, list_any, position_or_len};
-ghost use Rattle.drn_lexer.specs.Bytes.{is_blank};
-ghost use Rattle.drn_lexer.specs.Lines.{trimmed_front};
+ghost use Rattle.lift_bytes.specs.Bytes.{is_blank};
+ghost use Rattle.lift_bytes.specs.Trimming.{trimmed_front};
 ghost use Rattle.drn_lexer.specs.Spans.{LiesIn, IsOn, first_word, IsNextWord};
 ghost use Rattle.drn_lexer.specs.Steps.{FrontIs};
 ghost use Rattle.drn_lexer.specs.Words.{words, word_front, begins_open_quote, unquoted};
 
-use crate::bytes::{behind_blanks, is_blank, len_before};
+use crate::bytes::{behind_blanks, len_before};
 use crate::error::LexError;
 use crate::line::Line;
+use lift_bytes::is_blank;
 
 /// What a word is.
 #[derive(Clone, Copy, Debug, PartialEq, Eq)]
@@ -22,7 +23,7 @@ pub enum WordForm {
 }
 
 /// A word: the bytes of the text from `from` to before `to`, with its quotes or brackets.
-#[derive(Clone, Copy, Debug, PartialEq, Eq)]
+#[derive(Clone, Copy)]
 pub struct Word {
     pub from: usize,
     pub to: usize,

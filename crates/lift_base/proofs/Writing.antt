@@ -5,16 +5,26 @@ use Rattle.std.specs.declared.option.Option.{Option}
 use Rattle.std.specs.Io.KnownBytes.{Appends}
 use Rattle.std.proofs.KnownBytes.{Appends-nil, Appends-trans}
 use Rattle.lift_base.specs.Outside.{Rose, Wrote}
+use Rattle.lift_base.specs.Laws.{WroteUpTo}
+use Rattle.lift_base.specs.declared.output.WriteFault.{WriteFault}
 
--- What a writing loop keeps: the front of the bytes was appended, the rest is still to come, and no fault was counted.
-pub record WroteUpTo {K : Type 0} (taken : K → Option (List ℕ)) (faults : K → ℕ) (old new : K) (bytes rest : List ℕ) : Type 0 where
-  pub front : List ℕ
-  pub parts : bytes ≡ front ++ rest
-  pub appended : Appends (taken old) (taken new) front
-  pub calm : faults new ≡ faults old
+-- nothing is written
+pub wrote_nothing : {K T E : Type 0} (taken : K → Option (List ℕ)) (faults : K → ℕ) (k : K) (x : T) → Wrote {E = E} taken faults k k (Ok x) []
+wrote_nothing taken faults k x = record { whole = Appends-nil (taken k); calm = refl; part = tt; cause = tt; later = omega arith }
 
 pub at_first : {K : Type 0} (taken : K → Option (List ℕ)) (faults : K → ℕ) (k : K) (bytes : List ℕ) → WroteUpTo taken faults k k bytes bytes
-at_first taken faults k bytes = record { front = []; parts = refl; appended = Appends-nil (taken k); calm = refl }
+at_first taken faults k bytes = record { front = []; parts = refl; wrote = wrote_nothing taken faults k tt }
+
+-- one more piece behind what was written
+wrote_part : {K : Type 0} {taken : K → Option (List ℕ)} {faults : K → ℕ} {old mid new : K} {front : List ℕ} → Wrote {T = Unit {0}} {E = WriteFault} taken faults old mid (Ok tt) front
+    → (piece : List ℕ) → Appends (taken mid) (taken new) piece → faults new ≡ faults mid → Wrote {T = Unit {0}} {E = WriteFault} taken faults old new (Ok tt) (front ++ piece)
+wrote_part {taken = taken} {old = old} {mid = mid} {new = new} {front = front} so_far piece appended calm = record {
+  whole = Appends-trans (taken old) (taken mid) (taken new) front piece so_far.whole appended;
+  calm = calm ∙ so_far.calm;
+  part = tt;
+  cause = tt;
+  later = omega (arith, so_far.later, calm);
+}
 
 -- one more write
 pub one_more : {K : Type 0} (taken : K → Option (List ℕ)) (faults : K → ℕ) (old mid new : K) (bytes rest left : List ℕ) (n : ℕ)
@@ -23,8 +33,7 @@ pub one_more : {K : Type 0} (taken : K → Option (List ℕ)) (faults : K → �
 one_more taken faults old mid new bytes rest left n so_far appended calm left_is = record {
   front = so_far.front ++ take n rest;
   parts = so_far.parts ∙ ap (λ r. so_far.front ++ r) (sym (take-append-drop n rest)) ∙ sym (append_assoc so_far.front (take n rest) (drop n rest)) ∙ ap (λ r. (so_far.front ++ take n rest) ++ r) (sym left_is);
-  appended = Appends-trans (taken old) (taken mid) (taken new) so_far.front (take n rest) so_far.appended appended;
-  calm = calm ∙ so_far.calm;
+  wrote = wrote_part so_far.wrote (take n rest) appended calm;
 }
 
 -- a call that stopped before the end of its piece
@@ -68,10 +77,6 @@ stopped a b (Err f) bad p = record {
   later = p.later;
 }
 
--- nothing is written
-pub wrote_nothing : {K T E : Type 0} (taken : K → Option (List ℕ)) (faults : K → ℕ) (k : K) (x : T) → Wrote {E = E} taken faults k k (Ok x) []
-wrote_nothing taken faults k x = record { whole = Appends-nil (taken k); calm = refl; part = tt; cause = tt; later = omega arith }
-
 pub ruleset writing = (wrote_then, stopped, wrote_nothing)
 
 -- the pieces before an item, the item's, and those behind it
@@ -97,26 +102,18 @@ pub next_piece : {K T E : Type 0} {taken : K → Option (List ℕ)} {faults : K 
 next_piece {taken = taken} {old = old} {mid = mid} {new = new} piece more so_far is p = record {
   front = so_far.front ++ piece;
   parts = so_far.parts ∙ ap (λ r. so_far.front ++ r) is ∙ sym (append_assoc so_far.front piece more);
-  appended = Appends-trans (taken old) (taken mid) (taken new) so_far.front piece so_far.appended p.whole;
-  calm = p.calm ∙ so_far.calm;
+  wrote = wrote_part so_far.wrote piece p.whole p.calm;
 }
 
 -- a call failed at the next piece
 pub stops_there : {K T U E F : Type 0} {taken : K → Option (List ℕ)} {faults : K → ℕ} {old mid new : K} {e : E} {all rest : List ℕ} (piece more : List ℕ) (result : Result U F) → IsErr result
     → WroteUpTo taken faults old mid all rest → rest ≡ piece ++ more → Wrote {T = T} taken faults mid new (Err e) piece → Wrote taken faults old new result all
 stops_there {F = F} {taken = taken} {faults = faults} {old = old} {mid = mid} {new = new} {all = all} piece more result bad so_far is p =
-    let before : Wrote {T = Unit {0}} {E = F} taken faults old mid (Ok tt) so_far.front
-    = record { whole = so_far.appended; calm = so_far.calm; part = tt; cause = tt; later = omega (arith, so_far.calm) } in
     let text : (so_far.front ++ piece) ++ more ≡ all = append_assoc so_far.front piece more ∙ ap (λ r. so_far.front ++ r) (sym is) ∙ sym so_far.parts in
-    subst (λ (t : List ℕ). Wrote taken faults old new result t) text (stopped _ _ result bad (wrote_then before p))
+    subst (λ (t : List ℕ). Wrote taken faults old new result t) text (stopped _ _ result bad (wrote_then so_far.wrote p))
 
 -- nothing is to come
-pub all_written : {K T E : Type 0} {taken : K → Option (List ℕ)} {faults : K → ℕ} {old new : K} {all : List ℕ} (x : T)
-    → WroteUpTo taken faults old new all [] → Wrote {E = E} taken faults old new (Ok x) all
-all_written {taken = taken} {old = old} {new = new} x so_far = record {
-  whole = subst (λ (t : List ℕ). Appends (taken old) (taken new) t) (sym (so_far.parts ∙ append-nil so_far.front)) so_far.appended;
-  calm = so_far.calm;
-  part = tt;
-  cause = tt;
-  later = omega (arith, so_far.calm);
-}
+pub all_written : {K : Type 0} {taken : K → Option (List ℕ)} {faults : K → ℕ} {old new : K} {all : List ℕ}
+    → WroteUpTo taken faults old new all [] → Wrote {T = Unit {0}} {E = WriteFault} taken faults old new (Ok tt) all
+all_written {taken = taken} {faults = faults} {old = old} {new = new} so_far =
+    subst (λ (t : List ℕ). Wrote {T = Unit {0}} {E = WriteFault} taken faults old new (Ok tt) t) (sym (so_far.parts ∙ append-nil so_far.front)) so_far.wrote

@@ -3,3 +3,4 @@ pub mod Whole
 pub mod Memory
 pub mod Word
 pub mod Begins
+pub mod Laws

@@ -1,6 +1,7 @@
 -- Sources and sinks in memory, as their callers see them.
-use Rattle.std.specs.Prelude.{◌+◌, ◌-◌, ◌^◌, ◌==◌, ◌||◌, min, ℕ, List, ◌++◌, length, take, drop, Bool, if◌then◌else◌}
+use Rattle.std.specs.Prelude.{◌+◌, ◌-◌, ◌==◌, ◌||◌, min, ℕ, List, ◌++◌, length, take, drop, Bool, if◌then◌else◌}
 use Rattle.std.specs.List.{list_any}
+use Rattle.lift_base.specs.Outside.{last_count}
 use Rattle.lift_base.specs.declared.input.Got.{Got}
 use Rattle.lift_base.specs.declared.input.Got.TheVariants as got
 use Rattle.lift_base.specs.declared.output.Put.{Put}
@@ -23,9 +24,9 @@ pub record MemoryOutput : Type 0 where
   pub calls : ℕ
   pub faults : ℕ
 
--- a count of 64 bits goes up by so many, and stays at the last value of its type
+-- a count goes up by so many, and stays at the last value
 abbrev pub added : ℕ → ℕ → ℕ
-added n more = min (n + more) (2 ^ 64 - 1)
+added n more = min (n + more) last_count
 
 -- the next call is one of those that fail
 abbrev pub fails_next : List ℕ → ℕ → Bool

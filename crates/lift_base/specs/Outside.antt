@@ -8,9 +8,13 @@ use Rattle.lift_base.specs.declared.input.Got.TheVariants as got
 use Rattle.lift_base.specs.declared.output.Put.{Put}
 use Rattle.lift_base.specs.declared.output.Put.TheVariants as put
 
--- the count of faults has risen, or stands at the last value of its type
+-- a count has 64 bits, and stays at the last value
+abbrev pub last_count : ℕ
+last_count = 2 ^ 64 - 1
+
+-- the count of faults has risen, or stands at the last value
 abbrev pub Rose : ℕ → ℕ → Type 0
-Rose before now = min (before + 1) (2 ^ 64 - 1) ≤ now
+Rose before now = min (before + 1) last_count ≤ now
 
 -- what one read did: it gave the first bytes of what was left, none only at the end, or it failed and a fault was counted
 abbrev pub Reads : {S : Type 0} → (S → Option (List ℕ)) → (S → ℕ) → S → S → Got → List ℕ → Type 0

@@ -7,7 +7,7 @@ ghost use Rattle.lift_base.specs.declared.input.ReadError.TheVariants.{Memory};
 use std::alloc::{AllocError, Global};
 
 /// What one read gave.
-#[derive(Clone, Copy, Debug, PartialEq, Eq)]
+#[derive(Clone, Copy)]
 pub enum Got {
     /// So many bytes, at the front of the buffer. None is the end of input.
     Bytes(usize),
@@ -30,7 +30,7 @@ pub trait Source {
 }
 
 /// Why a source wasn't read to its end.
-#[derive(Clone, Copy, Debug, PartialEq, Eq)]
+#[derive(Clone, Copy, Debug)]
 pub enum ReadError {
     /// A read failed.
     Fault = 1,

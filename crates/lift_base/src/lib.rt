@@ -1,18 +1,17 @@
-// Where bytes come from and where they go: sources and sinks, each with a count of its faults.
+//! Where bytes come from and where they go: sources and sinks, each with a count of its faults.
 #![tactic(auto)]
 
 mod buffered;
 mod held;
 mod input;
+mod laws;
 mod memory;
 mod output;
 mod standard;
 
 pub use buffered::{BufferedSink, Origin, Text, write_buffered};
 pub use input::{Got, ReadError, Source, read_all};
+pub use laws::writes_in_turn;
 pub use memory::{MemSink, MemSource, SureSink, SureSource};
 pub use output::{Put, Sink, Word, WriteFault, put_number, write_all, write_numbers, write_words};
 pub use standard::{StdSink, StdSource};
-
-#[cfg(test)]
-mod tests;

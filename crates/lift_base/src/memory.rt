@@ -193,7 +193,7 @@ impl Sink for MemSink {
 
 /// Takes everything, never fails, and keeps only how many bytes came, up to the last value of the
 /// type.
-#[derive(Debug, Drop)]
+#[derive(Drop)]
 pub struct SureSink {
     count: u64,
 }

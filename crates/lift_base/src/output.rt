@@ -1,16 +1,16 @@
 // Where bytes go, and the calls that write.
-ghost use Rattle.std.specs.Prelude.{◌≡◌, ◌<◌, ◌≤◌, List, [], ℕ, length, take, Option, ◌∷◌};
+ghost use Rattle.std.specs.Prelude.{◌≡◌, ◌<◌, ◌≤◌, List, [], ℕ, length, take, Option};
 ghost use Rattle.std.specs.Borrow.{GName};
 ghost use Rattle.std.specs.Io.KnownBytes.{Appends};
 ghost use Rattle.std.specs.Fmt.{decimal, signed_decimal};
 ghost use Rattle.std.specs.List.{flat_map};
 ghost use Rattle.lift_base.specs.Outside.{Puts, Rose, Wrote};
-ghost use Rattle.lift_base.specs.Word.{word_text};
+ghost use Rattle.lift_base.specs.Word.{spaced, word_text};
 
 use itoa::Buffer;
 
 /// What one write did.
-#[derive(Clone, Copy, Debug, PartialEq, Eq)]
+#[derive(Clone, Copy)]
 pub enum Put {
     /// So many bytes were taken from the front of the piece, at least one.
     Took(usize),
@@ -49,7 +49,7 @@ impl<K: Sink> Sink for &mut K {
 }
 
 /// A write failed, and a part of the bytes may have been taken.
-#[derive(Clone, Copy, Debug, PartialEq, Eq)]
+#[derive(Clone, Copy, Debug)]
 pub struct WriteFault;
 
 // Writes until all is taken or a write fails, and tells how many bytes were taken.
@@ -94,7 +94,7 @@ pub fn put_number<K: Sink>(out: &mut K, n: i128) -> Result<(), WriteFault>
 }
 
 /// A part of a text that is written.
-#[derive(Clone, Copy, Debug)]
+#[derive(Clone, Copy)]
 pub enum Word<'a> {
     /// Bytes as they are.
     Text(&'a [u8]),
@@ -108,7 +108,7 @@ pub enum Word<'a> {
 
 // Writes a number behind a blank.
 fn put_spaced<K: Sink>(out: &mut K, number: &i64) -> Result<(), WriteFault>
-    ensures { Wrote K.taken K.faults out.old out.new result (32 ∷ signed_decimal number.now) }
+    ensures { Wrote K.taken K.faults out.old out.new result (spaced number.now) }
 {
     write_all(out, b" ")?;
     put_number(out, i128::from(*number))
@@ -116,7 +116,7 @@ fn put_spaced<K: Sink>(out: &mut K, number: &i64) -> Result<(), WriteFault>
 
 /// Writes each number behind a blank. Takes no memory.
 pub fn write_numbers<K: Sink>(out: &mut K, numbers: &[i64]) -> Result<(), WriteFault>
-    ensures { Wrote K.taken K.faults out.old out.new result (flat_map (λ n. 32 ∷ signed_decimal n) numbers.now) }
+    ensures { Wrote K.taken K.faults out.old out.new result (flat_map spaced numbers.now) }
 {
     for number in numbers {
         put_spaced(out, number)?;

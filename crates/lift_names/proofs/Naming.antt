@@ -1,5 +1,5 @@
 -- Names as the texts of vectors: where one stands, and what a new one leaves.
-use Rattle.std.proofs.Common.{◌≡◌, ◌≢◌, ◌<◌, ◌-◌, ◌^◌, ℕ, List, [], ◌∷◌, ◌++◌, map, Bool, false, refl, sym, ap, ◌∙◌, length, position, Contains, arith, Vec, length-append}
+use Rattle.std.proofs.Common.{◌≡◌, ◌≢◌, ◌+◌, ◌<◌, ℕ, List, [], ◌∷◌, ◌++◌, map, Bool, false, refl, sym, ap, ◌∙◌, length, position, Contains, arith, Vec, length-append}
 use Rattle.std.specs.List.{list_any, position_or_len}
 use Rattle.std.specs.Str.{bytes_eq}
 use Rattle.std.specs.Bool.{Decides}
@@ -10,7 +10,7 @@ use Rattle.std.proofs.lemmas.List.Quantifiers.{all_pairs_push}
 use Rattle.std.proofs.lemmas.Map.Views.{Contains-from_any, list_any-from_Contains}
 use Rattle.std.proofs.lemmas.Slice.Eq.{bytes_eq-Decides}
 use Rattle.indexmap.specs.IndexSet.{insert_key}
-use Rattle.lift_names.specs.Names.{AreNames, texts}
+use Rattle.lift_names.specs.Names.{names_limit, AreNames, texts}
 
 position_or_len-map : {X Y : Type 0} (p : Y → Bool) (f : X → Y) (xs : List X) → position_or_len p (map f xs) ≡ position_or_len (λ x. p (f x)) xs
 position_or_len-map p f [] = refl
@@ -45,7 +45,7 @@ goes_last name text keys view e is absent =
     rw (none, map-append (λ (v : Vec ℕ Global). v.items) keys (name ∷ []), e, is) refl
 
 -- the names and one that isn't among them
-pub one_more_name : (view : List (List ℕ)) (text : List ℕ) → AreNames view → length view < 2 ^ 32 - 1 → (Contains view text → ⊥) → AreNames (view ++ text ∷ [])
+pub one_more_name : (view : List (List ℕ)) (text : List ℕ) → AreNames view → length view + 1 < names_limit → (Contains view text → ⊥) → AreNames (view ++ text ∷ [])
 one_more_name view text names few absent = record {
   distinct = all_pairs_push (λ a b. a ≢ b) view text names.distinct (λ k d h e. absent (k, h, get_or_default view k text d h ∙ e));
   places = omega (arith, length-append view (text ∷ []));

@@ -1,7 +1,7 @@
 // Names, in order and by position.
-ghost use Rattle.std.specs.Prelude.{◌≡◌, ◌-◌, ◌^◌, ◌<◌, ◌↔◌, ◌++◌, ◌∷◌, [], List, ℕ, length, IfOk, OnErr, IsSome, IsTrue, Contains, Some, slice_get, position, if◌then◌else◌};
+ghost use Rattle.std.specs.Prelude.{◌≡◌, ◌+◌, ◌<◌, ◌↔◌, ◌++◌, ◌∷◌, [], List, ℕ, length, IfOk, OnErr, IsSome, IsTrue, Contains, Some, slice_get, position, if◌then◌else◌};
 ghost use Rattle.std.specs.Str.{bytes_eq};
-ghost use Rattle.lift_names.specs.Names.{AreNames};
+ghost use Rattle.lift_names.specs.Names.{names_limit, AreNames};
 
 use indexmap::IndexSet;
 use std::alloc::{AllocError, Global};
@@ -64,7 +64,7 @@ impl Names {
     /// Adds a name at the end: `true` where it wasn't there, and `false`, with nothing changed,
     /// exactly where it was.
     pub fn push(&mut self, name: &[u8]) -> Result<bool, AllocError>
-        requires { length self.old < 2 ^ 32 - 1 }
+        requires { length self.old + 1 < names_limit }
         ensures added { IfOk result (λ added. IsTrue added ↔ ¬ Contains self.old name.now) }
         ensures after { IfOk result (λ added. self.new ≡ (if added then self.old ++ name.now ∷ [] else self.old)) }
         ensures err { OnErr result (self.new ≡ self.old) }

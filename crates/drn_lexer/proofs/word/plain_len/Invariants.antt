@@ -1,6 +1,6 @@
 use Rattle.std.proofs.Common.{◌≡◌, ◌+◌, drop}
 use Rattle.std.specs.List.{position_or_len}
-use Rattle.drn_lexer.specs.Bytes.{is_blank}
+use Rattle.lift_bytes.specs.Bytes.{is_blank}
 use Rattle.drn_lexer.proofs.word.plain_len.Given as goal
 
 abbrev pub invariant-loop-i : goal.invariant-loop-i

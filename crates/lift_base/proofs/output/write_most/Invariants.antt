@@ -1,5 +1,5 @@
 use Rattle.std.proofs.Common.{◌≡◌, [], length}
-use Rattle.lift_base.proofs.Writing.{WroteUpTo}
+use Rattle.lift_base.specs.Laws.{WroteUpTo}
 use Rattle.lift_base.proofs.output.write_most.Given as goal
 
 abbrev pub invariant-loop-rest : goal.invariant-loop-rest

@@ -1,7 +1,7 @@
 use Rattle.std.proofs.Common.{◌≡◌, ◌+◌, ◌≤◌, length, take}
 use Rattle.std.specs.List.{suffix_len}
-use Rattle.drn_lexer.specs.Bytes.{is_blank}
-use Rattle.drn_lexer.proofs.line.blanks_at_end.Given as goal
+use Rattle.lift_bytes.specs.Bytes.{is_blank}
+use Rattle.lift_bytes.proofs.trim.blanks_at_end.Given as goal
 
 abbrev pub invariant-loop-left : goal.invariant-loop-left
 invariant-loop-left l = record {
