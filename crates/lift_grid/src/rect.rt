@@ -54,6 +54,7 @@ impl Rect {
     /// The ends in a row.
     pub fn sides(&self) -> &[i64]
         ensures sides { result.now ≡ sides_of self.now }
+        ensures same { spans_of result.now ≡ self.now }
         ensures spans { AreSpans self.now }
     {
         &self.sides

@@ -17,19 +17,20 @@ use Rattle.lift_poly.proofs.Canonical.{Canonical, canonical_from_polynomial, coe
 use Rattle.lift_poly.proofs.Ring.{linear}
 use Rattle.lift_model.specs.declared.entry.Entry.{Entry}
 use Rattle.lift_model.specs.Model.{support}
-use Rattle.corner_lift.specs.Case.{row_coefficient}
+use Rattle.corner_lift.specs.Case.{row_coefficient, due, SumsToOne}
 use Rattle.corner_lift.proofs.RowBound.{PartOf, PartOf-first, PartOf-second, PartOf-trans}
-use Rattle.lift_rows.specs.Fault.{due, HasSums, IsSumFault}
-use Rattle.lift_rows.specs.Sums.{IsFirstWrong}
+use Rattle.lift_rows.specs.Fault.{IsSumFault}
+use Rattle.lift_model.specs.Valid.{coefficient_limit}
+use Rattle.lift_rows.specs.Sums.{IsFirstWrong, sum_limit}
 
 -- ---- the terms of a polynomial
 
--- the coefficient's size is below 2 ^ 100
+-- the coefficient's size is below coefficient_limit
 abbrev pub IsSmall : Term → Type 0
-IsSmall term = unsigned_abs term.1 < 2 ^ 100
+IsSmall term = unsigned_abs term.1 < coefficient_limit
 
 -- at most one term has a given set, so the terms that are left sum to a coefficient or to 0 there
-left_small : (at low k : ℕ) (ts : List Term) → Canonical low ts → All IsSmall ts → unsigned_abs (coefficient at (drop k ts)) < 2 ^ 100
+left_small : (at low k : ℕ) (ts : List Term) → Canonical low ts → All IsSmall ts → unsigned_abs (coefficient at (drop k ts)) < coefficient_limit
 left_small at low zero [] h small = omega arith
 left_small at low (suc k) [] h small = omega arith
 left_small at low zero (t ∷ ts) h small =
@@ -40,7 +41,7 @@ left_small at low zero (t ∷ ts) h small =
     (cases_eq t.0 at)
 left_small at low (suc k) (t ∷ ts) h small = left_small at (suc t.0) k ts h.2 (All-tail IsSmall t ts small)
 
-pub coefficient_small : (ts : List Term) → IsMultiAffine ts → All IsSmall ts → (at : ℕ) → unsigned_abs (coefficient at ts) < 2 ^ 100
+pub coefficient_small : (ts : List Term) → IsMultiAffine ts → All IsSmall ts → (at : ℕ) → unsigned_abs (coefficient at ts) < coefficient_limit
 coefficient_small ts fits small at = left_small at 0 zero ts (canonical_from_polynomial ts fits.polynomial) small
 
 -- a loop's step: one term more
@@ -62,7 +63,7 @@ module _ (ts : List Term) (k : ℕ) (t : Term) (is : slice_get ts k ≡ Some t) 
     set_is = omega arith
 
     -- with the term, the sum fits
-    pub term_fits : (sum before : ℤ) → IsMultiAffine ts → All IsSmall ts → unsigned_abs before < 2 ^ 119 → sum +ℤ coefficient (block * 256 + t.0 % 256) (drop k ts) ≡ before +ℤ coefficient (block * 256 + t.0 % 256) ts → FitsSigned w128 (sum +ℤ t.1)
+    pub term_fits : (sum before : ℤ) → IsMultiAffine ts → All IsSmall ts → unsigned_abs before < sum_limit → sum +ℤ coefficient (block * 256 + t.0 % 256) (drop k ts) ≡ before +ℤ coefficient (block * 256 + t.0 % 256) ts → FitsSigned w128 (sum +ℤ t.1)
     term_fits sum before fits small room h =
         let at = block * 256 + t.0 % 256 in
         fits_signed_from_abs w128 (sum +ℤ t.1)
@@ -139,7 +140,7 @@ module _ (common : ℤ) (row : List Entry) (block : ℕ) where
       outside common row at (λ part. ne (subst (λ n. bit_or n (support row / 256) ≡ support row / 256) e (part_block at (support row) part)))
 
   -- nor has one past the last
-  pub right_all : support row / 256 < block → AreRight common row block → HasSums common row
+  pub right_all : support row / 256 < block → AreRight common row block → SumsToOne common row
   right_all last before at =
       ⊎_elim (before at) (λ (le : block * 256 ≤ at). outside common row at (λ part. omega (arith, part_le at (support row) part))) (cases_lt at (block * 256))
 
@@ -152,7 +153,7 @@ module _ (common : ℤ) (row : List Entry) (block : ℕ) where
     right_here None e h i lt = sym (is i lt) ∙ h i lt
     right_here (Some fault) e h i lt = cc
 
-    pub wrong_here : (wrong : Option (ℕ × ℤ)) → is_some wrong ≡ true → Found wrong → AreRight common row block → MatchOption wrong (HasSums common row) (λ fault. IsSumFault common row fault.0 fault.1)
+    pub wrong_here : (wrong : Option (ℕ × ℤ)) → is_some wrong ≡ true → Found wrong → AreRight common row block → MatchOption wrong (SumsToOne common row) (λ fault. IsSumFault common row fault.0 fault.1)
     wrong_here None e h before = cc
     wrong_here (Some fault) e h before = record {
       is = h.is ∙ is h.place h.in_block ∙ ap (λ at. row_coefficient at row) (sym h.set_is);

@@ -4,12 +4,12 @@ use Rattle.lift_poly.proofs.Ring.{linear}
 use Rattle.lift_model.specs.declared.entry.Entry.{Entry}
 use Rattle.lift_model.specs.Model.{choices, row_at}
 use Rattle.corner_lift.specs.Corner.{corner_weight, no_entry}
-use Rattle.corner_lift.specs.Case.{CaseData, IsAdmittedRow}
-use Rattle.lift_rows.specs.Fault.{ComesBefore, IsSumFault, IsRowFault, IsFirstFault, HasSums, count}
+use Rattle.corner_lift.specs.Case.{CaseData, IsAdmittedRow, SumsToOne, row_parameters}
+use Rattle.lift_rows.specs.Fault.{ComesBefore, IsSumFault, IsRowFault, IsFirstFault}
 use Rattle.lift_rows.specs.declared.error.RowError.{RowError}
 use Rattle.lift_rows.specs.declared.error.RowError.TheVariants.{RowSum, Negative, RowParameters, TooWide}
 
-pub fault_refused : (k : CaseData) (s a : ℕ) (row : List Entry) (e : RowError) → IsRowFault k s a row e → IsAdmittedRow k.model k.d k.root k.w row → ⊥
+pub fault_refused : (k : CaseData) (s a : ℕ) (row : List Entry) (e : RowError) → IsRowFault k s a row e → IsAdmittedRow k row → ⊥
 fault_refused k s a row (RowSum t b set sum) f h = f.2.wrong (f.2.is ∙ h.sum set)
 fault_refused k s a row (Negative t b target corner weight) f h = let n = f.5.1 in omega (arith, linear, h.least corner n.corner_in f.5.0 no_entry n.entry_in, n.is, n.negative)
 fault_refused k s a row (RowParameters t b n) f h = omega (arith, h.few, f.3, f.4)
@@ -26,7 +26,7 @@ first_is_one In P i j m n in_one in_two not_one not_two one two =
     let e = neither_less i m (λ lt. not_one (two i j in_one (inl lt))) (λ lt. not_two (one m n in_two (inl lt))) in
     (e, neither_less j n (λ lt. not_one (two i j in_one (inr (e, lt)))) (λ lt. not_two (one m n in_two (inr (sym e, lt)))))
 
-sum_fault_not : (common : ℤ) (row : List Entry) (set : ℕ) (sum : ℤ) → IsSumFault common row set sum → HasSums common row → ⊥
+sum_fault_not : (common : ℤ) (row : List Entry) (set : ℕ) (sum : ℤ) → IsSumFault common row set sum → SumsToOne common row → ⊥
 sum_fault_not common row set sum f h = f.wrong (f.is ∙ h set)
 
 -- ---- one fault of a row
@@ -40,7 +40,7 @@ same_fault k s a row (RowSum t b set sum) (RowParameters u c n) x y = absurd (su
 same_fault k s a row (RowSum t b set sum) (TooWide u c) x y = absurd (sum_fault_not _ row set sum x.2 y.2)
 same_fault k s a row (Negative t b target corner weight) (RowSum u c set sum) x y = absurd (sum_fault_not _ row set sum y.2 x.2)
 same_fault k s a row (Negative t b target corner weight) (Negative u c other edge more) x y =
-    let In : ℕ → ℕ → Type 0 = λ j at. at < 2 ^ count k row in
+    let In : ℕ → ℕ → Type 0 = λ j at. at < 2 ^ row_parameters k row in
     let P : ℕ → ℕ → Type 0 = λ j at. pos 0 ≤ℤ corner_weight k.d k.root row at j in
     let n = x.5.1 in
     let m = y.5.1 in
@@ -64,7 +64,7 @@ same_at k s a t b e f p q x y = same_fault k s a (row_at k.model s a) e f x (rw 
 pub first_fault_one : (k : CaseData) (e f : RowError) → IsFirstFault k e → IsFirstFault k f → e ≡ f
 first_fault_one k e f x y =
     let In : ℕ → ℕ → Type 0 = λ s a. (s < length k.model.states) × (a < length (choices k.model s)) in
-    let P : ℕ → ℕ → Type 0 = λ s a. IsAdmittedRow k.model k.d k.root k.w (row_at k.model s a) in
+    let P : ℕ → ℕ → Type 0 = λ s a. IsAdmittedRow k (row_at k.model s a) in
     let place = first_is_one In P x.state x.choice y.state y.choice (x.state_in, x.choice_in) (y.state_in, y.choice_in)
     (fault_refused k x.state x.choice (row_at k.model x.state x.choice) e x.fault) (fault_refused k y.state y.choice (row_at k.model y.state y.choice) f y.fault)
     (λ s a at. x.before s a at.0 at.1) (λ s a at. y.before s a at.0 at.1) in

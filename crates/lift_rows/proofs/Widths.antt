@@ -4,8 +4,7 @@ use Rattle.std.proofs.Math.Nat.{le-div_iff_mul-le, pow-zero}
 use Rattle.std.proofs.lemmas.Nat.{pow_pos}
 use Rattle.std.proofs.lemmas.Int.{ints}
 use Rattle.lift_grid.specs.Rectangle.{Spans, sides_of}
-use Rattle.corner_lift.specs.Case.{CaseData, greatest_size}
-use Rattle.lift_rows.specs.Admitted.{IsAsked}
+use Rattle.corner_lift.specs.Case.{CaseData, greatest_size, IsAsked}
 
 -- the greatest of a number and the sizes of some ends
 abbrev pub greatest_from : ℕ → List ℤ → ℕ

@@ -1,23 +1,10 @@
--- Which models are admitted over a rectangle, and what that gives at each valuation inside it.
-use Rattle.std.specs.Prelude.{◌≡◌, ◌≤◌, pos, ◌≤ℤ◌, length, All}
+-- What admission over a rectangle gives at each valuation inside it: each row is a distribution.
+use Rattle.std.specs.Prelude.{◌≡◌, pos, ◌≤ℤ◌, All}
 use Rattle.lift_poly.specs.Polynomial.{Valuation, weight}
-use Rattle.lift_grid.specs.Rectangle.{AreSpans, Inside, IsOnGrid}
+use Rattle.lift_grid.specs.Rectangle.{Inside}
 use Rattle.lift_model.specs.Process.{weighted_sum}
 use Rattle.lift_model.specs.Model.{moves_at, process_at}
-use Rattle.lift_model.specs.Valid.{IsModel}
-use Rattle.corner_lift.specs.Case.{CaseData, IsAdmittedRow}
-
--- What may be asked to be admitted: a valid model, a root on the grid with a span for each declared parameter, a depth of at most 20, and a precision from 1 to 40.
-pub record IsAsked (k : CaseData) : Type 0 where
-  pub model : IsModel k.model
-  pub spans : AreSpans k.root
-  pub grid : IsOnGrid k.d k.depth (length k.model.names) k.root
-  pub depth : k.depth ≤ 20
-  pub precision : (1 ≤ k.w) × (k.w ≤ 40)
-
--- each row of each state is admitted: it sums to 1, has at most 4 parameters, is narrow, and has no negative weight at a corner of the root
-abbrev pub IsAdmitted : CaseData → Type 0
-IsAdmitted k = All (All (IsAdmittedRow k.model k.d k.root k.w)) k.model.states
+use Rattle.corner_lift.specs.Case.{CaseData}
 
 -- at each valuation inside the root no entry's weight is below 0
 abbrev pub HasWeightsFromZero : CaseData → Type 0

@@ -1,7 +1,7 @@
 ghost use Rattle.std.specs.Prelude.{◌≡◌};
 ghost use Rattle.lift_grid.specs.Rectangle.{sides_of, spans_of};
-ghost use Rattle.corner_lift.specs.Case.{greatest_size};
-ghost use Rattle.lift_rows.specs.Admitted.{IsAsked};
+ghost use Rattle.lift_grid.specs.Parts.{region_of};
+ghost use Rattle.corner_lift.specs.Case.{IsAsked, case_of, greatest_size};
 
 use lift_grid::{Grid, Rect};
 use lift_model::Model;
@@ -18,14 +18,15 @@ pub(crate) struct Candidate<'m> {
 
 impl<'m> std::marker::Model for Candidate<'m> {
     ghost use Rattle.std.specs.Prelude.{◌≡◌};
-    ghost use Rattle.corner_lift.specs.Case.{CaseData, greatest_size};
-    ghost use Rattle.lift_rows.specs.Admitted.{IsAsked};
+    ghost use Rattle.lift_grid.specs.Parts.{region_of};
+    ghost use Rattle.corner_lift.specs.Case.{CaseData, IsAsked, case_of, greatest_size};
 
     ghost Value = { CaseData };
 
-    ghost view = { λ c. record { model = c.model.now; root = c.root.now; d = c.grid.d; depth = c.grid.depth; w = c.w } };
+    ghost view = { λ c. case_of c.model.now (region_of (c.grid, c.root.now)) c.w };
 
-    ghost invariant = { λ c. IsAsked (record { model = c.model.now; root = c.root.now; d = c.grid.d; depth = c.grid.depth; w = c.w }) × (c.greatest ≡ greatest_size c.grid.d c.root.now) };
+    ghost invariant = { λ c. IsAsked (case_of c.model.now (region_of (c.grid, c.root.now)) c.w)
+        × (c.greatest ≡ greatest_size c.grid.d c.root.now) };
 }
 
 /// The greatest size among `d` and the sides.
@@ -43,8 +44,8 @@ fn greatest_of(d: i64, sides: &[i64]) -> u128
 impl<'m> Candidate<'m> {
     /// The candidate of these parts. Takes no memory.
     pub(crate) fn new(model: &'m Model, root: &'m Rect, grid: Grid, w: u32) -> Candidate<'m>
-        requires { IsAsked (record { model = model.now; root = root.now; d = grid.d; depth = grid.depth; w = w }) }
-        ensures { result ≡ record { model = model.now; root = root.now; d = grid.d; depth = grid.depth; w = w } }
+        requires { IsAsked (case_of model.now (region_of (grid, root.now)) w) }
+        ensures { result ≡ case_of model.now (region_of (grid, root.now)) w }
     {
         let greatest = greatest_of(grid.d, root.sides());
         Candidate {
@@ -67,6 +68,7 @@ impl<'m> Candidate<'m> {
     /// The ends of the root in a row.
     pub(crate) fn sides(&self) -> &'m [i64]
         ensures value { result.now ≡ sides_of self.now.root }
+        ensures same { spans_of result.now ≡ self.now.root }
         ensures asked { IsAsked self.now }
     {
         self.root.sides()

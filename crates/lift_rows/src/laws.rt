@@ -1,4 +1,6 @@
-ghost use Rattle.lift_rows.specs.Laws.{FirstFaultIsOne, AdmittedHasNoFault};
+ghost use Rattle.lift_rows.specs.Laws.{FirstFaultIsOne, AdmittedHasNoFault, CasesHaveWeights, CasesHaveSums};
+
+use corner_lift::rows_inside;
 
 /// Holds the laws of first faults, for who reasons about them: a model has at most one, and one that is
 /// admitted has none. It does nothing.
@@ -6,3 +8,12 @@ pub fn first_fault_is_one()
     ensures one { FirstFaultIsOne }
     ensures none { AdmittedHasNoFault }
 {}
+
+/// Holds that in a case each row is a distribution at every valuation inside the root: no weight is
+/// negative, and they sum to the total. It does nothing.
+pub fn cases_have_distributions()
+    ensures weights { CasesHaveWeights }
+    ensures sums { CasesHaveSums }
+{
+    rows_inside();
+}

@@ -12,7 +12,4 @@ mod width;
 
 pub use admission::admit;
 pub use error::RowError;
-pub use laws::first_fault_is_one;
-
-#[cfg(test)]
-mod tests;
+pub use laws::{cases_have_distributions, first_fault_is_one};

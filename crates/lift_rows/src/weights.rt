@@ -3,10 +3,11 @@
 ghost use Rattle.std.specs.Prelude.{◌^◌, ◌<◌, ◌≤◌, ℕ, pos, ◌≤ℤ◌, length, unsigned_abs, IfSome, MatchOption};
 ghost use Rattle.lift_model.specs.Model.{choices, row_at};
 ghost use Rattle.corner_lift.specs.Corner.{corner_weight};
-ghost use Rattle.lift_rows.specs.Fault.{IsNarrow, IsFirstNegative, count};
+ghost use Rattle.corner_lift.specs.Case.{IsNarrow, row_parameters, most_row_parameters, engine_limit};
+ghost use Rattle.lift_rows.specs.Fault.{IsFirstNegative};
 
 use crate::candidate::Candidate;
-use corner_lift::raw_weight;
+use corner_lift::{raw_weight, rows_at_corners};
 
 /// An entry of a row, by its number, and what it weighs at a corner.
 #[derive(Clone, Copy, Debug)]
@@ -20,13 +21,14 @@ pub(crate) struct Weighed {
 pub(crate) fn first_negative(asked: &Candidate, s: u32, a: u32) -> Option<Weighed>
     requires state { s < length asked.now.model.states }
     requires choice { a < length (choices asked.now.model s) }
-    requires few { count asked.now (row_at asked.now.model s a) ≤ 4 }
+    requires few { row_parameters asked.now (row_at asked.now.model s a) ≤ most_row_parameters }
     requires narrow { IsNarrow asked.now (row_at asked.now.model s a) }
     ensures first { MatchOption result
-        ((j c : ℕ) → j < length (row_at asked.now.model s a) → c < 2 ^ count asked.now (row_at asked.now.model s a) → pos 0 ≤ℤ corner_weight asked.now.d asked.now.root (row_at asked.now.model s a) c j)
+        ((j c : ℕ) → j < length (row_at asked.now.model s a) → c < 2 ^ row_parameters asked.now (row_at asked.now.model s a) → pos 0 ≤ℤ corner_weight asked.now.d asked.now.root (row_at asked.now.model s a) c j)
         (λ n. IsFirstNegative asked.now (row_at asked.now.model s a) n.entry n.corner n.weight) }
-    ensures size { IfSome result (λ n. unsigned_abs n.weight < 2 ^ 126) }
+    ensures size { IfSome result (λ n. unsigned_abs n.weight < engine_limit) }
 {
+    rows_at_corners();
     let row = asked.model().row(s, a);
     let corners = 1u32 << row.support().count_ones();
     for entry in 0..row.entries().len() as u32 {

@@ -1,8 +1,7 @@
 //! The width of a row.
 
 ghost use Rattle.std.specs.Prelude.{◌≡◌, ◌*◌, ◌^◌, ◌<◌, ◌≤◌, ℕ, ◌↔◌, IsTrue};
-ghost use Rattle.corner_lift.specs.Case.{greatest_size};
-ghost use Rattle.lift_rows.specs.Fault.{IsNarrow, count as count_of};
+ghost use Rattle.corner_lift.specs.Case.{IsNarrow, row_parameters, greatest_size, engine_limit};
 ghost use Rattle.lift_rows.specs.Sums.{AreSmall};
 
 use crate::candidate::Candidate;
@@ -11,7 +10,7 @@ use lift_model::Row;
 /// The greatest number that stays below 2^126 when it is multiplied by so many of the greatest ends and
 /// by 2^w. It is found by division, so that nothing is formed that could leave 128 bits.
 fn limit_of(asked: &Candidate, count: u32) -> u128
-    ensures { (n : ℕ) → (n ≤ result) ↔ (n * greatest_size asked.now.d asked.now.root ^ count * 2 ^ asked.now.w < 2 ^ 126) }
+    ensures { (n : ℕ) → (n ≤ result) ↔ (n * greatest_size asked.now.d asked.now.root ^ count * 2 ^ asked.now.w < engine_limit) }
 {
     let mut limit = ((1u128 << 126) - 1) >> asked.w();
     let mut left = count;
@@ -25,7 +24,7 @@ fn limit_of(asked: &Candidate, count: u32) -> u128
 /// Whether products and sums of the row's weights stay below 2^126.
 pub(crate) fn is_narrow(asked: &Candidate, row: &Row, count: u32) -> bool
     requires small { AreSmall row.now }
-    requires count { count ≡ count_of asked.now row.now }
+    requires count { count ≡ row_parameters asked.now row.now }
     ensures { IsTrue result ↔ IsNarrow asked.now row.now }
 {
     let mut left = limit_of(asked, count);

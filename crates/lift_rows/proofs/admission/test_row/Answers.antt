@@ -5,22 +5,22 @@ use mir.Syntax.{w128}
 use Rattle.lift_model.specs.declared.entry.Entry.{Entry}
 use Rattle.lift_model.specs.Model.{row_at}
 use Rattle.corner_lift.specs.Corner.{no_entry}
-use Rattle.lift_rows.specs.Fault.{HasSums, count}
+use Rattle.corner_lift.specs.Case.{SumsToOne, row_parameters}
 use Rattle.lift_rows.specs.Sums.{AreSmall}
-use Rattle.lift_rows.proofs.RowTests.{small_row, row_count, least_at}
+use Rattle.lift_rows.proofs.RowTests.{small_row, least_at}
 use Rattle.lift_rows.proofs.admission.test_row.Goals as goal
 use Rattle.lift_rows.proofs.admission.test_row.Goals.{After-common, After-support-count}
 
 small : (c : After-common) → AreSmall c.row-row.result.now
 small c = rw (c.row-row.ensures.value, c.model-model.ensures.value) (small_row c.args.asked.now.model c.args.state c.args.choice c.model-model.ensures.asked.model c.requires.state c.requires.choice)
 
-sums : (c : After-support-count) → HasSums c.args.asked.now.model.common (row_at c.args.asked.now.model c.args.state c.args.choice)
+sums : (c : After-support-count) → SumsToOne c.args.asked.now.model.common (row_at c.args.asked.now.model c.args.state c.args.choice)
 sums c =
     let fits : SFits w64 c.common.result = search rules in
     rw (to_z-of_z fits, c.common.ensures.value, c.row-row.ensures.value, c.model-model.ensures.value) at c.in_default.ensures.fault
 
-ones_is : (c : After-support-count) → count_ones c.support-count.result ≡ count c.args.asked.now (row_at c.args.asked.now.model c.args.state c.args.choice)
-ones_is c = rw (c.support-count.ensures, c.row-row.ensures.value, c.model-model.ensures.value) (row_count c.args.asked.now c.args.state c.args.choice c.model-model.ensures.asked c.requires.state c.requires.choice)
+ones_is : (c : After-support-count) → count_ones c.support-count.result ≡ row_parameters c.args.asked.now (row_at c.args.asked.now.model c.args.state c.args.choice)
+ones_is c = rw (c.support-count.ensures, c.row-row.ensures.value, c.model-model.ensures.value) (c.rows_at_corners.ensures.bits c.args.asked.now c.args.state c.args.choice c.model-model.ensures.asked (record { state = c.requires.state; choice = c.requires.choice }))
 
 pub sum_fault-requires-clause-small : goal.sum_fault-requires-clause-small
 sum_fault-requires-clause-small c = small c

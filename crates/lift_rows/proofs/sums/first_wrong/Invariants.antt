@@ -1,5 +1,5 @@
 use Rattle.std.proofs.Common.{◌≡◌, ℕ, ◌+◌, ◌*◌, ◌<◌, pos, slice_index_or}
-use Rattle.lift_rows.specs.Fault.{due}
+use Rattle.corner_lift.specs.Case.{due}
 use Rattle.lift_rows.proofs.sums.first_wrong.Given as goal
 
 -- the sums so far are those that are due; past the last one the set may wrap
