@@ -3,9 +3,6 @@ use Rattle.std.proofs.Common.{◌≡◌, ◌+◌, ◌<◌, ℕ, zero, suc, List,
 use Rattle.std.specs.List.{flat_map, concat}
 use Rattle.std.specs.Fmt.{decimal}
 use Rattle.std.proofs.lemmas.List.Folds.{concat-append}
-use Rattle.std.specs.declared.option.Option.{Option}
-use Rattle.lift_base.specs.Outside.{Wrote}
-use Rattle.cert_text.proofs.Writing.{stopped_at}
 use Rattle.lift_model.specs.declared.kind.Kind.{Kind}
 use Rattle.lift_model.specs.Model.{ModelData}
 use Rattle.lift_grid.specs.Rectangle.{Spans}
@@ -82,9 +79,11 @@ head_parts k bound m root e f =
     (concat-append (asked_lines k bound) (box_line k.root ∷ [])
     ∙ ap (λ (rest : List ℕ). concat (asked_lines k bound) ++ rest) (append-nil (box_line k.root) ∙ ap box_line (sym f))))
 
--- a loop over items that stops at one
-pub stopped_item : {X K T U V E F G : Type 0} {taken : K → Option (List ℕ)} {faults : K → ℕ} {old mid new : K} {y : T} {e : E} (f : X → List ℕ) (xs : List X) (i : ℕ) (x : X)
-    (result : Result U F) → IsErr result → i < length xs → x ≡ get_or xs i x → Wrote {E = G} taken faults old mid (Ok y) (flat_map f (take i xs))
-    → Wrote {T = V} taken faults mid new (Err e) (f x) → Wrote taken faults old new result (flat_map f xs)
-stopped_item {X = X} {V = V} {taken = taken} {faults = faults} {mid = mid} {new = new} {e = e} f xs i x result bad h is p q =
-    stopped_at f xs i x result bad h p (subst (λ (z : X). Wrote {T = V} taken faults mid new (Err e) (f z)) is q)
+flat_item_suc : {A : Type 0} (f : A → List ℕ) (xs : List A) (k : ℕ) (x : A) → k < length xs → x ≡ get_or xs k x → flat_map f (drop k xs) ≡ f x ++ flat_map f (drop (suc k) xs)
+flat_item_suc f [] k x h is = absurd (omega arith)
+flat_item_suc f (y ∷ xs) zero x h is = ap (λ (z : _). f z ++ flat_map f xs) (sym is)
+flat_item_suc f (y ∷ xs) (suc k) x h is = flat_item_suc f xs k x (omega arith) is
+
+-- the piece of an item that a loop is at, and those behind it
+pub flat_item : {A : Type 0} (f : A → List ℕ) (xs : List A) (k : ℕ) (x : A) → k < length xs → x ≡ get_or xs k x → flat_map f (drop k xs) ≡ f x ++ flat_map f (drop (k + 1) xs)
+flat_item f xs k x h is = rw (add-one k) (flat_item_suc f xs k x h is)

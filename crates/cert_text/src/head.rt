@@ -5,7 +5,7 @@ ghost use Rattle.cert_text.specs.Report.{asked_lines, box_line, head_lines};
 
 use crate::model::write_model;
 use corner_lift::Case;
-use lift_base::{Sink, Word, WriteFault, write_all, write_words};
+use lift_base::{Sink, Word, WriteFault, write_all, write_words, writes_in_turn};
 use lift_cert::Bound;
 use lift_grid::Rect;
 
@@ -47,6 +47,7 @@ fn write_box<K: Sink>(out: &mut K, root: &Rect) -> Result<(), WriteFault>
 pub fn write_head<K: Sink>(out: &mut K, case: &Case, bound: Bound) -> Result<(), WriteFault>
     ensures { Wrote K.taken K.faults out.old out.new result (concat (head_lines case.now bound)) }
 {
+    writes_in_turn::<K>();
     write_all(out, b"plift 1\n")?;
     write_model(out, case.model())?;
     write_asked(out, case, bound)?;

@@ -9,7 +9,7 @@ ghost use Rattle.cert_text.specs.Report.{line, kind_name, kind_words, parameters
 ghost use Rattle.cert_text.specs.Report.{goal_states, goal_words, term_word, entry_line, row_line};
 ghost use Rattle.cert_text.specs.Report.{row_lines, state_lines, rows_lines, model_lines};
 
-use lift_base::{Sink, Word, WriteFault, write_all, write_words};
+use lift_base::{Sink, Word, WriteFault, write_all, write_words, writes_in_turn};
 use lift_model::{Entry, Kind, Model, Row};
 use lift_names::Names;
 use lift_poly::MultiAffine;
@@ -46,6 +46,7 @@ fn write_names<K: Sink>(out: &mut K, names: &Names) -> Result<(), WriteFault>
     ensures { Wrote K.taken K.faults out.old out.new result
         (flat_map (λ name. space ∷ name) names.now) }
 {
+    writes_in_turn::<K>();
     for place in 0..names.len() {
         write_name(out, names.get(place))?;
     }
@@ -55,6 +56,7 @@ fn write_names<K: Sink>(out: &mut K, names: &Names) -> Result<(), WriteFault>
 fn write_parameters<K: Sink>(out: &mut K, names: &Names) -> Result<(), WriteFault>
     ensures { Wrote K.taken K.faults out.old out.new result (line (parameters_words names.now)) }
 {
+    writes_in_turn::<K>();
     write_words(
         out,
         &[
@@ -106,6 +108,7 @@ fn write_goal_states<K: Sink>(out: &mut K, model: &Model) -> Result<(), WriteFau
     ensures { Wrote K.taken K.faults out.old out.new result
         (flat_map (λ s. space ∷ decimal s) (goal_states 0 model.now.goal)) }
 {
+    writes_in_turn::<K>();
     for s in 0..model.states() {
         if model.is_goal(s) {
             write_state(out, s)?;
@@ -117,6 +120,7 @@ fn write_goal_states<K: Sink>(out: &mut K, model: &Model) -> Result<(), WriteFau
 fn write_goal<K: Sink>(out: &mut K, model: &Model) -> Result<(), WriteFault>
     ensures { Wrote K.taken K.faults out.old out.new result (line (goal_words model.now.goal)) }
 {
+    writes_in_turn::<K>();
     let count = goal_count(model);
     write_words(out, &[Word::Text(b"goal "), Word::Count(u64::from(count))])?;
     write_goal_states(out, model)?;
@@ -142,6 +146,7 @@ fn write_terms<K: Sink>(out: &mut K, poly: &MultiAffine) -> Result<(), WriteFaul
     ensures { Wrote K.taken K.faults out.old out.new result
         (flat_map (λ term. space ∷ term_word term) poly.now) }
 {
+    writes_in_turn::<K>();
     for index in 0..poly.len() {
         write_term(out, poly.term(index))?;
     }
@@ -151,6 +156,7 @@ fn write_terms<K: Sink>(out: &mut K, poly: &MultiAffine) -> Result<(), WriteFaul
 fn write_entry<K: Sink>(out: &mut K, entry: &Entry) -> Result<(), WriteFault>
     ensures { Wrote K.taken K.faults out.old out.new result (entry_line entry.now) }
 {
+    writes_in_turn::<K>();
     write_words(
         out,
         &[Word::Text(b"to "), Word::Count(u64::from(entry.target))],
@@ -162,6 +168,7 @@ fn write_entry<K: Sink>(out: &mut K, entry: &Entry) -> Result<(), WriteFault>
 fn write_entries<K: Sink>(out: &mut K, entries: &[Entry]) -> Result<(), WriteFault>
     ensures { Wrote K.taken K.faults out.old out.new result (flat_map entry_line entries.now) }
 {
+    writes_in_turn::<K>();
     for entry in entries {
         write_entry(out, entry)?;
     }
@@ -189,6 +196,7 @@ fn write_row_line<K: Sink>(out: &mut K, s: u32, a: u32, count: usize) -> Result<
 fn write_row<K: Sink>(out: &mut K, s: u32, a: u32, row: &Row) -> Result<(), WriteFault>
     ensures { Wrote K.taken K.faults out.old out.new result (concat (row_lines s a row.now)) }
 {
+    writes_in_turn::<K>();
     let entries = row.entries();
     write_row_line(out, s, a, entries.len())?;
     write_entries(out, entries)
@@ -199,6 +207,7 @@ fn write_state_rows<K: Sink>(out: &mut K, model: &Model, s: u32) -> Result<(), W
     ensures { Wrote K.taken K.faults out.old out.new result
         (concat (state_lines s (choices model.now s))) }
 {
+    writes_in_turn::<K>();
     for a in 0..model.choices(s) {
         write_row(out, s, a, model.row(s, a))?;
     }
@@ -208,6 +217,7 @@ fn write_state_rows<K: Sink>(out: &mut K, model: &Model, s: u32) -> Result<(), W
 fn write_rows<K: Sink>(out: &mut K, model: &Model) -> Result<(), WriteFault>
     ensures { Wrote K.taken K.faults out.old out.new result (concat (rows_lines model.now.states)) }
 {
+    writes_in_turn::<K>();
     for s in 0..model.states() {
         write_state_rows(out, model, s)?;
     }
@@ -218,6 +228,7 @@ fn write_rows<K: Sink>(out: &mut K, model: &Model) -> Result<(), WriteFault>
 pub fn write_model<K: Sink>(out: &mut K, model: &Model) -> Result<(), WriteFault>
     ensures { Wrote K.taken K.faults out.old out.new result (concat (model_lines model.now)) }
 {
+    writes_in_turn::<K>();
     write_kind(out, model.kind())?;
     write_parameters(out, model.names())?;
     write_sizes(out, model)?;

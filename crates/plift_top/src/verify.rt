@@ -14,7 +14,7 @@ ghost use Rattle.plift_top.specs.Steps.{IsBuiltCase, ReadsModel, NamesRoot, Admi
 use crate::built::is_built;
 use crate::refusal::Refusal;
 use crate::report::{Report, Verdict};
-use corner_lift::Case;
+use corner_lift::{Case, rows_inside};
 use drn_read::read_model;
 use lift_base::{Sink, Source, read_all, write_buffered};
 use lift_names::Names;
@@ -89,6 +89,7 @@ fn decide<'x>(case: &Case, bound: Bound, x: &'x [i64]) -> Verdict<'x>
     ensures schedulers { BoundsSchedulers case.now bound (leaf_of case.now.w result) }
 {
     certificates_decide();
+    rows_inside();
     if is_within(bound, x, case.model().init(), case.w()) {
         Verdict::Accept(x)
     } else {

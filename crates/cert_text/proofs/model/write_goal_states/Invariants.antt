@@ -2,7 +2,7 @@ use Rattle.std.proofs.Common.{drop, ◌∷◌}
 use Rattle.std.specs.List.{flat_map}
 use Rattle.std.specs.Fmt.{decimal}
 use Rattle.lift_bytes.specs.Bytes.{space}
-use Rattle.cert_text.proofs.Writing.{WroteUpTo}
+use Rattle.lift_base.specs.Laws.{WroteUpTo}
 use Rattle.cert_text.specs.Report.{goal_states}
 use Rattle.cert_text.proofs.model.write_goal_states.Given as goal
 

@@ -1,7 +1,7 @@
 use Rattle.std.proofs.Common.{drop, ◌∷◌}
 use Rattle.std.specs.List.{flat_map}
 use Rattle.lift_bytes.specs.Bytes.{space}
-use Rattle.cert_text.proofs.Writing.{WroteUpTo}
+use Rattle.lift_base.specs.Laws.{WroteUpTo}
 use Rattle.cert_text.proofs.model.write_names.Given as goal
 
 abbrev pub invariant-loop-place : goal.invariant-loop-place

@@ -1,6 +1,6 @@
 use Rattle.std.proofs.Common.{drop}
 use Rattle.std.specs.List.{concat}
-use Rattle.cert_text.proofs.Writing.{WroteUpTo}
+use Rattle.lift_base.specs.Laws.{WroteUpTo}
 use Rattle.cert_text.specs.Report.{rows_lines, state_lines, numbered}
 use Rattle.cert_text.proofs.model.write_rows.Given as goal
 

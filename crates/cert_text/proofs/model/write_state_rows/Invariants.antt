@@ -1,6 +1,6 @@
 use Rattle.std.proofs.Common.{drop}
 use Rattle.std.specs.List.{concat}
-use Rattle.cert_text.proofs.Writing.{WroteUpTo}
+use Rattle.lift_base.specs.Laws.{WroteUpTo}
 use Rattle.lift_model.specs.Model.{choices}
 use Rattle.cert_text.specs.Report.{state_lines, row_lines, numbered}
 use Rattle.cert_text.proofs.model.write_state_rows.Given as goal

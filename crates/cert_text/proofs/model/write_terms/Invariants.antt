@@ -1,7 +1,7 @@
 use Rattle.std.proofs.Common.{drop, ◌∷◌}
 use Rattle.std.specs.List.{flat_map}
 use Rattle.lift_bytes.specs.Bytes.{space}
-use Rattle.cert_text.proofs.Writing.{WroteUpTo}
+use Rattle.lift_base.specs.Laws.{WroteUpTo}
 use Rattle.cert_text.specs.Report.{term_word}
 use Rattle.cert_text.proofs.model.write_terms.Given as goal
 

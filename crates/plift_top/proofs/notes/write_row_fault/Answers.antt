@@ -1,6 +1,6 @@
 use Rattle.std.proofs.Common.{rules, ◌≡◌, to_z, of_z, append_assoc, append-nil}
 use Rattle.std.specs.Int.{w128}
-use Rattle.plift_top.proofs.program.write_row_fault.Goals as goal
+use Rattle.plift_top.proofs.notes.write_row_fault.Goals as goal
 
 pub returns-in-RowSum : goal.returns-in-RowSum
 returns-in-RowSum g c =
