@@ -29,7 +29,9 @@ use Rattle.plift_top.proofs.Refusals.{never_refused, one_status, rows_status}
 
 -- no refusal has the status of what is done
 never_done : (r : Refusal) → status_of r ≡ status.Done → ⊥
-never_done _ e = cc
+never_done (refusal.Usage f) e = absurd (cc)
+never_done refusal.Memory e = absurd (cc)
+never_done _ e = absurd (cc)
 
 -- a refusal at the text that was read, with its status and its note
 told_of : (j : VerifyData) (why : Refusal) (old new : Option (List ℕ)) → WasRead (IsRefused j why) old new → RefusesText (status_of why) (Ok (verify j)) old new (note_of why)

@@ -2,7 +2,7 @@
 #![tactic(auto)]
 
 mod built;
-mod launch;
+mod edge;
 mod notes;
 mod program;
 mod refusal;
@@ -10,6 +10,6 @@ mod report;
 mod status;
 mod verify;
 
-pub use launch::launch;
+pub use edge::launch;
 pub use program::run;
 pub use status::{Status, exit_code};

@@ -33,7 +33,8 @@ fn act<S: Source, K: Sink>(
         source.old source.new out.old out.new result }
     ensures limit { KeepsLimit result (S.left source.old) (S.left source.new) }
 {
-    match job_of(alloc, words)? {
+    let job = job_of(alloc, words)?;
+    match job {
         Job::Verify(job) => verify(alloc, &job, source, out),
     }
 }

@@ -3,19 +3,19 @@ use Rattle.plift_top.proofs.Acts as acts
 use Rattle.plift_top.proofs.program.run.Goals as goal
 
 pub returns-clause-done : goal.returns-clause-done
-returns-clause-done g c e = acts.done g.S.Source.left g.S.Source.faults g.K.Sink.taken g.K.Sink.faults _ _ _ _ _ _ c.act-answer.ensures.answer (sym c.end.ensures.status ∙ e)
+returns-clause-done g c e = acts.done g.S.Source.left g.S.Source.faults g.K.Sink.taken g.K.Sink.faults _ _ _ _ _ _ (rw c.deref.ensures.value at c.act-answer.ensures.answer) (sym c.end.ensures.status ∙ e)
 
 pub returns-clause-at_fault : goal.returns-clause-at_fault
-returns-clause-at_fault g c e = rw c.end.ensures.status (acts.at_fault g.S.Source.left g.S.Source.faults g.K.Sink.taken g.K.Sink.faults _ _ _ _ _ _ c.act-answer.ensures.answer e)
+returns-clause-at_fault g c e = rw c.end.ensures.status (acts.at_fault g.S.Source.left g.S.Source.faults g.K.Sink.taken g.K.Sink.faults _ _ _ _ _ _ (rw c.deref.ensures.value at c.act-answer.ensures.answer) e)
 
 pub returns-clause-not_plain : goal.returns-clause-not_plain
-returns-clause-not_plain g c e = c.end.ensures.status ∙ acts.not_plain g.S.Source.left g.S.Source.faults g.K.Sink.taken g.K.Sink.faults _ _ _ _ _ _ c.act-answer.ensures.answer e
+returns-clause-not_plain g c e = c.end.ensures.status ∙ acts.not_plain g.S.Source.left g.S.Source.faults g.K.Sink.taken g.K.Sink.faults _ _ _ _ _ _ (rw c.deref.ensures.value at c.act-answer.ensures.answer) e
 
 pub returns-clause-read_fault : goal.returns-clause-read_fault
-returns-clause-read_fault g c e = acts.read_fault g.S.Source.left g.S.Source.faults g.K.Sink.taken g.K.Sink.faults _ _ _ _ _ _ c.act-answer.ensures.answer (sym c.end.ensures.status ∙ e)
+returns-clause-read_fault g c e = acts.read_fault g.S.Source.left g.S.Source.faults g.K.Sink.taken g.K.Sink.faults _ _ _ _ _ _ (rw c.deref.ensures.value at c.act-answer.ensures.answer) (sym c.end.ensures.status ∙ e)
 
 pub returns-clause-write_fault : goal.returns-clause-write_fault
-returns-clause-write_fault g c e = acts.write_fault g.S.Source.left g.S.Source.faults g.K.Sink.taken g.K.Sink.faults _ _ _ _ _ _ c.act-answer.ensures.answer (sym c.end.ensures.status ∙ e)
+returns-clause-write_fault g c e = acts.write_fault g.S.Source.left g.S.Source.faults g.K.Sink.taken g.K.Sink.faults _ _ _ _ _ _ (rw c.deref.ensures.value at c.act-answer.ensures.answer) (sym c.end.ensures.status ∙ e)
 
 pub returns-clause-too_long : goal.returns-clause-too_long
 returns-clause-too_long g c e = acts.too_long _ _ _ c.act-answer.ensures.limit (sym c.end.ensures.status ∙ e)
@@ -25,27 +25,27 @@ returns-clause-within g c e = acts.within _ _ _ c.act-answer.ensures.limit (λ f
 
 pub returns-clause-complete : goal.returns-clause-complete
 returns-clause-complete g c j text m root is told read named admitted built len sure1 sure2 = 
-    rw c.end.ensures.status (acts.complete g.S.Source.left g.S.Source.faults g.K.Sink.taken g.K.Sink.faults _ _ _ _ j text told len sure1 sure2 c.first_fault_is_one.ensures.none _ _ c.act-answer.ensures.answer is m root read named admitted built)
+    rw c.end.ensures.status (acts.complete g.S.Source.left g.S.Source.faults g.K.Sink.taken g.K.Sink.faults _ _ _ _ j text told len sure1 sure2 c.first_fault_is_one.ensures.none _ _ (rw c.deref.ensures.value at c.act-answer.ensures.answer) is m root read named admitted built)
 
 pub returns-clause-refused : goal.returns-clause-refused
 returns-clause-refused g c j text why is told bad len sure1 sure2 = 
-    rw c.end.ensures.status (acts.refused g.S.Source.left g.S.Source.faults g.K.Sink.taken g.K.Sink.faults _ _ _ _ j text told len sure1 sure2 c.first_fault_is_one.ensures.none _ _ c.act-answer.ensures.answer is why bad)
+    rw c.end.ensures.status (acts.refused g.S.Source.left g.S.Source.faults g.K.Sink.taken g.K.Sink.faults _ _ _ _ j text told len sure1 sure2 c.first_fault_is_one.ensures.none _ _ (rw c.deref.ensures.value at c.act-answer.ensures.answer) is why bad)
 
 pub returns-clause-unadmitted : goal.returns-clause-unadmitted
 returns-clause-unadmitted g c j text m root is told read named bad len sure1 sure2 = 
-    rw c.end.ensures.status (acts.unadmitted g.S.Source.left g.S.Source.faults g.K.Sink.taken g.K.Sink.faults _ _ _ _ j text told len sure1 sure2 _ _ c.act-answer.ensures.answer is m root read named bad)
+    rw c.end.ensures.status (acts.unadmitted g.S.Source.left g.S.Source.faults g.K.Sink.taken g.K.Sink.faults _ _ _ _ j text told len sure1 sure2 _ _ (rw c.deref.ensures.value at c.act-answer.ensures.answer) is m root read named bad)
 
 pub returns-clause-part : goal.returns-clause-part
-returns-clause-part g c e = acts.part g.S.Source.left g.S.Source.faults g.K.Sink.taken g.K.Sink.faults _ _ _ _ _ _ c.act-answer.ensures.answer (sym c.end.ensures.status ∙ e)
+returns-clause-part g c e = acts.part g.S.Source.left g.S.Source.faults g.K.Sink.taken g.K.Sink.faults _ _ _ _ _ _ (rw c.deref.ensures.value at c.act-answer.ensures.answer) (sym c.end.ensures.status ∙ e)
 
 pub returns-clause-kept : goal.returns-clause-kept
-returns-clause-kept g c d e = acts.kept g.S.Source.left g.S.Source.faults g.K.Sink.taken g.K.Sink.faults _ _ _ _ _ _ c.act-answer.ensures.answer (λ f. d (c.end.ensures.status ∙ f)) (λ f. e (c.end.ensures.status ∙ f))
+returns-clause-kept g c d e = acts.kept g.S.Source.left g.S.Source.faults g.K.Sink.taken g.K.Sink.faults _ _ _ _ _ _ (rw c.deref.ensures.value at c.act-answer.ensures.answer) (λ f. d (c.end.ensures.status ∙ f)) (λ f. e (c.end.ensures.status ∙ f))
 
 pub returns-clause-unread : goal.returns-clause-unread
-returns-clause-unread g c e = acts.unread g.S.Source.left g.S.Source.faults g.K.Sink.taken g.K.Sink.faults _ _ _ _ _ _ c.act-answer.ensures.answer e
+returns-clause-unread g c e = acts.unread g.S.Source.left g.S.Source.faults g.K.Sink.taken g.K.Sink.faults _ _ _ _ _ _ (rw c.deref.ensures.value at c.act-answer.ensures.answer) e
 
 pub returns-clause-silent : goal.returns-clause-silent
 returns-clause-silent g c e = acts.silent g.E.Sink.taken g.E.Sink.faults _ _ _ c.end.ensures.noted (sym c.end.ensures.status ∙ e)
 
 pub returns-clause-told : goal.returns-clause-told
-returns-clause-told g c d = rw c.end.ensures.status (acts.told g.S.Source.left g.S.Source.faults g.K.Sink.taken g.K.Sink.faults _ _ _ _ g.E.Sink.taken g.E.Sink.faults _ _ _ _ c.act-answer.ensures.answer c.end.ensures.noted (λ f. d (c.end.ensures.status ∙ f)))
+returns-clause-told g c d = rw c.end.ensures.status (acts.told g.S.Source.left g.S.Source.faults g.K.Sink.taken g.K.Sink.faults _ _ _ _ g.E.Sink.taken g.E.Sink.faults _ _ _ _ (rw c.deref.ensures.value at c.act-answer.ensures.answer) c.end.ensures.noted (λ f. d (c.end.ensures.status ∙ f)))
