@@ -8,12 +8,12 @@ use Rattle.lift_model.specs.Model.{support, row_at, moves_at}
 use Rattle.lift_model.proofs.Sums.{weighted_sum-mono}
 use Rattle.corner_lift.specs.Corner.{corner, parameter_count}
 use Rattle.corner_lift.specs.Case.{CaseData, IsCase, Within, AreSidesInside, number, row_parameters}
-use Rattle.corner_lift.specs.Laws.{BitsAreParameters, ParametersAreTheRoots, NumbersAreInRange, SumsRise, WeightsInside, SumsAreTotals, MeansAtMostInside, MeansAtLeastInside, RootIsInside}
+use Rattle.corner_lift.specs.Laws.{BitsAreParameters, ParametersAreTheRoots, NumbersAreInRange, SumsAreInRange, SumsRise, WeightsInside, SumsAreTotals, MeansAtMostInside, MeansAtLeastInside, RootIsInside}
 use Rattle.corner_lift.proofs.CornerBound.{Inside-on}
 use Rattle.corner_lift.proofs.Coefficients.{row_total}
 use Rattle.corner_lift.proofs.Rows.{number_range}
 use Rattle.corner_lift.proofs.RowBound.{row_upper, row_lower}
-use Rattle.corner_lift.proofs.Cases.{admitted_row, parameters_asked, parameter_count-within, corner_moves, inside_least}
+use Rattle.corner_lift.proofs.Cases.{admitted_row, parameters_asked, parameter_count-within, corner_moves, corner_sum_range, inside_least}
 
 -- ---- at corners
 
@@ -25,6 +25,10 @@ parameters_are_the_roots k spans row within = parameter_count-within spans k.roo
 
 pub numbers_are_in_range : NumbersAreInRange
 numbers_are_in_range k x s are = number_range k x are s
+
+pub sums_are_in_range : SumsAreInRange
+sums_are_in_range k spans s a c x is inside has numbers =
+    corner_sum_range k (row_at k.model s a) spans is.asked.grid.positive is.asked.spans inside.rectangle inside.within (admitted_row k s a is has.state has.choice) c (number x) (pos (2 ^ k.w)) (number_range k x numbers)
 
 pub sums_rise : SumsRise
 sums_rise k spans s a c x y is inside has le =

@@ -54,6 +54,11 @@ ParametersAreTheRoots = (k : CaseData) (spans : Spans) (row : List Entry) → Wi
 abbrev pub NumbersAreInRange : Type 0
 NumbersAreInRange = (k : CaseData) (x : List ℤ) (s : ℕ) → AreNumbers k x → (pos 0 ≤ℤ number x s) × (number x s ≤ℤ pos (2 ^ k.w))
 
+-- a vector's weighted sum over a row lies from 0 to 2 ^ w times the whole, at each corner
+abbrev pub SumsAreInRange : Type 0
+SumsAreInRange = (k : CaseData) (spans : Spans) (s a c : ℕ) (x : List ℤ) → IsCase k → IsInside k.root spans → HasRow k s a → AreNumbers k x
+    → let sum = corner_sum k.d spans (row_at k.model s a) c (number x) in (pos 0 ≤ℤ sum) × (sum ≤ℤ (pos (2 ^ k.w) *ℤ row_whole k s a))
+
 -- where no number of a vector is above another's, no weighted sum at a corner is
 abbrev pub SumsRise : Type 0
 SumsRise = (k : CaseData) (spans : Spans) (s a c : ℕ) (x y : ℕ → ℤ) → IsCase k → IsInside k.root spans → HasRow k s a → ((t : ℕ) → x t ≤ℤ y t)

@@ -8,6 +8,7 @@ ghost use Rattle.corner_lift.specs.Laws.{
   BitsAreParameters,
   ParametersAreTheRoots,
   NumbersAreInRange,
+  SumsAreInRange,
   SumsRise,
   WeightsInside,
   SumsAreTotals,
@@ -27,11 +28,12 @@ pub fn corners_bound_weights()
 {}
 
 /// Rows at corners: how many parameters a row has, in the root and in a rectangle inside it; in which
-/// range a vector's numbers lie; and that a greater vector has no lesser sum.
+/// range a vector's numbers and sums lie; and that a greater vector has no lesser sum.
 pub fn rows_at_corners()
     ensures bits { BitsAreParameters }
     ensures parameters { ParametersAreTheRoots }
     ensures numbers { NumbersAreInRange }
+    ensures range { SumsAreInRange }
     ensures rise { SumsRise }
 {}
 

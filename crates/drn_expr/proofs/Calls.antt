@@ -1,5 +1,5 @@
 -- What the operations on polynomials over one denominator answer.
-use Rattle.std.proofs.Common.{◌≡◌, ◌≢◌, ℕ, zero, suc, ◌+◌, ◌*◌, ◌/◌, ◌^◌, ◌<◌, ◌≤◌, ◌==◌, Bool, true, false, cond, ◌||◌, List, [], ◌∷◌, get_or, ℤ, pos, negsuc, ◌*ℤ◌, ◌<ℤ◌, All, Some, take, Result, Ok, Err, unsigned_abs, bit_and, int_eq, refl, sym, ap, subst, ◌∙◌, arith}
+use Rattle.std.proofs.Common.{◌≡◌, ◌≢◌, ℕ, zero, suc, ◌+◌, ◌*◌, ◌/◌, ◌<◌, ◌≤◌, ◌==◌, Bool, true, false, cond, ◌||◌, List, [], ◌∷◌, get_or, ℤ, pos, negsuc, ◌*ℤ◌, ◌<ℤ◌, All, Some, take, Result, Ok, Err, unsigned_abs, bit_and, int_eq, refl, sym, ap, subst, ◌∙◌, arith}
 use Rattle.std.specs.Prelude.{nat_le, slice_get}
 use Rattle.std.specs.List.{list_any}
 use Rattle.std.specs.Int.{◌∣◌, IsGcd}
@@ -10,6 +10,7 @@ use Rattle.std.proofs.lemmas.List.Elements.{All-nil, All-cons, All-head, All-tai
 use Rattle.std.proofs.Math.Nat.{div-mul_cancel}
 use Rattle.std.proofs.lemmas.Int.{unsigned_abs-mul}
 use Rattle.std.proofs.lemmas.Nat.Gcd.{dvd_trans, dvd_refl, dvd-zero}
+use Rattle.lift_frac.specs.Limits.{size_limit}
 use Rattle.lift_frac.specs.Gcd.{gcd}
 use Rattle.lift_frac.proofs.Euclid.{is_gcd, gcd-one}
 use Rattle.lift_poly.specs.Polynomial.{Term, IsPolynomial, constant}
@@ -70,25 +71,25 @@ or_true : (b : Bool) → (b || true) ≡ true
 or_true true = refl
 or_true false = refl
 
-pub wide_den : (den content g : ℕ) (ts : List Term) → IsContent ts content → g ≡ gcd content den → 2 ^ 62 ≤ den / g → Err Wide ≡ narrow ts den
+pub wide_den : (den content g : ℕ) (ts : List Term) → IsContent ts content → g ≡ gcd content den → size_limit ≤ den / g → Err Wide ≡ narrow ts den
 unfolding by_wide
 wide_den den content g ts h e large =
     let is = common_is den content g ts h e in
     let p = over (quotient ts (pos g)) (den / g) in
-    let test : nat_le (2 ^ 62) (den / g) ≡ true = grind (arith, nat_tests) in
+    let test : nat_le size_limit (den / g) ≡ true = grind (arith, nat_tests) in
     narrow_by p ts den true (lowest_is den g ts (quotient ts (pos g)) is refl) (ap (λ b. b || list_any is_large p.terms) test)
 
 pub wide_terms : (den content g : ℕ) (ts q : List Term) → IsContent ts content → g ≡ gcd content den → q ≡ quotient ts (pos g) → list_any is_large q ≡ true → Err Wide ≡ narrow ts den
 unfolding by_wide
 wide_terms den content g ts q h e f large =
     let is = common_is den content g ts h e in
-    narrow_by (over q (den / g)) ts den true (lowest_is den g ts q is f) (ap (λ b. nat_le (2 ^ 62) (den / g) || b) large ∙ or_true (nat_le (2 ^ 62) (den / g)))
+    narrow_by (over q (den / g)) ts den true (lowest_is den g ts q is f) (ap (λ b. nat_le size_limit (den / g) || b) large ∙ or_true (nat_le size_limit (den / g)))
 
-pub narrow_given : (den content g : ℕ) (ts q : List Term) → IsContent ts content → g ≡ gcd content den → q ≡ quotient ts (pos g) → den / g < 2 ^ 62 → list_any is_large q ≡ false → Ok (over q (den / g)) ≡ narrow ts den
+pub narrow_given : (den content g : ℕ) (ts q : List Term) → IsContent ts content → g ≡ gcd content den → q ≡ quotient ts (pos g) → den / g < size_limit → list_any is_large q ≡ false → Ok (over q (den / g)) ≡ narrow ts den
 unfolding by_wide
 narrow_given den content g ts q h e f small_den small_terms =
     let is = common_is den content g ts h e in
-    let test : nat_le (2 ^ 62) (den / g) ≡ false = grind (arith, nat_tests) in
+    let test : nat_le size_limit (den / g) ≡ false = grind (arith, nat_tests) in
     narrow_by (over q (den / g)) ts den false (lowest_is den g ts q is f) (ap (λ b. b || list_any is_large q) test ∙ small_terms)
 
 -- no coefficient is large
@@ -96,14 +97,14 @@ both_false : (a b : Bool) → (a || b) ≡ false → (a ≡ false) × (b ≡ fal
 both_false true b e = absurd (cc e)
 both_false false b e = (refl, e)
 
-small_term : (t : Term) → is_large t ≡ false → unsigned_abs t.1 < 2 ^ 62
+small_term : (t : Term) → is_large t ≡ false → unsigned_abs t.1 < size_limit
 small_term t h = grind (arith, nat_tests)
 
-pub small_sizes : (ts : List Term) → list_any is_large ts ≡ false → All (λ t. unsigned_abs t.1 < 2 ^ 62) ts
-small_sizes [] h = All-nil (λ t. unsigned_abs t.1 < 2 ^ 62)
+pub small_sizes : (ts : List Term) → list_any is_large ts ≡ false → All (λ t. unsigned_abs t.1 < size_limit) ts
+small_sizes [] h = All-nil (λ t. unsigned_abs t.1 < size_limit)
 small_sizes (t ∷ ts) h =
     let parts = both_false (is_large t) (list_any is_large ts) h in
-    All-cons (λ u. unsigned_abs u.1 < 2 ^ 62) t ts (small_term t parts.0) (small_sizes ts parts.1)
+    All-cons (λ u. unsigned_abs u.1 < size_limit) t ts (small_term t parts.0) (small_sizes ts parts.1)
 
 quotient_above : (den g : ℕ) → g ∣ den → 0 < den → 0 < den / g
 quotient_above den g h above = let P : ℕ → Type 0 = λ k. 0 < k in by_quotient (den / g) refl
@@ -112,7 +113,7 @@ quotient_above den g h above = let P : ℕ → Type 0 = λ k. 0 < k in by_quotie
     by_quotient zero e = let whole = div-mul_cancel g h in absurd (omega (arith, whole, ap (λ m. m * g) e))
     by_quotient (suc k) e = omega (arith, e)
 
-pub rat_poly : (den content g : ℕ) (ts q : List Term) → 0 < den → 0 < g → IsContent ts content → IsGcd content den g → g ≡ gcd content den → times (pos g) q ≡ ts → IsPolynomial q → den / g < 2 ^ 62 → list_any is_large q ≡ false → IsRatPoly (over q (den / g))
+pub rat_poly : (den content g : ℕ) (ts q : List Term) → 0 < den → 0 < g → IsContent ts content → IsGcd content den g → g ≡ gcd content den → times (pos g) q ≡ ts → IsPolynomial q → den / g < size_limit → list_any is_large q ≡ false → IsRatPoly (over q (den / g))
 rat_poly den content g ts q positive above h is e back polynomial small_den small_terms = record {
   polynomial = polynomial;
   positive = quotient_above den g is.1 positive;
@@ -123,22 +124,22 @@ rat_poly den content g ts q positive above h is e back polynomial small_den smal
 
 -- ---- numbers and parameters
 
-constant_parts : (number : ℤ) (den : ℕ) (b : Bool) → (b ≡ true → number ≡ pos 0) → unsigned_abs number < 2 ^ 62 → gcd (unsigned_abs number) den ≡ 1
-    → All (λ (t : Term). unsigned_abs t.1 < 2 ^ 62) (cond b [] ((0, number) ∷ [])) × (common_divisor den (cond b [] ((0, number) ∷ [])) ≡ 1)
+constant_parts : (number : ℤ) (den : ℕ) (b : Bool) → (b ≡ true → number ≡ pos 0) → unsigned_abs number < size_limit → gcd (unsigned_abs number) den ≡ 1
+    → All (λ (t : Term). unsigned_abs t.1 < size_limit) (cond b [] ((0, number) ∷ [])) × (common_divisor den (cond b [] ((0, number) ∷ [])) ≡ 1)
 constant_parts number den true tells size common =
     let none : gcd 0 den ≡ 1 = ap (λ z. gcd (unsigned_abs z) den) (sym (tells refl)) ∙ common in
-    (All-nil (λ (t : Term). unsigned_abs t.1 < 2 ^ 62), is_gcd 0 den den (dvd-zero den, dvd_refl den, λ k p q. q) ∙ none)
+    (All-nil (λ (t : Term). unsigned_abs t.1 < size_limit), is_gcd 0 den den (dvd-zero den, dvd_refl den, λ k p q. q) ∙ none)
 constant_parts number den false tells size common =
-    (All-cons (λ (t : Term). unsigned_abs t.1 < 2 ^ 62) (0, number) [] size (All-nil (λ (t : Term). unsigned_abs t.1 < 2 ^ 62)), common)
+    (All-cons (λ (t : Term). unsigned_abs t.1 < size_limit) (0, number) [] size (All-nil (λ (t : Term). unsigned_abs t.1 < size_limit)), common)
 
-pub number_poly : (number : ℤ) (den : ℕ) (p : List Term) → p ≡ constant number → IsPolynomial p → 0 < den → den < 2 ^ 62 → unsigned_abs number < 2 ^ 62 → gcd (unsigned_abs number) den ≡ 1 → IsRatPoly (over p den)
+pub number_poly : (number : ℤ) (den : ℕ) (p : List Term) → p ≡ constant number → IsPolynomial p → 0 < den → den < size_limit → unsigned_abs number < size_limit → gcd (unsigned_abs number) den ≡ 1 → IsRatPoly (over p den)
 number_poly number den p e polynomial positive small_den size common =
     let parts = constant_parts number den (int_eq number (pos 0)) (Decides-int_eq number (pos 0)).0 size common in
     record {
       polynomial = polynomial;
       positive = positive;
       den = small_den;
-      sizes = subst (All (λ t. unsigned_abs t.1 < 2 ^ 62)) (sym e) parts.0;
+      sizes = subst (All (λ t. unsigned_abs t.1 < size_limit)) (sym e) parts.0;
       lowest = ap (common_divisor den) e ∙ parts.1;
     }
 
@@ -147,18 +148,18 @@ parameter_poly set p e polynomial = record {
   polynomial = polynomial;
   positive = omega arith;
   den = omega arith;
-  sizes = subst (All (λ t. unsigned_abs t.1 < 2 ^ 62)) (sym e) (All-cons (λ t. unsigned_abs t.1 < 2 ^ 62) (set, pos 1) [] (omega arith) (All-nil (λ t. unsigned_abs t.1 < 2 ^ 62)));
+  sizes = subst (All (λ t. unsigned_abs t.1 < size_limit)) (sym e) (All-cons (λ t. unsigned_abs t.1 < size_limit) (set, pos 1) [] (omega arith) (All-nil (λ t. unsigned_abs t.1 < size_limit)));
   lowest = ap (common_divisor 1) e ∙ gcd-one 1;
 }
 
 -- ---- the other sign
 
-negative_size : (ts : List Term) → All (λ t. unsigned_abs t.1 < 2 ^ 62) ts → All (λ t. unsigned_abs t.1 < 2 ^ 62) (times (negsuc 0) ts)
-negative_size [] h = All-nil (λ t. unsigned_abs t.1 < 2 ^ 62)
+negative_size : (ts : List Term) → All (λ t. unsigned_abs t.1 < size_limit) ts → All (λ t. unsigned_abs t.1 < size_limit) (times (negsuc 0) ts)
+negative_size [] h = All-nil (λ t. unsigned_abs t.1 < size_limit)
 negative_size (t ∷ ts) h =
     let e = unsigned_abs-mul (negsuc 0) t.1 in
-    All-cons (λ u. unsigned_abs u.1 < 2 ^ 62) (t.0, negsuc 0 *ℤ t.1) (times (negsuc 0) ts)
-    (omega (arith, e, All-head (λ u. unsigned_abs u.1 < 2 ^ 62) t ts h)) (negative_size ts (All-tail (λ u. unsigned_abs u.1 < 2 ^ 62) t ts h))
+    All-cons (λ u. unsigned_abs u.1 < size_limit) (t.0, negsuc 0 *ℤ t.1) (times (negsuc 0) ts)
+    (omega (arith, e, All-head (λ u. unsigned_abs u.1 < size_limit) t ts h)) (negative_size ts (All-tail (λ u. unsigned_abs u.1 < size_limit) t ts h))
 
 pub negative_poly : (ts q : List Term) (den : ℕ) → q ≡ scaled (negsuc 0) ts → IsPolynomial q → IsRatPoly (over ts den) → IsRatPoly (over q den)
 negative_poly ts q den e polynomial h =
@@ -167,13 +168,13 @@ negative_poly ts q den e polynomial h =
       polynomial = polynomial;
       positive = h.positive;
       den = h.den;
-      sizes = subst (All (λ t. unsigned_abs t.1 < 2 ^ 62)) plain (negative_size ts h.sizes);
+      sizes = subst (All (λ t. unsigned_abs t.1 < size_limit)) plain (negative_size ts h.sizes);
       lowest = ap (common_divisor den) (sym plain) ∙ common-negative den ts ∙ h.lowest;
     }
 
 -- ---- what is refused
 
-pub multiple_refused : (e : PolyError) (by : ℤ) (a : OverOne) (r target : Result OverOne ExprError) → IsRatPoly a → unsigned_abs by < 2 ^ 62 → IsAnswer (Err e) (held.narrow (scaled by a.terms))
+pub multiple_refused : (e : PolyError) (by : ℤ) (a : OverOne) (r target : Result OverOne ExprError) → IsRatPoly a → unsigned_abs by < size_limit → IsAnswer (Err e) (held.narrow (scaled by a.terms))
     → r ≡ Err (cause_of e) → r ≢ Err Memory → r ≡ target
 multiple_refused e by a r target h size answer is = memory_alone e (scaled by a.terms) r target answer (narrow_multiple by a.terms size (small a.terms h.polynomial h.sizes)) is
 
@@ -202,7 +203,7 @@ product_refused e a b r h k = product_by e a b r (bit_and (support a.terms) (sup
 
 -- ---- division by a number
 
-pub number_below : (a : OverOne) → IsRatPoly a → unsigned_abs (coefficient 0 a.terms) < 2 ^ 62
+pub number_below : (a : OverOne) → IsRatPoly a → unsigned_abs (coefficient 0 a.terms) < size_limit
 number_below a h = small a.terms h.polynomial h.sizes 0
 
 pub sign_size : (number : ℤ) (size : ℕ) → unsigned_abs (with_sign number size) ≡ size
@@ -222,12 +223,12 @@ positive_size (negsuc n) h = omega arith
 
 -- ---- the search for a large coefficient
 
-pub large_at : (ts : List Term) (i : ℕ) (t : Term) → slice_get ts i ≡ Some t → 2 ^ 62 ≤ unsigned_abs t.1 → true ≡ list_any is_large ts
+pub large_at : (ts : List Term) (i : ℕ) (t : Term) → slice_get ts i ≡ Some t → size_limit ≤ unsigned_abs t.1 → true ≡ list_any is_large ts
 large_at ts i t at large =
     let test : is_large t ≡ true = grind (arith, nat_tests) in
     sym (list_any_at is_large ts i t (slice_get_within ts i t at) (ap is_large (get_or_from_slice_get ts i t t at) ∙ test))
 
-pub small_more : (ts : List Term) (i : ℕ) (t : Term) → slice_get ts i ≡ Some t → unsigned_abs t.1 < 2 ^ 62 → list_any is_large (take i ts) ≡ false → list_any is_large (take (i + 1) ts) ≡ false
+pub small_more : (ts : List Term) (i : ℕ) (t : Term) → slice_get ts i ≡ Some t → unsigned_abs t.1 < size_limit → list_any is_large (take i ts) ≡ false → list_any is_large (take (i + 1) ts) ≡ false
 small_more ts i t at size before =
     let test : is_large t ≡ false = grind (arith, nat_tests) in
     list_any_more is_large ts i t (slice_get_within ts i t at) ∙ ap (λ b. b || is_large (get_or ts i t)) before ∙ ap is_large (get_or_from_slice_get ts i t t at) ∙ test

@@ -10,7 +10,7 @@ use Rattle.drn_lexer.specs.declared.symbol.Symbol as lexer
 use Rattle.drn_lexer.specs.declared.symbol.SymbolForm.{SymbolForm}
 use Rattle.drn_lexer.specs.declared.symbol.SymbolForm.TheVariants as form
 use Rattle.drn_expr.specs.Trees.{Negative, ◌>>=◌}
-use Rattle.drn_expr.specs.Grammar.{Symbol, Parsed, value, factor, closed, literal_tree, name_tree}
+use Rattle.drn_expr.specs.Grammar.{most_nesting, Symbol, Parsed, value, factor, closed, literal_tree, name_tree}
 use Rattle.drn_expr.specs.RatPolys.{OverOne}
 use Rattle.drn_expr.specs.Parsing.{behind, Agrees, IsFactor, IsValue, IsClosed, IsOperand, opposite}
 use Rattle.drn_expr.specs.declared.error.ExprError.{ExprError}
@@ -35,52 +35,52 @@ pub factor_end : (names : List (List ℕ)) (depth : ℕ) (text : List ℕ) (line
 unfolding value
 factor_end names depth text line at from none = factor_by names depth text line at (Err Syntax) [] (none_left from (behind text line at) none) (λ n low. refl)
 
-factor-minus : (names : List (List ℕ)) (depth n : ℕ) (bytes : List ℕ) (s : List Symbol) → factor (suc n) names depth (record { form = form.Minus; bytes = bytes } ∷ s) ≡ unary (factor n names (depth + 1) s) (depth == 64)
+factor-minus : (names : List (List ℕ)) (depth n : ℕ) (bytes : List ℕ) (s : List Symbol) → factor (suc n) names depth (record { form = form.Minus; bytes = bytes } ∷ s) ≡ unary (factor n names (depth + 1) s) (depth == most_nesting)
 unfolding value unary
 factor-minus names depth n bytes s = refl
 
-factor-left : (names : List (List ℕ)) (depth n : ℕ) (bytes : List ℕ) (s : List Symbol) → factor (suc n) names depth (record { form = form.Left; bytes = bytes } ∷ s) ≡ paren (value n names (depth + 1) s) (depth == 64)
+factor-left : (names : List (List ℕ)) (depth n : ℕ) (bytes : List ℕ) (s : List Symbol) → factor (suc n) names depth (record { form = form.Left; bytes = bytes } ∷ s) ≡ paren (value n names (depth + 1) s) (depth == most_nesting)
 unfolding value paren
 factor-left names depth n bytes s = refl
 
-at_limit : (depth : ℕ) → depth ≡ 64 → (depth == 64) ≡ true
+at_limit : (depth : ℕ) → depth ≡ most_nesting → (depth == most_nesting) ≡ true
 at_limit depth e = grind (arith, nat_tests)
 
-within_limit : (depth : ℕ) → depth < 64 → (depth == 64) ≡ false
+within_limit : (depth : ℕ) → depth < most_nesting → (depth == most_nesting) ≡ false
 within_limit depth lt = grind (arith, nat_tests)
 
 -- one more around the place
-unary_inner : (names : List (List ℕ)) (depth d n : ℕ) (bytes : List ℕ) (s : List Symbol) → depth < 64 → d ≡ depth + 1
+unary_inner : (names : List (List ℕ)) (depth d n : ℕ) (bytes : List ℕ) (s : List Symbol) → depth < most_nesting → d ≡ depth + 1
     → factor (suc n) names depth (record { form = form.Minus; bytes = bytes } ∷ s) ≡ (factor n names d s >>= (λ e. Ok (Negative e.0, e.1)))
 unfolding unary
 unary_inner names depth d n bytes s lt e =
     factor-minus names depth n bytes s ∙ ap (unary (factor n names (depth + 1) s)) (within_limit depth lt) ∙ ap (λ k. factor n names k s >>= (λ e. Ok (Negative e.0, e.1))) (sym e)
 
-paren_inner : (names : List (List ℕ)) (depth d n : ℕ) (bytes : List ℕ) (s : List Symbol) → depth < 64 → d ≡ depth + 1
+paren_inner : (names : List (List ℕ)) (depth d n : ℕ) (bytes : List ℕ) (s : List Symbol) → depth < most_nesting → d ≡ depth + 1
     → factor (suc n) names depth (record { form = form.Left; bytes = bytes } ∷ s) ≡ (value n names d s >>= (λ e. closed e.0 e.1))
 unfolding paren
 paren_inner names depth d n bytes s lt e =
     factor-left names depth n bytes s ∙ ap (paren (value n names (depth + 1) s)) (within_limit depth lt) ∙ ap (λ k. value n names k s >>= (λ e. closed e.0 e.1)) (sym e)
 
-pub minus_deep : (names : List (List ℕ)) (depth : ℕ) (text : List ℕ) (line : Line) (at : ℕ) (symbol : lexer.Symbol) → IsNextSymbol text line at symbol → symbol.form ≡ form.Minus → depth ≡ 64 → IsFactor names depth text line at (Err Deep)
+pub minus_deep : (names : List (List ℕ)) (depth : ℕ) (text : List ℕ) (line : Line) (at : ℕ) (symbol : lexer.Symbol) → IsNextSymbol text line at symbol → symbol.form ≡ form.Minus → depth ≡ most_nesting → IsFactor names depth text line at (Err Deep)
 unfolding unary
 minus_deep names depth text line at symbol next e deep =
     factor_by names depth text line at (Err Deep) _ (shows text line at symbol form.Minus next e)
     (λ n low. factor-minus names depth n _ _ ∙ ap (unary (factor n names (depth + 1) (behind text line symbol.to))) (at_limit depth deep))
 
-pub left_deep : (names : List (List ℕ)) (depth : ℕ) (text : List ℕ) (line : Line) (at : ℕ) (symbol : lexer.Symbol) → IsNextSymbol text line at symbol → symbol.form ≡ form.Left → depth ≡ 64 → IsFactor names depth text line at (Err Deep)
+pub left_deep : (names : List (List ℕ)) (depth : ℕ) (text : List ℕ) (line : Line) (at : ℕ) (symbol : lexer.Symbol) → IsNextSymbol text line at symbol → symbol.form ≡ form.Left → depth ≡ most_nesting → IsFactor names depth text line at (Err Deep)
 unfolding paren
 left_deep names depth text line at symbol next e deep =
     factor_by names depth text line at (Err Deep) _ (shows text line at symbol form.Left next e)
     (λ n low. factor-left names depth n _ _ ∙ ap (paren (value n names (depth + 1) (behind text line symbol.to))) (at_limit depth deep))
 
-pub minus_fault : (names : List (List ℕ)) (depth d : ℕ) (text : List ℕ) (line : Line) (at : ℕ) (symbol : lexer.Symbol) (cause : ExprError) → IsNextSymbol text line at symbol → symbol.form ≡ form.Minus → depth < 64 → d ≡ depth + 1
+pub minus_fault : (names : List (List ℕ)) (depth d : ℕ) (text : List ℕ) (line : Line) (at : ℕ) (symbol : lexer.Symbol) (cause : ExprError) → IsNextSymbol text line at symbol → symbol.form ≡ form.Minus → depth < most_nesting → d ≡ depth + 1
     → IsFactor names d text line symbol.to (Err cause) → IsFactor names depth text line at (Err cause)
 minus_fault names depth d text line at symbol cause next e lt more inner =
     factor_by names depth text line at (Err cause) _ (shows text line at symbol form.Minus next e)
     (λ n low. unary_inner names depth d n _ _ lt more ∙ ap (λ (p : Parsed). p >>= (λ e. Ok (Negative e.0, e.1))) (inner n (omega arith)))
 
-pub minus_inner : (names : List (List ℕ)) (depth d : ℕ) (text : List ℕ) (line : Line) (at : ℕ) (symbol : lexer.Symbol) (part : Part) (worth : Result OverOne ExprError) → IsNextSymbol text line at symbol → symbol.form ≡ form.Minus → depth < 64 → d ≡ depth + 1
+pub minus_inner : (names : List (List ℕ)) (depth d : ℕ) (text : List ℕ) (line : Line) (at : ℕ) (symbol : lexer.Symbol) (part : Part) (worth : Result OverOne ExprError) → IsNextSymbol text line at symbol → symbol.form ≡ form.Minus → depth < most_nesting → d ≡ depth + 1
     → IsFactor names d text line symbol.to (Ok part) → (worth ≢ Err Memory → worth ≡ opposite part.value) → IsFactor names depth text line at (Ok (record { value = worth; to = part.to }))
 minus_inner names depth d text line at symbol part worth next e lt more inner given =
     factor_by names depth text line at (Ok (record { value = worth; to = part.to })) _ (shows text line at symbol form.Minus next e)
@@ -90,20 +90,20 @@ minus_inner names depth d text line at symbol part worth next e lt more inner gi
       opposite_is worth part.value found.0 given found.2,
     ))
 
-pub left_fault : (names : List (List ℕ)) (depth d : ℕ) (text : List ℕ) (line : Line) (at : ℕ) (symbol : lexer.Symbol) (cause : ExprError) → IsNextSymbol text line at symbol → symbol.form ≡ form.Left → depth < 64 → d ≡ depth + 1
+pub left_fault : (names : List (List ℕ)) (depth d : ℕ) (text : List ℕ) (line : Line) (at : ℕ) (symbol : lexer.Symbol) (cause : ExprError) → IsNextSymbol text line at symbol → symbol.form ≡ form.Left → depth < most_nesting → d ≡ depth + 1
     → IsValue names d text line symbol.to (Err cause) → IsFactor names depth text line at (Err cause)
 left_fault names depth d text line at symbol cause next e lt more inner =
     factor_by names depth text line at (Err cause) _ (shows text line at symbol form.Left next e)
     (λ n low. paren_inner names depth d n _ _ lt more ∙ ap (λ (p : Parsed). p >>= (λ e. closed e.0 e.1)) (inner n (omega arith)))
 
-pub left_open : (names : List (List ℕ)) (depth d : ℕ) (text : List ℕ) (line : Line) (at : ℕ) (symbol : lexer.Symbol) (part : Part) (cause : ExprError) → IsNextSymbol text line at symbol → symbol.form ≡ form.Left → depth < 64 → d ≡ depth + 1
+pub left_open : (names : List (List ℕ)) (depth d : ℕ) (text : List ℕ) (line : Line) (at : ℕ) (symbol : lexer.Symbol) (part : Part) (cause : ExprError) → IsNextSymbol text line at symbol → symbol.form ≡ form.Left → depth < most_nesting → d ≡ depth + 1
     → IsValue names d text line symbol.to (Ok part) → IsClosed text line part.to (Err cause) → IsFactor names depth text line at (Err cause)
 left_open names depth d text line at symbol part cause next e lt more inner close =
     factor_by names depth text line at (Err cause) _ (shows text line at symbol form.Left next e)
     (λ n low. let found = inner n (omega arith) in
     paren_inner names depth d n _ _ lt more ∙ ap (λ (p : Parsed). p >>= (λ e. closed e.0 e.1)) found.1 ∙ close found.0)
 
-pub left_closed : (names : List (List ℕ)) (depth d : ℕ) (text : List ℕ) (line : Line) (at to : ℕ) (symbol : lexer.Symbol) (part : Part) → IsNextSymbol text line at symbol → symbol.form ≡ form.Left → depth < 64 → d ≡ depth + 1
+pub left_closed : (names : List (List ℕ)) (depth d : ℕ) (text : List ℕ) (line : Line) (at to : ℕ) (symbol : lexer.Symbol) (part : Part) → IsNextSymbol text line at symbol → symbol.form ≡ form.Left → depth < most_nesting → d ≡ depth + 1
     → IsValue names d text line symbol.to (Ok part) → IsClosed text line part.to (Ok to) → IsFactor names depth text line at (Ok (record { value = part.value; to = to }))
 left_closed names depth d text line at to symbol part next e lt more inner close =
     factor_by names depth text line at (Ok (record { value = part.value; to = to })) _ (shows text line at symbol form.Left next e)

@@ -6,6 +6,7 @@ use Rattle.std.specs.Str.{bytes_eq}
 use Rattle.std.proofs.Math.Nat.{div-mul_cancel}
 use Rattle.std.proofs.lemmas.Bool.{leb-false, or_parts}
 use Rattle.std.proofs.lemmas.Bool.Decides.{nat_tests}
+use Rattle.lift_frac.specs.Limits.{size_limit}
 use Rattle.lift_frac.specs.Gcd.{gcd}
 use Rattle.lift_frac.specs.Ratio.{Ratio, lowest, is_wide, fraction}
 use Rattle.lift_frac.specs.Literal as lit
@@ -18,14 +19,14 @@ use Rattle.lift_poly.proofs.Ring.{linear}
 use Rattle.drn_lexer.specs.declared.symbol.SymbolForm.{SymbolForm}
 use Rattle.drn_lexer.specs.declared.symbol.SymbolForm.TheVariants as form
 use Rattle.drn_expr.specs.Trees.{Expr, Literal, Parameter, Sum, Difference, Product, Quotient, Negative, ◌>>=◌}
-use Rattle.drn_expr.specs.Grammar.{Symbol, Parsed, value, term, factor, more_terms, more_factors, joins_terms, joins_factors, closed, ended, tree, literal_tree, name_tree}
+use Rattle.drn_expr.specs.Grammar.{most_nesting, Symbol, Parsed, value, term, factor, more_terms, more_factors, joins_terms, joins_factors, closed, ended, tree, literal_tree, name_tree}
 use Rattle.drn_expr.proofs.Forms.{unary, paren, factor_by, factor-is, more_by, more_terms-is, more_factors-is}
 
 -- a ratio in lowest terms, with a denominator above 0 and parts that are small
 pub record IsNumber (q : Ratio) : Type 0 where
   pub positive : pos 0 <ℤ q.den
-  pub num : unsigned_abs q.num < 2 ^ 62
-  pub den : unsigned_abs q.den < 2 ^ 62
+  pub num : unsigned_abs q.num < size_limit
+  pub den : unsigned_abs q.den < size_limit
   pub lowest : gcd (unsigned_abs q.num) (unsigned_abs q.den) ≡ 1
 
 -- the parameters of a tree are below k, and its literals are such ratios
@@ -54,11 +55,11 @@ lowest_number n d h narrow =
     let is = gcd_is (unsigned_abs n) d in
     let above : 0 < g = positive (unsigned_abs n) d g is h in
     let some = quotient_above (d / g) g d (div-mul_cancel g is.1) h in
-    let small = or_parts (nat_le (2 ^ 62) (unsigned_abs (lowest n (pos d)).num)) (nat_le (2 ^ 62) (d / g)) narrow in
+    let small = or_parts (nat_le size_limit (unsigned_abs (lowest n (pos d)).num)) (nat_le size_limit (d / g)) narrow in
     record {
       positive = omega (arith, linear, some);
-      num = leb-false (2 ^ 62) (unsigned_abs (lowest n (pos d)).num) small.0;
-      den = leb-false (2 ^ 62) (d / g) small.1;
+      num = leb-false size_limit (unsigned_abs (lowest n (pos d)).num) small.0;
+      den = leb-false size_limit (d / g) small.1;
       lowest = ap (λ k. gcd k (d / g)) (size_above n (pos d) g (λ e. omega (arith, linear, e))) ∙ gcd-quotients (unsigned_abs n) d g above is;
     }
 
@@ -160,8 +161,8 @@ paren_good k p false h = bind_good k p (λ e. closed e.0 e.1) h (λ r f. closed_
 
 factor_form : (k : ℕ) (inner whole literal name : Parsed) (depth : ℕ) (f : SymbolForm) → Good k inner → Good k whole → Good k literal → Good k name → Good k (factor_by inner whole literal name depth f)
 unfolding Good factor_by
-factor_form k inner whole literal name depth form.Minus a b c d = unary_good k inner (depth == 64) a
-factor_form k inner whole literal name depth form.Left a b c d = paren_good k whole (depth == 64) b
+factor_form k inner whole literal name depth form.Minus a b c d = unary_good k inner (depth == most_nesting) a
+factor_form k inner whole literal name depth form.Left a b c d = paren_good k whole (depth == most_nesting) b
 factor_form k inner whole literal name depth form.Literal a b c d = c
 factor_form k inner whole literal name depth form.Name a b c d = d
 factor_form k inner whole literal name depth _ a b c d = tt

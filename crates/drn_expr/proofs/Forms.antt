@@ -6,7 +6,7 @@ use Rattle.lift_frac.specs.Literal.{reading}
 use Rattle.drn_lexer.specs.declared.symbol.SymbolForm.{SymbolForm}
 use Rattle.drn_lexer.specs.declared.symbol.SymbolForm.TheVariants as form
 use Rattle.drn_expr.specs.Trees.{Expr, Negative, ◌>>=◌}
-use Rattle.drn_expr.specs.Grammar.{Symbol, Parsed, value, term, factor, more_terms, more_factors, joins_terms, joins_factors, closed, literal_tree, name_tree}
+use Rattle.drn_expr.specs.Grammar.{most_nesting, Symbol, Parsed, value, term, factor, more_terms, more_factors, joins_terms, joins_factors, closed, literal_tree, name_tree}
 use Rattle.drn_expr.specs.declared.error.ExprError.TheVariants.{Syntax, Deep}
 
 -- what stands behind a unary minus and in a parenthesis, by whether the place is at the limit
@@ -20,8 +20,8 @@ paren p false = p >>= (λ e. closed e.0 e.1)
 
 -- a factor by its first symbol's form
 unfoldable pub factor_by : Parsed → Parsed → Parsed → Parsed → ℕ → SymbolForm → Parsed
-factor_by inner whole literal name depth form.Minus = unary inner (depth == 64)
-factor_by inner whole literal name depth form.Left = paren whole (depth == 64)
+factor_by inner whole literal name depth form.Minus = unary inner (depth == most_nesting)
+factor_by inner whole literal name depth form.Left = paren whole (depth == most_nesting)
 factor_by inner whole literal name depth form.Literal = literal
 factor_by inner whole literal name depth form.Name = name
 factor_by inner whole literal name depth _ = Err Syntax

@@ -6,7 +6,7 @@ use Rattle.drn_lexer.specs.Spans.{IsOn, IsNextSymbol, first_symbol}
 use Rattle.drn_lexer.specs.declared.line.Line.{Line}
 use Rattle.drn_lexer.specs.declared.symbol.Symbol as lexer
 use Rattle.drn_lexer.specs.declared.symbol.SymbolForm.{SymbolForm}
-use Rattle.drn_expr.specs.Grammar.{Symbol}
+use Rattle.drn_expr.specs.Grammar.{most_symbols, Symbol}
 use Rattle.drn_expr.specs.Parsing.{behind, left, IsFurther}
 
 -- no symbol is left
@@ -34,10 +34,10 @@ shows text line at symbol f next e =
 pub counted : (text : List ℕ) (line : Line) (from at seen : ℕ) (symbol : lexer.Symbol) → seen + left text line at ≡ left text line from → IsNextSymbol text line at symbol → seen + 1 + left text line symbol.to ≡ left text line from
 counted text line from at seen symbol h next = omega (arith, h, ap length next.first)
 
-pub all_counted : (text : List ℕ) (line : Line) (from at seen : ℕ) (place : ℕ) → seen + left text line at ≡ left text line from → None ≡ first_symbol place (behind text line at) → seen ≤ 4096 → false ≡ nat_lt 4096 (left text line from)
+pub all_counted : (text : List ℕ) (line : Line) (from at seen : ℕ) (place : ℕ) → seen + left text line at ≡ left text line from → None ≡ first_symbol place (behind text line at) → seen ≤ most_symbols → false ≡ nat_lt most_symbols (left text line from)
 all_counted text line from at seen place h none le =
-    let few : left text line from ≤ 4096 = omega (arith, h, ap length (none_left place (behind text line at) none)) in grind (arith, nat_tests)
+    let few : left text line from ≤ most_symbols = omega (arith, h, ap length (none_left place (behind text line at) none)) in grind (arith, nat_tests)
 
-pub too_many : (text : List ℕ) (line : Line) (from at seen : ℕ) (symbol : lexer.Symbol) → seen + left text line at ≡ left text line from → IsNextSymbol text line at symbol → seen ≡ 4096 → true ≡ nat_lt 4096 (left text line from)
+pub too_many : (text : List ℕ) (line : Line) (from at seen : ℕ) (symbol : lexer.Symbol) → seen + left text line at ≡ left text line from → IsNextSymbol text line at symbol → seen ≡ most_symbols → true ≡ nat_lt most_symbols (left text line from)
 too_many text line from at seen symbol h next e =
-    let many : 4096 < left text line from = omega (arith, h, ap length next.first) in grind (arith, nat_tests)
+    let many : most_symbols < left text line from = omega (arith, h, ap length next.first) in grind (arith, nat_tests)

@@ -10,6 +10,7 @@ use Rattle.std.proofs.lemmas.List.Elements.{All-head, All-tail}
 use Rattle.std.proofs.lemmas.List.Folds.{list_any_none}
 use Rattle.std.proofs.lemmas.Nat.{and_comm}
 use Rattle.std.proofs.lemmas.Nat.Bits.{same_from_bits, bit_at_and, bit_at_or, bit_at-zero}
+use Rattle.lift_frac.specs.Limits.{size_limit, product_limit}
 use Rattle.lift_poly.specs.Polynomial.{Term, IsPolynomial}
 use Rattle.lift_poly.specs.Arithmetic.{coefficient, collected, sum, times, scaled, products_of, products, product, support}
 use Rattle.lift_poly.specs.MultiAffine.{is_wide, narrow}
@@ -34,8 +35,8 @@ below_from bound low (t ∷ ts) some h sizes set =
     subst (λ z. unsigned_abs z < bound) (sym (coefficient-other set t ts ne)) (below_from bound (suc t.0) ts some h.2 (All-tail (λ u. unsigned_abs u.1 < bound) t ts sizes) set))
     (cases_eq t.0 set)
 
-pub small : (ts : List Term) → IsPolynomial ts → All (λ t. unsigned_abs t.1 < 2 ^ 62) ts → IsBelow (2 ^ 62) ts
-small ts h sizes = below_from (2 ^ 62) 0 ts (omega arith) (canonical_from_polynomial ts h) sizes
+pub small : (ts : List Term) → IsPolynomial ts → All (λ t. unsigned_abs t.1 < size_limit) ts → IsBelow size_limit ts
+small ts h sizes = below_from size_limit 0 ts (omega arith) (canonical_from_polynomial ts h) sizes
 
 narrow_term : (t : Term) → unsigned_abs t.1 < 2 ^ 125 → is_wide t ≡ false
 narrow_term t h = grind (arith, nat_tests)
@@ -49,33 +50,33 @@ narrow_sum ts h =
     let fits : list_any is_wide (collected ts) ≡ false = list_any_none is_wide (collected ts) (λ i d lt. narrow_term (get_or (collected ts) i d) (bound i d lt)) in
     rw fits refl
 
-pub product_below : (x y : ℕ) → x < 2 ^ 62 → y < 2 ^ 62 → x * y < 2 ^ 124
+pub product_below : (x y : ℕ) → x < size_limit → y < size_limit → x * y < product_limit
 product_below x y h k =
     let a : x ≤ 4611686018427387903 = omega arith in
     let b : y ≤ 4611686018427387903 = omega arith in
     omega (arith, mul-le-mul a b)
 
 -- a multiple
-multiple_below : (by : ℤ) (ts : List Term) → unsigned_abs by < 2 ^ 62 → IsBelow (2 ^ 62) ts → IsBelow (2 ^ 124) (times by ts)
+multiple_below : (by : ℤ) (ts : List Term) → unsigned_abs by < size_limit → IsBelow size_limit ts → IsBelow product_limit (times by ts)
 multiple_below by ts small_by h set =
-    subst (λ n. n < 2 ^ 124) (sym (ap unsigned_abs (coefficient-times set by ts) ∙ unsigned_abs-mul by (coefficient set ts)))
+    subst (λ n. n < product_limit) (sym (ap unsigned_abs (coefficient-times set by ts) ∙ unsigned_abs-mul by (coefficient set ts)))
     (product_below (unsigned_abs by) (unsigned_abs (coefficient set ts)) small_by (h set))
 
 collected_below : (bound : ℕ) (ts : List Term) → IsBelow bound ts → IsBelow bound (collected ts)
 collected_below bound ts h set = subst (λ z. unsigned_abs z < bound) (sym (coefficient-collected set ts)) (h set)
 
-wider : (ts : List Term) → IsBelow (2 ^ 124) ts → IsBelow (2 ^ 125) ts
+wider : (ts : List Term) → IsBelow product_limit ts → IsBelow (2 ^ 125) ts
 wider ts h set = omega (arith, h set)
 
-pub narrow_multiple : (by : ℤ) (ts : List Term) → unsigned_abs by < 2 ^ 62 → IsBelow (2 ^ 62) ts → narrow (scaled by ts) ≡ Ok (scaled by ts)
+pub narrow_multiple : (by : ℤ) (ts : List Term) → unsigned_abs by < size_limit → IsBelow size_limit ts → narrow (scaled by ts) ≡ Ok (scaled by ts)
 narrow_multiple by ts small_by h = narrow_sum (times by ts) (wider (times by ts) (multiple_below by ts small_by h))
 
-pub narrow_multiples : (a b : ℤ) (ts us : List Term) → unsigned_abs a < 2 ^ 62 → unsigned_abs b < 2 ^ 62 → IsBelow (2 ^ 62) ts → IsBelow (2 ^ 62) us
+pub narrow_multiples : (a b : ℤ) (ts us : List Term) → unsigned_abs a < size_limit → unsigned_abs b < size_limit → IsBelow size_limit ts → IsBelow size_limit us
     → narrow (sum (scaled a ts) (scaled b us)) ≡ Ok (sum (scaled a ts) (scaled b us))
 narrow_multiples a b ts us small_a small_b h k =
     narrow_sum (scaled a ts ++ scaled b us)
-    (λ set. let left = collected_below (2 ^ 124) (times a ts) (multiple_below a ts small_a h) set in
-    let right = collected_below (2 ^ 124) (times b us) (multiple_below b us small_b k) set in
+    (λ set. let left = collected_below product_limit (times a ts) (multiple_below a ts small_a h) set in
+    let right = collected_below product_limit (times b us) (multiple_below b us small_b k) set in
     omega (arith, left, right, unsigned_abs-add (coefficient set (scaled a ts ++ scaled b us)) (coefficient set (scaled a ts)) (coefficient set (scaled b us)) (coefficient-append set (scaled a ts) (scaled b us))))
 
 -- ---- products: where two polynomials share no parameter, each set is the union of one pair of sets
@@ -111,7 +112,7 @@ row_above own other set low t (u ∷ us) h p c lt =
     (λ e. let found : u.0 ≡ bit_and set other = sym (right_part t.0 u.0 other h p.0) ∙ ap (λ n. bit_and n other) e in omega (arith, c.0, found))
     ∙ row_above own other set (suc u.0) t us h p.2 c.2 (omega (arith, c.0))
 
-row_below : (own other low : ℕ) (t : Term) (us : List Term) → bit_and t.0 other ≡ 0 → unsigned_abs t.1 < 2 ^ 62 → ArePartsOf other own us → Canonical low us → All (λ u. unsigned_abs u.1 < 2 ^ 62) us → IsBelow (2 ^ 124) (products_of t us)
+row_below : (own other low : ℕ) (t : Term) (us : List Term) → bit_and t.0 other ≡ 0 → unsigned_abs t.1 < size_limit → ArePartsOf other own us → Canonical low us → All (λ u. unsigned_abs u.1 < size_limit) us → IsBelow product_limit (products_of t us)
 row_below own other low t [] h size p c sizes set = omega arith
 row_below own other low t (u ∷ us) h size p c sizes set =
     ⊎_elim
@@ -119,11 +120,11 @@ row_below own other low t (u ∷ us) h size p c sizes set =
     let found : u.0 ≡ bit_and set other = sym (right_part t.0 u.0 other h p.0) ∙ ap (λ n. bit_and n other) e in
     let number : coefficient set (products_of t (u ∷ us)) ≡ t.1 *ℤ u.1 =
     omega (arith, linear, coefficient-here set (bit_or t.0 u.0, t.1 *ℤ u.1) (products_of t us) e, row_above own other set (suc u.0) t us h p.2 c.2 (omega (arith, found))) in
-    subst (λ n. n < 2 ^ 124) (sym (ap unsigned_abs number ∙ unsigned_abs-mul t.1 u.1))
-    (product_below (unsigned_abs t.1) (unsigned_abs u.1) size (All-head (λ w. unsigned_abs w.1 < 2 ^ 62) u us sizes)))
+    subst (λ n. n < product_limit) (sym (ap unsigned_abs number ∙ unsigned_abs-mul t.1 u.1))
+    (product_below (unsigned_abs t.1) (unsigned_abs u.1) size (All-head (λ w. unsigned_abs w.1 < size_limit) u us sizes)))
     (λ (ne : bit_or t.0 u.0 ≡ set → ⊥).
-    subst (λ z. unsigned_abs z < 2 ^ 124) (sym (coefficient-other set (bit_or t.0 u.0, t.1 *ℤ u.1) (products_of t us) ne))
-    (row_below own other (suc u.0) t us h size p.2 c.2 (All-tail (λ w. unsigned_abs w.1 < 2 ^ 62) u us sizes) set))
+    subst (λ z. unsigned_abs z < product_limit) (sym (coefficient-other set (bit_or t.0 u.0, t.1 *ℤ u.1) (products_of t us) ne))
+    (row_below own other (suc u.0) t us h size p.2 c.2 (All-tail (λ w. unsigned_abs w.1 < size_limit) u us sizes) set))
     (cases_eq (bit_or t.0 u.0) set)
 
 -- nor do rows of terms whose sets are above the left part of the set
@@ -139,19 +140,19 @@ rows_above own other set low (t ∷ ts) us p q c lt =
     )
 
 rows_below : (own other low from : ℕ) (ts us : List Term) → ArePartsOf own other ts → ArePartsOf other own us → Canonical low ts → Canonical from us
-    → All (λ t. unsigned_abs t.1 < 2 ^ 62) ts → All (λ u. unsigned_abs u.1 < 2 ^ 62) us → IsBelow (2 ^ 124) (products ts us)
+    → All (λ t. unsigned_abs t.1 < size_limit) ts → All (λ u. unsigned_abs u.1 < size_limit) us → IsBelow product_limit (products ts us)
 rows_below own other low from [] us p q c d small_ts small_us set = omega arith
 rows_below own other low from (t ∷ ts) us p q c d small_ts small_us set =
     ⊎_elim
     (λ (e : t.0 ≡ bit_and set own).
     let number : coefficient set (products (t ∷ ts) us) ≡ coefficient set (products_of t us) =
     omega (arith, linear, coefficient-append set (products_of t us) (products ts us), rows_above own other set (suc t.0) ts us p.2 q c.2 (omega (arith, e))) in
-    subst (λ z. unsigned_abs z < 2 ^ 124) (sym number) (row_below own other from t us p.1 (All-head (λ w. unsigned_abs w.1 < 2 ^ 62) t ts small_ts) q d small_us set))
+    subst (λ z. unsigned_abs z < product_limit) (sym number) (row_below own other from t us p.1 (All-head (λ w. unsigned_abs w.1 < size_limit) t ts small_ts) q d small_us set))
     (λ (ne : t.0 ≡ bit_and set own → ⊥).
     let number : coefficient set (products (t ∷ ts) us) ≡ coefficient set (products ts us) =
     omega (arith, linear, coefficient-append set (products_of t us) (products ts us), row_none own other set t us p.0 q ne) in
-    subst (λ z. unsigned_abs z < 2 ^ 124) (sym number)
-    (rows_below own other (suc t.0) from ts us p.2 q c.2 d (All-tail (λ w. unsigned_abs w.1 < 2 ^ 62) t ts small_ts) small_us set))
+    subst (λ z. unsigned_abs z < product_limit) (sym number)
+    (rows_below own other (suc t.0) from ts us p.2 q c.2 d (All-tail (λ w. unsigned_abs w.1 < size_limit) t ts small_ts) small_us set))
     (cases_eq t.0 (bit_and set own))
 
 -- a set's part of a union that it belongs to, and of a set that has nothing in common with that union
@@ -177,7 +178,7 @@ parts [] other h = tt
 parts (t ∷ ts) other h =
     (part_of t.0 (support ts), apart_first t.0 (support ts) other h, parts_more ts (support ts) t.0 other (parts ts other (apart_rest t.0 (support ts) other h)))
 
-pub narrow_product : (ts us : List Term) → IsPolynomial ts → IsPolynomial us → All (λ t. unsigned_abs t.1 < 2 ^ 62) ts → All (λ u. unsigned_abs u.1 < 2 ^ 62) us → bit_and (support ts) (support us) ≡ 0
+pub narrow_product : (ts us : List Term) → IsPolynomial ts → IsPolynomial us → All (λ t. unsigned_abs t.1 < size_limit) ts → All (λ u. unsigned_abs u.1 < size_limit) us → bit_and (support ts) (support us) ≡ 0
     → narrow (product ts us) ≡ Ok (product ts us)
 narrow_product ts us h k small_ts small_us apart =
     narrow_sum (products ts us)

@@ -7,6 +7,7 @@ use Rattle.std.proofs.lemmas.Bool.{cases_order, leb-false, or_parts}
 use Rattle.std.proofs.lemmas.List.Elements.{All-nil, All-cons, All-head, All-tail, All-append, All-map}
 use Rattle.std.proofs.lemmas.Nat.{or_lt, pow_pos}
 use Rattle.std.proofs.Math.Nat.{div-mul_cancel}
+use Rattle.lift_frac.specs.Limits.{size_limit}
 use Rattle.lift_poly.specs.Polynomial.{Term, IsPolynomial, constant}
 use Rattle.lift_poly.specs.Arithmetic as poly
 use Rattle.lift_poly.specs.Arithmetic.{coefficient, kept, with_term, collected, times, scaled, products_of, products, support}
@@ -16,8 +17,8 @@ use Rattle.lift_poly.proofs.Ring.{mul-zero}
 use Rattle.lift_frac.specs.Ratio.{Ratio}
 use Rattle.drn_lexer.specs.Symbols.{symbols}
 use Rattle.drn_expr.specs.Trees.{Expr, Literal, Parameter, Sum, Difference, Product, Quotient, Negative, ◌>>=◌}
-use Rattle.drn_expr.specs.Grammar.{tree}
-use Rattle.drn_expr.specs.RatPolys.{OverOne, IsRatPoly, common_divisor, lowest, is_large, is_wide, narrow}
+use Rattle.drn_expr.specs.Grammar.{most_symbols, tree}
+use Rattle.drn_expr.specs.RatPolys.{OverOne, IsOver, common_divisor, lowest, is_large, is_wide, narrow}
 use Rattle.drn_expr.specs.Expansion.{sum, negative, difference, product, by_number, quotient, expansion}
 use Rattle.drn_expr.specs.Values.{reading}
 use Rattle.drn_expr.specs.declared.error.ExprError.{ExprError}
@@ -32,10 +33,9 @@ use Rattle.drn_expr.proofs.Meanings.{bind_ok, if_ok, product_above}
 pub record AreSets (k : ℕ) (ts : List Term) : Type 0 where
   pub each : All (λ t. t.0 < 2 ^ k) ts
 
--- a polynomial in lowest terms, over so many parameters
-pub record IsOver (k : ℕ) (p : OverOne) : Type 0 where
-  pub value : IsRatPoly p
-  pub sets : AreSets k p.terms
+-- the same of a polynomial over names
+sets_of : (k : ℕ) (p : OverOne) → IsOver k p → AreSets k p.terms
+sets_of k p h = record { each = h.sets }
 
 -- ---- sets of what is summed and multiplied
 
@@ -103,16 +103,16 @@ lowest_over k ts d above h sets narrow =
     let both = common_divides d ts in
     let q = poly.quotient ts (pos g) in
     let back : times (pos g) q ≡ ts = times-quotient (pos g) ts both.1 in
-    let small = or_parts (nat_le (2 ^ 62) (d / g)) (list_any is_large q) narrow in
+    let small = or_parts (nat_le size_limit (d / g)) (list_any is_large q) narrow in
     record {
       value = record {
         polynomial = polynomial_from_canonical 0 q (canonical_of_times 0 (pos g) q (subst (Canonical 0) (sym back) (canonical_from_polynomial ts h)));
         positive = quotient_positive (d / g) g d (div-mul_cancel g both.0) above;
-        den = leb-false (2 ^ 62) (d / g) small.0;
+        den = leb-false size_limit (d / g) small.0;
         sizes = small_sizes q small.1;
         lowest = nothing_common d g ts q (positive_divisor g d both.0 above) refl back;
       };
-      sets = sets_quotient k (pos g) ts sets;
+      sets = (sets_quotient k (pos g) ts sets).each;
     }
 
 narrow_over : (k : ℕ) (ts : List Term) (d : ℕ) (p : OverOne) → 0 < d → IsPolynomial ts → AreSets k ts → narrow ts d ≡ Ok p → IsOver k p
@@ -130,35 +130,35 @@ collected_over k ts d p above sets e = narrow_over k (collected ts) d p above (p
 number_over : (k : ℕ) (q : Ratio) → IsNumber q → IsOver k (record { terms = constant q.num; den = unsigned_abs q.den })
 number_over k q h = record {
   value = number_poly q.num (unsigned_abs q.den) (constant q.num) refl (polynomial-collected ((0, q.num) ∷ [])) (positive_size q.den h.positive) h.den h.num h.lowest;
-  sets = sets_collected k ((0, q.num) ∷ []) (more_sets k (0, q.num) [] (pow_pos k) (no_sets k));
+  sets = (sets_collected k ((0, q.num) ∷ []) (more_sets k (0, q.num) [] (pow_pos k) (no_sets k))).each;
 }
 
 parameter_over : (k i : ℕ) → i < k → IsOver k (record { terms = (2 ^ i, pos 1) ∷ []; den = 1 })
 parameter_over k i lt = record {
   value = parameter_poly (2 ^ i) ((2 ^ i, pos 1) ∷ []) refl (polynomial-collected ((2 ^ i, pos 1) ∷ []));
-  sets = more_sets k (2 ^ i, pos 1) [] (pow-lt lt) (no_sets k);
+  sets = (more_sets k (2 ^ i, pos 1) [] (pow-lt lt) (no_sets k)).each;
 }
 
 negative_over : (k : ℕ) (a : OverOne) → IsOver k a → IsOver k (negative a)
 negative_over k a h = record {
   value = negative_poly a.terms (scaled (negsuc 0) a.terms) a.den refl (polynomial-collected (times (negsuc 0) a.terms)) h.value;
-  sets = sets_scaled k (negsuc 0) a.terms h.sets;
+  sets = (sets_scaled k (negsuc 0) a.terms (sets_of k a h)).each;
 }
 
 sum_over : (k : ℕ) (a b p : OverOne) → IsOver k a → IsOver k b → sum a b ≡ Ok p → IsOver k p
 sum_over k a b p h i e =
     collected_over k (scaled (pos b.den) a.terms ++ scaled (pos a.den) b.terms) (a.den * b.den) p (product_above a.den b.den h.value.positive i.value.positive)
-    (sets_append k (scaled (pos b.den) a.terms) (scaled (pos a.den) b.terms) (sets_scaled k (pos b.den) a.terms h.sets) (sets_scaled k (pos a.den) b.terms i.sets)) e
+    (sets_append k (scaled (pos b.den) a.terms) (scaled (pos a.den) b.terms) (sets_scaled k (pos b.den) a.terms (sets_of k a h)) (sets_scaled k (pos a.den) b.terms (sets_of k b i))) e
 
 product_over : (k : ℕ) (a b p : OverOne) → IsOver k a → IsOver k b → product a b ≡ Ok p → IsOver k p
 product_over k a b p h i e =
     let done = if_ok _ (narrow (poly.product a.terms b.terms) (a.den * b.den)) SharedParameter p e in
-    collected_over k (products a.terms b.terms) (a.den * b.den) p (product_above a.den b.den h.value.positive i.value.positive) (sets_products k a.terms b.terms h.sets i.sets) done.1
+    collected_over k (products a.terms b.terms) (a.den * b.den) p (product_above a.den b.den h.value.positive i.value.positive) (sets_products k a.terms b.terms (sets_of k a h) (sets_of k b i)) done.1
 
 by_number_over : (k : ℕ) (a : OverOne) (n : ℤ) (d : ℕ) (p : OverOne) → IsOver k a → by_number a n d ≡ Ok p → IsOver k p
 by_number_over k a (pos zero) d p h e = cc
-by_number_over k a (pos (suc n)) d p h e = collected_over k (times (pos d) a.terms) (a.den * suc n) p (product_above a.den (suc n) h.value.positive (omega arith)) (sets_times k (pos d) a.terms h.sets) e
-by_number_over k a (negsuc n) d p h e = collected_over k (times (neg_ℤ (pos d)) a.terms) (a.den * suc n) p (product_above a.den (suc n) h.value.positive (omega arith)) (sets_times k (neg_ℤ (pos d)) a.terms h.sets) e
+by_number_over k a (pos (suc n)) d p h e = collected_over k (times (pos d) a.terms) (a.den * suc n) p (product_above a.den (suc n) h.value.positive (omega arith)) (sets_times k (pos d) a.terms (sets_of k a h)) e
+by_number_over k a (negsuc n) d p h e = collected_over k (times (neg_ℤ (pos d)) a.terms) (a.den * suc n) p (product_above a.den (suc n) h.value.positive (omega arith)) (sets_times k (neg_ℤ (pos d)) a.terms (sets_of k a h)) e
 
 quotient_over : (k : ℕ) (a b p : OverOne) → IsOver k a → quotient a b ≡ Ok p → IsOver k p
 quotient_over k a b p h e =
@@ -194,7 +194,7 @@ expansion_over k (Quotient a b) p fits e =
 
 -- a value that was read is a polynomial in lowest terms over the names
 pub reading_over : (names : List (List ℕ)) (text : List ℕ) (p : OverOne) → reading names text ≡ Ok p → IsOver (length names) p
-reading_over names text p e = by_length (nat_lt 4096 (length (symbols text))) e
+reading_over names text p e = by_length (nat_lt most_symbols (length (symbols text))) e
   where
     by_length : (long : Bool) → (elim long as (λ b. Result OverOne ExprError) [ true ↦ Err Long | false ↦ (tree names (symbols text) >>= (λ e. expansion e)) ]) ≡ Ok p → IsOver (length names) p
     by_length true e = cc
@@ -202,6 +202,6 @@ reading_over names text p e = by_length (nat_lt 4096 (length (symbols text))) e
         let read = bind_ok (tree names (symbols text)) (λ e. expansion e) p e in
         expansion_over (length names) read.0 p (tree_fits names (symbols text) read.0 read.1) read.2
 
--- the same, without the record
-pub reading_is : (names : List (List ℕ)) (text : List ℕ) (p : OverOne) → reading names text ≡ Ok p → IsRatPoly p × All (λ term. term.0 < 2 ^ length names) p.terms
-reading_is names text p e = let over = reading_over names text p e in (over.value, over.sets.each)
+-- a multiple holds no other names
+pub multiples_over : (k : ℕ) (by : ℤ) (ts : List Term) → All (λ t. t.0 < 2 ^ k) ts → All (λ t. t.0 < 2 ^ k) (scaled by ts)
+multiples_over k by ts h = (sets_scaled k by ts (record { each = h })).each

@@ -9,7 +9,7 @@ use Rattle.lift_frac.specs.declared.error.FracError.{FracError}
 use Rattle.drn_lexer.specs.declared.symbol.SymbolForm.{SymbolForm}
 use Rattle.drn_lexer.specs.declared.symbol.SymbolForm.TheVariants as form
 use Rattle.drn_expr.specs.Trees.{Expr, Sum, Difference, Product, Quotient, Negative, ◌>>=◌}
-use Rattle.drn_expr.specs.Grammar.{Symbol, Parsed, value, term, factor, more_terms, more_factors, joins_terms, joins_factors, closed, ended, tree, literal_tree, name_tree}
+use Rattle.drn_expr.specs.Grammar.{most_nesting, Symbol, Parsed, value, term, factor, more_terms, more_factors, joins_terms, joins_factors, closed, ended, tree, literal_tree, name_tree}
 use Rattle.drn_expr.specs.Rules.{Kind, Value, Term, Factor, symbol, Writes, one_term, add, subtract, one_factor, multiply, divide, negate, enclose, literal, name}
 use Rattle.drn_expr.proofs.Forms.{unary, paren, factor_by, factor-is, more_by, more_terms-is, more_factors-is}
 
@@ -72,8 +72,8 @@ name_front names s bytes (Some i) e = record { front = symbol form.Name bytes �
 factor_form : (names : List (List ℕ)) (s : List Symbol) (bytes : List ℕ) (inner whole : Parsed) (depth : ℕ) (f : SymbolForm) → Fronts names Factor s inner → Fronts names Value s whole
     → Fronts names Factor (symbol f bytes ∷ s) (factor_by inner whole (literal_tree (reading bytes) s) (name_tree (position (bytes_eq bytes) names) s) depth f)
 unfolding Fronts factor_by
-factor_form names s bytes inner whole depth form.Minus a b = unary_front names s bytes inner (depth == 64) a
-factor_form names s bytes inner whole depth form.Left a b = paren_front names s bytes whole (depth == 64) b
+factor_form names s bytes inner whole depth form.Minus a b = unary_front names s bytes inner (depth == most_nesting) a
+factor_form names s bytes inner whole depth form.Left a b = paren_front names s bytes whole (depth == most_nesting) b
 factor_form names s bytes inner whole depth form.Literal a b = literal_front names s bytes (reading bytes) refl
 factor_form names s bytes inner whole depth form.Name a b = name_front names s bytes (position (bytes_eq bytes) names) refl
 factor_form names s bytes inner whole depth _ a b = tt

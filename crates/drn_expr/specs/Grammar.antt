@@ -14,6 +14,14 @@ use Rattle.drn_expr.specs.Trees.{Expr, Literal, Parameter, Sum, Difference, Prod
 use Rattle.drn_expr.specs.declared.error.ExprError.{ExprError}
 use Rattle.drn_expr.specs.declared.error.ExprError.TheVariants.{Syntax, UnknownName, Power, Wide, Deep}
 
+-- the most symbols of a value
+abbrev pub most_symbols : ℕ
+most_symbols = 4096
+
+-- the most parentheses and unary minus signs around a place
+abbrev pub most_nesting : ℕ
+most_nesting = 64
+
 -- a symbol: its form and its bytes
 abbrev pub Symbol : Type 0
 Symbol = Piece SymbolForm
@@ -54,7 +62,7 @@ joins_factors form.Times = Some Product
 joins_factors form.Over = Some Quotient
 joins_factors _ = None
 
--- The grammar. Sums and products group from the left: what was read so far is the left operand of the next operator. `depth` counts the parentheses and unary minus signs around the place, at most 64. The first number only says that the reading ends: each call lowers it, and four times the symbols and four more are enough.
+-- The grammar. Sums and products group from the left: what was read so far is the left operand of the next operator. `depth` counts the parentheses and unary minus signs around the place. The first number only says that the reading ends: each call lowers it, and four times the symbols and four more are enough.
 unfoldable mutual
   -- value = term { ("+" | "-") term }
   pub value : ℕ → List (List ℕ) → ℕ → List Symbol → Parsed
@@ -95,13 +103,13 @@ unfoldable mutual
   factor zero names depth s = Err Syntax
   factor (suc n) names depth [] = Err Syntax
   factor (suc n) names depth (x ∷ s) = elim x.form [
-    | form.Minus ↦ elim (depth == 64) [
+    | form.Minus ↦ elim (depth == most_nesting) [
       | true ↦ Err Deep
       | false ↦ do
         e ← factor n names (depth + 1) s
         Ok (Negative e.0, e.1)
     ]
-    | form.Left ↦ elim (depth == 64) [
+    | form.Left ↦ elim (depth == most_nesting) [
       | true ↦ Err Deep
       | false ↦ do
         e ← value n names (depth + 1) s

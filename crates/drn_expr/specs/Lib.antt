@@ -1,5 +1,6 @@
 pub mod Expansion
 pub mod Grammar
+pub mod Laws
 pub mod Meaning
 pub mod Parsing
 pub mod RatPolys

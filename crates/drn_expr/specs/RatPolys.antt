@@ -2,6 +2,7 @@
 use Rattle.std.specs.Prelude.{◌≡◌, ℕ, ◌<◌, ◌/◌, ◌^◌, ◌||◌, Bool, List, [], ◌∷◌, ℤ, pos, negsuc, neg_ℤ, unsigned_abs, nat_le, All, Result, Ok, Err, if◌then◌else◌}
 use Rattle.std.specs.List.{list_any}
 use Rattle.lift_frac.specs.Gcd.{gcd}
+use Rattle.lift_frac.specs.Limits.{size_limit}
 use Rattle.lift_poly.specs.Polynomial.{Term, IsPolynomial}
 use Rattle.lift_poly.specs.Arithmetic.{quotient}
 use Rattle.drn_expr.specs.declared.error.ExprError.{ExprError}
@@ -25,13 +26,13 @@ lowest terms den =
     let divisor = common_divisor den terms in
     record { terms = quotient terms (pos divisor); den = den / divisor }
 
--- a coefficient's size is 2^62 or more
+-- a coefficient's size has reached the limit
 abbrev pub is_large : Term → Bool
-is_large term = nat_le (2 ^ 62) (unsigned_abs term.1)
+is_large term = nat_le size_limit (unsigned_abs term.1)
 
--- the denominator or a coefficient's size is 2^62 or more
+-- the denominator or a coefficient's size has reached the limit
 abbrev pub is_wide : OverOne → Bool
-is_wide p = nat_le (2 ^ 62) p.den || list_any is_large p.terms
+is_wide p = nat_le size_limit p.den || list_any is_large p.terms
 
 -- the fraction over its least denominator, or Wide where that is too large
 abbrev pub narrow : List Term → ℕ → Result OverOne ExprError
@@ -43,13 +44,18 @@ cause_of poly.SharedParameter = SharedParameter
 cause_of poly.Wide = Wide
 cause_of poly.Memory = Memory
 
--- what every `RatPoly` is: its denominator is from 1 to 2^62 - 1 and has no factor in common with all coefficients, whose sizes are below 2^62
+-- what every `RatPoly` is: its denominator is above 0 and has no factor in common with all coefficients, and all are below the limit in size
 pub record IsRatPoly (p : OverOne) : Type 0 where
   pub polynomial : IsPolynomial p.terms
   pub positive : 0 < p.den
-  pub den : p.den < 2 ^ 62
-  pub sizes : All (λ term. unsigned_abs term.1 < 2 ^ 62) p.terms
+  pub den : p.den < size_limit
+  pub sizes : All (λ term. unsigned_abs term.1 < size_limit) p.terms
   pub lowest : common_divisor p.den p.terms ≡ 1
+
+-- the same over so many names: each set holds only their places
+pub record IsOver (count : ℕ) (p : OverOne) : Type 0 where
+  pub value : IsRatPoly p
+  pub sets : All (λ term. term.0 < 2 ^ count) p.terms
 
 -- a size with the sign of another number, as a divisor's sign goes above the line
 abbrev pub with_sign : ℤ → ℕ → ℤ

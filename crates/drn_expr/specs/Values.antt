@@ -2,7 +2,7 @@
 use Rattle.std.specs.Prelude.{◌≡◌, ℕ, true, false, nat_lt, List, length, Result, Ok, Err}
 use Rattle.lift_poly.specs.Polynomial.{Valuation}
 use Rattle.drn_lexer.specs.Symbols.{symbols}
-use Rattle.drn_expr.specs.Grammar.{tree}
+use Rattle.drn_expr.specs.Grammar.{most_symbols, tree}
 use Rattle.drn_expr.specs.Expansion.{expansion}
 use Rattle.drn_expr.specs.RatPolys.{OverOne}
 use Rattle.drn_expr.specs.Meaning.{IsValuation, HasMeaning}
@@ -11,9 +11,9 @@ use Rattle.drn_expr.specs.Trees.{Expr, ◌>>=◌}
 use Rattle.drn_expr.specs.declared.error.ExprError.{ExprError}
 use Rattle.drn_expr.specs.declared.error.ExprError.TheVariants.{Long}
 
--- What a text is as a value over these names. More than 4096 symbols are refused before any of them is looked at, then each fault in place is told before any operation is done.
+-- What a text is as a value over these names. A value of too many symbols is refused before any of them is looked at, then each fault in place is told before any operation is done.
 abbrev pub reading : List (List ℕ) → List ℕ → Result OverOne ExprError
-reading names text = elim (nat_lt 4096 (length (symbols text))) [
+reading names text = elim (nat_lt most_symbols (length (symbols text))) [
   | true ↦ Err Long
   | false ↦ do
     e ← tree names (symbols text)

@@ -4,17 +4,19 @@ ghost use Rattle.std.specs.Prelude.{◌≡◌, ◌≢◌, ◌+◌, ◌<◌, ◌�
 ghost use Rattle.std.specs.Str.{bytes_eq};
 ghost use Rattle.lift_frac.specs.Literal.{reading};
 ghost use Rattle.drn_lexer.specs.Spans.{LiesIn, IsOn};
-ghost use Rattle.drn_expr.specs.Grammar.{misfit, literal_tree, name_tree, joins_terms, joins_factors};
+ghost use Rattle.lift_poly.specs.Limits.{parameter_limit};
+ghost use Rattle.drn_expr.specs.Grammar.{most_nesting, misfit, literal_tree, name_tree, joins_terms, joins_factors};
 ghost use Rattle.drn_expr.specs.Parsing.{IsFurther, IsFactor, IsTerm, IsValue, IsClosed, IsEnded, IsOperator, IsOperand, combined, opposite, join_of};
 
 use crate::error::ExprError;
 use crate::rat_poly::RatPoly;
 use drn_lexer::{Line, Symbol, SymbolForm, next_symbol};
-use lift_names::Names;
 use lift_frac::read_literal;
+use lift_names::Names;
 use std::alloc::Global;
 
-/// How many parentheses and unary minus signs may enclose one place.
+/// How many parentheses and unary minus signs may enclose one place: `most_nesting` in the
+/// definitions.
 const DEEPEST: u32 = 64;
 
 /// A part of a value: its expansion or the first operation that fails, and the place behind it.
@@ -25,7 +27,7 @@ pub(crate) struct Part {
 }
 
 /// What joins two operands.
-#[derive(Clone, Copy, Debug, PartialEq, Eq)]
+#[derive(Clone, Copy)]
 enum Operation {
     Sum,
     Difference,
@@ -82,9 +84,9 @@ fn negated(alloc: Global, operand: Result<RatPoly, ExprError>) -> Result<RatPoly
 
 /// One parenthesis or unary minus more around a place. `Deep` exactly where it is the 65th.
 fn deeper(depth: u32) -> Result<u32, ExprError>
-    requires { depth ≤ 64 }
-    ensures deeper { IfOk result (λ d. (d ≡ depth + 1) × (depth < 64)) }
-    ensures deep { IfErr result (λ cause. (cause ≡ ExprError.Deep) × (depth ≡ 64)) }
+    requires { depth ≤ most_nesting }
+    ensures deeper { IfOk result (λ d. (d ≡ depth + 1) × (depth < most_nesting)) }
+    ensures deep { IfErr result (λ cause. (cause ≡ ExprError.Deep) × (depth ≡ most_nesting)) }
 {
     if depth == DEEPEST {
         Err(ExprError::Deep)
@@ -173,7 +175,7 @@ fn literal(alloc: Global, text: &[u8], symbol: Symbol) -> Result<Part, ExprError
 /// A parameter as an operand. `UnknownName` exactly where the name isn't declared.
 fn parameter(alloc: Global, text: &[u8], symbol: Symbol, names: &Names) -> Result<Part, ExprError>
     requires within { (symbol.from ≤ symbol.to) × (symbol.to ≤ length text.now) }
-    requires names { length names.now ≤ 16 }
+    requires names { length names.now ≤ parameter_limit }
     ensures { let place = position (bytes_eq (slice_range text.now symbol.from symbol.to)) names.now in
         IsOperand symbol.to result (name_tree place) }
 {
@@ -198,8 +200,8 @@ fn factor(
 ) -> Result<Part, ExprError>
     requires line { LiesIn line text.now }
     requires place { IsOn at line }
-    requires names { length names.now ≤ 16 }
-    requires depth { depth ≤ 64 }
+    requires names { length names.now ≤ parameter_limit }
+    requires depth { depth ≤ most_nesting }
     ensures further { IfOk result (λ part. IsFurther text.now line at part.to) }
     ensures factor { IsFactor names.now depth text.now line at result }
 {
@@ -242,8 +244,8 @@ fn term(
 ) -> Result<Part, ExprError>
     requires line { LiesIn line text.now }
     requires place { IsOn at line }
-    requires names { length names.now ≤ 16 }
-    requires depth { depth ≤ 64 }
+    requires names { length names.now ≤ parameter_limit }
+    requires depth { depth ≤ most_nesting }
     ensures further { IfOk result (λ part. IsFurther text.now line at part.to) }
     ensures term { IsTerm names.now depth text.now line at result }
 {
@@ -270,8 +272,8 @@ pub(crate) fn value(
 ) -> Result<Part, ExprError>
     requires line { LiesIn line text.now }
     requires place { IsOn at line }
-    requires names { length names.now ≤ 16 }
-    requires depth { depth ≤ 64 }
+    requires names { length names.now ≤ parameter_limit }
+    requires depth { depth ≤ most_nesting }
     ensures further { IfOk result (λ part. IsFurther text.now line at part.to) }
     ensures value { IsValue names.now depth text.now line at result }
 {

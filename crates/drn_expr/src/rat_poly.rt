@@ -1,5 +1,7 @@
 ghost use Rattle.std.specs.Prelude.{◌≡◌, ◌≢◌, ◌<◌, ◌^◌, ℤ, pos, [], ◌∷◌, ℕ, unsigned_abs, Ok, Err, IfOk};
 ghost use Rattle.std.specs.List.{list_any};
+ghost use Rattle.lift_frac.specs.Limits.{product_limit};
+ghost use Rattle.lift_poly.specs.Limits.{parameter_limit};
 ghost use Rattle.lift_poly.specs.Polynomial.{constant};
 ghost use Rattle.drn_expr.specs.RatPolys.{OverOne, IsRatPoly, is_large, narrow, with_sign};
 ghost use Rattle.drn_expr.specs.Expansion.{sum, negative, difference, product, quotient};
@@ -28,7 +30,8 @@ impl Model for RatPoly {
     ghost invariant = { λ p. IsRatPoly (record { terms = p.poly; den = p.den }) };
 }
 
-/// The size from which on a coefficient or a denominator is too large.
+/// The size from which on a coefficient or a denominator is too large: `size_limit` in the
+/// definitions.
 const LIMIT: u128 = 1 << 62;
 
 /// Whether a coefficient is too large.
@@ -96,7 +99,7 @@ impl RatPoly {
 
     /// The parameter at a place below 16 among the declared ones.
     pub(crate) fn parameter(alloc: Global, place: u32) -> Result<RatPoly, ExprError>
-        requires { place < 16 }
+        requires { place < parameter_limit }
         ensures { result ≢ Err ExprError.Memory
             → result ≡ Ok (record { terms = (2 ^ place, pos 1) ∷ []; den = 1 }) }
     {
@@ -107,7 +110,7 @@ impl RatPoly {
     /// The same fraction over its least denominator. `Wide` exactly where that is too large.
     fn narrow(alloc: Global, poly: &MultiAffine, den: u128) -> Result<RatPoly, ExprError>
         requires positive { 0 < den }
-        requires small { den < 2 ^ 124 }
+        requires small { den < product_limit }
         ensures { result ≢ Err ExprError.Memory → result ≡ narrow poly.now den }
     {
         let divisor = gcd(poly.content(), den);

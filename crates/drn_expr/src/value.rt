@@ -1,5 +1,7 @@
 ghost use Rattle.std.specs.Prelude.{◌≡◌, ◌≢◌, ◌≤◌, ◌<◌, ◌^◌, length, nat_lt, slice_range, Err, IfOk};
 ghost use Rattle.drn_lexer.specs.Spans.{LiesIn, IsOn};
+ghost use Rattle.lift_poly.specs.Limits.{parameter_limit};
+ghost use Rattle.drn_expr.specs.Grammar.{most_symbols};
 ghost use Rattle.drn_expr.specs.Values.{reading, IsWorth};
 ghost use Rattle.drn_expr.specs.Parsing.{left};
 
@@ -10,14 +12,14 @@ use drn_lexer::{Line, next_symbol};
 use lift_names::Names;
 use std::alloc::Global;
 
-/// How many symbols a value may have.
+/// How many symbols a value may have: `most_symbols` in the definitions.
 const MOST_SYMBOLS: u32 = 4096;
 
 /// Whether more symbols than a value may have stand behind a place of the line.
 fn is_long(text: &[u8], line: Line, from: usize) -> bool
     requires line { LiesIn line text.now }
     requires place { IsOn from line }
-    ensures { result ≡ nat_lt 4096 (left text.now line from) }
+    ensures { result ≡ nat_lt most_symbols (left text.now line from) }
 {
     let mut at = from;
     let mut seen = 0;
@@ -53,7 +55,7 @@ pub fn read_value(
 ) -> Result<RatPoly, ExprError>
     requires line { LiesIn line text.now }
     requires place { IsOn from line }
-    requires names { length names.now ≤ 16 }
+    requires names { length names.now ≤ parameter_limit }
     ensures answer { result ≢ Err ExprError.Memory
         → result ≡ reading names.now (slice_range text.now from line.to) }
     ensures meaning { IfOk result (IsWorth names.now (slice_range text.now from line.to)) }

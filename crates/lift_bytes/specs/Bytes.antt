@@ -59,6 +59,10 @@ point = 46
 abbrev pub slash : ℕ
 slash = 47
 
+-- `0`
+abbrev pub zero_digit : ℕ
+zero_digit = 48
+
 -- `:`
 abbrev pub colon : ℕ
 colon = 58
@@ -70,6 +74,10 @@ less = 60
 -- `=`
 abbrev pub equals : ℕ
 equals = 61
+
+-- `E`
+abbrev pub capital_e : ℕ
+capital_e = 69
 
 -- `[`
 abbrev pub left_bracket : ℕ
@@ -86,6 +94,10 @@ caret = 94
 -- `_`
 abbrev pub underscore : ℕ
 underscore = 95
+
+-- `e`
+abbrev pub small_e : ℕ
+small_e = 101
 
 -- `{`
 abbrev pub left_brace : ℕ

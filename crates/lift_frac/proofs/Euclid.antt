@@ -1,9 +1,9 @@
 -- Euclid's steps give the greatest common divisor.
-use Rattle.std.proofs.Common.{◌≡◌, ◌%◌, ◌<◌, ◌≤◌, ℕ, zero, suc, refl, sym, arith}
-use Rattle.std.specs.Int.{IsGcd}
+use Rattle.std.proofs.Common.{◌≡◌, ◌*◌, ◌/◌, ◌%◌, ◌<◌, ◌≤◌, ℕ, zero, suc, refl, sym, subst, arith}
+use Rattle.std.specs.Int.{IsGcd, ◌∣◌}
 use Rattle.std.proofs.lemmas.Nat.Gcd.{IsGcd-from_zero, IsGcd-from_mod, same_from_IsGcd, le_of_dvd, mod-eq-zero_of_dvd, dvd_refl}
-use Rattle.std.proofs.Math.Nat.{one-dvd}
-use Rattle.lift_frac.specs.Gcd.{gcd_steps, gcd}
+use Rattle.std.proofs.Math.Nat.{one-dvd, div-mul_cancel, dvd-mul_left, mul-dvd-mul_left, mul-le-mul_left}
+use Rattle.lift_frac.specs.Gcd.{gcd_steps, gcd, lcm}
 
 pub steps_are : (n a b : ℕ) → b ≤ n → IsGcd a b (gcd_steps n a b)
 steps_are zero a zero h = IsGcd-from_zero a 0 refl
@@ -35,3 +35,17 @@ positive a b (suc g) h pos = omega arith
 
 pub gcd-one : (a : ℕ) → gcd a 1 ≡ 1
 gcd-one a = sym (is_gcd a 1 1 (one-dvd a, dvd_refl 1, λ d p q. q))
+
+-- ---- least common multiples
+
+pub lcm_multiple : (a b : ℕ) → (a ∣ lcm a b) × (b ∣ lcm a b)
+lcm_multiple a b =
+    let g = gcd_is a b in
+    let P : ℕ → Type 0 = λ k. k ∣ lcm a b in
+    (subst P (div-mul_cancel (gcd a b) g.0) (mul-dvd-mul_left (gcd a b) (a / gcd a b) g.1), dvd-mul_left b (a / gcd a b))
+
+pub lcm_at_least : (a b : ℕ) → 0 < b → a ≤ lcm a b
+lcm_at_least a b above =
+    let g = gcd_is a b in
+    let same : a / gcd a b * gcd a b ≡ a = div-mul_cancel (gcd a b) g.0 in
+    omega (arith, same, mul-le-mul_left (a / gcd a b) (small a b (gcd a b) g above))

@@ -5,6 +5,7 @@ use Rattle.std.specs.Int.{w128}
 use Rattle.lift_frac.specs.declared.frac.Frac.{Frac}
 use Rattle.std.proofs.lemmas.Nat.{mul-lt}
 use Rattle.std.proofs.lemmas.Int.{ints, to_z-of_z, unsigned_abs-mul, fits_signed_from_abs}
+use Rattle.lift_frac.specs.Limits.{size_limit, product_limit, sum_limit}
 
 -- a number as it comes back from its bits
 abbrev pub kept : ℤ → ℤ
@@ -13,20 +14,20 @@ kept z = to_z w128 (of_z w128 z)
 pub kept-is : (z : ℤ) → unsigned_abs z < 2 ^ 127 → kept z ≡ z
 kept-is z h = to_z-of_z w128 z (fits_signed_from_abs w128 z h)
 
-product_size : (a b : ℤ) → unsigned_abs a < 2 ^ 62 → unsigned_abs b < 2 ^ 62 → unsigned_abs (a *ℤ b) < 2 ^ 124
+product_size : (a b : ℤ) → unsigned_abs a < size_limit → unsigned_abs b < size_limit → unsigned_abs (a *ℤ b) < product_limit
 product_size a b h k = omega (arith, mul-lt _ _ _ _ h k, unsigned_abs-mul a b)
 
-sum_size : (x y : ℤ) → unsigned_abs x < 2 ^ 124 → unsigned_abs y < 2 ^ 124 → unsigned_abs (x +ℤ y) < 2 ^ 125
+sum_size : (x y : ℤ) → unsigned_abs x < product_limit → unsigned_abs y < product_limit → unsigned_abs (x +ℤ y) < sum_limit
 sum_size x y h k = omega (arith, ints)
 
-factors_are : (a b : ℤ) → unsigned_abs a < 2 ^ 62 → unsigned_abs b < 2 ^ 62 → kept a *ℤ kept b ≡ a *ℤ b
+factors_are : (a b : ℤ) → unsigned_abs a < size_limit → unsigned_abs b < size_limit → kept a *ℤ kept b ≡ a *ℤ b
 factors_are a b h k = ap (λ t. t *ℤ kept b) (kept-is a (omega arith)) ∙ ap (λ t. a *ℤ t) (kept-is b (omega arith))
 
 -- a product as the code makes it
-pub exact_product : (a b : ℤ) → unsigned_abs a < 2 ^ 62 → unsigned_abs b < 2 ^ 62 → kept (kept a *ℤ kept b) ≡ a *ℤ b
+pub exact_product : (a b : ℤ) → unsigned_abs a < size_limit → unsigned_abs b < size_limit → kept (kept a *ℤ kept b) ≡ a *ℤ b
 exact_product a b h k = ap kept (factors_are a b h k) ∙ kept-is (a *ℤ b) (omega (arith, product_size a b h k))
 
-pub product_fits : (a b : ℤ) → unsigned_abs a < 2 ^ 62 → unsigned_abs b < 2 ^ 62 → FitsSigned w128 (kept a *ℤ kept b)
+pub product_fits : (a b : ℤ) → unsigned_abs a < size_limit → unsigned_abs b < size_limit → FitsSigned w128 (kept a *ℤ kept b)
 product_fits a b h k =
     let P : ℤ → Type 0 = λ z. FitsSigned w128 z in
     subst P (sym (factors_are a b h k)) (fits_signed_from_abs w128 (a *ℤ b) (omega (arith, product_size a b h k)))
@@ -36,7 +37,7 @@ terms_are p q =
     ap (λ t. t +ℤ kept (kept q.num *ℤ kept p.den)) (exact_product p.num q.den p.small_num q.small_den)
     ∙ ap (λ t. p.num *ℤ q.den +ℤ t) (exact_product q.num p.den q.small_num p.small_den)
 
-above_line_size : (p q : Frac) → unsigned_abs (p.num *ℤ q.den +ℤ q.num *ℤ p.den) < 2 ^ 125
+above_line_size : (p q : Frac) → unsigned_abs (p.num *ℤ q.den +ℤ q.num *ℤ p.den) < sum_limit
 above_line_size p q = sum_size (p.num *ℤ q.den) (q.num *ℤ p.den) (product_size p.num q.den p.small_num q.small_den) (product_size q.num p.den q.small_num p.small_den)
 
 -- what stands above the line of a sum, as the code makes it

@@ -1,10 +1,11 @@
 -- What `Frac::reduced` makes is the ratio in lowest terms.
-use Rattle.std.proofs.Common.{◌≡◌, ◌≢◌, ◌*◌, ◌/◌, ◌^◌, ◌<◌, ◌≤◌, ℕ, zero, suc, ℤ, pos, negsuc, ◌*ℤ◌, ◌<ℤ◌, sym, ap, subst, ◌∙◌, refl, arith, to_z, FitsSigned, Result, Ok, Err, Bool, true, false, cond}
+use Rattle.std.proofs.Common.{◌≡◌, ◌≢◌, ◌*◌, ◌/◌, ◌<◌, ◌≤◌, ℕ, zero, suc, ℤ, pos, negsuc, ◌*ℤ◌, ◌<ℤ◌, sym, ap, subst, ◌∙◌, refl, arith, to_z, FitsSigned, Result, Ok, Err, Bool, true, false, cond}
 use Rattle.std.specs.Prelude.{unsigned_abs, nat_le, ◌||◌}
 use Rattle.std.specs.Int.{w128, int_signum, ◌∣◌}
 use Rattle.std.proofs.Math.Nat.{div-mul_cancel, zero-mul, mul-le-mul}
 use Rattle.std.proofs.lemmas.Int.{ints, to_z-of_z, to_z_pos, unsigned_abs-mul, fits_signed_from_abs}
 use Rattle.std.proofs.lemmas.Bool.Decides.{nat_tests}
+use Rattle.lift_frac.specs.Limits.{size_limit}
 use Rattle.lift_frac.specs.Gcd.{gcd}
 use Rattle.lift_frac.specs.Ratio.{Ratio, lowest, fraction}
 use Rattle.lift_frac.specs.declared.error.FracError.{FracError}
@@ -27,10 +28,10 @@ signed_size n d x =
     omega (arith, mul-le-mul (signs_size n d) same, unsigned_abs-mul (int_signum n *ℤ int_signum d) (pos x))
 
 -- a small unsigned number, cast
-pub cast_is : (y : ℕ) → y < 2 ^ 62 → to_z w128 y ≡ pos y
+pub cast_is : (y : ℕ) → y < size_limit → to_z w128 y ≡ pos y
 cast_is y h = to_z_pos w128 y (omega arith)
 
-factors : (n d s t : ℤ) (x : ℕ) → s ≡ int_signum n → t ≡ int_signum d → x < 2 ^ 62
+factors : (n d s t : ℤ) (x : ℕ) → s ≡ int_signum n → t ≡ int_signum d → x < size_limit
     → kept (kept s *ℤ kept t) *ℤ to_z w128 x ≡ int_signum n *ℤ int_signum d *ℤ pos x
 factors n d s t x e f h =
     let signs = exact_product (int_signum n) (int_signum d) (omega (arith, signum_size n)) (omega (arith, signum_size d)) in
@@ -38,12 +39,12 @@ factors n d s t x e f h =
     ∙ ap (λ k. k *ℤ to_z w128 x) signs ∙ ap (λ k. int_signum n *ℤ int_signum d *ℤ k) (cast_is x h)
 
 -- what stands above the line, as the code makes it
-signed_is : (n d s t : ℤ) (x : ℕ) → s ≡ int_signum n → t ≡ int_signum d → x < 2 ^ 62
+signed_is : (n d s t : ℤ) (x : ℕ) → s ≡ int_signum n → t ≡ int_signum d → x < size_limit
     → kept (kept (kept s *ℤ kept t) *ℤ to_z w128 x) ≡ int_signum n *ℤ int_signum d *ℤ pos x
 signed_is n d s t x e f h =
     ap kept (factors n d s t x e f h) ∙ kept-is (int_signum n *ℤ int_signum d *ℤ pos x) (omega (arith, signed_size n d x))
 
-pub signed_fits : (n d s t : ℤ) (x : ℕ) → s ≡ int_signum n → t ≡ int_signum d → x < 2 ^ 62 → FitsSigned w128 (kept (kept s *ℤ kept t) *ℤ to_z w128 x)
+pub signed_fits : (n d s t : ℤ) (x : ℕ) → s ≡ int_signum n → t ≡ int_signum d → x < size_limit → FitsSigned w128 (kept (kept s *ℤ kept t) *ℤ to_z w128 x)
 signed_fits n d s t x e f h =
     let same = factors n d s t x e f h in
     let P : ℤ → Type 0 = λ z. FitsSigned w128 z in
@@ -60,7 +61,7 @@ pub record IsReduced (n d num den : ℤ) (x y : ℕ) : Type 0 where
 -- what the code computes, from what its calls answer
 pub is_reduced : {s t : ℤ} {a b g : ℕ} (n d : ℤ) → FitsSigned w128 n → FitsSigned w128 d → d ≢ pos 0
     → s ≡ int_signum (kept n) → t ≡ int_signum (kept d) → a ≡ unsigned_abs (kept n) → b ≡ unsigned_abs (kept d) → g ≡ gcd a b
-    → a / g < 2 ^ 62 → b / g < 2 ^ 62 → IsReduced n d (kept (kept (kept s *ℤ kept t) *ℤ to_z w128 (a / g))) (to_z w128 (b / g)) (a / g) (b / g)
+    → a / g < size_limit → b / g < size_limit → IsReduced n d (kept (kept (kept s *ℤ kept t) *ℤ to_z w128 (a / g))) (to_z w128 (b / g)) (a / g) (b / g)
 is_reduced {s} {t} {a} {b} {g} n d fits fits_below nonzero sign sign_below above below divisor small small_below =
     let num = to_z-of_z w128 n fits in
     let den = to_z-of_z w128 d fits_below in
@@ -102,13 +103,13 @@ no_common_factor {n} {d} {num} {den} {x} {y} r =
     let none = gcd-quotients (unsigned_abs n) (unsigned_abs d) _ (divisor_positive n d r.nonzero) (gcd_is _ _) in
     ap (λ k. gcd k (unsigned_abs den)) (num_size r ∙ r.above) ∙ ap (λ k. gcd (unsigned_abs n / gcd (unsigned_abs n) (unsigned_abs d)) k) (ap unsigned_abs r.den_is ∙ r.below) ∙ none
 
-pub small_above : {n d num den : ℤ} {x y : ℕ} → IsReduced n d num den x y → x < 2 ^ 62 → unsigned_abs num < 2 ^ 62
+pub small_above : {n d num den : ℤ} {x y : ℕ} → IsReduced n d num den x y → x < size_limit → unsigned_abs num < size_limit
 small_above {n} {d} {num} {den} {x} {y} r h = omega (arith, num_size r)
 
-pub small_below : {n d num den : ℤ} {x y : ℕ} → IsReduced n d num den x y → y < 2 ^ 62 → unsigned_abs den < 2 ^ 62
+pub small_below : {n d num den : ℤ} {x y : ℕ} → IsReduced n d num den x y → y < size_limit → unsigned_abs den < size_limit
 small_below {n} {d} {num} {den} {x} {y} r h = omega (arith, ap unsigned_abs r.den_is)
 
-small_tests : (x y : ℕ) → x < 2 ^ 62 → y < 2 ^ 62 → (nat_le (2 ^ 62) x || nat_le (2 ^ 62) y) ≡ false
+small_tests : (x y : ℕ) → x < size_limit → y < size_limit → (nat_le size_limit x || nat_le size_limit y) ≡ false
 small_tests x y h k = grind (arith, nat_tests)
 
 abbrev ratio : ℤ → ℤ → Ratio
@@ -119,7 +120,7 @@ abbrev after_test : ℤ → ℤ → Bool → Result Ratio FracError
 after_test n d wide = cond wide (Err Wide) (Ok (lowest n d))
 
 -- two small parts are the fraction
-pub fraction-narrow : {n d num den : ℤ} {x y : ℕ} → IsReduced n d num den x y → x < 2 ^ 62 → y < 2 ^ 62 → Ok (ratio num den) ≡ fraction n d
+pub fraction-narrow : {n d num den : ℤ} {x y : ℕ} → IsReduced n d num den x y → x < size_limit → y < size_limit → Ok (ratio num den) ≡ fraction n d
 fraction-narrow {n} {d} {num} {den} {x} {y} r h k =
     let size = size_above n d (gcd (unsigned_abs n) (unsigned_abs d)) r.nonzero in
     let tests = small_tests (unsigned_abs (lowest n d).num) (unsigned_abs (lowest n d).den) (omega (arith, size, r.above)) (omega (arith, r.below)) in

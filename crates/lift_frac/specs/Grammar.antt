@@ -3,6 +3,7 @@
 use Rattle.std.specs.Prelude.{◌≡◌, ℕ, Bool, true, false, List, [], ◌∷◌, ◌++◌}
 use Rattle.std.specs.List.{list_all}
 use Rattle.std.specs.Char.{is_ascii_digit}
+use Rattle.lift_bytes.specs.Bytes as byte
 use Rattle.lift_frac.specs.Literal.{Literal, begins_digit}
 
 -- one digit or more
@@ -13,18 +14,18 @@ pub record IsDigits (text : List ℕ) : Type 0 where
 -- what stands behind the whole digits: nothing, or a point and digits
 pub data Decimals : List ℕ → List ℕ → Type 0 where
   no_decimals : Decimals [] []
-  point : (digits : List ℕ) → IsDigits digits → Decimals (46 ∷ digits) digits
+  point : (digits : List ℕ) → IsDigits digits → Decimals (byte.point ∷ digits) digits
 
 -- a sign, and whether it is a minus
 pub data Sign : List ℕ → Bool → Type 0 where
   no_sign : Sign [] false
-  plus : Sign (43 ∷ []) false
-  minus : Sign (45 ∷ []) true
+  plus : Sign (byte.plus ∷ []) false
+  minus : Sign (byte.minus ∷ []) true
 
 -- `e` or `E`
 pub data Mark : ℕ → Type 0 where
-  small_e : Mark 101
-  capital_e : Mark 69
+  small_e : Mark byte.small_e
+  capital_e : Mark byte.capital_e
 
 -- an exponent, whether it has a minus, and its digits: nothing, or an `e` or `E`, a sign and digits
 pub data Exponent : List ℕ → Bool → List ℕ → Type 0 where

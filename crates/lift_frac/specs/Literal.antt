@@ -3,6 +3,8 @@ use Rattle.std.specs.Prelude.{ℕ, Bool, true, false, List, [], ◌∷◌, ◌++
 use Rattle.std.specs.List.{prefix_len, suffix_len}
 use Rattle.std.specs.Char.{is_ascii_digit}
 use Rattle.std.specs.Str.Parse.{digits_value}
+use Rattle.lift_bytes.specs.Bytes as byte
+use Rattle.lift_frac.specs.Limits.{size_limit}
 use Rattle.lift_frac.specs.Ratio.{Ratio, fraction}
 use Rattle.lift_frac.specs.declared.error.FracError.{FracError}
 use Rattle.lift_frac.specs.declared.error.FracError.TheVariants.{Wide, BadLiteral}
@@ -30,19 +32,19 @@ behind_digits text = drop (prefix_len is_ascii_digit text) text
 -- A point and digits at the front: the digits, and what stands behind them. A point without a digit behind it is no part of a literal.
 abbrev pub decimals_at : List ℕ → List ℕ × List ℕ
 decimals_at [] = ([], [])
-decimals_at (b ∷ text) = if (b == 46) && begins_digit text then (digits_at text, behind_digits text) else ([], b ∷ text)
+decimals_at (b ∷ text) = if (b == byte.point) && begins_digit text then (digits_at text, behind_digits text) else ([], b ∷ text)
 
 -- A sign at the front: whether it is a minus, and what stands behind it.
 abbrev pub sign_at : List ℕ → Bool × List ℕ
 sign_at [] = (false, [])
-sign_at (b ∷ text) = if b == 45 then (true, text) else (if b == 43 then (false, text) else (false, b ∷ text))
+sign_at (b ∷ text) = if b == byte.minus then (true, text) else (if b == byte.plus then (false, text) else (false, b ∷ text))
 
 -- An exponent at the front: whether it has a minus, its digits, and what stands behind them. Without a digit none of it is part of a literal.
 abbrev pub exponent_at : List ℕ → Bool × List ℕ × List ℕ
 exponent_at [] = (false, [], [])
 exponent_at (b ∷ text) =
     let signed = sign_at text in
-    if ((b == 101) || (b == 69)) && begins_digit signed.1
+    if ((b == byte.small_e) || (b == byte.capital_e)) && begins_digit signed.1
     then (signed.0, digits_at signed.1, behind_digits signed.1) else (false, [], b ∷ text)
 
 -- the longest literal at the front, and what stands behind it
@@ -67,7 +69,7 @@ digits_of l = l.whole ++ l.decimals
 
 -- how many zeros stand at their end
 abbrev pub zeros : Literal → ℕ
-zeros l = suffix_len (λ b. b == 48) (digits_of l)
+zeros l = suffix_len (λ b. b == byte.zero_digit) (digits_of l)
 
 -- the whole number of these digits without the zeros at their end
 abbrev pub number : Literal → ℕ
@@ -81,9 +83,13 @@ up l = zeros l + (if l.negative then 0 else digits_value 10 l.exponent)
 abbrev pub down : Literal → ℕ
 down l = length l.decimals + (if l.negative then digits_value 10 l.exponent else 0)
 
--- a number of 2^62 or more, or a power of ten above 18 or below -18
+-- the greatest power of ten, up or down
+abbrev pub greatest_power : ℕ
+greatest_power = 18
+
+-- the number or its power of ten is too large, or the power is too small
 abbrev pub is_far : ℕ → ℕ → ℕ → Bool
-is_far n up down = nat_le (2 ^ 62) n || (nat_lt (down + 18) up || nat_lt (up + 18) down)
+is_far n up down = nat_le size_limit n || (nat_lt (down + greatest_power) up || nat_lt (up + greatest_power) down)
 
 -- n times ten to the power `up - down`; Wide where that is far, or where a part in lowest terms is too large
 abbrev pub scaled : ℕ → ℕ → ℕ → Result Ratio FracError

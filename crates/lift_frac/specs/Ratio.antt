@@ -1,7 +1,8 @@
 -- Ratios of whole numbers in lowest terms.
-use Rattle.std.specs.Prelude.{ℤ, pos, ◌*ℤ◌, ◌/◌, ◌^◌, unsigned_abs, Bool, nat_le, ◌||◌, Result, Ok, Err, if◌then◌else◌}
+use Rattle.std.specs.Prelude.{ℤ, pos, ◌*ℤ◌, ◌/◌, unsigned_abs, Bool, nat_le, ◌||◌, Result, Ok, Err, if◌then◌else◌}
 use Rattle.std.specs.Int.{int_signum}
 use Rattle.lift_frac.specs.Gcd.{gcd}
+use Rattle.lift_frac.specs.Limits.{size_limit}
 use Rattle.lift_frac.specs.declared.error.FracError.{FracError}
 use Rattle.lift_frac.specs.declared.error.FracError.TheVariants.{Wide}
 
@@ -16,9 +17,9 @@ lowest n d =
     let divisor = gcd (unsigned_abs n) (unsigned_abs d) in
     record { num = int_signum n *ℤ int_signum d *ℤ pos (unsigned_abs n / divisor); den = pos (unsigned_abs d / divisor) }
 
--- a part is too large for a fraction: its size is 2^62 or more
+-- a part is too large for a fraction: its size has reached the limit
 abbrev pub is_wide : Ratio → Bool
-is_wide q = nat_le (2 ^ 62) (unsigned_abs q.num) || nat_le (2 ^ 62) (unsigned_abs q.den)
+is_wide q = nat_le size_limit (unsigned_abs q.num) || nat_le size_limit (unsigned_abs q.den)
 
 -- n / d in lowest terms, or Wide where a part of that is too large
 abbrev pub fraction : ℤ → ℤ → Result Ratio FracError

@@ -1,5 +1,5 @@
 /// Why a fraction isn't given.
-#[derive(Clone, Copy, Debug, PartialEq, Eq)]
+#[derive(Clone, Copy, Debug, PartialEq)]
 pub enum FracError {
     /// In lowest terms, a part of the result has a size of 2^62 or more.
     Wide = 1,

@@ -1,5 +1,6 @@
-ghost use Rattle.std.specs.Prelude.{◌≡◌, ◌<◌, ◌^◌, pos, ◌<ℤ◌, unsigned_abs};
+ghost use Rattle.std.specs.Prelude.{◌≡◌, ◌<◌, pos, ◌<ℤ◌, unsigned_abs};
 ghost use Rattle.lift_frac.specs.Gcd.{gcd};
+ghost use Rattle.lift_frac.specs.Limits.{size_limit};
 
 use crate::divisor::gcd;
 use crate::error::FracError;
@@ -14,8 +15,8 @@ pub struct Frac {
     pub den: i128,
     pub ghost positive_den: { pos 0 <ℤ den },
     pub ghost in_lowest_terms: { gcd (unsigned_abs num) (unsigned_abs den) ≡ 1 },
-    pub ghost small_num: { unsigned_abs num < 2 ^ 62 },
-    pub ghost small_den: { unsigned_abs den < 2 ^ 62 },
+    pub ghost small_num: { unsigned_abs num < size_limit },
+    pub ghost small_den: { unsigned_abs den < size_limit },
 }
 
 impl Frac {
@@ -24,12 +25,12 @@ impl Frac {
     ghost use Rattle.lift_frac.specs.Frac.{answer_of, IsQuotient};
     ghost use Rattle.lift_frac.specs.Ratio.{fraction};
 
-    /// The size from which on a part is too large.
+    /// The size from which on a part is too large: `size_limit` in the definitions.
     const LIMIT: u128 = 1 << 62;
 
     /// The whole number `n`.
     pub fn whole(n: i64) -> Frac
-        requires { unsigned_abs n < 2 ^ 62 }
+        requires { unsigned_abs n < size_limit }
         ensures num { result.num ≡ n }
         ensures den { result.den ≡ pos 1 }
     {

@@ -1,16 +1,15 @@
-// Fractions of whole numbers, and the literals that write them.
+//! Fractions of whole numbers, and the literals that write them.
 #![tactic(auto)]
 
 mod divisor;
 mod error;
 mod frac;
+mod laws;
 mod literal;
 mod parts;
 
-pub use divisor::gcd;
+pub use divisor::{gcd, lcm};
 pub use error::FracError;
 pub use frac::Frac;
-pub use literal::{literal_len, read_literal};
-
-#[cfg(test)]
-mod tests;
+pub use laws::divisors_and_multiples;
+pub use literal::{literal_len, number_below, read_literal};

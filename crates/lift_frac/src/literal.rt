@@ -1,29 +1,33 @@
-ghost use Rattle.std.specs.Prelude.{◌≡◌, ◌==◌, ◌+◌, ◌-◌, ◌<◌, ◌≤◌, ◌^◌, length, ℕ, ◌++◌, true, IsTrue, take, drop, ◌↔◌};
+ghost use Rattle.std.specs.Prelude.{◌≡◌, ◌==◌, ◌+◌, ◌-◌, ◌<◌, ◌≤◌, length, ℕ, ◌++◌, true, IsTrue, take, drop, ◌↔◌};
 ghost use Rattle.std.specs.List.{suffix_len, list_all};
 ghost use Rattle.std.specs.Char.{is_ascii_digit};
 ghost use Rattle.std.specs.Str.Parse.{digits_value_after, digits_value};
 ghost use Rattle.lift_frac.specs.Frac.{answer_of};
 ghost use Rattle.lift_frac.specs.Grammar.{Writes};
 ghost use Rattle.lift_frac.specs.Literal.{Literal, begins_digit, literal_at, digits_of, zeros, scaled, value_of, reading};
-ghost use Rattle.lift_frac.specs.Parts.{literal_of, capped, AreDigits};
+ghost use Rattle.lift_bytes.specs.Bytes.{zero_digit};
+ghost use Rattle.lift_frac.specs.Limits.{size_limit};
+ghost use Rattle.lift_frac.specs.Parts.{exponent_limit, power_limit, literal_of, capped, AreDigits};
 
 use crate::error::FracError;
 use crate::frac::Frac;
 use crate::parts::{Parts, literal_at, parts_of};
 
-/// The number from which on a literal's digits are too many for a fraction.
+/// The number from which on a literal's digits are too many for a fraction: `size_limit` in the
+/// definitions.
 const NUMBER_LIMIT: u128 = 1 << 62;
 
-/// An exponent from which on no text is long enough to make up for it.
+/// An exponent from which on no text is long enough to make up for it: `exponent_limit` in the
+/// definitions.
 const EXPONENT_LIMIT: u128 = 1 << 100;
 
-/// The greatest power of ten, up or down.
+/// The greatest power of ten, up or down: `greatest_power` in the definitions.
 const GREATEST_POWER: u128 = 18;
 
 /// How many zeros stand at the end.
 fn zeros_len(digits: &[u8]) -> usize
     ensures within { result ≤ length digits.now }
-    ensures len { result ≡ suffix_len (λ b. b == 48) digits.now }
+    ensures len { result ≡ suffix_len (λ b. b == zero_digit) digits.now }
 {
     let mut left = digits.len();
     while left > 0 && digits[left - 1] == b'0' {
@@ -36,7 +40,7 @@ fn zeros_len(digits: &[u8]) -> usize
 fn more_digits(start: u128, digits: &[u8], limit: u128) -> Option<u128>
     requires digits { list_all is_ascii_digit digits.now ≡ true }
     requires start { start < limit }
-    requires limit { limit ≤ 2 ^ 100 }
+    requires limit { limit ≤ exponent_limit }
     ensures { result ≡ capped limit (digits_value_after 10 start digits.now) }
 {
     let mut number = start;
@@ -47,6 +51,15 @@ fn more_digits(start: u128, digits: &[u8], limit: u128) -> Option<u128>
         }
     }
     Some(number)
+}
+
+/// The number that digits write, where it is below the limit. Linear in the number of digits.
+pub fn number_below(digits: &[u8], limit: u128) -> Option<u128>
+    requires digits { list_all is_ascii_digit digits.now ≡ true }
+    requires limit { (0 < limit) × (limit ≤ exponent_limit) }
+    ensures { result ≡ capped limit (digits_value 10 digits.now) }
+{
+    more_digits(0, digits, limit)
 }
 
 /// How many zeros stand at the end of the digits before the exponent.
@@ -66,9 +79,9 @@ fn zeros_of(parts: &Parts) -> usize
 fn number_of_two(whole: &[u8], decimals: &[u8]) -> Option<u128>
     requires whole { list_all is_ascii_digit whole.now ≡ true }
     requires decimals { list_all is_ascii_digit decimals.now ≡ true }
-    ensures { result ≡ capped (2 ^ 62) (digits_value 10 (whole.now ++ decimals.now)) }
+    ensures { result ≡ capped size_limit (digits_value 10 (whole.now ++ decimals.now)) }
 {
-    match more_digits(0, whole, NUMBER_LIMIT) {
+    match number_below(whole, NUMBER_LIMIT) {
         Some(number) => more_digits(number, decimals, NUMBER_LIMIT),
         None => None,
     }
@@ -79,7 +92,7 @@ fn number_of(parts: &Parts, zeros: usize) -> Option<u128>
     requires digits { AreDigits parts.now }
     requires zeros { zeros ≤ length parts.now.whole.now + length parts.now.decimals.now }
     ensures { let digits = digits_of (literal_of parts.now) in
-        result ≡ capped (2 ^ 62) (digits_value 10 (take (length digits - zeros) digits)) }
+        result ≡ capped size_limit (digits_value 10 (take (length digits - zeros) digits)) }
 {
     if zeros <= parts.decimals.len() {
         let kept = parts.decimals.len() - zeros;
@@ -93,9 +106,9 @@ fn number_of(parts: &Parts, zeros: usize) -> Option<u128>
 /// The number times ten to the power `up - down`.
 fn scaled(number: u128, up: u128, down: u128) -> Result<Frac, FracError>
     requires number { 0 < number }
-    requires small { number < 2 ^ 62 }
-    requires up { up < 2 ^ 101 }
-    requires down { down < 2 ^ 101 }
+    requires small { number < size_limit }
+    requires up { up < power_limit }
+    requires down { down < power_limit }
     ensures { answer_of result ≡ scaled number up down }
 {
     if down + GREATEST_POWER < up || up + GREATEST_POWER < down {
@@ -119,7 +132,7 @@ fn value_of(parts: &Parts) -> Result<Frac, FracError>
     if number == 0 {
         return Ok(Frac::whole(0));
     }
-    let exponent = more_digits(0, parts.exponent, EXPONENT_LIMIT).ok_or(FracError::Wide)?;
+    let exponent = number_below(parts.exponent, EXPONENT_LIMIT).ok_or(FracError::Wide)?;
     let (up, down) = (zeros as u128, parts.decimals.len() as u128);
     if parts.negative {
         scaled(number, up, down + exponent)

@@ -1,4 +1,3 @@
 pub mod Sums
 pub mod Picking
 pub mod Unions
-pub mod Samples

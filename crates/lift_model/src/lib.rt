@@ -13,5 +13,3 @@ pub use laws::plans_over_one_pick;
 pub use model::Model;
 pub use row::Row;
 
-#[cfg(test)]
-mod tests;

@@ -1,6 +1,6 @@
 ghost use Rattle.std.specs.Prelude.{◌≡◌, ◌<◌, false, length, map, slice_index_or};
 ghost use Rattle.lift_model.specs.Model.{choices, row_at, live};
-ghost use Rattle.lift_model.specs.Valid.{IsModel};
+ghost use Rattle.lift_model.specs.Valid.{IsModel, IsRow};
 
 use crate::kind::Kind;
 use crate::row::{Row, choices_support};
@@ -27,7 +27,7 @@ pub struct Model {
 impl std::marker::Model for Model {
     ghost use Rattle.std.specs.Prelude.{map};
     ghost use Rattle.lift_model.specs.Model.{ModelData};
-    ghost use Rattle.lift_model.specs.Valid.{IsModel};
+    ghost use Rattle.lift_model.specs.Valid.{IsModel, IsRow};
 
     ghost Value = { ModelData };
 
@@ -119,6 +119,7 @@ impl Model {
         requires state { s < length self.now.states }
         requires choice { a < length (choices self.now s) }
         ensures value { result.now ≡ row_at self.now s a }
+        ensures valid { IsRow (length self.now.states) (length self.now.names) result.now }
         ensures model { IsModel self.now }
     {
         &self.states[s as usize][a as usize]

@@ -1,20 +1,21 @@
 -- What the calls answer.
-use Rattle.std.proofs.Common.{◌≡◌, ◌≢◌, ◌^◌, ◌<◌, true, false, List, Ok, Err, bit_and, nat_eq, unsigned_abs, refl, sym, ap, ◌∙◌, arith}
+use Rattle.std.proofs.Common.{◌≡◌, ◌≢◌, ◌<◌, true, false, List, Ok, Err, bit_and, nat_eq, unsigned_abs, refl, sym, ap, ◌∙◌, arith}
 use Rattle.std.specs.List.{list_any}
 use Rattle.std.proofs.lemmas.Bool.Decides.{nat_tests}
 use Rattle.std.proofs.lemmas.List.Elements.{All-weaker}
 use Rattle.std.proofs.lemmas.List.Folds.{list_any_none}
+use Rattle.lift_poly.specs.Limits.{term_limit}
 use Rattle.lift_poly.specs.Polynomial.{Term}
 use Rattle.lift_poly.specs.Arithmetic.{product, support}
 use Rattle.lift_poly.specs.MultiAffine.{IsMultiAffine, is_wide, narrow, product_answer}
 use Rattle.lift_poly.specs.declared.error.PolyError.TheVariants.{SharedParameter, Wide}
 
-narrow_term : (t : Term) → unsigned_abs t.1 < 2 ^ 125 → is_wide t ≡ false
+narrow_term : (t : Term) → unsigned_abs t.1 < term_limit → is_wide t ≡ false
 narrow_term t h = grind (arith, nat_tests)
 
 pub narrow_ok : (ts : List Term) → IsMultiAffine ts → narrow ts ≡ Ok ts
 narrow_ok ts h =
-    let fits : list_any is_wide ts ≡ false = list_any_none is_wide ts (All-weaker (λ t. unsigned_abs t.1 < 2 ^ 125) (λ t. is_wide t ≡ false) narrow_term ts h.sizes) in
+    let fits : list_any is_wide ts ≡ false = list_any_none is_wide ts (All-weaker (λ t. unsigned_abs t.1 < term_limit) (λ t. is_wide t ≡ false) narrow_term ts h.sizes) in
     rw fits refl
 
 pub narrow_wide : (ts : List Term) → list_any is_wide ts ≡ true → narrow ts ≡ Err Wide

@@ -1,5 +1,5 @@
 -- How often a set stands in a list of terms, and lists in which none stands twice.
-use Rattle.std.proofs.Common.{◌≡◌, ◌≢◌, ℕ, suc, ◌+◌, ◌*◌, ◌^◌, ◌<◌, ◌≤◌, true, false, cond, ◌||◌, List, [], ◌∷◌, ◌++◌, ℤ, pos, ◌+ℤ◌, ◌*ℤ◌, All, negsuc, zero, mul-pos, ⊎_elim, nat_eq, unsigned_abs, bit_and, bit_or, refl, sym, ap, ◌∙◌, subst, arith}
+use Rattle.std.proofs.Common.{◌≡◌, ◌≢◌, ℕ, suc, ◌+◌, ◌*◌, ◌<◌, ◌≤◌, true, false, cond, ◌||◌, List, [], ◌∷◌, ◌++◌, ℤ, pos, ◌+ℤ◌, ◌*ℤ◌, All, negsuc, zero, mul-pos, ⊎_elim, nat_eq, unsigned_abs, bit_and, bit_or, refl, sym, ap, ◌∙◌, subst, arith}
 use borrow.Author.Differences.{up, down}
 use Rattle.std.specs.List.{list_any, sum_by, count_by}
 use Rattle.std.specs.List.Sorted.{IsPermutation, IsNonDecreasingBy}
@@ -12,6 +12,7 @@ use Rattle.std.proofs.lemmas.Nat.{and_comm}
 use Rattle.std.proofs.lemmas.Int.{unsigned_abs-mul}
 use Rattle.std.proofs.lemmas.Nat.Bits.{same_from_bits, bit_at_and, bit_at_or, bit_at-zero}
 use Rattle.std.specs.Int.{bit_at}
+use Rattle.lift_poly.specs.Limits.{term_limit}
 use Rattle.lift_poly.specs.Polynomial.{Term, IsPolynomial}
 use Rattle.lift_poly.specs.Arithmetic.{coefficient, collected, products_of, products, support}
 use Rattle.lift_poly.specs.MultiAffine.{IsMultiAffine, is_wide}
@@ -82,29 +83,29 @@ distinct_tail t ts h set =
 
 -- ---- a term that is too large is a coefficient that is, where no set stands twice
 
-wide_coefficient : (ts : List Term) → Distinct ts → list_any is_wide ts ≡ true → (set : ℕ) × (2 ^ 125 ≤ unsigned_abs (coefficient set ts))
+wide_coefficient : (ts : List Term) → Distinct ts → list_any is_wide ts ≡ true → (set : ℕ) × (term_limit ≤ unsigned_abs (coefficient set ts))
 unfolding Distinct
 wide_coefficient [] h wide = cc
 wide_coefficient (t ∷ ts) h wide =
     ⊎_elim
     (λ (first : is_wide t ≡ true).
     let alone : coefficient t.0 (t ∷ ts) ≡ t.1 = omega (arith, linear, coefficient-here t.0 t ts refl, coefficient_none t.0 ts (omega (arith, count-here t.0 t ts refl, h t.0))) in
-    let large : 2 ^ 125 ≤ unsigned_abs t.1 = grind (arith, nat_tests) in
-    (t.0, subst (λ z. 2 ^ 125 ≤ unsigned_abs z) (sym alone) large))
+    let large : term_limit ≤ unsigned_abs t.1 = grind (arith, nat_tests) in
+    (t.0, subst (λ z. term_limit ≤ unsigned_abs z) (sym alone) large))
     (λ (first : is_wide t ≡ false).
     let later : list_any is_wide ts ≡ true = sym (ap (λ b. b || list_any is_wide ts) first) ∙ wide in
     let found = wide_coefficient ts (distinct_tail t ts h) later in
     let other : t.0 ≡ found.0 → ⊥ = λ e.
     let none = coefficient_none found.0 ts (omega (arith, count-here found.0 t ts e, h found.0)) in
-    let small : 2 ^ 125 ≤ unsigned_abs (pos 0) = subst (λ z. 2 ^ 125 ≤ unsigned_abs z) none found.1 in
+    let small : term_limit ≤ unsigned_abs (pos 0) = subst (λ z. term_limit ≤ unsigned_abs z) none found.1 in
     absurd (omega arith) in
-    (found.0, subst (λ z. 2 ^ 125 ≤ unsigned_abs z) (sym (coefficient-other found.0 t ts other)) found.1))
+    (found.0, subst (λ z. term_limit ≤ unsigned_abs z) (sym (coefficient-other found.0 t ts other)) found.1))
     (cases_Bool (is_wide t))
 
 pub wide_collected : (ts : List Term) → Distinct ts → list_any is_wide ts ≡ true → list_any is_wide (collected ts) ≡ true
 wide_collected ts h wide =
     let found = wide_coefficient ts h wide in
-    wide_at found.0 0 (collected ts) (canonical-collected ts) (subst (λ z. 2 ^ 125 ≤ unsigned_abs z) (sym (coefficient-collected found.0 ts)) found.1)
+    wide_at found.0 0 (collected ts) (canonical-collected ts) (subst (λ z. term_limit ≤ unsigned_abs z) (sym (coefficient-collected found.0 ts)) found.1)
 
 -- ---- sorted lists
 

@@ -1,5 +1,5 @@
 -- Divisors of coefficients.
-use Rattle.std.proofs.Common.{◌≡◌, ◌≢◌, ℕ, zero, suc, ◌+◌, ◌/◌, ◌^◌, ◌<◌, ◌≤◌, List, [], ◌∷◌, ◌++◌, length, get_or, take, ℤ, pos, negsuc, ◌*ℤ◌, ◌<ℤ◌, neg_ℤ, unsigned_abs, int_div, refl, sym, ap, ap₂, ◌∙◌, subst, arith}
+use Rattle.std.proofs.Common.{◌≡◌, ◌≢◌, ℕ, zero, suc, ◌+◌, ◌/◌, ◌<◌, ◌≤◌, List, [], ◌∷◌, ◌++◌, length, get_or, take, ℤ, pos, negsuc, ◌*ℤ◌, ◌<ℤ◌, neg_ℤ, unsigned_abs, int_div, refl, sym, ap, ap₂, ◌∙◌, subst, arith}
 use Rattle.std.specs.Int.{◌∣◌, IsGcd}
 use Rattle.std.specs.Int.RustNames.{int_rem}
 use Rattle.std.proofs.lemmas.Int.{quot-rem}
@@ -7,6 +7,7 @@ use Rattle.std.proofs.Math.Nat.{div-le_self}
 use Rattle.std.proofs.lemmas.Nat.Gcd.{dvd_trans, dvd-zero, mod-eq-zero_of_dvd}
 use Rattle.std.proofs.lemmas.List.{take_more}
 use Rattle.std.proofs.lemmas.List.Elements.{All-nil, All-cons, All-head, All-tail, All-map, All-push, All-weaker}
+use Rattle.lift_poly.specs.Limits.{term_limit}
 use Rattle.lift_poly.specs.Polynomial.{Term}
 use Rattle.lift_poly.specs.Arithmetic.{times, quotient, DividesEach, IsContent}
 use Rattle.lift_poly.specs.MultiAffine.{IsMultiAffine}
@@ -54,7 +55,7 @@ quotient_fits by ts positive h m =
     multi_affine_from (quotient ts by) (canonical-quotient 0 by ts h (canonical_from_polynomial ts m.polynomial))
     (All-map Small (λ (t : Term). (t.0, int_div t.1 by)) ts (λ k d lt. (m.sets k d lt, small (get_or ts k d).1 (h k d lt) (m.sizes k d lt))))
   where
-    small : (a : ℤ) → unsigned_abs by ∣ unsigned_abs a → unsigned_abs a < 2 ^ 125 → unsigned_abs (int_div a by) < 2 ^ 125
+    small : (a : ℤ) → unsigned_abs by ∣ unsigned_abs a → unsigned_abs a < term_limit → unsigned_abs (int_div a by) < term_limit
     small a d lt = omega (arith, quotient_size a by positive d)
 
 -- ---- the greatest common divisor, one term at a time

@@ -8,6 +8,7 @@ use Rattle.std.proofs.lemmas.Bool.Decides.{nat_tests}
 use Rattle.std.proofs.lemmas.List.Elements.{All-head, All-tail, All-weaker}
 use Rattle.std.proofs.lemmas.List.Sums.{sum_by-le}
 use Rattle.std.proofs.lemmas.Nat.{mul-le}
+use Rattle.lift_poly.specs.Limits.{set_limit, summand_limit}
 use Rattle.lift_poly.specs.Polynomial.{Term, IsPolynomial}
 use Rattle.lift_poly.specs.Arithmetic.{coefficient, abs_sum}
 use Rattle.lift_poly.specs.MultiAffine.{IsMultiAffine}
@@ -66,7 +67,7 @@ found_nowhere set ts i p h =
 
 -- ---- at most 2 ^ 16 terms
 
-few_terms : (low : ℕ) (ts : List Term) → Canonical low ts → low ≤ 2 ^ 16 → All (λ t. t.0 < 2 ^ 16) ts → length ts + low ≤ 2 ^ 16
+few_terms : (low : ℕ) (ts : List Term) → Canonical low ts → low ≤ 2 ^ 16 → All (λ t. t.0 < set_limit) ts → length ts + low ≤ 2 ^ 16
 few_terms low [] h le sets = omega arith
 few_terms low (t ∷ ts) h le sets =
     omega (arith, h.0, few_terms (suc t.0) ts h.2 (omega (arith, All-head (λ u. u.0 < 2 ^ 16) t ts sets)) (All-tail (λ u. u.0 < 2 ^ 16) t ts sets))
@@ -74,10 +75,10 @@ few_terms low (t ∷ ts) h le sets =
 pub length_le : (ts : List Term) → IsMultiAffine ts → length ts ≤ 2 ^ 16
 length_le ts h = omega (arith, few_terms 0 ts (canonical_from_polynomial ts h.polynomial) (omega arith) h.sets)
 
--- the sizes of coefficients below 2 ^ 100 sum to at most 2 ^ 116
-pub abs_sum_le : (ts : List Term) → IsMultiAffine ts → All (λ t. unsigned_abs t.1 < 2 ^ 100) ts → abs_sum ts ≤ 2 ^ 116
+-- the sizes of coefficients below the limit of summands sum to at most 2 ^ 116
+pub abs_sum_le : (ts : List Term) → IsMultiAffine ts → All (λ t. unsigned_abs t.1 < summand_limit) ts → abs_sum ts ≤ 2 ^ 116
 abs_sum_le ts h sizes =
-    let each = sum_by-le (λ (t : Term). unsigned_abs t.1) (2 ^ 100) ts (All-weaker (λ t. unsigned_abs t.1 < 2 ^ 100) (λ t. unsigned_abs t.1 ≤ 2 ^ 100) (λ t k. omega arith) ts sizes) in
+    let each = sum_by-le (λ (t : Term). unsigned_abs t.1) summand_limit ts (All-weaker (λ t. unsigned_abs t.1 < summand_limit) (λ t. unsigned_abs t.1 ≤ summand_limit) (λ t k. omega arith) ts sizes) in
     omega (arith, each, length_le ts h)
 
 -- two lists of terms have few products

@@ -1,5 +1,5 @@
 -- One merge of two polynomials: what is done, and what is left of each.
-use Rattle.std.proofs.Common.{◌≡◌, ℕ, suc, ◌+◌, ◌^◌, ◌<◌, ◌≤◌, Bool, true, false, ◌||◌, List, [], ◌∷◌, ◌++◌, length, get_or, drop, ℤ, pos, ◌+ℤ◌, All, ◌⊎◌, ⊎_elim, FitsSigned, negsuc, unsigned_abs, refl, sym, ap, ◌∙◌, subst, arith, append_assoc, add-one, drop-cons}
+use Rattle.std.proofs.Common.{◌≡◌, ℕ, suc, ◌+◌, ◌<◌, ◌≤◌, Bool, true, false, ◌||◌, List, [], ◌∷◌, ◌++◌, length, get_or, drop, ℤ, pos, ◌+ℤ◌, All, ◌⊎◌, ⊎_elim, FitsSigned, negsuc, unsigned_abs, refl, sym, ap, ◌∙◌, subst, arith, append_assoc, add-one, drop-cons}
 use Rattle.std.specs.Int.{w128}
 use Rattle.std.specs.List.{list_any}
 use Rattle.std.proofs.lemmas.Int.{fits_signed_from_abs}
@@ -7,6 +7,7 @@ use Rattle.std.proofs.lemmas.Bool.{cases_eq}
 use Rattle.std.proofs.lemmas.Bool.Decides.{nat_tests}
 use Rattle.std.proofs.lemmas.List.{drop_all, append-nil}
 use Rattle.std.proofs.lemmas.List.Elements.{All-nil, All-cons, All-append, All-drop, All-weaker}
+use Rattle.lift_poly.specs.Limits.{set_limit, term_limit}
 use Rattle.lift_poly.specs.Polynomial.{Term}
 use Rattle.lift_poly.specs.Arithmetic.{coefficient, kept, sum}
 use Rattle.lift_poly.specs.MultiAffine.{IsMultiAffine, is_wide}
@@ -15,7 +16,7 @@ use Rattle.lift_poly.proofs.Ring.{linear}
 
 -- a term of a set of 16 parameters, and not too large
 abbrev pub Small : Term → Type 0
-Small t = (t.0 < 2 ^ 16) × (unsigned_abs t.1 < 2 ^ 125)
+Small t = (t.0 < set_limit) × (unsigned_abs t.1 < term_limit)
 
 pub record Merging (left right done xs ys : List Term) : Type 0 where
   pub lefts : Canonical 0 (done ++ xs)
@@ -91,17 +92,17 @@ or_right true = refl
 or_right false = refl
 
 -- a polynomial with a coefficient that is too large has a term that is
-pub wide_at : (set low : ℕ) (ts : List Term) → Canonical low ts → 2 ^ 125 ≤ unsigned_abs (coefficient set ts) → list_any is_wide ts ≡ true
+pub wide_at : (set low : ℕ) (ts : List Term) → Canonical low ts → term_limit ≤ unsigned_abs (coefficient set ts) → list_any is_wide ts ≡ true
 wide_at set low [] h wide = absurd (omega arith)
 wide_at set low (t ∷ ts) h wide =
     ⊎_elim
     (λ (s : t.0 ≡ set).
     let number : coefficient set (t ∷ ts) ≡ t.1 = omega (arith, linear, coefficient-here set t ts s, coefficient_below set (suc t.0) ts h.2 (omega arith)) in
-    let large : 2 ^ 125 ≤ unsigned_abs t.1 = subst (λ z. 2 ^ 125 ≤ unsigned_abs z) number wide in
+    let large : term_limit ≤ unsigned_abs t.1 = subst (λ z. term_limit ≤ unsigned_abs z) number wide in
     let first : is_wide t ≡ true = grind (arith, nat_tests) in
     ap (λ b. b || list_any is_wide ts) first)
     (λ (s : t.0 ≡ set → ⊥).
-    let rest = wide_at set (suc t.0) ts h.2 (subst (λ z. 2 ^ 125 ≤ unsigned_abs z) (coefficient-other set t ts s) wide) in
+    let rest = wide_at set (suc t.0) ts h.2 (subst (λ z. term_limit ≤ unsigned_abs z) (coefficient-other set t ts s) wide) in
     ap (λ b. is_wide t || b) rest ∙ or_right (is_wide t))
     (cases_eq t.0 set)
 
@@ -121,8 +122,8 @@ merging_wide left right done xs ys a b m e wide =
       behind 0 a done xs m.lefts a.0 (omega arith),
       behind 0 b done ys m.rights a.0 (omega arith),
     ) in
-    let large : 2 ^ 125 ≤ unsigned_abs (a.1 +ℤ b.1) = grind (arith, nat_tests) in
-    wide_at a.0 0 (sum left right) (canonical-collected (left ++ right)) (subst (λ z. 2 ^ 125 ≤ unsigned_abs z) (sym number) large)
+    let large : term_limit ≤ unsigned_abs (a.1 +ℤ b.1) = grind (arith, nat_tests) in
+    wide_at a.0 0 (sum left right) (canonical-collected (left ++ right)) (subst (λ z. term_limit ≤ unsigned_abs z) (sym number) large)
   where
     behind : (low : ℕ) (a : Term) (done xs : List Term) → Canonical low (done ++ a ∷ xs) → (set : ℕ) → set ≤ a.0 → coefficient set xs ≡ pos 0
     behind low a [] xs h set le = coefficient_below set (suc a.0) xs h.2 (omega arith)
@@ -136,8 +137,8 @@ small_from ts h k d lt = (h.sets k d lt, h.sizes k d lt)
 pub multi_affine_from : (ts : List Term) → Canonical 0 ts → All Small ts → IsMultiAffine ts
 multi_affine_from ts h small = record {
   polynomial = polynomial_from_canonical 0 ts h;
-  sets = All-weaker Small (λ t. t.0 < 2 ^ 16) (λ t s. s.0) ts small;
-  sizes = All-weaker Small (λ t. unsigned_abs t.1 < 2 ^ 125) (λ t s. s.1) ts small;
+  sets = All-weaker Small (λ t. t.0 < set_limit) (λ t s. s.0) ts small;
+  sizes = All-weaker Small (λ t. unsigned_abs t.1 < term_limit) (λ t s. s.1) ts small;
 }
 
 -- the polynomial 0
@@ -190,7 +191,7 @@ merging_right_at left right done items i j d m h k lt small e =
     (step (drop-cons left i d h) (drop-cons right j d k) m) lt (small j d k)))
 
 -- a term that isn't too large
-pub narrow_size : (t : Term) → is_wide t ≡ false → unsigned_abs t.1 < 2 ^ 125
+pub narrow_size : (t : Term) → is_wide t ≡ false → unsigned_abs t.1 < term_limit
 narrow_size t h = grind (arith, nat_tests)
 
 pub merging_both_at : (left right done items : List Term) (i j : ℕ) (d : Term) → Merging left right done (drop i left) (drop j right) → i < length left → j < length right → (get_or left i d).0 ≡ (get_or right j d).0 → All Small left

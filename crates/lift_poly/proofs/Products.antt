@@ -1,5 +1,5 @@
 -- Products of terms, one by one, and a polynomial times a number.
-use Rattle.std.proofs.Common.{◌≡◌, ◌≢◌, ℕ, zero, suc, ◌+◌, ◌^◌, ◌<◌, Bool, true, false, ◌||◌, List, [], ◌∷◌, ◌++◌, length, get_or, take, ℤ, pos, ◌+ℤ◌, ◌*ℤ◌, All, ⊎_elim, unsigned_abs, bit_and, bit_or, refl, sym, ap, ap₂, ◌∙◌, arith, append_assoc}
+use Rattle.std.proofs.Common.{◌≡◌, ◌≢◌, ℕ, zero, suc, ◌+◌, ◌<◌, Bool, true, false, ◌||◌, List, [], ◌∷◌, ◌++◌, length, get_or, take, ℤ, pos, ◌+ℤ◌, ◌*ℤ◌, All, ⊎_elim, unsigned_abs, bit_and, bit_or, refl, sym, ap, ap₂, ◌∙◌, arith, append_assoc}
 use Rattle.std.specs.List.{list_any}
 use Rattle.std.specs.List.Sorted.{IsPermutation, IsNonDecreasingBy}
 use Rattle.std.proofs.lemmas.Bool.{cases_eq, cases_Bool}
@@ -8,6 +8,7 @@ use Rattle.std.proofs.lemmas.List.{get_or-map, length-map, take_more, append-nil
 use Rattle.std.proofs.lemmas.List.Elements.{All-nil, All-cons, All-head, All-tail, All-append, All-map, All-weaker}
 use Rattle.std.proofs.lemmas.List.Folds.{list_any-append, list_any_at}
 use Rattle.std.proofs.lemmas.Nat.{or_lt}
+use Rattle.lift_poly.specs.Limits.{set_limit, term_limit}
 use Rattle.lift_poly.specs.Polynomial.{Term, IsPolynomial}
 use Rattle.lift_poly.specs.Arithmetic.{coefficient, times, scaled, products_of, products, product, support}
 use Rattle.lift_poly.specs.MultiAffine.{IsMultiAffine, is_wide}
@@ -40,13 +41,13 @@ fits_more t us i d lt before fits =
     ap (list_any is_wide) (products_of_more t us i d lt)
     ∙ fits_both (products_of t (take i us)) (joined t (get_or us i d) ∷ []) before (ap (λ b. b || false) fits)
 
-pub narrow_sizes : (ts : List Term) → list_any is_wide ts ≡ false → All (λ t. unsigned_abs t.1 < 2 ^ 125) ts
-narrow_sizes [] h = All-nil (λ u. unsigned_abs u.1 < 2 ^ 125)
+pub narrow_sizes : (ts : List Term) → list_any is_wide ts ≡ false → All (λ t. unsigned_abs t.1 < term_limit) ts
+narrow_sizes [] h = All-nil (λ u. unsigned_abs u.1 < term_limit)
 narrow_sizes (t ∷ ts) h =
     ⊎_elim
     (λ (first : is_wide t ≡ true). let wrong : true ≡ false = sym (ap (λ b. b || list_any is_wide ts) first) ∙ h in cc)
     (λ (first : is_wide t ≡ false).
-    All-cons (λ u. unsigned_abs u.1 < 2 ^ 125) t ts (narrow_size t first) (narrow_sizes ts (sym (ap (λ b. b || list_any is_wide ts) first) ∙ h)))
+    All-cons (λ u. unsigned_abs u.1 < term_limit) t ts (narrow_size t first) (narrow_sizes ts (sym (ap (λ b. b || list_any is_wide ts) first) ∙ h)))
     (cases_Bool (is_wide t))
 
 -- ---- products of two polynomials
@@ -83,7 +84,7 @@ wide_row left right i d h k none lt wide = wide_collected (products left right) 
 
 -- a set of 16 parameters, and a coefficient that isn't 0
 abbrev Proper : Term → Type 0
-Proper t = (t.0 < 2 ^ 16) × (t.1 ≢ pos 0)
+Proper t = (t.0 < set_limit) × (t.1 ≢ pos 0)
 
 proper_products_of : (t : Term) (us : List Term) → Proper t → All Proper us → All Proper (products_of t us)
 proper_products_of t us h k = All-map Proper (joined t) us (All-weaker Proper (λ u. Proper (joined t u)) (λ u p. (or_lt 16 t.0 u.0 h.0 p.0, mul-some t.1 u.1 h.1 p.1)) us k)
@@ -146,5 +147,5 @@ scaled_fits by ts ne h fits =
     multi_affine_from (times by ts) (canonical-times 0 by ts ne (canonical_from_polynomial ts h.polynomial))
     (λ k d lt. (sets k d lt, narrow_sizes (times by ts) fits k d lt))
   where
-    sets : All (λ t. t.0 < 2 ^ 16) (times by ts)
-    sets = All-map (λ t. t.0 < 2 ^ 16) (λ (t : Term). (t.0, by *ℤ t.1)) ts h.sets
+    sets : All (λ t. t.0 < set_limit) (times by ts)
+    sets = All-map (λ t. t.0 < set_limit) (λ (t : Term). (t.0, by *ℤ t.1)) ts h.sets

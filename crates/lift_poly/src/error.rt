@@ -4,7 +4,7 @@ ghost use Rattle.lift_poly.specs.declared.error.PolyError.TheVariants.{Memory};
 use std::alloc::AllocError;
 
 /// Why a polynomial isn't given.
-#[derive(Clone, Copy, Debug, PartialEq, Eq)]
+#[derive(Clone, Copy, Debug)]
 pub enum PolyError {
     /// The two factors of a product share a parameter.
     SharedParameter = 1,

@@ -1,4 +1,5 @@
 ghost use Rattle.std.specs.Prelude.{◌≡◌, ◌≢◌, ◌<◌, ◌^◌, ℤ, pos, [], ◌∷◌, ◌++◌, List, ℕ, ◌<ℤ◌, unsigned_abs, All, length, IfOk, slice_get, Some, Ok, Err};
+ghost use Rattle.lift_poly.specs.Limits.{parameter_limit, term_limit, summand_limit};
 ghost use Rattle.lift_poly.specs.Polynomial.{Term, constant};
 ghost use Rattle.lift_poly.specs.Arithmetic.{coefficient, sum, times, scaled, quotient, support, DividesEach, IsContent, abs_sum};
 ghost use Rattle.lift_poly.specs.MultiAffine.{IsMultiAffine, narrow, product_answer};
@@ -41,7 +42,7 @@ impl MultiAffine {
 
     /// The parameter of this index, below 16.
     pub fn parameter(alloc: Global, index: u32) -> Result<MultiAffine, AllocError>
-        requires { index < 16 }
+        requires { index < parameter_limit }
         ensures value { IfOk result (λ p. p ≡ (2 ^ index, pos 1) ∷ []) }
         ensures fits { IfOk result IsMultiAffine }
     {
@@ -94,6 +95,7 @@ impl MultiAffine {
     {
         self.terms[index]
     }
+
     /// The coefficient at this set, 0 where no term has it. A binary search.
     pub fn coefficient(&self, set: u16) -> i128
         ensures { result ≡ coefficient set self.now }
@@ -117,7 +119,7 @@ impl MultiAffine {
 
     /// The sum of the coefficients' sizes.
     pub fn abs_sum(&self) -> i128
-        requires { All (λ term. unsigned_abs term.1 < 2 ^ 100) self.now }
+        requires { All (λ term. unsigned_abs term.1 < summand_limit) self.now }
         ensures { result ≡ pos (abs_sum self.now) }
     {
         let mut sum: u128 = 0;
@@ -140,7 +142,7 @@ impl MultiAffine {
     /// The polynomial times a number of size below 2^125. `Wide` exactly where one of the result's
     /// coefficients has a size of 2^125 or more. Linear in the number of terms.
     pub fn scale(&self, alloc: Global, by: i128) -> Result<MultiAffine, PolyError>
-        requires { unsigned_abs by < 2 ^ 125 }
+        requires { unsigned_abs by < term_limit }
         ensures answer { result ≢ Err PolyError.Memory → result ≡ narrow (scaled by self.now) }
         ensures fits { IfOk result IsMultiAffine }
     {

@@ -8,7 +8,7 @@ ghost use Rattle.lift_poly.specs.MultiAffine.{IsMultiAffine, is_wide};
 use crate::error::PolyError;
 use std::alloc::{AllocError, Global};
 
-/// The size from which on a coefficient is too large.
+/// The size from which on a coefficient is too large: `term_limit` in the definitions.
 const LIMIT: u128 = 1 << 125;
 
 /// A coefficient, or `Wide` where it is too large.

@@ -1,3 +1,3 @@
 pub mod Ceilings
 pub mod Raising
-pub mod Samples
+pub mod Searching

@@ -10,12 +10,10 @@ use Rattle.lift_grid.specs.Rectangle.{Spans, spans_of}
 use Rattle.lift_model.specs.declared.entry.Entry.{Entry}
 use Rattle.lift_model.specs.Process.{power}
 use Rattle.lift_model.specs.Model.{choices, row_at, is_goal, support, moves_at}
-use Rattle.lift_model.proofs.Sums.{weighted_sum-mono}
-use Rattle.corner_lift.specs.Certificate.{number, IsUpper, IsLeastUpper}
-use Rattle.corner_lift.specs.Corner.{AtCorners, corner, corner_sum, whole, width}
-use Rattle.corner_lift.specs.Case.{CaseData, IsCase, AreSidesInside, IsAdmittedRow, IsGreatest, row_value, row_whole, corner_count}
-use Rattle.corner_lift.proofs.Rows.{in_or_past, number_range}
-use Rattle.corner_lift.proofs.Cases.{admitted_row, corner_sum_range, corner_moves, width-within, number_size, number_room}
+use Rattle.corner_lift.specs.Certificate.{MeansAtMost, IsUpper, IsLeastUpper}
+use Rattle.corner_lift.specs.Corner.{AtCorners, corner, corner_sum, whole, parameter_count}
+use Rattle.corner_lift.specs.Case.{CaseData, IsCase, IsInside, AreSidesInside, IsGreatest, number, row_value, row_whole, corner_count, most_precision, engine_limit}
+use Rattle.corner_lift.specs.Laws.{HasRow, ParametersAreTheRoots, NumbersAreInRange, SumsAreInRange, SumsRise}
 use Rattle.rounded_iter.specs.Rising.{IsEnough, IsEnoughFor, IsBelow, room}
 
 abbrev Within : ℕ → ℤ → Type 0
@@ -32,7 +30,7 @@ room-set w [] s v lt higher most = absurd (omega arith)
 room-set w (n ∷ x) zero v lt higher most = omega (arith, ints)
 room-set w (n ∷ x) (suc s) v lt higher most = omega (arith, room-set w x s v (omega arith) higher most)
 
--- two numbers of one width are equal where their bits are
+-- two numbers of one parameter_count are equal where their bits are
 pub same_number : (a b : ℤ) → SFits w64 a → SFits w64 b → of_z w64 a ≡ of_z w64 b → a ≡ b
 same_number a b a_fits b_fits e = sym (to_z-of_z a_fits) ∙ ap (to_z w64) e ∙ to_z-of_z b_fits
 
@@ -53,7 +51,25 @@ pub record Raises (k : CaseData) (x : List ℤ) (s a : ℕ) (z v : ℤ) : Type 0
 
 -- ---- one raise
 
-module _ (k : CaseData) (sides : List ℤ) (is : IsCase k) (inside : AreSidesInside k.root sides) (x : List ℤ) (below : IsBelow k (spans_of sides) x) (s a : ℕ) (state : s < length k.model.states) (choice : a < length (choices k.model s)) where
+-- the laws of rows that a raise rests on
+pub record RowLaws : Type 0 where
+  pub parameters : ParametersAreTheRoots
+  pub numbers : NumbersAreInRange
+  pub range : SumsAreInRange
+  pub rise : SumsRise
+
+pub laws_of : ParametersAreTheRoots → NumbersAreInRange → SumsAreInRange → SumsRise → RowLaws
+laws_of parameters numbers range rise = record { parameters = parameters; numbers = numbers; range = range; rise = rise }
+
+-- a number from 0 to 2 ^ w has at most that size
+number_size : (n : ℤ) (w : ℕ) → pos 0 ≤ℤ n → n ≤ℤ pos (2 ^ w) → unsigned_abs n ≤ 2 ^ w
+number_size n w least most = omega (arith, ints, least, most)
+
+-- whether a state is one of so many
+in_or_past : (s count : ℕ) → (s < count) ⊎ (count ≤ s)
+in_or_past s count = grind arith
+
+module _ (laws : RowLaws) (k : CaseData) (sides : List ℤ) (is : IsCase k) (inside : AreSidesInside k.root sides) (x : List ℤ) (below : IsBelow k (spans_of sides) x) (s a : ℕ) (state : s < length k.model.states) (choice : a < length (choices k.model s)) where
   abbrev spans : Spans
   spans = spans_of sides
 
@@ -63,24 +79,27 @@ module _ (k : CaseData) (sides : List ℤ) (is : IsCase k) (inside : AreSidesIns
   abbrev top : ℤ
   top = pos (2 ^ k.w)
 
-  admitted : IsAdmittedRow k.model k.d k.root k.w row
-  admitted = admitted_row k s a is state choice
+  within : IsInside k.root spans
+  within = record { rectangle = inside.rectangle.spans; within = inside.within }
 
-  same_width : width spans (support row) ≡ width k.root (support row)
-  same_width = width-within spans k.root (support row) inside.within
+  has : HasRow k s a
+  has = record { state = state; choice = choice }
+
+  same_width : parameter_count spans (support row) ≡ parameter_count k.root (support row)
+  same_width = laws.parameters k spans row inside.within
 
   same_whole : whole k.model k.d spans row ≡ row_whole k s a
   same_whole = ap (λ n. k.model.common *ℤ power k.d n) same_width
 
-  at_root : (c : ℕ) → c < 2 ^ width spans (support row) → c < corner_count k s a
+  at_root : (c : ℕ) → c < 2 ^ parameter_count spans (support row) → c < corner_count k s a
   at_root c lt = subst (λ n. c < 2 ^ n) same_width lt
 
-  at_sides : (c : ℕ) → c < corner_count k s a → c < 2 ^ width spans (support row)
+  at_sides : (c : ℕ) → c < corner_count k s a → c < 2 ^ parameter_count spans (support row)
   at_sides c lt = subst (λ n. c < 2 ^ n) (sym same_width) lt
 
   -- each corner's sum lies from 0 to 2 ^ w times the whole
   value_range : (c : ℕ) → (pos 0 ≤ℤ row_value k spans s a x c) × (row_value k spans s a x c ≤ℤ (top *ℤ row_whole k s a))
-  value_range c = corner_sum_range k row spans is.grid.positive is.spans inside.rectangle.spans inside.within admitted c (number x) top (number_range k.model k.w x below.numbers)
+  value_range c = laws.range k spans s a c x is within has below.numbers
 
   -- a number that is 2 ^ w is enough
   pub top_enough : number x s ≡ pos (2 ^ k.w) → IsEnoughFor k (spans_of sides) x s a
@@ -90,10 +109,8 @@ module _ (k : CaseData) (sides : List ℤ) (is : IsCase k) (inside : AreSidesIns
   pub greatest_enough : (z : ℤ) → IsGreatest (row_value k (spans_of sides) s a x) (corner_count k s a) z → z ≤ℤ (number x s *ℤ row_whole k s a) → IsEnoughFor k (spans_of sides) x s a
   greatest_enough z greatest le c lt = omega (arith, linear, greatest.most c (at_root c lt), le, ap (λ n. number x s *ℤ n) same_whole)
 
-  pub times_room : unsigned_abs (number x s) * unsigned_abs (row_whole k s a) < 2 ^ 126
-  times_room =
-      let range = number_range k.model k.w x below.numbers s in
-      number_room k.model k.d k.root k.w row (unsigned_abs (number x s)) (number_size (number x s) k.w range.0 range.1) admitted
+  pub number_small : unsigned_abs (number x s) ≤ 2 ^ k.w
+  number_small = let range = laws.numbers k x s below.numbers in number_size (number x s) k.w range.0 range.1
 
   module _ (z : ℤ) (greatest : IsGreatest (row_value k (spans_of sides) s a x) (corner_count k s a) z) where
     pub sum_least : pos 0 ≤ℤ z
@@ -102,10 +119,10 @@ module _ (k : CaseData) (sides : List ℤ) (is : IsCase k) (inside : AreSidesIns
     sum_top : z ≤ℤ (top *ℤ row_whole k s a)
     sum_top = omega (arith, linear, greatest.attained.1.1, (value_range greatest.attained.0).1)
 
-    pub sum_most : pos 1 ≤ℤ row_whole k s a → z ≤ℤ (pos (2 ^ 40) *ℤ row_whole k s a)
+    pub sum_most : pos 1 ≤ℤ row_whole k s a → z ≤ℤ (pos (2 ^ most_precision) *ℤ row_whole k s a)
     sum_most positive =
-        let small : 2 ^ k.w ≤ 2 ^ 40 = pow_mono is.precision.1 in
-        omega (arith, linear, sum_top, mul-le (row_whole k s a) top (pos (2 ^ 40)) (omega (arith, linear, positive)) (omega (arith, linear, small)), mul-comm top (row_whole k s a), mul-comm (pos (2 ^ 40)) (row_whole k s a))
+        let small : 2 ^ k.w ≤ 2 ^ most_precision = pow_mono is.asked.precision.1 in
+        omega (arith, linear, sum_top, mul-le (row_whole k s a) top (pos (2 ^ most_precision)) (omega (arith, linear, positive)) (omega (arith, linear, small)), mul-comm top (row_whole k s a), mul-comm (pos (2 ^ most_precision)) (row_whole k s a))
 
     module _ (v : ℤ) (raises : Raises k x s a z v) where
       rises : number x s <ℤ v
@@ -129,10 +146,10 @@ module _ (k : CaseData) (sides : List ℤ) (is : IsCase k) (inside : AreSidesIns
       same_or_not s t = grind arith
 
       -- no upper vector is lower at s than v
-      under : (y : List ℤ) → IsUpper k.model k.d spans k.w y → v ≤ℤ number y s
+      under : (y : List ℤ) → IsUpper k spans y → v ≤ℤ number y s
       under y upper =
           let c = greatest.attained.0 in
-          let more = weighted_sum-mono (number x) (number y) (moves_at (corner k.d spans (support row) c) row) (below.least y upper) (corner_moves k row spans is.grid.positive is.spans inside.rectangle.spans inside.within admitted c) in
+          let more = laws.rise k spans s a c (number x) (number y) is within has (below.least y upper) in
           let enough : corner_sum k.d spans row c (number y) ≤ℤ (number y s *ℤ whole k.model k.d spans row) = upper.means s (open_state (is_goal k.model s) refl) a [] choice c (at_sides c greatest.attained.1.0) in
           let lt : (v -ℤ pos 1) <ℤ number y s = mul-lt_cancel (row_whole k s a) (v -ℤ pos 1) (number y s) raises.positive (omega (arith, linear, raises.least, greatest.attained.1.1, more, enough, ap (λ n. number y s *ℤ n) same_whole)) in
           omega (arith, linear, lt)
@@ -141,7 +158,7 @@ module _ (k : CaseData) (sides : List ℤ) (is : IsCase k) (inside : AreSidesIns
       raised_below = record {
         numbers = record {
           size = length-set x s v ∙ below.numbers.size;
-          range = All-set (Within k.w) x s v (omega (arith, linear, rises, (number_range k.model k.w x below.numbers s).0), at_most) below.numbers.range;
+          range = All-set (Within k.w) x s v (omega (arith, linear, rises, (laws.numbers k x s below.numbers).0), at_most) below.numbers.range;
         };
         goal =
             λ t e. ⊎_elim
@@ -201,7 +218,7 @@ pub seen_one_more : (i n : ℕ) → n < i + 1 → (n ≡ i) ⊎ (n < i)
 seen_one_more i n lt = grind arith
 
 -- a whole sweep in which none rose leaves the least upper vector
-pub swept_all : (k : CaseData) (spans : Spans) (old x : List ℤ) (rose : Bool) (Seen : ℕ → Type 0) → ((i : ℕ) → i < length k.model.states → Seen i) → IsSwept k spans old x rose (IsEnough k spans) Seen → rose ≡ false → IsLeastUpper k.model k.d spans k.w x
+pub swept_all : (k : CaseData) (spans : Spans) (old x : List ℤ) (rose : Bool) (Seen : ℕ → Type 0) → ((i : ℕ) → i < length k.model.states → Seen i) → IsSwept k spans old x rose (IsEnough k spans) Seen → rose ≡ false → IsLeastUpper k spans x
 swept_all k spans old x rose Seen all h still = record {
   upper = record {
     numbers = h.below.numbers;
@@ -222,8 +239,8 @@ swept_all k spans old x rose Seen all h still = record {
 -- ---- the start
 
 -- 2 ^ w on goal states and 0 elsewhere
-pub start_below : (k : CaseData) (spans : Spans) (x : List ℤ) → length k.model.goal ≡ length k.model.states → length x ≡ length k.model.states → ((i : ℕ) → i < length k.model.states → number x i ≡ cond (is_goal k.model i) (pos (2 ^ k.w)) (pos 0)) → IsBelow k spans x
-start_below k spans x goals size written = record {
+pub start_below : NumbersAreInRange → (k : CaseData) (spans : Spans) (x : List ℤ) → length k.model.goal ≡ length k.model.states → length x ≡ length k.model.states → ((i : ℕ) → i < length k.model.states → number x i ≡ cond (is_goal k.model i) (pos (2 ^ k.w)) (pos 0)) → IsBelow k spans x
+start_below numbers k spans x goals size written = record {
   numbers = record {
     size = size;
     range = λ i d lt. subst (Within k.w) (sym (get_or_default x i d (pos 0) lt ∙ written i (omega (arith, lt, size)))) (either (is_goal k.model i));
@@ -231,7 +248,7 @@ start_below k spans x goals size written = record {
   goal = λ s e. written s (goal_in s e) ∙ ap (λ g. cond g (pos (2 ^ k.w)) (pos 0)) e;
   least = λ y upper s. ⊎_elim
       (λ (lt : s < length k.model.states). rw (written s lt) (under y upper s (is_goal k.model s) refl))
-      (λ (past : length k.model.states ≤ s). rw (get_or_past x s (pos 0) (omega (arith, past, size))) ((number_range k.model k.w y upper.numbers s).0))
+      (λ (past : length k.model.states ≤ s). rw (get_or_past x s (pos 0) (omega (arith, past, size))) ((numbers k y s upper.numbers).0))
       (in_or_past s (length k.model.states));
 }
   where
@@ -242,6 +259,6 @@ start_below k spans x goals size written = record {
     goal_in : (s : ℕ) → is_goal k.model s ≡ true → s < length k.model.states
     goal_in s e = ⊎_elim (λ (lt : s < length k.model.states). lt) (λ (past : length k.model.states ≤ s). absurd (both_ways (is_goal k.model s) (get_or_past k.model.goal s false (omega (arith, past, goals))) e)) (in_or_past s (length k.model.states))
 
-    under : (y : List ℤ) → IsUpper k.model k.d spans k.w y → (s : ℕ) (b : Bool) → is_goal k.model s ≡ b → cond b (pos (2 ^ k.w)) (pos 0) ≤ℤ number y s
+    under : (y : List ℤ) → IsUpper k spans y → (s : ℕ) (b : Bool) → is_goal k.model s ≡ b → cond b (pos (2 ^ k.w)) (pos 0) ≤ℤ number y s
     under y upper s true e = rw (upper.goal s e) (omega (arith, linear))
-    under y upper s false e = (number_range k.model k.w y upper.numbers s).0
+    under y upper s false e = (numbers k y s upper.numbers).0

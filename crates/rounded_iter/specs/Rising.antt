@@ -2,19 +2,23 @@
 use Rattle.std.specs.Prelude.{◌≡◌, ℕ, ◌+◌, ◌<◌, ◌^◌, true, List, [], ◌∷◌, ℤ, pos, ◌-ℤ◌, ◌*ℤ◌, ◌≤ℤ◌, nat_abs, length}
 use Rattle.lift_grid.specs.Rectangle.{Spans}
 use Rattle.lift_model.specs.Model.{is_goal, choices, row_at}
-use Rattle.corner_lift.specs.Case.{CaseData}
-use Rattle.corner_lift.specs.Certificate.{number, AreNumbers, AtMost, IsUpper}
-use Rattle.corner_lift.specs.Corner.{AtCorners, corner_sum, whole}
+use Rattle.corner_lift.specs.Case.{CaseData, number}
+use Rattle.corner_lift.specs.Certificate.{AreNumbers, MeansAtMost, AtMost, IsUpper}
+
+-- a rectangle inside the root of a case
+pub record RectangleData : Type 0 where
+  pub case : CaseData
+  pub spans : Spans
 
 -- one number from 0 to 2 ^ w for each state, 2 ^ w on goal states, and at most every upper vector
 pub record IsBelow (k : CaseData) (spans : Spans) (x : List ℤ) : Type 0 where
-  pub numbers : AreNumbers k.model k.w x
+  pub numbers : AreNumbers k x
   pub goal : (s : ℕ) → is_goal k.model s ≡ true → number x s ≡ pos (2 ^ k.w)
-  pub least : (y : List ℤ) → IsUpper k.model k.d spans k.w y → AtMost x y
+  pub least : (y : List ℤ) → IsUpper k spans y → AtMost x y
 
--- the state's number is at least the choice's weighted mean at each corner, multiplied out
+-- the state's number is at least the choice's weighted mean at each corner
 abbrev pub IsEnoughFor : CaseData → Spans → List ℤ → ℕ → ℕ → Type 0
-IsEnoughFor k spans x s a = let row = row_at k.model s a in AtCorners spans row (λ c. corner_sum k.d spans row c (number x) ≤ℤ (number x s *ℤ whole k.model k.d spans row))
+IsEnoughFor k spans x s a = MeansAtMost k spans (row_at k.model s a) x (number x s)
 
 -- the state's number is enough for each of its choices
 abbrev pub IsEnough : CaseData → Spans → List ℤ → ℕ → Type 0

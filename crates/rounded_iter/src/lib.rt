@@ -4,7 +4,5 @@
 mod order;
 mod upper;
 
+pub use order::Order;
 pub use upper::least_upper;
-
-#[cfg(test)]
-mod tests;

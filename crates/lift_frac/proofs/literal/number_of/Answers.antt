@@ -1,5 +1,6 @@
-use Rattle.std.proofs.Common.{◌∙◌, ◌^◌}
+use Rattle.std.proofs.Common.{◌∙◌}
 use Rattle.std.specs.Char.{is_ascii_digit}
+use Rattle.lift_frac.specs.Limits.{size_limit}
 use Rattle.lift_frac.proofs.Pieces.{take_passes, in_part, capped_same}
 use Rattle.lift_frac.proofs.literal.number_of.Goals as goal
 
@@ -11,4 +12,4 @@ number_of_two-requires-else-zeros-parts-clause-whole c = take_passes is_ascii_di
 
 pub returns-then-zeros-parts : goal.returns-then-zeros-parts
 returns-then-zeros-parts c =
-    c.number_of_two.ensures ∙ capped_same (2 ^ 62) _ _ (in_part c.args.parts.now.whole.now c.args.parts.now.decimals.now c.args.zeros c.if-zeros-parts.true)
+    c.number_of_two.ensures ∙ capped_same size_limit _ _ (in_part c.args.parts.now.whole.now c.args.parts.now.decimals.now c.args.zeros c.if-zeros-parts.true)

@@ -1,6 +1,7 @@
-use Rattle.std.proofs.Common.{◌≡◌, ◌*◌, ◌^◌, ◌<◌, unsigned_abs, FitsSigned, to_z, of_z, Err, ap, ◌∙◌, arith, rules}
+use Rattle.std.proofs.Common.{◌≡◌, ◌*◌, ◌<◌, unsigned_abs, FitsSigned, to_z, of_z, Err, ap, ◌∙◌, arith, rules}
 use Rattle.std.specs.Int.{w128}
 use Rattle.std.proofs.lemmas.Int.{to_z-of_z}
+use Rattle.lift_frac.specs.Limits.{product_limit}
 use Rattle.drn_expr.specs.RatPolys.{cause_of}
 use Rattle.drn_expr.proofs.Calls.{over, multiple_refused, number_below, sign_size}
 use Rattle.drn_expr.proofs.Sizes.{product_below}
@@ -15,7 +16,7 @@ returns-in_err-poly c =
     multiple_refused c.in_err-poly.field-0.0 (to_z w128 (of_z w128 c.with_sign.result)) (over c.self.inside.poly c.self.inside.den) _ _ c.self.invariant (omega (arith, by, c.other.invariant.den)) c.in_err-poly.ensures.answer e
 
 -- the new denominator is small
-small_den : (c : After-unsigned_abs) → c.from.result * c.unsigned_abs.result < 2 ^ 124
+small_den : (c : After-unsigned_abs) → c.from.result * c.unsigned_abs.result < product_limit
 small_den c =
     let fits : FitsSigned w128 c.coefficient-number.result = search rules in
     let number = c.unsigned_abs.ensures.value ∙ ap unsigned_abs (to_z-of_z w128 c.coefficient-number.result fits ∙ c.coefficient-number.ensures) in

@@ -3,6 +3,7 @@ use Rattle.std.specs.Int.{w128}
 use Rattle.std.proofs.lemmas.Int.{to_z-of_z, to_z_pos}
 use Rattle.std.proofs.lemmas.List.{take_all}
 use Rattle.std.proofs.lemmas.List.Sums.{sum_by_more_le}
+use Rattle.lift_poly.specs.Limits.{summand_limit}
 use Rattle.lift_poly.specs.Polynomial.{Term}
 use Rattle.lift_poly.specs.Arithmetic.{abs_sum}
 use Rattle.lift_poly.specs.MultiAffine.{IsMultiAffine}
@@ -10,8 +11,8 @@ use Rattle.lift_poly.proofs.Lookup.{abs_sum_le}
 use Rattle.lift_poly.proofs.multi_affine.MultiAffine.abs_sum.Goals as goal
 
 -- the whole sum is small
-whole : (terms items : List Term) → items ≡ terms → IsMultiAffine items → All (λ term. unsigned_abs term.1 < 2 ^ 100) terms → abs_sum items ≤ 2 ^ 116
-whole terms items same h sizes = abs_sum_le items h (subst (All (λ t. unsigned_abs t.1 < 2 ^ 100)) (sym same) sizes)
+whole : (terms items : List Term) → items ≡ terms → IsMultiAffine items → All (λ term. unsigned_abs term.1 < summand_limit) terms → abs_sum items ≤ 2 ^ 116
+whole terms items same h sizes = abs_sum_le items h (subst (All (λ t. unsigned_abs t.1 < summand_limit)) (sym same) sizes)
 
 pub overflow_add-sum : goal.overflow_add-sum
 overflow_add-sum c =
