@@ -23,7 +23,7 @@ use lift_grid::{Grid, Rect, read_region};
 use lift_model::Model;
 use lift_rows::admit;
 use plift_words::VerifyJob;
-use rounded_iter::least_upper;
+use rounded_iter::{Order, least_upper};
 use std::alloc::{AllocError, Global};
 
 /// How many bytes a text may have.
@@ -66,10 +66,10 @@ fn case_of<'m>(model: &'m Model, root: &'m Rect, grid: Grid, job: &VerifyJob) ->
 fn upper_of(alloc: Global, case: &Case) -> Result<Vec<i64>, AllocError>
     ensures { IfOk result (λ x. IsLeastUpper case.now case.now.root x.items) }
 {
-    let states = case.model().states() as usize;
-    let mut lane = vec![in alloc; 0; states]?;
-    let mut order = vec![in alloc; 0; states]?;
-    least_upper(case, case.root().sides(), &mut lane, &mut order);
+    let model = case.model();
+    let order = Order::targets_first(alloc, model)?;
+    let mut lane = vec![in alloc; 0; model.states() as usize]?;
+    least_upper(case, case.root().sides(), &order, &mut lane);
     Ok(lane)
 }
 
