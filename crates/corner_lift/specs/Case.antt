@@ -3,6 +3,7 @@ use Rattle.std.specs.Prelude.{◌≡◌, ℕ, ◌*◌, ◌^◌, ◌<◌, ◌≤�
 use Rattle.lift_poly.specs.Polynomial.{Valuation, weight}
 use Rattle.lift_poly.specs.Arithmetic as polynomial
 use Rattle.lift_grid.specs.Rectangle.{Spans, Inside, AreSpans, AreSides, IsOnGrid, spans_of}
+pub use Rattle.lift_grid.specs.Rectangle.{most_halvings}
 use Rattle.lift_grid.specs.Region.{Region}
 use Rattle.lift_model.specs.declared.entry.Entry.{Entry}
 use Rattle.lift_model.specs.Process.{weighted_sum}
@@ -23,10 +24,6 @@ pub record CaseData : Type 0 where
 -- the case of a model over a region, at a precision
 abbrev pub case_of : ModelData → Region → ℕ → CaseData
 case_of m r w = record { model = m; root = r.spans; d = r.d; depth = r.depth; w = w }
-
--- how often a root may be halved at most, by our own profile
-abbrev pub most_halvings : ℕ
-most_halvings = 20
 
 -- the greatest precision, by our own profile
 abbrev pub most_precision : ℕ

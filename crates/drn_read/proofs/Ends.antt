@@ -1,9 +1,6 @@
 -- Loops over the states at the end of a text.
-use Rattle.std.proofs.Common.{◌≡◌, ℕ, ℤ, pos, to_z, ◌+◌, ◌*◌, ◌/◌, ◌^◌, ◌<◌, ◌≤◌, suc, cond, not, nat_lt, ◌||◌, ◌==◌, ◌-◌, Bool, true, false, refl, List, [], ◌∷◌, ◌++◌, length, get_or, take, drop, map, fold, sym, ◌∙◌, ap, arith, drop-cons, Option, Some, None, Result, Err}
+use Rattle.std.proofs.Common.{◌≡◌, ℕ, ℤ, pos, to_z, ◌+◌, ◌<◌, ◌≤◌, suc, cond, not, nat_lt, ◌||◌, ◌==◌, ◌-◌, Bool, true, false, refl, List, [], ◌∷◌, ◌++◌, length, get_or, take, drop, map, fold, sym, ◌∙◌, ap, arith, drop-cons, Option, Some, None, Result, Err}
 use Rattle.std.proofs.lemmas.Bool.Decides.{nat_tests}
-use Prim.Native.Nat.{◌∣◌}
-use Rattle.std.proofs.Math.Nat.{mul-le-mul_left}
-use Rattle.std.proofs.lemmas.Nat.Gcd.{mod-eq-zero_of_dvd}
 use Rattle.std.proofs.lemmas.List.Folds.{list_any-append}
 use Rattle.std.proofs.lemmas.List.Sums.{fold_more, fold-append, prefix_len-le-length}
 use Rattle.std.proofs.lemmas.List.{drop_all}
@@ -15,21 +12,22 @@ use Rattle.std.specs.Prelude.{nat_le, All}
 use Rattle.std.proofs.lemmas.Bool.{leb-false}
 use Rattle.std.proofs.lemmas.List.Elements.{All-weaker}
 use Rattle.drn_read.proofs.Lists.{find_none, All-from_flat_map}
-use Rattle.lift_frac.specs.Gcd.{gcd}
 use Rattle.lift_frac.specs.Parts.{capped}
-use Rattle.lift_frac.proofs.Euclid.{gcd_is, small, positive}
+use Rattle.lift_frac.specs.Laws.{LcmIsAtLeast}
 use Rattle.lift_model.specs.declared.kind.Kind.{Kind}
 use Rattle.lift_model.specs.declared.entry.Entry.{Entry}
 use Rattle.lift_model.specs.Model.{ModelData}
+use Rattle.lift_model.specs.Valid.{common_limit}
 use Rattle.drn_read.specs.Sections.{Header}
-use Rattle.drn_read.specs.Faults.{first_of, when}
+use Rattle.drn_read.specs.Faults.{first_of, when, told}
 use Rattle.drn_read.specs.States.{StateText}
 use Rattle.drn_read.specs.Parts.{last}
 use Rattle.drn_read.specs.Judging.{choiceless}
 use Rattle.drn_read.specs.declared.error.DrnCause.TheVariants.{NoChoice, TargetRange, CommonDenominator}
 use Rattle.drn_read.specs.declared.error.DrnError.{DrnError}
-use Rattle.drn_read.specs.Reading.{lcm, all_transitions, common, is_large, entry, kind_or_chain, model}
-use Rattle.drn_read.specs.Shown.{first_in, outside, with_den, Becomes, refusal, told, common_fault}
+use Rattle.lift_frac.specs.Gcd.{lcm}
+use Rattle.drn_read.specs.Reading.{all_transitions, common, is_large, entry, kind_or_chain, model, common_fault}
+use Rattle.drn_read.specs.Shown.{first_in, outside, with_den, Becomes, refusal}
 use Rattle.drn_read.specs.declared.state.Transition.{Transition}
 
 -- ---- what is found first
@@ -141,15 +139,9 @@ none_means limit c e = by_test (nat_lt c limit) refl
     by_test true is = absurd (some_none c (rw is at e))
     by_test false is = grind (arith, nat_tests)
 
-grows : (a b g : ℕ) → g ∣ a → 0 < g → g ≤ b → a ≤ a / g * b
-grows a b g h above le = let e = mod-eq-zero_of_dvd g h in let more = mul-le-mul_left (a / g) le in omega (arith, e, more)
-
-lcm_grows : (a b : ℕ) → 0 < b → a ≤ lcm a b
-lcm_grows a b h = let is = gcd_is a b in grows a b (gcd a b) is.0 (positive a b (gcd a b) is h) (small a b (gcd a b) is h)
-
 -- none stays none
-pub no_more : (old : Option ℕ) (den : ℕ) → old ≡ None → 0 < den → Becomes old None (λ c. lcm c den)
-no_more old den none h = record { is = λ c e. sym (too_large (2 ^ 62) (lcm c den) (let above : 2 ^ 62 ≤ c = none_means (2 ^ 62) c (sym e ∙ none) in let more = lcm_grows c den h in omega (arith, above, more))) }
+pub no_more : (law : LcmIsAtLeast) (old : Option ℕ) (den : ℕ) → old ≡ None → 0 < den → Becomes old None (λ c. lcm c den)
+no_more law old den none h = record { is = λ c e. sym (too_large common_limit (lcm c den) (let above : common_limit ≤ c = none_means common_limit c (sym e ∙ none) in let more = law c den h in omega (arith, above, more))) }
 
 pub nothing_yet : (old : Option ℕ) → Becomes old old (λ c. c)
 nothing_yet old = record { is = λ c e. e }
@@ -157,7 +149,7 @@ nothing_yet old = record { is = λ c e. e }
 pub one_more : {A : Type 0} (step : ℕ → A → ℕ) (xs : List A) (i : ℕ) (x d : A) (a b r : Option ℕ) → i < length xs → x ≡ get_or xs i d
     → Becomes a b (λ c. fold step c (take i xs)) → Becomes b r (λ c. step c x) → Becomes a r (λ c. fold step c (take (i + 1) xs))
 one_more step xs i x d a b r h is before here = record {
-  is = λ c e. here.is (fold step c (take i xs)) (before.is c e) ∙ ap (capped (2 ^ 62)) (ap (step (fold step c (take i xs))) is ∙ sym (fold_more step c xs i d h));
+  is = λ c e. here.is (fold step c (take i xs)) (before.is c e) ∙ ap (capped common_limit) (ap (step (fold step c (take i xs))) is ∙ sym (fold_more step c xs i d h));
 }
 
 fold-map : {A B : Type 0} (step : ℕ → B → ℕ) (g : A → B) (c : ℕ) (xs : List A) → fold (λ d x. step d (g x)) c xs ≡ fold step c (map g xs)
@@ -165,7 +157,7 @@ fold-map step g c [] = refl
 fold-map step g c (x ∷ xs) = fold-map step g (step c (g x)) xs
 
 pub over_map : {A B : Type 0} (step : ℕ → B → ℕ) (g : A → B) (xs ys : List A) (a b : Option ℕ) → ys ≡ xs → Becomes a b (λ c. fold (λ d x. step d (g x)) c ys) → Becomes a b (λ c. fold step c (map g xs))
-over_map step g xs ys a b same h = record { is = λ c e. h.is c e ∙ ap (capped (2 ^ 62)) (ap (fold (λ d x. step d (g x)) c) same ∙ fold-map step g c xs) }
+over_map step g xs ys a b same h = record { is = λ c e. h.is c e ∙ ap (capped common_limit) (ap (fold (λ d x. step d (g x)) c) same ∙ fold-map step g c xs) }
 
 fold-flat : {A B : Type 0} (step : ℕ → B → ℕ) (f : A → List B) (c : ℕ) (xs : List A) → fold (λ d x. fold step d (f x)) c xs ≡ fold step c (flat_map f xs)
 fold-flat step f c [] = refl
@@ -229,10 +221,10 @@ capped_some limit c n e = by_test limit c n (nat_lt c limit) refl e
     by_test limit c n true is e = let same : n ≡ c = cc in (same, grind (arith, nat_tests))
     by_test limit c n false is e = cc
 
-pub last_fault : (states : List StateText) (n : ℕ) → Some n ≡ capped (2 ^ 62) (common states)
+pub last_fault : (states : List StateText) (n : ℕ) → Some n ≡ capped common_limit (common states)
     → when (list_any (λ s. list_any (list_any (is_large n)) s.choices) states) CommonDenominator ≡ common_fault states
 last_fault states n e =
-    let h = capped_some (2 ^ 62) (common states) n e in
+    let h = capped_some common_limit (common states) n e in
     ap (λ (c : ℕ). when (list_any (λ s. list_any (list_any (is_large c)) s.choices) states) CommonDenominator) h.0
     ∙ ap (λ large. when large CommonDenominator) (large_rows (common states) states ∙ ap (λ b. b || list_any (is_large (common states)) (all_transitions states)) (sym h.1))
 
@@ -256,7 +248,7 @@ same_data k l a b ns ms gs hs i j rs ts e f g h m n = cc
 
 -- the model from its parts, where the states were seen twice
 pub model_is : (header : Header) (states two three : List StateText) (kind : Option Kind) (k : Kind) (c : ℕ) (ns : List (List ℕ)) (gs : List Bool) (i : ℕ) (rs : List (List (List Entry)))
-    → two ≡ states → three ≡ states → kind ≡ header.kind → k ≡ kind_or_chain kind → c ≡ common two → c < 2 ^ 62 → ns ≡ header.names → gs ≡ map (λ s. s.goal) two → i ≡ position_or_len (λ s. s.init) three
+    → two ≡ states → three ≡ states → kind ≡ header.kind → k ≡ kind_or_chain kind → c ≡ common two → c < common_limit → ns ≡ header.names → gs ≡ map (λ s. s.goal) two → i ≡ position_or_len (λ s. s.init) three
     → rs ≡ map (λ s. map (map (entry (common two))) s.choices) two → model (record { header = header; states = states }) ≡ parts k (to_z w64 c) ns gs i rs
 unfolding model
 model_is header states two three kind k c ns gs i rs d e f g same small h m n o =

@@ -17,9 +17,11 @@ pub mod Naming
 pub mod Pairing
 pub mod Phases
 pub mod Pieces
-pub mod PlaceLines
+pub mod PlaceholderLines
+pub mod Ranges
 pub mod Running
 mod Samples
+pub mod Sets
 pub mod Sound
 pub mod Stated
 pub mod Tallies

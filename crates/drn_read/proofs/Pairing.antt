@@ -1,5 +1,5 @@
 -- Names and values that stand beside each other.
-use Rattle.std.proofs.Common.{◌≡◌, ◌+◌, ◌<◌, ◌≤◌, ℕ, zero, suc, Bool, true, false, cond, refl, List, [], ◌∷◌, ◌++◌, length, sym, ◌∙◌, ap, arith, one-add, length-append, Option, None, Some}
+use Rattle.std.proofs.Common.{◌≡◌, ◌+◌, ◌<◌, ◌≤◌, ℕ, suc, Bool, true, false, cond, refl, List, [], ◌∷◌, ◌++◌, length, sym, ◌∙◌, ap, arith, one-add, length-append, None, Some}
 use Rattle.std.specs.Prelude.{position, find, slice_get, slice_index_or, is_some, nat_lt, ◌↔◌, IsTrue, Contains, if◌then◌else◌}
 use Rattle.std.specs.List.{list_any, position_or_len}
 use Rattle.std.specs.Option.{option_map}

@@ -3,11 +3,11 @@ use Rattle.std.proofs.Common.{◌≡◌, ℕ, Bool, true, false, not, ◌&&◌, 
 use Rattle.std.specs.Prelude.{is_none, length, ◌==◌}
 use Rattle.std.proofs.Math.Dec.{eqb-suc-zero}
 use Rattle.std.proofs.lemmas.Bool.{eqb-true}
-use Rattle.drn_lexer.specs.Bytes.{first_passes}
+use Rattle.lift_bytes.specs.Bytes.{first_passes}
 use Rattle.std.specs.List.{list_all}
 use Rattle.std.specs.Char.{is_ascii_digit}
 use Rattle.drn_lexer.specs.Lines.{TextLine, content, is_blank_line}
-use Rattle.drn_read.specs.Faults.{at, when, first_of}
+use Rattle.drn_read.specs.Faults.{when, first_of, told}
 use Rattle.drn_read.specs.Sections.{section_of, is_same, is_head, kind_of, type_text}
 use Rattle.drn_read.specs.Judging.{Said, line_fault, head_fault, has}
 use Rattle.drn_read.specs.Keeping.{with_line, with_head, with_section, with_names, with_state_count, with_choice_count, with_placeholder, states_with}
@@ -56,9 +56,9 @@ step_model label said l e = rw e refl
 
 -- ---- lines without fault
 
-at_none : (l : TextLine) (cause : Option DrnCause) → at l cause ≡ None → cause ≡ None
-at_none l None e = refl
-at_none l (Some cause) e = cc
+told_none : (number : ℕ) (cause : Option DrnCause) → told number cause ≡ None → cause ≡ None
+told_none number None e = refl
+told_none number (Some cause) e = cc
 
 -- between sections a line says nothing, or it begins one
 pub blank_between : (said : Said) (l : TextLine) → said.header.phase ≡ phase.Sections → is_head l ≡ false → line_fault said l ≡ None → is_blank_line l ≡ true
@@ -82,12 +82,12 @@ record IsCalmHead (label : List ℕ) (said : Said) (l : TextLine) : Type 0 where
   pub step : with_line label said l ≡ record said { header = with_head said.header (content l) }
 
 calm_head_in : (label : List ℕ) (said : Said) (l : TextLine) (p : Phase) → said.header.phase ≡ p → is_head l ≡ true → line_fault said l ≡ None → IsCalmHead label said l
-calm_head_in label said l phase.Sections e f h = record { fault = at_none l _ (rw (e, f) at h); step = rw (e, f) refl }
-calm_head_in label said l phase.NameList e f h = record { fault = at_none l _ (rw (e, f) at h); step = rw (e, f) refl }
-calm_head_in label said l phase.RewardList e f h = record { fault = at_none l _ (rw (e, f) at h); step = rw (e, f) refl }
+calm_head_in label said l phase.Sections e f h = record { fault = told_none l.number _ (rw (e, f) at h); step = rw (e, f) refl }
+calm_head_in label said l phase.NameList e f h = record { fault = told_none l.number _ (rw (e, f) at h); step = rw (e, f) refl }
+calm_head_in label said l phase.RewardList e f h = record { fault = told_none l.number _ (rw (e, f) at h); step = rw (e, f) refl }
 calm_head_in label said l phase.StateCount e f h = let n = first_not_blank _ (content l) f in let d = first_no_digits (content l) f in let k = rw (e, n, d) at h in cc
 calm_head_in label said l phase.ChoiceCount e f h = let n = first_not_blank _ (content l) f in let d = first_no_digits (content l) f in let k = rw (e, n, d) at h in cc
-calm_head_in label said l phase.Placeholders e f h = record { fault = at_none l _ (rw (e, f) at h); step = rw (e, f) refl }
+calm_head_in label said l phase.Placeholders e f h = record { fault = told_none l.number _ (rw (e, f) at h); step = rw (e, f) refl }
 calm_head_in label said l phase.Model e f h = let k = rw (e, f) at h in cc
 
 -- such a line begins a section

@@ -1,24 +1,20 @@
--- Pieces of a line by their places.
-use Rattle.std.proofs.Common.{◌≡◌, ◌+◌, ◌==◌, ℕ, Bool, true, false, refl, List, drop, sym, ◌∙◌, ap, Some, None}
-use Rattle.std.specs.Prelude.{slice_range, if◌then◌else◌}
+-- A colon behind blanks.
+use Rattle.std.proofs.Common.{◌≡◌, ◌==◌, ℕ, Bool, true, false, refl, List, drop, sym, ap, Some, None}
+use Rattle.std.specs.Prelude.{if◌then◌else◌}
 use Rattle.std.specs.List.{prefix_len}
-use Rattle.drn_lexer.specs.Bytes.{is_blank, first_passes}
-use Rattle.drn_lexer.proofs.Pieces.{range-drop}
-use Rattle.drn_read.specs.Text.{behind, behind_colon}
+use Rattle.lift_bytes.specs.Bytes.{colon, is_blank, first_passes, behind}
+use Rattle.drn_read.specs.Text.{behind_colon}
 
-colon_by : (text rest : List ℕ) (b : Bool) → behind is_blank text ≡ rest → first_passes (λ b. b == 58) rest ≡ b → behind_colon text ≡ (if b then Some (drop 1 rest) else None)
+colon_by : (text rest : List ℕ) (b : Bool) → behind is_blank text ≡ rest → first_passes (λ b. b == colon) rest ≡ b → behind_colon text ≡ (if b then Some (drop 1 rest) else None)
 colon_by text rest b e f = rw (e, f) refl
 
-front_is : (text : List ℕ) (at to blanks : ℕ) → blanks ≡ prefix_len is_blank (slice_range text at to) → behind is_blank (slice_range text at to) ≡ slice_range text (at + blanks) to
-front_is text at to blanks e = ap (λ k. drop k (slice_range text at to)) (sym e) ∙ range-drop blanks at to text
+front_is : (text : List ℕ) (blanks : ℕ) → blanks ≡ prefix_len is_blank text → behind is_blank text ≡ drop blanks text
+front_is text blanks e = ap (λ k. drop k text) (sym e)
 
 -- a colon stands behind these blanks
-pub colon_found : (text : List ℕ) (at to blanks : ℕ) → blanks ≡ prefix_len is_blank (slice_range text at to)
-    → first_passes (λ b. b == 58) (slice_range text (at + blanks) to) ≡ true → Some (slice_range text (at + blanks + 1) to) ≡ behind_colon (slice_range text at to)
-colon_found text at to blanks e h =
-    sym (colon_by (slice_range text at to) (slice_range text (at + blanks) to) true (front_is text at to blanks e) h ∙ ap (λ t. Some t) (range-drop 1 (at + blanks) to text))
+pub colon_found : (text : List ℕ) (blanks : ℕ) → blanks ≡ prefix_len is_blank text → first_passes (λ b. b == colon) (drop blanks text) ≡ true → Some (drop 1 (drop blanks text)) ≡ behind_colon text
+colon_found text blanks e h = sym (colon_by text (drop blanks text) true (front_is text blanks e) h)
 
 -- no colon stands there
-pub no_colon : (text : List ℕ) (at to blanks : ℕ) → blanks ≡ prefix_len is_blank (slice_range text at to)
-    → first_passes (λ b. b == 58) (slice_range text (at + blanks) to) ≡ false → None ≡ behind_colon (slice_range text at to)
-no_colon text at to blanks e h = sym (colon_by (slice_range text at to) (slice_range text (at + blanks) to) false (front_is text at to blanks e) h)
+pub no_colon : (text : List ℕ) (blanks : ℕ) → blanks ≡ prefix_len is_blank text → first_passes (λ b. b == colon) (drop blanks text) ≡ false → None ≡ behind_colon text
+no_colon text blanks e h = sym (colon_by text (drop blanks text) false (front_is text blanks e) h)

@@ -7,7 +7,7 @@ use Rattle.drn_lexer.specs.Bytes.{is_text_byte}
 use Rattle.drn_lexer.specs.Lines.{TextLine, content, numbered, lines, lines_from, without_empty_end, is_comment, is_long, own_fault, is_passed_over, behind_comments}
 use Rattle.drn_lexer.specs.declared.error.LexError.{LexError}
 use Rattle.drn_lexer.specs.declared.error.LexError.TheVariants.{NotText, LongLine}
-use Rattle.drn_read.specs.Faults.{at, lexed}
+use Rattle.drn_read.specs.Faults.{lexed, told}
 use Rattle.drn_read.specs.Judging.{Said, line_fault}
 use Rattle.drn_read.specs.Reading.{said, judge, first_fault, last_number}
 use Rattle.drn_read.specs.Keeping.{with_line}
@@ -28,18 +28,18 @@ first_fault-cons : (label : List ℕ) (before : List TextLine) (l : TextLine) (l
 unfolding first_fault or_else
 first_fault-cons label before l ls = refl
 
-goes_on : (label : List ℕ) (before : List TextLine) (l : TextLine) (ls : List TextLine) → judge label before l ≡ None
+pub goes_on : (label : List ℕ) (before : List TextLine) (l : TextLine) (ls : List TextLine) → judge label before l ≡ None
     → first_fault label before (l ∷ ls) ≡ first_fault label (before ++ l ∷ []) ls
 unfolding or_else
 goes_on label before l ls e = first_fault-cons label before l ls ∙ ap (or_else (first_fault label (before ++ l ∷ []) ls)) e
 
-ends_at : (label : List ℕ) (before : List TextLine) (l : TextLine) (ls : List TextLine) (fault : DrnError) → judge label before l ≡ Some fault
+pub ends_at : (label : List ℕ) (before : List TextLine) (l : TextLine) (ls : List TextLine) (fault : DrnError) → judge label before l ≡ Some fault
     → first_fault label before (l ∷ ls) ≡ Some fault
 unfolding or_else
 ends_at label before l ls fault e = first_fault-cons label before l ls ∙ ap (or_else (first_fault label (before ++ l ∷ []) ls)) e
 
 judge_by : (label : List ℕ) (before : List TextLine) (l : TextLine) → Option LexError → Bool → Option DrnError
-judge_by label before l (Some fault) comment = at l (Some (lexed fault))
+judge_by label before l (Some fault) comment = told l.number (Some (lexed fault))
 judge_by label before l None true = None
 judge_by label before l None false = line_fault (said label before) l
 
@@ -54,11 +54,11 @@ judged_comment : (label : List ℕ) (before : List TextLine) (l : TextLine) → 
 unfolding judge_by
 judged_comment label before l e f = judge-is label before l None true e f
 
-judged_plain : (label : List ℕ) (before : List TextLine) (l : TextLine) → own_fault l ≡ None → is_comment l ≡ false → judge label before l ≡ line_fault (said label before) l
+pub judged_plain : (label : List ℕ) (before : List TextLine) (l : TextLine) → own_fault l ≡ None → is_comment l ≡ false → judge label before l ≡ line_fault (said label before) l
 unfolding judge_by
 judged_plain label before l e f = judge-is label before l None false e f
 
-judged_own : (label : List ℕ) (before : List TextLine) (l : TextLine) (fault : LexError) → own_fault l ≡ Some fault → judge label before l ≡ Some (record { line = l.number; cause = lexed fault })
+pub judged_own : (label : List ℕ) (before : List TextLine) (l : TextLine) (fault : LexError) → own_fault l ≡ Some fault → judge label before l ≡ Some (record { line = l.number; cause = lexed fault })
 unfolding judge_by
 judged_own label before l fault e = judge-is label before l (Some fault) (is_comment l) e refl
 

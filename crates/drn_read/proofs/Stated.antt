@@ -1,6 +1,6 @@
 -- Lines of the model: its states stay sound.
 use Rattle.std.proofs.Common.{◌≡◌, ◌≢◌, ◌==◌, ℕ, zero, ◌+◌, ◌<◌, ◌≤◌, Bool, true, false, cond, not, List, [], ◌∷◌, ◌++◌, length, get_or, take, All, Option, Some, None, Result, Ok, Err, refl, sym, ap, subst, ◌∙◌, arith}
-use Rattle.std.specs.Prelude.{nat_lt, nat_le, is_some, codes, drop}
+use Rattle.std.specs.Prelude.{nat_le, is_some, codes}
 use Rattle.std.specs.List.{list_any, find, sum_by}
 use Rattle.std.specs.Char.{is_ascii_digit}
 use Rattle.std.specs.Option.{option_and_then}
@@ -15,29 +15,27 @@ use Rattle.std.proofs.lemmas.List.Sums.{sum_by-cons, sum_by_push}
 use Rattle.std.proofs.lemmas.Slice.Eq.{bytes_eq-Decides}
 use Rattle.lift_model.specs.declared.kind.Kind.{Kind}
 use Rattle.lift_model.specs.declared.kind.Kind.TheVariants.{Dtmc, Mdp}
-use Rattle.drn_lexer.specs.Bytes.{is_blank, first_passes}
+use Rattle.lift_bytes.specs.Bytes.{is_blank, behind}
 use Rattle.drn_lexer.specs.Cutting.{Piece, pieces_behind}
 use Rattle.drn_lexer.specs.Lines.{TextLine, content, is_blank_line}
 use Rattle.drn_lexer.specs.Symbols.{symbols}
 use Rattle.drn_lexer.specs.Words.{WordKind, words, word_front}
-use Rattle.drn_lexer.specs.declared.symbol.SymbolForm.{SymbolForm}
-use Rattle.drn_lexer.specs.declared.symbol.SymbolForm.TheVariants as symbol
 use Rattle.drn_expr.specs.RatPolys.{OverOne}
-use Rattle.drn_expr.proofs.Valid.{IsOver}
-use Rattle.drn_read.specs.Faults.{when, first_of, fault_of, at}
+use Rattle.drn_read.specs.Faults.{when, first_of, fault_of, told}
 use Rattle.drn_read.specs.Parts.{last, is_empty}
-use Rattle.drn_read.specs.Text.{behind, behind_colon, is_digits}
+use Rattle.drn_read.specs.Text.{behind_colon, is_digits, value_of}
 use Rattle.drn_read.specs.Sections.{Header, Placeholder, is_head}
-use Rattle.drn_read.specs.States.{StateText, ModelLine, model_line, is_transition, target_of, target_text, place_of, named_value, entry_value, begins_with, is_state, is_action, state, transition}
-use Rattle.drn_read.specs.Judging.{choice_count, transition_count, open_choice, target_fault, transition_fault, state_fault, number_fault, labels_fault, choiceless, name_and_group_fault, action_fault, words_fault, model_fault}
+use Rattle.drn_read.specs.States.{StateText, ModelLine, model_line, is_transition, target_of, value_of_placeholder, named_value, entry_value, begins_with, is_state, is_action, state, transition, lone_name}
+use Rattle.drn_read.specs.Judging.{choice_count, transition_count, open_choice, target_fault, transition_fault, state_fault, number_fault, labels_fault, choiceless, name_and_group_fault, action_fault, words_fault, model_fault, target_text_fault, room_fault, choice_fault}
 use Rattle.drn_read.specs.Keeping.{on_last, with_choice, with_transitions, states_with}
 use Rattle.drn_read.specs.declared.error.DrnCause.{DrnCause}
 use Rattle.drn_read.specs.declared.error.DrnCause.TheVariants.{Syntax, UnknownPlace, UnknownSection, StateOrder, ExtraChoice, NoChoice, RepeatedTarget, LimitStates, LimitChoices, LimitTransitions}
 use Rattle.drn_read.specs.declared.error.DrnError.{DrnError}
 use Rattle.drn_read.specs.declared.state.Transition.{Transition}
 use Rattle.drn_read.proofs.Declared.{first_none, when_none, fault_none, value_over}
-use Rattle.drn_read.proofs.Kept.{IsChoice, IsState, AreStates}
+use Rattle.drn_read.proofs.Kept.{Laws, IsValue, IsChoice, IsState, AreStates}
 use Rattle.drn_read.proofs.Lists.{split, last-push, on_last-push, All-front, All-end, any_false, find_keeps}
+use Rattle.lift_model.specs.Valid.{most_transitions, most_choices}
 
 -- ---- a changed last state
 
@@ -63,7 +61,7 @@ none_last [] e = refl
 none_last (x ∷ xs) e = let s = split (x ∷ xs) refl in absurd (both_ways (is_some (last (x ∷ xs))) e (ap is_some (ap last s.is ∙ last-push s.front s.end)))
 
 no_transition : (count : ℕ) → IsChoice count []
-no_transition count = record { distinct = λ i j d lt within. absurd (omega arith); values = All-nil (λ t. IsOver count t.value) }
+no_transition count = record { distinct = λ i j d lt within. absurd (omega arith); values = All-nil (λ t. IsValue count t.value) }
 
 -- ---- one more choice
 
@@ -89,12 +87,12 @@ choice_added kind count states some one few h =
 
 -- ---- one more transition
 
-row_added : (count : ℕ) (c : List Transition) (t : Transition) → list_any (λ u. u.target == t.target) c ≡ false → IsOver count t.value → IsChoice count c → IsChoice count (c ++ t ∷ [])
+row_added : (count : ℕ) (c : List Transition) (t : Transition) → list_any (λ u. u.target == t.target) c ≡ false → IsValue count t.value → IsChoice count c → IsChoice count (c ++ t ∷ [])
 row_added count c t new over h = record {
   distinct =
       all_pairs_push (λ a b. a.target ≢ b.target) c t h.distinct
       (λ k d lt same. both_ways ((get_or c k d).target == t.target) (any_false (λ (u : Transition). u.target == t.target) c new k d lt) (eq-eqb (get_or c k d).target t.target same));
-  values = All-push (λ u. IsOver count u.value) c t h.values over;
+  values = All-push (λ u. IsValue count u.value) c t h.values over;
 }
 
 -- the fault of a target, by the last choice of the last state
@@ -106,7 +104,7 @@ target_by states target o = elim o [
 
 transition_added_by : (kind : Option Kind) (count : ℕ) (front : List StateText) (s : StateText) (cs : List (List Transition)) (t : Transition)
     → target_by (front ++ record s { choices = cs } ∷ []) t.target (last cs) ≡ None
-    → transition_count (front ++ record s { choices = cs } ∷ []) < 262144 → IsOver count t.value → AreStates kind count (front ++ record s { choices = cs } ∷ [])
+    → transition_count (front ++ record s { choices = cs } ∷ []) < 262144 → IsValue count t.value → AreStates kind count (front ++ record s { choices = cs } ∷ [])
     → AreStates kind count (front ++ with_transitions (t ∷ []) (record s { choices = cs }) ∷ [])
 unfolding target_by
 transition_added_by kind count front s [] t e few over h =
@@ -139,13 +137,13 @@ transition_added_by kind count front s (c ∷ cs) t e few over h =
     (omega (arith, total, few, sum_by_push (λ (u : StateText). sum_by length u.choices) front before))
 
 transition_added_to : (kind : Option Kind) (count : ℕ) (front : List StateText) (s : StateText) (t : Transition) → target_fault (front ++ s ∷ []) t.target ≡ None
-    → transition_count (front ++ s ∷ []) < 262144 → IsOver count t.value → AreStates kind count (front ++ s ∷ []) → AreStates kind count (front ++ with_transitions (t ∷ []) s ∷ [])
+    → transition_count (front ++ s ∷ []) < 262144 → IsValue count t.value → AreStates kind count (front ++ s ∷ []) → AreStates kind count (front ++ with_transitions (t ∷ []) s ∷ [])
 unfolding target_by
 transition_added_to kind count front s t e few over h =
     transition_added_by kind count front s s.choices t (subst (λ o. target_by (front ++ s ∷ []) t.target o ≡ None) (open_is front s) e) few over h
 
 transition_added : (kind : Option Kind) (count : ℕ) (states : List StateText) (t : Transition) → is_empty states ≡ false → target_fault states t.target ≡ None → transition_count states < 262144
-    → IsOver count t.value → AreStates kind count states → AreStates kind count (on_last (with_transitions (t ∷ [])) states)
+    → IsValue count t.value → AreStates kind count states → AreStates kind count (on_last (with_transitions (t ∷ [])) states)
 transition_added kind count states t some e few over h =
     let x = split states some in
     subst (λ ss. AreStates kind count (on_last (with_transitions (t ∷ [])) ss)) (sym x.is)
@@ -177,80 +175,76 @@ state_added kind count states s none e few h = record {
 
 -- ---- the value of a transition
 
-place_over : (count : ℕ) (places : List Placeholder) (name : List ℕ) (v : OverOne) → All (λ place. IsOver count place.value) places → place_of places name ≡ Ok v → IsOver count v
+place_over : (count : ℕ) (places : List Placeholder) (name : List ℕ) (v : OverOne) → All (λ place. IsValue count place.value) places → value_of_placeholder places name ≡ Ok v → IsValue count v
 place_over count places name v h e = by_found (find (λ place. bytes_eq name place.name) places) refl e
   where
-    by_found : (o : Option Placeholder) → find (λ place. bytes_eq name place.name) places ≡ o → (elim o as (λ o. Result OverOne DrnCause) [ Some place ↦ Ok place.value | None ↦ Err UnknownPlace ]) ≡ Ok v → IsOver count v
+    by_found : (o : Option Placeholder) → find (λ place. bytes_eq name place.name) places ≡ o → (elim o as (λ o. Result OverOne DrnCause) [ Some place ↦ Ok place.value | None ↦ Err UnknownPlace ]) ≡ Ok v → IsValue count v
     by_found (Some place) is e =
         let f : place.value ≡ v = cc in
-        subst (IsOver count) f (find_keeps (λ (p : Placeholder). IsOver count p.value) (λ (p : Placeholder). bytes_eq name p.name) places place h is)
+        subst (IsValue count) f (find_keeps (λ (p : Placeholder). IsValue count p.value) (λ (p : Placeholder). bytes_eq name p.name) places place h is)
     by_found None is e = cc
 
-one_symbol_over : (names : List (List ℕ)) (places : List Placeholder) (text : List ℕ) (only : Piece SymbolForm) (form : SymbolForm) (v : OverOne) → All (λ place. IsOver (length names) place.value) places
-    → named_value names places text (record only { form = form } ∷ []) ≡ Ok v → IsOver (length names) v
-one_symbol_over names places text only symbol.Dollar v h e = place_over (length names) places (drop 1 only.bytes) v h e
-one_symbol_over names places text only _ v h e = value_over names text v e
-
-named_over : (names : List (List ℕ)) (places : List Placeholder) (text : List ℕ) (s : List (Piece SymbolForm)) (v : OverOne) → All (λ place. IsOver (length names) place.value) places
-    → named_value names places text s ≡ Ok v → IsOver (length names) v
-named_over names places text [] v h e = value_over names text v e
-named_over names places text (only ∷ []) v h e = one_symbol_over names places text only only.form v h e
-named_over names places text (a ∷ b ∷ s) v h e = value_over names text v e
-
-entry_over : (names : List (List ℕ)) (places : List Placeholder) (line : List ℕ) (v : OverOne) → All (λ place. IsOver (length names) place.value) places → entry_value names places line ≡ Ok v → IsOver (length names) v
-entry_over names places line v h e = by_colon (behind_colon (behind is_ascii_digit line)) e
+named_over : (laws : Laws) (names : List (List ℕ)) (places : List Placeholder) (text : List ℕ) (v : OverOne) → All (λ place. IsValue (length names) place.value) places → named_value names places text ≡ Ok v → IsValue (length names) v
+named_over laws names places text v h e = by_name (lone_name (symbols text)) e
   where
-    by_colon : (o : Option (List ℕ)) → (elim o as (λ o. Result OverOne DrnCause) [ Some text ↦ named_value names places text (symbols text) | None ↦ Err Syntax ]) ≡ Ok v → IsOver (length names) v
-    by_colon (Some text) e = named_over names places text (symbols text) v h e
+    by_name : (o : Option (List ℕ)) → (elim o as (λ o. Result OverOne DrnCause) [ Some name ↦ value_of_placeholder places name | None ↦ value_of names text ]) ≡ Ok v → IsValue (length names) v
+    by_name (Some name) e = place_over (length names) places name v h e
+    by_name None e = value_over laws names text v e
+
+entry_over : (laws : Laws) (names : List (List ℕ)) (places : List Placeholder) (line : List ℕ) (v : OverOne) → All (λ place. IsValue (length names) place.value) places → entry_value names places line ≡ Ok v → IsValue (length names) v
+entry_over laws names places line v h e = by_colon (behind_colon (behind is_ascii_digit line)) e
+  where
+    by_colon : (o : Option (List ℕ)) → (elim o as (λ o. Result OverOne DrnCause) [ Some text ↦ named_value names places text | None ↦ Err Syntax ]) ≡ Ok v → IsValue (length names) v
+    by_colon (Some text) e = named_over laws names places text v h e
     by_colon None e = cc
 
-transition_stays : (h : Header) (states : List StateText) (line : TextLine) → transition_fault h states (content line) ≡ None → All (λ place. IsOver (length h.names) place.value) h.placeholders
+transition_stays : (laws : Laws) (h : Header) (states : List StateText) (line : TextLine) → transition_fault h states (content line) ≡ None → All (λ place. IsValue (length h.names) place.value) h.placeholders
     → AreStates h.kind (length h.names) states → AreStates h.kind (length h.names) (on_last (with_transitions (transition (model_line h.names h.placeholders line))) states)
-transition_stays h states line e values sound =
+transition_stays laws h states line e values sound =
     let text = content line in
     let none = when (is_empty states) Syntax in
-    let long = when (nat_lt 20 (length (target_text text))) Syntax in
-    let colon = when (not (first_passes (λ b. b == 58) (behind is_blank (behind is_ascii_digit text)))) Syntax in
+    let written = target_text_fault text in
     let target = target_fault states (target_of text) in
-    let many = when (nat_le 262144 (transition_count states)) LimitTransitions in
+    let many = when (nat_le most_transitions (transition_count states)) LimitTransitions in
+    let room = room_fault states (target_of text) in
     let value = fault_of (entry_value h.names h.placeholders text) in
-    let a = first_none none (long ∷ colon ∷ target ∷ many ∷ value ∷ []) e in
-    let b = first_none long (colon ∷ target ∷ many ∷ value ∷ []) a.1 in
-    let c = first_none colon (target ∷ many ∷ value ∷ []) b.1 in
-    let d = first_none target (many ∷ value ∷ []) c.1 in
-    let f = first_none many (value ∷ []) d.1 in
-    let g = first_none value [] f.1 in
+    let a = first_none none (written ∷ room ∷ value ∷ []) e in
+    let b = first_none written (room ∷ value ∷ []) a.1 in
+    let c = first_none room (value ∷ []) b.1 in
+    let d = first_none target (many ∷ []) c.0 in
+    let f = first_none many [] d.1 in
+    let g = first_none value [] c.1 in
     let read = fault_none (entry_value h.names h.placeholders text) g.0 in
     let new : Transition = record { line = line.number; target = target_of text; value = read.0 } in
     let one : transition (model_line h.names h.placeholders line) ≡ new ∷ [] =
     ap (λ (r : Result OverOne DrnCause). elim r as (λ r. List Transition) [ Ok value ↦ record { line = line.number; target = target_of text; value = value } ∷ [] | Err cause ↦ [] ]) read.1 in
     subst (λ more. AreStates h.kind (length h.names) (on_last (with_transitions more) states)) (sym one)
     (transition_added h.kind (length h.names) states new (when_none (is_empty states) Syntax a.0) d.0
-    (leb-false 262144 (transition_count states) (when_none (nat_le 262144 (transition_count states)) LimitTransitions f.0))
-    (entry_over h.names h.placeholders text read.0 values read.1) sound)
+    (leb-false most_transitions (transition_count states) (when_none (nat_le most_transitions (transition_count states)) LimitTransitions f.0))
+    (entry_over laws h.names h.placeholders text read.0 values read.1) sound)
 
 -- ---- an action
 
-action_added : (kind : Option Kind) (count : ℕ) (states : List StateText) (extra : Option DrnCause) (ws : List (Piece WordKind))
-    → first_of (when (is_empty states) Syntax ∷ extra ∷ when (nat_le 131072 (choice_count states)) LimitChoices ∷ name_and_group_fault ws ∷ []) ≡ None
+action_added : (kind : Option Kind) (count : ℕ) (states : List StateText) (extra : Option DrnCause)
+    → first_of (when (is_empty states) Syntax ∷ extra ∷ when (nat_le most_choices (choice_count states)) LimitChoices ∷ []) ≡ None
     → (extra ≡ None → kind ≢ Some Mdp → is_some (open_choice states) ≡ false) → AreStates kind count states → AreStates kind count (on_last with_choice states)
-action_added kind count states extra ws e one sound =
+action_added kind count states extra e one sound =
     let none = when (is_empty states) Syntax in
-    let many = when (nat_le 131072 (choice_count states)) LimitChoices in
-    let words = name_and_group_fault ws in
-    let a = first_none none (extra ∷ many ∷ words ∷ []) e in
-    let b = first_none extra (many ∷ words ∷ []) a.1 in
-    let c = first_none many (words ∷ []) b.1 in
+    let many = when (nat_le most_choices (choice_count states)) LimitChoices in
+    let a = first_none none (extra ∷ many ∷ []) e in
+    let b = first_none extra (many ∷ []) a.1 in
+    let c = first_none many [] b.1 in
     choice_added kind count states (when_none (is_empty states) Syntax a.0) (one b.0)
-    (leb-false 131072 (choice_count states) (when_none (nat_le 131072 (choice_count states)) LimitChoices c.0)) sound
+    (leb-false most_choices (choice_count states) (when_none (nat_le most_choices (choice_count states)) LimitChoices c.0)) sound
 
-action_stays : (h : Header) (kind : Option Kind) (states : List StateText) (ws : List (Piece WordKind)) → action_fault (record h { kind = kind }) states ws ≡ None
-    → AreStates kind (length h.names) states → AreStates kind (length h.names) (on_last with_choice states)
-action_stays h (Some Mdp) states ws e sound = action_added (Some Mdp) (length h.names) states None ws e (λ x ne. absurd (ne refl)) sound
-action_stays h (Some Dtmc) states ws e sound =
-    action_added (Some Dtmc) (length h.names) states (when (is_some (open_choice states)) ExtraChoice) ws e (λ x ne. when_none (is_some (open_choice states)) ExtraChoice x) sound
-action_stays h None states ws e sound =
-    action_added None (length h.names) states (when (is_some (open_choice states)) ExtraChoice) ws e (λ x ne. when_none (is_some (open_choice states)) ExtraChoice x) sound
+choice_stays : (kind : Option Kind) (count : ℕ) (states : List StateText) → choice_fault kind states ≡ None → AreStates kind count states → AreStates kind count (on_last with_choice states)
+choice_stays (Some Mdp) count states e sound = action_added (Some Mdp) count states None e (λ x ne. absurd (ne refl)) sound
+choice_stays (Some Dtmc) count states e sound = action_added (Some Dtmc) count states (when (is_some (open_choice states)) ExtraChoice) e (λ x ne. when_none (is_some (open_choice states)) ExtraChoice x) sound
+choice_stays None count states e sound = action_added None count states (when (is_some (open_choice states)) ExtraChoice) e (λ x ne. when_none (is_some (open_choice states)) ExtraChoice x) sound
+
+action_stays : (h : Header) (states : List StateText) (ws : List (Piece WordKind)) → action_fault h states ws ≡ None
+    → AreStates h.kind (length h.names) states → AreStates h.kind (length h.names) (on_last with_choice states)
+action_stays h states ws e sound = choice_stays h.kind (length h.names) states (first_none (choice_fault h.kind states) (name_and_group_fault ws ∷ []) e).0 sound
 
 -- ---- the words of a line
 
@@ -271,9 +265,9 @@ words_digit c name (b ∷ tail) above e =
         let word : List ℕ = b ∷ take (word_front b tail).0 tail in
         false_from_ne_true (bytes_eq word (c ∷ name)) (λ t. let same = (bytes_eq-Decides word (c ∷ name)).0 t in ne (cc))
 
-pub at_none : (line : TextLine) (cause : Option DrnCause) → at line cause ≡ None → cause ≡ None
-at_none line None e = refl
-at_none line (Some cause) e = cc
+pub told_none : (number : ℕ) (cause : Option DrnCause) → told number cause ≡ None → cause ≡ None
+told_none number None e = refl
+told_none number (Some cause) e = cc
 
 number_small : (before : ℕ) (w : Piece WordKind) (form : WordKind) → number_fault before (record w { form = form }) ≡ None → before < 65536
 number_small before w (Err fault) e = cc
@@ -302,12 +296,12 @@ words_stay P h states line A B C [] e a b = cc
 words_stay P h states line A B C (w ∷ ws) e a b = by_form w.form e
   where
     by_words : (s t : Bool)
-        → cond s (first_of (choiceless states ∷ at line (state_fault (length states) ws) ∷ [])) (cond t (at line (action_fault h states ws)) (at line (Some Syntax))) ≡ None → P (cond s A (cond t B C))
+        → cond s (first_of (choiceless states ∷ told line.number (state_fault (length states) ws) ∷ [])) (cond t (told line.number (action_fault h states ws)) (told line.number (Some Syntax))) ≡ None → P (cond s A (cond t B C))
     by_words true t e =
-        let x = first_none (choiceless states) (at line (state_fault (length states) ws) ∷ []) e in
-        let y = first_none (at line (state_fault (length states) ws)) [] x.1 in
-        a x.0 (state_small (length states) ws (at_none line (state_fault (length states) ws) y.0))
-    by_words false true e = b ws (at_none line (action_fault h states ws) e)
+        let x = first_none (choiceless states) (told line.number (state_fault (length states) ws) ∷ []) e in
+        let y = first_none (told line.number (state_fault (length states) ws)) [] x.1 in
+        a x.0 (state_small (length states) ws (told_none line.number (state_fault (length states) ws) y.0))
+    by_words false true e = b ws (told_none line.number (action_fault h states ws) e)
     by_words false false e = cc
 
     by_form : (form : WordKind) → words_fault h states line (record w { form = form } ∷ ws) ≡ None → P (cond (bytes_eq w.bytes (codes "state")) A (cond (bytes_eq w.bytes (codes "action")) B C))
@@ -321,9 +315,9 @@ neither P false false A B C e f h = h
 
 -- ---- a line of the model
 
-pub model_stays : (label : List ℕ) (h : Header) (states : List StateText) (line : TextLine) → model_fault h states line ≡ None → All (λ place. IsOver (length h.names) place.value) h.placeholders
+pub model_stays : (laws : Laws) (label : List ℕ) (h : Header) (states : List StateText) (line : TextLine) → model_fault h states line ≡ None → All (λ place. IsValue (length h.names) place.value) h.placeholders
     → AreStates h.kind (length h.names) states → AreStates h.kind (length h.names) (states_with label h states line)
-model_stays label h states line e values sound = by_head (is_head line) e
+model_stays laws label h states line e values sound = by_head (is_head line) e
   where
     P : List StateText → Type 0
     P = AreStates h.kind (length h.names)
@@ -341,22 +335,22 @@ model_stays label h states line e values sound = by_head (is_head line) e
     moved = on_last (with_transitions (transition l)) states
 
     by_transition : (t : Bool) → is_transition (content line) ≡ t
-        → cond t (at line (transition_fault h states (content line))) (words_fault h states line (words (content line))) ≡ None
+        → cond t (told line.number (transition_fault h states (content line))) (words_fault h states line (words (content line))) ≡ None
         → P (cond (is_state l) fresh (cond (is_action l) chosen moved))
     by_transition true is e =
         neither P (is_state l) (is_action l) fresh chosen moved (words_digit 115 (codes "tate") (content line) (omega arith) is) (words_digit 97 (codes "ction") (content line) (omega arith) is)
-        (transition_stays h states line (at_none line (transition_fault h states (content line)) e) values sound)
+        (transition_stays laws h states line (told_none line.number (transition_fault h states (content line)) e) values sound)
     by_transition false is e =
         words_stay P h states line fresh chosen moved (words (content line)) e
         (λ x few. state_added h.kind (length h.names) states (state label (record { head = l; body = [] })) refl x few sound)
-        (λ others x. action_stays h h.kind states others x sound)
+        (λ others x. action_stays h states others x sound)
 
-    by_blank : (b : Bool) → cond b None (cond (is_transition (content line)) (at line (transition_fault h states (content line))) (words_fault h states line (words (content line)))) ≡ None
+    by_blank : (b : Bool) → cond b None (cond (is_transition (content line)) (told line.number (transition_fault h states (content line))) (words_fault h states line (words (content line)))) ≡ None
         → P (cond b states (cond (is_state l) fresh (cond (is_action l) chosen moved)))
     by_blank true e = sound
     by_blank false e = by_transition (is_transition (content line)) refl e
 
-    by_head : (b : Bool) → cond b (at line (Some UnknownSection)) (cond (is_blank_line line) None (cond (is_transition (content line)) (at line (transition_fault h states (content line))) (words_fault h states line (words (content line))))) ≡ None
+    by_head : (b : Bool) → cond b (told line.number (Some UnknownSection)) (cond (is_blank_line line) None (cond (is_transition (content line)) (told line.number (transition_fault h states (content line))) (words_fault h states line (words (content line))))) ≡ None
         → P (cond (is_blank_line line) states (cond (is_state l) fresh (cond (is_action l) chosen moved)))
     by_head true e = cc
     by_head false e = by_blank (is_blank_line line) e

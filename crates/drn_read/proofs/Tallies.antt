@@ -16,9 +16,9 @@ use Rattle.std.proofs.lemmas.List.Sums.{sum_by-cons, sum_by_push}
 use Rattle.drn_read.specs.Faults.{when}
 use Rattle.drn_read.specs.Parts.{last, is_empty}
 use Rattle.drn_read.specs.States.{StateText}
-use Rattle.drn_read.specs.Judging.{choice_count, transition_count, open_choice, target_fault}
+use Rattle.drn_read.specs.Judging.{choice_count, transition_count, open_choice, target_fault, room_fault}
 use Rattle.drn_read.specs.Keeping.{on_last, with_choice, with_transitions}
-use Rattle.drn_read.specs.ModelSteps.{open_row, room_fault, IsKept}
+use Rattle.drn_read.specs.ModelSteps.{open_row, IsKept}
 use Rattle.drn_read.specs.declared.error.DrnCause.{DrnCause}
 use Rattle.drn_read.specs.declared.error.DrnCause.TheVariants.{RepeatedTarget, LimitChoices, LimitTransitions}
 use Rattle.drn_read.specs.declared.state.Transition.{Transition}

@@ -1,11 +1,10 @@
 -- The labels of a state's line, word by word.
-use Rattle.std.proofs.Common.{◌≡◌, ◌||◌, ℕ, Bool, true, false, refl, List, [], ◌∷◌, sym, ◌∙◌, ap, Option, Some, None, Result, Ok, Err}
+use Rattle.std.proofs.Common.{◌≡◌, ◌||◌, ℕ, Bool, true, false, refl, List, [], ◌∷◌, sym, ◌∙◌, ap, Option, Some, None, Err}
 use Rattle.std.specs.Prelude.{codes}
 use Rattle.std.specs.List.{list_any}
 use Rattle.drn_lexer.specs.Cutting.{Piece}
 use Rattle.drn_lexer.specs.Words.{WordKind}
 use Rattle.drn_lexer.specs.declared.error.LexError.TheVariants as lex
-use Rattle.drn_read.specs.Faults.{fault_of, lexed}
 use Rattle.drn_read.specs.States.{is_label}
 use Rattle.drn_read.specs.Judging.{state_word_fault, labels_fault}
 use Rattle.drn_read.specs.Shown.{BeginsOpen, Carries}

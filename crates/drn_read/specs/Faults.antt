@@ -1,7 +1,6 @@
 -- Causes of a refusal, and which of several tests comes first.
 use Rattle.std.specs.Prelude.{ℕ, Bool, true, false, codes, List, [], ◌∷◌, Option, Some, None, Result, Ok, Err}
 use Rattle.std.specs.Option.{option_map}
-use Rattle.drn_lexer.specs.Lines.{TextLine}
 use Rattle.drn_lexer.specs.declared.error.LexError.{LexError}
 use Rattle.drn_lexer.specs.declared.error.LexError.TheVariants as lex
 use Rattle.drn_expr.specs.declared.error.ExprError.{ExprError}
@@ -45,9 +44,9 @@ abbrev pub fault_of : {A : Type 0} → Result A DrnCause → Option DrnCause
 fault_of (Ok x) = None
 fault_of (Err cause) = Some cause
 
--- a fault that is told of this line
-abbrev pub at : TextLine → Option DrnCause → Option DrnError
-at line cause = option_map (λ c. record { line = line.number; cause = c }) cause
+-- a fault that is told of the line of this number
+abbrev pub told : ℕ → Option DrnCause → Option DrnError
+told number fault = option_map (λ cause. record { line = number; cause = cause }) fault
 
 -- the name of a cause, as it is told
 abbrev pub cause_name : DrnCause → List ℕ

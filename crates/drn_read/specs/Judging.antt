@@ -7,15 +7,16 @@ use Rattle.std.specs.Str.{bytes_eq}
 use Rattle.std.specs.Str.Parse.{digits_value}
 use Rattle.lift_model.specs.declared.kind.Kind.{Kind}
 use Rattle.lift_model.specs.declared.kind.Kind.TheVariants.{Mdp}
-use Rattle.drn_lexer.specs.Bytes.{is_blank, first_passes}
+use Rattle.lift_model.specs.Valid.{most_states, most_choices, most_transitions, most_parameters, most_name_bytes}
+use Rattle.lift_bytes.specs.Bytes.{colon, dollar, exclamation, left_brace, right_bracket, is_blank, first_passes, behind}
 use Rattle.drn_lexer.specs.Cutting.{Piece}
 use Rattle.drn_lexer.specs.Lines.{TextLine, content, is_blank_line}
 use Rattle.drn_lexer.specs.Words.{WordKind, words}
 use Rattle.drn_lexer.specs.declared.word.WordForm.TheVariants as word
-use Rattle.drn_read.specs.Faults.{when, first_of, fault_of, lexed, at}
+use Rattle.drn_read.specs.Faults.{when, first_of, fault_of, lexed, told}
 use Rattle.drn_read.specs.Parts.{last, is_empty}
-use Rattle.drn_read.specs.Text.{behind, is_digits, is_name}
-use Rattle.drn_read.specs.Sections.{Header, section_of, is_same, is_head, kind_of, type_text, place_name, place_value}
+use Rattle.drn_read.specs.Text.{most_digits, is_digits, is_name}
+use Rattle.drn_read.specs.Sections.{Header, Placeholder, section_of, is_same, is_head, kind_of, type_text, placeholder_name, placeholder_value}
 use Rattle.drn_read.specs.States.{StateText, is_transition, target_text, target_of, entry_value}
 use Rattle.drn_read.specs.declared.error.DrnCause.{DrnCause}
 use Rattle.drn_read.specs.declared.error.DrnCause.TheVariants.{Syntax, UnsupportedType, MissingSection, RepeatedSection, UnknownSection, RepeatedName, StateOrder, ExitRate, Observation, ExtraChoice, NoChoice, RepeatedTarget, LimitStates, LimitChoices, LimitTransitions, LimitPlaces, LimitParameters, LimitName}
@@ -24,6 +25,10 @@ use Rattle.drn_read.specs.declared.section.Phase.TheVariants as phase
 use Rattle.drn_read.specs.declared.section.Section.{Section}
 use Rattle.drn_read.specs.declared.state.Transition.{Transition}
 use Rattle.drn_read.specs.declared.section.Section.TheVariants.{ModelType, Model}
+
+-- at most 65,536 placeholders
+abbrev pub most_placeholders : ℕ
+most_placeholders = 65536
 
 -- what the lines of a text say: its sections, and the states of its model
 pub record Said : Type 0 where
@@ -54,9 +59,9 @@ name_fault names w = elim w.form [
   | Err fault ↦ Some (lexed fault)
   | Ok form ↦ first_of (
       when (not (is_name w.bytes)) Syntax
-      ∷ when (nat_lt 64 (length w.bytes)) LimitName
+      ∷ when (nat_lt most_name_bytes (length w.bytes)) LimitName
       ∷ when (list_any (bytes_eq w.bytes) names) RepeatedName
-      ∷ when (nat_le 16 (length names)) LimitParameters
+      ∷ when (nat_le most_parameters (length names)) LimitParameters
       ∷ [])
 ]
 
@@ -67,17 +72,27 @@ names_fault names (w ∷ ws) = elim (name_fault names w) [ Some cause ↦ Some c
 
 -- a number is 1 to 20 digits
 abbrev pub count_fault : List ℕ → Option DrnCause
-count_fault line = when (not (is_digits line && nat_le (length line) 20)) Syntax
+count_fault line = when (not (is_digits line && nat_le (length line) most_digits)) Syntax
+
+-- a placeholder's line has a name
+abbrev pub nameless_fault : List ℕ → Option DrnCause
+nameless_fault line = when (not (first_passes (λ b. b == dollar) line) || is_empty (placeholder_name line)) Syntax
+
+-- the name of one more placeholder, behind these
+abbrev pub new_name_fault : List Placeholder → List ℕ → Option DrnCause
+new_name_fault before name = first_of (
+    when (nat_lt most_name_bytes (length name)) LimitName
+    ∷ when (list_any (λ p. bytes_eq name p.name) before) RepeatedName
+    ∷ when (nat_le most_placeholders (length before)) LimitPlaces
+    ∷ [])
+
+-- the name in a placeholder's line
+abbrev pub placeholder_name_fault : List Placeholder → List ℕ → Option DrnCause
+placeholder_name_fault before line = first_of (nameless_fault line ∷ new_name_fault before (placeholder_name line) ∷ [])
 
 -- a line `$name : value` of a placeholder
-abbrev pub place_fault : Header → List ℕ → Option DrnCause
-place_fault h line = first_of (
-    when (not (first_passes (λ b. b == 36) line) || is_empty (place_name line)) Syntax
-    ∷ when (nat_lt 64 (length (place_name line))) LimitName
-    ∷ when (list_any (λ place. bytes_eq (place_name line) place.name) h.placeholders) RepeatedName
-    ∷ when (nat_le 65536 (length h.placeholders)) LimitPlaces
-    ∷ fault_of (place_value h.names line)
-    ∷ [])
+abbrev pub placeholder_fault : Header → List ℕ → Option DrnCause
+placeholder_fault h line = first_of (placeholder_name_fault h.placeholders line ∷ fault_of (placeholder_value h.names line) ∷ [])
 
 -- a line that may begin a section, or else is so
 abbrev pub headed : Header → TextLine → Option DrnCause → Option DrnCause
@@ -94,7 +109,7 @@ header_fault h line = elim h.phase [
   | phase.RewardList ↦ headed h line None
   | phase.StateCount ↦ unless_blank line (count_fault (content line))
   | phase.ChoiceCount ↦ unless_blank line (count_fault (content line))
-  | phase.Placeholders ↦ headed h line (unless_blank line (place_fault h (content line)))
+  | phase.Placeholders ↦ headed h line (unless_blank line (placeholder_fault h (content line)))
   | _ ↦ headed h line (unless_blank line (Some Syntax))
 ]
 
@@ -115,30 +130,37 @@ open_choice states = option_and_then (λ s. last s.choices) (last states)
 -- a target begins the first choice of its state, or is one more of the last choice
 abbrev pub target_fault : List StateText → ℕ → Option DrnCause
 target_fault states target = elim (open_choice states) [
-  | None ↦ when (nat_le 131072 (choice_count states)) LimitChoices
+  | None ↦ when (nat_le most_choices (choice_count states)) LimitChoices
   | Some choice ↦ when (list_any (λ t. t.target == target) choice) RepeatedTarget
 ]
+
+-- the digits of a transition's line, and the colon behind them
+abbrev pub target_text_fault : List ℕ → Option DrnCause
+target_text_fault line =
+    when (nat_lt most_digits (length (target_text line)) || not (first_passes (λ b. b == colon) (behind is_blank (behind is_ascii_digit line)))) Syntax
+
+-- one more transition, to this target
+abbrev pub room_fault : List StateText → ℕ → Option DrnCause
+room_fault states target = first_of (target_fault states target ∷ when (nat_le most_transitions (transition_count states)) LimitTransitions ∷ [])
 
 -- a transition's line
 abbrev pub transition_fault : Header → List StateText → List ℕ → Option DrnCause
 transition_fault h states line = first_of (
     when (is_empty states) Syntax
-    ∷ when (nat_lt 20 (length (target_text line))) Syntax
-    ∷ when (not (first_passes (λ b. b == 58) (behind is_blank (behind is_ascii_digit line)))) Syntax
-    ∷ target_fault states (target_of line)
-    ∷ when (nat_le 262144 (transition_count states)) LimitTransitions
+    ∷ target_text_fault line
+    ∷ room_fault states (target_of line)
     ∷ fault_of (entry_value h.names h.placeholders line)
     ∷ [])
 
 -- a group that has its end
 abbrev pub is_closed : Piece WordKind → Bool
-is_closed w = list_any (λ b. b == 93) w.bytes
+is_closed w = list_any (λ b. b == right_bracket) w.bytes
 
 -- a label, which begins with neither `!` nor `{`
 abbrev pub label_fault : List ℕ → Option DrnCause
 label_fault label = first_of (
-    when (first_passes (λ b. b == 33) label) ExitRate
-    ∷ when (first_passes (λ b. b == 123) label) Observation
+    when (first_passes (λ b. b == exclamation) label) ExitRate
+    ∷ when (first_passes (λ b. b == left_brace) label) Observation
     ∷ [])
 
 -- a word among the labels of a state's line; a group may be the first of them alone
@@ -161,7 +183,7 @@ number_fault before w = elim w.form [
   | Ok _ ↦ first_of (
       when (not (is_digits w.bytes)) Syntax
       ∷ when (not (digits_value 10 w.bytes == before)) StateOrder
-      ∷ when (nat_le 65536 before) LimitStates
+      ∷ when (nat_le most_states before) LimitStates
       ∷ [])
 ]
 
@@ -175,16 +197,16 @@ abbrev pub choiceless : List StateText → Option DrnError
 choiceless states = option_and_then (λ s. if is_empty s.choices then Some (record { line = s.line; cause = NoChoice }) else None) (last states)
 
 -- nothing more stands on the line
-abbrev pub end_fault : List (Piece WordKind) → Option DrnCause
-end_fault [] = None
-end_fault (w ∷ ws) = elim w.form [ Err fault ↦ Some (lexed fault) | Ok _ ↦ Some Syntax ]
+abbrev pub more_fault : List (Piece WordKind) → Option DrnCause
+more_fault [] = None
+more_fault (w ∷ ws) = elim w.form [ Err fault ↦ Some (lexed fault) | Ok _ ↦ Some Syntax ]
 
 -- an optional group
 abbrev pub group_fault : List (Piece WordKind) → Option DrnCause
 group_fault [] = None
 group_fault (w ∷ ws) = elim w.form [
   | Err fault ↦ Some (lexed fault)
-  | Ok word.Group ↦ if is_closed w then end_fault ws else Some Syntax
+  | Ok word.Group ↦ if is_closed w then more_fault ws else Some Syntax
   | Ok _ ↦ Some Syntax
 ]
 
@@ -197,41 +219,45 @@ name_and_group_fault (w ∷ ws) = elim w.form [
   | Ok _ ↦ group_fault ws
 ]
 
--- an action's line: a chain's state has one choice
-abbrev pub action_fault : Header → List StateText → List (Piece WordKind) → Option DrnCause
-action_fault h states ws = first_of (
+-- a state of a chain has one choice, and so has one of a model without type
+abbrev pub is_chain : Option Kind → Bool
+is_chain (Some Mdp) = false
+is_chain _ = true
+
+-- one more choice
+abbrev pub choice_fault : Option Kind → List StateText → Option DrnCause
+choice_fault kind states = first_of (
     when (is_empty states) Syntax
-    ∷ when (is_chain h.kind && is_some (open_choice states)) ExtraChoice
-    ∷ when (nat_le 131072 (choice_count states)) LimitChoices
-    ∷ name_and_group_fault ws
+    ∷ when (is_chain kind && is_some (open_choice states)) ExtraChoice
+    ∷ when (nat_le most_choices (choice_count states)) LimitChoices
     ∷ [])
-  where
-    is_chain : Option Kind → Bool
-    is_chain (Some Mdp) = false
-    is_chain _ = true
+
+-- an action's line
+abbrev pub action_fault : Header → List StateText → List (Piece WordKind) → Option DrnCause
+action_fault h states ws = first_of (choice_fault h.kind states ∷ name_and_group_fault ws ∷ [])
 
 -- a line of the model by its words, where it is no transition
 abbrev pub words_fault : Header → List StateText → TextLine → List (Piece WordKind) → Option DrnError
-words_fault h states line [] = at line (Some Syntax)
+words_fault h states line [] = told line.number (Some Syntax)
 words_fault h states line (w ∷ ws) = elim w.form [
-  | Err fault ↦ at line (Some (lexed fault))
+  | Err fault ↦ told line.number (Some (lexed fault))
   | Ok _ ↦
-      if bytes_eq w.bytes (codes "state") then first_of (choiceless states ∷ at line (state_fault (length states) ws) ∷ [])
-      else (if bytes_eq w.bytes (codes "action") then at line (action_fault h states ws)
-      else at line (Some Syntax))
+      if bytes_eq w.bytes (codes "state") then first_of (choiceless states ∷ told line.number (state_fault (length states) ws) ∷ [])
+      else (if bytes_eq w.bytes (codes "action") then told line.number (action_fault h states ws)
+      else told line.number (Some Syntax))
 ]
 
 -- the first fault of a line of the model
 abbrev pub model_fault : Header → List StateText → TextLine → Option DrnError
 model_fault h states line =
-    if is_head line then at line (Some UnknownSection)
+    if is_head line then told line.number (Some UnknownSection)
     else (if is_blank_line line then None
-    else (if is_transition (content line) then at line (transition_fault h states (content line))
+    else (if is_transition (content line) then told line.number (transition_fault h states (content line))
     else words_fault h states line (words (content line))))
 
 -- the first fault of a line that is no comment, by what the lines before it say
 abbrev pub line_fault : Said → TextLine → Option DrnError
 line_fault said line = elim said.header.phase [
   | phase.Model ↦ model_fault said.header said.states line
-  | _ ↦ at line (header_fault said.header line)
+  | _ ↦ told line.number (header_fault said.header line)
 ]

@@ -6,5 +6,6 @@ pub mod States
 pub mod Judging
 pub mod Reading
 pub mod Keeping
+pub mod Laws
 pub mod Shown
 pub mod ModelSteps

@@ -1,17 +1,18 @@
 -- What a model text stands for: a model, or a refusal with its line and cause. Each line is judged by what the lines before it say, and after the last line the whole text is judged.
-use Rattle.std.specs.Prelude.{if◌then◌else◌, ◌≡◌, ◌≢◌, ℕ, pos, Bool, true, false, not, nat_le, List, [], ◌∷◌, ◌++◌, ◌==◌, ◌||◌, ◌*◌, ◌/◌, ◌^◌, length, map, find, fold, count_by, is_some, unsigned_abs, Option, Some, None, Result, Ok, Err}
+use Rattle.std.specs.Prelude.{if◌then◌else◌, ◌≡◌, ◌≢◌, ℕ, pos, Bool, true, false, not, nat_le, List, [], ◌∷◌, ◌++◌, ◌==◌, ◌||◌, ◌/◌, length, map, find, fold, count_by, is_some, unsigned_abs, Option, Some, None, Result, Ok, Err}
 use Rattle.std.specs.List.{list_any, flat_map, position_or_len}
 use Rattle.std.specs.Option.{option_map}
-use Rattle.lift_frac.specs.Gcd.{gcd}
+use Rattle.lift_frac.specs.Gcd.{lcm}
 use Rattle.lift_poly.specs.Polynomial.{Term}
 use Rattle.lift_poly.specs.Arithmetic as poly
 use Rattle.lift_model.specs.declared.kind.Kind.{Kind}
 use Rattle.lift_model.specs.declared.kind.Kind.TheVariants.{Dtmc}
 use Rattle.lift_model.specs.Model.{ModelData}
+use Rattle.lift_model.specs.Valid.{common_limit, coefficient_limit}
 use Rattle.lift_model.specs.declared.entry.Entry.{Entry}
 use Rattle.drn_lexer.specs.Lines.{TextLine, lines, own_fault, is_comment}
 use Rattle.drn_expr.specs.RatPolys.{OverOne}
-use Rattle.drn_read.specs.Faults.{when, first_of, lexed, at}
+use Rattle.drn_read.specs.Faults.{when, first_of, lexed, told}
 use Rattle.drn_read.specs.Parts.{last}
 use Rattle.drn_read.specs.Sections.{Header, sections, header}
 use Rattle.drn_read.specs.States.{StateText, states}
@@ -30,7 +31,7 @@ said label lines = record { header = header (sections lines); states = states la
 -- The first fault of a line behind these others: of the line by itself, or by what they say. Nothing more is asked of a comment line.
 unfoldable pub judge : List ℕ → List TextLine → TextLine → Option DrnError
 judge label before line = elim (own_fault line) [
-  | Some fault ↦ at line (Some (lexed fault))
+  | Some fault ↦ told line.number (Some (lexed fault))
   | None ↦ elim (is_comment line) [
     | true ↦ None
     | false ↦ line_fault (said label before) line
@@ -51,10 +52,6 @@ first_fault label before (line ∷ lines) = elim (judge label before line) [
 abbrev pub all_transitions : List StateText → List Transition
 all_transitions states = flat_map (λ s. flat_map (λ choice. choice) s.choices) states
 
--- the least common multiple of two numbers
-abbrev pub lcm : ℕ → ℕ → ℕ
-lcm a b = a / gcd a b * b
-
 -- the common denominator: the least common multiple of the denominators of all values
 abbrev pub common : List StateText → ℕ
 common states = fold (λ c t. lcm c t.value.den) 1 (all_transitions states)
@@ -63,37 +60,36 @@ common states = fold (λ c t. lcm c t.value.den) 1 (all_transitions states)
 abbrev pub scaled : ℕ → OverOne → List Term
 scaled c value = poly.scaled (pos (c / value.den)) value.terms
 
--- a coefficient over the common denominator has size 2^100 or more
+-- a coefficient over the common denominator is too large
 abbrev pub is_large : ℕ → Transition → Bool
-is_large c t = list_any (λ term. nat_le (2 ^ 100) (unsigned_abs term.1)) (scaled c t.value)
+is_large c t = list_any (λ term. nat_le coefficient_limit (unsigned_abs term.1)) (scaled c t.value)
 
 -- a number that was announced isn't this one
 abbrev pub differs : Option ℕ → ℕ → Bool
-differs None number = false
-differs (Some announced) number = not (announced == number)
+differs announced number = elim announced [ Some n ↦ not (n == number) | None ↦ false ]
 
 -- the first number that was announced and isn't the one that was read: that of states, and then that of choices
 abbrev pub mismatch : Header → ℕ → ℕ → Option Section
 mismatch h states choices = if differs h.state_count states then Some NrStates else (if differs h.choice_count choices then Some NrChoices else None)
 
+-- a common denominator or a coefficient over it that is too large
+abbrev pub common_fault : List StateText → Option DrnCause
+common_fault states = when (nat_le common_limit (common states) || list_any (is_large (common states)) (all_transitions states)) CommonDenominator
+
 -- The tests at the end of the text, whose last line has this number. A state without choice and a target that is no state are told by their own lines.
 unfoldable pub end_fault : ℕ → Said → Option DrnError
 end_fault number said =
     let count = length said.states in
-    let c = common said.states in
     first_of (
-    at_end number (when (not (has Model said.header)) MissingSection)
+    told number (when (not (has Model said.header)) MissingSection)
     ∷ choiceless said.states
-    ∷ at_end number (when (count == 0) NoState)
-    ∷ at_end number (when (is_some (mismatch said.header count (choice_count said.states))) CountMismatch)
+    ∷ told number (when (count == 0) NoState)
+    ∷ told number (when (is_some (mismatch said.header count (choice_count said.states))) CountMismatch)
     ∷ option_map (λ t. record { line = t.line; cause = TargetRange }) (find (λ t. nat_le count t.target) (all_transitions said.states))
-    ∷ at_end number (when (not (count_by (λ s. s.init) said.states == 1)) InitCount)
-    ∷ at_end number (when (not (list_any (λ s. s.goal) said.states)) UnknownLabel)
-    ∷ at_end number (when (nat_le (2 ^ 62) c || list_any (is_large c) (all_transitions said.states)) CommonDenominator)
+    ∷ told number (when (not (count_by (λ s. s.init) said.states == 1)) InitCount)
+    ∷ told number (when (not (list_any (λ s. s.goal) said.states)) UnknownLabel)
+    ∷ told number (common_fault said.states)
     ∷ [])
-  where
-    at_end : ℕ → Option DrnCause → Option DrnError
-    at_end number cause = option_map (λ c. record { line = number; cause = c }) cause
 
 -- a transition as an entry of a row, over the common denominator
 abbrev pub entry : ℕ → Transition → Entry

@@ -1,19 +1,19 @@
 -- The sections of a model text, by this project's profile of the DRN format: what they declare, and what may stand in them.
-use Rattle.std.specs.Prelude.{ℕ, Bool, false, not, nat_eq, List, [], ◌∷◌, ◌++◌, ◌==◌, take_while, drop, map, filter, codes, Option, Some, None, Result, Ok, Err, if◌then◌else◌}
+use Rattle.std.specs.Prelude.{ℕ, Bool, false, not, nat_eq, List, [], ◌∷◌, ◌++◌, ◌==◌, take_while, drop, length, map, filter, codes, Option, Some, None, Result, Ok, Err, if◌then◌else◌}
 use Rattle.std.specs.List.{list_all, flat_map, starts_with}
 use Rattle.std.specs.Option.{option_map}
 use Rattle.std.specs.Str.{bytes_eq}
 use Rattle.std.specs.Str.Parse.{digits_value}
 use Rattle.lift_model.specs.declared.kind.Kind.{Kind}
 use Rattle.lift_model.specs.declared.kind.Kind.TheVariants.{Dtmc, Mdp}
-use Rattle.drn_lexer.specs.Bytes.{is_name_byte, first_passes}
-use Rattle.drn_lexer.specs.Lines.{TextLine, content, is_comment, is_blank_line, trimmed_front, trimmed_end}
+use Rattle.lift_bytes.specs.Bytes.{is_name_byte, first_passes, behind}
+use Rattle.lift_bytes.specs.Trimming.{trimmed}
+use Rattle.drn_lexer.specs.Lines.{TextLine, content, is_comment, is_blank_line}
 use Rattle.drn_lexer.specs.Words.{words}
 use Rattle.drn_expr.specs.RatPolys.{OverOne}
 use Rattle.drn_read.specs.Parts.{Part, parts, last}
-use Rattle.drn_read.specs.Text.{behind, value_behind}
+use Rattle.drn_read.specs.Text.{at_sign, value_behind}
 use Rattle.drn_read.specs.declared.error.DrnCause.{DrnCause}
-use Rattle.drn_read.specs.declared.error.DrnCause.TheVariants.{Syntax}
 use Rattle.drn_read.specs.declared.section.Phase.{Phase}
 use Rattle.drn_read.specs.declared.section.Phase.TheVariants as phase
 use Rattle.drn_read.specs.declared.section.Section.{Section}
@@ -48,7 +48,7 @@ is_same a b = section_number a == section_number b
 
 -- a line that begins with `@`
 abbrev pub is_head : TextLine → Bool
-is_head line = first_passes (λ b. b == 64) (content line)
+is_head line = first_passes (λ b. b == at_sign) (content line)
 
 -- The sections of a text are the sublists of its lines that begin at lines with `@`. Comment lines belong to none.
 abbrev pub sections : List TextLine → List (Part TextLine)
@@ -66,7 +66,7 @@ is_section s part = elim (section_at part) [ Some t ↦ is_same s t | None ↦ f
 abbrev pub said_in : Section → Part TextLine → List TextLine
 said_in s part = if is_section s part then filter (λ line. not (is_blank_line line)) part.body else []
 
--- ---- what may stand next
+-- ---- what may stand next. A phase says what the section that stands open lets stand on its next line; the reader keeps it by the same enum.
 
 -- Behind these lines of a section. The list of parameters and that of reward models is one line, which may be blank. A number stands on the first line that isn't blank. Placeholders go on up to the next section, and the model up to the end.
 abbrev pub phase_in : Section → List TextLine → Phase
@@ -90,7 +90,7 @@ phase_behind parts = elim (last parts) [ Some part ↦ phase_of part | None ↦ 
 
 -- the text behind `@type:`, without blanks around it
 abbrev pub type_text : List ℕ → List ℕ
-type_text line = trimmed_end (trimmed_front (drop 6 line))
+type_text line = trimmed (drop (length (codes "@type:")) line)
 
 -- `DTMC` is a Markov chain and `MDP` a decision process
 abbrev pub kind_of : List ℕ → Option Kind
@@ -123,16 +123,16 @@ pub record Placeholder : Type 0 where
   pub value : OverOne
 
 -- the name in a line `$name : value`: letters, digits and `_`
-abbrev pub place_name : List ℕ → List ℕ
-place_name line = take_while is_name_byte (drop 1 line)
+abbrev pub placeholder_name : List ℕ → List ℕ
+placeholder_name line = take_while is_name_byte (drop 1 line)
 
 -- the value in that line, over these names
-abbrev pub place_value : List (List ℕ) → List ℕ → Result OverOne DrnCause
-place_value names line = value_behind names (behind is_name_byte (drop 1 line))
+abbrev pub placeholder_value : List (List ℕ) → List ℕ → Result OverOne DrnCause
+placeholder_value names line = value_behind names (behind is_name_byte (drop 1 line))
 
 -- the placeholder that a line defines
 abbrev pub placeholder : List (List ℕ) → List ℕ → List Placeholder
-placeholder names line = elim (place_value names line) [ Ok value ↦ record { name = place_name line; value = value } ∷ [] | Err cause ↦ [] ]
+placeholder names line = elim (placeholder_value names line) [ Ok value ↦ record { name = placeholder_name line; value = value } ∷ [] | Err cause ↦ [] ]
 
 -- what each section gives, seen with the sections before it
 abbrev pub gather : {A : Type 0} → (List (Part TextLine) → Part TextLine → List A) → List (Part TextLine) → List (Part TextLine) → List A

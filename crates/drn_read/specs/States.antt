@@ -1,10 +1,10 @@
 -- The model in a model text: states, choices and transitions, by this project's profile of the DRN format.
-use Rattle.std.specs.Prelude.{ℕ, Bool, false, List, [], ◌∷◌, take_while, drop, map, find, codes, Some, None, Result, Ok, Err, if◌then◌else◌}
+use Rattle.std.specs.Prelude.{ℕ, Bool, false, List, [], ◌∷◌, take_while, drop, map, find, codes, Option, Some, None, Result, Ok, Err, if◌then◌else◌}
 use Rattle.std.specs.List.{list_any, flat_map}
 use Rattle.std.specs.Char.{is_ascii_digit}
 use Rattle.std.specs.Str.{bytes_eq}
 use Rattle.std.specs.Str.Parse.{digits_value}
-use Rattle.drn_lexer.specs.Bytes.{first_passes}
+use Rattle.lift_bytes.specs.Bytes.{first_passes, behind}
 use Rattle.drn_lexer.specs.Cutting.{Piece}
 use Rattle.drn_lexer.specs.Lines.{TextLine, content}
 use Rattle.drn_lexer.specs.Words.{WordKind, words, unquoted}
@@ -14,7 +14,7 @@ use Rattle.drn_lexer.specs.declared.symbol.SymbolForm.{SymbolForm}
 use Rattle.drn_lexer.specs.declared.symbol.SymbolForm.TheVariants as symbol
 use Rattle.drn_expr.specs.RatPolys.{OverOne}
 use Rattle.drn_read.specs.Parts.{Part, parts, is_empty}
-use Rattle.drn_read.specs.Text.{behind, behind_colon, value_of}
+use Rattle.drn_read.specs.Text.{behind_colon, value_of}
 use Rattle.drn_read.specs.Sections.{Placeholder, names, placeholders, said_in, gather}
 use Rattle.drn_read.specs.declared.error.DrnCause.{DrnCause}
 use Rattle.drn_read.specs.declared.error.DrnCause.TheVariants.{Syntax, UnknownPlace}
@@ -35,22 +35,22 @@ target_text line = take_while is_ascii_digit line
 abbrev pub target_of : List ℕ → ℕ
 target_of line = digits_value 10 (target_text line)
 
+-- the name where these symbols are one `$name` and nothing else
+abbrev pub lone_name : List (Piece SymbolForm) → Option (List ℕ)
+lone_name (only ∷ []) = elim only.form [ symbol.Dollar ↦ Some (drop 1 only.bytes) | _ ↦ None ]
+lone_name _ = None
+
 -- the value of a placeholder by its name
-abbrev pub place_of : List Placeholder → List ℕ → Result OverOne DrnCause
-place_of places name = elim (find (λ place. bytes_eq name place.name) places) [ Some place ↦ Ok place.value | None ↦ Err UnknownPlace ]
+abbrev pub value_of_placeholder : List Placeholder → List ℕ → Result OverOne DrnCause
+value_of_placeholder defined name = elim (find (λ p. bytes_eq name p.name) defined) [ Some p ↦ Ok p.value | None ↦ Err UnknownPlace ]
 
--- a text whose symbols are one `$name` and nothing else is the value of that placeholder, and any other is a value by itself
-abbrev pub named_value : List (List ℕ) → List Placeholder → List ℕ → List (Piece SymbolForm) → Result OverOne DrnCause
-named_value names places text (only ∷ []) = elim only.form [ symbol.Dollar ↦ place_of places (drop 1 only.bytes) | _ ↦ value_of names text ]
-named_value names places text _ = value_of names text
+-- a text that is one `$name` and nothing else is the value of that placeholder, and any other is a value by itself
+abbrev pub named_value : List (List ℕ) → List Placeholder → List ℕ → Result OverOne DrnCause
+named_value names defined text = elim (lone_name (symbols text)) [ Some name ↦ value_of_placeholder defined name | None ↦ value_of names text ]
 
--- the value behind a colon, which may be a placeholder
-abbrev pub named_behind : List (List ℕ) → List Placeholder → List ℕ → Result OverOne DrnCause
-named_behind names places text = elim (behind_colon text) [ Some value ↦ named_value names places value (symbols value) | None ↦ Err Syntax ]
-
--- the value of a transition's line
+-- the value of a transition's line, which stands behind a colon
 abbrev pub entry_value : List (List ℕ) → List Placeholder → List ℕ → Result OverOne DrnCause
-entry_value names places line = named_behind names places (behind is_ascii_digit line)
+entry_value names defined line = elim (behind_colon (behind is_ascii_digit line)) [ Some value ↦ named_value names defined value | None ↦ Err Syntax ]
 
 -- ---- the lines of a model, cut into states and choices
 
@@ -61,7 +61,7 @@ pub record ModelLine : Type 0 where
 
 -- the line, with the value that it has over these names and placeholders
 abbrev pub model_line : List (List ℕ) → List Placeholder → TextLine → ModelLine
-model_line names places line = record { line = line; value = entry_value names places (content line) }
+model_line names defined line = record { line = line; value = entry_value names defined (content line) }
 
 -- the lines of the model, read with what was declared before it
 abbrev pub model_lines : List (Part TextLine) → List ModelLine

@@ -1,18 +1,26 @@
 -- Pieces of a line, by this project's profile of the DRN format.
 use Rattle.std.specs.Prelude.{ℕ, Bool, List, ◌==◌, ◌&&◌, not, nat_lt, length, drop, count_ones, Option, Some, None, Result, Ok, Err, if◌then◌else◌}
-use Rattle.std.specs.List.{prefix_len, list_all}
+use Rattle.std.specs.List.{list_all}
 use Rattle.std.specs.Char.{is_ascii_digit}
 use Rattle.lift_poly.specs.Arithmetic.{support}
-use Rattle.drn_lexer.specs.Bytes.{is_blank, begins_name, is_name_byte, first_passes}
+use Rattle.lift_bytes.specs.Bytes.{colon, is_blank, begins_name, is_name_byte, first_passes, behind}
 use Rattle.drn_expr.specs.Values.{reading}
 use Rattle.drn_expr.specs.RatPolys.{OverOne}
 use Rattle.drn_read.specs.Faults.{valued}
 use Rattle.drn_read.specs.declared.error.DrnCause.{DrnCause}
 use Rattle.drn_read.specs.declared.error.DrnCause.TheVariants.{Syntax, LimitValueParameters}
 
--- the bytes behind those at the front that pass
-abbrev pub behind : (ℕ → Bool) → List ℕ → List ℕ
-behind p text = drop (prefix_len p text) text
+-- a number and a target have at most twenty digits
+abbrev pub most_digits : ℕ
+most_digits = 20
+
+-- a value holds at most four parameters
+abbrev pub most_value_parameters : ℕ
+most_value_parameters = 4
+
+-- `@`, with which a section begins
+abbrev pub at_sign : ℕ
+at_sign = 64
 
 -- one or more digits
 abbrev pub is_digits : List ℕ → Bool
@@ -24,11 +32,11 @@ is_name word = first_passes begins_name word && list_all is_name_byte word
 
 -- what stands behind a colon, around which blanks are free; none without a colon
 abbrev pub behind_colon : List ℕ → Option (List ℕ)
-behind_colon text = if first_passes (λ b. b == 58) (behind is_blank text) then Some (drop 1 (behind is_blank text)) else None
+behind_colon text = if first_passes (λ b. b == colon) (behind is_blank text) then Some (drop 1 (behind is_blank text)) else None
 
--- a value holds at most four parameters
+-- a value that holds no more parameters than it may
 abbrev pub with_few_parameters : OverOne → Result OverOne DrnCause
-with_few_parameters p = if nat_lt 4 (count_ones (support p.terms)) then Err LimitValueParameters else Ok p
+with_few_parameters p = if nat_lt most_value_parameters (count_ones (support p.terms)) then Err LimitValueParameters else Ok p
 
 -- the value of a text over these names, or what is wrong with it
 abbrev pub value_of : List (List ℕ) → List ℕ → Result OverOne DrnCause

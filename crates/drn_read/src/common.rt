@@ -1,24 +1,26 @@
 // The common denominator of all values.
 ghost use Rattle.std.specs.Prelude.{◌≡◌, ◌^◌, fold, map};
 ghost use Rattle.lift_frac.specs.Parts.{capped};
-ghost use Rattle.drn_read.specs.Reading.{lcm, common};
+ghost use Rattle.lift_model.specs.Valid.{common_limit};
+ghost use Rattle.lift_frac.specs.Gcd.{lcm};
+ghost use Rattle.drn_read.specs.Reading.{common};
 ghost use Rattle.drn_read.specs.Shown.{with_den, Becomes};
 
 use crate::state::{State, Transition};
 use drn_expr::RatPoly;
-use lift_frac::gcd;
+use lift_frac::{divisors_and_multiples, lcm};
 
 /// The common denominator is below this.
-const LIMIT: u128 = 1 << 62;
+const COMMON_LIMIT: u128 = 1 << 62;
 
 /// The least common multiple with a value's denominator. A multiple never falls, so none stays none.
 fn joined(common: Option<u64>, value: &RatPoly) -> Option<u64>
     ensures { Becomes common result (λ c. lcm c value.now.den) }
 {
-    let den = value.den() as u128;
-    let common = u128::from(common?);
-    let least = common / gcd(common, den) * den;
-    if least < LIMIT {
+    divisors_and_multiples();
+    let den = value.den() as u64;
+    let least = lcm(common?, den);
+    if least < COMMON_LIMIT {
         Some(least as u64)
     } else {
         None
@@ -49,7 +51,7 @@ fn joined_state(common: Option<u64>, choices: &[Vec<Transition>]) -> Option<u64>
 
 /// The least common multiple of the denominators of all values; none from 2^62 on.
 pub(crate) fn common_denominator(states: &[State]) -> Option<u64>
-    ensures { result ≡ capped (2 ^ 62) (common states.now) }
+    ensures { result ≡ capped common_limit (common states.now) }
 {
     let mut least = Some(1);
     for state in states {

@@ -4,9 +4,14 @@ ghost use Rattle.std.specs.List.{list_all};
 ghost use Rattle.std.specs.Char.{is_ascii_digit};
 ghost use Rattle.std.specs.Str.Parse.{digits_value};
 ghost use Rattle.lift_frac.specs.Parts.{capped};
-ghost use Rattle.drn_read.specs.Text.{is_digits};
+ghost use Rattle.drn_read.specs.Text.{most_digits, is_digits};
 
-/// The least number that twenty digits don't write.
+use lift_frac::number_below;
+
+/// How many digits a number and a target may have.
+pub(crate) const MOST_DIGITS: usize = 20;
+
+/// The least number that so many digits don't write.
 const BEYOND_TWENTY: u128 = 100_000_000_000_000_000_000;
 
 fn are_digits(word: &[u8]) -> bool
@@ -25,14 +30,7 @@ pub(crate) fn is_digits(word: &[u8]) -> bool
 /// The number that digits write, leading zeros included; none from 10^20 on. Linear.
 pub(crate) fn number_of(digits: &[u8]) -> Option<u128>
     requires { list_all is_ascii_digit digits.now ≡ true }
-    ensures { result ≡ capped (10 ^ 20) (digits_value 10 digits.now) }
+    ensures { result ≡ capped (10 ^ most_digits) (digits_value 10 digits.now) }
 {
-    let mut number = 0;
-    for digit in digits {
-        number = number * 10 + u128::from(*digit - b'0');
-        if number >= BEYOND_TWENTY {
-            return None;
-        }
-    }
-    Some(number)
+    number_below(digits, BEYOND_TWENTY)
 }

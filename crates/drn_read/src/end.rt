@@ -2,11 +2,11 @@
 ghost use Rattle.std.specs.Prelude.{◌≡◌, ◌==◌, ◌<◌, ◌≤◌, ◌∷◌, [], pos, not, nat_le, length, map, find, count_by, is_some, position, All, Some, None, IfOk, OnOk, ◌^◌};
 ghost use Rattle.std.specs.List.{list_any, position_or_len};
 ghost use Rattle.std.specs.Option.{option_map};
-ghost use Rattle.lift_model.specs.Valid.{IsModel};
-ghost use Rattle.drn_read.specs.Faults.{when, first_of};
+ghost use Rattle.lift_model.specs.Valid.{most_states, common_limit, IsModel};
+ghost use Rattle.drn_read.specs.Faults.{when, first_of, told};
 ghost use Rattle.drn_read.specs.Judging.{has, choice_count, choiceless};
-ghost use Rattle.drn_read.specs.Reading.{differs, mismatch, kind_or_chain, all_transitions, common, entry, end_fault, model};
-ghost use Rattle.drn_read.specs.Shown.{Tells, Told, refusal, told, outside, first_in, TargetsBelow, common_fault};
+ghost use Rattle.drn_read.specs.Reading.{differs, mismatch, kind_or_chain, all_transitions, common, entry, common_fault, end_fault, model};
+ghost use Rattle.drn_read.specs.Shown.{Tells, TellsLine, refusal, outside, first_in, TargetsBelow};
 
 use crate::common::common_denominator;
 use crate::error::{DrnCause, DrnError};
@@ -206,7 +206,7 @@ fn init_place(states: &[State]) -> Option<usize>
 
 /// The first state that carries `init`, the number of states where none does.
 fn first_init(states: &[State]) -> u32
-    requires { length states.now ≤ 65536 }
+    requires { length states.now ≤ most_states }
     ensures { result ≡ position_or_len (λ s. s.init) states.now }
 {
     init_place(states).unwrap_or(states.len()) as u32
@@ -237,10 +237,10 @@ struct Parts {
 /// The parts of the model. `CommonDenominator` exactly where the common denominator is 2^62 or more,
 /// or a coefficient over it has a size of 2^100 or more.
 fn parts_of(alloc: Global, states: &[State]) -> Result<Parts, DrnCause>
-    requires { All (λ s. All (TargetsBelow 65536) s.choices) states.now }
+    requires { All (λ s. All (TargetsBelow most_states) s.choices) states.now }
     ensures fault { Tells result (common_fault states.now) }
     ensures common { IfOk result (λ parts. parts.common ≡ common states.now) }
-    ensures small { IfOk result (λ parts. parts.common < 2 ^ 62) }
+    ensures small { IfOk result (λ parts. parts.common < common_limit) }
     ensures goal { IfOk result (λ parts. parts.goal.items ≡ map (λ s. s.goal) states.now) }
     ensures rows { IfOk result (λ parts. map (λ v. v.items) parts.rows.items ≡ map (λ s. map (map (entry (common states.now))) s.choices) states.now) }
 {
@@ -262,9 +262,9 @@ pub(crate) fn finish(
     choices: usize,
 ) -> Result<Model, DrnError>
     requires choices { choices ≡ choice_count states.items }
-    requires few { length states.items ≤ 65536 }
+    requires few { length states.items ≤ most_states }
     requires valid { end_fault number (record { header = header; states = states.items }) ≡ None → IsModel (model (record { header = header; states = states.items })) }
-    ensures fault { Told result (end_fault number (record { header = header; states = states.items })) }
+    ensures fault { TellsLine result (end_fault number (record { header = header; states = states.items })) }
     ensures model { IfOk result (λ m. m ≡ model (record { header = header; states = states.items })) }
 {
     test_whole(number, &header, &states, choices)?;

@@ -1,32 +1,27 @@
 // Reads the lines before the model.
-ghost use Rattle.std.specs.Prelude.{◌≡◌, ◌≤◌, ◌==◌, ◌&&◌, ◌||◌, not, [], length, slice_range, IfOk, OnOk, if◌then◌else◌};
+ghost use Rattle.std.specs.Prelude.{◌≡◌, ◌≤◌, [], length, IfOk, OnOk, if◌then◌else◌};
 ghost use Rattle.std.specs.Str.Parse.{digits_value};
-ghost use Rattle.drn_lexer.specs.Bytes.{first_passes};
 ghost use Rattle.drn_lexer.specs.Lines.{TextLine};
-ghost use Rattle.drn_lexer.specs.Spans.{LiesIn};
+ghost use Rattle.lift_model.specs.Valid.{most_parameters};
 ghost use Rattle.drn_read.specs.Faults.{fault_of};
 ghost use Rattle.drn_read.specs.Sections.{header, section_number, is_same, phase_in, kind_of, type_text};
-ghost use Rattle.drn_read.specs.Judging.{has, section_fault, head_fault, names_fault, count_fault, place_fault, header_fault};
+ghost use Rattle.drn_read.specs.Judging.{has, section_fault, head_fault, names_fault, count_fault, placeholder_fault, header_fault};
 ghost use Rattle.drn_read.specs.Keeping.{with_section, with_head, with_names, with_state_count, with_choice_count, with_placeholder, header_with};
-ghost use Rattle.drn_read.specs.Shown.{Tells, Spans};
-ghost use Rattle.drn_lexer.specs.Words.{words};
+ghost use Rattle.drn_read.specs.Shown.{Tells, IsSource, rest, left};
 
-use crate::digits::{is_digits, number_of};
+use crate::cursor::Cursor;
+use crate::digits::{MOST_DIGITS, is_digits, number_of};
 use crate::error::DrnCause;
 use crate::parameters::read_names;
-use crate::place_line::read_place_name;
-use crate::places::Places;
+use crate::placeholder_line::read_placeholder_name;
+use crate::placeholders::Placeholders;
 use crate::section::{Phase, Section, section_of};
+use crate::text::is_head;
 use crate::type_line::kind_in;
 use crate::value::value_behind;
-use crate::word::Words;
-use drn_lexer::Line;
-use lift_names::Names;
 use lift_model::Kind;
+use lift_names::Names;
 use std::alloc::Global;
-
-/// How many digits a number may have.
-const MOST_DIGITS: usize = 20;
 
 /// The place of a section in the order of their table.
 fn section_number(section: Section) -> u8
@@ -65,13 +60,6 @@ fn opened(section: Section) -> Phase
     }
 }
 
-/// Whether a line begins with `@`.
-fn is_head(line: &[u8]) -> bool
-    ensures { result ≡ first_passes (λ b. b == 64) line.now }
-{
-    matches!(line, [b'@', ..])
-}
-
 /// The number that a line announces: 1 to 20 digits.
 fn read_count(line: &[u8]) -> Result<u128, DrnCause>
     ensures fault { fault_of result ≡ count_fault line.now }
@@ -91,20 +79,21 @@ pub(crate) struct HeaderReader {
     seen: Vec<Section>,
     kind: Option<Kind>,
     names: Names,
-    places: Places,
+    placeholders: Placeholders,
     state_count: Option<u128>,
     choice_count: Option<u128>,
 }
 
 impl std::marker::Model for HeaderReader {
     ghost use Rattle.std.specs.Prelude.{◌≤◌, length};
+    ghost use Rattle.lift_model.specs.Valid.{most_parameters};
     ghost use Rattle.drn_read.specs.Sections.{Header};
 
     ghost Value = { Header };
 
-    ghost view = { λ h. record { phase = h.phase; seen = h.seen.items; kind = h.kind; names = h.names; placeholders = h.places; state_count = h.state_count; choice_count = h.choice_count } };
+    ghost view = { λ h. record { phase = h.phase; seen = h.seen.items; kind = h.kind; names = h.names; placeholders = h.placeholders; state_count = h.state_count; choice_count = h.choice_count } };
 
-    ghost invariant = { λ h. length h.names ≤ 16 };
+    ghost invariant = { λ h. length h.names ≤ most_parameters };
 }
 
 impl HeaderReader {
@@ -118,7 +107,7 @@ impl HeaderReader {
             seen: Vec::new(alloc),
             kind: None,
             names: Names::new(alloc),
-            places: Places::new(alloc),
+            placeholders: Placeholders::new(alloc),
             state_count: None,
             choice_count: None,
         }
@@ -141,16 +130,16 @@ impl HeaderReader {
     /// The parameters, at most 16.
     pub fn names(&self) -> &Names
         ensures names { result.now ≡ self.now.names }
-        ensures few { length self.now.names ≤ 16 }
+        ensures few { length self.now.names ≤ most_parameters }
     {
         &self.names
     }
 
     /// The placeholders.
-    pub fn places(&self) -> &Places
+    pub fn placeholders(&self) -> &Placeholders
         ensures { result.now ≡ self.now.placeholders }
     {
-        &self.places
+        &self.placeholders
     }
 
     /// The number of states that was announced.
@@ -230,12 +219,11 @@ impl HeaderReader {
     }
 
     /// Reads the list of parameters.
-    fn read_name_list(&mut self, text: &[u8], line: Line) -> Result<(), DrnCause>
-        requires { LiesIn line text.now }
-        ensures fault { Tells result (names_fault self.old.names (words (slice_range text.now line.from line.to))) }
-        ensures after { OnOk result (self.new ≡ with_names self.old (slice_range text.now line.from line.to)) }
+    fn read_name_list(&mut self, words: Cursor<'_>) -> Result<(), DrnCause>
+        ensures fault { Tells result (names_fault self.old.names (left words.entry)) }
+        ensures after { OnOk result (self.new ≡ with_names self.old (rest words.entry)) }
     {
-        read_names(&mut self.names, Words::from(text, line, line.from))?;
+        read_names(&mut self.names, words)?;
         self.phase = Phase::Sections;
         Ok(())
     }
@@ -268,39 +256,38 @@ impl HeaderReader {
     }
 
     /// Reads a placeholder's line.
-    fn read_placeholder(&mut self, text: &[u8], line: Line) -> Result<(), DrnCause>
-        requires { LiesIn line text.now }
-        ensures fault { Tells result (place_fault self.old (slice_range text.now line.from line.to)) }
-        ensures after { OnOk result (self.new ≡ with_placeholder self.old (slice_range text.now line.from line.to)) }
+    fn read_placeholder(&mut self, line: Cursor<'_>) -> Result<(), DrnCause>
+        ensures fault { Tells result (placeholder_fault self.old (rest line.entry)) }
+        ensures after { OnOk result (self.new ≡ with_placeholder self.old (rest line.entry)) }
     {
-        let name = read_place_name(&self.places, &text[line.from..line.to])?;
-        let at = line.from + 1 + name.len();
-        let value = value_behind(self.alloc, text, line, at, &self.names)?;
-        self.places.push(name, value)?;
+        let name = read_placeholder_name(&self.placeholders, line.rest())?;
+        let value = value_behind(self.alloc, line.forward(1 + name.len()), &self.names)?;
+        self.placeholders.push(name, value)?;
         Ok(())
     }
 
     /// Reads the next line, which stands before the model, and keeps what it says. An error names the
     /// line's first fault, and after it the reader is of no more use. Linear in the line: no earlier
     /// line is gone over again.
-    pub fn read_line(&mut self, text: &[u8], line: Line) -> Result<(), DrnCause>
-        requires { LiesIn line text.now }
-        ensures fault { (source : TextLine) → Spans text.now line source → Tells result (header_fault self.old source) }
-        ensures after { OnOk result ((source : TextLine) → Spans text.now line source → self.new ≡ header_with self.old source) }
+    pub fn read_line(&mut self, line: Cursor<'_>) -> Result<(), DrnCause>
+        ensures fault { (source : TextLine) → IsSource line.entry source
+            → Tells result (header_fault self.old source) }
+        ensures after { OnOk result ((source : TextLine) → IsSource line.entry source
+            → self.new ≡ header_with self.old source) }
     {
-        let content = &text[line.from..line.to];
+        let content = line.rest();
         match self.phase {
             Phase::StateCount | Phase::ChoiceCount if content.is_empty() => Ok(()),
             Phase::StateCount => self.read_state_count(content),
             Phase::ChoiceCount => self.read_choice_count(content),
             _ if is_head(content) => self.read_head(content),
-            Phase::NameList => self.read_name_list(text, line),
+            Phase::NameList => self.read_name_list(line),
             Phase::RewardList => {
                 self.pass_rewards();
                 Ok(())
             }
             _ if content.is_empty() => Ok(()),
-            Phase::Placeholders => self.read_placeholder(text, line),
+            Phase::Placeholders => self.read_placeholder(line),
             Phase::Sections | Phase::Model => Err(DrnCause::Syntax),
         }
     }

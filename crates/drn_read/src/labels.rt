@@ -1,20 +1,21 @@
 // The words of a state's line and of an action's line.
 ghost use Rattle.std.specs.Prelude.{◌≡◌, ◌≤◌, ◌∷◌, true, drop, IfOk};
+ghost use Rattle.lift_model.specs.Valid.{most_states};
 ghost use Rattle.drn_read.specs.Faults.{fault_of};
 ghost use Rattle.drn_read.specs.States.{is_label};
-ghost use Rattle.drn_read.specs.Judging.{is_closed, label_fault, state_word_fault, labels_fault, number_fault, state_fault, end_fault, group_fault, name_and_group_fault};
+ghost use Rattle.drn_read.specs.Judging.{is_closed, label_fault, state_word_fault, labels_fault, number_fault, state_fault, more_fault, group_fault, name_and_group_fault};
 ghost use Rattle.drn_read.specs.Shown.{left, piece, Carries};
 
+use crate::cursor::{Cursor, LineWord};
 use crate::digits::{is_digits, number_of};
 use crate::error::DrnCause;
-use crate::word::{LineWord, Words};
 use drn_lexer::{WordForm, unquoted};
 
 /// How many states a model may have.
 const MOST_STATES: usize = 65_536;
 
 /// Which of the two labels that matter a state carries.
-#[derive(Clone, Copy, Debug)]
+#[derive(Clone, Copy)]
 pub(crate) struct Labels {
     pub init: bool,
     pub goal: bool,
@@ -63,7 +64,7 @@ fn test_state_word(is_first: bool, word: LineWord<'_>) -> Result<(), DrnCause>
 }
 
 /// The labels behind a state's number, and a group before them that is passed over.
-fn read_labels(words: Words<'_>, goal: &[u8]) -> Result<Labels, DrnCause>
+fn read_labels(words: Cursor<'_>, goal: &[u8]) -> Result<Labels, DrnCause>
     ensures fault { fault_of result ≡ labels_fault true (left words.entry) }
     ensures labels { IfOk result (Carries goal.now (left words.entry)) }
 {
@@ -73,7 +74,7 @@ fn read_labels(words: Words<'_>, goal: &[u8]) -> Result<Labels, DrnCause>
         goal: false,
     };
     let mut is_first = true;
-    while let Some(word) = words.next()? {
+    while let Some(word) = words.next_word()? {
         test_state_word(is_first, word)?;
         labels.init |= is_label(word, b"init");
         labels.goal |= is_label(word, goal);
@@ -84,7 +85,7 @@ fn read_labels(words: Words<'_>, goal: &[u8]) -> Result<Labels, DrnCause>
 
 /// Tests a state's number, where so many states stand before it.
 fn test_number(before: usize, word: LineWord<'_>) -> Result<(), DrnCause>
-    requires { before ≤ 65536 }
+    requires { before ≤ most_states }
     ensures { fault_of result ≡ number_fault before (piece word.entry) }
 {
     if !is_digits(word.bytes) {
@@ -101,13 +102,13 @@ fn test_number(before: usize, word: LineWord<'_>) -> Result<(), DrnCause>
 
 /// The words behind `state`: the number of the state, where so many stand before it, a group that is
 /// passed over, and labels.
-pub(crate) fn read_state(before: usize, words: Words<'_>, goal: &[u8]) -> Result<Labels, DrnCause>
-    requires { before ≤ 65536 }
+pub(crate) fn read_state(before: usize, words: Cursor<'_>, goal: &[u8]) -> Result<Labels, DrnCause>
+    requires { before ≤ most_states }
     ensures fault { fault_of result ≡ state_fault before (left words.entry) }
     ensures labels { IfOk result (Carries goal.now (drop 1 (left words.entry))) }
 {
     let mut words = words;
-    let Some(number) = words.next()? else {
+    let Some(number) = words.next_word()? else {
         return Err(DrnCause::Syntax);
     };
     test_number(before, number)?;
@@ -115,44 +116,44 @@ pub(crate) fn read_state(before: usize, words: Words<'_>, goal: &[u8]) -> Result
 }
 
 /// Nothing more may stand on the line.
-fn end(words: Words<'_>) -> Result<(), DrnCause>
-    ensures { fault_of result ≡ end_fault (left words.entry) }
+fn no_more(words: Cursor<'_>) -> Result<(), DrnCause>
+    ensures { fault_of result ≡ more_fault (left words.entry) }
 {
     let mut words = words;
-    match words.next()? {
+    match words.next_word()? {
         Some(_) => Err(DrnCause::Syntax),
         None => Ok(()),
     }
 }
 
 /// A group, and nothing behind it.
-fn group(word: LineWord<'_>, behind: Words<'_>) -> Result<(), DrnCause>
+fn group(word: LineWord<'_>, behind: Cursor<'_>) -> Result<(), DrnCause>
     ensures { fault_of result ≡ group_fault (piece word.entry ∷ left behind.entry) }
 {
     if word.form == WordForm::Group && is_closed(word) {
-        end(behind)
+        no_more(behind)
     } else {
         Err(DrnCause::Syntax)
     }
 }
 
 /// A group if there is one, and nothing behind it.
-fn optional_group(words: Words<'_>) -> Result<(), DrnCause>
+fn optional_group(words: Cursor<'_>) -> Result<(), DrnCause>
     ensures { fault_of result ≡ group_fault (left words.entry) }
 {
     let mut words = words;
-    match words.next()? {
+    match words.next_word()? {
         Some(word) => group(word, words),
         None => Ok(()),
     }
 }
 
 /// The words behind `action`: a name if there is one, and then a group if there is one.
-pub(crate) fn read_action(words: Words<'_>) -> Result<(), DrnCause>
+pub(crate) fn read_action(words: Cursor<'_>) -> Result<(), DrnCause>
     ensures { fault_of result ≡ name_and_group_fault (left words.entry) }
 {
     let mut words = words;
-    match words.next()? {
+    match words.next_word()? {
         Some(word) if word.form == WordForm::Group => group(word, words),
         Some(_) => optional_group(words),
         None => Ok(()),

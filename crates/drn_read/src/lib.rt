@@ -5,35 +5,37 @@
 ghost use Rattle.std.specs.Prelude.{◌≡◌, ◌+◌, ◌<◌, ◌≤◌, ◌^◌, [], length};
 ghost use Rattle.drn_lexer.specs.Lines.{lines_at, behind_comments, place_after};
 ghost use Rattle.drn_read.specs.Reading.{said, drn, IsAnswer};
-ghost use Rattle.drn_read.specs.Shown.{IsNext, Reads};
+ghost use Rattle.drn_read.specs.Shown.{IsNext, ReadsLines};
 
+mod advance;
 mod common;
+mod cursor;
 mod digits;
 mod end;
 mod entry;
 mod error;
 mod extend;
+mod front;
 mod header;
 mod labels;
+mod laws;
 mod model_lines;
 mod parameters;
-mod place_line;
-mod places;
+mod placeholder_line;
+mod placeholders;
 mod reader;
 mod rows;
 mod section;
 mod state;
-#[cfg(test)]
-mod tests;
 mod text;
 mod type_line;
 mod value;
-mod word;
-mod words;
 
+use cursor::Cursor;
 use drn_lexer::{Line, Place, next_line};
 use end::finish;
 pub use error::{DrnCause, DrnError};
+pub use laws::texts_are_valid;
 use lift_model::Model;
 use reader::Reader;
 use std::alloc::Global;
@@ -61,11 +63,11 @@ fn next(text: &[u8], place: &mut Place) -> Result<Option<Line>, DrnError>
 fn read_lines(reader: &mut Reader, text: &[u8], label: &[u8]) -> Result<u32, DrnError>
     requires short { length text.now < 2 ^ 31 }
     requires start { reader.old ≡ said label.now [] }
-    ensures { Reads label.now text.now result reader.new }
+    ensures { ReadsLines label.now text.now result reader.new }
 {
     let mut place = Place::start();
     while let Some(line) = next(text, &mut place)? {
-        reader.read_line(label, text, line)?;
+        reader.read_line(label, Cursor::begin(text, line))?;
     }
     Ok(place.number - 1)
 }
@@ -83,6 +85,7 @@ pub fn read_model(alloc: Global, text: &[u8], label: &[u8]) -> Result<Model, Drn
 {
     let mut reader = Reader::new(alloc);
     let number = read_lines(&mut reader, text, label)?;
+    texts_are_valid();
     let Reader { header, model } = reader;
     let choices = model.choices();
     finish(alloc, number, header, model.into_states(), choices)

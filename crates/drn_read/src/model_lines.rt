@@ -1,24 +1,23 @@
 // Reads the lines of the model.
 ghost use Rattle.std.specs.Prelude.{◌≤◌, ◌≡◌, ◌==◌, ◌<◌, ◌++◌, ◌∷◌, [], None, drop, false, is_some, length, slice_range, OnOk, OnErr};
 ghost use Rattle.std.specs.Option.{option_copied};
-ghost use Rattle.drn_lexer.specs.Bytes.{first_passes};
 ghost use Rattle.drn_lexer.specs.Lines.{TextLine};
-ghost use Rattle.drn_lexer.specs.Spans.{LiesIn};
-ghost use Rattle.drn_read.specs.Faults.{first_of, fault_of, at};
+ghost use Rattle.lift_model.specs.Valid.{most_states, most_choices};
+ghost use Rattle.drn_read.specs.Faults.{first_of, fault_of, told};
 ghost use Rattle.drn_read.specs.Parts.{last, is_empty};
 ghost use Rattle.drn_read.specs.States.{is_transition, target_of, entry_value};
-ghost use Rattle.drn_read.specs.Judging.{model_fault, words_fault, transition_fault, target_fault, action_fault, state_fault, choiceless, open_choice, choice_count};
+ghost use Rattle.drn_read.specs.Judging.{model_fault, words_fault, transition_fault, target_fault, action_fault, state_fault, choiceless, open_choice, choice_count, is_chain, choice_fault, room_fault};
 ghost use Rattle.drn_read.specs.Keeping.{states_with, on_last, with_choice, with_transitions};
-ghost use Rattle.drn_read.specs.Shown.{Tells, Told, Spans, left, piece};
-ghost use Rattle.drn_read.specs.ModelSteps.{told_at, is_chain, choice_fault, room_fault, transition_at, new_state, words_with};
+ghost use Rattle.drn_read.specs.Shown.{Tells, TellsLine, IsSource, rest, left, piece};
+ghost use Rattle.drn_read.specs.ModelSteps.{on_line, transition_at, new_state, words_with};
 
-use crate::entry::{entry_of, named_value};
+use crate::cursor::{Cursor, LineWord};
+use crate::entry::{named_value, transition_front};
 use crate::error::{DrnCause, DrnError};
 use crate::header::HeaderReader;
 use crate::labels::{Labels, read_action, read_state};
 use crate::state::{State, Transition};
-use crate::word::{LineWord, Words};
-use drn_lexer::Line;
+use crate::text::is_head;
 use lift_model::Kind;
 use std::alloc::{AllocError, Global};
 use std::collections::BTreeSet;
@@ -61,16 +60,6 @@ fn is_chain(kind: Option<Kind>) -> bool
     }
 }
 
-/// Whether a line that says this begins with `@`.
-fn is_head(content: &[u8]) -> bool
-    ensures { result ≡ first_passes (λ b. b == 64) content.now }
-{
-    match content {
-        [first, ..] => *first == b'@',
-        [] => false,
-    }
-}
-
 /// Whether a line that says this is a transition.
 fn is_transition(content: &[u8]) -> bool
     ensures { result ≡ is_transition content.now }
@@ -82,8 +71,8 @@ fn is_transition(content: &[u8]) -> bool
 }
 
 /// The same outcome, whose fault is told of this line.
-fn told_at(line: u32, outcome: Result<(), DrnCause>) -> Result<(), DrnError>
-    ensures { result ≡ told_at line outcome }
+fn on_line(line: u32, outcome: Result<(), DrnCause>) -> Result<(), DrnError>
+    ensures { result ≡ on_line line outcome }
 {
     match outcome {
         Ok(()) => Ok(()),
@@ -146,7 +135,7 @@ impl ModelReader {
     /// The states alone.
     pub fn into_states(self) -> Vec<State>
         ensures states { result.items ≡ self }
-        ensures few { length result.items ≤ 65536 }
+        ensures few { length result.items ≤ most_states }
     {
         self.states
     }
@@ -173,7 +162,7 @@ impl ModelReader {
     /// The last state has a choice, if there is a state. Its own line is told.
     #[tactic(auto, using(crate::proofs::LastOnes::is_choiceless, crate::proofs::LastOnes::is_closed))]
     fn test_last_state(&self) -> Result<(), DrnError>
-        ensures { Told result (choiceless self.now) }
+        ensures { TellsLine result (choiceless self.now) }
     {
         match self.last_state() {
             Some(state) if state.is_choiceless() => Err(DrnError {
@@ -227,7 +216,7 @@ impl ModelReader {
 
     /// One more state, of this line and without choice.
     fn add_state(&mut self, line: u32, labels: Labels) -> Result<(), AllocError>
-        requires { length self.old < 65536 }
+        requires { length self.old < most_states }
         ensures { OnOk result (self.new ≡ self.old ++ record { line = line; init = labels.init; goal = labels.goal; choices = [] } ∷ []) }
     {
         self.states.push(State {
@@ -243,7 +232,7 @@ impl ModelReader {
     /// One more choice of the last state.
     fn add_choice(&mut self) -> Result<(), AllocError>
         requires some { is_empty self.old ≡ false }
-        requires room { choice_count self.old < 131072 }
+        requires room { choice_count self.old < most_choices }
         ensures { OnOk result (self.new ≡ on_last with_choice self.old) }
     {
         push_choice(&mut self.states, self.alloc)?;
@@ -271,43 +260,36 @@ impl ModelReader {
     }
 
     /// A transition's line.
-    fn read_transition(
-        &mut self,
-        header: &HeaderReader,
-        text: &[u8],
-        line: Line,
-    ) -> Result<(), DrnCause>
-        requires { LiesIn line text.now }
-        ensures fault { Tells result (transition_fault header.now self.old (slice_range text.now line.from line.to)) }
-        ensures after { let content = slice_range text.now line.from line.to in
+    fn read_transition(&mut self, header: &HeaderReader, line: Cursor<'_>) -> Result<(), DrnCause>
+        ensures fault { Tells result (transition_fault header.now self.old (rest line.entry)) }
+        ensures after { let content = rest line.entry in
             let value = entry_value header.now.names header.now.placeholders content in
-            OnOk result (self.new ≡ on_last (with_transitions (transition_at line.number (target_of content) value)) self.old) }
+            let transition = transition_at line.entry.line.number (target_of content) value in
+            OnOk result (self.new ≡ on_last (with_transitions transition) self.old) }
     {
         if self.states.is_empty() {
             return Err(DrnCause::Syntax);
         }
-        let Some(entry) = entry_of(text, line) else {
+        let Some(front) = transition_front(line) else {
             return Err(DrnCause::Syntax);
         };
-        self.test_room(entry.target)?;
+        self.test_room(front.target)?;
         let value = named_value(
             self.alloc,
-            text,
-            line,
-            entry.value_at,
+            front.value,
             header.names(),
-            header.places(),
+            header.placeholders(),
         )?;
         self.add_transition(Transition {
-            line: line.number,
-            target: entry.target,
+            line: line.line.number,
+            target: front.target,
             value,
         })?;
         Ok(())
     }
 
     /// The words behind `action`: they begin a choice.
-    fn begin_choice(&mut self, header: &HeaderReader, words: Words<'_>) -> Result<(), DrnCause>
+    fn begin_choice(&mut self, header: &HeaderReader, words: Cursor<'_>) -> Result<(), DrnCause>
         ensures fault { Tells result (action_fault header.now self.old (left words.entry)) }
         ensures after { OnOk result (self.new ≡ on_last with_choice self.old) }
     {
@@ -318,7 +300,7 @@ impl ModelReader {
     }
 
     /// The words behind `state`, on this line: they begin a state.
-    fn begin_state(&mut self, label: &[u8], line: u32, words: Words<'_>) -> Result<(), DrnCause>
+    fn begin_state(&mut self, label: &[u8], line: u32, words: Cursor<'_>) -> Result<(), DrnCause>
         ensures fault { Tells result (state_fault (length self.old) (left words.entry)) }
         ensures after { OnOk result (self.new ≡ self.old ++ new_state label.now line (drop 1 (left words.entry)) ∷ []) }
     {
@@ -332,14 +314,14 @@ impl ModelReader {
         &mut self,
         label: &[u8],
         line: u32,
-        words: Words<'_>,
+        words: Cursor<'_>,
     ) -> Result<(), DrnError>
         ensures fault { (source : TextLine) → line ≡ source.number
-            → Told result (first_of (choiceless self.old ∷ at source (state_fault (length self.old) (left words.entry)) ∷ [])) }
+            → TellsLine result (first_of (choiceless self.old ∷ told source.number (state_fault (length self.old) (left words.entry)) ∷ [])) }
         ensures after { OnOk result (self.new ≡ self.old ++ new_state label.now line (drop 1 (left words.entry)) ∷ []) }
     {
         self.test_last_state()?;
-        told_at(line, self.begin_state(label, line, words))
+        on_line(line, self.begin_state(label, line, words))
     }
 
     /// A line that begins a state or a choice, by its first word and those behind it.
@@ -349,16 +331,16 @@ impl ModelReader {
         label: &[u8],
         line: u32,
         word: LineWord<'_>,
-        behind: Words<'_>,
+        behind: Cursor<'_>,
     ) -> Result<(), DrnError>
         ensures fault { (source : TextLine) → line ≡ source.number
-            → Told result (words_fault header.now self.old source (piece word.entry ∷ left behind.entry)) }
+            → TellsLine result (words_fault header.now self.old source (piece word.entry ∷ left behind.entry)) }
         ensures after { OnOk result (self.new ≡ words_with label.now self.old line (piece word.entry ∷ left behind.entry)) }
     {
         if word.bytes == b"state".as_slice() {
             self.close_and_begin_state(label, line, behind)
         } else if word.bytes == b"action".as_slice() {
-            told_at(line, self.begin_choice(header, behind))
+            on_line(line, self.begin_choice(header, behind))
         } else {
             Err(DrnError {
                 line,
@@ -373,14 +355,14 @@ impl ModelReader {
         header: &HeaderReader,
         label: &[u8],
         line: u32,
-        words: Words<'_>,
+        words: Cursor<'_>,
     ) -> Result<(), DrnError>
         ensures fault { (source : TextLine) → line ≡ source.number
-            → Told result (words_fault header.now self.old source (left words.entry)) }
+            → TellsLine result (words_fault header.now self.old source (left words.entry)) }
         ensures after { OnOk result (self.new ≡ words_with label.now self.old line (left words.entry)) }
     {
         let mut words = words;
-        match words.next() {
+        match words.next_word() {
             Ok(Some(word)) => self.read_keyword(header, label, line, word, words),
             Ok(None) => Err(DrnError {
                 line,
@@ -397,27 +379,26 @@ impl ModelReader {
         &mut self,
         header: &HeaderReader,
         label: &[u8],
-        text: &[u8],
-        line: Line,
+        line: Cursor<'_>,
     ) -> Result<(), DrnError>
-        requires { LiesIn line text.now }
-        ensures fault { (source : TextLine) → Spans text.now line source → Told result (model_fault header.now self.old source) }
-        ensures after { OnOk result ((source : TextLine) → Spans text.now line source
+        ensures fault { (source : TextLine) → IsSource line.entry source
+            → TellsLine result (model_fault header.now self.old source) }
+        ensures after { OnOk result ((source : TextLine) → IsSource line.entry source
             → self.new ≡ states_with label.now header.now self.old source) }
     {
-        let content = &text[line.from..line.to];
+        let number = line.line.number;
+        let content = line.rest();
         if is_head(content) {
             Err(DrnError {
-                line: line.number,
+                line: number,
                 cause: DrnCause::UnknownSection,
             })
         } else if content.is_empty() {
             Ok(())
         } else if is_transition(content) {
-            told_at(line.number, self.read_transition(header, text, line))
+            on_line(number, self.read_transition(header, line))
         } else {
-            let words = Words::from(text, line, line.from);
-            self.read_words(header, label, line.number, words)
+            self.read_words(header, label, number, line)
         }
     }
 }

@@ -1,17 +1,16 @@
 // Reads a text line by line.
 ghost use Rattle.std.specs.Prelude.{◌≡◌, List, ℕ, [], OnOk};
 ghost use Rattle.drn_lexer.specs.Lines.{TextLine};
-ghost use Rattle.drn_lexer.specs.Spans.{LiesIn};
 ghost use Rattle.drn_read.specs.Judging.{line_fault};
 ghost use Rattle.drn_read.specs.Reading.{said};
 ghost use Rattle.drn_read.specs.Keeping.{with_line};
-ghost use Rattle.drn_read.specs.Shown.{Told, Spans};
+ghost use Rattle.drn_read.specs.Shown.{TellsLine, IsSource};
 
+use crate::cursor::Cursor;
 use crate::error::DrnError;
 use crate::header::HeaderReader;
 use crate::model_lines::ModelReader;
 use crate::section::Phase;
-use drn_lexer::Line;
 use std::alloc::Global;
 
 /// What the lines so far have said.
@@ -42,18 +41,19 @@ impl Reader {
     }
 
     /// Reads a line that is no comment, for a goal's label.
-    pub fn read_line(&mut self, label: &[u8], text: &[u8], line: Line) -> Result<(), DrnError>
-        requires { LiesIn line text.now }
-        ensures fault { (source : TextLine) → Spans text.now line source → Told result (line_fault self.old source) }
-        ensures after { OnOk result ((source : TextLine) → Spans text.now line source → self.new ≡ with_line label.now self.old source) }
+    pub fn read_line(&mut self, label: &[u8], line: Cursor<'_>) -> Result<(), DrnError>
+        ensures fault { (source : TextLine) → IsSource line.entry source
+            → TellsLine result (line_fault self.old source) }
+        ensures after { OnOk result ((source : TextLine) → IsSource line.entry source
+            → self.new ≡ with_line label.now self.old source) }
     {
         if self.header.phase() == Phase::Model {
-            return self.model.read_line(&self.header, label, text, line);
+            return self.model.read_line(&self.header, label, line);
         }
-        match self.header.read_line(text, line) {
+        match self.header.read_line(line) {
             Ok(()) => Ok(()),
             Err(cause) => Err(DrnError {
-                line: line.number,
+                line: line.line.number,
                 cause,
             }),
         }

@@ -1,6 +1,7 @@
 // The rows of the model over the common denominator.
 ghost use Rattle.std.specs.Prelude.{◌≡◌, ◌≢◌, ◌<◌, map, All, IfOk};
 ghost use Rattle.std.specs.List.{list_any};
+ghost use Rattle.lift_model.specs.Valid.{most_states};
 ghost use Rattle.drn_read.specs.Faults.{when};
 ghost use Rattle.drn_read.specs.Reading.{scaled, is_large, entry};
 ghost use Rattle.drn_read.specs.declared.error.DrnCause.TheVariants.{CommonDenominator};
@@ -14,14 +15,14 @@ use lift_poly::{MultiAffine, PolyError};
 use std::alloc::Global;
 
 /// The size from which on a coefficient over the common denominator is too large.
-const LIMIT: u128 = 1 << 100;
+const COEFFICIENT_LIMIT: u128 = 1 << 100;
 
 /// Whether a coefficient is too large.
 fn has_large(poly: &MultiAffine) -> bool
     ensures { result ≡ list_any is_over poly.now }
 {
     for i in 0..poly.len() {
-        if poly.term(i).1.unsigned_abs() >= LIMIT {
+        if poly.term(i).1.unsigned_abs() >= COEFFICIENT_LIMIT {
             return true;
         }
     }
@@ -58,7 +59,7 @@ fn scaled(alloc: Global, common: u64, value: &RatPoly) -> Result<MultiAffine, Dr
 
 /// A transition as an entry of a row. `CommonDenominator` exactly where a coefficient is too large.
 fn entry_of(alloc: Global, common: u64, transition: &Transition) -> Result<Entry, DrnCause>
-    requires { transition.now.target < 65536 }
+    requires { transition.now.target < most_states }
     ensures fault { Tells result (when (is_large common transition.now) CommonDenominator) }
     ensures entry { IfOk result (λ e. e ≡ entry common transition.now) }
 {
@@ -71,7 +72,7 @@ fn entry_of(alloc: Global, common: u64, transition: &Transition) -> Result<Entry
 
 /// A choice as a row, whose entries keep their places.
 fn row_of(alloc: Global, common: u64, choice: &[Transition]) -> Result<Row, DrnCause>
-    requires { TargetsBelow 65536 choice.now }
+    requires { TargetsBelow most_states choice.now }
     ensures fault { Tells result (when (list_any (is_large common) choice.now) CommonDenominator) }
     ensures row { IfOk result (λ row. row ≡ map (entry common) choice.now) }
 {
@@ -84,7 +85,7 @@ fn row_of(alloc: Global, common: u64, choice: &[Transition]) -> Result<Row, DrnC
 
 /// The choices of a state as rows.
 fn rows_of(alloc: Global, common: u64, choices: &[Vec<Transition>]) -> Result<Vec<Row>, DrnCause>
-    requires { All (TargetsBelow 65536) (map (λ row. row.items) choices.now) }
+    requires { All (TargetsBelow most_states) (map (λ row. row.items) choices.now) }
     ensures fault { Tells result (when (list_any (list_any (is_large common)) (map (λ row. row.items) choices.now)) CommonDenominator) }
     ensures rows { IfOk result (λ rows. rows.items ≡ map (map (entry common)) (map (λ row. row.items) choices.now)) }
 {
@@ -102,7 +103,7 @@ pub(crate) fn all_rows(
     common: u64,
     states: &[State],
 ) -> Result<Vec<Vec<Row>>, DrnCause>
-    requires { All (λ s. All (TargetsBelow 65536) s.choices) states.now }
+    requires { All (λ s. All (TargetsBelow most_states) s.choices) states.now }
     ensures fault { Tells result (when (list_any (λ s. list_any (list_any (is_large common)) s.choices) states.now) CommonDenominator) }
     ensures rows { IfOk result (λ rows. map (λ v. v.items) rows.items ≡ map (λ s. map (map (entry common)) s.choices) states.now) }
 {

@@ -1,56 +1,14 @@
 // Pieces of a line by their bytes.
-ghost use Rattle.std.specs.Prelude.{◌≡◌, ◌==◌, ◌&&◌, ◌≤◌, length, slice_range, IfSome};
+ghost use Rattle.std.specs.Prelude.{◌≡◌, ◌==◌, ◌≤◌, length};
 ghost use Rattle.std.specs.List.{prefix_len, list_all};
 ghost use Rattle.std.specs.Option.{option_map};
 ghost use Rattle.std.specs.Char.{is_ascii_digit};
-ghost use Rattle.drn_lexer.specs.Bytes.{is_blank, begins_name, is_name_byte, first_passes};
-ghost use Rattle.drn_lexer.specs.Spans.{LiesIn, IsOn};
-ghost use Rattle.drn_read.specs.Text.{is_name, behind_colon};
+ghost use Rattle.lift_bytes.specs.Bytes.{colon, begins_name, is_name_byte, first_passes};
+ghost use Rattle.drn_read.specs.Text.{at_sign, is_name, behind_colon};
+ghost use Rattle.drn_read.specs.Shown.{rest};
 
-use drn_lexer::Line;
-
-pub(crate) fn is_blank(byte: u8) -> bool
-    ensures { result ≡ is_blank byte }
-{
-    byte == b' ' || byte == b'\t'
-}
-
-fn begins_name(byte: u8) -> bool
-    ensures { result ≡ begins_name byte }
-{
-    byte.is_ascii_alphabetic() || byte == b'_'
-}
-
-fn is_name_byte(byte: u8) -> bool
-    ensures { result ≡ is_name_byte byte }
-{
-    begins_name(byte) || byte.is_ascii_digit()
-}
-
-pub(crate) fn blanks_len(text: &[u8]) -> usize
-    ensures within { result ≤ length text.now }
-    ensures len { result ≡ prefix_len is_blank text.now }
-{
-    for (i, byte) in text.iter().enumerate() {
-        if !is_blank(*byte) {
-            return i;
-        }
-    }
-    text.len()
-}
-
-/// How many letters, digits and underscores stand at the front.
-pub(crate) fn name_len(text: &[u8]) -> usize
-    ensures within { result ≤ length text.now }
-    ensures len { result ≡ prefix_len is_name_byte text.now }
-{
-    for (i, byte) in text.iter().enumerate() {
-        if !is_name_byte(*byte) {
-            return i;
-        }
-    }
-    text.len()
-}
+use crate::cursor::Cursor;
+use lift_bytes::{begins_name, blanks_len, is_name_byte};
 
 /// How many digits stand at the front.
 pub(crate) fn digits_len(text: &[u8]) -> usize
@@ -63,6 +21,13 @@ pub(crate) fn digits_len(text: &[u8]) -> usize
         }
     }
     text.len()
+}
+
+/// Whether a line begins with `@`.
+pub(crate) fn is_head(line: &[u8]) -> bool
+    ensures { result ≡ first_passes (λ b. b == at_sign) line.now }
+{
+    matches!(line, [b'@', ..])
 }
 
 fn begins_a_name(word: &[u8]) -> bool
@@ -88,26 +53,19 @@ pub(crate) fn is_name(word: &[u8]) -> bool
 }
 
 fn begins_colon(text: &[u8]) -> bool
-    ensures { result ≡ first_passes (λ b. b == 58) text.now }
+    ensures { result ≡ first_passes (λ b. b == colon) text.now }
 {
-    match text {
-        [first, ..] => *first == b':',
-        [] => false,
-    }
+    matches!(text, [b':', ..])
 }
 
-/// The place behind a colon at this place of the line, around which blanks are free.
+/// The place behind a colon, around which blanks are free.
 #[tactic(auto, using(crate::proofs::Pieces::colon_found, crate::proofs::Pieces::no_colon))]
-pub(crate) fn behind_colon(text: &[u8], line: Line, at: usize) -> Option<usize>
-    requires line { LiesIn line text.now }
-    requires place { IsOn at line }
-    ensures on { IfSome result (λ behind. IsOn behind line) }
-    ensures behind { option_map (λ behind. slice_range text.now behind line.to) result ≡ behind_colon (slice_range text.now at line.to) }
+pub(crate) fn behind_colon(cursor: Cursor<'_>) -> Option<Cursor<'_>>
+    ensures { option_map (λ behind. rest behind) result ≡ behind_colon (rest cursor.entry) }
 {
-    let blanks = blanks_len(&text[at..line.to]);
-    let rest = &text[at + blanks..line.to];
-    if begins_colon(rest) {
-        Some(at + blanks + 1)
+    let front = cursor.forward(blanks_len(cursor.rest()));
+    if begins_colon(front.rest()) {
+        Some(front.forward(1))
     } else {
         None
     }

@@ -17,11 +17,14 @@ near n up down h k l = grind (arith, nat_tests)
 power_small : (k : ℕ) → k ≤ 18 → 10 ^ k < 2 ^ 60
 power_small k h = let most = pow-le-pow_right {n = 10} (omega arith) {i = k} {j = 18} h in omega (arith, most)
 
+power_fits : (k : ℕ) → k ≤ 30 → 10 ^ k < 2 ^ 100
+power_fits k h = let most = pow-le-pow_right {n = 10} (omega arith) {i = k} {j = 30} h in omega (arith, most)
+
 -- a power of ten, cast, is not 0
-pub power-nonzero : (k p : ℕ) → k ≤ 18 → p ≡ 10 ^ k → to_z w128 p ≢ pos 0
+pub power-nonzero : (k p : ℕ) → k ≤ 30 → p ≡ 10 ^ k → to_z w128 p ≢ pos 0
 power-nonzero k p h e none =
     let above : 1 ≤ 10 ^ k = one-le-pow k 10 (omega arith) in
-    let exact = to_z_pos w128 p (omega (arith, e, power_small k h)) in
+    let exact = to_z_pos w128 p (omega (arith, e, power_fits k h)) in
     omega (arith, ints, exact, none, above, e)
 
 -- a number that is raised by a power of ten

@@ -3,4 +3,3 @@ pub mod Ordering
 pub mod Multiples
 pub mod Ring
 pub mod Spans
-pub mod Samples

@@ -9,13 +9,15 @@ use Rattle.std.proofs.Math.Nat.{mul-le-mul_left}
 use Rattle.std.proofs.Math.Bool.{and-false}
 use Rattle.std.proofs.lemmas.Nat.{pow_pos}
 use Rattle.std.proofs.lemmas.Int.{ints}
+use Rattle.lift_frac.specs.Gcd.{lcm}
+use Rattle.lift_frac.specs.Laws.{LcmIsAtLeast}
+use Rattle.lift_frac.specs.Limits.{size_limit}
 use Rattle.lift_grid.specs.Rectangle.{AreMultiples, IsOnGrid, Spans, IsSpan, AreSpans, sides_of, spans_of}
-use Rattle.lift_grid.specs.Region.{Divides, Interval, lcm, common_denominator, span_over, is_narrow, spans_over, over_grid, Gives, Fails, ◌>>=◌}
+use Rattle.lift_grid.specs.Region.{Divides, Interval, common_denominator, span_over, is_narrow, spans_over, over_grid, Gives, Fails, ◌>>=◌}
 use Rattle.lift_grid.specs.Parts.{ratios_of}
 use Rattle.lift_grid.specs.declared.interval.Interval as code
 use Rattle.lift_grid.specs.declared.error.RegionError.{RegionError}
 use Rattle.lift_grid.specs.declared.error.RegionError.TheVariants.{Syntax, UnknownName, Repeated, Missing, EmptyInterval, Wide, Memory}
-use Rattle.lift_grid.proofs.Multiples.{lcm-at_least}
 use Rattle.lift_grid.proofs.Ring.{span-rises, number-multiple}
 use Rattle.lift_grid.proofs.Sides.{spans_of-sides_of}
 
@@ -57,7 +59,7 @@ both false b h = absurd (cc)
 pub is_span : (d depth : ℕ) (x : code.Interval) → 0 < d → Divides d (ratios_of x) → is_narrow (span_over d depth (ratios_of x)) ≡ true → IsSpan (span_over d depth (ratios_of x))
 is_span d depth x above divides narrow =
     let span : ℤ × ℤ = span_over d depth (ratios_of x) in
-    let parts = both (nat_lt (unsigned_abs span.0) (2 ^ 62)) (nat_lt (unsigned_abs span.1) (2 ^ 62)) narrow in
+    let parts = both (nat_lt (unsigned_abs span.0) (size_limit)) (nat_lt (unsigned_abs span.1) (size_limit)) narrow in
     record {
       rising = span-rises d (2 ^ depth) x.low.num x.low.den x.high.num x.high.den above (pow_pos depth) x.low.positive_den x.high.positive_den divides.low divides.high x.rising;
       low = grind (arith, parts.0);
@@ -123,19 +125,19 @@ divides_at d xs i x all below is =
     let P : Interval → Type 0 = λ y. Divides d y in
     subst P (get_or-map xs i x ∙ ap ratios_of (sym is)) (all i (ratios_of x) (omega (arith, length-map xs ratios_of)))
 
-grows : (xs : List code.Interval) (d : ℕ) → d ≤ fold (λ d i. lcm (lcm d (unsigned_abs i.low.den)) (unsigned_abs i.high.den)) d (map ratios_of xs)
-grows [] d = omega arith
-grows (x ∷ xs) d =
+grows : LcmIsAtLeast → (xs : List code.Interval) (d : ℕ) → d ≤ fold (λ d i. lcm (lcm d (unsigned_abs i.low.den)) (unsigned_abs i.high.den)) d (map ratios_of xs)
+grows at_least [] d = omega arith
+grows at_least (x ∷ xs) d =
     let low : 0 < unsigned_abs x.low.den = omega (arith, ints, x.low.positive_den) in
     let high : 0 < unsigned_abs x.high.den = omega (arith, ints, x.high.positive_den) in
-    let first = lcm-at_least d (unsigned_abs x.low.den) low in
-    let second = lcm-at_least (lcm d (unsigned_abs x.low.den)) (unsigned_abs x.high.den) high in
-    let rest = grows xs (lcm (lcm d (unsigned_abs x.low.den)) (unsigned_abs x.high.den)) in
+    let first = at_least d (unsigned_abs x.low.den) low in
+    let second = at_least (lcm d (unsigned_abs x.low.den)) (unsigned_abs x.high.den) high in
+    let rest = grows at_least xs (lcm (lcm d (unsigned_abs x.low.den)) (unsigned_abs x.high.den)) in
     grind arith
 
 -- the least common denominator isn't 0
-pub common-positive : (xs : List code.Interval) → 0 < common_denominator (map ratios_of xs)
-common-positive xs = omega (arith, grows xs 1)
+pub common-positive : LcmIsAtLeast → (xs : List code.Interval) → 0 < common_denominator (map ratios_of xs)
+common-positive at_least xs = omega (arith, grows at_least xs 1)
 
 -- below the limit nothing was cut off
 pub not_cut : (limit r c depth : ℕ) → r ≡ min limit c → r * 2 ^ depth < limit → r ≡ c
@@ -159,10 +161,10 @@ Fails-bind Wide r f h = rw h refl
 Fails-bind Memory r f h = tt
 
 -- what the intervals over the grid fail with
-pub over_grid-fails : (depth r : ℕ) (is : List Interval) (e : RegionError) → r ≡ common_denominator is → r * 2 ^ depth < 2 ^ 62 → Fails e (spans_over r depth is) → Fails e (over_grid depth is)
+pub over_grid-fails : (depth r : ℕ) (is : List Interval) (e : RegionError) → r ≡ common_denominator is → r * 2 ^ depth < size_limit → Fails e (spans_over r depth is) → Fails e (over_grid depth is)
 unfolding over_grid
 over_grid-fails depth r is e same below fails =
-    let small : nat_lt (common_denominator is * 2 ^ depth) (2 ^ 62) ≡ true = rw (← same) (grind arith) in
+    let small : nat_lt (common_denominator is * 2 ^ depth) (size_limit) ≡ true = rw (← same) (grind arith) in
     let fails_there : Fails e (spans_over (common_denominator is) depth is) = rw same at fails in
     rw small (Fails-bind e (spans_over (common_denominator is) depth is) _ fails_there)
 
@@ -184,7 +186,7 @@ given_by true spans r is = cc
 given_by false spans r is = absurd (cc)
 
 -- the rectangle that intervals make over a grid
-pub on_grid : (common depth : ℕ) (xs : List code.Interval) (r : Spans) → 0 < common → common * 2 ^ depth < 2 ^ 62 → spans_over common depth (map ratios_of xs) ≡ Ok r
+pub on_grid : (common depth : ℕ) (xs : List code.Interval) (r : Spans) → 0 < common → common * 2 ^ depth < size_limit → spans_over common depth (map ratios_of xs) ≡ Ok r
     → IsOnGrid (pos (common * 2 ^ depth)) depth (length xs) r
 unfolding spans_over
 on_grid common depth xs r above below is =

@@ -1,6 +1,7 @@
 -- Rectangles of parameter values: a span for each declared parameter, as whole numbers over the grid.
 use Rattle.std.specs.Prelude.{◌≡◌, ◌<◌, ◌^◌, ◌/◌, ◌%◌, ℕ, zero, suc, List, [], ◌∷◌, ℤ, pos, ◌*ℤ◌, ◌≤ℤ◌, ◌<ℤ◌, unsigned_abs, length, count_ones, slice_index_or}
 use Rattle.std.specs.List.{AllByRecursion}
+use Rattle.lift_frac.specs.Limits.{size_limit}
 use Rattle.lift_poly.specs.Polynomial.{Valuation}
 
 -- the low and the high end of each declared parameter, in declared order
@@ -13,11 +14,11 @@ Inside d [] [] = Unit {0}
 Inside d (s ∷ ss) (x ∷ v) = (pos 0 <ℤ x.1) × ((s.0 *ℤ x.1) ≤ℤ (x.0 *ℤ d)) × ((x.0 *ℤ d) ≤ℤ (s.1 *ℤ x.1)) × Inside d ss v
 Inside d _ _ = ⊥
 
--- the low end is below the high end, and both are below 2^62 in size
+-- the low end is below the high end, and both sizes are below the limit
 pub record IsSpan (s : ℤ × ℤ) : Type 0 where
   pub rising : s.0 <ℤ s.1
-  pub low : unsigned_abs s.0 < 2 ^ 62
-  pub high : unsigned_abs s.1 < 2 ^ 62
+  pub low : unsigned_abs s.0 < size_limit
+  pub high : unsigned_abs s.1 < size_limit
 
 -- every span of the rectangle is one
 abbrev pub AreSpans : Spans → Type 0
@@ -60,9 +61,13 @@ IsMultiple n z = (k : ℤ) × (z ≡ k *ℤ pos n)
 abbrev pub AreMultiples : ℕ → Spans → Type 0
 AreMultiples n ss = AllByRecursion (λ s. IsMultiple n s.0 × IsMultiple n s.1) ss
 
--- A rectangle with so many spans over the grid d: d is from 1 to 2^62 - 1, and each span can be halved depth times.
+-- how often a rectangle may be halved at most, by our own profile
+abbrev pub most_halvings : ℕ
+most_halvings = 20
+
+-- A rectangle with so many spans over the grid d: d is from 1 on and below the size limit, and each span can be halved depth times.
 pub record IsOnGrid (d : ℤ) (depth count : ℕ) (ss : Spans) : Type 0 where
   pub positive : pos 0 <ℤ d
-  pub small : unsigned_abs d < 2 ^ 62
+  pub small : unsigned_abs d < size_limit
   pub one_each : length ss ≡ count
   pub multiples : AreMultiples (2 ^ depth) ss

@@ -5,12 +5,13 @@
 -- Blanks may stand between any two of these parts and at both ends. A text is read as its pieces between commas.
 use Rattle.std.specs.Prelude.{◌≡◌, ℕ, zero, suc, ◌*◌, ◌/◌, ◌^◌, Bool, true, false, ◌==◌, ◌||◌, ◌&&◌, List, [], ◌∷◌, ◌++◌, ℤ, pos, ◌*ℤ◌, neg_ℤ, unsigned_abs, nat_lt, length, take, drop, map, fold, position, Option, Some, None, is_some, Result, Ok, Err, if◌then◌else◌}
 use Rattle.std.specs.List.{prefix_len, list_all, find, slice_split}
-use Rattle.std.specs.Char.{is_ascii_alphabetic, is_ascii_alphanumeric}
 use Rattle.std.specs.Int.{◌∣◌}
 use Rattle.std.specs.Str.{bytes_eq}
 use Rattle.std.specs.Ordering.{int_cmp}
 use Rattle.std.specs.declared.cmp.Ordering.TheVariants.{Less, Equal, Greater}
-use Rattle.lift_frac.specs.Gcd.{gcd}
+use Rattle.lift_bytes.specs.Bytes as byte
+use Rattle.lift_frac.specs.Gcd.{lcm}
+use Rattle.lift_frac.specs.Limits.{size_limit}
 use Rattle.lift_frac.specs.Literal as literal
 use Rattle.lift_frac.specs.Ratio.{Ratio, fraction}
 use Rattle.lift_frac.specs.declared.error.FracError.{FracError}
@@ -30,17 +31,13 @@ abbrev pub or_else : {A : Type 0} → RegionError → Option A → Result A Regi
 or_else e None = Err e
 or_else e (Some x) = Ok x
 
--- a space or a tab
-abbrev pub is_blank : ℕ → Bool
-is_blank b = (b == 32) || (b == 9)
-
 -- the text from its first byte on that isn't a blank
 abbrev pub skip_blanks : List ℕ → List ℕ
-skip_blanks text = drop (prefix_len is_blank text) text
+skip_blanks text = byte.behind byte.is_blank text
 
 -- What stands behind a mark at the front. Here and below blanks before a part are passed over.
-abbrev pub behind : List ℕ → List ℕ → Option (List ℕ)
-behind mark text =
+abbrev pub behind_mark : List ℕ → List ℕ → Option (List ℕ)
+behind_mark mark text =
     let rest = skip_blanks text in
     if bytes_eq (take (length mark) rest) mark then Some (drop (length mark) rest) else None
 
@@ -56,11 +53,11 @@ literal_at text =
 
 -- whether a minus stands at the front, and what stands behind it
 unfoldable pub sign_at : List ℕ → Bool × List ℕ
-sign_at text = elim (behind (45 ∷ []) text) [ None ↦ (false, text) | Some rest ↦ (true, rest) ]
+sign_at text = elim (behind_mark (byte.minus ∷ []) text) [ None ↦ (false, text) | Some rest ↦ (true, rest) ]
 
 -- the literal behind a slash at the front, and what stands behind that; 1 where no slash stands there
 unfoldable pub divisor_at : List ℕ → Result (Number × List ℕ) RegionError
-divisor_at text = elim (behind (47 ∷ []) text) [ None ↦ Ok (Ok (record { num = pos 1; den = pos 1 }), text) | Some rest ↦ literal_at rest ]
+divisor_at text = elim (behind_mark (byte.slash ∷ []) text) [ None ↦ Ok (Ok (record { num = pos 1; den = pos 1 }), text) | Some rest ↦ literal_at rest ]
 
 -- the number with the other sign, where there is a minus
 abbrev pub signed : Bool → ℤ → ℤ
@@ -79,21 +76,12 @@ end_at text = do
   below ← divisor_at above.1
   Ok (quotient (sign_at text).0 above.0 below.0, below.1)
 
--- a letter or `_`
-abbrev pub begins_name : List ℕ → Bool
-begins_name [] = false
-begins_name (b ∷ text) = is_ascii_alphabetic b || (b == 95)
-
--- a letter, a digit or `_`
-abbrev pub is_name_byte : ℕ → Bool
-is_name_byte b = is_ascii_alphanumeric b || (b == 95)
-
 -- the name at the front, the longest one, and what stands behind it
 unfoldable pub name_at : List ℕ → Result (List ℕ × List ℕ) RegionError
 name_at text =
     let rest = skip_blanks text in
-    let len = prefix_len is_name_byte rest in
-    if begins_name rest then Ok (take len rest, drop len rest) else Err Syntax
+    let len = prefix_len byte.is_name_byte rest in
+    if byte.first_passes byte.begins_name rest then Ok (take len rest, drop len rest) else Err Syntax
 
 -- a clause as it is written
 pub record Clause : Type 0 where
@@ -103,7 +91,7 @@ pub record Clause : Type 0 where
 
 -- what stands behind `<=` at the front
 abbrev pub behind_at_most : List ℕ → Result (List ℕ) RegionError
-behind_at_most text = or_else Syntax (behind (60 ∷ 61 ∷ []) text)
+behind_at_most text = or_else Syntax (behind_mark (byte.less ∷ byte.equals ∷ []) text)
 
 -- the clause at the front, and what stands behind it
 unfoldable pub clause_at : List ℕ → Result (Clause × List ℕ) RegionError
@@ -128,10 +116,10 @@ has_zero_divisor (Err frac.Wide) = false
 has_zero_divisor (Err frac.BadLiteral) = false
 has_zero_divisor (Ok q) = false
 
--- an end that isn't too wide
-abbrev pub end_of : Number → Result Ratio RegionError
-end_of (Err e) = Err Wide
-end_of (Ok q) = Ok q
+-- a number that isn't too wide
+abbrev pub narrow_number : Number → Result Ratio RegionError
+narrow_number (Err e) = Err Wide
+narrow_number (Ok q) = Ok q
 
 -- an interval is refused where its low end isn't below its high end
 abbrev pub rising : Interval → Result Interval RegionError
@@ -145,8 +133,8 @@ given intervals parameter = find (λ i. i.parameter == parameter) intervals
 unfoldable pub interval_of : List (List ℕ) → List Interval → Clause → Result Interval RegionError
 interval_of names before c = do
   checked ← if has_zero_divisor c.low || has_zero_divisor c.high then Err Syntax else Ok c
-  low ← end_of c.low
-  high ← end_of c.high
+  low ← narrow_number c.low
+  high ← narrow_number c.high
   parameter ← or_else UnknownName (position (bytes_eq c.name) names)
   first ← if is_some (given before parameter) then Err Repeated else Ok parameter
   rising (record { parameter = parameter; low = low; high = high })
@@ -156,7 +144,7 @@ unfoldable pub interval_at : List (List ℕ) → List Interval → List ℕ → 
 interval_at names before text = do
   clause ← clause_at text
   interval ← interval_of names before clause.0
-  if list_all is_blank clause.1 then Ok interval else Err Syntax
+  if list_all byte.is_blank clause.1 then Ok interval else Err Syntax
 
 -- the intervals so far, and those of the pieces, from the left; or the first refusal
 abbrev pub intervals_from : List (List ℕ) → List Interval → List (List ℕ) → Result (List Interval) RegionError
@@ -165,16 +153,12 @@ intervals_from names before (text ∷ pieces) = interval_at names before text >>
 
 -- the intervals that a text gives; a text of blanks alone gives none
 unfoldable pub intervals_of : List (List ℕ) → List ℕ → Result (List Interval) RegionError
-intervals_of names text = if list_all is_blank text then Ok [] else intervals_from names [] (slice_split (λ b. b == 44) text)
+intervals_of names text = if list_all byte.is_blank text then Ok [] else intervals_from names [] (slice_split (λ b. b == byte.comma) text)
 
 -- the intervals of the first n parameters, in declared order; Missing where one has none
 abbrev pub in_order : List Interval → ℕ → Result (List Interval) RegionError
 in_order intervals zero = Ok []
 in_order intervals (suc n) = in_order intervals n >>= λ front. or_else Missing (given intervals n) >>= λ interval. Ok (front ++ interval ∷ [])
-
--- the least common multiple
-abbrev pub lcm : ℕ → ℕ → ℕ
-lcm a b = a / gcd a b * b
 
 -- the least common denominator of all ends, 1 where there is none
 abbrev pub common_denominator : List Interval → ℕ
@@ -193,11 +177,11 @@ number_over d depth q = q.num *ℤ pos (d / unsigned_abs q.den * 2 ^ depth)
 abbrev pub span_over : ℕ → ℕ → Interval → ℤ × ℤ
 span_over d depth i = (number_over d depth i.low, number_over d depth i.high)
 
--- both ends are below 2^62 in size
+-- both ends are below the limit in size
 abbrev pub is_narrow : ℤ × ℤ → Bool
-is_narrow s = nat_lt (unsigned_abs s.0) (2 ^ 62) && nat_lt (unsigned_abs s.1) (2 ^ 62)
+is_narrow s = nat_lt (unsigned_abs s.0) size_limit && nat_lt (unsigned_abs s.1) size_limit
 
--- the intervals over the grid; Wide where an end is 2^62 or more in size
+-- the intervals over the grid; Wide where the size of an end is the limit or more
 unfoldable pub spans_over : ℕ → ℕ → List Interval → Result Spans RegionError
 spans_over d depth intervals =
     let spans = map (span_over d depth) intervals in
@@ -209,11 +193,11 @@ pub record Region : Type 0 where
   pub depth : ℕ
   pub spans : Spans
 
--- the intervals over the grid that they and the depth call for; Wide where it, or an end over it, is 2^62 or more in size
+-- the intervals over the grid that they and the depth call for; Wide where its size, or that of an end over it, is the limit or more
 unfoldable pub over_grid : ℕ → List Interval → Result Region RegionError
 over_grid depth intervals =
     let common = common_denominator intervals in
-    if nat_lt (common * 2 ^ depth) (2 ^ 62)
+    if nat_lt (common * 2 ^ depth) size_limit
     then (spans_over common depth intervals >>= λ spans. Ok (record { d = pos (common * 2 ^ depth); depth = depth; spans = spans })) else Err Wide
 
 -- the region that a text names, or its first refusal: the clauses from the left, then a parameter without a clause, then a number that is too large

@@ -2,15 +2,16 @@
 ghost use Rattle.std.specs.Prelude.{◌≡◌, ◌==◌, map, length, IfOk};
 ghost use Rattle.std.specs.List.{list_all, slice_split};
 ghost use Rattle.std.specs.Option.{option_map};
-ghost use Rattle.lift_grid.specs.Region.{is_blank, interval_of, interval_at, intervals_of, in_order, given, Gives};
+ghost use Rattle.lift_bytes.specs.Bytes.{is_blank, comma};
+ghost use Rattle.lift_grid.specs.Region.{interval_of, interval_at, intervals_of, in_order, given, Gives};
 ghost use Rattle.lift_grid.specs.Parts.{clause_of, ratios_of};
 
 use crate::clause::{ClauseText, clause_at};
 use crate::error::RegionError;
 use crate::interval::Interval;
-use crate::text::is_blank;
-use lift_names::Names;
+use lift_bytes::is_blank;
 use lift_frac::FracError;
+use lift_names::Names;
 use std::alloc::{AllocError, Global};
 use std::cmp::Ordering;
 
@@ -76,7 +77,7 @@ fn interval_at(names: &Names, before: &[Interval], text: &[u8]) -> Result<Interv
 
 /// The pieces of the text between its commas.
 fn pieces(alloc: Global, text: &[u8]) -> Result<Vec<&[u8]>, AllocError>
-    ensures { IfOk result (λ v. map (λ x. x.now) v.items ≡ slice_split (λ b. b == 44) text.now) }
+    ensures { IfOk result (λ v. map (λ x. x.now) v.items ≡ slice_split (λ b. b == comma) text.now) }
 {
     text.split(|byte| *byte == b',').collect(alloc)
 }

@@ -4,6 +4,8 @@ ghost use Rattle.std.specs.Int.{◌∣◌};
 ghost use Rattle.lift_frac.specs.Ratio.{Ratio};
 ghost use Rattle.lift_grid.specs.Region.{Interval, Divides, common_denominator, number_over};
 
+use lift_frac::divisors_and_multiples;
+
 /// A fraction's number over a grid is worth the fraction, where its denominator divides `d`.
 pub fn numbers_are_exact()
     ensures { (d depth : ℕ) (q : Ratio) → pos 0 <ℤ q.den → unsigned_abs q.den ∣ d
@@ -13,4 +15,6 @@ pub fn numbers_are_exact()
 /// The common denominator of intervals is a multiple of the denominator of each end.
 pub fn denominators_divide()
     ensures { (intervals : List Interval) → All (Divides (common_denominator intervals)) intervals }
-{}
+{
+    divisors_and_multiples();
+}

@@ -18,6 +18,3 @@ pub use laws::{denominators_divide, numbers_are_exact};
 pub use lists::{Marks, Values};
 pub use rect::{Grid, Rect};
 pub use region::read_region;
-
-#[cfg(test)]
-mod tests;

@@ -1,52 +1,15 @@
 // The parts of a region's text. Each reader passes over blanks, and answers what stands behind its
 // part too.
 ghost use Rattle.std.specs.Prelude.{◌≡◌, ◌∷◌, ◌≤◌, [], length, map, option_copied, option_map};
-ghost use Rattle.std.specs.List.{prefix_len};
 ghost use Rattle.lift_frac.specs.Frac.{answer_of};
-ghost use Rattle.lift_grid.specs.Region.{is_blank, is_name_byte, skip_blanks, behind, literal_at, sign_at, divisor_at, quotient, end_at, begins_name, name_at, behind_at_most, Gives};
+ghost use Rattle.lift_grid.specs.Region.{skip_blanks, behind_mark, literal_at, sign_at, divisor_at, quotient, end_at, name_at, behind_at_most, Gives};
 
 use crate::error::RegionError;
+use lift_bytes::{begins_name, blanks_len, name_len};
 use lift_frac::{Frac, FracError, literal_len, read_literal};
 
 /// A number that is written, or why it isn't given.
 pub(crate) type Number = Result<Frac, FracError>;
-
-/// Whether it is a space or a tab.
-pub(crate) fn is_blank(byte: u8) -> bool
-    ensures { result ≡ is_blank byte }
-{
-    byte == b' ' || byte == b'\t'
-}
-
-fn is_name_byte(byte: u8) -> bool
-    ensures { result ≡ is_name_byte byte }
-{
-    byte.is_ascii_alphanumeric() || byte == b'_'
-}
-
-fn blanks_len(text: &[u8]) -> usize
-    ensures within { result ≤ length text.now }
-    ensures len { result ≡ prefix_len is_blank text.now }
-{
-    for (i, byte) in text.iter().enumerate() {
-        if !is_blank(*byte) {
-            return i;
-        }
-    }
-    text.len()
-}
-
-fn name_len(text: &[u8]) -> usize
-    ensures within { result ≤ length text.now }
-    ensures len { result ≡ prefix_len is_name_byte text.now }
-{
-    for (i, byte) in text.iter().enumerate() {
-        if !is_name_byte(*byte) {
-            return i;
-        }
-    }
-    text.len()
-}
 
 fn skip_blanks(text: &[u8]) -> &[u8]
     ensures { result.now ≡ skip_blanks text.now }
@@ -55,8 +18,8 @@ fn skip_blanks(text: &[u8]) -> &[u8]
 }
 
 /// What stands behind a mark.
-pub(crate) fn behind<'a>(mark: &[u8], text: &'a [u8]) -> Option<&'a [u8]>
-    ensures { option_copied result ≡ behind mark.now text.now }
+pub(crate) fn behind_mark<'a>(mark: &[u8], text: &'a [u8]) -> Option<&'a [u8]>
+    ensures { option_copied result ≡ behind_mark mark.now text.now }
 {
     skip_blanks(text).strip_prefix(mark)
 }
@@ -81,7 +44,7 @@ fn literal_at(text: &[u8]) -> Result<(Number, &[u8]), RegionError>
 fn sign_at(text: &[u8]) -> (bool, &[u8])
     ensures { (result.0, result.1.now) ≡ sign_at text.now }
 {
-    match behind(b"-", text) {
+    match behind_mark(b"-", text) {
         Some(rest) => (true, rest),
         None => (false, text),
     }
@@ -92,7 +55,7 @@ fn sign_at(text: &[u8]) -> (bool, &[u8])
 fn divisor_at(text: &[u8]) -> Result<(Number, &[u8]), RegionError>
     ensures { Gives (λ p. (answer_of p.0, p.1.now)) result (divisor_at text.now) }
 {
-    match behind(b"/", text) {
+    match behind_mark(b"/", text) {
         Some(rest) => literal_at(rest),
         None => Ok((Ok(Frac::whole(1)), text)),
     }
@@ -134,8 +97,8 @@ pub(crate) fn name_at(text: &[u8]) -> Result<(&[u8], &[u8]), RegionError>
     ensures { Gives (λ p. (p.0.now, p.1.now)) result (name_at text.now) }
 {
     let rest = skip_blanks(text);
-    match rest {
-        [b'a'..=b'z' | b'A'..=b'Z' | b'_', ..] => Ok(rest.split_at(name_len(rest))),
+    match rest.first() {
+        Some(byte) if begins_name(*byte) => Ok(rest.split_at(name_len(rest))),
         _ => Err(RegionError::Syntax),
     }
 }
@@ -144,5 +107,5 @@ pub(crate) fn name_at(text: &[u8]) -> Result<(&[u8], &[u8]), RegionError>
 pub(crate) fn behind_at_most(text: &[u8]) -> Result<&[u8], RegionError>
     ensures { Gives (λ r. r.now) result (behind_at_most text.now) }
 {
-    behind(b"<=", text).ok_or(RegionError::Syntax)
+    behind_mark(b"<=", text).ok_or(RegionError::Syntax)
 }

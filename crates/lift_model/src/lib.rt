@@ -12,4 +12,3 @@ pub use kind::Kind;
 pub use laws::plans_over_one_pick;
 pub use model::Model;
 pub use row::Row;
-

@@ -2,7 +2,7 @@ ghost use Rattle.std.specs.Prelude.{◌≡◌, ◌<◌, ◌≤◌, ◌↔◌, le
 ghost use Rattle.lift_grid.specs.Rectangle.{IsOnGrid};
 ghost use Rattle.lift_grid.specs.Parts.{region_of};
 ghost use Rattle.lift_model.specs.Model.{choices, row_at};
-ghost use Rattle.corner_lift.specs.Case.{IsAdmittedRow, IsAdmitted, case_of, most_halvings, most_precision};
+ghost use Rattle.corner_lift.specs.Case.{SumsToOne, IsNarrow, IsNowhereNegative, IsAdmittedRow, IsAdmitted, case_of, row_parameters, most_row_parameters, most_halvings, most_precision};
 ghost use Rattle.lift_rows.specs.Admitted.{HasWeightsFromZero, HasSumsOfTotal};
 ghost use Rattle.lift_rows.specs.Fault.{IsRowFault, IsFirstFault, HasSmallNumber};
 
@@ -15,49 +15,106 @@ use corner_lift::{Case, rows_at_corners, rows_inside};
 use lift_grid::{Grid, Rect};
 use lift_model::Model;
 
-/// How many parameters may occur in a row.
+/// `most_row_parameters`: how many parameters may occur in a row.
 const MOST_PARAMETERS: u32 = 4;
+
+/// Tests that the coefficients of the row sum to what is due.
+fn test_sums(asked: &Candidate, state: u32, choice: u32) -> Result<(), RowError>
+    requires state { state < length asked.now.model.states }
+    requires choice { choice < length (choices asked.now.model state) }
+    ensures fault { let k = asked.now in let row = row_at k.model state choice in
+        MatchResult result (λ _. SumsToOne k.model.common row) (IsRowFault k state choice row) }
+    ensures number { IfErr result HasSmallNumber }
+{
+    let model = asked.model();
+    match sum_fault(model.common(), model.row(state, choice)) {
+        Some((set, sum)) => Err(RowError::RowSum {
+            state,
+            choice,
+            set,
+            sum,
+        }),
+        None => Ok(()),
+    }
+}
+
+/// Tests that few parameters occur in the row.
+fn test_count(asked: &Candidate, state: u32, choice: u32) -> Result<(), RowError>
+    requires state { state < length asked.now.model.states }
+    requires choice { choice < length (choices asked.now.model state) }
+    requires sums { SumsToOne asked.now.model.common (row_at asked.now.model state choice) }
+    ensures fault { let k = asked.now in let row = row_at k.model state choice in
+        MatchResult result (λ _. row_parameters k row ≤ most_row_parameters) (IsRowFault k state choice row) }
+    ensures number { IfErr result HasSmallNumber }
+{
+    rows_at_corners();
+    let count = asked.model().row(state, choice).support().count_ones();
+    if count > MOST_PARAMETERS {
+        Err(RowError::RowParameters {
+            state,
+            choice,
+            count,
+        })
+    } else {
+        Ok(())
+    }
+}
+
+/// Tests that the row is narrow.
+fn test_width(asked: &Candidate, state: u32, choice: u32) -> Result<(), RowError>
+    requires state { state < length asked.now.model.states }
+    requires choice { choice < length (choices asked.now.model state) }
+    requires sums { SumsToOne asked.now.model.common (row_at asked.now.model state choice) }
+    requires few { row_parameters asked.now (row_at asked.now.model state choice) ≤ most_row_parameters }
+    ensures fault { let k = asked.now in let row = row_at k.model state choice in
+        MatchResult result (λ _. IsNarrow k row) (IsRowFault k state choice row) }
+    ensures number { IfErr result HasSmallNumber }
+{
+    rows_at_corners();
+    let row = asked.model().row(state, choice);
+    if is_narrow(asked, row, row.support().count_ones()) {
+        Ok(())
+    } else {
+        Err(RowError::TooWide { state, choice })
+    }
+}
+
+/// Tests that no entry of the row weighs less than 0 at a corner.
+fn test_weights(asked: &Candidate, state: u32, choice: u32) -> Result<(), RowError>
+    requires state { state < length asked.now.model.states }
+    requires choice { choice < length (choices asked.now.model state) }
+    requires sums { SumsToOne asked.now.model.common (row_at asked.now.model state choice) }
+    requires few { row_parameters asked.now (row_at asked.now.model state choice) ≤ most_row_parameters }
+    requires narrow { IsNarrow asked.now (row_at asked.now.model state choice) }
+    ensures fault { let k = asked.now in let row = row_at k.model state choice in
+        MatchResult result (λ _. IsNowhereNegative k row) (IsRowFault k state choice row) }
+    ensures number { IfErr result HasSmallNumber }
+{
+    let Some(negative) = first_negative(asked, state, choice) else {
+        return Ok(());
+    };
+    let entries = asked.model().row(state, choice).entries();
+    Err(RowError::Negative {
+        state,
+        choice,
+        target: entries[negative.entry as usize].target,
+        corner: negative.corner,
+        weight: negative.weight,
+    })
+}
 
 /// Tests the row of a state's choice: its sums, its number of parameters, its width, its weights.
 fn test_row(asked: &Candidate, state: u32, choice: u32) -> Result<(), RowError>
     requires state { state < length asked.now.model.states }
     requires choice { choice < length (choices asked.now.model state) }
     ensures fault { let k = asked.now in let row = row_at k.model state choice in
-        MatchResult result (λ _. IsAdmittedRow k row) (λ error. IsRowFault k state choice row error) }
+        MatchResult result (λ _. IsAdmittedRow k row) (IsRowFault k state choice row) }
     ensures number { IfErr result HasSmallNumber }
 {
-    rows_at_corners();
-    let model = asked.model();
-    let row = model.row(state, choice);
-    if let Some((set, sum)) = sum_fault(model.common(), row) {
-        return Err(RowError::RowSum {
-            state,
-            choice,
-            set,
-            sum,
-        });
-    }
-    let count = row.support().count_ones();
-    if count > MOST_PARAMETERS {
-        return Err(RowError::RowParameters {
-            state,
-            choice,
-            count,
-        });
-    }
-    if !is_narrow(asked, row, count) {
-        return Err(RowError::TooWide { state, choice });
-    }
-    if let Some(negative) = first_negative(asked, state, choice) {
-        return Err(RowError::Negative {
-            state,
-            choice,
-            target: row.entries()[negative.entry as usize].target,
-            corner: negative.corner,
-            weight: negative.weight,
-        });
-    }
-    Ok(())
+    test_sums(asked, state, choice)?;
+    test_count(asked, state, choice)?;
+    test_width(asked, state, choice)?;
+    test_weights(asked, state, choice)
 }
 
 /// The case of a model over a root, or the first fault of its rows, which are tested by state and

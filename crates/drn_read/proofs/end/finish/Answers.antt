@@ -1,9 +1,8 @@
 use Rattle.std.proofs.Common.{◌≡◌, ◌∷◌, [], None, map, rules, refl, sym, subst, ◌∙◌}
 use Rattle.lift_model.specs.Valid.{IsModel}
-use Rattle.drn_read.specs.Faults.{first_of}
+use Rattle.drn_read.specs.Faults.{first_of, told}
 use Rattle.drn_read.specs.Judging.{Said}
-use Rattle.drn_read.specs.Reading.{end_fault}
-use Rattle.drn_read.specs.Shown.{told, common_fault}
+use Rattle.drn_read.specs.Reading.{end_fault, common_fault}
 use Rattle.drn_read.proofs.Ends.{model_is, no_fault}
 use Rattle.drn_read.proofs.end.finish.Goals as goal
 

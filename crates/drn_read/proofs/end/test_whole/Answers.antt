@@ -1,9 +1,8 @@
 use Rattle.std.proofs.Common.{◌≡◌, ◌∷◌, [], Err, sym, ap, ◌∙◌, rules, length}
 use Rattle.std.specs.Prelude.{is_some}
-use Rattle.drn_read.specs.Faults.{first_of, when}
-use Rattle.drn_read.specs.Reading.{mismatch, end_fault}
+use Rattle.drn_read.specs.Faults.{first_of, when, told}
+use Rattle.drn_read.specs.Reading.{mismatch, end_fault, common_fault}
 use Rattle.drn_read.specs.declared.error.DrnCause.TheVariants.{CountMismatch}
-use Rattle.drn_read.specs.Shown.{told, common_fault}
 use Rattle.drn_read.proofs.Ends.{skip, stop, refused}
 use Rattle.drn_read.proofs.end.test_whole.Goals as goal
 

@@ -17,13 +17,13 @@ returns-in_err-word-clause-fault c =
 pub returns-in_err-test_state_word-clause-fault : goal.returns-in_err-test_state_word-clause-fault
 returns-in_err-test_state_word-clause-fault c =
     let e : c.from_residual-in_err-test_state_word.result ≡ Err c.in_err-test_state_word.field-0.0 = search rules in
-    let w : left c.loop-word.words ≡ piece c.in-Some.word ∷ left c.next.new.self = search rules in
+    let w : left c.loop-word.words ≡ piece c.in-Some.word ∷ left c.next_word.new.self = search rules in
     let f : state_word_fault c.loop-word.is_first (piece c.in-Some.word) ≡ Some c.in_err-test_state_word.field-0.0 = search rules in
     rw e (sym (at_fault _ _ _ _ _ _ _ _ c.loop-word.invariant w f))
 
 pub loop-word-preserved : goal.loop-word-preserved
 loop-word-preserved c =
-    let w : left c.loop-word.words ≡ piece c.in-Some.word ∷ left c.next.new.self = search rules in
+    let w : left c.loop-word.words ≡ piece c.in-Some.word ∷ left c.next_word.new.self = search rules in
     let f : state_word_fault c.loop-word.is_first (piece c.in-Some.word) ≡ None = search rules in
     one_more _ _ _ _ _ _ _ _ _ c.loop-word.invariant w f c.is_label.ensures c.is_label-in-Some.ensures
 

@@ -2,9 +2,9 @@ use Rattle.std.proofs.Common.{◌≡◌, ◌+◌, false, not, [], ◌∷◌, Non
 use Rattle.std.specs.Prelude.{is_some}
 use Rattle.std.specs.Int.{from_bool}
 use Rattle.drn_read.specs.Parts.{is_empty}
-use Rattle.drn_read.specs.Judging.{open_choice}
+use Rattle.drn_read.specs.Judging.{open_choice, room_fault}
 use Rattle.drn_read.specs.Keeping.{on_last, with_transitions}
-use Rattle.drn_read.specs.ModelSteps.{room_fault, IsKept}
+use Rattle.drn_read.specs.ModelSteps.{IsKept}
 use Rattle.drn_read.proofs.Tallies.{kept_transition}
 use Rattle.drn_read.proofs.model_lines.ModelReader.add_transition.Goals as goal
 
