@@ -1,6 +1,7 @@
 // A job, and the parts of the command line that ask for it.
 ghost use Rattle.std.specs.Prelude.{◌≤◌};
-ghost use Rattle.corner_lift.specs.Case.{most_halvings, most_precision};
+ghost use Rattle.lift_grid.specs.Rectangle.{most_halvings};
+ghost use Rattle.corner_lift.specs.Case.{most_precision};
 
 use lift_cert::Bound;
 
