@@ -56,17 +56,14 @@ pub fn status_name(status: Status) -> &'static str {
 }
 
 // Whether the sinks took what the run says.
-fn has_written(
-    alloc: Global,
-    want: Run<'_>,
-    out: &MemSink,
-    notes: &MemSink,
-) -> Result<bool, Fail> {
+fn has_written(alloc: Global, want: Run<'_>, out: &MemSink, notes: &MemSink) -> Result<bool, Fail> {
     let end = lines_of(alloc, want.end)?;
     let told = lines_of(alloc, want.told)?;
-    Ok(out.taken().ends_with(&end)
-        && end.is_empty() == out.taken().is_empty()
-        && notes.taken() == told.as_slice())
+    Ok(
+        out.taken().ends_with(&end)
+            && end.is_empty() == out.taken().is_empty()
+            && notes.taken() == told.as_slice(),
+    )
 }
 
 // Whether a run on that text gives what it says.

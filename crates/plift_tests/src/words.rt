@@ -81,7 +81,12 @@ verify|--precision|0|--depth|21|--bound|1|--goal|x | usage: --depth;
 ";
 
 // How the program ends on a line's words, where the source fails at once.
-fn status_on(alloc: Global, line: &str, out: &mut MemSink, notes: &mut MemSink) -> Result<Status, Fail> {
+fn status_on(
+    alloc: Global,
+    line: &str,
+    out: &mut MemSink,
+    notes: &mut MemSink,
+) -> Result<Status, Fail> {
     let words = words_of(alloc, line, '|')?;
     let mut failing = Vec::new(alloc);
     failing.push(1)?;
@@ -94,7 +99,11 @@ fn is_told(alloc: Global, line: &str, told: &str) -> Result<bool, Fail> {
     let mut out = MemSink::new(alloc, 10, 1, Vec::new(alloc))?;
     let mut notes = MemSink::new(alloc, 100, 3, Vec::new(alloc))?;
     let got = status_on(alloc, line, &mut out, &mut notes)?;
-    let status = if told == "read fault;" { "ReadFault" } else { "Usage" };
+    let status = if told == "read fault;" {
+        "ReadFault"
+    } else {
+        "Usage"
+    };
     let told = lines_of(alloc, told)?;
     Ok(status_name(got) == status && out.taken().is_empty() && notes.taken() == told.as_slice())
 }

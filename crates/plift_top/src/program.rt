@@ -52,7 +52,7 @@ pub fn run<S: Source, K: Sink, E: Sink>(
     // that is built, and out took its report and nothing else.
     ensures done { result ≡ Status.Done → (j : VerifyData) × AsksToVerify (asked words.now.items) j
         × WasRead (Reports (Appends (K.taken out.old) (K.taken out.new)) j)
-            (S.left source.old) (S.left source.new) }
+        (S.left source.old) (S.left source.new) }
 
     // Each refusal has its cause. What `told` says of its note has the causes of the others.
     ensures at_fault { IsErr (asked words.now.items)
@@ -97,7 +97,7 @@ pub fn run<S: Source, K: Sink, E: Sink>(
     // What stands after a refusal: the front of the report after a write fault, else out as it was.
     ensures part { result ≡ Status.WriteFault → (j : VerifyData) × AsksToVerify (asked words.now.items) j
         × WasRead (Reports (AppendsFront (K.taken out.old) (K.taken out.new)) j)
-            (S.left source.old) (S.left source.new) }
+        (S.left source.old) (S.left source.new) }
     ensures kept { result ≢ Status.Done → result ≢ Status.WriteFault → out.new ≡ out.old }
     ensures unread { IsErr (asked words.now.items) → source.new ≡ source.old }
 

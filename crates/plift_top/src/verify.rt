@@ -17,10 +17,10 @@ use crate::report::{Report, Verdict};
 use corner_lift::{Case, rows_inside};
 use drn_read::read_model;
 use lift_base::{Sink, Source, read_all, write_buffered};
-use lift_names::Names;
 use lift_cert::{Bound, certificates_decide};
 use lift_grid::{Grid, Rect, read_region};
 use lift_model::Model;
+use lift_names::Names;
 use lift_rows::admit;
 use plift_words::VerifyJob;
 use rounded_iter::{Order, least_upper};
@@ -50,7 +50,12 @@ fn root_of(alloc: Global, job: &VerifyJob, names: &Names) -> Result<(Grid, Rect)
 }
 
 // The case of a model over a root, where all its rows are admitted and it is built.
-fn case_of<'m>(model: &'m Model, root: &'m Rect, grid: Grid, job: &VerifyJob) -> Result<Case<'m>, Refusal>
+fn case_of<'m>(
+    model: &'m Model,
+    root: &'m Rect,
+    grid: Grid,
+    job: &VerifyJob,
+) -> Result<Case<'m>, Refusal>
     requires grid { IsOnGrid grid.d grid.depth (length model.now.names) root.now }
     requires depth { grid.depth ≡ job.now.depth }
     ensures { AdmitsCase (verify_data job.now) model.now (region_of (grid, root.now)) result }

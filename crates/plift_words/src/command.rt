@@ -66,13 +66,15 @@ fn number_in(matches: &ArgMatches<'_>, id: &str, default: u32, low: u32, high: u
 fn job_in<'a>(matches: &ArgMatches<'a>) -> Result<Job<'a>, Field>
     ensures { let value = first_value (found_of matches.now) in
         answer_data result ≡ job_of (value (codes "goal")) (value (codes "bound"))
-            (value (codes "region")) (value (codes "depth")) (value (codes "precision")) }
+        (value (codes "region")) (value (codes "depth")) (value (codes "precision")) }
 {
     let goal = goal_in(matches).ok_or(Field::Goal)?;
     let bound = bound_in(matches).ok_or(Field::Bound)?;
     let region = region_in(matches);
     let depth = number_in(matches, "depth", DEFAULT_DEPTH, 0, MOST_HALVINGS).ok_or(Field::Depth)?;
-    let precision = number_in(matches, "precision", DEFAULT_PRECISION, 1, MOST_PRECISION).ok_or(Field::Precision)?;
+    let precision = number_in(matches, "precision", DEFAULT_PRECISION, 1, MOST_PRECISION).ok_or(
+        Field::Precision,
+    )?;
     Ok(Job::Verify(VerifyJob {
         goal,
         bound,

@@ -50,7 +50,7 @@ fn in_two_words<'a>(name: &'a str, words: &'a [String]) -> (Setting<'a>, &'a [St
 fn first_option(words: &[String]) -> Option<(Setting<'_>, &[String])>
     ensures option { MatchOption result (map string_bytes words.now ≡ [])
         (λ first. options (map string_bytes words.now)
-            ≡ setting_of first.0 ∷ options (map string_bytes first.1.now)) }
+        ≡ setting_of first.0 ∷ options (map string_bytes first.1.now)) }
     ensures shorter { IfSome result (λ first. length first.1.now < length words.now) }
 {
     let [word, rest @ ..] = words else {
@@ -105,7 +105,7 @@ fn is_value(value: Option<&str>) -> bool
 fn is_sound(setting: Setting<'_>, more: &[String]) -> bool
     ensures { let s = setting_of setting.entry in
         result ≡ (is_option s.name && is_value s.value
-            && not (stands s.name (options (map string_bytes more.now)))) }
+        && not (stands s.name (options (map string_bytes more.now)))) }
 {
     is_option(setting.name) && is_value(setting.value) && !stands(setting.name, more)
 }
