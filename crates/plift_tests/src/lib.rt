@@ -1,5 +1,21 @@
-//! Tests of the program. Each is a table of one text.
+//! Tests of the program. Each is a table of one text: a row in each line, and its cells between bars.
 #![tactic(auto)]
 
 #[cfg(test)]
+mod decided;
+#[cfg(test)]
+mod faults;
+#[cfg(test)]
+mod limits;
+#[cfg(test)]
+mod models;
+#[cfg(test)]
+mod refused;
+#[cfg(test)]
+mod regions;
+#[cfg(test)]
+mod rows;
+#[cfg(test)]
 mod runs;
+#[cfg(test)]
+mod words;

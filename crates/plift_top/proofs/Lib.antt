@@ -1,9 +1,6 @@
-pub mod Cuts
-pub mod Numbers
-pub mod Walk
-pub mod Lines
-pub mod Roots
+pub mod Rows
 pub mod Reading
 pub mod Refusals
 pub mod Acts
+pub mod Bounds
 mod Samples

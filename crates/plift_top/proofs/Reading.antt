@@ -1,5 +1,5 @@
 -- What the steps of a job say of the whole.
-use Rattle.std.proofs.Common.{◌≡◌, ◌≢◌, ℕ, List, true, Ok, Err, refl, sym, subst, Result, IsErrAnd}
+use Rattle.std.proofs.Common.{◌≡◌, ◌≢◌, ℕ, List, Ok, Err, refl, sym, subst, Result, IsErrAnd}
 use Rattle.std.specs.declared.option.Option.{Option}
 use Rattle.std.specs.Io.KnownBytes.{Consumes, IsAtEnd}
 use Rattle.lift_base.specs.Outside.{Rose, AppendsFront}
@@ -9,20 +9,19 @@ use Rattle.lift_grid.specs.declared.rect.Grid.{Grid}
 use Rattle.lift_grid.specs.declared.error.RegionError.{RegionError}
 use Rattle.lift_grid.specs.declared.error.RegionError.TheVariants as fault
 use Rattle.lift_model.specs.Model.{ModelData}
-use Rattle.corner_lift.specs.Case.{CaseData}
+use Rattle.lift_grid.specs.Tree.{Tree}
+use Rattle.corner_lift.specs.Case.{CaseData, case_of}
 use Rattle.lift_cert.specs.declared.bound.Bound.{Bound}
-use Rattle.lift_rows.specs.Admitted.{IsAdmitted}
 use Rattle.drn_read.specs.Reading.{drn}
 use Rattle.drn_read.specs.declared.error.DrnCause.{DrnCause}
 use Rattle.drn_read.specs.declared.error.DrnCause.TheVariants as cause
 use Rattle.drn_read.specs.declared.error.DrnError.{DrnError}
-use Rattle.plift_top.specs.Job.{JobData}
-use Rattle.plift_top.specs.Built.{is_built}
-use Rattle.plift_top.specs.Report.{Leaf, report_text}
+use Rattle.plift_words.specs.Job.{VerifyData}
+use Rattle.cert_text.specs.Report.{report_text}
 use Rattle.plift_top.specs.Leaf.{IsRightLeaf, BoundsSchedulers}
 use Rattle.plift_top.specs.Refused.{model_refusal, region_refusal}
-use Rattle.plift_top.specs.Verify.{WasRead, Reports, IsReportOf, IsRefused, IsRefusedAt, IsRefusedOver, Stops, Verifies, case_of}
-use Rattle.plift_top.specs.Stages.{ReadsModel, NamesRoot, AdmitsCase, WritesCase, WritesOver}
+use Rattle.plift_top.specs.Verify.{WasRead, Reports, IsReportOf, IsRefused, IsRefusedAt, IsRefusedOver, Stops, Verifies}
+use Rattle.plift_top.specs.Steps.{IsBuiltCase, ReadsModel, NamesRoot, AdmitsCase, WritesCase, WritesOver}
 use Rattle.plift_top.specs.declared.refusal.Refusal.{Refusal}
 use Rattle.plift_top.specs.declared.refusal.Refusal.TheVariants as refusal
 
@@ -41,7 +40,7 @@ module _ {S : Type 0} (left : S → Option (List ℕ)) (faults : S → ℕ) (sou
   refused_text text same error result is h = by_cause error.line error.cause result is (subst (λ (t : List ℕ). error.cause ≢ cause.Memory → drn t goal ≡ Err error) same h)
 
 -- a region that is refused
-pub refused_region : (job : JobData) (names : List (List ℕ)) (error : RegionError) (result : Result (Grid × Spans) Refusal) → IsErrAnd result (λ e. e ≡ region_refusal error) → Fails error (region names job.depth job.region) → NamesRoot job names result
+pub refused_region : (job : VerifyData) (names : List (List ℕ)) (error : RegionError) (result : Result (Grid × Spans) Refusal) → IsErrAnd result (λ e. e ≡ region_refusal error) → Fails error (region names job.depth job.region) → NamesRoot job names result
 refused_region job names error (Ok p) is h = absurd is
 refused_region job names error (Err e) is h = subst (λ (r : Refusal). NamesRoot job names (Err r)) (sym is) (by error h)
   where
@@ -55,7 +54,7 @@ refused_region job names error (Err e) is h = subst (λ (r : Refusal). NamesRoot
     by fault.Wide h = h
 
 -- why a job stops, by the step that stops it
-module _ {S : Type 0} (left : S → Option (List ℕ)) (faults : S → ℕ) (job : JobData) (source source' : S) where
+module _ {S : Type 0} (left : S → Option (List ℕ)) (faults : S → ℕ) (job : VerifyData) (source source' : S) where
   pub stops_reading : (why : Refusal) → ReadsModel left faults job.goal source source' (Err why) → Stops left faults job source source' why
   stops_reading (refusal.Model error) h = read_as (λ text is. subst (λ (a : Result ModelData DrnError). IsRefusedAt job a (refusal.Model error)) (sym is) refl) h
   stops_reading refusal.ReadFault h = h
@@ -73,7 +72,7 @@ module _ {S : Type 0} (left : S → Option (List ℕ)) (faults : S → ℕ) (job
     stops_naming _ h = absurd h
 
 -- a job that stopped before anything was written
-pub stopped : {S K T : Type 0} (left : S → Option (List ℕ)) (faults : S → ℕ) (taken : K → Option (List ℕ)) (counts : K → ℕ) (job : JobData) (source source' : S) (out : K) (why : Refusal) (result : Result T Refusal)
+pub stopped : {S K T : Type 0} (left : S → Option (List ℕ)) (faults : S → ℕ) (taken : K → Option (List ℕ)) (counts : K → ℕ) (job : VerifyData) (source source' : S) (out : K) (why : Refusal) (result : Result T Refusal)
     → IsErrAnd result (λ e. e ≡ why) → Stops left faults job source source' why → Verifies left faults taken counts job source source' out out result
 stopped left faults taken counts job source source' out why (Ok x) is h = absurd is
 stopped {T = T} left faults taken counts job source source' out why (Err e) is h = subst (λ (f : Refusal). Verifies {T = T} left faults taken counts job source source' out out (Err f)) (sym is) (by why h)
@@ -83,8 +82,9 @@ stopped {T = T} left faults taken counts job source source' out why (Err e) is h
     by _ h = (h, refl)
 
 -- a case was decided, and its report written
-pub case_reported : {written : List ℕ → Type 0} (k : CaseData) (bound : Bound) (leaf : Leaf) → IsAdmitted k → is_built k.model ≡ true → IsRightLeaf k bound leaf → BoundsSchedulers k bound leaf → written (report_text k bound leaf) → IsReportOf written k bound
-case_reported k bound leaf admitted built right bounds report = record { leaf = leaf; admitted = admitted; built = built; right = right; schedulers = bounds; report = report }
+pub case_reported : {written : List ℕ → Type 0} (k : CaseData) (bound : Bound) (leaf : Tree) → IsBuiltCase k → IsRightLeaf k bound leaf → BoundsSchedulers k bound leaf → written (report_text k bound leaf) → IsReportOf written k bound
+case_reported k bound leaf case right bounds report =
+    record { leaf = leaf; case = case.case; weights = case.weights; sums = case.sums; built = case.built; right = right; schedulers = bounds; report = report }
 
 pub case_cut_off : {K T : Type 0} (taken : K → Option (List ℕ)) (counts : K → ℕ) (k : CaseData) (bound : Bound) (out out' : K) (result : Result T Refusal) → IsErrAnd result (λ e. e ≡ refusal.WriteFault)
     → IsReportOf (AppendsFront (taken out) (taken out')) k bound → Rose (counts out) (counts out') → WritesCase taken counts k bound out out' result
@@ -96,7 +96,7 @@ case_short taken counts k bound out (Ok x) is = absurd is
 case_short {T = T} taken counts k bound out (Err e) is = subst (λ (f : Refusal). WritesCase {T = T} taken counts k bound out out (Err f)) (sym is) refl
 
 -- the rows weren't admitted, or the model isn't built
-pub over_refused : {K T : Type 0} (taken : K → Option (List ℕ)) (counts : K → ℕ) (job : JobData) (m : ModelData) (r : Region) (out : K) (why : Refusal) (result : Result T Refusal) → IsErrAnd result (λ e. e ≡ why)
+pub over_refused : {K T : Type 0} (taken : K → Option (List ℕ)) (counts : K → ℕ) (job : VerifyData) (m : ModelData) (r : Region) (out : K) (why : Refusal) (result : Result T Refusal) → IsErrAnd result (λ e. e ≡ why)
     → AdmitsCase job m r (Err why) → WritesOver taken counts job m r out out result
 over_refused taken counts job m r out why (Ok x) is h = absurd is
 over_refused {T = T} taken counts job m r out why (Err e) is h = subst (λ (f : Refusal). WritesOver {T = T} taken counts job m r out out (Err f)) (sym is) (by why h)
@@ -107,7 +107,7 @@ over_refused {T = T} taken counts job m r out why (Err e) is h = subst (λ (f : 
     by _ h = absurd h
 
 -- the report of the case of a model over a region
-pub over_written : {K T : Type 0} (taken : K → Option (List ℕ)) (counts : K → ℕ) (job : JobData) (m : ModelData) (r : Region) (k : CaseData) (out out' : K) (result : Result T Refusal) → AdmitsCase job m r (Ok k)
+pub over_written : {K T : Type 0} (taken : K → Option (List ℕ)) (counts : K → ℕ) (job : VerifyData) (m : ModelData) (r : Region) (k : CaseData) (out out' : K) (result : Result T Refusal) → AdmitsCase job m r (Ok k)
     → WritesCase taken counts k job.bound out out' result → WritesOver taken counts job m r out out' result
 over_written {T = T} taken counts job m r k out out' result admits h = by result (subst (λ (c : CaseData). WritesCase {T = T} taken counts c job.bound out out' result) admits.0 h)
   where
@@ -118,7 +118,7 @@ over_written {T = T} taken counts job m r k out out' result admits h = by result
     by (Err _) h = absurd h
 
 -- a whole job, by what was written over the root
-module _ {S : Type 0} (left : S → Option (List ℕ)) (faults : S → ℕ) (job : JobData) (source source' : S) (m : ModelData) (r : Region) (read : ReadsModel left faults job.goal source source' (Ok m)) (named : region m.names job.depth job.region ≡ Ok r) where
+module _ {S : Type 0} (left : S → Option (List ℕ)) (faults : S → ℕ) (job : VerifyData) (source source' : S) (m : ModelData) (r : Region) (read : ReadsModel left faults job.goal source source' (Ok m)) (named : region m.names job.depth job.region ≡ Ok r) where
   reports : {written : List ℕ → Type 0} → IsReportOf written (case_of m r job.precision) job.bound → WasRead (Reports written job) (left source) (left source')
   reports h = read_as (λ text is. record { model = m; root = r; read = is; named = named; report = h }) read
 

@@ -2,25 +2,21 @@
 use Rattle.std.proofs.Common.{◌≡◌, true, false, [], Ok, Err, refl, subst, Result}
 use Rattle.lift_grid.specs.Region.{Region, region}
 use Rattle.lift_grid.specs.declared.error.RegionError.{RegionError}
-use Rattle.lift_model.specs.Model.{ModelData, row_at}
-use Rattle.corner_lift.specs.Case.{CaseData}
-use Rattle.lift_rows.specs.Admitted.{IsAdmitted}
+use Rattle.lift_model.specs.Model.{ModelData}
+use Rattle.corner_lift.specs.Case.{CaseData, IsAdmitted, case_of}
 use Rattle.lift_rows.specs.Fault.{IsFirstFault}
+use Rattle.lift_rows.specs.Laws.{AdmittedHasNoFault}
 use Rattle.lift_rows.specs.declared.error.RowError.{RowError}
-use Rattle.lift_rows.proofs.Faults.{fault_refused}
 use Rattle.drn_read.specs.declared.error.DrnError.{DrnError}
-use Rattle.plift_top.specs.Job.{JobData}
+use Rattle.plift_words.specs.Job.{VerifyData}
 use Rattle.plift_top.specs.Built.{is_built}
-use Rattle.plift_top.specs.Verify.{IsRefusedAt, IsRefusedOver, case_of}
+use Rattle.plift_top.specs.Verify.{IsRefusedAt, IsRefusedOver}
 use Rattle.plift_top.specs.Answers.{status_of}
+use Rattle.plift_top.specs.declared.status.Status.TheVariants as status
 use Rattle.plift_top.specs.declared.refusal.Refusal.{Refusal}
 use Rattle.plift_top.specs.declared.refusal.Refusal.TheVariants as refusal
 
--- a case that is admitted has no first fault
-admitted_has_no_fault : (k : CaseData) (e : RowError) → IsAdmitted k → IsFirstFault k e → ⊥
-admitted_has_no_fault k e admitted f = fault_refused k f.state f.choice (row_at k.model f.state f.choice) e f.fault (admitted f.state [] f.state_in f.choice [] f.choice_in)
-
-module _ (job : JobData) (m : ModelData) where
+module _ (admitted_has_no_fault : AdmittedHasNoFault) (job : VerifyData) (m : ModelData) where
   never_over : (root : Region) → IsAdmitted (case_of m root job.precision) → is_built m ≡ true → (named : Result Region RegionError) → named ≡ Ok root → (why : Refusal) → IsRefusedOver job m named why → ⊥
   never_over root admitted built (Ok r) is (refusal.Rows error) h =
       let same : r ≡ root = cc in
@@ -42,15 +38,28 @@ module _ (job : JobData) (m : ModelData) where
   one_over (Ok r) _ b h k = absurd h
 
 -- a job whose model is admitted over its region and built isn't refused at its text
-pub never_refused : (job : JobData) (answer : Result ModelData DrnError) (m : ModelData) (root : Region) → answer ≡ Ok m → region m.names job.depth job.region ≡ Ok root → IsAdmitted (case_of m root job.precision) → is_built m ≡ true → (why : Refusal) → IsRefusedAt job answer why → ⊥
-never_refused job (Ok n) m root is named admitted built why h =
+pub never_refused : (none : AdmittedHasNoFault) (job : VerifyData) (answer : Result ModelData DrnError) (m : ModelData) (root : Region) → answer ≡ Ok m → region m.names job.depth job.region ≡ Ok root → IsAdmitted (case_of m root job.precision) → is_built m ≡ true → (why : Refusal) → IsRefusedAt job answer why → ⊥
+never_refused none job (Ok n) m root is named admitted built why h =
     let same : n ≡ m = cc in
-    never_over job m root admitted built (region m.names job.depth job.region) named why (subst (λ (n : ModelData). IsRefusedOver job n (region n.names job.depth job.region) why) same h)
-never_refused job (Err e) m root is named admitted built why h = absurd (cc)
+    never_over none job m root admitted built (region m.names job.depth job.region) named why (subst (λ (n : ModelData). IsRefusedOver job n (region n.names job.depth job.region) why) same h)
+never_refused none job (Err e) m root is named admitted built why h = absurd (cc)
 
 -- two refusals at a text have one status
-pub one_status : (job : JobData) (answer : Result ModelData DrnError) (a b : Refusal) → IsRefusedAt job answer a → IsRefusedAt job answer b → status_of a ≡ status_of b
-one_status job (Ok m) a b h k = one_over job m (region m.names job.depth job.region) a b h k
-one_status job (Err e) (refusal.Model f) (refusal.Model g) h k = refl
-one_status job (Err e) (refusal.Model f) _ h k = absurd k
-one_status job (Err e) _ b h k = absurd h
+pub one_status : (none : AdmittedHasNoFault) (job : VerifyData) (answer : Result ModelData DrnError) (a b : Refusal) → IsRefusedAt job answer a → IsRefusedAt job answer b → status_of a ≡ status_of b
+one_status none job (Ok m) a b h k = one_over none job m (region m.names job.depth job.region) a b h k
+one_status none job (Err e) (refusal.Model f) (refusal.Model g) h k = refl
+one_status none job (Err e) (refusal.Model f) _ h k = absurd k
+one_status none job (Err e) _ b h k = absurd h
+
+-- a job whose rows aren't admitted is refused by them
+pub rows_status : (job : VerifyData) (answer : Result ModelData DrnError) (m : ModelData) (root : Region) → answer ≡ Ok m → region m.names job.depth job.region ≡ Ok root → (IsAdmitted (case_of m root job.precision) → ⊥) → (why : Refusal) → IsRefusedAt job answer why → status_of why ≡ status.RowsRefused
+rows_status job (Ok n) m root is named bad why h =
+    let same : n ≡ m = cc in
+    by (region m.names job.depth job.region) named why (subst (λ (n : ModelData). IsRefusedOver job n (region n.names job.depth job.region) why) same h)
+  where
+    by : (named : Result Region RegionError) → named ≡ Ok root → (why : Refusal) → IsRefusedOver job m named why → status_of why ≡ status.RowsRefused
+    by (Ok r) is (refusal.Rows error) h = refl
+    by (Ok r) is refusal.Unbuilt h = let same : r ≡ root = cc in absurd (bad (subst (λ (r : Region). IsAdmitted (case_of m r job.precision)) same h.0))
+    by (Ok r) is _ h = absurd h
+    by (Err e) is why h = absurd (cc)
+rows_status job (Err e) m root is named bad why h = absurd (cc)

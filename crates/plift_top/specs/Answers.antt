@@ -11,12 +11,13 @@ use Rattle.lift_rows.specs.declared.error.RowError.{RowError}
 use Rattle.lift_rows.specs.declared.error.RowError.TheVariants.{RowSum, Negative, RowParameters, TooWide}
 use Rattle.drn_read.specs.Faults.{cause_name}
 use Rattle.drn_read.specs.declared.error.DrnError.{DrnError}
-use Rattle.plift_top.specs.Job.{JobData}
+use Rattle.plift_words.specs.Job.{JobData, VerifyData}
+use Rattle.plift_words.specs.Job.JobData.{verify}
+use Rattle.plift_words.specs.declared.job.Field.{Field}
+use Rattle.plift_words.specs.declared.job.Field.TheVariants as field
 use Rattle.plift_top.specs.Verify.{Verifies, WasRead, IsRefused}
 use Rattle.plift_top.specs.declared.status.Status.{Status}
 use Rattle.plift_top.specs.declared.status.Status.TheVariants as status
-use Rattle.plift_top.specs.declared.job.Field.{Field}
-use Rattle.plift_top.specs.declared.job.Field.TheVariants as field
 use Rattle.plift_top.specs.declared.refusal.Refusal.{Refusal}
 use Rattle.plift_top.specs.declared.refusal.Refusal.TheVariants as refusal
 
@@ -79,8 +80,33 @@ note_of refusal.WriteFault = codes "write fault\n"
 note_of refusal.TooLong = codes "too long\n"
 note_of refusal.Memory = codes "out of memory\n"
 
+-- the status of an answer
+abbrev pub answered : {T : Type 0} → Result T Refusal → Status
+answered (Ok x) = status.Done
+answered (Err why) = status_of why
+
+-- the number that the process ends with
+abbrev pub status_number : Status → ℕ
+status_number status.Done = 0
+status_number status.NotSound = 1
+status_number status.Usage = 2
+status_number status.ModelRefused = 3
+status_number status.RowsRefused = 4
+status_number status.ReadFault = 5
+status_number status.WriteFault = 6
+status_number status.TooLong = 7
+status_number status.Memory = 8
+
+-- the words ask to verify that
+abbrev pub AsksToVerify : Result JobData Field → VerifyData → Type 0
+AsksToVerify asked j = asked ≡ Ok (verify j)
+
+-- no fault was counted
+abbrev pub NoFault : ℕ → ℕ → Type 0
+NoFault before now = Rose before now → ⊥
+
 -- the job is refused at the text, with this status and this note
-pub record IsToldOf (s : Status) (note : List ℕ) (job : JobData) (text : List ℕ) : Type 0 where
+pub record IsRefusedWith (s : Status) (note : List ℕ) (job : VerifyData) (text : List ℕ) : Type 0 where
   pub why : Refusal
   pub refused : IsRefused job why text
   pub status : status_of why ≡ s
@@ -88,7 +114,7 @@ pub record IsToldOf (s : Status) (note : List ℕ) (job : JobData) (text : List 
 
 -- the words ask for a job, and it is refused at the text that was read, with this status and this note
 abbrev pub RefusesText : Status → Result JobData Field → Option (List ℕ) → Option (List ℕ) → List ℕ → Type 0
-RefusesText s asked old new note = (j : JobData) × (asked ≡ Ok j) × WasRead (IsToldOf s note j) old new
+RefusesText s asked old new note = (j : VerifyData) × AsksToVerify asked j × WasRead (IsRefusedWith s note j) old new
 
 -- an answer to these words, and to what was read of a source, has this note; a job that is done has none, and one answer doesn't come yet
 abbrev pub HasNote : Status → Result JobData Field → Option (List ℕ) → Option (List ℕ) → List ℕ → Type 0
@@ -102,11 +128,16 @@ HasNote status.WriteFault asked old new note = note ≡ codes "write fault\n"
 HasNote status.TooLong asked old new note = note ≡ codes "too long\n"
 HasNote status.Memory asked old new note = note ≡ codes "out of memory\n"
 
--- a note was told: whole where no fault was counted, else a part of it
-pub record Told {E : Type 0} (taken : E → Option (List ℕ)) (faults : E → ℕ) (old new : E) (note : List ℕ) : Type 0 where
+-- a note was written: whole where no fault was counted, else a part of it
+pub record WroteNote {E : Type 0} (taken : E → Option (List ℕ)) (faults : E → ℕ) (old new : E) (note : List ℕ) : Type 0 where
   pub part : AppendsFront (taken old) (taken new) note
-  pub whole : (Rose (faults old) (faults new) → ⊥) → Appends (taken old) (taken new) note
+  pub whole : NoFault (faults old) (faults new) → Appends (taken old) (taken new) note
   pub later : faults old ≤ faults new
+
+-- a refusal is told by its note, and nothing else is
+abbrev pub IsNoted : {E T : Type 0} → (E → Option (List ℕ)) → (E → ℕ) → E → E → Result T Refusal → Type 0
+IsNoted taken faults old new (Ok x) = new ≡ old
+IsNoted taken faults old new (Err why) = WroteNote taken faults old new (note_of why)
 
 -- the refusal of a line whose part f is at fault; want of memory may come in its place where the line is plain
 abbrev pub RefusesLine : {T : Type 0} → Field → Result T Refusal → Type 0
@@ -116,5 +147,5 @@ RefusesLine f _ = ⊥
 
 -- the words ask for a job and it was done or refused, or they ask for none and nothing was touched
 abbrev pub Acts : {S K T : Type 0} → (S → Option (List ℕ)) → (S → ℕ) → (K → Option (List ℕ)) → (K → ℕ) → Result JobData Field → S → S → K → K → Result T Refusal → Type 0
-Acts left faults taken counts (Ok job) source source' out out' result = Verifies left faults taken counts job source source' out out' result
+Acts left faults taken counts (Ok (verify job)) source source' out out' result = Verifies left faults taken counts job source source' out out' result
 Acts left faults taken counts (Err f) source source' out out' result = RefusesLine f result × (source' ≡ source) × (out' ≡ out)

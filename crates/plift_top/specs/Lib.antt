@@ -1,13 +1,7 @@
-pub mod Line
-pub mod Values
-pub mod Job
-pub mod Parser
-pub mod Given
-pub mod Report
-pub mod Written
 pub mod Built
 pub mod Leaf
+pub mod Decided
 pub mod Verify
-pub mod Stages
+pub mod Steps
 pub mod Refused
 pub mod Answers

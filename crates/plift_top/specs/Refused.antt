@@ -1,4 +1,6 @@
 -- The refusals that failed calls become.
+use Rattle.plift_words.specs.declared.error.WordsError.{WordsError}
+use Rattle.plift_words.specs.declared.error.WordsError.TheVariants as words
 use Rattle.lift_base.specs.declared.input.ReadError.{ReadError}
 use Rattle.lift_base.specs.declared.input.ReadError.TheVariants as why
 use Rattle.lift_grid.specs.declared.error.RegionError.{RegionError}
@@ -7,6 +9,11 @@ use Rattle.drn_read.specs.declared.error.DrnCause.TheVariants as cause
 use Rattle.drn_read.specs.declared.error.DrnError.{DrnError}
 use Rattle.plift_top.specs.declared.refusal.Refusal.{Refusal}
 use Rattle.plift_top.specs.declared.refusal.Refusal.TheVariants as refusal
+
+-- words that are refused, where it isn't for want of memory
+abbrev pub words_refusal : WordsError → Refusal
+words_refusal (words.Usage field) = refusal.Usage field
+words_refusal words.Memory = refusal.Memory
 
 -- each cause of a failed read has its own refusal
 abbrev pub refusal_of : ReadError → Refusal

@@ -6,14 +6,15 @@ use Rattle.lift_base.specs.Outside.{Rose, TakenHas, AppendsFront}
 use Rattle.lift_model.specs.Model.{ModelData}
 use Rattle.lift_grid.specs.Region.{Region, region}
 use Rattle.lift_grid.specs.declared.error.RegionError.{RegionError}
-use Rattle.corner_lift.specs.Case.{CaseData}
+use Rattle.lift_grid.specs.Tree.{Tree}
+use Rattle.corner_lift.specs.Case.{CaseData, IsCase, IsAdmitted, case_of}
 use Rattle.lift_cert.specs.declared.bound.Bound.{Bound}
-use Rattle.lift_rows.specs.Admitted.{IsAdmitted}
+use Rattle.lift_rows.specs.Admitted.{HasWeightsFromZero, HasSumsOfTotal}
 use Rattle.lift_rows.specs.Fault.{IsFirstFault}
 use Rattle.drn_read.specs.Reading.{drn}
 use Rattle.drn_read.specs.declared.error.DrnError.{DrnError}
-use Rattle.plift_top.specs.Job.{JobData}
-use Rattle.plift_top.specs.Report.{Leaf, report_text}
+use Rattle.cert_text.specs.Report.{report_text}
+use Rattle.plift_words.specs.Job.{VerifyData}
 use Rattle.plift_top.specs.Built.{is_built}
 use Rattle.plift_top.specs.Leaf.{IsRightLeaf, BoundsSchedulers}
 use Rattle.plift_top.specs.declared.refusal.Refusal.{Refusal}
@@ -30,38 +31,36 @@ pub record WasRead (P : List ℕ → Type 0) (old new : Option (List ℕ)) : Typ
   pub ended : IsAtEnd new
   pub has : P text
 
--- the case of a model over a region, at a precision
-abbrev pub case_of : ModelData → Region → ℕ → CaseData
-case_of m r w = record { model = m; root = r.spans; d = r.d; depth = r.depth; w = w }
-
 -- Why a job is refused at a model whose region comes to that: the region is at fault; or a row isn't admitted; or all rows are, and the model isn't built.
-abbrev pub IsRefusedOver : JobData → ModelData → Result Region RegionError → Refusal → Type 0
+abbrev pub IsRefusedOver : VerifyData → ModelData → Result Region RegionError → Refusal → Type 0
 IsRefusedOver job m (Err error) (refusal.Region f) = f ≡ error
 IsRefusedOver job m (Ok r) (refusal.Rows error) = IsFirstFault (case_of m r job.precision) error
 IsRefusedOver job m (Ok r) refusal.Unbuilt = IsAdmitted (case_of m r job.precision) × (is_built m ≡ false)
 IsRefusedOver job m _ _ = ⊥
 
 -- Why a job is refused at a text that comes to that: it stands for no model; or by what is asked of its model.
-abbrev pub IsRefusedAt : JobData → Result ModelData DrnError → Refusal → Type 0
+abbrev pub IsRefusedAt : VerifyData → Result ModelData DrnError → Refusal → Type 0
 IsRefusedAt job (Err error) (refusal.Model f) = f ≡ error
 IsRefusedAt job (Err error) _ = ⊥
 IsRefusedAt job (Ok m) why = IsRefusedOver job m (region m.names job.depth job.region) why
 
 -- why a job is refused at a text
-abbrev pub IsRefused : JobData → Refusal → List ℕ → Type 0
+abbrev pub IsRefused : VerifyData → Refusal → List ℕ → Type 0
 IsRefused job why text = IsRefusedAt job (drn text job.goal) why
 
--- What was written is the report of a case, whose rows are admitted and whose model is built, and of the right leaf, which bounds every scheduler where it accepts.
+-- What was written is the report of a case, whose model is built, and of the right leaf, which bounds every scheduler where it accepts. At each valuation inside the root each row of the case is a distribution.
 pub record IsReportOf (written : List ℕ → Type 0) (k : CaseData) (bound : Bound) : Type 0 where
-  pub leaf : Leaf
-  pub admitted : IsAdmitted k
+  pub leaf : Tree
+  pub case : IsCase k
+  pub weights : HasWeightsFromZero k
+  pub sums : HasSumsOfTotal k
   pub built : is_built k.model ≡ true
   pub right : IsRightLeaf k bound leaf
   pub schedulers : BoundsSchedulers k bound leaf
   pub report : written (report_text k bound leaf)
 
 -- The text stands for a model, the job's region names a rectangle of its parameters, and what was written is the report of that case.
-pub record Reports (written : List ℕ → Type 0) (job : JobData) (text : List ℕ) : Type 0 where
+pub record Reports (written : List ℕ → Type 0) (job : VerifyData) (text : List ℕ) : Type 0 where
   pub model : ModelData
   pub root : Region
   pub read : drn text job.goal ≡ Ok model
@@ -69,7 +68,7 @@ pub record Reports (written : List ℕ → Type 0) (job : JobData) (text : List 
   pub report : IsReportOf written (case_of model root job.precision) job.bound
 
 -- why a job stopped before anything was written
-abbrev pub Stops : {S : Type 0} → (S → Option (List ℕ)) → (S → ℕ) → JobData → S → S → Refusal → Type 0
+abbrev pub Stops : {S : Type 0} → (S → Option (List ℕ)) → (S → ℕ) → VerifyData → S → S → Refusal → Type 0
 Stops left faults job source source' refusal.ReadFault = Rose (faults source) (faults source')
 Stops left faults job source source' refusal.TooLong = TakenHas (λ bytes. text_limit < length bytes) (left source) (left source')
 Stops left faults job source source' refusal.Memory = ⊤
@@ -78,7 +77,7 @@ Stops left faults job source source' refusal.WriteFault = ⊥
 Stops left faults job source source' why = WasRead (IsRefused job why) (left source) (left source')
 
 -- What a job comes to: the report is written, or there is a cause. The sink is as it was but for a report or the front of one.
-abbrev pub Verifies : {S K T : Type 0} → (S → Option (List ℕ)) → (S → ℕ) → (K → Option (List ℕ)) → (K → ℕ) → JobData → S → S → K → K → Result T Refusal → Type 0
+abbrev pub Verifies : {S K T : Type 0} → (S → Option (List ℕ)) → (S → ℕ) → (K → Option (List ℕ)) → (K → ℕ) → VerifyData → S → S → K → K → Result T Refusal → Type 0
 Verifies left faults taken counts job source source' out out' (Ok _) =
     WasRead (Reports (Appends (taken out) (taken out')) job) (left source) (left source')
 Verifies left faults taken counts job source source' out out' (Err refusal.WriteFault) =

@@ -1,20 +1,15 @@
-// The program.
+//! The program: what its words ask for is done, and its status and its notes tell how it went.
 #![tactic(auto)]
 
 mod built;
-mod command;
-mod job;
-mod line;
-mod parser;
+mod edge;
+mod notes;
 mod program;
 mod refusal;
 mod report;
 mod status;
-mod values;
 mod verify;
 
+pub use edge::launch;
 pub use program::run;
-pub use status::Status;
-
-#[cfg(test)]
-mod tests;
+pub use status::{Status, exit_code};

@@ -1,17 +1,17 @@
 // Why a command gave up.
 ghost use Rattle.std.specs.Prelude.{◌≡◌};
-ghost use Rattle.plift_top.specs.declared.refusal.Refusal.TheVariants.{Memory, WriteFault, Usage, Rows};
-ghost use Rattle.plift_top.specs.Refused.{refusal_of, model_refusal, region_refusal};
+ghost use Rattle.plift_top.specs.declared.refusal.Refusal.TheVariants.{Memory, WriteFault, Rows};
+ghost use Rattle.plift_top.specs.Refused.{words_refusal, refusal_of, model_refusal, region_refusal};
 
-use crate::job::Field;
 use drn_read::{DrnCause, DrnError};
 use lift_base::ReadError;
 use lift_grid::RegionError;
 use lift_rows::RowError;
+use plift_words::{Field, WordsError};
 use std::alloc::AllocError;
 
 /// Why a command gave up, with what its note tells.
-#[derive(Clone, Copy, Debug, PartialEq, Eq)]
+#[derive(Clone, Copy)]
 pub enum Refusal {
     /// This part of the command line is at fault.
     Usage(Field),
@@ -30,11 +30,14 @@ pub enum Refusal {
     Memory,
 }
 
-impl From<Field> for Refusal {
-    ghost from_gives = { λ field e. e ≡ Usage field };
+impl From<WordsError> for Refusal {
+    ghost from_gives = { λ error e. e ≡ words_refusal error };
 
-    fn from(field: Field) -> Self {
-        Refusal::Usage(field)
+    fn from(error: WordsError) -> Self {
+        match error {
+            WordsError::Usage(field) => Refusal::Usage(field),
+            WordsError::Memory => Refusal::Memory,
+        }
     }
 }
 

@@ -1,19 +1,14 @@
-// Writes a report.
-ghost use Rattle.std.specs.Prelude.{◌≡◌, ◌<◌, ◌∷◌, length};
-ghost use Rattle.std.specs.List.{concat, flat_map};
-ghost use Rattle.std.specs.Fmt.{decimal};
+// A report whose tree is one leaf.
+ghost use Rattle.std.specs.Prelude.{ℕ};
+ghost use Rattle.std.specs.List.{concat};
 ghost use Rattle.lift_base.specs.Outside.{Wrote};
-ghost use Rattle.lift_model.specs.Model.{choices};
-ghost use Rattle.plift_top.specs.Report.{kind_name, kind_lines, parameters_line, size_lines, head_lines, goal_states, goal_line, term_word, entry_line, row_line, row_lines, state_lines, rows_lines, model_lines, asked_lines, box_line, leaf_line, report_text};
-ghost use Rattle.plift_top.specs.Written.{leaf_of};
+ghost use Rattle.cert_text.specs.Report.{tree_lines};
+ghost use Rattle.plift_top.specs.Decided.{leaf_of, text_of};
 
+use cert_text::{write_accept, write_head, write_unknown};
 use corner_lift::Case;
-use lift_base::{Sink, Text, Word, WriteFault, write_all, write_words};
-use lift_names::Names;
+use lift_base::{Sink, Text, WriteFault, writes_in_turn};
 use lift_cert::Bound;
-use lift_grid::Rect;
-use lift_model::{Entry, Kind, Model, Row};
-use lift_poly::MultiAffine;
 
 /// A report of a case whose tree is one leaf.
 #[derive(Clone, Copy)]
@@ -24,289 +19,29 @@ pub struct Report<'c, 'm, 'x> {
 }
 
 /// What is decided of the whole root.
-#[derive(Clone, Copy, Debug)]
+#[derive(Clone, Copy)]
 pub enum Verdict<'a> {
     /// A certificate, with one number for each state.
     Accept(&'a [i64]),
     Unknown,
 }
 
-fn kind_name(kind: Kind) -> &'static [u8]
-    ensures { result.now ≡ kind_name kind }
-{
-    match kind {
-        Kind::Dtmc => b"dtmc",
-        Kind::Mdp => b"mdp",
-    }
-}
-
-fn write_kind<K: Sink>(out: &mut K, kind: Kind) -> Result<(), WriteFault>
-    ensures { Wrote K.taken K.faults out.old out.new result (concat (kind_lines kind)) }
-{
-    write_words(
-        out,
-        &[
-            Word::Text(b"plift 1\nkind "),
-            Word::Text(kind_name(kind)),
-            Word::Text(b"\n"),
-        ],
-    )
-}
-
-fn write_name<K: Sink>(out: &mut K, name: &[u8]) -> Result<(), WriteFault>
-    ensures { Wrote K.taken K.faults out.old out.new result (32 ∷ name.now) }
-{
-    write_words(out, &[Word::Text(b" "), Word::Text(name)])
-}
-
-fn write_names<K: Sink>(out: &mut K, names: &Names) -> Result<(), WriteFault>
-    ensures { Wrote K.taken K.faults out.old out.new result (flat_map (λ name. 32 ∷ name) names.now) }
-{
-    for place in 0..names.len() {
-        write_name(out, names.get(place))?;
-    }
-    Ok(())
-}
-
-fn write_parameters<K: Sink>(out: &mut K, names: &Names) -> Result<(), WriteFault>
-    ensures { Wrote K.taken K.faults out.old out.new result (parameters_line names.now) }
-{
-    write_words(
-        out,
-        &[
-            Word::Text(b"parameters "),
-            Word::Count(u64::from(names.len())),
-        ],
-    )?;
-    write_names(out, names)?;
-    write_all(out, b"\n")
-}
-
-#[tactic(auto, unfolding(crate::specs::Report::size_lines))]
-fn write_sizes<K: Sink>(out: &mut K, model: &Model) -> Result<(), WriteFault>
-    ensures { Wrote K.taken K.faults out.old out.new result (concat (size_lines model.now)) }
-{
-    write_words(
-        out,
-        &[
-            Word::Text(b"common "),
-            Word::Number(i128::from(model.common())),
-            Word::Text(b"\nstates "),
-            Word::Count(u64::from(model.states())),
-            Word::Text(b"\ninit "),
-            Word::Count(u64::from(model.init())),
-            Word::Text(b"\n"),
-        ],
-    )
-}
-
-fn write_head<K: Sink>(out: &mut K, model: &Model) -> Result<(), WriteFault>
-    ensures { Wrote K.taken K.faults out.old out.new result (concat (head_lines model.now)) }
-{
-    write_kind(out, model.kind())?;
-    write_parameters(out, model.names())?;
-    write_sizes(out, model)
-}
-
-fn goal_count(model: &Model) -> u32
-    ensures { result ≡ length (goal_states 0 model.now.goal) }
-{
-    let mut count = 0;
-    for s in 0..model.states() {
-        if model.is_goal(s) {
-            count += 1;
-        }
-    }
-    count
-}
-
-fn write_state<K: Sink>(out: &mut K, s: u32) -> Result<(), WriteFault>
-    ensures { Wrote K.taken K.faults out.old out.new result (32 ∷ decimal s) }
-{
-    write_words(out, &[Word::Text(b" "), Word::Count(u64::from(s))])
-}
-
-fn write_goal_states<K: Sink>(out: &mut K, model: &Model) -> Result<(), WriteFault>
-    ensures { Wrote K.taken K.faults out.old out.new result (flat_map (λ s. 32 ∷ decimal s) (goal_states 0 model.now.goal)) }
-{
-    for s in 0..model.states() {
-        if model.is_goal(s) {
-            write_state(out, s)?;
-        }
-    }
-    Ok(())
-}
-
-fn write_goal<K: Sink>(out: &mut K, model: &Model) -> Result<(), WriteFault>
-    ensures { Wrote K.taken K.faults out.old out.new result (goal_line model.now.goal) }
-{
-    let count = goal_count(model);
-    write_words(out, &[Word::Text(b"goal "), Word::Count(u64::from(count))])?;
-    write_goal_states(out, model)?;
-    write_all(out, b"\n")
-}
-
-fn write_term<K: Sink>(out: &mut K, term: (u16, i128)) -> Result<(), WriteFault>
-    ensures { Wrote K.taken K.faults out.old out.new result (32 ∷ term_word term) }
-{
-    let (set, coefficient) = term;
-    write_words(
-        out,
-        &[
-            Word::Text(b" "),
-            Word::Count(u64::from(set)),
-            Word::Text(b":"),
-            Word::Number(coefficient),
-        ],
-    )
-}
-
-fn write_terms<K: Sink>(out: &mut K, poly: &MultiAffine) -> Result<(), WriteFault>
-    ensures { Wrote K.taken K.faults out.old out.new result (flat_map (λ term. 32 ∷ term_word term) poly.now) }
-{
-    for index in 0..poly.len() {
-        write_term(out, poly.term(index))?;
-    }
-    Ok(())
-}
-
-fn write_entry<K: Sink>(out: &mut K, entry: &Entry) -> Result<(), WriteFault>
-    ensures { Wrote K.taken K.faults out.old out.new result (entry_line entry.now) }
-{
-    write_words(
-        out,
-        &[Word::Text(b"to "), Word::Count(u64::from(entry.target))],
-    )?;
-    write_terms(out, &entry.poly)?;
-    write_all(out, b"\n")
-}
-
-fn write_entries<K: Sink>(out: &mut K, entries: &[Entry]) -> Result<(), WriteFault>
-    ensures { Wrote K.taken K.faults out.old out.new result (flat_map entry_line entries.now) }
-{
-    for entry in entries {
-        write_entry(out, entry)?;
-    }
-    Ok(())
-}
-
-#[tactic(auto, unfolding(crate::specs::Report::row_line))]
-fn write_row_line<K: Sink>(out: &mut K, s: u32, a: u32, count: usize) -> Result<(), WriteFault>
-    ensures { Wrote K.taken K.faults out.old out.new result (row_line s a count) }
-{
-    write_words(
-        out,
-        &[
-            Word::Text(b"row "),
-            Word::Count(u64::from(s)),
-            Word::Text(b" "),
-            Word::Count(u64::from(a)),
-            Word::Text(b" "),
-            Word::Count(count as u64),
-            Word::Text(b"\n"),
-        ],
-    )
-}
-
-fn write_row<K: Sink>(out: &mut K, s: u32, a: u32, row: &Row) -> Result<(), WriteFault>
-    ensures { Wrote K.taken K.faults out.old out.new result (concat (row_lines s a row.now)) }
-{
-    let entries = row.entries();
-    write_row_line(out, s, a, entries.len())?;
-    write_entries(out, entries)
-}
-
-fn write_state_rows<K: Sink>(out: &mut K, model: &Model, s: u32) -> Result<(), WriteFault>
-    requires { s < length model.now.states }
-    ensures { Wrote K.taken K.faults out.old out.new result (concat (state_lines s (choices model.now s))) }
-{
-    for a in 0..model.choices(s) {
-        write_row(out, s, a, model.row(s, a))?;
-    }
-    Ok(())
-}
-
-fn write_rows<K: Sink>(out: &mut K, model: &Model) -> Result<(), WriteFault>
-    ensures { Wrote K.taken K.faults out.old out.new result (concat (rows_lines model.now.states)) }
-{
-    for s in 0..model.states() {
-        write_state_rows(out, model, s)?;
-    }
-    Ok(())
-}
-
-#[tactic(auto, unfolding(crate::specs::Report::asked_lines))]
-fn write_asked<K: Sink>(out: &mut K, case: &Case, bound: Bound) -> Result<(), WriteFault>
-    ensures { Wrote K.taken K.faults out.old out.new result (concat (asked_lines case.now bound)) }
-{
-    let grid = case.grid();
-    write_words(
-        out,
-        &[
-            Word::Text(b"bound "),
-            Word::Count(u64::from(bound.num)),
-            Word::Text(b"/"),
-            Word::Count(u64::from(bound.den)),
-            Word::Text(b"\nprecision "),
-            Word::Count(u64::from(case.w())),
-            Word::Text(b"\ndepth "),
-            Word::Count(u64::from(grid.depth)),
-            Word::Text(b"\ngrid "),
-            Word::Number(i128::from(grid.d)),
-            Word::Text(b"\n"),
-        ],
-    )
-}
-
-fn write_box<K: Sink>(out: &mut K, root: &Rect) -> Result<(), WriteFault>
-    ensures { Wrote K.taken K.faults out.old out.new result (box_line root.now) }
-{
-    let sides = root.sides();
-    write_words(
-        out,
-        &[Word::Text(b"box"), Word::Numbers(sides), Word::Text(b"\n")],
-    )
-}
-
 fn write_leaf<K: Sink>(out: &mut K, verdict: &Verdict) -> Result<(), WriteFault>
-    ensures { Wrote K.taken K.faults out.old out.new result (leaf_line (leaf_of verdict.now)) }
+    ensures { (init w : ℕ)
+        → Wrote K.taken K.faults out.old out.new result (concat (tree_lines init (leaf_of w verdict.now))) }
 {
     match *verdict {
-        Verdict::Unknown => write_all(out, b"unknown\n"),
-        Verdict::Accept(x) => write_words(
-            out,
-            &[Word::Text(b"accept"), Word::Numbers(x), Word::Text(b"\n")],
-        ),
+        Verdict::Accept(x) => write_accept(out, x),
+        Verdict::Unknown => write_unknown(out),
     }
-}
-
-fn write_model<K: Sink>(out: &mut K, model: &Model) -> Result<(), WriteFault>
-    ensures { Wrote K.taken K.faults out.old out.new result (concat (model_lines model.now)) }
-{
-    write_head(out, model)?;
-    write_goal(out, model)?;
-    write_rows(out, model)
-}
-
-// Writes the whole report. Takes no memory.
-fn write_report<K: Sink>(
-    out: &mut K,
-    case: &Case,
-    bound: Bound,
-    verdict: &Verdict,
-) -> Result<(), WriteFault>
-    ensures { Wrote K.taken K.faults out.old out.new result (report_text case.now bound (leaf_of verdict.now)) }
-{
-    write_model(out, case.model())?;
-    write_asked(out, case, bound)?;
-    write_box(out, case.root())?;
-    write_leaf(out, verdict)
 }
 
 impl<'c, 'm, 'x> Text for Report<'c, 'm, 'x> {
-    ghost text = { λ r. report_text r.case.now r.bound (leaf_of r.verdict) };
+    ghost text = { text_of };
 
     fn write_to<K: Sink>(&self, out: &mut K) -> Result<(), WriteFault> {
-        write_report(out, self.case, self.bound, &self.verdict)
+        writes_in_turn::<K>();
+        write_head(out, self.case, self.bound)?;
+        write_leaf(out, &self.verdict)
     }
 }

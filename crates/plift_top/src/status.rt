@@ -1,5 +1,12 @@
+// How the program ends.
+ghost use Rattle.std.specs.Prelude.{◌≡◌};
+ghost use Rattle.std.specs.Process.{exit_status};
+ghost use Rattle.plift_top.specs.Answers.{status_number};
+
+use std::process::ExitCode;
+
 /// How the program ended. The process exits with this number.
-#[derive(Clone, Copy, Debug, PartialEq, Eq)]
+#[derive(Clone, Copy, PartialEq, Eq)]
 pub enum Status {
     /// The command did what it says.
     Done = 0,
@@ -19,4 +26,11 @@ pub enum Status {
     TooLong = 7,
     /// Memory ran out.
     Memory = 8,
+}
+
+/// The code that a process exits with.
+pub fn exit_code(status: Status) -> ExitCode
+    ensures { exit_status result ≡ status_number status }
+{
+    ExitCode::from(status as u8)
 }

@@ -1,29 +1,29 @@
 // Verifies a model against a bound.
-ghost use Rattle.std.specs.Prelude.{◌≡◌, ◌≤◌, ◌<◌, ◌^◌, IfOk, true, length, IsTrue, ◌↔◌, pos, ◌*ℤ◌, ◌≤ℤ◌};
+ghost use Rattle.std.specs.Prelude.{◌≡◌, ◌≤◌, ◌<◌, IfOk, length, IsTrue, ◌↔◌};
 ghost use Rattle.lift_grid.specs.Rectangle.{IsOnGrid};
 ghost use Rattle.lift_grid.specs.Parts.{region_of};
-ghost use Rattle.corner_lift.specs.Certificate.{IsLeastUpper, number};
-ghost use Rattle.lift_rows.specs.Admitted.{IsAdmitted};
-ghost use Rattle.plift_top.specs.Built.{is_built};
-ghost use Rattle.plift_top.specs.Given.{job_data};
-ghost use Rattle.plift_top.specs.Written.{leaf_of};
+ghost use Rattle.corner_lift.specs.Case.{number, most_precision};
+ghost use Rattle.corner_lift.specs.Certificate.{IsLeastUpper};
+ghost use Rattle.lift_cert.specs.Certificate.{IsWithin};
+ghost use Rattle.plift_words.specs.Given.{verify_data};
+ghost use Rattle.plift_top.specs.Decided.{leaf_of};
 ghost use Rattle.plift_top.specs.Leaf.{IsRightLeaf, BoundsSchedulers};
 ghost use Rattle.plift_top.specs.Verify.{Verifies, KeepsLimit};
-ghost use Rattle.plift_top.specs.Stages.{ReadsModel, NamesRoot, AdmitsCase, WritesCase, WritesOver};
+ghost use Rattle.plift_top.specs.Steps.{IsBuiltCase, ReadsModel, NamesRoot, AdmitsCase, WritesCase, WritesOver};
 
 use crate::built::is_built;
-use crate::job::Job;
 use crate::refusal::Refusal;
 use crate::report::{Report, Verdict};
-use corner_lift::Case;
+use corner_lift::{Case, rows_inside};
 use drn_read::read_model;
 use lift_base::{Sink, Source, read_all, write_buffered};
-use lift_names::Names;
-use lift_cert::Bound;
+use lift_cert::{Bound, certificates_decide};
 use lift_grid::{Grid, Rect, read_region};
 use lift_model::Model;
+use lift_names::Names;
 use lift_rows::admit;
-use rounded_iter::least_upper;
+use plift_words::VerifyJob;
+use rounded_iter::{Order, least_upper};
 use std::alloc::{AllocError, Global};
 
 /// How many bytes a text may have.
@@ -40,8 +40,8 @@ fn model_of<S: Source>(alloc: Global, goal: &[u8], source: &mut S) -> Result<Mod
 }
 
 // The rectangle that the job's region names, over its grid.
-fn root_of(alloc: Global, job: &Job, names: &Names) -> Result<(Grid, Rect), Refusal>
-    ensures answer { NamesRoot (job_data job.now) names.now result }
+fn root_of(alloc: Global, job: &VerifyJob, names: &Names) -> Result<(Grid, Rect), Refusal>
+    ensures answer { NamesRoot (verify_data job.now) names.now result }
     ensures on_grid { IfOk result (λ p. IsOnGrid p.0.d p.0.depth (length names.now) p.1) }
     ensures depth { IfOk result (λ p. p.0.depth ≡ job.now.depth) }
 {
@@ -50,10 +50,15 @@ fn root_of(alloc: Global, job: &Job, names: &Names) -> Result<(Grid, Rect), Refu
 }
 
 // The case of a model over a root, where all its rows are admitted and it is built.
-fn case_of<'m>(model: &'m Model, root: &'m Rect, grid: Grid, job: &Job) -> Result<Case<'m>, Refusal>
+fn case_of<'m>(
+    model: &'m Model,
+    root: &'m Rect,
+    grid: Grid,
+    job: &VerifyJob,
+) -> Result<Case<'m>, Refusal>
     requires grid { IsOnGrid grid.d grid.depth (length model.now.names) root.now }
     requires depth { grid.depth ≡ job.now.depth }
-    ensures { AdmitsCase (job_data job.now) model.now (region_of (grid, root.now)) result }
+    ensures { AdmitsCase (verify_data job.now) model.now (region_of (grid, root.now)) result }
 {
     let case = admit(model, root, grid, job.precision)?;
     if !is_built(model) {
@@ -64,30 +69,32 @@ fn case_of<'m>(model: &'m Model, root: &'m Rect, grid: Grid, job: &Job) -> Resul
 
 // The least upper vector of a case on its root.
 fn upper_of(alloc: Global, case: &Case) -> Result<Vec<i64>, AllocError>
-    ensures { let k = case.now in IfOk result (λ x. IsLeastUpper k.model k.d k.root k.w x.items) }
+    ensures { IfOk result (λ x. IsLeastUpper case.now case.now.root x.items) }
 {
-    let states = case.model().states() as usize;
-    let mut lane = vec![in alloc; 0; states]?;
-    let mut order = vec![in alloc; 0; states]?;
-    least_upper(case, case.root().sides(), &mut lane, &mut order);
+    let model = case.model();
+    let order = Order::targets_first(alloc, model)?;
+    let mut lane = vec![in alloc; 0; model.states() as usize]?;
+    least_upper(case, case.root().sides(), &order, &mut lane);
     Ok(lane)
 }
 
 // Whether the number of a state is within the bound.
 fn is_within(bound: Bound, x: &[i64], s: u32, precision: u32) -> bool
     requires state { s < length x.now }
-    requires precision { precision ≤ 40 }
-    ensures { IsTrue result ↔ ((number x.now s *ℤ pos bound.den) ≤ℤ (pos bound.num *ℤ pos (2 ^ precision))) }
+    requires precision { precision ≤ most_precision }
+    ensures { IsTrue result ↔ IsWithin bound precision (number x.now s) }
 {
     bound.admits(x[s as usize], precision)
 }
 
 // Whether the least upper vector is within the bound decides the root.
 fn decide<'x>(case: &Case, bound: Bound, x: &'x [i64]) -> Verdict<'x>
-    requires { let k = case.now in IsLeastUpper k.model k.d k.root k.w x.now }
-    ensures right { IsRightLeaf case.now bound (leaf_of result) }
-    ensures schedulers { BoundsSchedulers case.now bound (leaf_of result) }
+    requires { IsLeastUpper case.now case.now.root x.now }
+    ensures right { IsRightLeaf case.now bound (leaf_of case.now.w result) }
+    ensures schedulers { BoundsSchedulers case.now bound (leaf_of case.now.w result) }
 {
+    certificates_decide();
+    rows_inside();
     if is_within(bound, x, case.model().init(), case.w()) {
         Verdict::Accept(x)
     } else {
@@ -97,8 +104,7 @@ fn decide<'x>(case: &Case, bound: Bound, x: &'x [i64]) -> Verdict<'x>
 
 // Decides the root of a case that is admitted and built, and writes its report.
 fn write_case<K: Sink>(alloc: Global, case: &Case, bound: Bound, out: &mut K) -> Result<(), Refusal>
-    requires admitted { IsAdmitted case.now }
-    requires built { is_built case.now.model ≡ true }
+    requires { IsBuiltCase case.now }
     ensures { WritesCase K.taken K.faults case.now bound out.old out.new result }
 {
     let x = upper_of(alloc, case)?;
@@ -115,7 +121,7 @@ fn write_case<K: Sink>(alloc: Global, case: &Case, bound: Bound, out: &mut K) ->
 // Tests the rows of a model over a root, and writes the report of that case.
 fn write_over<K: Sink>(
     alloc: Global,
-    job: &Job,
+    job: &VerifyJob,
     model: &Model,
     root: &Rect,
     grid: Grid,
@@ -123,7 +129,8 @@ fn write_over<K: Sink>(
 ) -> Result<(), Refusal>
     requires grid { IsOnGrid grid.d grid.depth (length model.now.names) root.now }
     requires depth { grid.depth ≡ job.now.depth }
-    ensures { WritesOver K.taken K.faults (job_data job.now) model.now (region_of (grid, root.now)) out.old out.new result }
+    ensures { WritesOver K.taken K.faults (verify_data job.now) model.now (region_of (grid, root.now))
+        out.old out.new result }
 {
     let case = case_of(model, root, grid, job)?;
     write_case(alloc, &case, job.bound, out)
@@ -132,11 +139,12 @@ fn write_over<K: Sink>(
 /// Reads a model from the source, tests its rows over the job's region, and writes its report.
 pub fn verify<S: Source, K: Sink>(
     alloc: Global,
-    job: &Job,
+    job: &VerifyJob,
     source: &mut S,
     out: &mut K,
 ) -> Result<(), Refusal>
-    ensures answer { Verifies S.left S.faults K.taken K.faults (job_data job.now) source.old source.new out.old out.new result }
+    ensures answer { Verifies S.left S.faults K.taken K.faults (verify_data job.now)
+        source.old source.new out.old out.new result }
     ensures limit { KeepsLimit result (S.left source.old) (S.left source.new) }
 {
     let model = model_of(alloc, job.goal, source)?;

@@ -1,52 +1,51 @@
-use Rattle.std.proofs.Common.{◌∙◌, sym, inr}
-use Rattle.plift_top.proofs.Acts.{done, usage, at_fault, not_plain, model, rows, read_fault, write_fault, part, kept, unread, noted, complete, not_done, refused}
+use Rattle.std.proofs.Common.{◌∙◌, sym}
+use Rattle.plift_top.proofs.Acts as acts
 use Rattle.plift_top.proofs.program.run.Goals as goal
 
-pub returns-in-Ok-clause-done : goal.returns-in-Ok-clause-done
-returns-in-Ok-clause-done g c e = done g.S.Source.left g.S.Source.faults g.K.Sink.taken g.K.Sink.faults _ _ _ _ _ c.in-Ok.ensures.answer
+pub returns-clause-done : goal.returns-clause-done
+returns-clause-done g c e = acts.done g.S.Source.left g.S.Source.faults g.K.Sink.taken g.K.Sink.faults _ _ _ _ _ _ (rw c.deref.ensures.value at c.act-answer.ensures.answer) (sym c.end.ensures.status ∙ e)
 
-pub returns-in-Err-clause-usage : goal.returns-in-Err-clause-usage
-returns-in-Err-clause-usage g c e = usage g.S.Source.left g.S.Source.faults g.K.Sink.taken g.K.Sink.faults _ _ _ _ _ c.in-Err.refusal c.in-Err.ensures.answer (sym c.status_of.ensures ∙ e)
+pub returns-clause-at_fault : goal.returns-clause-at_fault
+returns-clause-at_fault g c e = rw c.end.ensures.status (acts.at_fault g.S.Source.left g.S.Source.faults g.K.Sink.taken g.K.Sink.faults _ _ _ _ _ _ (rw c.deref.ensures.value at c.act-answer.ensures.answer) e)
 
-pub returns-in-Err-clause-at_fault : goal.returns-in-Err-clause-at_fault
-returns-in-Err-clause-at_fault g c e = rw c.status_of.ensures (at_fault g.S.Source.left g.S.Source.faults g.K.Sink.taken g.K.Sink.faults _ _ _ _ _ c.in-Err.refusal c.in-Err.ensures.answer e)
+pub returns-clause-not_plain : goal.returns-clause-not_plain
+returns-clause-not_plain g c e = c.end.ensures.status ∙ acts.not_plain g.S.Source.left g.S.Source.faults g.K.Sink.taken g.K.Sink.faults _ _ _ _ _ _ (rw c.deref.ensures.value at c.act-answer.ensures.answer) e
 
-pub returns-in-Err-clause-not_plain : goal.returns-in-Err-clause-not_plain
-returns-in-Err-clause-not_plain g c e = c.status_of.ensures ∙ not_plain g.S.Source.left g.S.Source.faults g.K.Sink.taken g.K.Sink.faults _ _ _ _ _ c.in-Err.refusal c.in-Err.ensures.answer e
+pub returns-clause-read_fault : goal.returns-clause-read_fault
+returns-clause-read_fault g c e = acts.read_fault g.S.Source.left g.S.Source.faults g.K.Sink.taken g.K.Sink.faults _ _ _ _ _ _ (rw c.deref.ensures.value at c.act-answer.ensures.answer) (sym c.end.ensures.status ∙ e)
 
-pub returns-in-Err-clause-model : goal.returns-in-Err-clause-model
-returns-in-Err-clause-model g c e = model g.S.Source.left g.S.Source.faults g.K.Sink.taken g.K.Sink.faults _ _ _ _ _ c.in-Err.refusal c.in-Err.ensures.answer (sym c.status_of.ensures ∙ e)
+pub returns-clause-write_fault : goal.returns-clause-write_fault
+returns-clause-write_fault g c e = acts.write_fault g.S.Source.left g.S.Source.faults g.K.Sink.taken g.K.Sink.faults _ _ _ _ _ _ (rw c.deref.ensures.value at c.act-answer.ensures.answer) (sym c.end.ensures.status ∙ e)
 
-pub returns-in-Err-clause-rows : goal.returns-in-Err-clause-rows
-returns-in-Err-clause-rows g c e = rows g.S.Source.left g.S.Source.faults g.K.Sink.taken g.K.Sink.faults _ _ _ _ _ c.in-Err.refusal c.in-Err.ensures.answer (sym c.status_of.ensures ∙ e)
+pub returns-clause-too_long : goal.returns-clause-too_long
+returns-clause-too_long g c e = acts.too_long _ _ _ c.act-answer.ensures.limit (sym c.end.ensures.status ∙ e)
 
-pub returns-in-Err-clause-read_fault : goal.returns-in-Err-clause-read_fault
-returns-in-Err-clause-read_fault g c e = read_fault g.S.Source.left g.S.Source.faults g.K.Sink.taken g.K.Sink.faults _ _ _ _ _ c.in-Err.refusal c.in-Err.ensures.answer (sym c.status_of.ensures ∙ e)
+pub returns-clause-within : goal.returns-clause-within
+returns-clause-within g c e = acts.within _ _ _ c.act-answer.ensures.limit (λ f. e (c.end.ensures.status ∙ f))
 
-pub returns-in-Err-clause-write_fault : goal.returns-in-Err-clause-write_fault
-returns-in-Err-clause-write_fault g c e = write_fault g.S.Source.left g.S.Source.faults g.K.Sink.taken g.K.Sink.faults _ _ _ _ _ c.in-Err.refusal c.in-Err.ensures.answer (sym c.status_of.ensures ∙ e)
+pub returns-clause-complete : goal.returns-clause-complete
+returns-clause-complete g c j text m root is told read named admitted built len sure1 sure2 =
+    rw c.end.ensures.status (acts.complete g.S.Source.left g.S.Source.faults g.K.Sink.taken g.K.Sink.faults _ _ _ _ j text told len sure1 sure2 c.first_fault_is_one.ensures.none _ _ (rw c.deref.ensures.value at c.act-answer.ensures.answer) is m root read named admitted built)
 
-pub returns-in-Err-clause-complete : goal.returns-in-Err-clause-complete
-returns-in-Err-clause-complete g c j text m root is told read named admitted built len sure1 sure2 =
-    inr (c.status_of.ensures ∙ complete g.S.Source.left g.S.Source.faults g.K.Sink.taken g.K.Sink.faults _ _ _ _ j text told _ c.in-Err.refusal c.in-Err.ensures.answer is m root read named admitted built len sure1 sure2)
+pub returns-clause-refused : goal.returns-clause-refused
+returns-clause-refused g c j text why is told bad len sure1 sure2 =
+    rw c.end.ensures.status (acts.refused g.S.Source.left g.S.Source.faults g.K.Sink.taken g.K.Sink.faults _ _ _ _ j text told len sure1 sure2 c.first_fault_is_one.ensures.none _ _ (rw c.deref.ensures.value at c.act-answer.ensures.answer) is why bad)
 
-pub returns-in-Ok-clause-refused : goal.returns-in-Ok-clause-refused
-returns-in-Ok-clause-refused g c j text why is told bad len sure1 sure2 = absurd (not_done g.S.Source.left g.S.Source.faults g.K.Sink.taken g.K.Sink.faults _ _ _ _ j text told _ c.in-Ok.ensures.answer is why bad)
+pub returns-clause-unadmitted : goal.returns-clause-unadmitted
+returns-clause-unadmitted g c j text m root is told read named bad len sure1 sure2 =
+    rw c.end.ensures.status (acts.unadmitted g.S.Source.left g.S.Source.faults g.K.Sink.taken g.K.Sink.faults _ _ _ _ j text told len sure1 sure2 _ _ (rw c.deref.ensures.value at c.act-answer.ensures.answer) is m root read named bad)
 
-pub returns-in-Err-clause-refused : goal.returns-in-Err-clause-refused
-returns-in-Err-clause-refused g c j text why is told bad len sure1 sure2 =
-    rw c.status_of.ensures (refused g.S.Source.left g.S.Source.faults g.K.Sink.taken g.K.Sink.faults _ _ _ _ j text told _ c.in-Err.refusal c.in-Err.ensures.answer is why bad len sure1 sure2)
+pub returns-clause-part : goal.returns-clause-part
+returns-clause-part g c e = acts.part g.S.Source.left g.S.Source.faults g.K.Sink.taken g.K.Sink.faults _ _ _ _ _ _ (rw c.deref.ensures.value at c.act-answer.ensures.answer) (sym c.end.ensures.status ∙ e)
 
-pub returns-in-Err-clause-part : goal.returns-in-Err-clause-part
-returns-in-Err-clause-part g c e = part g.S.Source.left g.S.Source.faults g.K.Sink.taken g.K.Sink.faults _ _ _ _ _ c.in-Err.refusal c.in-Err.ensures.answer (sym c.status_of.ensures ∙ e)
+pub returns-clause-kept : goal.returns-clause-kept
+returns-clause-kept g c d e = acts.kept g.S.Source.left g.S.Source.faults g.K.Sink.taken g.K.Sink.faults _ _ _ _ _ _ (rw c.deref.ensures.value at c.act-answer.ensures.answer) (λ f. d (c.end.ensures.status ∙ f)) (λ f. e (c.end.ensures.status ∙ f))
 
-pub returns-in-Err-clause-kept : goal.returns-in-Err-clause-kept
-returns-in-Err-clause-kept g c d e = kept g.S.Source.left g.S.Source.faults g.K.Sink.taken g.K.Sink.faults _ _ _ _ _ c.in-Err.refusal c.in-Err.ensures.answer (λ f. e (c.status_of.ensures ∙ f))
+pub returns-clause-unread : goal.returns-clause-unread
+returns-clause-unread g c e = acts.unread g.S.Source.left g.S.Source.faults g.K.Sink.taken g.K.Sink.faults _ _ _ _ _ _ (rw c.deref.ensures.value at c.act-answer.ensures.answer) e
 
-pub returns-in-Err-clause-unread : goal.returns-in-Err-clause-unread
-returns-in-Err-clause-unread g c e = unread g.S.Source.left g.S.Source.faults g.K.Sink.taken g.K.Sink.faults _ _ _ _ _ c.in-Err.refusal c.in-Err.ensures.answer e
+pub returns-clause-silent : goal.returns-clause-silent
+returns-clause-silent g c e = acts.silent g.E.Sink.taken g.E.Sink.faults _ _ _ c.end.ensures.noted (sym c.end.ensures.status ∙ e)
 
-pub returns-in-Err-clause-told : goal.returns-in-Err-clause-told
-returns-in-Err-clause-told g c d =
-    let note = noted g.S.Source.left g.S.Source.faults g.K.Sink.taken g.K.Sink.faults _ _ _ _ _ c.in-Err.refusal c.in-Err.ensures.answer in
-    rw c.status_of.ensures (_, note, c.tell.ensures)
+pub returns-clause-told : goal.returns-clause-told
+returns-clause-told g c d = rw c.end.ensures.status (acts.told g.S.Source.left g.S.Source.faults g.K.Sink.taken g.K.Sink.faults _ _ _ _ g.E.Sink.taken g.E.Sink.faults _ _ _ _ (rw c.deref.ensures.value at c.act-answer.ensures.answer) c.end.ensures.noted (λ f. d (c.end.ensures.status ∙ f)))

@@ -7,8 +7,8 @@ returns-in_err-x g c = case_short g.K.Sink.taken g.K.Sink.faults _ _ c.args.out.
 pub returns-in_err-write_buffered : goal.returns-in_err-write_buffered
 returns-in_err-write_buffered g c =
     case_cut_off g.K.Sink.taken g.K.Sink.faults _ _ _ c.write_buffered.new.out _ c.from_residual-in_err-write_buffered.ensures.1
-    (case_reported _ _ _ c.requires.admitted c.requires.built c.decide-verdict.ensures.right c.decide-verdict.ensures.schedulers c.in_err-write_buffered.ensures.part)
+    (case_reported _ _ _ c.requires c.decide-verdict.ensures.right c.decide-verdict.ensures.schedulers c.in_err-write_buffered.ensures.part)
     c.in_err-write_buffered.ensures.cause
 
 pub returns : goal.returns
-returns g c = case_reported _ _ _ c.requires.admitted c.requires.built c.decide-verdict.ensures.right c.decide-verdict.ensures.schedulers c.in_ok-write_buffered.ensures.whole
+returns g c = case_reported _ _ _ c.requires c.decide-verdict.ensures.right c.decide-verdict.ensures.schedulers c.in_ok-write_buffered.ensures.whole

@@ -1,9 +1,9 @@
-use Rattle.plift_top.specs.Given.{job_data}
+use Rattle.plift_words.specs.Given.{verify_data}
 use Rattle.plift_top.proofs.Reading.{over_refused, over_written}
 use Rattle.plift_top.proofs.verify.write_over.Goals as goal
 
 pub returns-in_err-case : goal.returns-in_err-case
-returns-in_err-case g c = over_refused g.K.Sink.taken g.K.Sink.faults (job_data c.args.job.now) _ _ c.args.out.now _ c.from_residual.result c.from_residual.ensures.1 c.in_err-case.ensures
+returns-in_err-case g c = over_refused g.K.Sink.taken g.K.Sink.faults (verify_data c.args.job.now) _ _ c.args.out.now _ c.from_residual.result c.from_residual.ensures.1 c.in_err-case.ensures
 
 pub returns : goal.returns
-returns g c = over_written g.K.Sink.taken g.K.Sink.faults (job_data c.args.job.now) _ _ c.in_ok-case.case _ _ _ c.in_ok-case.ensures c.write_case.ensures
+returns g c = over_written g.K.Sink.taken g.K.Sink.faults (verify_data c.args.job.now) _ _ c.in_ok-case.case _ _ _ c.in_ok-case.ensures c.write_case.ensures

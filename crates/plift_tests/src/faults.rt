@@ -1,0 +1,92 @@
+// Faults of the source, of the sink, and of the notes.
+use crate::models::{lines_of, model_text};
+use crate::runs::{status_name, words_of};
+use lift_base::{MemSink, MemSource};
+use plift_top::run;
+use std::alloc::Global;
+use std::test::Fail;
+
+const HALF: &str = "verify --goal heads --bound 1/2 --precision 4";
+
+// Each row: the model; which call fails at the source, at the sink and at the notes, none where it is
+// 0; how many bytes the sink holds; the status, the output, and the note.
+const FAULTS: &str = "\
+PLAIN | 3 | 0 | 0 | 1000 | ReadFault |  | read fault;
+PLAIN | 0 | 2 | 0 | 1000 | WriteFault | p | write fault;
+PLAIN | 0 | 0 | 0 | 10 | WriteFault | plift 1;ki | write fault;
+PLAIN | 8 | 0 | 0 | 1000 | Done | plift 1;kind dtmc;parameters 0;common 4;states 3;init 0;goal 1 1;row 0 0 2;to 1 0:1;to 2 0:3;row 1 0 1;to 1 0:4;row 2 0 1;to 2 0:4;bound 1/2;precision 4;depth 0;grid 1;box;accept 4 16 0; | 
+CTMC | 0 | 0 | 1 | 1000 | ModelRefused |  | 
+";
+
+#[derive(Clone, Copy)]
+struct Faults<'a> {
+    model: &'a str,
+    read: u64,
+    write: u64,
+    tell: u64,
+    room: usize,
+    status: &'a str,
+    taken: &'a str,
+    told: &'a str,
+}
+
+// A row's cells; none where there are fewer, or one isn't a number.
+fn faults_of(row: &str) -> Option<Faults<'_>> {
+    let mut cells = row.split(" | ");
+    Some(Faults {
+        model: cells.next()?,
+        read: cells.next()?.parse().ok()?,
+        write: cells.next()?.parse().ok()?,
+        tell: cells.next()?.parse().ok()?,
+        room: cells.next()?.parse().ok()?,
+        status: cells.next()?,
+        taken: cells.next()?,
+        told: cells.next()?,
+    })
+}
+
+fn one_call(alloc: Global, call: u64) -> Result<Vec<u64>, Fail> {
+    let mut calls = Vec::new(alloc);
+    calls.push(call)?;
+    Ok(calls)
+}
+
+// Whether the sinks took what the row says.
+fn has_written(
+    alloc: Global,
+    want: Faults<'_>,
+    out: &MemSink,
+    notes: &MemSink,
+) -> Result<bool, Fail> {
+    let taken = lines_of(alloc, want.taken)?;
+    let told = lines_of(alloc, want.told)?;
+    Ok(out.taken() == taken.as_slice() && notes.taken() == told.as_slice())
+}
+
+// Whether a run with these faults on that text gives what the row says.
+fn is_answered_on(alloc: Global, want: Faults<'_>, text: Vec<u8>) -> Result<bool, Fail> {
+    let words = words_of(alloc, HALF, ' ')?;
+    let mut source = MemSource::new(text, 16, one_call(alloc, want.read)?);
+    let mut out = MemSink::new(alloc, want.room, 1, one_call(alloc, want.write)?)?;
+    let mut notes = MemSink::new(alloc, 100, 3, one_call(alloc, want.tell)?)?;
+    let got = run(alloc, &words, &mut source, &mut out, &mut notes);
+    Ok(status_name(got) == want.status && has_written(alloc, want, &out, &notes)?)
+}
+
+fn is_answered(alloc: Global, row: &str) -> Result<bool, Fail> {
+    let Some(want) = faults_of(row) else {
+        return Ok(false);
+    };
+    match model_text(alloc, want.model)? {
+        Some(text) => is_answered_on(alloc, want, text),
+        None => Ok(false),
+    }
+}
+
+#[test]
+fn faults_are_told(rt: HostRuntime) -> Result<(), Fail> {
+    for row in FAULTS.lines() {
+        assert!(rt; is_answered(rt.alloc(), row)?, "{row}");
+    }
+    Ok(())
+}

@@ -1,0 +1,64 @@
+// How many bytes a text may have.
+ghost use Rattle.std.specs.Prelude.{None};
+
+use crate::models::lines_of;
+use crate::runs::{status_name, words_of};
+use lift_base::{Got, MemSink, Source};
+use plift_top::run;
+use std::alloc::Global;
+use std::test::Fail;
+
+// Each row: how many line feeds the source gives, the status, and the note.
+const LIMITS: &str = "\
+67108864 | ModelRefused | model: line 67108864: MissingSection;
+67108865 | TooLong | too long;
+";
+
+// Gives so many line feeds, made as they are read.
+#[derive(Drop)]
+struct LineFeeds {
+    left: usize,
+}
+
+impl Source for LineFeeds {
+    ghost left = { λ _. None };
+
+    ghost faults = { λ _. 0 };
+
+    fn read(&mut self, buf: &mut [u8]) -> Got {
+        let count = self.left.min(buf.len());
+        for byte in buf.iter_mut() {
+            *byte = b'\n';
+        }
+        self.left -= count;
+        Got::Bytes(count)
+    }
+}
+
+// Whether so many line feeds are answered by that status and that note, and nothing is written.
+fn is_answered(alloc: Global, left: usize, status: &str, told: &str) -> Result<bool, Fail> {
+    let words = words_of(alloc, "verify --goal heads --bound 1/2 --precision 4", ' ')?;
+    let mut source = LineFeeds { left };
+    let mut out = MemSink::new(alloc, 10, 1, Vec::new(alloc))?;
+    let mut notes = MemSink::new(alloc, 100, 3, Vec::new(alloc))?;
+    let got = run(alloc, &words, &mut source, &mut out, &mut notes);
+    let told = lines_of(alloc, told)?;
+    Ok(status_name(got) == status && out.taken().is_empty() && notes.taken() == told.as_slice())
+}
+
+// A row's cells; none where there are fewer, or the first isn't a number.
+fn limit_of(row: &str) -> Option<(usize, &str, &str)> {
+    let mut cells = row.split(" | ");
+    Some((cells.next()?.parse().ok()?, cells.next()?, cells.next()?))
+}
+
+#[test]
+fn a_text_has_at_most_2_to_the_26_bytes(rt: HostRuntime) -> Result<(), Fail> {
+    for row in LIMITS.lines() {
+        let Some((left, status, told)) = limit_of(row) else {
+            return Err(Fail::new("a row has too few cells"));
+        };
+        assert!(rt; is_answered(rt.alloc(), left, status, told)?, "{row}");
+    }
+    Ok(())
+}

@@ -1,0 +1,120 @@
+// Lines of words, where reading fails at once: whether they ask for a job, and else what is at fault.
+use crate::models::lines_of;
+use crate::runs::{status_name, words_of};
+use lift_base::{MemSink, MemSource};
+use plift_top::{Status, run};
+use std::alloc::Global;
+use std::test::Fail;
+
+// Each row: the words between bars, and what is told.
+const LINES: &str = "\
+verify|--goal|heads|--bound|1/2 | read fault;
+verify|--goal=heads|--bound=1/2|--precision=4 | read fault;
+verify|--depth|0|--bound=1/2|--goal|heads | read fault;
+ | usage: words;
+verify | usage: words;
+check | usage: words;
+check|x | usage: words;
+generate|5 | usage: words;
+help | usage: words;
+--help | usage: words;
+-h | usage: words;
+--version | usage: words;
+verify|-- | usage: words;
+verify|--help | usage: words;
+verify|-h | usage: words;
+verify|help | usage: words;
+verify|--goal|heads | usage: words;
+verify|--goal|heads|--bound | usage: words;
+verify|--goal|heads|--bound|1/2|--goal|heads | usage: words;
+verify|--goal|heads|--bound=1/2|--bound=1/2 | usage: words;
+verify|--goal=|--bound|1/2 | usage: words;
+verify|--goal=-x|--bound|1/2 | usage: words;
+verify|--goal|heads|--bound|-1 | usage: words;
+verify|--goal|heads|--bound|1/2|-- | usage: words;
+verify|--goal|heads|--bound|1/2|more | usage: words;
+verify|--goal|heads|--bound|1/2|--speed|4 | usage: words;
+verify|--goal|heads|--bound|1/2|--prec|4 | usage: words;
+verify|--goal|heads|--bound|1/2|--region|0<=p<=1 | read fault;
+verify|--region=0<=p<=1|--goal|heads|--bound|1/2 | read fault;
+verify|--goal|heads|--bound|1/2|--region| | read fault;
+verify|--goal|heads|--bound|1/2|--region| -1<=p<=1 | read fault;
+verify|--goal|heads|--bound|1/2|--region|-1<=p<=1 | usage: words;
+verify|--goal|heads|--bound|1/2|--region= | usage: words;
+verify|--goal|heads|--bound|1/2|--region | usage: words;
+verify|--region|a|--goal|heads|--bound|1/2|--region|a | usage: words;
+verify|--goal|heads|--bound|3/2|--region|a | usage: --bound;
+verify|--bound|1/2|--goal|=x | read fault;
+verify|--bound|1/2|--goal=a=b | read fault;
+verify|--bound|1/2|--goal|two words | read fault;
+verify|--bound|1/2|--goal=x | read fault;
+verify|--bound|1/2|--goal| | usage: --goal;
+verify|--bound|1/2|--goal|\x7f | usage: --goal;
+verify|--goal|x|--bound|0.5 | read fault;
+verify|--goal|x|--bound|5e-1 | read fault;
+verify|--goal|x|--bound|0/7 | read fault;
+verify|--goal|x|--bound|1 | read fault;
+verify|--goal|x|--bound|0.5/0.50 | read fault;
+verify|--goal|x|--bound|1/4294967295 | read fault;
+verify|--goal|x|--bound|1/0 | usage: --bound;
+verify|--goal|x|--bound|3/2 | usage: --bound;
+verify|--goal|x|--bound|1/4294967296 | usage: --bound;
+verify|--goal|x|--bound|2/8589934592 | usage: --bound;
+verify|--goal|x|--bound|1/ | usage: --bound;
+verify|--goal|x|--bound|/2 | usage: --bound;
+verify|--goal|x|--bound|+1/2 | usage: --bound;
+verify|--goal|x|--bound|1 /2 | usage: --bound;
+verify|--goal|x|--bound|1/2/1 | usage: --bound;
+verify|--goal|x|--bound|4611686018427387904/4611686018427387904 | usage: --bound;
+verify|--goal|x|--bound|1|--depth|020 | read fault;
+verify|--goal|x|--bound|1|--depth|20 | read fault;
+verify|--goal|x|--bound|1|--depth|0020 | usage: --depth;
+verify|--goal|x|--bound|1|--depth|21 | usage: --depth;
+verify|--goal|x|--bound|1|--depth| | usage: --depth;
+verify|--goal|x|--bound|1|--depth|+1 | usage: --depth;
+verify|--goal|x|--bound|1|--precision|40 | read fault;
+verify|--goal|x|--bound|1|--precision|0 | usage: --precision;
+verify|--goal|x|--bound|1|--precision|41 | usage: --precision;
+verify|--precision|0|--depth|21|--bound|2|--goal| | usage: --goal;
+verify|--precision|0|--depth|21|--bound|2|--goal|x | usage: --bound;
+verify|--precision|0|--depth|21|--bound|1|--goal|x | usage: --depth;
+";
+
+// How the program ends on a line's words, where the source fails at once.
+fn status_on(
+    alloc: Global,
+    line: &str,
+    out: &mut MemSink,
+    notes: &mut MemSink,
+) -> Result<Status, Fail> {
+    let words = words_of(alloc, line, '|')?;
+    let mut failing = Vec::new(alloc);
+    failing.push(1)?;
+    let mut source = MemSource::new(Vec::new(alloc), 16, failing);
+    Ok(run(alloc, &words, &mut source, out, notes))
+}
+
+// Whether a line is told so, and nothing is written.
+fn is_told(alloc: Global, line: &str, told: &str) -> Result<bool, Fail> {
+    let mut out = MemSink::new(alloc, 10, 1, Vec::new(alloc))?;
+    let mut notes = MemSink::new(alloc, 100, 3, Vec::new(alloc))?;
+    let got = status_on(alloc, line, &mut out, &mut notes)?;
+    let status = if told == "read fault;" {
+        "ReadFault"
+    } else {
+        "Usage"
+    };
+    let told = lines_of(alloc, told)?;
+    Ok(status_name(got) == status && out.taken().is_empty() && notes.taken() == told.as_slice())
+}
+
+#[test]
+fn words_are_read(rt: HostRuntime) -> Result<(), Fail> {
+    for row in LINES.lines() {
+        let Some((line, told)) = row.split_once(" | ") else {
+            return Err(Fail::new("a row has too few cells"));
+        };
+        assert!(rt; is_told(rt.alloc(), line, told)?, "{row}");
+    }
+    Ok(())
+}

@@ -1,9 +1,0 @@
-use Rattle.std.proofs.Common.{◌≡◌, length, map, string_bytes}
-use Rattle.plift_top.specs.Line.{options, stands}
-use Rattle.plift_top.proofs.line.stands.Given as goal
-
-abbrev pub invariant-loop-setting : goal.invariant-loop-setting
-invariant-loop-setting l = stands l.name (options (map string_bytes l.rest)) ≡ stands l.name (options (map string_bytes l.words))
-
-abbrev pub decreases-loop-setting : goal.decreases-loop-setting
-decreases-loop-setting l = length l.rest

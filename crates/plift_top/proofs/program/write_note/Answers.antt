@@ -1,4 +1,0 @@
-use Rattle.plift_top.proofs.program.write_note.Goals as goal
-
-pub returns-in-ReadFault : goal.returns-in-ReadFault
-returns-in-ReadFault g c = rw c.in-ReadFault.is c.write_all-in-ReadFault.ensures.wrote

@@ -1,9 +1,0 @@
-use Rattle.std.proofs.Common.{◌≡◌, ◌≤◌, ◌+◌, drop, length}
-use Rattle.plift_top.specs.Report.{goal_states}
-use Rattle.plift_top.proofs.report.goal_count.Given as goal
-
-abbrev pub invariant-loop-s : goal.invariant-loop-s
-invariant-loop-s l = record {
-  small : l.count ≤ l.s;
-  so_far : l.count + length (goal_states l.s (drop l.s l.model.goal)) ≡ length (goal_states 0 l.model.goal);
-}

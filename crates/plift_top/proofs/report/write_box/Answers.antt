@@ -1,8 +1,0 @@
-use Rattle.std.proofs.Common.{codes}
-use Rattle.std.specs.Fmt.{signed_decimal}
-use Rattle.lift_grid.specs.Rectangle.{sides_of}
-use Rattle.plift_top.proofs.Lines.{line-words}
-use Rattle.plift_top.proofs.report.write_box.Goals as goal
-
-pub returns : goal.returns
-returns g c = rw (line-words signed_decimal (codes "box") (sides_of c.args.root.now)) (rw c.sides-sides.ensures.sides at c.write_words.ensures)

@@ -1,0 +1,61 @@
+-- What the steps of a job answer, one behind another.
+use Rattle.std.specs.Prelude.{◌≡◌, ◌<◌, ℕ, List, length, true, Ok, Err, Result, ⊤}
+use Rattle.std.specs.declared.option.Option.{Option}
+use Rattle.std.specs.Io.KnownBytes.{Appends}
+use Rattle.lift_base.specs.Outside.{Rose, TakenHas, AppendsFront}
+use Rattle.lift_grid.specs.Region.{Region, region}
+use Rattle.lift_grid.specs.Rectangle.{Spans}
+use Rattle.lift_grid.specs.Parts.{region_of}
+use Rattle.lift_grid.specs.declared.rect.Grid.{Grid}
+use Rattle.lift_model.specs.Model.{ModelData}
+use Rattle.corner_lift.specs.Case.{CaseData, IsCase, case_of}
+use Rattle.lift_cert.specs.declared.bound.Bound.{Bound}
+use Rattle.lift_rows.specs.Admitted.{HasWeightsFromZero, HasSumsOfTotal}
+use Rattle.drn_read.specs.Reading.{drn}
+use Rattle.plift_words.specs.Job.{VerifyData}
+use Rattle.plift_top.specs.Built.{is_built}
+use Rattle.plift_top.specs.Verify.{WasRead, IsRefusedOver, IsReportOf, text_limit}
+use Rattle.plift_top.specs.declared.refusal.Refusal.{Refusal}
+use Rattle.plift_top.specs.declared.refusal.Refusal.TheVariants as refusal
+
+-- reading a model for a goal label: the source was read to its end and its text stands for the model, or there is a cause
+abbrev pub ReadsModel : {S : Type 0} → (S → Option (List ℕ)) → (S → ℕ) → List ℕ → S → S → Result ModelData Refusal → Type 0
+ReadsModel left faults goal source source' (Ok m) = WasRead (λ text. drn text goal ≡ Ok m) (left source) (left source')
+ReadsModel left faults goal source source' (Err (refusal.Model error)) = WasRead (λ text. drn text goal ≡ Err error) (left source) (left source')
+ReadsModel left faults goal source source' (Err refusal.ReadFault) = Rose (faults source) (faults source')
+ReadsModel left faults goal source source' (Err refusal.TooLong) = TakenHas (λ bytes. text_limit < length bytes) (left source) (left source')
+ReadsModel left faults goal source source' (Err refusal.Memory) = ⊤
+ReadsModel left faults goal source source' (Err _) = ⊥
+
+-- the job's region over these parameters: a rectangle over its grid, or the cause
+abbrev pub NamesRoot : VerifyData → List (List ℕ) → Result (Grid × Spans) Refusal → Type 0
+NamesRoot job names (Ok p) = region names job.depth job.region ≡ Ok (region_of p)
+NamesRoot job names (Err (refusal.Region error)) = region names job.depth job.region ≡ Err error
+NamesRoot job names (Err refusal.Memory) = ⊤
+NamesRoot job names (Err _) = ⊥
+
+-- a case whose rows are distributions at each valuation inside its root, and whose model is built
+pub record IsBuiltCase (k : CaseData) : Type 0 where
+  pub case : IsCase k
+  pub weights : HasWeightsFromZero k
+  pub sums : HasSumsOfTotal k
+  pub built : is_built k.model ≡ true
+
+-- the rows of a model over a region: a case that is built, or the cause
+abbrev pub AdmitsCase : VerifyData → ModelData → Region → Result CaseData Refusal → Type 0
+AdmitsCase job m r (Ok k) = (k ≡ case_of m r job.precision) × IsBuiltCase k
+AdmitsCase job m r (Err why) = IsRefusedOver job m (Ok r) why
+
+-- a case is decided and its report written, or there is a cause
+abbrev pub WritesCase : {K T : Type 0} → (K → Option (List ℕ)) → (K → ℕ) → CaseData → Bound → K → K → Result T Refusal → Type 0
+WritesCase taken counts k bound out out' (Ok _) = IsReportOf (Appends (taken out) (taken out')) k bound
+WritesCase taken counts k bound out out' (Err refusal.WriteFault) = IsReportOf (AppendsFront (taken out) (taken out')) k bound × Rose (counts out) (counts out')
+WritesCase taken counts k bound out out' (Err refusal.Memory) = out' ≡ out
+WritesCase taken counts k bound out out' (Err _) = ⊥
+
+-- the same of a model over a region, whose rows are tested first
+abbrev pub WritesOver : {K T : Type 0} → (K → Option (List ℕ)) → (K → ℕ) → VerifyData → ModelData → Region → K → K → Result T Refusal → Type 0
+WritesOver taken counts job m r out out' (Ok _) = IsReportOf (Appends (taken out) (taken out')) (case_of m r job.precision) job.bound
+WritesOver taken counts job m r out out' (Err refusal.WriteFault) = IsReportOf (AppendsFront (taken out) (taken out')) (case_of m r job.precision) job.bound × Rose (counts out) (counts out')
+WritesOver taken counts job m r out out' (Err refusal.Memory) = out' ≡ out
+WritesOver taken counts job m r out out' (Err why) = IsRefusedOver job m (Ok r) why × (out' ≡ out)

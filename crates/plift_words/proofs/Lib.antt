@@ -1,0 +1,5 @@
+mod Cuts
+mod Numbers
+mod Walk
+mod Words
+mod Samples

@@ -1,0 +1,49 @@
+-- The definitions tried on lines that were worked out by hand.
+use Rattle.std.proofs.Common.{◌≡◌, [], ◌∷◌, codes, Ok, Err, Some, None, refl}
+use Rattle.lift_frac.specs.Gcd.{gcd}
+use Rattle.plift_words.specs.Line.{options}
+use Rattle.plift_words.specs.Job.{VerifyData, job}
+use Rattle.plift_words.specs.Job.JobData.{verify}
+use Rattle.plift_words.specs.declared.job.Field.TheVariants as field
+
+at_most_half : VerifyData
+at_most_half = record { goal = codes "heads"; bound = record { num = 1; den = 2 }; region = []; depth = 5; precision = 4 }
+
+-- the words in another order and in both spellings, with a bound that isn't in lowest terms
+asks : job (codes "verify" ∷ codes "--depth=5" ∷ codes "--bound" ∷ codes "2/4" ∷ codes "--goal=heads" ∷ codes "--precision" ∷ codes "04" ∷ []) ≡ Ok (verify at_most_half)
+unfolding at_most_half gcd
+asks = refl
+
+-- the same bound as a decimal
+asks_decimal : job (codes "verify" ∷ codes "--depth=5" ∷ codes "--bound=5e-1" ∷ codes "--goal=heads" ∷ codes "--precision=4" ∷ []) ≡ Ok (verify at_most_half)
+unfolding at_most_half gcd
+asks_decimal = refl
+
+-- the region is the text behind the first `=`, as it stands
+asks_region : job (codes "verify" ∷ codes "--goal=heads" ∷ codes "--bound=1/2" ∷ codes "--region=1/10<=p<=2/5" ∷ codes "--depth=5" ∷ codes "--precision=4" ∷ [])
+    ≡ Ok (verify (record at_most_half { region = codes "1/10<=p<=2/5" }))
+unfolding at_most_half gcd
+asks_region = refl
+
+-- an empty text in two words is what a line without a region gives
+asks_nothing : job (codes "verify" ∷ codes "--goal=heads" ∷ codes "--bound=1/2" ∷ codes "--region" ∷ [] ∷ codes "--depth=5" ∷ codes "--precision=4" ∷ []) ≡ Ok (verify at_most_half)
+unfolding at_most_half gcd
+asks_nothing = refl
+
+-- one word is cut at its first `=`, and a value of two words isn't cut
+cuts : options (codes "--goal=a=b" ∷ codes "--goal" ∷ codes "=x" ∷ codes "--goal=" ∷ codes "--goal" ∷ [])
+    ≡ record { name = codes "--goal"; value = Some (codes "a=b") } ∷ record { name = codes "--goal"; value = Some (codes "=x") }
+    ∷ record { name = codes "--goal"; value = None } ∷ record { name = codes "--goal"; value = None } ∷ []
+cuts = refl
+
+-- an option that stands twice, and a value that begins with `-`
+twice : job (codes "verify" ∷ codes "--goal" ∷ codes "heads" ∷ codes "--goal=heads" ∷ codes "--bound" ∷ codes "1/2" ∷ []) ≡ Err field.Words
+twice = refl
+
+dash : job (codes "verify" ∷ codes "--goal=-x" ∷ codes "--bound" ∷ codes "1/2" ∷ []) ≡ Err field.Words
+dash = refl
+
+-- the first value at fault is told
+first_fault : job (codes "verify" ∷ codes "--goal" ∷ codes "heads" ∷ codes "--bound" ∷ codes "3/2" ∷ codes "--depth" ∷ codes "21" ∷ []) ≡ Err field.Bound
+unfolding gcd
+first_fault = refl

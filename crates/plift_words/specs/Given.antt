@@ -1,0 +1,40 @@
+-- What reading the command line gives, without where it lies in memory.
+use Rattle.std.specs.Prelude.{◌≡◌, ◌≢◌, List, String, string_bytes, map, Ok, Err, Result, option_map}
+use Rattle.std.specs.declared.alloc.Global.{Global}
+use Rattle.plift_words.specs.Line as line
+use Rattle.plift_words.specs.Job.{JobData, VerifyData, job}
+use Rattle.plift_words.specs.declared.line.Setting.{Setting}
+use Rattle.plift_words.specs.declared.job.Job.{Job}
+use Rattle.plift_words.specs.declared.job.Job.TheVariants as code
+use Rattle.plift_words.specs.declared.job.VerifyJob.{VerifyJob}
+use Rattle.plift_words.specs.declared.job.Field.{Field}
+use Rattle.plift_words.specs.declared.job.Field.TheVariants as field
+use Rattle.plift_words.specs.declared.error.WordsError.{WordsError}
+use Rattle.plift_words.specs.declared.error.WordsError.TheVariants as error
+
+-- an option
+abbrev pub setting_of : Setting → line.Setting
+setting_of s = record { name = s.name.now; value = option_map (λ v. v.now) s.value }
+
+-- the job that some words ask for, or their part at fault
+abbrev pub asked : List (String Global) → Result JobData Field
+asked words = job (map string_bytes words)
+
+-- what is to be verified
+abbrev pub verify_data : VerifyJob → VerifyData
+verify_data j = record { goal = j.goal.now; bound = j.bound; region = j.region.now; depth = j.depth; precision = j.precision }
+
+-- a job
+abbrev pub job_data : Job → JobData
+job_data (code.Verify j) = JobData.verify (verify_data j)
+
+-- the job of some values, or the one at fault
+abbrev pub answer_data : Result Job Field → Result JobData Field
+answer_data (Ok j) = Ok (job_data j)
+answer_data (Err f) = Err f
+
+-- The answer to a line: the job that it asks for, or its part at fault. Want of memory comes only where the line is plain.
+abbrev pub Asks : Result JobData Field → Result Job WordsError → Type 0
+Asks asked (Ok j) = asked ≡ Ok (job_data j)
+Asks asked (Err (error.Usage f)) = asked ≡ Err f
+Asks asked (Err error.Memory) = asked ≢ Err field.Words

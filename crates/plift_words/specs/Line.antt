@@ -1,0 +1,65 @@
+-- The words of the command line, and which lines are plain.
+use Rattle.std.specs.Prelude.{◌==◌, ◌&&◌, ◌||◌, ℕ, List, [], ◌∷◌, codes, Option, Some, None, Bool, true, false, not, option_and_then, if◌then◌else◌, nat_eq}
+use Rattle.std.specs.List.{starts_with, list_any, find, before_first, after_first}
+use Rattle.std.specs.Str.{bytes_eq}
+use Rattle.lift_bytes.specs.Bytes.{equals}
+
+-- what stands before and behind the first byte c of a text, where it has one
+abbrev pub cut_at : ℕ → List ℕ → Option (List ℕ × List ℕ)
+cut_at c text = if list_any (λ b. b == c) text then Some (before_first (λ b. b == c) text, after_first (λ b. b == c) text) else None
+
+-- an option as it stands in a line: its name, and its value where it has one
+pub record Setting : Type 0 where
+  pub name : List ℕ
+  pub value : Option (List ℕ)
+
+-- the value behind `=` in one word; none where nothing stands there
+abbrev pub attached : List ℕ → Option (List ℕ)
+attached [] = None
+attached (b ∷ text) = Some (b ∷ text)
+
+-- an option in one word `--name=value`, by its two parts
+abbrev pub in_one : List ℕ × List ℕ → Setting
+in_one parts = record { name = parts.0; value = attached parts.1 }
+
+-- The options of the words, in their order: one word, which is cut at its first `=`, or two words, a name and its value.
+abbrev pub options : List (List ℕ) → List Setting
+options [] = []
+options (word ∷ []) = elim (cut_at equals word) [
+  | Some parts ↦ in_one parts ∷ []
+  | None ↦ record { name = word; value = None } ∷ []
+]
+options (word ∷ next ∷ words) = elim (cut_at equals word) [
+  | Some parts ↦ in_one parts ∷ options (next ∷ words)
+  | None ↦ record { name = word; value = Some next } ∷ options words
+]
+
+-- an option of this name stands there
+abbrev pub stands : List ℕ → List Setting → Bool
+stands name settings = list_any (λ s. bytes_eq s.name name) settings
+
+-- the value of the first option of this name
+abbrev pub value_of : List ℕ → List Setting → Option (List ℕ)
+value_of name settings = option_and_then (λ s. s.value) (find (λ s. bytes_eq s.name name) settings)
+
+-- the names of the options of `verify`
+abbrev pub is_option : List ℕ → Bool
+is_option name =
+    bytes_eq name (codes "--goal") || bytes_eq name (codes "--bound") || bytes_eq name (codes "--region")
+    || bytes_eq name (codes "--depth") || bytes_eq name (codes "--precision")
+
+-- a value is there, and doesn't begin with `-`
+abbrev pub is_value : Option (List ℕ) → Bool
+is_value None = false
+is_value (Some word) = not (starts_with nat_eq word (codes "-"))
+
+-- options of `verify`, each with its value, and each at most once
+abbrev pub are_options : List Setting → Bool
+are_options [] = true
+are_options (s ∷ more) = is_option s.name && is_value s.value && not (stands s.name more) && are_options more
+
+-- a plain line: the command `verify`, and behind it its options in any order, the goal and the bound among them
+abbrev pub is_plain : List (List ℕ) → Bool
+is_plain [] = false
+is_plain (command ∷ words) =
+    bytes_eq command (codes "verify") && are_options (options words) && stands (codes "--goal") (options words) && stands (codes "--bound") (options words)

@@ -1,0 +1,27 @@
+-- What the parser of command lines is told of the options, and what it gives.
+use Rattle.std.specs.Prelude.{◌≡◌, List, Some, Bool, true, false, codes}
+use Rattle.clap.specs.Words.{App, Rule, Text, new_app, new_rule, with_rule, first_value}
+use Rattle.clap.specs.declared.builder.action.ArgAction.TheVariants.{Set}
+use Rattle.clap.specs.declared.parser.matches.Found.{Found}
+use Rattle.plift_words.specs.Line.{Setting, value_of}
+
+-- an option that takes a value
+abbrev pub option : Text → Bool → Rule
+option name required = record (new_rule name) { long = Some name; action = Some Set; required = required }
+
+-- `verify` with its options
+unfoldable pub verify_app : App
+verify_app =
+    let goal = with_rule (new_app (codes "verify")) (option (codes "goal") true) in
+    let bound = with_rule goal (option (codes "bound") true) in
+    let region = with_rule bound (option (codes "region") false) in
+    let depth = with_rule region (option (codes "depth") false) in
+    with_rule depth (option (codes "precision") false)
+
+-- the values that the parser found are those of the options
+pub record HasValues (found : Found) (settings : List Setting) : Type 0 where
+  pub goal : first_value found (codes "goal") ≡ value_of (codes "--goal") settings
+  pub bound : first_value found (codes "bound") ≡ value_of (codes "--bound") settings
+  pub region : first_value found (codes "region") ≡ value_of (codes "--region") settings
+  pub depth : first_value found (codes "depth") ≡ value_of (codes "--depth") settings
+  pub precision : first_value found (codes "precision") ≡ value_of (codes "--precision") settings

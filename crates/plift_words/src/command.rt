@@ -1,0 +1,100 @@
+// Reads the command line.
+ghost use Rattle.std.specs.Prelude.{◌≡◌, ◌≤◌, codes, option_and_then, IfSome};
+ghost use Rattle.std.specs.Option.{option_map};
+ghost use Rattle.clap.specs.Words.{found_of, first_value};
+ghost use Rattle.plift_words.specs.Values.{goal_of, bound_of};
+ghost use Rattle.plift_words.specs.Job.{job_of, number_or, text_or_nothing};
+ghost use Rattle.plift_words.specs.Given.{answer_data, asked, Asks};
+
+use crate::error::WordsError;
+use crate::job::{Field, Job, VerifyJob};
+use crate::line::is_plain;
+use crate::parser::parse;
+use crate::values::{bound_of, goal_of, number_within};
+use clap::ArgMatches;
+use lift_cert::Bound;
+use std::alloc::Global;
+
+/// How often a rectangle may be halved at most.
+const MOST_HALVINGS: u32 = 20;
+
+/// The greatest precision.
+const MOST_PRECISION: u32 = 40;
+
+/// The depth where none is given.
+const DEFAULT_DEPTH: u32 = 0;
+
+/// The precision where none is given.
+const DEFAULT_PRECISION: u32 = 24;
+
+fn goal_in<'a>(matches: &ArgMatches<'a>) -> Option<&'a [u8]>
+    ensures { option_map (λ label. label.now) result
+        ≡ option_and_then goal_of (first_value (found_of matches.now) (codes "goal")) }
+{
+    goal_of(matches.get_str("goal")?.as_bytes())
+}
+
+fn bound_in(matches: &ArgMatches<'_>) -> Option<Bound>
+    ensures { result ≡ option_and_then bound_of (first_value (found_of matches.now) (codes "bound")) }
+{
+    bound_of(matches.get_str("bound")?)
+}
+
+// The text that names the region, which may be left out.
+fn region_in<'a>(matches: &ArgMatches<'a>) -> &'a [u8]
+    ensures { result.now ≡ text_or_nothing (first_value (found_of matches.now) (codes "region")) }
+{
+    match matches.get_str("region") {
+        Some(text) => text.as_bytes(),
+        None => b"",
+    }
+}
+
+// The number of an option that may be left out.
+fn number_in(matches: &ArgMatches<'_>, id: &str, default: u32, low: u32, high: u32) -> Option<u32>
+    requires low { low ≤ default }
+    requires high { default ≤ high }
+    ensures value { result ≡ number_or default low high (first_value (found_of matches.now) id.now) }
+    ensures range { IfSome result (λ n. (low ≤ n) × (n ≤ high)) }
+{
+    match matches.get_str(id) {
+        Some(word) => number_within(word, low, high),
+        None => Some(default),
+    }
+}
+
+fn job_in<'a>(matches: &ArgMatches<'a>) -> Result<Job<'a>, Field>
+    ensures { let value = first_value (found_of matches.now) in
+        answer_data result ≡ job_of (value (codes "goal")) (value (codes "bound"))
+        (value (codes "region")) (value (codes "depth")) (value (codes "precision")) }
+{
+    let goal = goal_in(matches).ok_or(Field::Goal)?;
+    let bound = bound_in(matches).ok_or(Field::Bound)?;
+    let region = region_in(matches);
+    let depth = number_in(matches, "depth", DEFAULT_DEPTH, 0, MOST_HALVINGS).ok_or(Field::Depth)?;
+    let precision = number_in(matches, "precision", DEFAULT_PRECISION, 1, MOST_PRECISION).ok_or(
+        Field::Precision,
+    )?;
+    Ok(Job::Verify(VerifyJob {
+        goal,
+        bound,
+        region,
+        depth,
+        precision,
+    }))
+}
+
+/// What the words after the program's name ask for. `Usage` with the part of them that is at fault,
+/// or `Memory`, which comes only where the line is plain.
+pub fn job_of(alloc: Global, words: &[String]) -> Result<Job<'_>, WordsError>
+    ensures { Asks (asked words.entry.now) result }
+{
+    if !is_plain(words) {
+        return Err(WordsError::Usage(Field::Words));
+    }
+    // On a plain line nothing but want of memory fails.
+    let Ok(matches) = parse(alloc, words) else {
+        return Err(WordsError::Memory);
+    };
+    Ok(job_in(&matches)?)
+}

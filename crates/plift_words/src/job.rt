@@ -1,0 +1,37 @@
+// A job, and the parts of the command line that ask for it.
+ghost use Rattle.std.specs.Prelude.{◌≤◌};
+ghost use Rattle.lift_grid.specs.Rectangle.{most_halvings};
+ghost use Rattle.corner_lift.specs.Case.{most_precision};
+
+use lift_cert::Bound;
+
+/// A part of the command line that can be at fault.
+#[derive(Clone, Copy)]
+pub enum Field {
+    /// The line isn't plain.
+    Words,
+    Goal,
+    Bound,
+    Depth,
+    Precision,
+}
+
+/// What is to be verified.
+#[derive(Clone, Copy)]
+pub struct VerifyJob<'a> {
+    pub goal: &'a [u8],
+    pub bound: Bound,
+    /// The text that names the region; it is read against the model's parameters.
+    pub region: &'a [u8],
+    /// How often a rectangle may be halved, from 0 to 20.
+    pub depth: u32,
+    /// A certificate's numbers are over 2^precision, from 1 to 40.
+    pub precision: u32,
+    ghost in_range: { (depth ≤ most_halvings) × (1 ≤ precision) × (precision ≤ most_precision) },
+}
+
+/// What the words ask for: a command, with what it is asked.
+#[derive(Clone, Copy)]
+pub enum Job<'a> {
+    Verify(VerifyJob<'a>),
+}

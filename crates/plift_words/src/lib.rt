@@ -1,0 +1,14 @@
+//! The words of the command line: which lines are plain, the values of their options, and the job
+//! that they ask for.
+#![tactic(auto)]
+
+mod command;
+mod error;
+mod job;
+mod line;
+mod parser;
+mod values;
+
+pub use command::job_of;
+pub use error::WordsError;
+pub use job::{Field, Job, VerifyJob};

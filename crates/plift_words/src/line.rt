@@ -1,0 +1,138 @@
+// The words of the command line.
+ghost use Rattle.std.specs.Prelude.{◌≡◌, ◌&&◌, ◌<◌, ◌≤◌, ◌∷◌, [], None, length, map, not, string_bytes, IfSome, MatchOption};
+ghost use Rattle.std.specs.Option.{option_map};
+ghost use Rattle.lift_bytes.specs.Bytes.{equals};
+ghost use Rattle.plift_words.specs.Line.{cut_at, attached, options, stands, is_option, is_value, are_options, is_plain};
+ghost use Rattle.plift_words.specs.Given.{setting_of};
+
+/// An option as it stands in a line.
+#[derive(Clone, Copy)]
+struct Setting<'a> {
+    name: &'a str,
+    value: Option<&'a str>,
+}
+
+/// What stands before and behind the first `mark`, an ASCII character.
+pub fn cut_at(text: &str, mark: char) -> Option<(&str, &str)>
+    requires { mark < 128 }
+    ensures { option_map (λ parts. (parts.0.now, parts.1.now)) result ≡ cut_at mark text.now }
+{
+    text.split_once(mark)
+}
+
+// The value behind `=` in one word.
+fn attached(text: &str) -> Option<&str>
+    ensures { option_map (λ value. value.now) result ≡ attached text.now }
+{
+    if text.is_empty() { None } else { Some(text) }
+}
+
+// An option of two words: a name, and the value at the front of the words behind it.
+fn in_two_words<'a>(name: &'a str, words: &'a [String]) -> (Setting<'a>, &'a [String])
+    requires { cut_at equals name.now ≡ None }
+    ensures option { options (name.now ∷ map string_bytes words.now)
+        ≡ setting_of result.0 ∷ options (map string_bytes result.1.now) }
+    ensures shorter { length result.1.now ≤ length words.now }
+{
+    match words {
+        [value, rest @ ..] => (
+            Setting {
+                name,
+                value: Some(value.as_str()),
+            },
+            rest,
+        ),
+        [] => (Setting { name, value: None }, words),
+    }
+}
+
+// The option at the front, and the words behind it.
+fn first_option(words: &[String]) -> Option<(Setting<'_>, &[String])>
+    ensures option { MatchOption result (map string_bytes words.now ≡ [])
+        (λ first. options (map string_bytes words.now)
+        ≡ setting_of first.0 ∷ options (map string_bytes first.1.now)) }
+    ensures shorter { IfSome result (λ first. length first.1.now < length words.now) }
+{
+    let [word, rest @ ..] = words else {
+        return None;
+    };
+    match cut_at(word.as_str(), '=') {
+        Some((name, value)) => Some((
+            Setting {
+                name,
+                value: attached(value),
+            },
+            rest,
+        )),
+        None => Some(in_two_words(word.as_str(), rest)),
+    }
+}
+
+// Whether an option of this name stands there.
+fn stands(name: &str, words: &[String]) -> bool
+    ensures { result ≡ stands name.now (options (map string_bytes words.now)) }
+{
+    let mut rest = words;
+    while let Some((setting, more)) = first_option(rest) {
+        if setting.name == name {
+            return true;
+        }
+        rest = more;
+    }
+    false
+}
+
+fn is_option(name: &str) -> bool
+    ensures { result ≡ is_option name.now }
+{
+    name == "--goal"
+        || name == "--bound"
+        || name == "--region"
+        || name == "--depth"
+        || name == "--precision"
+}
+
+fn is_value(value: Option<&str>) -> bool
+    ensures { result ≡ is_value (option_map (λ v. v.now) value.entry) }
+{
+    match value {
+        Some(word) => !word.as_bytes().starts_with(b"-"),
+        None => false,
+    }
+}
+
+// Whether it is an option of `verify` with its value, which doesn't stand once more behind it.
+fn is_sound(setting: Setting<'_>, more: &[String]) -> bool
+    ensures { let s = setting_of setting.entry in
+        result ≡ (is_option s.name && is_value s.value
+        && not (stands s.name (options (map string_bytes more.now)))) }
+{
+    is_option(setting.name) && is_value(setting.value) && !stands(setting.name, more)
+}
+
+fn are_options(words: &[String]) -> bool
+    ensures { result ≡ are_options (options (map string_bytes words.now)) }
+{
+    let mut rest = words;
+    while let Some((setting, more)) = first_option(rest) {
+        if !is_sound(setting, more) {
+            return false;
+        }
+        rest = more;
+    }
+    true
+}
+
+/// Whether the line is plain: the command `verify`, and behind it its options with their values, in
+/// any order and each at most once. Takes no memory.
+pub fn is_plain(words: &[String]) -> bool
+    ensures { result ≡ is_plain (map string_bytes words.now) }
+{
+    let [command, options @ ..] = words else {
+        return false;
+    };
+    command.as_str() == "verify"
+        && are_options(options)
+        && stands("--goal", options)
+        && stands("--bound", options)
+}

@@ -1,0 +1,104 @@
+// The values of the command line.
+ghost use Rattle.std.specs.Prelude.{◌≡◌, ◌≤◌, IfSome};
+ghost use Rattle.std.specs.Option.{option_map};
+ghost use Rattle.std.specs.List.{list_all};
+ghost use Rattle.std.specs.Char.{is_ascii_digit};
+ghost use Rattle.lift_frac.specs.Frac.{answer_of, ratio_of as ratio};
+ghost use Rattle.plift_words.specs.Values.{is_label_byte, goal_of, number_of, number_within, quotient, ratio_of, bound_by, bound_of};
+
+use crate::line::cut_at;
+use lift_cert::Bound;
+use lift_frac::{Frac, FracError, read_literal};
+
+/// How many digits a number has at most.
+const MOST_DIGITS: usize = 3;
+
+/// A bound's denominator in lowest terms is below this.
+const DENOMINATOR_LIMIT: i128 = 1 << 32;
+
+fn are_label_bytes(word: &[u8]) -> bool
+    ensures { result ≡ list_all is_label_byte word.now }
+{
+    word.iter().all(|b| (b' '..=b'~').contains(b))
+}
+
+/// A goal label: one or more bytes from the space to the tilde.
+pub fn goal_of(word: &[u8]) -> Option<&[u8]>
+    ensures { option_map (λ label. label.now) result ≡ goal_of word.entry.now }
+{
+    if are_label_bytes(word) && !word.is_empty() {
+        Some(word)
+    } else {
+        None
+    }
+}
+
+fn are_digits(word: &[u8]) -> bool
+    ensures { result ≡ list_all is_ascii_digit word.now }
+{
+    word.iter().all(|b| b.is_ascii_digit())
+}
+
+// A number of one to three digits.
+fn number_of(word: &str) -> Option<u32>
+    ensures { result ≡ number_of word.now }
+{
+    if !are_digits(word.as_bytes()) || word.is_empty() || word.len() > MOST_DIGITS {
+        return None;
+    }
+    word.parse().ok()
+}
+
+/// A number of one to three digits, from `low` to `high`.
+pub fn number_within(word: &str, low: u32, high: u32) -> Option<u32>
+    ensures value { result ≡ number_within low high word.now }
+    ensures range { IfSome result (λ n. (low ≤ n) × (n ≤ high)) }
+{
+    let number = number_of(word)?;
+    if low <= number && number <= high {
+        Some(number)
+    } else {
+        None
+    }
+}
+
+fn quotient(above: Result<Frac, FracError>, below: Result<Frac, FracError>) -> Option<Frac>
+    ensures { option_map ratio result ≡ quotient (answer_of above) (answer_of below) }
+{
+    above.ok()?.div(below.ok()?).ok()
+}
+
+// A fraction, written `literal` or `literal/literal`.
+fn fraction_of(word: &str) -> Option<Frac>
+    ensures { option_map ratio result ≡ ratio_of word.now }
+{
+    match cut_at(word, '/') {
+        Some((above, below)) => quotient(
+            read_literal(above.as_bytes()),
+            read_literal(below.as_bytes()),
+        ),
+        None => read_literal(word.as_bytes()).ok(),
+    }
+}
+
+fn bound_by(fraction: Frac) -> Option<Bound>
+    ensures { result ≡ bound_by (ratio fraction) }
+{
+    let Frac { num, den } = fraction;
+    if 0 <= num && num <= den && den < DENOMINATOR_LIMIT {
+        Some(Bound {
+            num: num as u32,
+            den: den as u32,
+        })
+    } else {
+        None
+    }
+}
+
+/// A bound: a fraction from 0 to 1 whose denominator in lowest terms is below 2^32, written
+/// `literal` or `literal/literal`.
+pub fn bound_of(word: &str) -> Option<Bound>
+    ensures { result ≡ bound_of word.now }
+{
+    bound_by(fraction_of(word)?)
+}
