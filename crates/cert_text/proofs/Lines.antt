@@ -1,7 +1,6 @@
 -- The lines of a report, as the pieces that are written one after the other.
-use Rattle.std.proofs.Common.{◌≡◌, ◌+◌, ◌<◌, ℕ, zero, suc, List, [], ◌∷◌, ◌++◌, length, map, get_or, drop, slice_get, Some, Bool, true, false, Ok, Err, Result, IsErr, take, refl, sym, ap, ap₂, subst, ◌∙◌, arith, add-one, append_assoc, append-nil, codes}
+use Rattle.std.proofs.Common.{◌≡◌, ◌+◌, ◌<◌, ℕ, zero, suc, List, [], ◌∷◌, ◌++◌, length, map, get_or, drop, slice_get, Some, Bool, true, false, refl, sym, ap, ap₂, ◌∙◌, arith, add-one, append_assoc, append-nil, codes}
 use Rattle.std.specs.List.{flat_map, concat}
-use Rattle.std.specs.Fmt.{decimal}
 use Rattle.std.proofs.lemmas.List.Folds.{concat-append}
 use Rattle.lift_model.specs.declared.kind.Kind.{Kind}
 use Rattle.lift_model.specs.Model.{ModelData}

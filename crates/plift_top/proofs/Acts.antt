@@ -10,8 +10,6 @@ use Rattle.lift_rows.specs.Laws.{AdmittedHasNoFault}
 use Rattle.drn_read.specs.Reading.{drn}
 use Rattle.plift_words.specs.Job.{JobData, VerifyData}
 use Rattle.plift_words.specs.Job.JobData.{verify}
-use Rattle.plift_words.specs.Given.{Asks}
-use Rattle.plift_words.specs.declared.job.Job.{Job}
 use Rattle.plift_words.specs.declared.job.Field.{Field}
 use Rattle.plift_words.specs.declared.job.Field.TheVariants as field
 use Rattle.plift_words.specs.declared.error.WordsError.{WordsError}

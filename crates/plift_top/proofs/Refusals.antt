@@ -1,12 +1,11 @@
 -- Why a job is refused at a text: by one cause, and by none where its report is written.
-use Rattle.std.proofs.Common.{◌≡◌, true, false, [], Ok, Err, refl, subst, Result}
+use Rattle.std.proofs.Common.{◌≡◌, true, false, Ok, Err, refl, subst, Result}
 use Rattle.lift_grid.specs.Region.{Region, region}
 use Rattle.lift_grid.specs.declared.error.RegionError.{RegionError}
 use Rattle.lift_model.specs.Model.{ModelData}
-use Rattle.corner_lift.specs.Case.{CaseData, IsAdmitted, case_of}
+use Rattle.corner_lift.specs.Case.{IsAdmitted, case_of}
 use Rattle.lift_rows.specs.Fault.{IsFirstFault}
 use Rattle.lift_rows.specs.Laws.{AdmittedHasNoFault}
-use Rattle.lift_rows.specs.declared.error.RowError.{RowError}
 use Rattle.drn_read.specs.declared.error.DrnError.{DrnError}
 use Rattle.plift_words.specs.Job.{VerifyData}
 use Rattle.plift_top.specs.Built.{is_built}

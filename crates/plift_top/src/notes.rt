@@ -1,7 +1,8 @@
 // Notes of refusals.
 ghost use Rattle.std.specs.Prelude.{◌≡◌};
 ghost use Rattle.lift_base.specs.Outside.{Wrote};
-ghost use Rattle.plift_top.specs.Answers.{status_of, usage_note, region_note, model_note, row_fault, row_words};
+ghost use Rattle.plift_top.specs.Answers.{status_of, usage_note, region_note, model_note};
+ghost use Rattle.plift_top.specs.Answers.{row_fault, row_words};
 ghost use Rattle.plift_top.specs.Answers.{rows_note, note_of, answered, IsNoted};
 
 use crate::refusal::Refusal;
@@ -146,7 +147,8 @@ fn write_note<E: Sink>(notes: &mut E, refusal: Refusal) -> Result<(), WriteFault
     }
 }
 
-/// How an answer ends the program. A refusal is told by its note; that the notes fail changes nothing.
+/// How an answer ends the program. A refusal is told by its note; that the notes fail changes
+/// nothing.
 pub fn end<E: Sink>(notes: &mut E, answer: Result<(), Refusal>) -> Status
     ensures status { result ≡ answered answer }
     ensures noted { IsNoted E.taken E.faults notes.old notes.new answer }

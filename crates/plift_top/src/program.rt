@@ -1,5 +1,6 @@
 // The whole program, over any source and sinks.
-ghost use Rattle.std.specs.Prelude.{◌≡◌, ◌≢◌, ◌≤◌, ◌<◌, ◌⊎◌, length, List, ℕ, true, Some, Ok, Err, IsErr};
+ghost use Rattle.std.specs.Prelude.{◌≡◌, ◌≢◌, ◌≤◌, ◌<◌, ◌⊎◌, length, List, ℕ, true};
+ghost use Rattle.std.specs.Prelude.{Some, Ok, Err, IsErr};
 ghost use Rattle.std.specs.Io.KnownBytes.{Appends};
 ghost use Rattle.lift_base.specs.Outside.{Rose, AppendsFront, TakenHas};
 ghost use Rattle.lift_grid.specs.Region.{Region, region};
@@ -11,7 +12,8 @@ ghost use Rattle.plift_words.specs.Given.{asked};
 ghost use Rattle.plift_words.specs.declared.job.Field.TheVariants.{Words};
 ghost use Rattle.plift_top.specs.Built.{is_built};
 ghost use Rattle.plift_top.specs.Verify.{WasRead, Reports, IsRefused, KeepsLimit, text_limit};
-ghost use Rattle.plift_top.specs.Answers.{status_of, AsksToVerify, NoFault, HasNote, WroteNote, Acts};
+ghost use Rattle.plift_top.specs.Answers.{status_of, AsksToVerify, NoFault};
+ghost use Rattle.plift_top.specs.Answers.{HasNote, WroteNote, Acts};
 
 use crate::notes::end;
 use crate::refusal::Refusal;
@@ -48,9 +50,10 @@ pub fn run<S: Source, K: Sink, E: Sink>(
     out: &mut K,
     notes: &mut E,
 ) -> Status
-    // Done: the source gave a text that stands for a model, which with the job's region makes a case
-    // that is built, and out took its report and nothing else.
-    ensures done { result ≡ Status.Done → (j : VerifyData) × AsksToVerify (asked words.now.items) j
+    // Done: the source gave a text that stands for a model, which with the job's region makes a
+    // case that is built, and out took its report and nothing else.
+    ensures done { result ≡ Status.Done
+        → (j : VerifyData) × AsksToVerify (asked words.now.items) j
         × WasRead (Reports (Appends (K.taken out.old) (K.taken out.new)) j)
         (S.left source.old) (S.left source.new) }
 
@@ -58,7 +61,8 @@ pub fn run<S: Source, K: Sink, E: Sink>(
     ensures at_fault { IsErr (asked words.now.items)
         → (result ≡ Status.Usage) ⊎ (result ≡ Status.Memory) }
     ensures not_plain { asked words.now.items ≡ Err Words → result ≡ Status.Usage }
-    ensures read_fault { result ≡ Status.ReadFault → Rose (S.faults source.old) (S.faults source.new) }
+    ensures read_fault { result ≡ Status.ReadFault
+        → Rose (S.faults source.old) (S.faults source.new) }
     ensures write_fault { result ≡ Status.WriteFault → Rose (K.faults out.old) (K.faults out.new) }
     ensures too_long { result ≡ Status.TooLong
         → TakenHas (λ bytes. text_limit < length bytes) (S.left source.old) (S.left source.new) }
@@ -95,7 +99,8 @@ pub fn run<S: Source, K: Sink, E: Sink>(
         → (result ≡ Status.RowsRefused) ⊎ (result ≡ Status.Memory) }
 
     // What stands after a refusal: the front of the report after a write fault, else out as it was.
-    ensures part { result ≡ Status.WriteFault → (j : VerifyData) × AsksToVerify (asked words.now.items) j
+    ensures part { result ≡ Status.WriteFault
+        → (j : VerifyData) × AsksToVerify (asked words.now.items) j
         × WasRead (Reports (AppendsFront (K.taken out.old) (K.taken out.new)) j)
         (S.left source.old) (S.left source.new) }
     ensures kept { result ≢ Status.Done → result ≢ Status.WriteFault → out.new ≡ out.old }

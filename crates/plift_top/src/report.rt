@@ -28,7 +28,8 @@ pub enum Verdict<'a> {
 
 fn write_leaf<K: Sink>(out: &mut K, verdict: &Verdict) -> Result<(), WriteFault>
     ensures { (init w : ℕ)
-        → Wrote K.taken K.faults out.old out.new result (concat (tree_lines init (leaf_of w verdict.now))) }
+        → Wrote K.taken K.faults out.old out.new result
+        (concat (tree_lines init (leaf_of w verdict.now))) }
 {
     match *verdict {
         Verdict::Accept(x) => write_accept(out, x),

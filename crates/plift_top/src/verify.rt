@@ -9,7 +9,8 @@ ghost use Rattle.plift_words.specs.Given.{verify_data};
 ghost use Rattle.plift_top.specs.Decided.{leaf_of};
 ghost use Rattle.plift_top.specs.Leaf.{IsRightLeaf, BoundsSchedulers};
 ghost use Rattle.plift_top.specs.Verify.{Verifies, KeepsLimit};
-ghost use Rattle.plift_top.specs.Steps.{IsBuiltCase, ReadsModel, NamesRoot, AdmitsCase, WritesCase, WritesOver};
+ghost use Rattle.plift_top.specs.Steps.{IsBuiltCase, ReadsModel, NamesRoot, AdmitsCase};
+ghost use Rattle.plift_top.specs.Steps.{WritesCase, WritesOver};
 
 use crate::built::is_built;
 use crate::refusal::Refusal;
@@ -129,8 +130,8 @@ fn write_over<K: Sink>(
 ) -> Result<(), Refusal>
     requires grid { IsOnGrid grid.d grid.depth (length model.now.names) root.now }
     requires depth { grid.depth ≡ job.now.depth }
-    ensures { WritesOver K.taken K.faults (verify_data job.now) model.now (region_of (grid, root.now))
-        out.old out.new result }
+    ensures { WritesOver K.taken K.faults (verify_data job.now) model.now
+        (region_of (grid, root.now)) out.old out.new result }
 {
     let case = case_of(model, root, grid, job)?;
     write_case(alloc, &case, job.bound, out)

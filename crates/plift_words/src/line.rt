@@ -1,8 +1,10 @@
 // The words of the command line.
-ghost use Rattle.std.specs.Prelude.{◌≡◌, ◌&&◌, ◌<◌, ◌≤◌, ◌∷◌, [], None, length, map, not, string_bytes, IfSome, MatchOption};
+ghost use Rattle.std.specs.Prelude.{◌≡◌, ◌&&◌, ◌<◌, ◌≤◌, ◌∷◌, [], None, length, map, not};
+ghost use Rattle.std.specs.Prelude.{string_bytes, IfSome, MatchOption};
 ghost use Rattle.std.specs.Option.{option_map};
 ghost use Rattle.lift_bytes.specs.Bytes.{equals};
-ghost use Rattle.plift_words.specs.Line.{cut_at, attached, options, stands, is_option, is_value, are_options, is_plain};
+ghost use Rattle.plift_words.specs.Line.{cut_at, attached, options, stands};
+ghost use Rattle.plift_words.specs.Line.{is_option, is_value, are_options, is_plain};
 ghost use Rattle.plift_words.specs.Given.{setting_of};
 
 /// An option as it stands in a line.

@@ -14,7 +14,8 @@ fn with_option<'a>(
     name: &'a str,
     required: bool,
 ) -> Result<Command<'a>, AllocError>
-    ensures { IfOk result (λ c. app_of c ≡ with_rule (app_of command.entry) (option name.entry.now required)) }
+    ensures { IfOk result (λ c.
+        app_of c ≡ with_rule (app_of command.entry) (option name.entry.now required)) }
 {
     let option = Arg::new(alloc, name)
         .long(name)
@@ -39,7 +40,8 @@ fn verify_command<'a>(alloc: Global) -> Result<Command<'a>, AllocError>
 /// that the parser takes.
 pub fn parse<'a>(alloc: Global, words: &'a [String]) -> Result<ArgMatches<'a>, Error>
     requires { is_plain (map string_bytes words.now) ≡ true }
-    ensures values { IfOk result (λ m. HasValues (found_of m) (options (drop 1 (map string_bytes words.entry.now)))) }
+    ensures values { IfOk result (λ m.
+        HasValues (found_of m) (options (drop 1 (map string_bytes words.entry.now)))) }
     ensures memory { IfErr result (λ e. kind_of e ≡ ErrorKind.OutOfMemory) }
 {
     let command = verify_command(alloc)?;

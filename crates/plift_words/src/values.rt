@@ -4,7 +4,8 @@ ghost use Rattle.std.specs.Option.{option_map};
 ghost use Rattle.std.specs.List.{list_all};
 ghost use Rattle.std.specs.Char.{is_ascii_digit};
 ghost use Rattle.lift_frac.specs.Frac.{answer_of, ratio_of as ratio};
-ghost use Rattle.plift_words.specs.Values.{is_label_byte, goal_of, number_of, number_within, quotient, ratio_of, bound_by, bound_of};
+ghost use Rattle.plift_words.specs.Values.{is_label_byte, goal_of, number_of, number_within};
+ghost use Rattle.plift_words.specs.Values.{quotient, ratio_of, bound_by, bound_of};
 
 use crate::line::cut_at;
 use lift_cert::Bound;
