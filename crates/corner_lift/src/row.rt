@@ -30,7 +30,8 @@ pub fn raw_weight(
     requires entry { entry < length (row_at model.now s a) }
     requires few { parameter_count (spans_of sides.now) (support_of (row_at model.now s a)) ≤ most_row_parameters }
     requires corner { corner < 2 ^ parameter_count (spans_of sides.now) (support_of (row_at model.now s a)) }
-    requires narrow { abs_sum (row_at model.now s a) * greatest_size d (spans_of sides.now) ^ parameter_count (spans_of sides.now) (support_of (row_at model.now s a)) < engine_limit }
+    requires narrow { let row = row_at model.now s a in let spans = spans_of sides.now in
+        abs_sum row * greatest_size d spans ^ parameter_count spans (support_of row) < engine_limit }
     ensures value { result ≡ corner_weight d (spans_of sides.now) (row_at model.now s a) corner entry }
     ensures size { unsigned_abs result < engine_limit }
 {
@@ -176,7 +177,8 @@ pub fn weight_into(
     requires choice { a < length (choices case.now.model s) }
     requires corner { corner < corner_count case.now s a }
     requires ranks { length ranks.now ≡ length case.now.model.states }
-    ensures { result ≡ corner_sum case.now.d (spans_of sides.now) (row_at case.now.model s a) corner (ranked_below (mark ranks.now) below) }
+    ensures { result ≡ corner_sum case.now.d (spans_of sides.now) (row_at case.now.model s a) corner
+        (ranked_below (mark ranks.now) below) }
 {
     let row = case.model().row(s, a);
     let ends = Ends::at(sides, row.support(), corner);

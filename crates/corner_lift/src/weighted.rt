@@ -17,7 +17,8 @@ fn times(ends: &Ends, d: i64, entry: &Entry, number: i64) -> i128
     requires weight { polynomial.abs_sum entry.now.poly * greatest_end d ends.now ^ length ends.now < engine_limit }
     requires room { polynomial.abs_sum entry.now.poly * (greatest_end d ends.now ^ length ends.now * unsigned_abs number) < engine_limit }
     ensures value { result ≡ weight_at d ends.now entry.now.poly *ℤ number }
-    ensures size { unsigned_abs result ≤ polynomial.abs_sum entry.now.poly * (greatest_end d ends.now ^ length ends.now * unsigned_abs number) }
+    ensures size { unsigned_abs result ≤ polynomial.abs_sum entry.now.poly
+        * (greatest_end d ends.now ^ length ends.now * unsigned_abs number) }
 {
     if number == 0 {
         return 0;

@@ -3,15 +3,19 @@ use Rattle.std.specs.Prelude.{ℕ, Bool, false, List, [], ◌∷◌, drop, ◌==
 use Rattle.std.specs.List.{prefix_len}
 use Rattle.std.specs.Char.{is_ascii_digit, is_ascii_alphabetic}
 
+-- the tab
 abbrev pub tab : ℕ
 tab = 9
 
+-- the line feed
 abbrev pub line_feed : ℕ
 line_feed = 10
 
+-- the carriage return
 abbrev pub carriage_return : ℕ
 carriage_return = 13
 
+-- the space, the first of the visible bytes
 abbrev pub space : ℕ
 space = 32
 

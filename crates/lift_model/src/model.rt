@@ -31,9 +31,23 @@ impl std::marker::Model for Model {
 
     ghost Value = { ModelData };
 
-    ghost view = { λ m. record { kind = m.kind; common = m.common; names = m.names; goal = m.goal.items; init = m.init; states = map (λ v. v.items) m.states.items } };
+    ghost view = { λ m. record {
+      kind = m.kind;
+      common = m.common;
+      names = m.names;
+      goal = m.goal.items;
+      init = m.init;
+      states = map (λ v. v.items) m.states.items;
+    } };
 
-    ghost invariant = { λ m. IsModel (record { kind = m.kind; common = m.common; names = m.names; goal = m.goal.items; init = m.init; states = map (λ v. v.items) m.states.items }) };
+    ghost invariant = { λ m. IsModel (record {
+      kind = m.kind;
+      common = m.common;
+      names = m.names;
+      goal = m.goal.items;
+      init = m.init;
+      states = map (λ v. v.items) m.states.items;
+    }) };
 }
 
 impl Model {
@@ -46,8 +60,22 @@ impl Model {
         init: u32,
         states: Vec<Vec<Row>>,
     ) -> Self
-        requires { IsModel (record { kind = kind; common = c; names = names; goal = goal.items; init = init; states = map (λ v. v.items) states.items }) }
-        ensures { result ≡ record { kind = kind; common = c; names = names; goal = goal.items; init = init; states = map (λ v. v.items) states.items } }
+        requires { IsModel (record {
+          kind = kind;
+          common = c;
+          names = names;
+          goal = goal.items;
+          init = init;
+          states = map (λ v. v.items) states.items;
+        }) }
+        ensures { result ≡ record {
+          kind = kind;
+          common = c;
+          names = names;
+          goal = goal.items;
+          init = init;
+          states = map (λ v. v.items) states.items;
+        } }
     {
         Model {
             kind,

@@ -17,7 +17,8 @@ const BLOCK: usize = 256;
 fn add_terms(sums: &mut [i128; BLOCK], poly: &MultiAffine, block: u16)
     requires small { All (λ term. unsigned_abs term.1 < coefficient_limit) poly.now }
     requires room { (i : ℕ) → i < block_size → unsigned_abs (slice_index_or sums.old i (pos 0)) < sum_limit }
-    ensures sums { (i : ℕ) → i < block_size → slice_index_or sums.new i (pos 0) ≡ slice_index_or sums.old i (pos 0) +ℤ coefficient (block * block_size + i) poly.now }
+    ensures sums { (i : ℕ) → i < block_size → slice_index_or sums.new i (pos 0)
+        ≡ slice_index_or sums.old i (pos 0) +ℤ coefficient (block * block_size + i) poly.now }
     ensures sizes { (set : ℕ) → unsigned_abs (coefficient set poly.now) < coefficient_limit }
 {
     for i in 0..poly.len() {
@@ -32,7 +33,8 @@ fn add_terms(sums: &mut [i128; BLOCK], poly: &MultiAffine, block: u16)
 fn sums_in(entries: &[Entry], block: u16) -> [i128; BLOCK]
     requires small { AreSmall entries.now }
     requires few { length entries.now ≤ most_transitions }
-    ensures sums { (i : ℕ) → i < block_size → slice_index_or result i (pos 0) ≡ row_coefficient (block * block_size + i) entries.now }
+    ensures sums { (i : ℕ) → i < block_size → slice_index_or result i (pos 0)
+        ≡ row_coefficient (block * block_size + i) entries.now }
     ensures sizes { All (λ sum. unsigned_abs sum < engine_limit) result }
 {
     let mut sums = [0; BLOCK];
@@ -53,7 +55,9 @@ fn due(common: i64, set: u16) -> i128
 fn first_wrong(sums: &[i128], block: u16, common: i64) -> Option<(u16, i128)>
     requires whole { length sums.now ≡ block_size }
     requires block { block < block_size }
-    ensures { MatchOption result ((i : ℕ) → i < block_size → slice_index_or sums.now i (pos 0) ≡ due common (block * block_size + i)) (λ fault. IsFirstWrong sums.now block common fault.0 fault.1) }
+    ensures { MatchOption result
+        ((i : ℕ) → i < block_size → slice_index_or sums.now i (pos 0) ≡ due common (block * block_size + i))
+        (λ fault. IsFirstWrong sums.now block common fault.0 fault.1) }
 {
     let mut set = block * 256;
     for sum in sums {

@@ -24,7 +24,9 @@ pub(crate) fn first_negative(asked: &Candidate, s: u32, a: u32) -> Option<Weighe
     requires few { row_parameters asked.now (row_at asked.now.model s a) ≤ most_row_parameters }
     requires narrow { IsNarrow asked.now (row_at asked.now.model s a) }
     ensures first { MatchOption result
-        ((j c : ℕ) → j < length (row_at asked.now.model s a) → c < 2 ^ row_parameters asked.now (row_at asked.now.model s a) → pos 0 ≤ℤ corner_weight asked.now.d asked.now.root (row_at asked.now.model s a) c j)
+        ((j c : ℕ) → j < length (row_at asked.now.model s a)
+        → c < 2 ^ row_parameters asked.now (row_at asked.now.model s a)
+        → pos 0 ≤ℤ corner_weight asked.now.d asked.now.root (row_at asked.now.model s a) c j)
         (λ n. IsFirstNegative asked.now (row_at asked.now.model s a) n.entry n.corner n.weight) }
     ensures size { IfSome result (λ n. unsigned_abs n.weight < engine_limit) }
 {
