@@ -14,7 +14,6 @@ use Rattle.plift_words.specs.declared.job.Field.{Field}
 use Rattle.plift_words.specs.declared.job.Field.TheVariants as field
 use Rattle.plift_words.specs.declared.error.WordsError.{WordsError}
 use Rattle.plift_words.specs.declared.error.WordsError.TheVariants as words
-use Rattle.plift_top.specs.Built.{is_built}
 use Rattle.plift_top.specs.Refused.{words_refusal}
 use Rattle.plift_top.specs.Verify.{WasRead, Reports, IsRefused, KeepsLimit, text_limit}
 use Rattle.plift_top.specs.Answers.{Acts, AsksToVerify, NoFault, WroteNote, IsNoted, HasNote, RefusesText, status_of, answered, note_of, usage_note}
@@ -47,7 +46,6 @@ module _ {S K : Type 0} (left : S → Option (List ℕ)) (faults : S → ℕ) (t
   noted (Ok (verify j)) (refusal.Region error) a = inr (told_of j (refusal.Region error) _ _ a.0)
   noted (Ok (verify j)) (refusal.Model error) a = told_of j (refusal.Model error) _ _ a.0
   noted (Ok (verify j)) (refusal.Rows error) a = told_of j (refusal.Rows error) _ _ a.0
-  noted (Ok (verify j)) refusal.Unbuilt a = told_of j refusal.Unbuilt _ _ a.0
   noted (Ok (verify j)) _ a = refl
   noted (Err f) (refusal.Usage g) a = inl (f, refl, ap usage_note a.0)
   noted (Err f) refusal.Memory a = refl
@@ -156,20 +154,20 @@ module _ {S K : Type 0} (left : S → Option (List ℕ)) (faults : S → ℕ) (t
   by_answer Q done refused memory (Err e) answer a is = absurd (cc)
 
   module _ (none : AdmittedHasNoFault) where
-    -- a job whose model is built and admitted is done, but for want of memory
+    -- a job whose model is admitted over its region is done, but for want of memory
     pub complete : (asked : Result JobData Field) (answer : Result (Unit {0}) Refusal) → Acts left faults taken counts asked source source' out out' answer → AsksToVerify asked j → (m : ModelData) (root : Region)
-        → drn text j.goal ≡ Ok m → region m.names j.depth j.region ≡ Ok root → IsAdmitted (case_of m root j.precision) → is_built m ≡ true
+        → drn text j.goal ≡ Ok m → region m.names j.depth j.region ≡ Ok root → IsAdmitted (case_of m root j.precision)
         → (answered answer ≡ status.Done) ⊎ (answered answer ≡ status.Memory)
-    complete asked answer a is m root read named admitted built =
-        by_answer (λ (s : Status). (s ≡ status.Done) ⊎ (s ≡ status.Memory)) (λ h. inl refl) (λ why h. absurd (never_refused none j (drn text j.goal) m root read named admitted built why h)) (inr refl) asked answer a is
+    complete asked answer a is m root read named admitted =
+        by_answer (λ (s : Status). (s ≡ status.Done) ⊎ (s ≡ status.Memory)) (λ h. inl refl) (λ why h. absurd (never_refused none j (drn text j.goal) m root read named admitted why h)) (inr refl) asked answer a is
 
     -- a job that is refused at its text is refused so, but for want of memory
     pub refused : (asked : Result JobData Field) (answer : Result (Unit {0}) Refusal) → Acts left faults taken counts asked source source' out out' answer → AsksToVerify asked j → (why : Refusal) → IsRefused j why text
         → (answered answer ≡ status_of why) ⊎ (answered answer ≡ status.Memory)
     refused asked answer a is why bad =
         by_answer (λ (s : Status). (s ≡ status_of why) ⊎ (s ≡ status.Memory))
-        (λ h. absurd (never_refused none j (drn text j.goal) h.model h.root h.read h.named h.report.case.admitted h.report.built why bad))
-        (λ other h. inl (one_status none j (drn text j.goal) other why h bad)) (inr refl) asked answer a is
+        (λ h. absurd (never_refused none j (drn text j.goal) h.model h.root h.read h.named h.report.case.admitted why bad))
+        (λ other h. inl (one_status j (drn text j.goal) other why h bad)) (inr refl) asked answer a is
 
   -- a job whose rows aren't admitted is refused by them, but for want of memory
   pub unadmitted : (asked : Result JobData Field) (answer : Result (Unit {0}) Refusal) → Acts left faults taken counts asked source source' out out' answer → AsksToVerify asked j → (m : ModelData) (root : Region)
@@ -177,7 +175,7 @@ module _ {S K : Type 0} (left : S → Option (List ℕ)) (faults : S → ℕ) (t
       → (answered answer ≡ status.RowsRefused) ⊎ (answered answer ≡ status.Memory)
   unadmitted asked answer a is m root read named bad =
       by_answer (λ (s : Status). (s ≡ status.RowsRefused) ⊎ (s ≡ status.Memory))
-      (λ h. absurd (bad (same_case h))) (λ why h. inl (rows_status j (drn text j.goal) m root read named bad why h)) (inr refl) asked answer a is
+      (λ h. absurd (bad (same_case h))) (λ why h. inl (rows_status j (drn text j.goal) m root read named why h)) (inr refl) asked answer a is
     where
       same_case : Reports (Appends (taken out) (taken out')) j text → IsAdmitted (case_of m root j.precision)
       same_case h = admitted_by h.model h.root h.read h.named h.report.case.admitted

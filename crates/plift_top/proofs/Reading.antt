@@ -21,7 +21,7 @@ use Rattle.cert_text.specs.Report.{report_text}
 use Rattle.plift_top.specs.Leaf.{IsRightLeaf, BoundsSchedulers}
 use Rattle.plift_top.specs.Refused.{model_refusal, region_refusal}
 use Rattle.plift_top.specs.Verify.{WasRead, Reports, IsReportOf, IsRefused, IsRefusedAt, IsRefusedOver, Stops, Verifies}
-use Rattle.plift_top.specs.Steps.{IsBuiltCase, ReadsModel, NamesRoot, AdmitsCase, WritesCase, WritesOver}
+use Rattle.plift_top.specs.Steps.{IsTestedCase, ReadsModel, NamesRoot, AdmitsCase, WritesCase, WritesOver}
 use Rattle.plift_top.specs.declared.refusal.Refusal.{Refusal}
 use Rattle.plift_top.specs.declared.refusal.Refusal.TheVariants as refusal
 
@@ -82,9 +82,9 @@ stopped {T = T} left faults taken counts job source source' out why (Err e) is h
     by _ h = (h, refl)
 
 -- a case was decided, and its report written
-pub case_reported : {written : List ℕ → Type 0} (k : CaseData) (bound : Bound) (leaf : Tree) → IsBuiltCase k → IsRightLeaf k bound leaf → BoundsSchedulers k bound leaf → written (report_text k bound leaf) → IsReportOf written k bound
+pub case_reported : {written : List ℕ → Type 0} (k : CaseData) (bound : Bound) (leaf : Tree) → IsTestedCase k → IsRightLeaf k bound leaf → BoundsSchedulers k bound leaf → written (report_text k bound leaf) → IsReportOf written k bound
 case_reported k bound leaf case right bounds report =
-    record { leaf = leaf; case = case.case; weights = case.weights; sums = case.sums; built = case.built; right = right; schedulers = bounds; report = report }
+    record { leaf = leaf; case = case.case; weights = case.weights; sums = case.sums; right = right; schedulers = bounds; report = report }
 
 pub case_cut_off : {K T : Type 0} (taken : K → Option (List ℕ)) (counts : K → ℕ) (k : CaseData) (bound : Bound) (out out' : K) (result : Result T Refusal) → IsErrAnd result (λ e. e ≡ refusal.WriteFault)
     → IsReportOf (AppendsFront (taken out) (taken out')) k bound → Rose (counts out) (counts out') → WritesCase taken counts k bound out out' result
@@ -95,7 +95,7 @@ pub case_short : {K T : Type 0} (taken : K → Option (List ℕ)) (counts : K �
 case_short taken counts k bound out (Ok x) is = absurd is
 case_short {T = T} taken counts k bound out (Err e) is = subst (λ (f : Refusal). WritesCase {T = T} taken counts k bound out out (Err f)) (sym is) refl
 
--- the rows weren't admitted, or the model isn't built
+-- the rows weren't admitted
 pub over_refused : {K T : Type 0} (taken : K → Option (List ℕ)) (counts : K → ℕ) (job : VerifyData) (m : ModelData) (r : Region) (out : K) (why : Refusal) (result : Result T Refusal) → IsErrAnd result (λ e. e ≡ why)
     → AdmitsCase job m r (Err why) → WritesOver taken counts job m r out out result
 over_refused taken counts job m r out why (Ok x) is h = absurd is
@@ -103,7 +103,6 @@ over_refused {T = T} taken counts job m r out why (Err e) is h = subst (λ (f : 
   where
     by : (why : Refusal) → IsRefusedOver job m (Ok r) why → WritesOver {T = T} taken counts job m r out out (Err why)
     by (refusal.Rows error) h = (h, refl)
-    by refusal.Unbuilt h = (h, refl)
     by _ h = absurd h
 
 -- the report of the case of a model over a region
@@ -130,5 +129,4 @@ module _ {S : Type 0} (left : S → Option (List ℕ)) (faults : S → ℕ) (job
   verified taken counts out out' (Err refusal.WriteFault) h = (reports h.0, h.1)
   verified taken counts out out' (Err refusal.Memory) h = (tt, h)
   verified taken counts out out' (Err (refusal.Rows error)) h = (over (refusal.Rows error) h.0, h.1)
-  verified taken counts out out' (Err refusal.Unbuilt) h = (over refusal.Unbuilt h.0, h.1)
   verified taken counts out out' (Err _) h = absurd h.0

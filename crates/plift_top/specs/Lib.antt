@@ -1,4 +1,3 @@
-pub mod Built
 pub mod Leaf
 pub mod Decided
 pub mod Verify

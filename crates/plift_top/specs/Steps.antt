@@ -13,7 +13,6 @@ use Rattle.lift_cert.specs.declared.bound.Bound.{Bound}
 use Rattle.lift_rows.specs.Admitted.{HasWeightsFromZero, HasSumsOfTotal}
 use Rattle.drn_read.specs.Reading.{drn}
 use Rattle.plift_words.specs.Job.{VerifyData}
-use Rattle.plift_top.specs.Built.{is_built}
 use Rattle.plift_top.specs.Verify.{WasRead, IsRefusedOver, IsReportOf, text_limit}
 use Rattle.plift_top.specs.declared.refusal.Refusal.{Refusal}
 use Rattle.plift_top.specs.declared.refusal.Refusal.TheVariants as refusal
@@ -34,16 +33,15 @@ NamesRoot job names (Err (refusal.Region error)) = region names job.depth job.re
 NamesRoot job names (Err refusal.Memory) = ⊤
 NamesRoot job names (Err _) = ⊥
 
--- a case whose rows are distributions at each valuation inside its root, and whose model is built
-pub record IsBuiltCase (k : CaseData) : Type 0 where
+-- a case whose rows are distributions at each valuation inside its root
+pub record IsTestedCase (k : CaseData) : Type 0 where
   pub case : IsCase k
   pub weights : HasWeightsFromZero k
   pub sums : HasSumsOfTotal k
-  pub built : is_built k.model ≡ true
 
--- the rows of a model over a region: a case that is built, or the cause
+-- the rows of a model over a region: a case whose rows were tested, or the cause
 abbrev pub AdmitsCase : VerifyData → ModelData → Region → Result CaseData Refusal → Type 0
-AdmitsCase job m r (Ok k) = (k ≡ case_of m r job.precision) × IsBuiltCase k
+AdmitsCase job m r (Ok k) = (k ≡ case_of m r job.precision) × IsTestedCase k
 AdmitsCase job m r (Err why) = IsRefusedOver job m (Ok r) why
 
 -- a case is decided and its report written, or there is a cause

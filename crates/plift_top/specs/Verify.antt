@@ -15,7 +15,6 @@ use Rattle.drn_read.specs.Reading.{drn}
 use Rattle.drn_read.specs.declared.error.DrnError.{DrnError}
 use Rattle.cert_text.specs.Report.{report_text}
 use Rattle.plift_words.specs.Job.{VerifyData}
-use Rattle.plift_top.specs.Built.{is_built}
 use Rattle.plift_top.specs.Leaf.{IsRightLeaf, BoundsSchedulers}
 use Rattle.plift_top.specs.declared.refusal.Refusal.{Refusal}
 use Rattle.plift_top.specs.declared.refusal.Refusal.TheVariants as refusal
@@ -31,11 +30,10 @@ pub record WasRead (P : List ℕ → Type 0) (old new : Option (List ℕ)) : Typ
   pub ended : IsAtEnd new
   pub has : P text
 
--- Why a job is refused at a model whose region comes to that: the region is at fault; or a row isn't admitted; or all rows are, and the model isn't built.
+-- Why a job is refused at a model whose region comes to that: the region is at fault, or a row isn't admitted.
 abbrev pub IsRefusedOver : VerifyData → ModelData → Result Region RegionError → Refusal → Type 0
 IsRefusedOver job m (Err error) (refusal.Region f) = f ≡ error
 IsRefusedOver job m (Ok r) (refusal.Rows error) = IsFirstFault (case_of m r job.precision) error
-IsRefusedOver job m (Ok r) refusal.Unbuilt = IsAdmitted (case_of m r job.precision) × (is_built m ≡ false)
 IsRefusedOver job m _ _ = ⊥
 
 -- Why a job is refused at a text that comes to that: it stands for no model; or by what is asked of its model.
@@ -48,13 +46,12 @@ IsRefusedAt job (Ok m) why = IsRefusedOver job m (region m.names job.depth job.r
 abbrev pub IsRefused : VerifyData → Refusal → List ℕ → Type 0
 IsRefused job why text = IsRefusedAt job (drn text job.goal) why
 
--- What was written is the report of a case, whose model is built, and of the right leaf, which bounds every scheduler where it accepts. At each valuation inside the root each row of the case is a distribution.
+-- What was written is the report of a case and of the right leaf, which bounds every scheduler where it accepts. At each valuation inside the root each row of the case is a distribution.
 pub record IsReportOf (written : List ℕ → Type 0) (k : CaseData) (bound : Bound) : Type 0 where
   pub leaf : Tree
   pub case : IsCase k
   pub weights : HasWeightsFromZero k
   pub sums : HasSumsOfTotal k
-  pub built : is_built k.model ≡ true
   pub right : IsRightLeaf k bound leaf
   pub schedulers : BoundsSchedulers k bound leaf
   pub report : written (report_text k bound leaf)

@@ -1,7 +1,6 @@
 //! The program: what its words ask for is done, and its status and its notes tell how it went.
 #![tactic(auto)]
 
-mod built;
 mod edge;
 mod notes;
 mod program;

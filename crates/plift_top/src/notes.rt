@@ -18,7 +18,7 @@ fn status_of(refusal: Refusal) -> Status
 {
     match refusal {
         Refusal::Usage(_) | Refusal::Region(_) => Status::Usage,
-        Refusal::Model(_) | Refusal::Unbuilt => Status::ModelRefused,
+        Refusal::Model(_) => Status::ModelRefused,
         Refusal::Rows(_) => Status::RowsRefused,
         Refusal::ReadFault => Status::ReadFault,
         Refusal::WriteFault => Status::WriteFault,
@@ -139,7 +139,6 @@ fn write_note<E: Sink>(notes: &mut E, refusal: Refusal) -> Result<(), WriteFault
         Refusal::Region(error) => write_region_note(notes, error),
         Refusal::Model(error) => write_model_note(notes, error),
         Refusal::Rows(error) => write_rows_note(notes, error),
-        Refusal::Unbuilt => write_all(notes, b"model: unbuilt\n"),
         Refusal::ReadFault => write_all(notes, b"read fault\n"),
         Refusal::WriteFault => write_all(notes, b"write fault\n"),
         Refusal::TooLong => write_all(notes, b"too long\n"),

@@ -1,5 +1,5 @@
 // The whole program, over any source and sinks.
-ghost use Rattle.std.specs.Prelude.{◌≡◌, ◌≢◌, ◌≤◌, ◌<◌, ◌⊎◌, length, List, ℕ, true};
+ghost use Rattle.std.specs.Prelude.{◌≡◌, ◌≢◌, ◌≤◌, ◌<◌, ◌⊎◌, length, List, ℕ};
 ghost use Rattle.std.specs.Prelude.{Some, Ok, Err, IsErr};
 ghost use Rattle.std.specs.Io.KnownBytes.{Appends};
 ghost use Rattle.lift_base.specs.Outside.{Rose, AppendsFront, TakenHas};
@@ -10,7 +10,6 @@ ghost use Rattle.drn_read.specs.Reading.{drn};
 ghost use Rattle.plift_words.specs.Job.{VerifyData};
 ghost use Rattle.plift_words.specs.Given.{asked};
 ghost use Rattle.plift_words.specs.declared.job.Field.TheVariants.{Words};
-ghost use Rattle.plift_top.specs.Built.{is_built};
 ghost use Rattle.plift_top.specs.Verify.{WasRead, Reports, IsRefused, KeepsLimit, text_limit};
 ghost use Rattle.plift_top.specs.Answers.{status_of, AsksToVerify, NoFault};
 ghost use Rattle.plift_top.specs.Answers.{HasNote, WroteNote, Acts};
@@ -51,7 +50,7 @@ pub fn run<S: Source, K: Sink, E: Sink>(
     notes: &mut E,
 ) -> Status
     // Done: the source gave a text that stands for a model, which with the job's region makes a
-    // case that is built, and out took its report and nothing else.
+    // case, and out took its report and nothing else.
     ensures done { result ≡ Status.Done
         → (j : VerifyData) × AsksToVerify (asked words.now.items) j
         × WasRead (Reports (Appends (K.taken out.old) (K.taken out.new)) j)
@@ -69,12 +68,12 @@ pub fn run<S: Source, K: Sink, E: Sink>(
     ensures within { result ≢ Status.TooLong
         → TakenHas (λ bytes. length bytes ≤ text_limit) (S.left source.old) (S.left source.new) }
 
-    // A job, a text that stands for a model that is built, and a region over which its rows are
-    // admitted give Done or Memory, where no fault is counted.
+    // A job, a text that stands for a model, and a region over which its rows are admitted give
+    // Done or Memory, where no fault is counted.
     ensures complete { (j : VerifyData) (text : List ℕ) (m : ModelData) (root : Region)
         → AsksToVerify (asked words.now.items) j → S.left source.old ≡ Some text
         → drn text j.goal ≡ Ok m → region m.names j.depth j.region ≡ Ok root
-        → IsAdmitted (case_of m root j.precision) → is_built m ≡ true → length text ≤ text_limit
+        → IsAdmitted (case_of m root j.precision) → length text ≤ text_limit
         → NoFault (S.faults source.old) (S.faults source.new)
         → NoFault (K.faults out.old) (K.faults out.new)
         → (result ≡ Status.Done) ⊎ (result ≡ Status.Memory) }

@@ -21,8 +21,6 @@ pub enum Refusal {
     Region(RegionError),
     /// A row of the model isn't admitted over the region.
     Rows(RowError),
-    /// The model isn't of those that this program verifies.
-    Unbuilt,
     ReadFault,
     WriteFault,
     /// The source gives more bytes than a text may have.

@@ -14,7 +14,7 @@ pub enum Status {
     NotSound = 1,
     /// The command line is at fault.
     Usage = 2,
-    /// The text stands for no model, or for one that this program doesn't verify yet.
+    /// The text stands for no model.
     ModelRefused = 3,
     /// A row of the model is no distribution over the region, or too wide.
     RowsRefused = 4,

@@ -9,10 +9,9 @@ ghost use Rattle.plift_words.specs.Given.{verify_data};
 ghost use Rattle.plift_top.specs.Decided.{leaf_of};
 ghost use Rattle.plift_top.specs.Leaf.{IsRightLeaf, BoundsSchedulers};
 ghost use Rattle.plift_top.specs.Verify.{Verifies, KeepsLimit};
-ghost use Rattle.plift_top.specs.Steps.{IsBuiltCase, ReadsModel, NamesRoot, AdmitsCase};
+ghost use Rattle.plift_top.specs.Steps.{IsTestedCase, ReadsModel, NamesRoot, AdmitsCase};
 ghost use Rattle.plift_top.specs.Steps.{WritesCase, WritesOver};
 
-use crate::built::is_built;
 use crate::refusal::Refusal;
 use crate::report::{Report, Verdict};
 use corner_lift::{Case, rows_inside};
@@ -50,7 +49,7 @@ fn root_of(alloc: Global, job: &VerifyJob, names: &Names) -> Result<(Grid, Rect)
     Ok(root)
 }
 
-// The case of a model over a root, where all its rows are admitted and it is built.
+// The case of a model over a root, where all its rows are admitted.
 fn case_of<'m>(
     model: &'m Model,
     root: &'m Rect,
@@ -62,9 +61,6 @@ fn case_of<'m>(
     ensures { AdmitsCase (verify_data job.now) model.now (region_of (grid, root.now)) result }
 {
     let case = admit(model, root, grid, job.precision)?;
-    if !is_built(model) {
-        return Err(Refusal::Unbuilt);
-    }
     Ok(case)
 }
 
@@ -103,9 +99,9 @@ fn decide<'x>(case: &Case, bound: Bound, x: &'x [i64]) -> Verdict<'x>
     }
 }
 
-// Decides the root of a case that is admitted and built, and writes its report.
+// Decides the root of a case whose rows were tested, and writes its report.
 fn write_case<K: Sink>(alloc: Global, case: &Case, bound: Bound, out: &mut K) -> Result<(), Refusal>
-    requires { IsBuiltCase case.now }
+    requires { IsTestedCase case.now }
     ensures { WritesCase K.taken K.faults case.now bound out.old out.new result }
 {
     let x = upper_of(alloc, case)?;

@@ -24,8 +24,8 @@ pub returns-clause-within : goal.returns-clause-within
 returns-clause-within g c e = acts.within _ _ _ c.act-answer.ensures.limit (λ f. e (c.end.ensures.status ∙ f))
 
 pub returns-clause-complete : goal.returns-clause-complete
-returns-clause-complete g c j text m root is told read named admitted built len sure1 sure2 =
-    rw c.end.ensures.status (acts.complete g.S.Source.left g.S.Source.faults g.K.Sink.taken g.K.Sink.faults _ _ _ _ j text told len sure1 sure2 c.first_fault_is_one.ensures.none _ _ (rw c.deref.ensures.value at c.act-answer.ensures.answer) is m root read named admitted built)
+returns-clause-complete g c j text m root is told read named admitted len sure1 sure2 =
+    rw c.end.ensures.status (acts.complete g.S.Source.left g.S.Source.faults g.K.Sink.taken g.K.Sink.faults _ _ _ _ j text told len sure1 sure2 c.first_fault_is_one.ensures.none _ _ (rw c.deref.ensures.value at c.act-answer.ensures.answer) is m root read named admitted)
 
 pub returns-clause-refused : goal.returns-clause-refused
 returns-clause-refused g c j text why is told bad len sure1 sure2 =
