@@ -1,5 +1,5 @@
 -- Why a job is refused at a text: by one cause, and by none where its report is written.
-use Rattle.std.proofs.Common.{◌≡◌, true, false, Ok, Err, refl, subst, Result}
+use Rattle.std.proofs.Common.{◌≡◌, Ok, Err, refl, subst, Result}
 use Rattle.lift_grid.specs.Region.{Region, region}
 use Rattle.lift_grid.specs.declared.error.RegionError.{RegionError}
 use Rattle.lift_model.specs.Model.{ModelData}

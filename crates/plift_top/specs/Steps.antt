@@ -1,5 +1,5 @@
 -- What the steps of a job answer, one behind another.
-use Rattle.std.specs.Prelude.{◌≡◌, ◌<◌, ℕ, List, length, true, Ok, Err, Result, ⊤}
+use Rattle.std.specs.Prelude.{◌≡◌, ◌<◌, ℕ, List, length, Ok, Err, Result, ⊤}
 use Rattle.std.specs.declared.option.Option.{Option}
 use Rattle.std.specs.Io.KnownBytes.{Appends}
 use Rattle.lift_base.specs.Outside.{Rose, TakenHas, AppendsFront}

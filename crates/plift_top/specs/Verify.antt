@@ -1,5 +1,5 @@
 -- What `verify` answers, and what stands after it.
-use Rattle.std.specs.Prelude.{◌≡◌, ◌^◌, ◌<◌, ◌≤◌, ℕ, List, length, true, false, Ok, Err, Result, ⊤}
+use Rattle.std.specs.Prelude.{◌≡◌, ◌^◌, ◌<◌, ◌≤◌, ℕ, List, length, Ok, Err, Result, ⊤}
 use Rattle.std.specs.declared.option.Option.{Option}
 use Rattle.std.specs.Io.KnownBytes.{Appends, Consumes, IsAtEnd}
 use Rattle.lift_base.specs.Outside.{Rose, TakenHas, AppendsFront}
@@ -7,7 +7,7 @@ use Rattle.lift_model.specs.Model.{ModelData}
 use Rattle.lift_grid.specs.Region.{Region, region}
 use Rattle.lift_grid.specs.declared.error.RegionError.{RegionError}
 use Rattle.lift_grid.specs.Tree.{Tree}
-use Rattle.corner_lift.specs.Case.{CaseData, IsCase, IsAdmitted, case_of}
+use Rattle.corner_lift.specs.Case.{CaseData, IsCase, case_of}
 use Rattle.lift_cert.specs.declared.bound.Bound.{Bound}
 use Rattle.lift_rows.specs.Admitted.{HasWeightsFromZero, HasSumsOfTotal}
 use Rattle.lift_rows.specs.Fault.{IsFirstFault}
