@@ -3,3 +3,6 @@ pub mod Ordering
 pub mod Multiples
 pub mod Ring
 pub mod Spans
+pub mod Axis
+pub mod Writes
+pub mod Halves

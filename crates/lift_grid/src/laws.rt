@@ -1,20 +1,53 @@
-// What the definitions of a region's grid mean.
-ghost use Rattle.std.specs.Prelude.{◌≡◌, ◌*◌, ◌*ℤ◌, ◌<ℤ◌, ◌^◌, ℕ, List, pos, unsigned_abs, All};
-ghost use Rattle.std.specs.Int.{◌∣◌};
-ghost use Rattle.lift_frac.specs.Ratio.{Ratio};
-ghost use Rattle.lift_grid.specs.Region.{Interval, Divides, common_denominator, number_over};
+//! Laws of grids and of halves, for who reasons about them. The functions do nothing.
+
+ghost use Rattle.lift_grid.specs.Laws.{
+  DenominatorsDivide,
+  HalvesHaveOneLess,
+  HalvesKeepCount,
+  HalvesTile,
+  MembersAreBelow,
+  MidpointsAreExact,
+  NumbersAreExact,
+  SidesOfSpans,
+  SpansAreHalvable,
+  SpansOfSides,
+};
 
 use lift_frac::divisors_and_multiples;
 
 /// A fraction's number over a grid is worth the fraction, where its denominator divides `d`.
 pub fn numbers_are_exact()
-    ensures { (d depth : ℕ) (q : Ratio) → pos 0 <ℤ q.den → unsigned_abs q.den ∣ d
-        → number_over d depth q *ℤ q.den ≡ q.num *ℤ pos (d * 2 ^ depth) }
+    ensures { NumbersAreExact }
 {}
 
 /// The common denominator of intervals is a multiple of the denominator of each end.
 pub fn denominators_divide()
-    ensures { (intervals : List Interval) → All (Divides (common_denominator intervals)) intervals }
+    ensures { DenominatorsDivide }
 {
     divisors_and_multiples();
 }
+
+/// The parameters of a set have indices below the set's size in bits.
+pub fn members_are_below()
+    ensures { MembersAreBelow }
+{}
+
+/// A rectangle is the same by its spans as by its ends in a row.
+pub fn rows_are_rectangles()
+    ensures spans { SpansOfSides }
+    ensures sides { SidesOfSpans }
+{}
+
+/// Where a halving is left, each span can be halved, its midpoint is exact, and both halves are
+/// rectangles of as many spans with one halving less.
+pub fn halves_stay_on_grid()
+    ensures halvable { SpansAreHalvable }
+    ensures midpoint { MidpointsAreExact }
+    ensures halves { HalvesHaveOneLess }
+    ensures count { HalvesKeepCount }
+{}
+
+/// The two halves of a rectangle tile it.
+pub fn halves_tile()
+    ensures { HalvesTile }
+{}

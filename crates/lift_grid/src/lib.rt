@@ -4,6 +4,7 @@
 mod clause;
 mod corner;
 mod error;
+mod halving;
 mod interval;
 mod intervals;
 mod laws;
@@ -14,7 +15,11 @@ mod text;
 
 pub use corner::corner_side;
 pub use error::RegionError;
-pub use laws::{denominators_divide, numbers_are_exact};
+pub use halving::{narrow, split_axis};
+pub use laws::{
+    denominators_divide, halves_stay_on_grid, halves_tile, members_are_below, numbers_are_exact,
+    rows_are_rectangles,
+};
 pub use lists::{Marks, Values};
 pub use rect::{Grid, Rect};
 pub use region::read_region;

@@ -1,0 +1,4 @@
+pub mod Lanes
+pub mod Cuts
+pub mod Lends
+pub mod Laws

@@ -1,0 +1,8 @@
+//! Lanes of words in one block of memory, for code that must not run out of memory half way.
+#![tactic(auto)]
+
+mod laws;
+mod pool;
+
+pub use laws::lanes_stand_alone;
+pub use pool::Pool;
