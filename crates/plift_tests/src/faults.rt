@@ -6,20 +6,23 @@ use plift_top::run;
 use std::alloc::Global;
 use std::test::Fail;
 
-const HALF: &str = "verify --goal heads --bound 1/2 --precision 4";
-
-// Each row: the model; which call fails at the source, at the sink and at the notes, none where it is
-// 0; how many bytes the sink holds; the status, the output, and the note.
+// Each row: the words and the model; which call fails at the source, at the sink and at the notes,
+// none where it is 0; how many bytes the sink holds; the status, the output, and the note.
 const FAULTS: &str = "\
-PLAIN | 3 | 0 | 0 | 1000 | ReadFault |  | read fault;
-PLAIN | 0 | 2 | 0 | 1000 | WriteFault | p | write fault;
-PLAIN | 0 | 0 | 0 | 10 | WriteFault | plift 1;ki | write fault;
-PLAIN | 8 | 0 | 0 | 1000 | Done | plift 1;kind dtmc;parameters 0;common 4;states 3;init 0;goal 1 1;row 0 0 2;to 1 0:1;to 2 0:3;row 1 0 1;to 1 0:4;row 2 0 1;to 2 0:4;bound 1/2;precision 4;depth 0;grid 1;box;accept 4 16 0; | 
-CTMC | 0 | 0 | 1 | 1000 | ModelRefused |  | 
+verify --goal heads --bound 1/2 --precision 4 | PLAIN | 3 | 0 | 0 | 1000 | ReadFault | - | read fault;
+verify --goal heads --bound 1/2 --precision 4 | PLAIN | 0 | 2 | 0 | 1000 | WriteFault | p | write fault;
+verify --goal heads --bound 1/2 --precision 4 | PLAIN | 0 | 0 | 0 | 10 | WriteFault | plift 1;ki | write fault;
+verify --goal heads --bound 1/2 --precision 4 | PLAIN | 8 | 0 | 0 | 1000 | Done | plift 1;kind dtmc;parameters 0;common 4;states 3;init 0;goal 1 1;row 0 0 2;to 1 0:1;to 2 0:3;row 1 0 1;to 1 0:4;row 2 0 1;to 2 0:4;bound 1/2;precision 4;depth 0;grid 1;box;accept 4 16 0; | -
+verify --goal heads --bound 1/2 --precision 4 | CTMC | 0 | 0 | 1 | 1000 | ModelRefused | - | -
+verify --goal heads --bound 1/2 --precision 4 --depth 0 --region 1/10<=p<=2/5 | COIN | 3 | 0 | 0 | 1000 | ReadFault | - | read fault;
+verify --goal heads --bound 1/2 --precision 4 --depth 0 --region 1/10<=p<=2/5 | COIN | 0 | 2 | 0 | 1000 | WriteFault | p | write fault;
+verify --goal heads --bound 1/2 --precision 4 --depth 0 --region 1/10<=p<=2/5 | COIN | 0 | 0 | 0 | 198 | Done | plift 1;kind dtmc;parameters 1 p;common 1;states 3;init 0;goal 1 1;row 0 0 2;to 1 1:1;to 2 0:1 1:-1;row 1 0 1;to 1 0:1;row 2 0 1;to 2 0:1;bound 1/2;precision 4;depth 0;grid 10;box 1 4;accept 7 16 0; | -
+verify --goal heads --bound 1/2 --precision 4 --depth 0 --region 1/10<=p<=2/5 | COIN | 0 | 0 | 0 | 197 | WriteFault | plift 1;kind dtmc;parameters 1 p;common 1;states 3;init 0;goal 1 1;row 0 0 2;to 1 1:1;to 2 0:1 1:-1;row 1 0 1;to 1 0:1;row 2 0 1;to 2 0:1;bound 1/2;precision 4;depth 0;grid 10;box 1 4;accept 7 16 0 | write fault;
 ";
 
 #[derive(Clone, Copy)]
 struct Faults<'a> {
+    words: &'a str,
     model: &'a str,
     read: u64,
     write: u64,
@@ -34,6 +37,7 @@ struct Faults<'a> {
 fn faults_of(row: &str) -> Option<Faults<'_>> {
     let mut cells = row.split(" | ");
     Some(Faults {
+        words: cells.next()?,
         model: cells.next()?,
         read: cells.next()?.parse().ok()?,
         write: cells.next()?.parse().ok()?,
@@ -65,7 +69,7 @@ fn has_written(
 
 // Whether a run with these faults on that text gives what the row says.
 fn is_answered_on(alloc: Global, want: Faults<'_>, text: Vec<u8>) -> Result<bool, Fail> {
-    let words = words_of(alloc, HALF, ' ')?;
+    let words = words_of(alloc, want.words, ' ')?;
     let mut source = MemSource::new(text, 16, one_call(alloc, want.read)?);
     let mut out = MemSink::new(alloc, want.room, 1, one_call(alloc, want.write)?)?;
     let mut notes = MemSink::new(alloc, 100, 3, one_call(alloc, want.tell)?)?;

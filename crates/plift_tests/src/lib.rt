@@ -1,4 +1,5 @@
 //! Tests of the program. Each is a table of one text: a row in each line, and its cells between bars.
+//! A dash alone is an empty cell.
 #![tactic(auto)]
 
 #[cfg(test)]
