@@ -7,3 +7,4 @@ pub mod Summing
 pub mod Cases
 pub mod CornerEnds
 pub mod RowLaws
+pub mod HalvesInside

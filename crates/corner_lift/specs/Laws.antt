@@ -1,7 +1,9 @@
 -- What holds of rows at corners and inside, for who reasons about them.
-use Rattle.std.specs.Prelude.{◌≡◌, ℕ, ◌^◌, ◌<◌, ℤ, pos, ◌*ℤ◌, ◌≤ℤ◌, ◌<ℤ◌, List, length, All, slice_index_or, count_ones, IsBitSet}
+use Rattle.std.specs.Prelude.{◌≡◌, ℕ, ◌+◌, ◌^◌, ◌<◌, ℤ, pos, ◌*ℤ◌, ◌≤ℤ◌, ◌<ℤ◌, List, length, All, slice_index_or, count_ones, IsBitSet}
 use Rattle.lift_poly.specs.Polynomial.{Valuation, weight, denominator}
 use Rattle.lift_grid.specs.Rectangle.{Spans, AreSpans, Inside, corner_side}
+use Rattle.lift_grid.specs.Splitting.{HasHalvings}
+use Rattle.lift_grid.specs.Tree.{lower_half, upper_half}
 use Rattle.lift_model.specs.declared.entry.Entry.{Entry}
 use Rattle.lift_model.specs.Process.{power, weighted_sum}
 use Rattle.lift_model.specs.Model.{ModelData, support, choices, row_at, moves_at, process_at}
@@ -88,3 +90,8 @@ MeansAtLeastInside = (k : CaseData) (spans : Spans) (row : List Entry) (y : ℕ 
 -- the root of a case lies inside itself
 abbrev pub RootIsInside : Type 0
 RootIsInside = (k : CaseData) → IsCase k → IsInside k.root k.root
+
+-- where a halving is left, both halves of a rectangle inside the root lie inside it
+abbrev pub HalvesAreInside : Type 0
+HalvesAreInside = (root spans : Spans) (n axis : ℕ) → IsInside root spans → HasHalvings (n + 1) spans → axis < length spans
+    → IsInside root (lower_half axis spans) × IsInside root (upper_half axis spans)

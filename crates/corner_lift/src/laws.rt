@@ -15,7 +15,10 @@ ghost use Rattle.corner_lift.specs.Laws.{
   MeansAtMostInside,
   MeansAtLeastInside,
   RootIsInside,
+  HalvesAreInside,
 };
+
+use lift_grid::halves_stay_on_grid;
 
 /// Weights at corners: the corner bound for a single entry; that no weight of a case is negative at a
 /// corner of a rectangle inside the root, and that there a row's weights sum to the whole; and which
@@ -46,3 +49,10 @@ pub fn rows_inside()
     ensures least { MeansAtLeastInside }
     ensures root { RootIsInside }
 {}
+
+/// Where a halving is left, both halves of a rectangle inside the root lie inside it.
+pub fn halves_are_inside()
+    ensures { HalvesAreInside }
+{
+    halves_stay_on_grid();
+}

@@ -9,6 +9,6 @@ mod row;
 mod weighted;
 
 pub use case::Case;
-pub use laws::{corners_bound_weights, rows_at_corners, rows_inside};
+pub use laws::{corners_bound_weights, halves_are_inside, rows_at_corners, rows_inside};
 pub use precision::one_at;
 pub use row::{raw_weight, row_max, row_min, row_value, weight_into, whole};
