@@ -13,6 +13,7 @@ use Rattle.lift_frac.specs.declared.error.FracError.{FracError}
 use Rattle.lift_frac.specs.declared.error.FracError.TheVariants.{Wide, BadLiteral}
 use Rattle.lift_frac.proofs.Euclid.{gcd_is, positive, gcd-one}
 use Rattle.lift_frac.proofs.LowestTerms.{gcd-quotients, size_above}
+use Rattle.lift_frac.proofs.Products.{nonzero_size}
 
 above_zero : (n : ℕ) → 0 < n → pos 0 <ℤ pos n
 above_zero n h = omega (arith, ints)
@@ -28,23 +29,28 @@ quotient_above : (q g d : ℕ) → q * g ≡ d → 0 < d → 0 < q
 quotient_above zero g d e h = absurd (omega arith)
 quotient_above (suc q) g d e h = omega arith
 
-lowest_fraction : (n : ℤ) (d : ℕ) → 0 < d → is_wide (lowest n (pos d)) ≡ false → IsFraction (lowest n (pos d))
+lowest_fraction : (n d : ℤ) → d ≢ pos 0 → is_wide (lowest n d) ≡ false → IsFraction (lowest n d)
 lowest_fraction n d h narrow =
-    let g : ℕ = gcd (unsigned_abs n) d in
-    let is = gcd_is (unsigned_abs n) d in
-    let above : 0 < g = positive (unsigned_abs n) d g is h in
-    let some = quotient_above (d / g) g d (div-mul_cancel g is.1) h in
-    let small = or_parts (nat_le size_limit (unsigned_abs (lowest n (pos d)).num)) (nat_le size_limit (d / g)) narrow in
+    let a : ℕ = unsigned_abs n in
+    let b : ℕ = unsigned_abs d in
+    let g : ℕ = gcd a b in
+    let is = gcd_is a b in
+    let size : 0 < b = nonzero_size d h in
+    let some = quotient_above (b / g) g b (div-mul_cancel g is.1) size in
+    let small = or_parts (nat_le size_limit (unsigned_abs (lowest n d).num)) (nat_le size_limit (b / g)) narrow in
     record {
       positive = above_zero _ some;
-      num = leb-false size_limit (unsigned_abs (lowest n (pos d)).num) small.0;
-      den = leb-false size_limit (d / g) small.1;
-      lowest = ap (λ k. gcd k (d / g)) (size_above n (pos d) g (not_zero d h)) ∙ gcd-quotients (unsigned_abs n) d g above is;
+      num = leb-false size_limit (unsigned_abs (lowest n d).num) small.0;
+      den = leb-false size_limit (b / g) small.1;
+      lowest = ap (λ k. gcd k (b / g)) (size_above n d g h) ∙ gcd-quotients a b g (positive a b g is size) is;
     }
 
 narrow_fraction : (q r : Ratio) (b : Bool) → cond b (Err Wide) (Ok q) ≡ Ok r → (b ≡ false → IsFraction q) → IsFraction r
 narrow_fraction q r true e h = cc
 narrow_fraction q r false e h = let f : q ≡ r = cc in subst IsFraction f (h refl)
+
+pub quotient_fraction : (n d : ℤ) (q : Ratio) → d ≢ pos 0 → fraction n d ≡ Ok q → IsFraction q
+quotient_fraction n d q h e = narrow_fraction (lowest n d) q (is_wide (lowest n d)) e (lowest_fraction n d h)
 
 no_fraction : IsFraction (record { num = pos 0; den = pos 1 })
 no_fraction = record { positive = above_zero 1 (omega arith); num = omega arith; den = omega arith; lowest = gcd-one 0 }
@@ -64,9 +70,7 @@ reading_by l false = Err BadLiteral
 scaled_fraction : (n u d : ℕ) (b : Bool) (r : Ratio) → scaled_by n u d b ≡ Ok r → IsFraction r
 unfolding scaled_by
 scaled_fraction n u d true r e = cc
-scaled_fraction n u d false r e =
-    let q = lowest (pos (n * 10 ^ (u - d))) (pos (10 ^ (d - u))) in
-    narrow_fraction q r (is_wide q) e (lowest_fraction (pos (n * 10 ^ (u - d))) (10 ^ (d - u)) (ten_above (d - u)))
+scaled_fraction n u d false r e = quotient_fraction (pos (n * 10 ^ (u - d))) (pos (10 ^ (d - u))) r (not_zero _ (ten_above (d - u))) e
 
 scaled-is : (n u d : ℕ) → scaled n u d ≡ scaled_by n u d (is_far n u d)
 unfolding scaled_by
@@ -81,9 +85,12 @@ value-is : (l : lit.Literal) → value_of l ≡ value_by (number l) (up l) (down
 unfolding value_by
 value-is l = refl
 
+pub literal_fraction : (l : lit.Literal) (r : Ratio) → value_of l ≡ Ok r → IsFraction r
+literal_fraction l r e = value_fraction (number l) (up l) (down l) (number l == 0) r (sym (value-is l) ∙ e)
+
 reading_fraction_by : (l : lit.Literal) (b : Bool) (r : Ratio) → reading_by l b ≡ Ok r → IsFraction r
 unfolding reading_by
-reading_fraction_by l true r e = value_fraction (number l) (up l) (down l) (number l == 0) r (sym (value-is l) ∙ e)
+reading_fraction_by l true r e = literal_fraction l r e
 reading_fraction_by l false r e = cc
 
 reading-is : (text : List ℕ) → reading text ≡ reading_by (literal_at text).0 (is_literal text)

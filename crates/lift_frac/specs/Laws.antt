@@ -1,9 +1,9 @@
 -- What common divisors and multiples are, and what literals stand for.
-use Rattle.std.specs.Prelude.{◌≡◌, ◌<◌, ◌≤◌, ℕ, List, Ok}
+use Rattle.std.specs.Prelude.{◌≡◌, ◌≢◌, ◌<◌, ◌≤◌, ℕ, List, ℤ, pos, Ok}
 use Rattle.std.specs.Int.{IsGcd, ◌∣◌}
 use Rattle.lift_frac.specs.Gcd.{gcd, lcm}
-use Rattle.lift_frac.specs.Literal.{reading}
-use Rattle.lift_frac.specs.Ratio.{Ratio, IsFraction}
+use Rattle.lift_frac.specs.Literal.{Literal, value_of, reading}
+use Rattle.lift_frac.specs.Ratio.{Ratio, IsFraction, fraction}
 
 -- the greatest common divisor divides both numbers, and what divides both divides it
 abbrev pub GcdIsGreatest : Type 0
@@ -30,3 +30,13 @@ LcmIsAtLeast = (a b : ℕ) → 0 < b → a ≤ lcm a b
 -- a text that reads as a literal is worth a fraction
 abbrev pub ReadingIsFraction : Type 0
 ReadingIsFraction = (text : List ℕ) (q : Ratio) → reading text ≡ Ok q → IsFraction q
+
+-- ---- fractions
+
+-- one number over another, in lowest terms, is a fraction, where the divisor isn't 0
+abbrev pub LowestIsFraction : Type 0
+LowestIsFraction = (n d : ℤ) (q : Ratio) → d ≢ pos 0 → fraction n d ≡ Ok q → IsFraction q
+
+-- what a literal is worth is a fraction
+abbrev pub ValueIsFraction : Type 0
+ValueIsFraction = (literal : Literal) (q : Ratio) → value_of literal ≡ Ok q → IsFraction q

@@ -1,4 +1,4 @@
-ghost use Rattle.lift_frac.specs.Laws.{ReadingIsFraction};
+ghost use Rattle.lift_frac.specs.Laws.{ReadingIsFraction, LowestIsFraction, ValueIsFraction};
 ghost use Rattle.lift_frac.specs.Laws.{GcdIsGreatest, GcdIsUnique, GcdIsWithin, LcmIsMultiple};
 ghost use Rattle.lift_frac.specs.Laws.{LcmIsAtLeast};
 
@@ -15,4 +15,10 @@ pub fn divisors_and_multiples()
 /// Holds the law of literals, for who reasons about them. It does nothing.
 pub fn literals_follow()
     ensures { ReadingIsFraction }
+{}
+
+/// Holds the laws of what quotients and literals are worth, for who reasons about them. It does nothing.
+pub fn fractions_follow()
+    ensures quotients { LowestIsFraction }
+    ensures literals { ValueIsFraction }
 {}

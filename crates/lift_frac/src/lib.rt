@@ -11,5 +11,5 @@ mod parts;
 pub use divisor::{gcd, lcm};
 pub use error::FracError;
 pub use frac::Frac;
-pub use laws::{divisors_and_multiples, literals_follow};
+pub use laws::{divisors_and_multiples, fractions_follow, literals_follow};
 pub use literal::{literal_len, number_below, read_literal};

@@ -13,6 +13,10 @@ FirstFaultIsOne = (k : CaseData) (e f : RowError) → IsFirstFault k e → IsFir
 abbrev pub AdmittedHasNoFault : Type 0
 AdmittedHasNoFault = (k : CaseData) (e : RowError) → IsAdmitted k → IsFirstFault k e → ⊥
 
+-- and one that isn't admitted has one
+abbrev pub UnadmittedHasAFirstFault : Type 0
+UnadmittedHasAFirstFault = (k : CaseData) → (IsAdmitted k → ⊥) → (e : RowError) × IsFirstFault k e
+
 -- in a case no weight is negative at a valuation inside the root
 abbrev pub CasesHaveWeights : Type 0
 CasesHaveWeights = (k : CaseData) → IsCase k → HasWeightsFromZero k

@@ -1,4 +1,5 @@
-ghost use Rattle.lift_rows.specs.Laws.{FirstFaultIsOne, AdmittedHasNoFault, CasesHaveWeights, CasesHaveSums};
+ghost use Rattle.lift_rows.specs.Laws.{FirstFaultIsOne, AdmittedHasNoFault};
+ghost use Rattle.lift_rows.specs.Laws.{UnadmittedHasAFirstFault, CasesHaveWeights, CasesHaveSums};
 
 use corner_lift::rows_inside;
 
@@ -7,6 +8,12 @@ use corner_lift::rows_inside;
 pub fn first_fault_is_one()
     ensures one { FirstFaultIsOne }
     ensures none { AdmittedHasNoFault }
+{}
+
+/// Holds that a model that isn't admitted has a first fault, for who reasons about them. It does
+/// nothing.
+pub fn unadmitted_has_a_first_fault()
+    ensures { UnadmittedHasAFirstFault }
 {}
 
 /// Holds that in a case each row is a distribution at every valuation inside the root: no weight is

@@ -12,4 +12,4 @@ mod width;
 
 pub use admission::admit;
 pub use error::RowError;
-pub use laws::{cases_have_distributions, first_fault_is_one};
+pub use laws::{cases_have_distributions, first_fault_is_one, unadmitted_has_a_first_fault};

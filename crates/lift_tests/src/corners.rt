@@ -20,10 +20,11 @@ const PRODUCTS: &str = "@type: DTMC;@parameters;p q;@model;state 0 init;0 : p*q;
 state 1 goal;1 : 1;state 2;2 : 1";
 
 /// The depth; the whole, what the numbers 0, 16 and 0 sum to at the corners 0 to 3, the least and the
-/// greatest, the weight into the states ranked below 1 at corner 1, the greatest depth.
+/// greatest, the weight into the goal state at corner 1, that into state 2 at corner 2, and the
+/// greatest depth.
 const WEIGHED: &str = "\
-0 | 25 [32, 64, 16, 32] 16 64 4 0
-1 | 100 [128, 256, 64, 128] 64 256 16 1";
+0 | 25 [32, 64, 16, 32] 16 64 4 20 0
+1 | 100 [128, 256, 64, 128] 64 256 16 80 1";
 
 /// What the row of state 0 weighs.
 fn weighed(alloc: Global, case: &Case, sides: &[i64], vec: &[i64]) -> Result<String, Fail>
@@ -42,9 +43,10 @@ fn weighed(alloc: Global, case: &Case, sides: &[i64], vec: &[i64]) -> Result<Str
     ];
     let least = row_min(case, sides, 0, 0, vec);
     let greatest = row_max(case, sides, 0, 0, vec);
-    let below = weight_into(case, sides, 0, 0, 1, &[1, 0, u32::MAX], 1);
+    let goal = weight_into(case, sides, 0, 0, 1, &[1, 0, u32::MAX], 1);
+    let other = weight_into(case, sides, 0, 0, 2, &[1, u32::MAX, 0], 1);
     let depth = case.greatest_depth();
-    Ok(format!(in alloc; "{whole} {values:?} {least} {greatest} {below} {depth}")?)
+    Ok(format!(in alloc; "{whole} {values:?} {least} {greatest} {goal} {other} {depth}")?)
 }
 
 #[test]

@@ -14,5 +14,11 @@ pub(crate) fn model_of(rt: &impl Abort, alloc: Global, lines: &str) -> Result<Mo
         text.push(b'\n')?;
     }
     assert!(rt; text.len() < 1 << 31);
-    Ok(read_model(alloc, &text, b"goal")?)
+    match read_model(alloc, &text, b"goal") {
+        Ok(model) => Ok(model),
+        Err(error) => {
+            let (line, cause) = (error.line, error.cause.name());
+            Err(Fail::new(format_args!("line {line}: {cause}")))
+        }
+    }
 }
