@@ -1,5 +1,5 @@
 -- The laws of rows at corners and inside.
-use Rattle.std.proofs.Common.{◌≡◌, ℕ, ◌^◌, ◌<◌, List, [], ◌∷◌, length, get_or, ℤ, pos, ◌*ℤ◌, ◌≤ℤ◌, refl, ap, ◌∙◌, arith}
+use Rattle.std.proofs.Common.{◌≡◌, ◌^◌, [], ◌∷◌, get_or, pos, ◌*ℤ◌, refl, ap, arith}
 use Rattle.lift_poly.specs.Polynomial.{denominator}
 use Rattle.lift_poly.proofs.Ring.{linear, mul-assoc}
 use Rattle.lift_grid.specs.Rectangle.{Spans, AreSides, sides_of, spans_of}
@@ -7,7 +7,7 @@ use Rattle.lift_model.specs.Process.{power}
 use Rattle.lift_model.specs.Model.{support, row_at, moves_at}
 use Rattle.lift_model.proofs.Sums.{weighted_sum-mono}
 use Rattle.corner_lift.specs.Corner.{corner, parameter_count}
-use Rattle.corner_lift.specs.Case.{CaseData, IsCase, Within, AreSidesInside, number, row_parameters}
+use Rattle.corner_lift.specs.Case.{CaseData, IsCase, Within, AreSidesInside, number}
 use Rattle.corner_lift.specs.Laws.{BitsAreParameters, ParametersAreTheRoots, NumbersAreInRange, SumsAreInRange, SumsRise, WeightsInside, SumsAreTotals, MeansAtMostInside, MeansAtLeastInside, RootIsInside}
 use Rattle.corner_lift.proofs.CornerBound.{Inside-on}
 use Rattle.corner_lift.proofs.Coefficients.{row_total}

@@ -5,7 +5,7 @@ use Rattle.lift_model.specs.Model.{is_goal, choices, row_at}
 use Rattle.lift_grid.specs.Rectangle.{Spans}
 use Rattle.lift_grid.specs.Tree.{RejectData}
 use Rattle.corner_lift.specs.Corner.{AtCorners, corner_sum, whole}
-use Rattle.corner_lift.specs.Case.{CaseData, number, engine_limit}
+use Rattle.corner_lift.specs.Case.{CaseData, number}
 
 -- one number from 0 to 2 ^ w for each state
 pub record AreNumbers (k : CaseData) (x : List ℤ) : Type 0 where

@@ -1,20 +1,19 @@
 -- What an accepting certificate shows.
-use Rattle.std.proofs.Common.{◌≡◌, ℕ, zero, suc, ◌^◌, List, [], ◌∷◌, map, get_or, All, ℤ, pos, neg_ℤ, ◌*ℤ◌, ◌≤ℤ◌, ◌<ℤ◌, ◌∙◌, arith}
+use Rattle.std.proofs.Common.{◌≡◌, ℕ, zero, suc, ◌^◌, List, [], ◌∷◌, map, get_or, All, ℤ, pos, ◌*ℤ◌, ◌≤ℤ◌, ◌<ℤ◌, arith}
 use Rattle.std.specs.List.{AllByRecursion}
 use Rattle.std.proofs.lemmas.Nat.{pow_pos}
 use Rattle.std.proofs.lemmas.List.Elements.{All-head, All-tail}
 use Rattle.lift_poly.specs.Polynomial.{Valuation, weight, denominator}
-use Rattle.lift_poly.specs.Arithmetic as polynomial
-use Rattle.lift_poly.proofs.Ring.{linear, mul-comm, mul-assoc, mul-le, mul-nonneg, mul-le_cancel, as_diff, diffs, diff-same}
+use Rattle.lift_poly.proofs.Ring.{linear, mul-comm, mul-le, mul-nonneg, mul-le_cancel, as_diff, diffs, diff-same}
 use Rattle.lift_model.specs.Process.{Move, power, weighted_sum}
 use Rattle.lift_model.specs.Reach.{reach}
 use Rattle.lift_model.specs.declared.entry.Entry.{Entry}
-use Rattle.lift_model.specs.Model.{ModelData, support, choices, moves_at, process_at}
-use Rattle.lift_grid.specs.Rectangle.{Spans, AreSpans, Inside}
+use Rattle.lift_model.specs.Model.{ModelData, choices, moves_at, process_at}
+use Rattle.lift_grid.specs.Rectangle.{Spans, Inside}
 use Rattle.corner_lift.specs.Case.{CaseData, IsCase, IsInside, number}
-use Rattle.corner_lift.specs.Certificate.{IsUpper, IsLeastUpper}
+use Rattle.corner_lift.specs.Certificate.{IsUpper}
 use Rattle.corner_lift.specs.Laws.{NumbersAreInRange, WeightsInside, MeansAtMostInside}
-use Rattle.lift_cert.specs.Certificate.{IsAccepting, IsWithin}
+use Rattle.lift_cert.specs.Certificate.{IsAccepting}
 use Rattle.lift_cert.specs.Laws.{AcceptingBounds, LeastRefutes}
 use Rattle.lift_cert.specs.declared.bound.Bound.{Bound}
 use Rattle.lift_cert.specs.Bounded.{IsBoundedAt}

@@ -6,7 +6,7 @@ use corner_lift::one_at;
 
 /// A bound on a probability: the fraction `num / den` in lowest terms, from 0 to 1, with `den` at
 /// least 1.
-#[derive(Clone, Copy, Debug, PartialEq, Eq)]
+#[derive(Clone, Copy)]
 pub struct Bound {
     /// The numerator, at most the denominator.
     pub num: u32,

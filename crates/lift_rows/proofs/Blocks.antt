@@ -1,5 +1,5 @@
 -- Sums of a row's coefficients, a block of 256 sets at a time.
-use Rattle.std.proofs.Common.{◌≡◌, ◌≢◌, ℕ, zero, suc, ◌+◌, ◌-◌, ◌*◌, ◌/◌, ◌%◌, ◌^◌, ◌<◌, ◌≤◌, List, [], ◌∷◌, length, drop, get_or, set, Option, None, Some, is_some, slice_get, true, false, ne_eqb, ℤ, pos, ◌+ℤ◌, unsigned_abs, All, FitsSigned, ⊎_elim, bit_or, refl, sym, ap, ap₂, subst, ◌∙◌, arith, drop-cons}
+use Rattle.std.proofs.Common.{◌≡◌, ◌≢◌, ℕ, zero, suc, ◌+◌, ◌-◌, ◌*◌, ◌/◌, ◌%◌, ◌<◌, ◌≤◌, List, [], ◌∷◌, length, drop, get_or, set, Option, None, Some, is_some, slice_get, true, false, ne_eqb, ℤ, pos, ◌+ℤ◌, unsigned_abs, All, FitsSigned, ⊎_elim, bit_or, refl, sym, ap, ap₂, subst, ◌∙◌, arith, drop-cons}
 use Rattle.std.specs.Prelude.{MatchOption}
 use Rattle.std.proofs.lemmas.Bool.{cases_eq, cases_lt}
 use lib.Bits.{or_self}

@@ -1,17 +1,15 @@
 -- What the tests of a row need of what is asked for, and what it gives that all rows pass.
-use Rattle.std.proofs.Common.{◌≡◌, ℕ, ◌^◌, ◌<◌, List, length, pos, ◌≤ℤ◌, ℤ, All, get_or, count_ones, subst, sym, ◌≤◌, inl, [], ◌∷◌, arith}
+use Rattle.std.proofs.Common.{ℕ, ◌^◌, ◌<◌, List, length, pos, ◌≤ℤ◌, ℤ, All, get_or, ◌≤◌, inl, [], arith}
 use Rattle.std.proofs.lemmas.List.{get_or_default}
 use Rattle.lift_poly.specs.Polynomial.{weight}
-use Rattle.lift_poly.proofs.Ring.{linear}
 use Rattle.lift_grid.specs.Rectangle.{Spans}
 use Rattle.lift_model.specs.declared.entry.Entry.{Entry}
 use Rattle.lift_model.specs.Model.{ModelData, support, choices, row_at}
 use Rattle.lift_model.specs.Valid.{IsRow, IsModel}
 use Rattle.corner_lift.specs.Corner.{AtCorners, corner, corner_weight, parameter_count, no_entry}
-use Rattle.corner_lift.specs.Case.{CaseData, IsCase, IsAdmittedRow, Within, IsAsked, IsAdmitted, row_parameters}
+use Rattle.corner_lift.specs.Case.{CaseData, IsAdmittedRow, IsAdmitted}
 use Rattle.corner_lift.specs.Laws.{WeightsInside, SumsAreTotals, RootIsInside}
 use Rattle.lift_rows.specs.Laws.{CasesHaveWeights, CasesHaveSums}
-use Rattle.lift_rows.specs.Admitted.{HasWeightsFromZero, HasSumsOfTotal}
 use Rattle.lift_rows.specs.Fault.{ComesBefore}
 use Rattle.lift_rows.specs.Sums.{AreSmall}
 

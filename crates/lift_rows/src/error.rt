@@ -2,7 +2,7 @@ ghost use Rattle.std.specs.Prelude.{◌≡◌};
 ghost use Rattle.lift_rows.specs.Number.{error_number, error_row};
 
 /// The first fault of a model that isn't admitted. `state` and `choice` name the row.
-#[derive(Clone, Copy, Debug, PartialEq, Eq)]
+#[derive(Clone, Copy, Debug)]
 pub enum RowError {
     /// The coefficients at a set of parameters, the least one, don't sum to the common denominator
     /// (the empty set) or to 0 (any other set).

@@ -10,7 +10,7 @@ use crate::candidate::Candidate;
 use corner_lift::{raw_weight, rows_at_corners};
 
 /// An entry of a row, by its number, and what it weighs at a corner.
-#[derive(Clone, Copy, Debug)]
+#[derive(Clone, Copy)]
 pub(crate) struct Weighed {
     pub(crate) entry: u32,
     pub(crate) corner: u32,

@@ -7,6 +7,8 @@ mod certificates;
 #[cfg(test)]
 mod corners;
 #[cfg(test)]
+mod example;
+#[cfg(test)]
 mod fractions;
 #[cfg(test)]
 mod models;

@@ -1,1 +1,44 @@
-// Tests of models.
+//! Tests of models.
+
+use crate::example::model_of;
+use lift_model::{Kind, plans_over_one_pick};
+use std::test::Fail;
+
+/// A coin that may be turned: from state 0 to the goal 1 with p or with 1 - p.
+const TURNED: &str = "@type: MDP;@parameters;p;@model;state 0 init;action a;1 : p;2 : 1-p;\
+action b;1 : 1-p;2 : p;state 1 goal;action a;1 : 1;state 2;action a;2 : 1";
+
+/// A state, whether it is a goal state, and how many choices it has.
+const STATES: &str = "\
+0 | false | 2
+1 | true | 1
+2 | false | 1";
+
+#[test]
+fn tells_its_parts(rt: HostRuntime) -> Result<(), Fail> {
+    let model = model_of(&rt, rt.alloc(), TURNED)?;
+    assert_eq!(rt; model.kind(), Kind::Mdp);
+    assert_eq!(rt; model.common(), 1);
+    assert_eq!(rt; model.names().len(), 1);
+    assert_eq!(rt; model.init(), 0);
+    assert_eq!(rt; model.states(), 3);
+    assert_eq!(rt; model.live(), 1);
+    for line in STATES.split('\n') {
+        let mut cells = line.split(" | ");
+        let state: u32 = cells.next().unwrap_or("").parse()?;
+        let goal = cells.next().unwrap_or("") == "true";
+        let choices: u32 = cells.next().unwrap_or("").parse()?;
+        assert!(rt; state < model.states());
+        assert_eq!(rt; model.is_goal(state), goal, "{line}");
+        assert_eq!(rt; model.choices(state), choices, "{line}");
+    }
+    assert!(rt; model.choices(0) > 1);
+    let row = model.row(0, 1);
+    assert_eq!(rt; row.support(), 1);
+    let entries = row.entries();
+    assert_eq!(rt; entries.len(), 2);
+    assert_eq!(rt; entries[0].target, 1);
+    assert_eq!(rt; entries[0].poly.len(), 2);
+    plans_over_one_pick();
+    Ok(())
+}

@@ -1,5 +1,5 @@
 -- What one raise of a state keeps, and what a sweep keeps.
-use Rattle.std.proofs.Common.{◌≡◌, ◌≢◌, ℕ, zero, suc, ◌+◌, ◌*◌, ◌^◌, ◌<◌, ◌≤◌, Bool, true, false, List, [], ◌∷◌, length, set, ℤ, pos, ◌-ℤ◌, ◌*ℤ◌, ◌≤ℤ◌, ◌<ℤ◌, unsigned_abs, refl, sym, ap, ap₂, subst, ◌∙◌, arith, ◌⊎◌, ⊎_elim, length-set, get_or-set_same, get_or-set_other, cond, int_le, SFits, w64, to_z, of_z, to_z-of_z, pow_mono}
+use Rattle.std.proofs.Common.{◌≡◌, ◌≢◌, ℕ, zero, suc, ◌+◌, ◌^◌, ◌<◌, ◌≤◌, Bool, true, false, List, [], ◌∷◌, length, set, ℤ, pos, ◌-ℤ◌, ◌*ℤ◌, ◌≤ℤ◌, ◌<ℤ◌, unsigned_abs, refl, sym, ap, ap₂, subst, ◌∙◌, arith, ◌⊎◌, ⊎_elim, length-set, get_or-set_same, get_or-set_other, cond, int_le, SFits, w64, to_z, of_z, to_z-of_z, pow_mono}
 use mir.Syntax.{w128}
 use Rattle.std.proofs.lemmas.Bool.{both_ways}
 use Rattle.std.proofs.lemmas.Int.{ints, by_lt_z}
@@ -9,10 +9,10 @@ use Rattle.lift_poly.proofs.Ring.{linear, mul-comm, mul-le, test_from_le}
 use Rattle.lift_grid.specs.Rectangle.{Spans, spans_of}
 use Rattle.lift_model.specs.declared.entry.Entry.{Entry}
 use Rattle.lift_model.specs.Process.{power}
-use Rattle.lift_model.specs.Model.{choices, row_at, is_goal, support, moves_at}
-use Rattle.corner_lift.specs.Certificate.{MeansAtMost, IsUpper, IsLeastUpper}
-use Rattle.corner_lift.specs.Corner.{AtCorners, corner, corner_sum, whole, parameter_count}
-use Rattle.corner_lift.specs.Case.{CaseData, IsCase, IsInside, AreSidesInside, IsGreatest, number, row_value, row_whole, corner_count, most_precision, engine_limit}
+use Rattle.lift_model.specs.Model.{choices, row_at, is_goal, support}
+use Rattle.corner_lift.specs.Certificate.{IsUpper, IsLeastUpper}
+use Rattle.corner_lift.specs.Corner.{AtCorners, corner_sum, whole, parameter_count}
+use Rattle.corner_lift.specs.Case.{CaseData, IsCase, IsInside, AreSidesInside, IsGreatest, number, row_value, row_whole, corner_count, most_precision}
 use Rattle.corner_lift.specs.Laws.{HasRow, ParametersAreTheRoots, NumbersAreInRange, SumsAreInRange, SumsRise}
 use Rattle.rounded_iter.specs.Rising.{IsEnough, IsEnoughFor, IsBelow, room}
 

@@ -1,5 +1,5 @@
 -- How many states a search hasn't met yet.
-use Rattle.std.proofs.Common.{◌≡◌, ℕ, zero, suc, ◌+◌, ◌<◌, Bool, true, false, List, [], ◌∷◌, length, set, get_or, refl, ap, arith}
+use Rattle.std.proofs.Common.{◌≡◌, ℕ, zero, suc, Bool, true, false, List, [], ◌∷◌, set, get_or, refl, ap}
 
 abbrev pub unmet : List Bool → ℕ
 unmet [] = 0

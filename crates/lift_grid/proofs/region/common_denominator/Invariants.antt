@@ -1,4 +1,4 @@
-use Rattle.std.proofs.Common.{◌≡◌, ◌^◌, map, take, min}
+use Rattle.std.proofs.Common.{◌≡◌, map, take, min}
 use Rattle.lift_frac.specs.Limits.{size_limit}
 use Rattle.lift_grid.specs.Region.{common_denominator}
 use Rattle.lift_grid.specs.Parts.{ratios_of}

@@ -1,5 +1,3 @@
-use Rattle.std.proofs.Common.{rules, ◌≡◌, refl, to_z-of_z, SFits, w64}
-use Rattle.lift_rows.specs.Sums.{AreSmall}
 use Rattle.lift_rows.proofs.RowTests.{small_row}
 use Rattle.lift_rows.proofs.admission.test_sums.Goals as goal
 

@@ -1,4 +1,4 @@
-use Rattle.std.proofs.Common.{◌≡◌, ℕ, ◌+◌, ◌*◌, ◌^◌, ◌<◌, ◌≤◌, pos, ◌+ℤ◌, drop, length, slice_index_or, unsigned_abs}
+use Rattle.std.proofs.Common.{◌≡◌, ℕ, ◌+◌, ◌*◌, ◌<◌, ◌≤◌, pos, ◌+ℤ◌, drop, length, slice_index_or, unsigned_abs}
 use Rattle.corner_lift.specs.Case.{row_coefficient}
 use Rattle.lift_model.specs.Valid.{coefficient_limit}
 use Rattle.lift_rows.proofs.sums.sums_in.Given as goal

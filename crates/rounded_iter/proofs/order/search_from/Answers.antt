@@ -1,4 +1,4 @@
-use Rattle.std.proofs.Common.{rules, ◌≡◌, ◌<◌, ◌+◌, ◌*◌, ℕ, length, All, Some, true, length-set, subst, sym, ap, ◌∙◌, arith}
+use Rattle.std.proofs.Common.{◌<◌, length, Some, true, length-set, ◌∙◌, arith}
 use Rattle.std.proofs.lemmas.List.Elements.{All-push, All-pop}
 use Rattle.rounded_iter.specs.declared.order.Visit.{Visit}
 use Rattle.rounded_iter.proofs.Searching.{meets_one}

@@ -1,4 +1,4 @@
-use Rattle.std.proofs.Common.{◌∙◌, length, ap, to_z-of_z, arith}
+use Rattle.std.proofs.Common.{◌∙◌, length, ap, arith}
 use Rattle.lift_grid.specs.Rectangle.{spans_of}
 use Rattle.lift_model.specs.Model.{ModelData}
 use Rattle.rounded_iter.proofs.Raising.{start_below}
