@@ -1,3 +1,5 @@
+pub mod Bound
 pub mod Bounded
 pub mod Certificate
+pub mod Miss
 pub mod Laws

@@ -1,4 +1,4 @@
-ghost use Rattle.std.specs.Prelude.{◌≡◌, ◌≤◌, ◌*ℤ◌, ◌↔◌, IsTrue};
+ghost use Rattle.std.specs.Prelude.{◌≡◌, ◌≤◌, ◌^◌, ◌*ℤ◌, ◌↔◌, pos, IsTrue};
 ghost use Rattle.corner_lift.specs.Case.{most_precision};
 ghost use Rattle.lift_cert.specs.Certificate.{IsWithin};
 
@@ -14,6 +14,18 @@ pub struct Bound {
     pub den: u32,
 }
 
+impl std::marker::Model for Bound {
+    ghost use Rattle.lift_cert.specs.Bound.{BoundData, IsBound};
+
+    ghost Value = { BoundData };
+
+    ghost view = { λ b. record { num = b.num; den = b.den } };
+
+    ghost invariant = { λ b. IsBound (record { num = b.num; den = b.den }) };
+
+    ghost inverse = { λ b. record { num = b.num; den = b.den } };
+}
+
 /// The product, which can't overflow.
 fn widening_mul(a: i64, b: i64) -> i128
     ensures { result ≡ a *ℤ b }
@@ -22,12 +34,25 @@ fn widening_mul(a: i64, b: i64) -> i128
 }
 
 impl Bound {
+    /// `value` over 2 to the precision `w` and the bound, each times both denominators.
+    pub(crate) fn beside(self, value: i64, w: u32) -> (i128, i128)
+        requires { w ≤ most_precision }
+        ensures value { result.0 ≡ value *ℤ pos self.den }
+        ensures bound { result.1 ≡ pos self.num *ℤ pos (2 ^ w) }
+    {
+        let one = one_at(w);
+        (
+            widening_mul(value, i64::from(self.den)),
+            widening_mul(i64::from(self.num), one),
+        )
+    }
+
     /// Whether `value` over 2 to the precision `w` is at most the bound.
     pub fn admits(self, value: i64, w: u32) -> bool
         requires { w ≤ most_precision }
         ensures { IsTrue result ↔ IsWithin self w value }
     {
-        let one = one_at(w);
-        widening_mul(value, i64::from(self.den)) <= widening_mul(i64::from(self.num), one)
+        let (left, right) = self.beside(value, w);
+        left <= right
     }
 }

@@ -96,5 +96,8 @@ pub fn job_of(alloc: Global, words: &[String]) -> Result<Job<'_>, WordsError>
     let Ok(matches) = parse(alloc, words) else {
         return Err(WordsError::Memory);
     };
-    Ok(job_in(&matches)?)
+    match job_in(&matches) {
+        Ok(job) => Ok(job),
+        Err(field) => Err(WordsError::Usage(field)),
+    }
 }

@@ -1,6 +1,3 @@
-ghost use Rattle.std.specs.Prelude.{◌≡◌};
-ghost use Rattle.plift_words.specs.declared.error.WordsError.TheVariants.{Usage};
-
 use crate::job::Field;
 
 /// Why words ask for no job.
@@ -9,12 +6,4 @@ pub enum WordsError {
     /// This part of the line is at fault.
     Usage(Field),
     Memory,
-}
-
-impl From<Field> for WordsError {
-    ghost from_gives = { λ field e. e ≡ Usage field };
-
-    fn from(field: Field) -> Self {
-        WordsError::Usage(field)
-    }
 }
