@@ -42,8 +42,8 @@ impl<T: Copy> Model for Pool<T> {
 
     ghost invariant = { λ p.
         IsCut p.ends.items p.block.items
-            (vec_capacity p.block) p.spare
-            (vec_capacity p.ends) p.spare_lanes };
+        (vec_capacity p.block) p.spare
+        (vec_capacity p.ends) p.spare_lanes };
 }
 
 /// Appends so many words of one value. The block has the room, so no push is refused.
