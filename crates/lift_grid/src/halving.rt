@@ -1,4 +1,5 @@
-// How a rectangle is halved.
+//! How a rectangle is halved.
+
 ghost use Rattle.std.specs.Prelude.{◌≡◌, ◌+◌, ◌*◌, ◌<◌, ◌<ℤ◌, ◌↔◌, ℕ, length};
 ghost use Rattle.std.specs.Prelude.{IfSome, IsBitSet, IsNone, if◌then◌else◌};
 ghost use Rattle.lift_poly.specs.Limits.{parameter_limit};
@@ -66,9 +67,11 @@ fn midpoint(low: i64, high: i64) -> i64
 /// stays, or the upper one where `lower` is false.
 pub fn narrow(sides: &mut [i64], axis: u32, lower: bool)
     requires { IsHalvable axis (spans_of sides.old) }
-    ensures half { spans_of sides.new ≡
-        (if lower then lower_half axis (spans_of sides.old) else upper_half axis (spans_of sides.old)) }
-    ensures pairs { sides_of (spans_of sides.old) ≡ sides.old → sides_of (spans_of sides.new) ≡ sides.new }
+    ensures half { spans_of sides.new ≡ (if lower
+        then lower_half axis (spans_of sides.old)
+        else upper_half axis (spans_of sides.old)) }
+    ensures pairs { sides_of (spans_of sides.old) ≡ sides.old
+        → sides_of (spans_of sides.new) ≡ sides.new }
 {
     let low = 2 * axis as usize;
     let middle = midpoint(sides[low], sides[low + 1]);

@@ -1,12 +1,12 @@
 -- Lanes in a block: appending, dropping and writing one.
-use Rattle.std.proofs.Common.{◌≡◌, ℕ, zero, suc, ◌+◌, ◌-◌, ◌<◌, ◌≤◌, List, [], ◌∷◌, ◌++◌, length, take, drop, set, get_or, slice_range, refl, sym, ap, ◌∙◌, subst, arith, rules, length-append, length-take, length-drop, append_assoc, map, drop-drop}
+use Rattle.std.proofs.Common.{◌≡◌, ℕ, zero, suc, ◌+◌, ◌-◌, ◌<◌, ◌≤◌, List, [], ◌∷◌, ◌++◌, length, take, drop, set, get_or, slice_range, refl, sym, ap, ◌∙◌, subst, arith, length-append, length-drop, append_assoc, map, drop-drop}
 use Rattle.std.proofs.lemmas.Slice.{between_is}
 use Rattle.std.proofs.lemmas.List.{take-append-le, take_all, take-take, length-take-le, take-append-drop}
 use Rattle.std.proofs.Math.Seq.{drop-append_seam, take-append_seam, drop-append-add, take-append-add}
 use Rattle.std.proofs.Math.ListN.{drop_of_length-le}
 use Rattle.std.proofs.lemmas.List.Edits.{length-between, between_more}
 use Rattle.lift_pool.specs.Lanes.{PoolData, joined, dealt, offset, written_over, pool_written, last_lane, pool_with, pool_without_last}
-use Rattle.lift_pool.specs.Cuts.{cut, start, Ascend, IsCut}
+use Rattle.lift_pool.specs.Cuts.{cut, start, Ascend}
 
 module _ {T : Type 0} where
   pub length-cut : (from : ℕ) (ends : List ℕ) (block : List T) → length (cut from ends block) ≡ length ends

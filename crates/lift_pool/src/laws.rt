@@ -2,8 +2,8 @@
 
 ghost use Rattle.lift_pool.specs.Laws.{TakesCanBeUndone, WritesOneLane};
 
-/// Writing through a lent lane, which keeps its length, changes that lane alone; and a lane that was
-/// taken can be given back, which leaves the pool as it was.
+/// Writing through a lent lane, which keeps its length, changes that lane alone; and giving back the
+/// lane that was taken last leaves the pool as it was.
 pub fn lanes_stand_alone<T: Copy>()
     ensures writes { WritesOneLane T }
     ensures undone { TakesCanBeUndone T }

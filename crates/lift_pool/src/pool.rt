@@ -1,7 +1,8 @@
 //! One block of memory, cut into lanes.
 
 ghost use Rattle.std.specs.Prelude.{◌≡◌, ◌+◌, ◌-◌, ◌<◌, ◌≤◌, [], ◌∷◌, ◌++◌};
-ghost use Rattle.std.specs.Prelude.{IfOk, length, replicate, slice_index_or, slice_range, vec_capacity, vec_len};
+ghost use Rattle.std.specs.Prelude.{IfOk, length, replicate, vec_capacity, vec_len};
+ghost use Rattle.std.specs.Prelude.{slice_index_or, slice_range};
 ghost use Rattle.std.specs.Borrow.{sem};
 ghost use Rattle.lift_pool.specs.Cuts.{start};
 ghost use Rattle.lift_pool.specs.Lanes.{last_lane, pool_with, pool_without_last};
@@ -40,7 +41,9 @@ impl<T: Copy> Model for Pool<T> {
     } };
 
     ghost invariant = { λ p.
-        IsCut p.ends.items p.block.items (vec_capacity p.block) p.spare (vec_capacity p.ends) p.spare_lanes };
+        IsCut p.ends.items p.block.items
+        (vec_capacity p.block) p.spare
+        (vec_capacity p.ends) p.spare_lanes };
 }
 
 /// Appends so many words of one value. The block has the room, so no push is refused.
@@ -58,7 +61,8 @@ fn append<T: Copy>(block: &mut Vec<T>, count: usize, value: T)
 fn append_copy<T: Copy>(block: &mut Vec<T>, from: usize)
     requires from { from ≤ vec_len block.old }
     requires room { vec_len block.old + (vec_len block.old - from) ≤ vec_capacity block.old }
-    ensures items { block.new.items ≡ block.old.items ++ slice_range block.old.items from (vec_len block.old) }
+    ensures items { block.new.items
+        ≡ block.old.items ++ slice_range block.old.items from (vec_len block.old) }
     ensures capacity { vec_capacity block.old ≤ vec_capacity block.new }
 {
     for i in from..block.len() {

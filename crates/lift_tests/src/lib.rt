@@ -19,8 +19,12 @@ mod outside;
 #[cfg(test)]
 mod polynomials;
 #[cfg(test)]
+mod pools;
+#[cfg(test)]
 mod regions;
 #[cfg(test)]
 mod rows;
+#[cfg(test)]
+mod splits;
 #[cfg(test)]
 mod vectors;

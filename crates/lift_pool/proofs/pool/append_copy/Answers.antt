@@ -1,5 +1,4 @@
-use Rattle.std.proofs.Common.{rules, ◌≡◌, ◌+◌, ◌-◌, ◌<◌, ◌≤◌, ◌∷◌, ◌++◌, [], arith, length, slice_range, vec_len, vec_capacity, get_or, sym, ◌∙◌, ap, append_assoc, refl, is_ok, true, Bool, List, cond}
-use Rattle.std.proofs.lemmas.List.Edits.{between_more}
+use Rattle.std.proofs.Common.{rules, ◌≡◌, ◌<◌, ◌≤◌, length, vec_len, vec_capacity, get_or, ◌∙◌, refl}
 use Rattle.std.proofs.lemmas.List.{get_or_append_left}
 use Rattle.lift_pool.proofs.Cutting.{grown}
 use Rattle.lift_pool.proofs.pool.append_copy.Goals as goal

@@ -1,4 +1,4 @@
-use Rattle.std.proofs.Common.{◌≡◌, ◌-◌, ◌<◌, ℕ, suc, ap, arith, length, ◌∙◌, ◌≢◌, subst, zero, nat_eq}
+use Rattle.std.proofs.Common.{◌≡◌, ◌-◌, ◌<◌, suc, ap, arith, length, ◌∙◌}
 use Rattle.lift_pool.specs.Cuts.{start}
 use Rattle.lift_pool.proofs.Cutting.{start-is}
 use Rattle.lift_pool.proofs.pool.start_of.Goals as goal

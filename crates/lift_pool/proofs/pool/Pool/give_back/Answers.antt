@@ -1,5 +1,5 @@
-use Rattle.std.proofs.Common.{◌≡◌, ◌<◌, ◌≤◌, ◌+◌, ◌-◌, ◌∷◌, ◌++◌, [], List, ℕ, length, take, ◌∙◌, ap, sym, rules, arith, vec_len, vec_capacity, refl}
-use Rattle.lift_pool.specs.Lanes.{PoolData, pool_with, last_lane}
+use Rattle.std.proofs.Common.{◌≡◌, ◌+◌, ◌-◌, List, ℕ, length, take, ◌∙◌, ap, rules, arith}
+use Rattle.lift_pool.specs.Lanes.{PoolData, last_lane}
 use Rattle.lift_pool.specs.Cuts.{cut, start}
 use Rattle.lift_pool.proofs.Cutting.{start-before, dropped, front-is}
 use Rattle.lift_pool.proofs.pool.Pool.give_back.Goals as goal

@@ -1,4 +1,4 @@
-use Rattle.std.proofs.Common.{◌≡◌, ◌<◌, ◌≤◌, length, ◌∙◌, ap, sym, rules, arith, vec_len, suc}
+use Rattle.std.proofs.Common.{◌≡◌, ◌<◌, length, ◌∙◌, ap, rules, arith, suc}
 use Rattle.lift_pool.specs.Cuts.{start}
 use Rattle.lift_pool.proofs.Cutting.{in-range, lane-is, start-is, start-next, start-top}
 use Rattle.lift_pool.proofs.pool.Pool.lane.Goals as goal

@@ -1,4 +1,4 @@
-use Rattle.std.proofs.Common.{◌≡◌, ◌<◌, ◌≤◌, ◌+◌, length, ◌∙◌, ap, sym, rules, arith, vec_len, get_or, suc, refl, slice_index_or, List, []}
+use Rattle.std.proofs.Common.{◌≡◌, ◌<◌, length, ◌∙◌, ap, sym, rules, arith, vec_len, suc, refl}
 use Rattle.lift_pool.specs.Lanes.{pool_written}
 use Rattle.lift_pool.specs.Cuts.{start}
 use Rattle.lift_pool.proofs.Cutting.{in-range, lane-is, start-is, start-next, start-top, lane-written}

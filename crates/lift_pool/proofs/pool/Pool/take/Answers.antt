@@ -1,4 +1,4 @@
-use Rattle.std.proofs.Common.{◌≡◌, ◌<◌, ◌≤◌, ◌+◌, ◌-◌, ◌∷◌, ◌++◌, [], List, ℕ, length, replicate, ◌∙◌, ap, sym, rules, arith, vec_len, vec_capacity, refl, length-append}
+use Rattle.std.proofs.Common.{◌≡◌, ◌≤◌, ◌-◌, ◌∷◌, ◌++◌, [], List, ℕ, length, replicate, ◌∙◌, ap, sym, rules, arith, length-append}
 use Rattle.std.proofs.lemmas.List.{length-replicate}
 use Rattle.lift_pool.specs.Lanes.{PoolData, pool_with}
 use Rattle.lift_pool.specs.Cuts.{cut}

@@ -1,8 +1,8 @@
-use Rattle.std.proofs.Common.{◌≡◌, ◌<◌, ◌≤◌, ◌+◌, ◌-◌, ◌∷◌, ◌++◌, [], List, ℕ, length, slice_range, ◌∙◌, ap, sym, rules, arith, vec_len, vec_capacity, refl, length-append}
+use Rattle.std.proofs.Common.{◌≡◌, ◌-◌, ◌∷◌, ◌++◌, [], List, ℕ, length, ◌∙◌, ap, rules, arith, vec_len, refl, length-append}
 use Rattle.std.proofs.lemmas.List.Edits.{length-between}
 use Rattle.lift_pool.specs.Lanes.{PoolData, pool_with, last_lane}
 use Rattle.lift_pool.specs.Cuts.{cut, start}
-use Rattle.lift_pool.proofs.Cutting.{cut-taken, ascend-taken, last-is, start-before, length-cut, in-range}
+use Rattle.lift_pool.proofs.Cutting.{cut-taken, ascend-taken, last-is, start-before}
 use Rattle.lift_pool.proofs.pool.Pool.take_copy.Goals as goal
 
 pub overflow_sub-len-2 : goal.overflow_sub-len-2
