@@ -3,3 +3,4 @@ pub mod Tree
 pub mod Region
 pub mod Parts
 pub mod Faults
+pub mod Laws

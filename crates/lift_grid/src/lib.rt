@@ -14,7 +14,7 @@ mod text;
 
 pub use corner::corner_side;
 pub use error::RegionError;
-pub use laws::{denominators_divide, numbers_are_exact};
+pub use laws::{denominators_divide, numbers_are_exact, regions_are_on_grid};
 pub use lists::{Marks, Values};
 pub use rect::{Grid, Rect};
 pub use region::read_region;
