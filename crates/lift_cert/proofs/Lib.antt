@@ -1,2 +1,3 @@
 pub mod Inductive
 pub mod Accepting
+mod Samples
