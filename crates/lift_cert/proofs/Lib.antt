@@ -1,3 +1,4 @@
 pub mod Inductive
 pub mod Accepting
 pub mod Misses
+mod Samples

@@ -2,7 +2,9 @@ pub mod Sides
 pub mod Ordering
 pub mod Multiples
 pub mod Ring
+pub mod Parsed
 pub mod Spans
 pub mod Axis
 pub mod Writes
 pub mod Halves
+mod Samples

@@ -1,6 +1,6 @@
 -- The intervals over a grid, one by one.
 use Rattle.std.proofs.Common.{◌≡◌, ◌<◌, ◌≤◌, ◌+◌, ◌*◌, ◌*ℤ◌, ◌/◌, ◌^◌, mul-pos, ◌&&◌, ℕ, zero, suc, List, [], ◌∷◌, ◌++◌, ℤ, pos, Bool, true, false, Some, None, Result, Ok, Err, IsErr, map, take, min, fold, length, get_or, refl, sym, ap, ◌∙◌, subst, arith, nat_lt}
-use Rattle.std.specs.Prelude.{unsigned_abs, if◌then◌else◌}
+use Rattle.std.specs.Prelude.{unsigned_abs, if◌then◌else◌, IfOk}
 use Rattle.std.specs.List.{list_all, All}
 use Rattle.std.specs.Result.{IsErrAnd}
 use Rattle.std.proofs.lemmas.List.{map-append, take_more, take_all, length-map}
@@ -10,14 +10,19 @@ use Rattle.std.proofs.Math.Bool.{and-false}
 use Rattle.std.proofs.lemmas.Nat.{pow_pos}
 use Rattle.std.proofs.lemmas.Int.{ints}
 use Rattle.lift_frac.specs.Gcd.{lcm}
-use Rattle.lift_frac.specs.Laws.{LcmIsAtLeast}
+use Rattle.lift_frac.specs.Laws.{LcmIsMultiple, LcmIsAtLeast, LowestIsFraction, ValueIsFraction}
 use Rattle.lift_frac.specs.Limits.{size_limit}
 use Rattle.lift_grid.specs.Rectangle.{AreMultiples, IsOnGrid, Spans, IsSpan, AreSpans, sides_of, spans_of}
-use Rattle.lift_grid.specs.Region.{Divides, Interval, common_denominator, span_over, is_narrow, spans_over, over_grid, Gives, Fails, ◌>>=◌}
-use Rattle.lift_grid.specs.Parts.{ratios_of}
+use Rattle.lift_grid.specs.Region.{Region, Divides, Interval, common_denominator, span_over, is_narrow, spans_over, intervals_of, in_order, over_grid, region, Gives, Fails, ◌>>=◌}
+use Rattle.lift_grid.specs.Laws.{IsRegionOf, NamedRegionsAreOnGrid}
+use Rattle.lift_grid.specs.Parts.{ratios_of, region_of}
+use Rattle.lift_grid.specs.declared.rect.Grid.{Grid}
 use Rattle.lift_grid.specs.declared.interval.Interval as code
 use Rattle.lift_grid.specs.declared.error.RegionError.{RegionError}
 use Rattle.lift_grid.specs.declared.error.RegionError.TheVariants.{Syntax, UnknownName, Repeated, Missing, EmptyInterval, Wide, Memory}
+use Rattle.std.proofs.lemmas.Result.{IfOk-at_ok, IfOk-weaker}
+use Rattle.lift_grid.proofs.Multiples.{each-divides}
+use Rattle.lift_grid.proofs.Parsed.{and_then, IsInterval, AreIntervals, AreSoMany, ratio_is, intervals_are, in_order_are}
 use Rattle.lift_grid.proofs.Ring.{span-rises, number-multiple}
 use Rattle.lift_grid.proofs.Sides.{spans_of-sides_of}
 
@@ -56,12 +61,12 @@ both true b h = (refl, h)
 both false b h = absurd (cc)
 
 -- a narrow interval over the grid is a span
-pub is_span : (d depth : ℕ) (x : code.Interval) → 0 < d → Divides d (ratios_of x) → is_narrow (span_over d depth (ratios_of x)) ≡ true → IsSpan (span_over d depth (ratios_of x))
-is_span d depth x above divides narrow =
-    let span : ℤ × ℤ = span_over d depth (ratios_of x) in
+pub is_span : (d depth : ℕ) (i : Interval) → 0 < d → IsInterval i → Divides d i → is_narrow (span_over d depth i) ≡ true → IsSpan (span_over d depth i)
+is_span d depth i above is divides narrow =
+    let span : ℤ × ℤ = span_over d depth i in
     let parts = both (nat_lt (unsigned_abs span.0) (size_limit)) (nat_lt (unsigned_abs span.1) (size_limit)) narrow in
     record {
-      rising = span-rises d (2 ^ depth) x.low.num x.low.den x.high.num x.high.den above (pow_pos depth) x.low.positive_den x.high.positive_den divides.low divides.high x.rising;
+      rising = span-rises d (2 ^ depth) i.low.num i.low.den i.high.num i.high.den above (pow_pos depth) is.low is.high divides.low divides.high is.rising;
       low = grind (arith, parts.0);
       high = grind (arith, parts.1);
     }
@@ -88,7 +93,7 @@ kept_more d depth items ends xs i x below is above divides so_far given =
     record {
       ends = ap (λ l. l ++ ends) so_far.ends ∙ ap (λ l. sides_of (over d depth (take i xs)) ++ l) here.1 ∙ sym (sides_of-append (over d depth (take i xs)) _) ∙ ap sides_of (sym more);
       narrow = rw more (all_narrow (over d depth (take i xs)) (span_over d depth (ratios_of x)) so_far.narrow here.0);
-      spans = rw more (AreSpans-append (over d depth (take i xs)) (span_over d depth (ratios_of x)) so_far.spans (is_span d depth x above divides here.0));
+      spans = rw more (AreSpans-append (over d depth (take i xs)) (span_over d depth (ratios_of x)) so_far.spans (is_span d depth (ratios_of x) above (ratio_is x) divides here.0));
     }
 
 wide_at : (d depth : ℕ) (xs : List code.Interval) (i : ℕ) (x : code.Interval) → i < length xs → is_narrow (span_over d depth (ratios_of (get_or xs i x))) ≡ false → list_all is_narrow (over d depth xs) ≡ false
@@ -125,19 +130,19 @@ divides_at d xs i x all below is =
     let P : Interval → Type 0 = λ y. Divides d y in
     subst P (get_or-map xs i x ∙ ap ratios_of (sym is)) (all i (ratios_of x) (omega (arith, length-map xs ratios_of)))
 
-grows : LcmIsAtLeast → (xs : List code.Interval) (d : ℕ) → d ≤ fold (λ d i. lcm (lcm d (unsigned_abs i.low.den)) (unsigned_abs i.high.den)) d (map ratios_of xs)
-grows at_least [] d = omega arith
-grows at_least (x ∷ xs) d =
-    let low : 0 < unsigned_abs x.low.den = omega (arith, ints, x.low.positive_den) in
-    let high : 0 < unsigned_abs x.high.den = omega (arith, ints, x.high.positive_den) in
-    let first = at_least d (unsigned_abs x.low.den) low in
-    let second = at_least (lcm d (unsigned_abs x.low.den)) (unsigned_abs x.high.den) high in
-    let rest = grows at_least xs (lcm (lcm d (unsigned_abs x.low.den)) (unsigned_abs x.high.den)) in
+grows : LcmIsAtLeast → (is : List Interval) (d : ℕ) → AreIntervals is → d ≤ fold (λ d i. lcm (lcm d (unsigned_abs i.low.den)) (unsigned_abs i.high.den)) d is
+grows at_least [] d are = omega arith
+grows at_least (i ∷ is) d are =
+    let low : 0 < unsigned_abs i.low.den = omega (arith, ints, are.0.low) in
+    let high : 0 < unsigned_abs i.high.den = omega (arith, ints, are.0.high) in
+    let first = at_least d (unsigned_abs i.low.den) low in
+    let second = at_least (lcm d (unsigned_abs i.low.den)) (unsigned_abs i.high.den) high in
+    let rest = grows at_least is (lcm (lcm d (unsigned_abs i.low.den)) (unsigned_abs i.high.den)) are.1 in
     grind arith
 
 -- the least common denominator isn't 0
-pub common-positive : LcmIsAtLeast → (xs : List code.Interval) → 0 < common_denominator (map ratios_of xs)
-common-positive at_least xs = omega (arith, grows at_least xs 1)
+pub common-positive : LcmIsAtLeast → (is : List Interval) → AreIntervals is → 0 < common_denominator is
+common-positive at_least is are = omega (arith, grows at_least is 1 are)
 
 -- below the limit nothing was cut off
 pub not_cut : (limit r c depth : ℕ) → r ≡ min limit c → r * 2 ^ depth < limit → r ≡ c
@@ -178,22 +183,77 @@ multiples_of d depth (i ∷ is) = (
   multiples_of d depth is,
 )
 
-abbrev answer_by : Bool → Spans → Result Spans RegionError
-answer_by b spans = if b then Ok spans else Err Wide
+-- what is answered after a test
+tested_so : {A : Type 0} (P : A → Type 0) (b : Bool) (r s : Result A RegionError) → (b ≡ true → IfOk r P) → (b ≡ false → IfOk s P) → IfOk (if b then r else s) P
+tested_so P true r s f g = f refl
+tested_so P false r s f g = g refl
 
-given_by : (b : Bool) (spans r : Spans) → answer_by b spans ≡ Ok r → spans ≡ r
-given_by true spans r is = cc
-given_by false spans r is = absurd (cc)
+are_spans : (d depth : ℕ) (is : List Interval) → 0 < d → AreIntervals is → ((n : ℕ) (x : Interval) → n < length is → Divides d (get_or is n x)) → list_all is_narrow (map (span_over d depth) is) ≡ true
+    → AreSpans (map (span_over d depth) is)
+are_spans d depth [] above are divides narrow = tt
+are_spans d depth (i ∷ is) above are divides narrow =
+    let parts = both (is_narrow (span_over d depth i)) (list_all is_narrow (map (span_over d depth) is)) narrow in
+    (is_span d depth i above are.0 (divides 0 i (omega arith)) parts.0, are_spans d depth is above are.1 (λ n x lt. divides (suc n) x (omega arith)) parts.1)
 
--- the rectangle that intervals make over a grid
-pub on_grid : (common depth : ℕ) (xs : List code.Interval) (r : Spans) → 0 < common → common * 2 ^ depth < size_limit → spans_over common depth (map ratios_of xs) ≡ Ok r
-    → IsOnGrid (pos (common * 2 ^ depth)) depth (length xs) r
+on_grid : (common depth : ℕ) (is : List Interval) → 0 < common → common * 2 ^ depth < size_limit → IsOnGrid (pos (common * 2 ^ depth)) depth (length is) (map (span_over common depth) is)
+on_grid common depth is above below = record {
+  positive = omega (arith, ints, mul-pos above (pow_pos depth));
+  small = below;
+  one_each = length-map is (span_over common depth);
+  multiples = multiples_of common depth is;
+}
+
+-- a rectangle with so many spans over that grid
+abbrev IsOver : ℕ → ℕ → ℕ → Spans → Type 0
+IsOver common depth count ss = AreSpans ss × IsOnGrid (pos (common * 2 ^ depth)) depth count ss
+
+spans_over_on : (common depth : ℕ) (is : List Interval) → 0 < common → common * 2 ^ depth < size_limit → AreIntervals is → ((n : ℕ) (x : Interval) → n < length is → Divides common (get_or is n x))
+    → IfOk (spans_over common depth is) (IsOver common depth (length is))
 unfolding spans_over
-on_grid common depth xs r above below is =
-    let same : over common depth xs ≡ r = given_by (list_all is_narrow (over common depth xs)) _ _ is in
-    record {
-      positive = omega (arith, ints, mul-pos above (pow_pos depth));
-      small = below;
-      one_each = ap length (sym same) ∙ length-map (map ratios_of xs) (span_over common depth) ∙ length-map xs ratios_of;
-      multiples = rw (← same) (multiples_of common depth (map ratios_of xs));
-    }
+spans_over_on common depth is above below are divides =
+    let spans : Spans = map (span_over common depth) is in
+    tested_so (IsOver common depth (length is)) (list_all is_narrow spans) (Ok spans) (Err Wide)
+    (λ narrow. (are_spans common depth is above are divides narrow, on_grid common depth is above below)) (λ wide. tt)
+
+-- a region with so many spans, on its grid
+abbrev IsOnOwn : ℕ → ℕ → Region → Type 0
+IsOnOwn depth count r = AreSpans r.spans × IsOnGrid r.d r.depth count r.spans × (r.depth ≡ depth)
+
+over_grid_on : LcmIsMultiple → LcmIsAtLeast → (depth : ℕ) (is : List Interval) → AreIntervals is → IfOk (over_grid depth is) (IsOnOwn depth (length is))
+unfolding over_grid
+over_grid_on multiple at_least depth is are =
+    let common : ℕ = common_denominator is in
+    let P : Region → Type 0 = IsOnOwn depth (length is) in
+    tested_so P (nat_lt (common * 2 ^ depth) size_limit) _ (Err Wide)
+    (λ small.
+    and_then (IsOver common depth (length is)) P (spans_over common depth is) _
+    (spans_over_on common depth is (common-positive at_least is are) (grind (arith, small)) are (each-divides multiple is))
+    (λ spans on. (on.0, on.1, refl)))
+    (λ large. tt)
+
+ordered_on : LcmIsMultiple → LcmIsAtLeast → (names : List (List ℕ)) (depth : ℕ) (ordered : List Interval) → AreSoMany (length names) ordered → IfOk (over_grid depth ordered) (IsRegionOf names depth)
+ordered_on multiple at_least names depth ordered so =
+    IfOk-weaker (over_grid depth ordered) (IsOnOwn depth (length ordered)) (IsRegionOf names depth)
+    (λ r on. record { spans = on.0; grid = rw so.1 at on.1; depth_is = on.2 }) (over_grid_on multiple at_least depth ordered so.0)
+
+region_on : LowestIsFraction → ValueIsFraction → LcmIsMultiple → LcmIsAtLeast → (names : List (List ℕ)) (depth : ℕ) (text : List ℕ) → IfOk (region names depth text) (IsRegionOf names depth)
+unfolding region
+region_on quotients literals multiple at_least names depth text =
+    and_then AreIntervals (IsRegionOf names depth) (intervals_of names text) _ (intervals_are quotients literals names text)
+    (λ is are.
+    and_then (AreSoMany (length names)) (IsRegionOf names depth) (in_order is (length names)) _ (in_order_are is (length names) are) (λ ordered so. ordered_on multiple at_least names depth ordered so))
+
+-- a text that names a region names one on its grid
+pub named_on : LowestIsFraction → ValueIsFraction → LcmIsMultiple → LcmIsAtLeast → NamedRegionsAreOnGrid
+named_on quotients literals multiple at_least names depth text r e = IfOk-at_ok (IsRegionOf names depth) e (region_on quotients literals multiple at_least names depth text)
+
+-- so what is read from a text is on its grid
+pub read_grid : NamedRegionsAreOnGrid → (names : List (List ℕ)) (depth : ℕ) (text : List ℕ) (result : Result (Grid × Spans) RegionError) → Gives region_of result (region names depth text)
+    → IfOk result (λ p. IsOnGrid p.0.d depth (length names) p.1)
+read_grid law names depth text (Ok p) gives = let is = law names depth text (region_of p) gives in rw is.depth_is at is.grid
+read_grid law names depth text (Err e) gives = tt
+
+pub read_depth : NamedRegionsAreOnGrid → (names : List (List ℕ)) (depth : ℕ) (text : List ℕ) (result : Result (Grid × Spans) RegionError) → Gives region_of result (region names depth text)
+    → IfOk result (λ p. p.0.depth ≡ depth)
+read_depth law names depth text (Ok p) gives = (law names depth text (region_of p) gives).depth_is
+read_depth law names depth text (Err e) gives = tt

@@ -1,9 +1,9 @@
--- What holds of grids and of halves, for who reasons about them.
-use Rattle.std.specs.Prelude.{◌≡◌, ◌+◌, ◌*◌, ◌^◌, ◌<◌, ℕ, List, [], ◌∷◌, ℤ, pos, ◌+ℤ◌, ◌*ℤ◌, ◌<ℤ◌, unsigned_abs, length, IsBitSet, slice_index_or, All}
+-- What holds of grids, of regions and of halves, for who reasons about them.
+use Rattle.std.specs.Prelude.{◌≡◌, Ok, ◌+◌, ◌*◌, ◌^◌, ◌<◌, ℕ, List, [], ◌∷◌, ℤ, pos, ◌+ℤ◌, ◌*ℤ◌, ◌<ℤ◌, unsigned_abs, length, IsBitSet, slice_index_or, All}
 use Rattle.std.specs.Int.{◌∣◌}
 use Rattle.lift_frac.specs.Ratio.{Ratio}
-use Rattle.lift_grid.specs.Rectangle.{Spans, AreSpans, AreSides, sides_of, spans_of}
-use Rattle.lift_grid.specs.Region.{Interval, Divides, common_denominator, number_over}
+use Rattle.lift_grid.specs.Rectangle.{Spans, AreSpans, AreSides, IsOnGrid, sides_of, spans_of}
+use Rattle.lift_grid.specs.Region.{Region, region, Interval, Divides, common_denominator, number_over}
 use Rattle.lift_grid.specs.Splitting.{IsHalvable, HasHalvings}
 use Rattle.lift_grid.specs.Tree.{Tiles, middle, lower_half, upper_half}
 
@@ -15,6 +15,16 @@ NumbersAreExact = (d depth : ℕ) (q : Ratio) → pos 0 <ℤ q.den → unsigned_
 -- the common denominator of intervals is a multiple of the denominator of each end
 abbrev pub DenominatorsDivide : Type 0
 DenominatorsDivide = (intervals : List Interval) → All (Divides (common_denominator intervals)) intervals
+
+-- the region is a rectangle on its grid, with a span for each name, and can be halved as often as was asked for
+pub record IsRegionOf (names : List (List ℕ)) (depth : ℕ) (r : Region) : Type 0 where
+  pub spans : AreSpans r.spans
+  pub grid : IsOnGrid r.d r.depth (length names) r.spans
+  pub depth_is : r.depth ≡ depth
+
+-- a text that names a region names one on its grid
+abbrev pub NamedRegionsAreOnGrid : Type 0
+NamedRegionsAreOnGrid = (names : List (List ℕ)) (depth : ℕ) (text : List ℕ) (r : Region) → region names depth text ≡ Ok r → IsRegionOf names depth r
 
 -- a parameter that a set holds has an index below n, where the set is below 2 ^ n
 abbrev pub MembersAreBelow : Type 0

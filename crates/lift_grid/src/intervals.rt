@@ -109,8 +109,7 @@ pub(crate) fn in_order(
     intervals: &[Interval],
     count: u32,
 ) -> Result<Vec<Interval>, RegionError>
-    ensures value { Gives (λ v. map ratios_of v.items) result (in_order (map ratios_of intervals.now) count) }
-    ensures len { IfOk result (λ v. length v.items ≡ count) }
+    ensures { Gives (λ v. map ratios_of v.items) result (in_order (map ratios_of intervals.now) count) }
 {
     let mut ordered = Vec::new(alloc);
     for parameter in 0..count {

@@ -1,4 +1,4 @@
-//! Laws of grids and of halves, for who reasons about them. The functions do nothing.
+//! Laws of grids, of regions and of halves, for who reasons about them. The functions do nothing.
 
 ghost use Rattle.lift_grid.specs.Laws.{
   DenominatorsDivide,
@@ -7,13 +7,14 @@ ghost use Rattle.lift_grid.specs.Laws.{
   HalvesTile,
   MembersAreBelow,
   MidpointsAreExact,
+  NamedRegionsAreOnGrid,
   NumbersAreExact,
   SidesOfSpans,
   SpansAreHalvable,
   SpansOfSides,
 };
 
-use lift_frac::divisors_and_multiples;
+use lift_frac::{divisors_and_multiples, fractions_follow};
 
 /// A fraction's number over a grid is worth the fraction, where its denominator divides `d`.
 pub fn numbers_are_exact()
@@ -25,6 +26,14 @@ pub fn denominators_divide()
     ensures { DenominatorsDivide }
 {
     divisors_and_multiples();
+}
+
+/// A text that names a region names one on its grid.
+pub fn regions_are_on_grid()
+    ensures { NamedRegionsAreOnGrid }
+{
+    divisors_and_multiples();
+    fractions_follow();
 }
 
 /// The parameters of a set have indices below the set's size in bits.

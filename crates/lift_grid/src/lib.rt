@@ -18,7 +18,7 @@ pub use error::RegionError;
 pub use halving::{narrow, split_axis};
 pub use laws::{
     denominators_divide, halves_stay_on_grid, halves_tile, members_are_below, numbers_are_exact,
-    rows_are_rectangles,
+    regions_are_on_grid, rows_are_rectangles,
 };
 pub use lists::{Marks, Values};
 pub use rect::{Grid, Rect};

@@ -10,6 +10,7 @@ ghost use Rattle.lift_grid.specs.Parts.{ratios_of, region_of};
 use crate::error::RegionError;
 use crate::interval::Interval;
 use crate::intervals::{in_order, intervals_of};
+use crate::laws::regions_are_on_grid;
 use crate::rect::{Grid, Rect};
 use lift_frac::{Frac, divisors_and_multiples, gcd};
 use lift_names::Names;
@@ -123,9 +124,7 @@ fn spans_over(
 #[tactic(auto, unfolding(crate::specs::Region::over_grid))]
 fn over_grid(alloc: Global, depth: u32, intervals: &[Interval]) -> Result<(Grid, Rect), RegionError>
     requires { depth ≤ most_halvings }
-    ensures value { Gives region_of result (over_grid depth (map ratios_of intervals.now)) }
-    ensures on_grid { IfOk result (λ p. IsOnGrid p.0.d depth (length intervals.now) p.1) }
-    ensures depth { IfOk result (λ p. p.0.depth ≡ depth) }
+    ensures { Gives region_of result (over_grid depth (map ratios_of intervals.now)) }
 {
     divisors_and_multiples();
     let common = common_denominator(intervals);
@@ -157,6 +156,7 @@ pub fn read_region(
     ensures on_grid { IfOk result (λ p. IsOnGrid p.0.d depth (length names.now) p.1) }
     ensures depth { IfOk result (λ p. p.0.depth ≡ depth) }
 {
+    regions_are_on_grid();
     let intervals = intervals_of(alloc, names, text)?;
     let ordered = in_order(alloc, &intervals, names.len())?;
     over_grid(alloc, depth, &ordered)

@@ -1,3 +1,4 @@
 pub mod Sums
 pub mod Picking
 pub mod Unions
+mod Samples

@@ -1,0 +1,148 @@
+-- Two models of one step, worked by hand: what their schedulers reach.
+use Rattle.std.proofs.Common.{◌≡◌, ◌≢◌, ℕ, zero, suc, ◌^◌, ◌<◌, ◌≤◌, ℤ, true, false, List, [], ◌∷◌, length, pos, negsuc, ◌*ℤ◌, All, AllPairs, unsigned_abs, refl, arith, inr}
+use Rattle.std.proofs.lemmas.List.Elements.{All-cons, All-nil}
+use Rattle.std.specs.List.Sorted.{IsStrictlyIncreasing}
+use Rattle.lift_poly.specs.Polynomial.{Term}
+use Rattle.lift_poly.proofs.Ring.{as_diff, diffs, diff-same}
+use Rattle.lift_model.specs.declared.kind.Kind.TheVariants.{Dtmc, Mdp}
+use Rattle.lift_model.specs.Process.{power}
+use Rattle.lift_model.specs.Plan.{Plan, Fits}
+use Rattle.lift_model.specs.Plan.Plan.{stop, toss}
+use Rattle.lift_model.specs.Plan.Parts.{no_parts, part}
+use Rattle.lift_model.specs.Plan.Plans.{no_plans, plan}
+use Rattle.lift_model.specs.Reach.{reach}
+use Rattle.lift_model.specs.Pick.{pick}
+use Rattle.lift_model.specs.declared.entry.Entry.{Entry}
+use Rattle.lift_model.specs.Model.{ModelData, process_at}
+use Rattle.lift_model.specs.Valid.{IsEntry, IsRow, IsModel, coefficient_limit}
+
+-- the polynomials p, 1 - p and 1
+abbrev pub heads : List Term
+heads = (1, pos 1) ∷ []
+
+abbrev pub tails : List Term
+tails = (0, pos 1) ∷ (1, negsuc 0) ∷ []
+
+abbrev pub certain : List Term
+certain = (0, pos 1) ∷ []
+
+abbrev pub toss_row : List Entry
+toss_row = record { target = 1; poly = heads } ∷ record { target = 2; poly = tails } ∷ []
+
+abbrev pub other_row : List Entry
+other_row = record { target = 1; poly = tails } ∷ record { target = 2; poly = heads } ∷ []
+
+abbrev pub goal_row : List Entry
+goal_row = record { target = 1; poly = certain } ∷ []
+
+abbrev pub sink_row : List Entry
+sink_row = record { target = 2; poly = certain } ∷ []
+
+-- a coin: from state 0 to the goal with p, else to a sink
+abbrev pub coin : ModelData
+coin = record {
+  kind = Dtmc;
+  common = pos 1;
+  names = (112 ∷ []) ∷ [];
+  goal = false ∷ true ∷ false ∷ [];
+  init = 0;
+  states = (toss_row ∷ []) ∷ (goal_row ∷ []) ∷ (sink_row ∷ []) ∷ [];
+}
+
+-- a second choice in state 0, which goes to the goal with 1 - p
+abbrev pub twin : ModelData
+twin = record coin { kind = Mdp; states = (toss_row ∷ other_row ∷ []) ∷ (goal_row ∷ []) ∷ (sink_row ∷ []) ∷ [] }
+
+-- at 1/4 the coin reaches the goal in one step with 1 over 4
+coin_reaches : reach (process_at coin ((pos 1, pos 4) ∷ [])) 1 1 0 (pick 1 0 (plan stop (plan stop no_plans))) ≡ pos 1
+coin_reaches = refl
+
+coin_total : power (pos 1 *ℤ (process_at coin ((pos 1, pos 4) ∷ [])).total) 1 ≡ pos 4
+coin_total = refl
+
+-- each choice with weight 1 of 2, for one step
+abbrev pub fair : Plan
+fair = toss (part 1 (plan stop (plan stop no_plans)) (part 1 (plan stop (plan stop no_plans)) no_parts))
+
+fair_fits : (n d : ℤ) → Fits (process_at twin ((n, d) ∷ [])) 2 1 0 fair
+fair_fits n d = inr ((tt, (tt, tt)), (1, refl, ((tt, (tt, tt)), (0, refl, refl))))
+
+-- at n / d the fair plan reaches the goal in one step with d over 2 d
+fair_reaches : (n d : ℤ) → reach (process_at twin ((n, d) ∷ [])) 2 1 0 fair ≡ d
+fair_reaches n d = rw (as_diff n, as_diff d) (simp diffs (diff-same _ _ _ _ (omega arith)))
+
+fair_total : (n d : ℤ) → power (pos 2 *ℤ (process_at twin ((n, d) ∷ [])).total) 1 ≡ pos 2 *ℤ d
+fair_total n d = rw (as_diff d) (simp diffs (diff-same _ _ _ _ (omega arith)))
+
+-- ---- the second model is valid
+
+all_one : {X : Type 0} (P : X → Type 0) (x : X) → P x → All P (x ∷ [])
+all_one P x p = All-cons P x [] p (All-nil P)
+
+all_two : {X : Type 0} (P : X → Type 0) (x y : X) → P x → P y → All P (x ∷ y ∷ [])
+all_two P x y p q = All-cons P x (y ∷ []) p (all_one P y q)
+
+all_three : {X : Type 0} (P : X → Type 0) (x y z : X) → P x → P y → P z → All P (x ∷ y ∷ z ∷ [])
+all_three P x y z p q r = All-cons P x (y ∷ z ∷ []) p (all_two P y z q r)
+
+-- the entry has one term
+one_term : (target set : ℕ) (n : ℤ) → target < 3 → set < 2 → n ≢ pos 0 → unsigned_abs n < coefficient_limit → IsEntry 3 1 (record { target = target; poly = (set, n) ∷ [] })
+one_term target set n lt within some small = record {
+  target = lt;
+  polynomial = record { ascending = λ k at. absurd (omega arith); coefficients = all_one (λ (term : Term). term.1 ≢ pos 0) (set, n) some };
+  sets = all_one (λ (term : Term). term.0 < 2 ^ 1) (set, n) (omega arith);
+  sizes = all_one (λ (term : Term). unsigned_abs term.1 < coefficient_limit) (set, n) small;
+}
+
+tails_entry : (target : ℕ) → target < 3 → IsEntry 3 1 (record { target = target; poly = tails })
+tails_entry target lt = record {
+  target = lt;
+  polynomial = record { ascending = ascending; coefficients = all_two (λ (term : Term). term.1 ≢ pos 0) (0, pos 1) (1, negsuc 0) (λ e. cc) (λ e. cc) };
+  sets = all_two (λ (term : Term). term.0 < 2 ^ 1) (0, pos 1) (1, negsuc 0) (omega arith) (omega arith);
+  sizes = all_two (λ (term : Term). unsigned_abs term.1 < coefficient_limit) (0, pos 1) (1, negsuc 0) (omega arith) (omega arith);
+}
+  where
+    ascending : IsStrictlyIncreasing (0 ∷ 1 ∷ [])
+    ascending zero at = omega arith
+    ascending (suc k) at = absurd (omega arith)
+
+-- the row has one entry
+lone : (entry : Entry) → IsEntry 3 1 entry → All (IsRow 3 1) ((entry ∷ []) ∷ [])
+lone entry is = all_one (IsRow 3 1) (entry ∷ []) (record { entries = all_one (IsEntry 3 1) entry is; distinct = λ i j d below lt. absurd (omega arith) })
+
+-- the row leads to the states 1 and 2
+pair : (first second : Entry) → first.target ≡ 1 → second.target ≡ 2 → IsEntry 3 1 first → IsEntry 3 1 second → IsRow 3 1 (first ∷ second ∷ [])
+pair first second one two is also = record { entries = all_two (IsEntry 3 1) first second is also; distinct = distinct }
+  where
+    distinct : AllPairs (λ (a b : Entry). a.target ≢ b.target) (first ∷ second ∷ [])
+    distinct zero zero d below lt = absurd (omega arith)
+    distinct zero (suc zero) d below lt = λ same. absurd (omega (arith, one, two, same))
+    distinct zero (suc (suc j)) d below lt = absurd (omega arith)
+    distinct (suc i) zero d below lt = absurd (omega arith)
+    distinct (suc i) (suc zero) d below lt = absurd (omega arith)
+    distinct (suc i) (suc (suc j)) d below lt = absurd (omega arith)
+
+pub twin_is_model : IsModel twin
+twin_is_model =
+    let heads_to : (target : ℕ) → target < 3 → IsEntry 3 1 (record { target = target; poly = heads }) = λ target lt. one_term target 1 (pos 1) lt (omega arith) (λ e. cc) (omega arith) in
+    let certain_to : (target : ℕ) → target < 3 → IsEntry 3 1 (record { target = target; poly = certain }) = λ target lt. one_term target 0 (pos 1) lt (omega arith) (λ e. cc) (omega arith) in
+    let tosses : List (List Entry) = toss_row ∷ other_row ∷ [] in
+    let rows : List (List Entry) → Type 0 = All (IsRow 3 1) in
+    let some : List (List Entry) → Type 0 = λ choices. 1 ≤ length choices in
+    record {
+      count = (omega arith, omega arith);
+      goals = refl;
+      some_goal = (1, omega arith, refl);
+      first = omega arith;
+      denominator = (record { le = tt }, record { le = tt });
+      parameters = (omega arith, λ i j d below lt. absurd (omega arith));
+      some_choice = all_three some tosses (goal_row ∷ []) (sink_row ∷ []) (omega arith) (omega arith) (omega arith);
+      one_choice = λ kind. cc;
+      rows =
+          all_three rows tosses (goal_row ∷ []) (sink_row ∷ [])
+          (all_two (IsRow 3 1) toss_row other_row (pair _ _ refl refl (heads_to 1 (omega arith)) (tails_entry 2 (omega arith))) (pair _ _ refl refl (tails_entry 1 (omega arith)) (heads_to 2 (omega arith))))
+          (lone _ (certain_to 1 (omega arith)))
+          (lone _ (certain_to 2 (omega arith)));
+      choices = omega arith;
+      transitions = omega arith;
+    }
