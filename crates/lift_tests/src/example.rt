@@ -14,5 +14,6 @@ pub(crate) fn model_of(rt: &impl Abort, alloc: Global, lines: &str) -> Result<Mo
         text.push(b'\n')?;
     }
     assert!(rt; text.len() < 1 << 31);
-    Ok(read_model(alloc, &text, b"goal")?)
+    let model = read_model(alloc, &text, b"goal").map_err(|error| error.cause.name())?;
+    Ok(model)
 }
