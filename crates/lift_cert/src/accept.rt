@@ -34,7 +34,8 @@ fn times(number: i64, whole: i128) -> i128
     i128::from(number) * whole
 }
 
-/// Tests the row of an inner state's choice at each of its corners. The state's earlier rows passed.
+/// Tests the row of an inner state's choice at each of its corners. The state's earlier rows
+/// passed.
 fn test_row(case: &Case, sides: &[i64], x: &[i64], state: u32, choice: u32) -> Result<(), Miss>
     requires sides { AreSidesInside case.now.root sides.now }
     requires numbers { AreNumbers case.now x.now }
@@ -120,15 +121,15 @@ fn test_limit(case: &Case, bound: Bound, x: &[i64]) -> Result<(), Miss>
     Ok(())
 }
 
-/// Whether `x` is an accepting certificate of the rectangle with these sides, or the first test that
-/// it fails. A state is tested before the next one: a goal state's number is 2 to the precision
-/// (`Goal`), and else at each corner of each choice in turn the weighted sum of `x` is at most the
-/// state's number times the whole (`Row`). Last, the initial state's number over 2 to the precision is
-/// at most the bound (`Limit`).
+/// Whether `x` is an accepting certificate of the rectangle with these sides, or the first test
+/// that it fails. A state is tested before the next one: a goal state's number is 2 to the
+/// precision (`Goal`), and else at each corner of each choice in turn the weighted sum of `x` is at
+/// most the state's number times the whole (`Row`). Last, the initial state's number over 2 to the
+/// precision is at most the bound (`Limit`).
 ///
-/// The sides lie inside the root, and `x` has a number from 0 to 2^w for each state. Takes no memory,
-/// and goes over the terms of a row once for each of its corners. The rows of goal states aren't
-/// looked at.
+/// The sides lie inside the root, and `x` has a number from 0 to 2^w for each state. Takes no
+/// memory, and goes over the terms of a row once for each of its corners. The rows of goal states
+/// aren't looked at.
 pub fn meets_accept(case: &Case, sides: &[i64], bound: Bound, x: &[i64]) -> Result<(), Miss>
     requires sides { AreSidesInside case.now.root sides.now }
     requires numbers { AreNumbers case.now x.now }

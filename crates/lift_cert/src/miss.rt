@@ -1,7 +1,7 @@
 /// The first test that a certificate fails. Its numbers are above -2^126 and below 2^126.
 ///
-/// `state` and `choice` name a row, and `corner` a corner of it. Accepting certificates give `Goal`,
-/// `Row` and `Limit`; `Unranked` and `Rate` come with rejecting ones.
+/// `state` and `choice` name a row, and `corner` a corner of it. Accepting certificates give
+/// `Goal`, `Row` and `Limit`; `Unranked` and `Rate` come with rejecting ones.
 #[derive(Clone, Copy, Debug)]
 pub enum Miss {
     /// The value of a goal state isn't 2 to the precision.
