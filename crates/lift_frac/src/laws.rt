@@ -17,7 +17,8 @@ pub fn literals_follow()
     ensures { ReadingIsFraction }
 {}
 
-/// Holds the laws of what quotients and literals are worth, for who reasons about them. It does nothing.
+/// Holds the laws of what quotients and literals are worth, for who reasons about them. It does
+/// nothing.
 pub fn fractions_follow()
     ensures quotients { LowestIsFraction }
     ensures literals { ValueIsFraction }

@@ -1,5 +1,5 @@
 // The intervals that a region's text gives.
-ghost use Rattle.std.specs.Prelude.{◌≡◌, ◌==◌, map, length, IfOk};
+ghost use Rattle.std.specs.Prelude.{◌≡◌, ◌==◌, map, IfOk};
 ghost use Rattle.std.specs.List.{list_all, slice_split};
 ghost use Rattle.std.specs.Option.{option_map};
 ghost use Rattle.lift_bytes.specs.Bytes.{is_blank, comma};

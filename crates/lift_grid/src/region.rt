@@ -1,9 +1,12 @@
 // From a region's text to a rectangle over a grid.
-ghost use Rattle.std.specs.Prelude.{◌≡◌, ◌*◌, ◌*ℤ◌, ◌/◌, ◌<◌, ◌≤◌, ◌^◌, ℕ, pos, ◌<ℤ◌, nat_lt, unsigned_abs, min, map, if◌then◌else◌, ◌∷◌, [], Some, None, All, IfOk, length};
+ghost use Rattle.std.specs.Prelude.{◌≡◌, ◌*◌, ◌*ℤ◌, ◌/◌, ◌<◌, ◌≤◌, ◌^◌, ℕ, pos, ◌<ℤ◌, nat_lt};
+ghost use Rattle.std.specs.Prelude.{unsigned_abs, min, map, if◌then◌else◌, ◌∷◌, [], Some, None};
+ghost use Rattle.std.specs.Prelude.{All, IfOk, length};
 ghost use Rattle.lift_frac.specs.Frac.{ratio_of};
 ghost use Rattle.lift_frac.specs.Gcd.{lcm};
 ghost use Rattle.lift_frac.specs.Limits.{size_limit};
-ghost use Rattle.lift_grid.specs.Region.{common_denominator, Divides, number_over, span_over, is_narrow, spans_over, over_grid, region, Gives};
+ghost use Rattle.lift_grid.specs.Region.{common_denominator, Divides, number_over, span_over};
+ghost use Rattle.lift_grid.specs.Region.{is_narrow, spans_over, over_grid, region, Gives};
 ghost use Rattle.lift_grid.specs.Rectangle.{sides_of, IsOnGrid, most_halvings};
 ghost use Rattle.lift_grid.specs.Parts.{ratios_of, region_of};
 

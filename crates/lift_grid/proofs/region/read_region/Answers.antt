@@ -4,14 +4,13 @@ use Rattle.lift_grid.specs.Parts.{region_of}
 use Rattle.lift_grid.proofs.Spans.{read_grid, read_depth}
 use Rattle.lift_grid.proofs.region.read_region.Goals as goal
 
-pub returns-clause-on_grid : goal.returns-clause-on_grid
+pub returns : goal.returns
 unfolding region
-returns-clause-on_grid c =
+returns c =
     let gives : Gives region_of c.over_grid.result (region c.args.names.now c.args.depth c.args.text.now) = search rules in
-    read_grid c.regions_are_on_grid.ensures c.args.names.now c.args.depth c.args.text.now c.over_grid.result gives
-
-pub returns-clause-depth : goal.returns-clause-depth
-unfolding region
-returns-clause-depth c =
-    let gives : Gives region_of c.over_grid.result (region c.args.names.now c.args.depth c.args.text.now) = search rules in
-    read_depth c.regions_are_on_grid.ensures c.args.names.now c.args.depth c.args.text.now c.over_grid.result gives
+    let law = c.regions_are_on_grid.ensures in
+    record {
+      region = gives;
+      on_grid = read_grid law c.args.names.now c.args.depth c.args.text.now c.over_grid.result gives;
+      depth = read_depth law c.args.names.now c.args.depth c.args.text.now c.over_grid.result gives;
+    }
