@@ -33,9 +33,9 @@ fn act<S: Source, K: Sink>(
         source.old source.new out.old out.new result }
     ensures limit { KeepsLimit result (S.left source.old) (S.left source.new) }
 {
-    let job = job_of(alloc, words)?;
-    match job {
-        Job::Verify(job) => verify(alloc, &job, source, out),
+    match job_of(alloc, words) {
+        Ok(Job::Verify(job)) => verify(alloc, &job, source, out),
+        Err(cause) => Err(Refusal::from(cause)),
     }
 }
 

@@ -1,5 +1,6 @@
+use Rattle.std.proofs.Common.{Err}
 use Rattle.plift_top.proofs.Acts.{line_limit}
 use Rattle.plift_top.proofs.program.act.Goals as goal
 
-pub returns-in_err-job-clause-limit : goal.returns-in_err-job-clause-limit
-returns-in_err-job-clause-limit g c = line_limit c.in_err-job.field-0.0 c.from_residual.result _ c.from_residual.ensures.1
+pub returns-in-Err-clause-limit : goal.returns-in-Err-clause-limit
+returns-in-Err-clause-limit g c = line_limit c.in-Err.cause (Err c.from.result) _ c.from.ensures
