@@ -1,5 +1,5 @@
 -- The grammar's functions by the form of the first symbol.
-use Rattle.std.proofs.Common.{◌≡◌, ℕ, suc, ◌+◌, ◌==◌, Bool, true, false, refl, List, ◌∷◌, Option, Some, None, Ok, Err}
+use Rattle.std.proofs.Common.{◌≡◌, ℕ, suc, ◌+◌, ◌==◌, Bool, cond, refl, List, ◌∷◌, Option, Some, None, Ok, Err}
 use Rattle.std.specs.Prelude.{position}
 use Rattle.std.specs.Str.{bytes_eq}
 use Rattle.lift_frac.specs.Literal.{reading}
@@ -11,12 +11,10 @@ use Rattle.drn_expr.specs.declared.error.ExprError.TheVariants.{Syntax, Deep}
 
 -- what stands behind a unary minus and in a parenthesis, by whether the place is at the limit
 unfoldable pub unary : Parsed → Bool → Parsed
-unary p true = Err Deep
-unary p false = p >>= (λ e. Ok (Negative e.0, e.1))
+unary p full = cond full (Err Deep) (p >>= (λ e. Ok (Negative e.0, e.1)))
 
 unfoldable pub paren : Parsed → Bool → Parsed
-paren p true = Err Deep
-paren p false = p >>= (λ e. closed e.0 e.1)
+paren p full = cond full (Err Deep) (p >>= (λ e. closed e.0 e.1))
 
 -- a factor by its first symbol's form
 unfoldable pub factor_by : Parsed → Parsed → Parsed → Parsed → ℕ → SymbolForm → Parsed

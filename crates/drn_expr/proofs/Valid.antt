@@ -197,10 +197,10 @@ expansion_over k (Quotient a b) p fits e =
 pub reading_over : ReadingIsFraction → (names : List (List ℕ)) (text : List ℕ) (p : OverOne) → reading names text ≡ Ok p → IsOver (length names) p
 reading_over law names text p e = by_length (nat_lt most_symbols (length (symbols text))) e
   where
-    by_length : (long : Bool) → (elim long as (λ b. Result OverOne ExprError) [ true ↦ Err Long | false ↦ (tree names (symbols text) >>= (λ e. expansion e)) ]) ≡ Ok p → IsOver (length names) p
+    by_length : (long : Bool) → cond long (Err Long) (tree names (symbols text) >>= expansion) ≡ Ok p → IsOver (length names) p
     by_length true e = cc
     by_length false e =
-        let read = bind_ok (tree names (symbols text)) (λ e. expansion e) p e in
+        let read = bind_ok (tree names (symbols text)) expansion p e in
         expansion_over (length names) read.0 p (tree_fits law names (symbols text) read.0 read.1) read.2
 
 -- a multiple holds no other names

@@ -1,5 +1,5 @@
 -- A whole value is worth what its tree means.
-use Rattle.std.proofs.Common.{◌≡◌, ℕ, ◌+◌, ◌*◌, List, length, Bool, true, false, Result, Ok, Err, IfOk, sym, ap, subst, ◌∙◌, arith}
+use Rattle.std.proofs.Common.{◌≡◌, ℕ, ◌+◌, ◌*◌, List, length, Bool, true, false, cond, Result, Ok, Err, IfOk, sym, ap, subst, ◌∙◌, arith}
 use Rattle.std.specs.Prelude.{nat_lt, slice_range}
 use Rattle.lift_frac.specs.Laws.{ReadingIsFraction}
 use Rattle.drn_lexer.specs.Symbols.{symbols}
@@ -29,10 +29,10 @@ tree_worth law names text e p read expanded = record {
 pub reading_worth : ReadingIsFraction → (names : List (List ℕ)) (text : List ℕ) (p : OverOne) → reading names text ≡ Ok p → IsWorth names text p
 reading_worth law names text p e = by_length (nat_lt most_symbols (length (symbols text))) e
   where
-    by_length : (long : Bool) → (elim long as (λ b. Result OverOne ExprError) [ true ↦ Err Long | false ↦ (tree names (symbols text) >>= (λ e. expansion e)) ]) ≡ Ok p → IsWorth names text p
+    by_length : (long : Bool) → cond long (Err Long) (tree names (symbols text) >>= expansion) ≡ Ok p → IsWorth names text p
     by_length true e = cc
     by_length false e =
-        let read = bind_ok (tree names (symbols text)) (λ e. expansion e) p e in
+        let read = bind_ok (tree names (symbols text)) expansion p e in
         tree_worth law names text read.0 p read.1 read.2
 
 pub whole_worth : ReadingIsFraction → (names : List (List ℕ)) (text : List ℕ) (line : Line) (from : ℕ) (worth : Result OverOne ExprError) (to : ℕ) → IsValue names 0 text line from (Ok (record { value = worth; to = to }))

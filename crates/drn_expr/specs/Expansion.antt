@@ -34,26 +34,16 @@ by_number a (negsuc n) d = narrow (scaled (neg_ℤ (pos d)) a.terms) (a.den * su
 abbrev pub quotient : OverOne → OverOne → Result OverOne ExprError
 quotient a b = if support b.terms == 0 then by_number a (coefficient 0 b.terms) b.den else Err ParametricDivisor
 
--- Operands are expanded from left to right, and then their operation is done.
+-- an operation on two operands, which are there from left to right before it is done
+abbrev pub both : (OverOne → OverOne → Result OverOne ExprError) → Result OverOne ExprError → Result OverOne ExprError → Result OverOne ExprError
+both operation left right = left >>= (λ a. right >>= (λ b. operation a b))
+
+-- the expansion of an expression, or the first operation that fails
 unfoldable pub expansion : Expr → Result OverOne ExprError
 expansion (Literal number) = Ok (record { terms = constant number.num; den = unsigned_abs number.den })
 expansion (Parameter place) = Ok (record { terms = (2 ^ place, pos 1) ∷ []; den = 1 })
-expansion (Sum a b) = do
-  x ← expansion a
-  y ← expansion b
-  sum x y
-expansion (Difference a b) = do
-  x ← expansion a
-  y ← expansion b
-  difference x y
-expansion (Product a b) = do
-  x ← expansion a
-  y ← expansion b
-  product x y
-expansion (Quotient a b) = do
-  x ← expansion a
-  y ← expansion b
-  quotient x y
-expansion (Negative a) = do
-  x ← expansion a
-  Ok (negative x)
+expansion (Sum a b) = both sum (expansion a) (expansion b)
+expansion (Difference a b) = both difference (expansion a) (expansion b)
+expansion (Product a b) = both product (expansion a) (expansion b)
+expansion (Quotient a b) = both quotient (expansion a) (expansion b)
+expansion (Negative a) = expansion a >>= (λ x. Ok (negative x))

@@ -2,7 +2,7 @@
 --     value  = term { ("+" | "-") term }
 --     term   = factor { ("*" | "/") factor }
 --     factor = "-" factor | literal | name | "(" value ")"
-use Rattle.std.specs.Prelude.{ℕ, zero, suc, true, false, List, [], ◌∷◌, ◌==◌, ◌+◌, ◌*◌, length, Option, Some, None, Result, Ok, Err, position}
+use Rattle.std.specs.Prelude.{ℕ, zero, suc, List, [], ◌∷◌, ◌==◌, ◌+◌, ◌*◌, length, Option, Some, None, Result, Ok, Err, position, if◌then◌else◌}
 use Rattle.std.specs.Str.{bytes_eq}
 use Rattle.lift_frac.specs.Ratio.{Ratio}
 use Rattle.lift_frac.specs.Literal.{reading}
@@ -34,6 +34,10 @@ Parsed = Result (Expr × List Symbol) ExprError
 abbrev pub misfit : SymbolForm → ExprError
 misfit form.Power = Power
 misfit _ = Syntax
+
+-- what one parenthesis or unary minus more encloses; Deep where the place has as many as it may
+abbrev pub deeper : ℕ → Parsed → Parsed
+deeper depth inner = if depth == most_nesting then Err Deep else inner
 
 -- the end of a parenthesis around an expression
 abbrev pub closed : Expr → List Symbol → Parsed
@@ -67,35 +71,27 @@ unfoldable mutual
   -- value = term { ("+" | "-") term }
   pub value : ℕ → List (List ℕ) → ℕ → List Symbol → Parsed
   value zero names depth s = Err Syntax
-  value (suc n) names depth s = do
-    left ← term n names depth s
-    more_terms n names depth left.0 left.1
+  value (suc n) names depth s = term n names depth s >>= (λ left. more_terms n names depth left.0 left.1)
 
   pub more_terms : ℕ → List (List ℕ) → ℕ → Expr → List Symbol → Parsed
   more_terms zero names depth left s = Err Syntax
   more_terms (suc n) names depth left [] = Ok (left, [])
   more_terms (suc n) names depth left (x ∷ s) = elim (joins_terms x.form) [
     | None ↦ Ok (left, x ∷ s)
-    | Some join ↦ do
-      right ← term n names depth s
-      more_terms n names depth (join left right.0) right.1
+    | Some join ↦ term n names depth s >>= (λ right. more_terms n names depth (join left right.0) right.1)
   ]
 
   -- term = factor { ("*" | "/") factor }
   pub term : ℕ → List (List ℕ) → ℕ → List Symbol → Parsed
   term zero names depth s = Err Syntax
-  term (suc n) names depth s = do
-    left ← factor n names depth s
-    more_factors n names depth left.0 left.1
+  term (suc n) names depth s = factor n names depth s >>= (λ left. more_factors n names depth left.0 left.1)
 
   pub more_factors : ℕ → List (List ℕ) → ℕ → Expr → List Symbol → Parsed
   more_factors zero names depth left s = Err Syntax
   more_factors (suc n) names depth left [] = Ok (left, [])
   more_factors (suc n) names depth left (x ∷ s) = elim (joins_factors x.form) [
     | None ↦ Ok (left, x ∷ s)
-    | Some join ↦ do
-      right ← factor n names depth s
-      more_factors n names depth (join left right.0) right.1
+    | Some join ↦ factor n names depth s >>= (λ right. more_factors n names depth (join left right.0) right.1)
   ]
 
   -- factor = "-" factor | literal | name | "(" value ")"
@@ -103,18 +99,8 @@ unfoldable mutual
   factor zero names depth s = Err Syntax
   factor (suc n) names depth [] = Err Syntax
   factor (suc n) names depth (x ∷ s) = elim x.form [
-    | form.Minus ↦ elim (depth == most_nesting) [
-      | true ↦ Err Deep
-      | false ↦ do
-        e ← factor n names (depth + 1) s
-        Ok (Negative e.0, e.1)
-    ]
-    | form.Left ↦ elim (depth == most_nesting) [
-      | true ↦ Err Deep
-      | false ↦ do
-        e ← value n names (depth + 1) s
-        closed e.0 e.1
-    ]
+    | form.Minus ↦ deeper depth (factor n names (depth + 1) s >>= (λ e. Ok (Negative e.0, e.1)))
+    | form.Left ↦ deeper depth (value n names (depth + 1) s >>= (λ e. closed e.0 e.1))
     | form.Literal ↦ literal_tree (reading x.bytes) s
     | form.Name ↦ name_tree (position (bytes_eq x.bytes) names) s
     | _ ↦ Err Syntax
@@ -127,6 +113,4 @@ ended e (x ∷ s) = Err (misfit x.form)
 
 -- the tree of the symbols, or the first fault in place
 abbrev pub tree : List (List ℕ) → List Symbol → Result Expr ExprError
-tree names s = do
-  e ← value (4 * length s + 4) names 0 s
-  ended e.0 e.1
+tree names s = value (4 * length s + 4) names 0 s >>= (λ e. ended e.0 e.1)

@@ -75,16 +75,11 @@ result_of op.Quotient a b = expanded.quotient a b
 
 -- an operation on the operands' expansions, from left to right; the first one that failed is told
 abbrev pub combined : Operation → Result OverOne ExprError → Result OverOne ExprError → Result OverOne ExprError
-combined operation left right = do
-  a ← left
-  b ← right
-  result_of operation a b
+combined operation left right = expanded.both (result_of operation) left right
 
 -- the operand's expansion with the other sign
 abbrev pub opposite : Result OverOne ExprError → Result OverOne ExprError
-opposite operand = do
-  a ← operand
-  Ok (expanded.negative a)
+opposite operand = operand >>= (λ a. Ok (expanded.negative a))
 
 -- no operator of a kind stands at the front
 abbrev pub IsStop : (SymbolForm → Option (Expr → Expr → Expr)) → List Symbol → Type 0
