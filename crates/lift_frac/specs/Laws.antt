@@ -21,6 +21,10 @@ GcdIsWithin = (a b : ℕ) → 0 < b → (0 < gcd a b) × (gcd a b ≤ b)
 abbrev pub LcmIsMultiple : Type 0
 LcmIsMultiple = (a b : ℕ) → (a ∣ lcm a b) × (b ∣ lcm a b)
 
+-- and it divides each common multiple
+abbrev pub LcmIsLeast : Type 0
+LcmIsLeast = (a b multiple : ℕ) → a ∣ multiple → b ∣ multiple → lcm a b ∣ multiple
+
 -- it isn't less than the first number, unless the second is 0
 abbrev pub LcmIsAtLeast : Type 0
 LcmIsAtLeast = (a b : ℕ) → 0 < b → a ≤ lcm a b

@@ -1,6 +1,6 @@
 ghost use Rattle.lift_frac.specs.Laws.{ReadingIsFraction, LowestIsFraction, ValueIsFraction};
 ghost use Rattle.lift_frac.specs.Laws.{GcdIsGreatest, GcdIsUnique, GcdIsWithin, LcmIsMultiple};
-ghost use Rattle.lift_frac.specs.Laws.{LcmIsAtLeast};
+ghost use Rattle.lift_frac.specs.Laws.{LcmIsLeast, LcmIsAtLeast};
 
 /// Holds the laws of greatest common divisors and least common multiples, for who reasons about
 /// them. It does nothing.
@@ -9,6 +9,7 @@ pub fn divisors_and_multiples()
     ensures unique { GcdIsUnique }
     ensures within { GcdIsWithin }
     ensures multiple { LcmIsMultiple }
+    ensures least { LcmIsLeast }
     ensures at_least { LcmIsAtLeast }
 {}
 
