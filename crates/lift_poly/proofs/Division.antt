@@ -31,7 +31,7 @@ times-quotient by (t ∷ ts) h =
 quotient_some : (a by : ℤ) → unsigned_abs by ∣ unsigned_abs a → a ≢ pos 0 → int_div a by ≢ pos 0
 quotient_some a by h ne e = ne (sym (exact a by h) ∙ ap (λ z. by *ℤ z) e ∙ mul-zero by)
 
-canonical-quotient : (low : ℕ) (by : ℤ) (ts : List Term) → DividesEach (unsigned_abs by) ts → Canonical low ts → Canonical low (quotient ts by)
+pub canonical-quotient : (low : ℕ) (by : ℤ) (ts : List Term) → DividesEach (unsigned_abs by) ts → Canonical low ts → Canonical low (quotient ts by)
 canonical-quotient low by [] h k = tt
 canonical-quotient low by (t ∷ ts) h k = (
   k.0,

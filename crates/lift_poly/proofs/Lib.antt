@@ -1,5 +1,6 @@
 pub mod Answers
 pub mod Canonical
+pub mod Coefficients
 pub mod Counts
 pub mod Division
 pub mod Lookup

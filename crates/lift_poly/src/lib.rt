@@ -8,5 +8,5 @@ mod multi_affine;
 mod terms;
 
 pub use error::PolyError;
-pub use laws::{coefficients_determine, weights_follow};
+pub use laws::{coefficients_determine, coefficients_follow, weights_follow};
 pub use multi_affine::MultiAffine;
