@@ -12,7 +12,7 @@ use Rattle.std.proofs.lemmas.Int.{unsigned_abs-mul}
 use Rattle.std.proofs.lemmas.Nat.Gcd.{dvd_trans, dvd_refl, dvd-zero}
 use Rattle.lift_frac.specs.Limits.{size_limit}
 use Rattle.lift_frac.specs.Gcd.{gcd}
-use Rattle.lift_frac.proofs.Euclid.{is_gcd, gcd-one}
+use Rattle.lift_frac.specs.Laws.{GcdIsGreatest, GcdIsUnique}
 use Rattle.lift_poly.specs.Polynomial.{Term, IsPolynomial, constant}
 use Rattle.lift_poly.specs.Arithmetic as poly
 use Rattle.lift_poly.specs.Arithmetic.{coefficient, scaled, times, quotient, support, DividesEach, IsContent}
@@ -20,13 +20,13 @@ use Rattle.lift_poly.specs.MultiAffine as held
 use Rattle.lift_poly.specs.MultiAffine.{IsMultiAffine, product_answer}
 use Rattle.lift_poly.specs.declared.error.PolyError.{PolyError}
 use Rattle.lift_poly.specs.declared.error.PolyError.TheVariants as fault
-use Rattle.lift_poly.proofs.Products.{times_is}
+use Rattle.lift_poly.specs.Laws.{MultiplesKeepTerms}
 use Rattle.lift_poly.proofs.Ring.{linear}
 use Rattle.drn_expr.specs.RatPolys.{OverOne, common_divisor, lowest, is_large, is_wide, narrow, cause_of, IsRatPoly, with_sign}
 use Rattle.drn_expr.specs.Expansion.{product, by_number}
 use Rattle.drn_expr.specs.declared.error.ExprError.{ExprError}
 use Rattle.drn_expr.specs.declared.error.ExprError.TheVariants.{Wide, Memory, SharedParameter}
-use Rattle.drn_expr.proofs.Sizes.{small, narrow_multiple, narrow_multiples, narrow_product}
+use Rattle.drn_expr.specs.Laws.{MultiplesFit, SumsFit, ProductsFit}
 use Rattle.drn_expr.proofs.Divisors.{common_is, nothing_common, common-negative}
 
 abbrev pub over : List Term → ℕ → OverOne
@@ -71,24 +71,24 @@ or_true : (b : Bool) → (b || true) ≡ true
 or_true true = refl
 or_true false = refl
 
-pub wide_den : (den content g : ℕ) (ts : List Term) → IsContent ts content → g ≡ gcd content den → size_limit ≤ den / g → Err Wide ≡ narrow ts den
+pub wide_den : GcdIsGreatest → GcdIsUnique → (den content g : ℕ) (ts : List Term) → IsContent ts content → g ≡ gcd content den → size_limit ≤ den / g → Err Wide ≡ narrow ts den
 unfolding by_wide
-wide_den den content g ts h e large =
-    let is = common_is den content g ts h e in
+wide_den greatest unique den content g ts h e large =
+    let is = common_is greatest unique den content g ts h e in
     let p = over (quotient ts (pos g)) (den / g) in
     let test : nat_le size_limit (den / g) ≡ true = grind (arith, nat_tests) in
     narrow_by p ts den true (lowest_is den g ts (quotient ts (pos g)) is refl) (ap (λ b. b || list_any is_large p.terms) test)
 
-pub wide_terms : (den content g : ℕ) (ts q : List Term) → IsContent ts content → g ≡ gcd content den → q ≡ quotient ts (pos g) → list_any is_large q ≡ true → Err Wide ≡ narrow ts den
+pub wide_terms : GcdIsGreatest → GcdIsUnique → (den content g : ℕ) (ts q : List Term) → IsContent ts content → g ≡ gcd content den → q ≡ quotient ts (pos g) → list_any is_large q ≡ true → Err Wide ≡ narrow ts den
 unfolding by_wide
-wide_terms den content g ts q h e f large =
-    let is = common_is den content g ts h e in
+wide_terms greatest unique den content g ts q h e f large =
+    let is = common_is greatest unique den content g ts h e in
     narrow_by (over q (den / g)) ts den true (lowest_is den g ts q is f) (ap (λ b. nat_le size_limit (den / g) || b) large ∙ or_true (nat_le size_limit (den / g)))
 
-pub narrow_given : (den content g : ℕ) (ts q : List Term) → IsContent ts content → g ≡ gcd content den → q ≡ quotient ts (pos g) → den / g < size_limit → list_any is_large q ≡ false → Ok (over q (den / g)) ≡ narrow ts den
+pub narrow_given : GcdIsGreatest → GcdIsUnique → (den content g : ℕ) (ts q : List Term) → IsContent ts content → g ≡ gcd content den → q ≡ quotient ts (pos g) → den / g < size_limit → list_any is_large q ≡ false → Ok (over q (den / g)) ≡ narrow ts den
 unfolding by_wide
-narrow_given den content g ts q h e f small_den small_terms =
-    let is = common_is den content g ts h e in
+narrow_given greatest unique den content g ts q h e f small_den small_terms =
+    let is = common_is greatest unique den content g ts h e in
     let test : nat_le size_limit (den / g) ≡ false = grind (arith, nat_tests) in
     narrow_by (over q (den / g)) ts den false (lowest_is den g ts q is f) (ap (λ b. b || list_any is_large q) test ∙ small_terms)
 
@@ -113,28 +113,28 @@ quotient_above den g h above = let P : ℕ → Type 0 = λ k. 0 < k in by_quotie
     by_quotient zero e = let whole = div-mul_cancel g h in absurd (omega (arith, whole, ap (λ m. m * g) e))
     by_quotient (suc k) e = omega (arith, e)
 
-pub rat_poly : (den content g : ℕ) (ts q : List Term) → 0 < den → 0 < g → IsContent ts content → IsGcd content den g → g ≡ gcd content den → times (pos g) q ≡ ts → IsPolynomial q → den / g < size_limit → list_any is_large q ≡ false → IsRatPoly (over q (den / g))
-rat_poly den content g ts q positive above h is e back polynomial small_den small_terms = record {
+pub rat_poly : GcdIsGreatest → GcdIsUnique → (den content g : ℕ) (ts q : List Term) → 0 < den → 0 < g → IsContent ts content → IsGcd content den g → g ≡ gcd content den → times (pos g) q ≡ ts → IsPolynomial q → den / g < size_limit → list_any is_large q ≡ false → IsRatPoly (over q (den / g))
+rat_poly greatest unique den content g ts q positive above h is e back polynomial small_den small_terms = record {
   polynomial = polynomial;
   positive = quotient_above den g is.1 positive;
   den = small_den;
   sizes = small_sizes q small_terms;
-  lowest = nothing_common den g ts q above (common_is den content g ts h e) back;
+  lowest = nothing_common greatest den g ts q above (common_is greatest unique den content g ts h e) back;
 }
 
 -- ---- numbers and parameters
 
-constant_parts : (number : ℤ) (den : ℕ) (b : Bool) → (b ≡ true → number ≡ pos 0) → unsigned_abs number < size_limit → gcd (unsigned_abs number) den ≡ 1
+constant_parts : GcdIsUnique → (number : ℤ) (den : ℕ) (b : Bool) → (b ≡ true → number ≡ pos 0) → unsigned_abs number < size_limit → gcd (unsigned_abs number) den ≡ 1
     → All (λ (t : Term). unsigned_abs t.1 < size_limit) (cond b [] ((0, number) ∷ [])) × (common_divisor den (cond b [] ((0, number) ∷ [])) ≡ 1)
-constant_parts number den true tells size common =
+constant_parts unique number den true tells size common =
     let none : gcd 0 den ≡ 1 = ap (λ z. gcd (unsigned_abs z) den) (sym (tells refl)) ∙ common in
-    (All-nil (λ (t : Term). unsigned_abs t.1 < size_limit), is_gcd 0 den den (dvd-zero den, dvd_refl den, λ k p q. q) ∙ none)
-constant_parts number den false tells size common =
+    (All-nil (λ (t : Term). unsigned_abs t.1 < size_limit), unique 0 den den (dvd-zero den, dvd_refl den, λ k p q. q) ∙ none)
+constant_parts unique number den false tells size common =
     (All-cons (λ (t : Term). unsigned_abs t.1 < size_limit) (0, number) [] size (All-nil (λ (t : Term). unsigned_abs t.1 < size_limit)), common)
 
-pub number_poly : (number : ℤ) (den : ℕ) (p : List Term) → p ≡ constant number → IsPolynomial p → 0 < den → den < size_limit → unsigned_abs number < size_limit → gcd (unsigned_abs number) den ≡ 1 → IsRatPoly (over p den)
-number_poly number den p e polynomial positive small_den size common =
-    let parts = constant_parts number den (int_eq number (pos 0)) (Decides-int_eq number (pos 0)).0 size common in
+pub number_poly : GcdIsUnique → (number : ℤ) (den : ℕ) (p : List Term) → p ≡ constant number → IsPolynomial p → 0 < den → den < size_limit → unsigned_abs number < size_limit → gcd (unsigned_abs number) den ≡ 1 → IsRatPoly (over p den)
+number_poly unique number den p e polynomial positive small_den size common =
+    let parts = constant_parts unique number den (int_eq number (pos 0)) (Decides-int_eq number (pos 0)).0 size common in
     record {
       polynomial = polynomial;
       positive = positive;
@@ -144,12 +144,13 @@ number_poly number den p e polynomial positive small_den size common =
     }
 
 pub parameter_poly : (set : ℕ) (p : List Term) → p ≡ (set, pos 1) ∷ [] → IsPolynomial p → IsRatPoly (over p 1)
+unfolding gcd
 parameter_poly set p e polynomial = record {
   polynomial = polynomial;
   positive = omega arith;
   den = omega arith;
   sizes = subst (All (λ t. unsigned_abs t.1 < size_limit)) (sym e) (All-cons (λ t. unsigned_abs t.1 < size_limit) (set, pos 1) [] (omega arith) (All-nil (λ t. unsigned_abs t.1 < size_limit)));
-  lowest = ap (common_divisor 1) e ∙ gcd-one 1;
+  lowest = ap (common_divisor 1) e;
 }
 
 -- ---- the other sign
@@ -161,9 +162,9 @@ negative_size (t ∷ ts) h =
     All-cons (λ u. unsigned_abs u.1 < size_limit) (t.0, negsuc 0 *ℤ t.1) (times (negsuc 0) ts)
     (omega (arith, e, All-head (λ u. unsigned_abs u.1 < size_limit) t ts h)) (negative_size ts (All-tail (λ u. unsigned_abs u.1 < size_limit) t ts h))
 
-pub negative_poly : (ts q : List Term) (den : ℕ) → q ≡ scaled (negsuc 0) ts → IsPolynomial q → IsRatPoly (over ts den) → IsRatPoly (over q den)
-negative_poly ts q den e polynomial h =
-    let plain : times (negsuc 0) ts ≡ q = times_is (negsuc 0) ts (λ z. cc z) h.polynomial ∙ sym e in
+pub negative_poly : MultiplesKeepTerms → (ts q : List Term) (den : ℕ) → q ≡ scaled (negsuc 0) ts → IsPolynomial q → IsRatPoly (over ts den) → IsRatPoly (over q den)
+negative_poly kept ts q den e polynomial h =
+    let plain : times (negsuc 0) ts ≡ q = kept (negsuc 0) ts (λ z. cc z) h.polynomial ∙ sym e in
     record {
       polynomial = polynomial;
       positive = h.positive;
@@ -174,37 +175,34 @@ negative_poly ts q den e polynomial h =
 
 -- ---- what is refused
 
-pub multiple_refused : (e : PolyError) (by : ℤ) (a : OverOne) (r target : Result OverOne ExprError) → IsRatPoly a → unsigned_abs by < size_limit → IsAnswer (Err e) (held.narrow (scaled by a.terms))
+pub multiple_refused : MultiplesFit → (e : PolyError) (by : ℤ) (a : OverOne) (r target : Result OverOne ExprError) → IsRatPoly a → unsigned_abs by < size_limit → IsAnswer (Err e) (held.narrow (scaled by a.terms))
     → r ≡ Err (cause_of e) → r ≢ Err Memory → r ≡ target
-multiple_refused e by a r target h size answer is = memory_alone e (scaled by a.terms) r target answer (narrow_multiple by a.terms size (small a.terms h.polynomial h.sizes)) is
+multiple_refused fits e by a r target h size answer is = memory_alone e (scaled by a.terms) r target answer (fits by a h size) is
 
-pub sum_refused : (e : PolyError) (a b : OverOne) (left right : List Term) (r target : Result OverOne ExprError) → IsRatPoly a → IsRatPoly b → left ≡ scaled (pos b.den) a.terms → right ≡ scaled (pos a.den) b.terms
+pub sum_refused : SumsFit → (e : PolyError) (a b : OverOne) (left right : List Term) (r target : Result OverOne ExprError) → IsRatPoly a → IsRatPoly b → left ≡ scaled (pos b.den) a.terms → right ≡ scaled (pos a.den) b.terms
     → IsAnswer (Err e) (held.narrow (poly.sum left right)) → r ≡ Err (cause_of e) → r ≢ Err Memory → r ≡ target
-sum_refused e a b left right r target h k f g answer is =
+sum_refused fits e a b left right r target h k f g answer is =
     memory_alone e (poly.sum (scaled (pos b.den) a.terms) (scaled (pos a.den) b.terms)) r target
     (λ some. answer some ∙ ap (λ x. held.narrow (poly.sum x right)) f ∙ ap (λ y. held.narrow (poly.sum (scaled (pos b.den) a.terms) y)) g)
-    (narrow_multiples (pos b.den) (pos a.den) a.terms b.terms k.den h.den (small a.terms h.polynomial h.sizes) (small b.terms k.polynomial k.sizes)) is
+    (fits (pos b.den) (pos a.den) a b h k k.den h.den) is
 
 -- a product by the test of its supports
-product_by : (e : PolyError) (a b : OverOne) (r : Result OverOne ExprError) (t : Bool) → (t ≡ true → bit_and (support a.terms) (support b.terms) ≡ 0) → IsRatPoly a → IsRatPoly b
+product_by : ProductsFit → (e : PolyError) (a b : OverOne) (r : Result OverOne ExprError) (t : Bool) → (t ≡ true → bit_and (support a.terms) (support b.terms) ≡ 0) → IsRatPoly a → IsRatPoly b
     → IsAnswer (Err e) (cond t (held.narrow (poly.product a.terms b.terms)) (Err fault.SharedParameter)) → r ≡ Err (cause_of e) → r ≢ Err Memory
     → r ≡ cond t (narrow (poly.product a.terms b.terms) (a.den * b.den)) (Err SharedParameter)
-product_by e a b r true tells h k answer is some =
-    memory_alone e (poly.product a.terms b.terms) r _ answer (narrow_product a.terms b.terms h.polynomial k.polynomial h.sizes k.sizes (tells refl)) is some
-product_by fault.SharedParameter a b r false tells h k answer is some = is
-product_by fault.Wide a b r false tells h k answer is some = let e = answer (λ e. cc) in cc
-product_by fault.Memory a b r false tells h k answer is some = absurd (some is)
+product_by fits e a b r true tells h k answer is some =
+    memory_alone e (poly.product a.terms b.terms) r _ answer (fits a b h k (tells refl)) is some
+product_by fits fault.SharedParameter a b r false tells h k answer is some = is
+product_by fits fault.Wide a b r false tells h k answer is some = let e = answer (λ e. cc) in cc
+product_by fits fault.Memory a b r false tells h k answer is some = absurd (some is)
 
 same_number : (m n : ℕ) → (m == n) ≡ true → m ≡ n
 same_number m n e = grind (arith, nat_tests)
 
-pub product_refused : (e : PolyError) (a b : OverOne) (r : Result OverOne ExprError) → IsRatPoly a → IsRatPoly b → IsAnswer (Err e) (product_answer a.terms b.terms) → r ≡ Err (cause_of e) → r ≢ Err Memory → r ≡ product a b
-product_refused e a b r h k = product_by e a b r (bit_and (support a.terms) (support b.terms) == 0) (same_number _ 0) h k
+pub product_refused : ProductsFit → (e : PolyError) (a b : OverOne) (r : Result OverOne ExprError) → IsRatPoly a → IsRatPoly b → IsAnswer (Err e) (product_answer a.terms b.terms) → r ≡ Err (cause_of e) → r ≢ Err Memory → r ≡ product a b
+product_refused fits e a b r h k = product_by fits e a b r (bit_and (support a.terms) (support b.terms) == 0) (same_number _ 0) h k
 
 -- ---- division by a number
-
-pub number_below : (a : OverOne) → IsRatPoly a → unsigned_abs (coefficient 0 a.terms) < size_limit
-number_below a h = small a.terms h.polynomial h.sizes 0
 
 pub sign_size : (number : ℤ) (size : ℕ) → unsigned_abs (with_sign number size) ≡ size
 sign_size (pos n) size = refl

@@ -6,32 +6,32 @@ use Rattle.std.proofs.lemmas.Nat.Gcd.{dvd_trans, dvd_refl, mod-eq-zero_of_dvd, l
 use Rattle.std.proofs.lemmas.Int.{unsigned_abs-mul}
 use Rattle.std.proofs.lemmas.List.Elements.{All-nil, All-cons, All-head, All-tail}
 use Rattle.lift_frac.specs.Gcd.{gcd}
-use Rattle.lift_frac.proofs.Euclid.{gcd_is, is_gcd}
+use Rattle.lift_frac.specs.Laws.{GcdIsGreatest, GcdIsUnique}
 use Rattle.lift_poly.specs.Polynomial.{Term}
 use Rattle.lift_poly.specs.Arithmetic.{times, DividesEach, IsContent}
 use Rattle.drn_expr.specs.RatPolys.{common_divisor}
 
 -- it divides the number and each coefficient
-pub common_divides : (d : ℕ) (ts : List Term) → (common_divisor d ts ∣ d) × DividesEach (common_divisor d ts) ts
-common_divides d [] = (dvd_refl d, All-nil (λ t. d ∣ unsigned_abs t.1))
-common_divides d (t ∷ ts) =
+pub common_divides : GcdIsGreatest → (d : ℕ) (ts : List Term) → (common_divisor d ts ∣ d) × DividesEach (common_divisor d ts) ts
+common_divides greatest d [] = (dvd_refl d, All-nil (λ t. d ∣ unsigned_abs t.1))
+common_divides greatest d (t ∷ ts) =
     let g : ℕ = common_divisor d (t ∷ ts) in
-    let is = gcd_is (unsigned_abs t.1) (common_divisor d ts) in
-    let rest = common_divides d ts in
+    let is = greatest (unsigned_abs t.1) (common_divisor d ts) in
+    let rest = common_divides greatest d ts in
     (dvd_trans g is.1 rest.0, All-cons (λ u. g ∣ unsigned_abs u.1) t ts is.0 (λ k e lt. dvd_trans g is.1 (rest.1 k e lt)))
 
 -- and each other such number divides it
-pub common_greatest : (k d : ℕ) (ts : List Term) → k ∣ d → DividesEach k ts → k ∣ common_divisor d ts
-common_greatest k d [] h each = h
-common_greatest k d (t ∷ ts) h each =
-    (gcd_is (unsigned_abs t.1) (common_divisor d ts)).2 k (All-head (λ u. k ∣ unsigned_abs u.1) t ts each) (common_greatest k d ts h (All-tail (λ u. k ∣ unsigned_abs u.1) t ts each))
+pub common_greatest : GcdIsGreatest → (k d : ℕ) (ts : List Term) → k ∣ d → DividesEach k ts → k ∣ common_divisor d ts
+common_greatest greatest k d [] h each = h
+common_greatest greatest k d (t ∷ ts) h each =
+    (greatest (unsigned_abs t.1) (common_divisor d ts)).2 k (All-head (λ u. k ∣ unsigned_abs u.1) t ts each) (common_greatest greatest k d ts h (All-tail (λ u. k ∣ unsigned_abs u.1) t ts each))
 
 -- so it is the greatest common divisor of the number and the content
-pub common_is : (d content g : ℕ) (ts : List Term) → IsContent ts content → g ≡ gcd content d → g ≡ common_divisor d ts
-common_is d content g ts h e =
-    let both = common_divides d ts in
-    e ∙ sym (is_gcd content d (common_divisor d ts)
-    (h.greatest (common_divisor d ts) both.1, both.0, λ k p q. common_greatest k d ts q (λ i u lt. dvd_trans k p (h.divides i u lt))))
+pub common_is : GcdIsGreatest → GcdIsUnique → (d content g : ℕ) (ts : List Term) → IsContent ts content → g ≡ gcd content d → g ≡ common_divisor d ts
+common_is greatest unique d content g ts h e =
+    let both = common_divides greatest d ts in
+    e ∙ sym (unique content d (common_divisor d ts)
+    (h.greatest (common_divisor d ts) both.1, both.0, λ k p q. common_greatest greatest k d ts q (λ i u lt. dvd_trans k p (h.divides i u lt))))
 
 -- ---- after the division
 
@@ -49,15 +49,15 @@ one_from zero h = let e = mod-eq-zero_of_dvd zero h in absurd (omega (arith, e))
 one_from (suc k) h = let above : 0 < 1 = omega arith in omega (arith, le_of_dvd above h)
 
 -- nothing is left in common
-pub nothing_common : (d g : ℕ) (ts q : List Term) → 0 < g → g ≡ common_divisor d ts → times (pos g) q ≡ ts → common_divisor (d / g) q ≡ 1
-nothing_common d g ts q above e back =
+pub nothing_common : GcdIsGreatest → (d g : ℕ) (ts q : List Term) → 0 < g → g ≡ common_divisor d ts → times (pos g) q ≡ ts → common_divisor (d / g) q ≡ 1
+nothing_common greatest d g ts q above e back =
     let k : ℕ = common_divisor (d / g) q in
-    let both = common_divides (d / g) q in
+    let both = common_divides greatest (d / g) q in
     let P : ℕ → Type 0 = λ n. (k * g) ∣ n in
-    let g_divides : g ∣ d = let Q : ℕ → Type 0 = λ n. n ∣ d in subst Q (sym e) (common_divides d ts).0 in
+    let g_divides : g ∣ d = let Q : ℕ → Type 0 = λ n. n ∣ d in subst Q (sym e) (common_divides greatest d ts).0 in
     let in_den : (k * g) ∣ d = subst P (div-mul_cancel g g_divides) (mul-dvd-mul_right k both.0 g) in
     let in_each : DividesEach (k * g) ts = subst (DividesEach (k * g)) back (times_divides k g q both.1) in
-    let in_g : (k * g) ∣ (1 * g) = subst P (sym e ∙ omega arith) (common_greatest (k * g) d ts in_den in_each) in
+    let in_g : (k * g) ∣ (1 * g) = subst P (sym e ∙ omega arith) (common_greatest greatest (k * g) d ts in_den in_each) in
     one_from k (dvd_of_mul-dvd-mul_right {k = g} k {n = 1} above in_g)
 
 -- the other sign changes nothing

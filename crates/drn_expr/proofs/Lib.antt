@@ -8,6 +8,7 @@ pub mod Least
 pub mod Meanings
 pub mod Operands
 pub mod Places
+pub mod Premises
 pub mod Sizes
 pub mod Steps
 pub mod Valid

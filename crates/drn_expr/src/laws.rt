@@ -1,6 +1,8 @@
 ghost use Rattle.drn_expr.specs.Laws.{ReadingIsOver, ReadingIsWorth, MultiplesAreOver};
+ghost use Rattle.drn_expr.specs.Laws.{CoefficientsAreSmall, MultiplesFit, SumsFit, ProductsFit};
 
-use lift_frac::literals_follow;
+use lift_frac::{divisors_and_multiples, literals_follow};
+use lift_poly::{coefficients_determine, coefficients_follow, weights_follow};
 
 /// Holds the laws of texts that read as values, for who reasons about them. It does nothing.
 pub fn readings_follow()
@@ -9,4 +11,20 @@ pub fn readings_follow()
     ensures multiples { MultiplesAreOver }
 {
     literals_follow();
+    divisors_and_multiples();
+    coefficients_determine();
+    coefficients_follow();
+    weights_follow();
+}
+
+/// Holds that what an operation forms before it takes lowest terms is never too large, for the proofs
+/// of operations. It does nothing.
+pub(crate) fn operations_fit()
+    ensures coefficients { CoefficientsAreSmall }
+    ensures multiples { MultiplesFit }
+    ensures sums { SumsFit }
+    ensures products { ProductsFit }
+{
+    coefficients_determine();
+    coefficients_follow();
 }

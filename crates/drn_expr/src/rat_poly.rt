@@ -8,8 +8,9 @@ ghost use Rattle.drn_expr.specs.RatPolys.{OverOne, IsRatPoly, is_large, narrow, 
 ghost use Rattle.drn_expr.specs.Expansion.{sum, negative, difference, product, quotient};
 
 use crate::error::ExprError;
-use lift_frac::{Frac, gcd};
-use lift_poly::MultiAffine;
+use crate::laws::operations_fit;
+use lift_frac::{Frac, divisors_and_multiples, gcd};
+use lift_poly::{MultiAffine, coefficients_follow};
 use std::alloc::{AllocError, Global};
 use std::marker::Model;
 
@@ -91,6 +92,7 @@ impl RatPoly {
         ensures { result ≢ Err ExprError.Memory
             → result ≡ Ok (record { terms = constant number.num; den = unsigned_abs number.den }) }
     {
+        divisors_and_multiples();
         let poly = MultiAffine::constant(alloc, number.num)?;
         Ok(RatPoly {
             poly,
@@ -114,6 +116,7 @@ impl RatPoly {
         requires small { den < product_limit }
         ensures { result ≢ Err ExprError.Memory → result ≡ narrow poly.now den }
     {
+        divisors_and_multiples();
         let divisor = gcd(poly.content(), den);
         let den = den / divisor;
         if den >= LIMIT {
@@ -133,6 +136,7 @@ impl RatPoly {
     pub(crate) fn sum(&self, alloc: Global, other: &RatPoly) -> Result<RatPoly, ExprError>
         ensures { result ≢ Err ExprError.Memory → result ≡ sum self.now other.now }
     {
+        operations_fit();
         let left = self.poly.scale(alloc, i128::from(other.den))?;
         let right = other.poly.scale(alloc, i128::from(self.den))?;
         let poly = left.add(alloc, &right)?;
@@ -143,6 +147,8 @@ impl RatPoly {
     pub(crate) fn negative(&self, alloc: Global) -> Result<RatPoly, ExprError>
         ensures { result ≢ Err ExprError.Memory → result ≡ Ok (negative self.now) }
     {
+        operations_fit();
+        coefficients_follow();
         let poly = self.poly.scale(alloc, -1)?;
         Ok(RatPoly {
             poly,
@@ -162,6 +168,7 @@ impl RatPoly {
     pub(crate) fn product(&self, alloc: Global, other: &RatPoly) -> Result<RatPoly, ExprError>
         ensures { result ≢ Err ExprError.Memory → result ≡ product self.now other.now }
     {
+        operations_fit();
         let poly = self.poly.mul(alloc, &other.poly)?;
         RatPoly::narrow(alloc, &poly, u128::from(self.den) * u128::from(other.den))
     }
@@ -171,6 +178,7 @@ impl RatPoly {
     pub(crate) fn quotient(&self, alloc: Global, other: &RatPoly) -> Result<RatPoly, ExprError>
         ensures { result ≢ Err ExprError.Memory → result ≡ quotient self.now other.now }
     {
+        operations_fit();
         if other.poly.support() != 0 {
             return Err(ExprError::ParametricDivisor);
         }

@@ -7,10 +7,10 @@ ghost use Rattle.drn_expr.specs.Values.{reading, IsWorth};
 ghost use Rattle.drn_expr.specs.Parsing.{left};
 
 use crate::error::ExprError;
+use crate::laws::readings_follow;
 use crate::parse::{ended, value};
 use crate::rat_poly::RatPoly;
 use drn_lexer::{Line, next_symbol};
-use lift_frac::literals_follow;
 use lift_names::Names;
 use std::alloc::Global;
 
@@ -63,7 +63,7 @@ pub fn read_value(
     ensures meaning { IfOk result (IsWorth names.now (slice_range text.now from line.to)) }
 {
     // The clause on the meaning rests on it.
-    literals_follow();
+    readings_follow();
     if is_long(text, line, from) {
         return Err(ExprError::Long);
     }
