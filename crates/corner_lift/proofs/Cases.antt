@@ -12,19 +12,20 @@ use mir.Syntax.{w128}
 use Rattle.lift_poly.specs.Polynomial.{Term, Valuation, weight, denominator}
 use Rattle.lift_poly.specs.Arithmetic as polynomial
 use Rattle.lift_poly.proofs.Ring.{linear, mul-comm, mul-assoc, mul-zero, zero-mul, one-mul, mul-le, as_diff, diffs, diff-same}
+use Rattle.lift_poly.specs.Laws.{IsAffineInEach}
 use Rattle.lift_grid.specs.Rectangle.{Spans, AreSpans, Inside, spans_of}
 use Rattle.lift_model.specs.declared.entry.Entry.{Entry}
 use Rattle.lift_model.specs.Process.{Move, power, weighted_sum}
 use Rattle.lift_model.specs.Model.{ModelData, support, choices, row_at, moves_at}
 use Rattle.lift_model.specs.Valid.{IsEntry, IsRow, IsModel}
-use Rattle.lift_model.proofs.Sums.{AreNonNegative, weighted_sum-least, weighted_sum-mono}
+use Rattle.lift_model.specs.Laws.{AreNonNegative}
 use Rattle.corner_lift.specs.Corner.{corner, parameter_count, corner_sum, whole}
 use Rattle.corner_lift.specs.Certificate.{AreNumbers}
 use Rattle.corner_lift.specs.Case.{number, CaseData, IsAsked, IsCase, IsAdmittedRow, IsRowOf, IsGreatest, IsLeast, BoundsAbove, BoundsBelow, row_value, row_whole, corner_count, greatest_size, abs_sum, row_coefficient, Within, AreSidesInside, row_parameters, engine_limit}
 use Rattle.corner_lift.specs.Ends.{End, greatest_end, StandFor, moves_by}
+use Rattle.corner_lift.proofs.Premises.{Premises}
 use Rattle.corner_lift.proofs.CornerBound.{InsideOn, Inside-on, CornersNonpos, corner_bound, corner-inside}
-use Rattle.corner_lift.proofs.RowBound.{PartOf, terms_in, TermsIn-more, scaled, weight-scaled_by, less, weight-less, less_in, TermsIn-append, denominator-corner, power-pos, minus-one, row_sum, row_upper_at, row_lower_at}
-use Rattle.lift_poly.proofs.Weights.{weight-append}
+use Rattle.corner_lift.proofs.RowBound.{PartOf, weight-append, terms_in, TermsIn-more, scaled, weight-scaled_by, less, weight-less, less_in, TermsIn-append, denominator-corner, power-pos, minus-one, row_sum, row_upper_at, row_lower_at}
 use Rattle.corner_lift.proofs.Coefficients.{row_total}
 use Rattle.corner_lift.proofs.Rows.{number_range}
 use Rattle.corner_lift.proofs.Summing.{entry_part, moves_stand}
@@ -104,9 +105,9 @@ number_sizes k x h = λ i d lt. let here = h.range i d lt in number_size (get_or
 -- ---- one polynomial
 
 -- what holds of a polynomial at each corner of a set that it is part of holds at each valuation inside
-poly_upper : (d : ℤ) → pos 0 <ℤ d → (ss : Spans) → AreSpans ss → (set : ℕ) (terms : List Term) (k : ℤ) → PartOf (polynomial.support terms) set → ((c : ℕ) → c < 2 ^ parameter_count ss set → weight (corner d ss set c) terms ≤ℤ (k *ℤ power d (parameter_count ss set))) → (v : Valuation) → InsideOn d ss set v → weight v terms ≤ℤ (k *ℤ denominator v)
+poly_upper : Premises → (d : ℤ) → pos 0 <ℤ d → (ss : Spans) → AreSpans ss → (set : ℕ) (terms : List Term) (k : ℤ) → PartOf (polynomial.support terms) set → ((c : ℕ) → c < 2 ^ parameter_count ss set → weight (corner d ss set c) terms ≤ℤ (k *ℤ power d (parameter_count ss set))) → (v : Valuation) → InsideOn d ss set v → weight v terms ≤ℤ (k *ℤ denominator v)
 unfolding CornersNonpos
-poly_upper d positive ss spans set terms k part h v inside =
+poly_upper laws d positive ss spans set terms k part h v inside =
     let all = terms ++ less k in
     let total : (v : Valuation) → weight v all ≡ weight v terms +ℤ neg_ℤ (k *ℤ denominator v) = λ v. weight-append v terms (less k) ∙ ap (λ z. weight v terms +ℤ z) (weight-less v k) in
     let within = TermsIn-append set terms (less k) (TermsIn-more (polynomial.support terms) set terms part (terms_in terms)) (less_in set k) in
@@ -114,7 +115,7 @@ poly_upper d positive ss spans set terms k part h v inside =
     λ c lt. let e = denominator-corner d ss set c in
     let bound : weight (corner d ss set c) terms ≤ℤ (k *ℤ denominator (corner d ss set c)) = rw e (h c lt) in
     rw (total (corner d ss set c)) (omega (arith, linear, bound)) in
-    let result : weight v all ≤ℤ pos 0 = corner_bound d positive ss set all v within spans at_corners inside in
+    let result : weight v all ≤ℤ pos 0 = corner_bound laws.affine d positive ss set all v within spans at_corners inside in
     omega (arith, linear, result, total v)
 
 neg_right : (a b : ℤ) → a *ℤ neg_ℤ b ≡ neg_ℤ (a *ℤ b)
@@ -137,21 +138,21 @@ minus = neg_ℤ (pos 1)
 times-minus : (a : ℤ) → a *ℤ neg_ℤ (pos 1) ≡ neg_ℤ a
 times-minus a = mul-comm a (neg_ℤ (pos 1)) ∙ minus-one a
 
-poly_lower : (d : ℤ) → pos 0 <ℤ d → (ss : Spans) → AreSpans ss → (set : ℕ) (terms : List Term) (k : ℤ) → PartOf (polynomial.support terms) set → ((c : ℕ) → c < 2 ^ parameter_count ss set → (k *ℤ power d (parameter_count ss set)) ≤ℤ weight (corner d ss set c) terms) → (v : Valuation) → InsideOn d ss set v → (k *ℤ denominator v) ≤ℤ weight v terms
-poly_lower d positive ss spans set terms k part h v inside =
+poly_lower : Premises → (d : ℤ) → pos 0 <ℤ d → (ss : Spans) → AreSpans ss → (set : ℕ) (terms : List Term) (k : ℤ) → PartOf (polynomial.support terms) set → ((c : ℕ) → c < 2 ^ parameter_count ss set → (k *ℤ power d (parameter_count ss set)) ≤ℤ weight (corner d ss set c) terms) → (v : Valuation) → InsideOn d ss set v → (k *ℤ denominator v) ≤ℤ weight v terms
+poly_lower laws d positive ss spans set terms k part h v inside =
     let one : ℤ = neg_ℤ (pos 1) in
-    let up = poly_upper d positive ss spans set (scaled one terms) (neg_ℤ k) (scaled_part one terms set part)
+    let up = poly_upper laws d positive ss spans set (scaled one terms) (neg_ℤ k) (scaled_part one terms set part)
     (λ c lt. omega (arith, linear, h c lt, weight-scaled_by (corner d ss set c) one terms, times-minus (weight (corner d ss set c) terms), neg_left k (power d (parameter_count ss set)))) v inside in
     omega (arith, linear, up, weight-scaled_by v one terms, times-minus (weight v terms), neg_left k (denominator v))
 
 -- the corner bound for one polynomial
-pub poly_between : (d : ℤ) → pos 0 <ℤ d → (ss : Spans) → AreSpans ss → (set : ℕ) (terms : List Term) (low high : ℤ) → PartOf (polynomial.support terms) set → ((c : ℕ) → c < 2 ^ parameter_count ss set → low ≤ℤ weight (corner d ss set c) terms) → ((c : ℕ) → c < 2 ^ parameter_count ss set → weight (corner d ss set c) terms ≤ℤ high) → (v : Valuation) → InsideOn d ss set v → ((low *ℤ denominator v) ≤ℤ (weight v terms *ℤ power d (parameter_count ss set))) × ((weight v terms *ℤ power d (parameter_count ss set)) ≤ℤ (high *ℤ denominator v))
-poly_between d positive ss spans set terms low high part lower upper v inside =
+pub poly_between : Premises → (d : ℤ) → pos 0 <ℤ d → (ss : Spans) → AreSpans ss → (set : ℕ) (terms : List Term) (low high : ℤ) → PartOf (polynomial.support terms) set → ((c : ℕ) → c < 2 ^ parameter_count ss set → low ≤ℤ weight (corner d ss set c) terms) → ((c : ℕ) → c < 2 ^ parameter_count ss set → weight (corner d ss set c) terms ≤ℤ high) → (v : Valuation) → InsideOn d ss set v → ((low *ℤ denominator v) ≤ℤ (weight v terms *ℤ power d (parameter_count ss set))) × ((weight v terms *ℤ power d (parameter_count ss set)) ≤ℤ (high *ℤ denominator v))
+poly_between laws d positive ss spans set terms low high part lower upper v inside =
     let p = power d (parameter_count ss set) in
     let p_least : pos 0 ≤ℤ p = omega (arith, linear, power-pos d (parameter_count ss set) positive) in
-    let up = poly_upper d positive ss spans set (scaled p terms) high (scaled_part p terms set part)
+    let up = poly_upper laws d positive ss spans set (scaled p terms) high (scaled_part p terms set part)
     (λ c lt. omega (arith, linear, weight-scaled_by (corner d ss set c) p terms, mul-le p (weight (corner d ss set c) terms) high p_least (upper c lt), mul-comm p (weight (corner d ss set c) terms), mul-comm p high)) v inside in
-    let down = poly_lower d positive ss spans set (scaled p terms) low (scaled_part p terms set part)
+    let down = poly_lower laws d positive ss spans set (scaled p terms) low (scaled_part p terms set part)
     (λ c lt. omega (arith, linear, weight-scaled_by (corner d ss set c) p terms, mul-le p low (weight (corner d ss set c) terms) p_least (lower c lt), mul-comm p (weight (corner d ss set c) terms), mul-comm p low)) v inside in
     (omega (arith, linear, down, weight-scaled_by v p terms), omega (arith, linear, up, weight-scaled_by v p terms))
 
@@ -161,13 +162,13 @@ pub moves_least : (v : Valuation) (entries : List Entry) → All (λ entry. pos 
 moves_least v [] h = tt
 moves_least v (e ∷ entries) h = let least : Entry → Type 0 = λ entry. pos 0 ≤ℤ weight v entry.poly in (All-head least e entries h, moves_least v entries (All-tail least e entries h))
 
-module _ (k : CaseData) (row : List Entry) (ss : Spans) (positive : pos 0 <ℤ k.d) (root : AreSpans k.root) (spans : AreSpans ss) (within : Within ss k.root) (admitted : IsAdmittedRow k row) where
+module _ (laws : Premises) (k : CaseData) (row : List Entry) (ss : Spans) (positive : pos 0 <ℤ k.d) (root : AreSpans k.root) (spans : AreSpans ss) (within : Within ss k.root) (admitted : IsAdmittedRow k row) where
   -- no weight is negative
   pub corner_least : (c : ℕ) → All (λ entry. pos 0 ≤ℤ weight (corner k.d ss (support row) c) entry.poly) row
   corner_least c i d lt =
       let entry = get_or row i d in
       let v = corner k.d ss (support row) c in
-      let bound = poly_lower k.d positive k.root root (support row) entry.poly (pos 0) (entry_part row i d lt)
+      let bound = poly_lower laws k.d positive k.root root (support row) entry.poly (pos 0) (entry_part row i d lt)
       (λ b at. omega (arith, linear, admitted.least b at i d lt, zero-mul (power k.d (parameter_count k.root (support row))))) v
       (corner-inside k.d positive ss k.root spans within (support row) c) in
       omega (arith, linear, bound, zero-mul (denominator v))
@@ -176,7 +177,7 @@ module _ (k : CaseData) (row : List Entry) (ss : Spans) (positive : pos 0 <ℤ k
   pub inside_least : (v : Valuation) → Inside k.d ss v → All (λ entry. pos 0 ≤ℤ weight v entry.poly) row
   inside_least v inside i d lt =
       let entry = get_or row i d in
-      let bound = poly_lower k.d positive ss spans (support row) entry.poly (pos 0) (entry_part row i d lt)
+      let bound = poly_lower laws k.d positive ss spans (support row) entry.poly (pos 0) (entry_part row i d lt)
       (λ c at. omega (arith, linear, corner_least c i d lt, zero-mul (power k.d (parameter_count ss (support row))))) v
       (Inside-on k.d ss (support row) v inside) in
       omega (arith, linear, bound, zero-mul (denominator v))
@@ -204,8 +205,8 @@ module _ (k : CaseData) (row : List Entry) (ss : Spans) (positive : pos 0 <ℤ k
   pub corner_sum_range : (c : ℕ) (z : ℕ → ℤ) (top : ℤ) → ((s : ℕ) → (pos 0 ≤ℤ z s) × (z s ≤ℤ top)) → (pos 0 ≤ℤ corner_sum k.d ss row c z) × (corner_sum k.d ss row c z ≤ℤ (top *ℤ whole k.model k.d k.root row))
   corner_sum_range c z top range =
       let moves = moves_at (corner k.d ss (support row) c) row in (
-        weighted_sum-least z moves (λ s. (range s).0) (corner_moves c),
-        omega (arith, linear, weighted_sum-mono z (λ s. top) moves (λ s. (range s).1) (corner_moves c), constant_sum top moves, ap (λ n. top *ℤ n) (corner_total c)),
+        laws.least z moves (λ s. (range s).0) (corner_moves c),
+        omega (arith, linear, laws.rise z (λ s. top) moves (λ s. (range s).1) (corner_moves c), constant_sum top moves, ap (λ n. top *ℤ n) (corner_total c)),
       )
 
 -- ---- the whole
@@ -366,7 +367,7 @@ least_more f n z y h below here one = record {
     last : (c n : ℕ) → c < n + 1 → (c ≡ n) ⊎ (c < n)
     last c n lt = grind arith
 
-module _ (k : CaseData) (s a : ℕ) (sides : List ℤ) (x : List ℤ) (is : IsCase k) (inside : AreSidesInside k.root sides) where
+module _ (affine : IsAffineInEach) (k : CaseData) (s a : ℕ) (sides : List ℤ) (x : List ℤ) (is : IsCase k) (inside : AreSidesInside k.root sides) where
   same_whole : whole k.model k.d (spans_of sides) (row_at k.model s a) ≡ row_whole k s a
   same_whole = ap (λ n. k.model.common *ℤ power k.d n) (parameter_count-within (spans_of sides) k.root (support (row_at k.model s a)) inside.within)
 
@@ -382,14 +383,14 @@ module _ (k : CaseData) (s a : ℕ) (sides : List ℤ) (x : List ℤ) (is : IsCa
       let ss = spans_of sides in
       let row = row_at k.model s a in
       let w = whole k.model k.d ss row in
-      let up = row_upper_at k.d is.asked.grid.positive ss inside.rectangle.spans row (number x) k.model.common z common_positive (λ c lt. h.most c (subst (λ n. c < n) same_count lt)) v (Inside-on k.d ss (support row) v in_sides) in
+      let up = row_upper_at affine k.d is.asked.grid.positive ss inside.rectangle.spans row (number x) k.model.common z common_positive (λ c lt. h.most c (subst (λ n. c < n) same_count lt)) v (Inside-on k.d ss (support row) v in_sides) in
       rw (← same_whole) up
 
   pub bounds_below : (z : ℤ) → IsLeast (row_value k (spans_of sides) s a x) (corner_count k s a) z → BoundsBelow k (spans_of sides) s a x z
   bounds_below z h v in_sides =
       let ss = spans_of sides in
       let row = row_at k.model s a in
-      let down = row_lower_at k.d is.asked.grid.positive ss inside.rectangle.spans row (number x) k.model.common z common_positive (λ c lt. h.least c (subst (λ n. c < n) same_count lt)) v (Inside-on k.d ss (support row) v in_sides) in
+      let down = row_lower_at affine k.d is.asked.grid.positive ss inside.rectangle.spans row (number x) k.model.common z common_positive (λ c lt. h.least c (subst (λ n. c < n) same_count lt)) v (Inside-on k.d ss (support row) v in_sides) in
       rw (← same_whole) down
 
 -- a loop that starts at 1 and ends at 1 << n ends at 2 ^ n
@@ -404,9 +405,9 @@ corners_done n w corner e few most least =
     omega arith
 
 -- the greatest corner value lies from 0 to 2 ^ w times the whole
-pub greatest_range : (k : CaseData) (s a n : ℕ) (sides x : List ℤ) (z : ℤ) → IsCase k → AreSidesInside k.root sides → s < length k.model.states → a < length (choices k.model s) → AreNumbers k x → IsGreatest (row_value k (spans_of sides) s a x) n z
+pub greatest_range : Premises → (k : CaseData) (s a n : ℕ) (sides x : List ℤ) (z : ℤ) → IsCase k → AreSidesInside k.root sides → s < length k.model.states → a < length (choices k.model s) → AreNumbers k x → IsGreatest (row_value k (spans_of sides) s a x) n z
     → (pos 0 ≤ℤ z) × (z ≤ℤ (pos (2 ^ k.w) *ℤ row_whole k s a))
-greatest_range k s a n sides x z is inside state choice numbers h =
+greatest_range laws k s a n sides x z is inside state choice numbers h =
     let top = pos (2 ^ k.w) in
-    let here = corner_sum_range k (row_at k.model s a) (spans_of sides) is.asked.grid.positive is.asked.spans inside.rectangle.spans inside.within (admitted_row k s a is state choice) h.attained.0 (number x) top (number_range k x numbers) in
+    let here = corner_sum_range laws k (row_at k.model s a) (spans_of sides) is.asked.grid.positive is.asked.spans inside.rectangle.spans inside.within (admitted_row k s a is state choice) h.attained.0 (number x) top (number_range k x numbers) in
     subst (λ y. (pos 0 ≤ℤ y) × (y ≤ℤ (top *ℤ row_whole k s a))) (sym h.attained.1.1) here

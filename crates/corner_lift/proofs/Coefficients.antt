@@ -3,10 +3,9 @@ use Rattle.std.proofs.Common.{◌≡◌, ℕ, zero, suc, ◌≤◌, Bool, true, 
 use Rattle.lift_poly.specs.Polynomial.{Term, Valuation, monomial, weight, denominator}
 use Rattle.lift_poly.specs.Arithmetic.{coefficient}
 use Rattle.lift_poly.proofs.Ring.{linear, mul-comm, zero-mul, one-mul, add-mul}
-use Rattle.lift_poly.proofs.Weights.{weight-append}
 use Rattle.lift_model.specs.declared.entry.Entry.{Entry}
 use Rattle.corner_lift.specs.Case.{row_coefficient}
-use Rattle.corner_lift.proofs.RowBound.{row_sum, scaled, row_terms, less, weight-row_terms, weight-less}
+use Rattle.corner_lift.proofs.RowBound.{row_sum, scaled, row_terms, less, weight-append, weight-row_terms, weight-less}
 
 -- the terms of every other set
 without : ℕ → List Term → List Term

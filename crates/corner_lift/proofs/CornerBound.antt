@@ -1,12 +1,17 @@
 -- The corner bound: a polynomial that is at most 0 at every corner of a rectangle is at most 0 at every valuation inside it. One parameter is fixed at a time.
-use Rattle.std.proofs.Common.{◌≡◌, ℕ, zero, suc, ◌+◌, ◌*◌, ◌/◌, ◌%◌, ◌^◌, ◌<◌, ◌≤◌, List, [], ◌∷◌, ℤ, pos, ◌+ℤ◌, ◌-ℤ◌, ◌*ℤ◌, ◌≤ℤ◌, ◌<ℤ◌, refl, sym, ap, ap₂, ◌∙◌, subst, arith, ⊎_elim, bit_or, zero-add, one-add}
+use Rattle.std.proofs.Common.{◌≡◌, ℕ, zero, suc, ◌+◌, ◌*◌, ◌/◌, ◌%◌, ◌^◌, ◌<◌, ◌≤◌, List, [], ◌∷◌, ℤ, pos, ◌+ℤ◌, ◌-ℤ◌, ◌*ℤ◌, ◌≤ℤ◌, ◌<ℤ◌, refl, sym, ap, ap₂, ◌∙◌, subst, arith, ◌⊎◌, inl, inr, ⊎_elim, bit_or, zero-add, one-add}
+use Rattle.std.proofs.lemmas.Bool.{cases_eq}
 use Rattle.std.proofs.lemmas.Nat.{or_mod, or_shr, le_or_l}
 use Rattle.lift_poly.specs.Polynomial.{Term, Valuation, factor, monomial, weight}
 use Rattle.lift_poly.proofs.Ring.{linear, mul-assoc, mul-comm, mul-zero, zero-mul, mul-le, mul-le_cancel, mul-lt, as_diff, diffs, diff-same}
-use Rattle.lift_poly.proofs.Weights.{weight-split, parity}
+use Rattle.lift_poly.specs.Laws.{IsAffineInEach}
 use Rattle.lift_grid.specs.Rectangle.{Spans, Inside, end_of, AreSpans}
 use Rattle.corner_lift.specs.Corner.{parameter_count, corner, by_bit}
 use Rattle.corner_lift.specs.Case.{Within}
+
+-- a number is even or odd
+pub parity : (n : ℕ) → (n % 2 ≡ 0) ⊎ (n % 2 ≡ 1)
+parity n = ⊎_elim (λ (e : n % 2 ≡ 0). inl e) (λ (e : n % 2 ≡ 0 → ⊥). inr (omega arith)) (cases_eq (n % 2) 0)
 
 -- the polynomial in the other parameters that is left when the first one is given
 unfoldable pub fixed : ℤ × ℤ → List Term → List Term
@@ -19,9 +24,9 @@ weight-fixed x v [] = refl
 weight-fixed x v (t ∷ ts) = ap₂ ◌+ℤ◌ (sym (mul-assoc t.1 (factor (t.0 % 2) x) (monomial v (t.0 / 2)))) (weight-fixed x v ts)
 
 -- a multi-affine polynomial is linear in the pair of its first parameter
-pub fixed-split : (n d : ℤ) (v : Valuation) (ts : List Term) → weight v (fixed (n, d) ts) ≡ n *ℤ weight v (fixed (pos 1, pos 0) ts) +ℤ d *ℤ weight v (fixed (pos 0, pos 1) ts)
-fixed-split n d v ts =
-    sym (weight-fixed (n, d) v ts) ∙ weight-split [] v n d ts
+pub fixed-split : IsAffineInEach → (n d : ℤ) (v : Valuation) (ts : List Term) → weight v (fixed (n, d) ts) ≡ n *ℤ weight v (fixed (pos 1, pos 0) ts) +ℤ d *ℤ weight v (fixed (pos 0, pos 1) ts)
+fixed-split affine n d v ts =
+    sym (weight-fixed (n, d) v ts) ∙ affine [] v n d ts
     ∙ ap₂ (λ p q. n *ℤ p +ℤ d *ℤ q) (weight-fixed (pos 1, pos 0) v ts) (weight-fixed (pos 0, pos 1) v ts)
 
 -- D (hi - lo) (n a + d b) = (hi d - n D) (lo a + D b) + (n D - lo d) (hi a + D b)
@@ -105,18 +110,18 @@ corners-out D s ss set ts e h c lt =
     ap (λ v. weight v ts) (corner-out D s ss set c e) ∙ weight-fixed (pos 0, pos 1) (corner D ss (set / 2) c) ts in
     subst (λ z. z ≤ℤ pos 0) same at
 
-corners-in : (D : ℤ) (s : ℤ × ℤ) (ss : Spans) (set : ℕ) (ts : List Term) (n d : ℤ) → set % 2 ≡ 1 → s.0 <ℤ s.1 → pos 0 <ℤ D → (s.0 *ℤ d) ≤ℤ (n *ℤ D) → (n *ℤ D) ≤ℤ (s.1 *ℤ d) → CornersNonpos D (s ∷ ss) set ts → CornersNonpos D ss (set / 2) (fixed (n, d) ts)
+corners-in : IsAffineInEach → (D : ℤ) (s : ℤ × ℤ) (ss : Spans) (set : ℕ) (ts : List Term) (n d : ℤ) → set % 2 ≡ 1 → s.0 <ℤ s.1 → pos 0 <ℤ D → (s.0 *ℤ d) ≤ℤ (n *ℤ D) → (n *ℤ D) ≤ℤ (s.1 *ℤ d) → CornersNonpos D (s ∷ ss) set ts → CornersNonpos D ss (set / 2) (fixed (n, d) ts)
 unfolding CornersNonpos
-corners-in D s ss set ts n d e order positive above below h c lt =
+corners-in affine D s ss set ts n d e order positive above below h c lt =
     let count : 2 ^ (set % 2 + parameter_count ss (set / 2)) ≡ 2 * 2 ^ parameter_count ss (set / 2) = rw (e, one-add) (omega arith) in
     let rest = corner D ss (set / 2) c in
     let a = weight rest (fixed (pos 1, pos 0) ts) in
     let b = weight rest (fixed (pos 0, pos 1) ts) in
     let low : (s.0 *ℤ a +ℤ D *ℤ b) ≤ℤ pos 0 =
-    subst (λ z. z ≤ℤ pos 0) (ap (λ v. weight v ts) (corner-low D s ss set c e) ∙ weight-fixed (s.0, D) rest ts ∙ fixed-split s.0 D rest ts) (h (2 * c) (omega arith)) in
+    subst (λ z. z ≤ℤ pos 0) (ap (λ v. weight v ts) (corner-low D s ss set c e) ∙ weight-fixed (s.0, D) rest ts ∙ fixed-split affine s.0 D rest ts) (h (2 * c) (omega arith)) in
     let high : (s.1 *ℤ a +ℤ D *ℤ b) ≤ℤ pos 0 =
-    subst (λ z. z ≤ℤ pos 0) (ap (λ v. weight v ts) (corner-high D s ss set c e) ∙ weight-fixed (s.1, D) rest ts ∙ fixed-split s.1 D rest ts) (h (2 * c + 1) (omega arith)) in
-    subst (λ z. z ≤ℤ pos 0) (sym (fixed-split n d rest ts)) (one_parameter s.0 s.1 D n d a b order positive above below low high)
+    subst (λ z. z ≤ℤ pos 0) (ap (λ v. weight v ts) (corner-high D s ss set c e) ∙ weight-fixed (s.1, D) rest ts ∙ fixed-split affine s.1 D rest ts) (h (2 * c + 1) (omega arith)) in
+    subst (λ z. z ≤ℤ pos 0) (sym (fixed-split affine n d rest ts)) (one_parameter s.0 s.1 D n d a b order positive above below low high)
 
 -- inside as far as the parameters of the set go: of the others only the denominator is above 0
 abbrev pub InsideOn : ℤ → Spans → ℕ → Valuation → Type 0
@@ -130,22 +135,22 @@ Inside-on d (s ∷ ss) set (x ∷ v) i = (i.0, λ e. i.1, λ e. i.2, Inside-on d
 Inside-on d [] set (x ∷ v) i = absurd i
 Inside-on d (s ∷ ss) set [] i = absurd i
 
-pub corner_bound : (D : ℤ) → pos 0 <ℤ D → (ss : Spans) (set : ℕ) (ts : List Term) (v : Valuation) → TermsIn set ts → AreSpans ss → CornersNonpos D ss set ts → InsideOn D ss set v → weight v ts ≤ℤ pos 0
+pub corner_bound : IsAffineInEach → (D : ℤ) → pos 0 <ℤ D → (ss : Spans) (set : ℕ) (ts : List Term) (v : Valuation) → TermsIn set ts → AreSpans ss → CornersNonpos D ss set ts → InsideOn D ss set v → weight v ts ≤ℤ pos 0
 unfolding TermsIn CornersNonpos
-corner_bound D positive [] set ts [] within ordered h inside = h 0 (omega arith)
-corner_bound D positive (s ∷ ss) set ts (x ∷ v) within ordered h inside =
+corner_bound affine D positive [] set ts [] within ordered h inside = h 0 (omega arith)
+corner_bound affine D positive (s ∷ ss) set ts (x ∷ v) within ordered h inside =
     ⊎_elim
     (λ (e : set % 2 ≡ 0).
-    let rest = corner_bound D positive ss (set / 2) (fixed (pos 0, pos 1) ts) v (TermsIn-fixed (pos 0, pos 1) set ts within) ordered.1 (corners-out D s ss set ts e h) inside.3 in
+    let rest = corner_bound affine D positive ss (set / 2) (fixed (pos 0, pos 1) ts) v (TermsIn-fixed (pos 0, pos 1) set ts within) ordered.1 (corners-out D s ss set ts e h) inside.3 in
     let same : weight (x ∷ v) ts ≡ x.1 *ℤ weight v (fixed (pos 0, pos 1) ts) =
-    weight-fixed x v ts ∙ fixed-split x.0 x.1 v ts ∙ rw (no_numerator v set ts within e, mul-zero) (omega (arith, linear)) in
+    weight-fixed x v ts ∙ fixed-split affine x.0 x.1 v ts ∙ rw (no_numerator v set ts within e, mul-zero) (omega (arith, linear)) in
     subst (λ z. z ≤ℤ pos 0) (sym same) (mul-nonpos x.1 (weight v (fixed (pos 0, pos 1) ts)) (omega (arith, linear, inside.0)) rest))
     (λ (e : set % 2 ≡ 1).
-    let rest = corner_bound D positive ss (set / 2) (fixed x ts) v (TermsIn-fixed x set ts within) ordered.1 (corners-in D s ss set ts x.0 x.1 e ordered.0.rising positive (inside.1 e) (inside.2 e) h) inside.3 in
+    let rest = corner_bound affine D positive ss (set / 2) (fixed x ts) v (TermsIn-fixed x set ts within) ordered.1 (corners-in affine D s ss set ts x.0 x.1 e ordered.0.rising positive (inside.1 e) (inside.2 e) h) inside.3 in
     subst (λ z. z ≤ℤ pos 0) (sym (weight-fixed x v ts)) rest)
     (parity set)
-corner_bound D positive [] set ts (x ∷ v) within ordered h inside = absurd inside
-corner_bound D positive (s ∷ ss) set ts [] within ordered h inside = absurd inside
+corner_bound affine D positive [] set ts (x ∷ v) within ordered h inside = absurd inside
+corner_bound affine D positive (s ∷ ss) set ts [] within ordered h inside = absurd inside
 
 -- ---- the corners of a rectangle within a root
 pub corner-inside : (d : ℤ) → pos 0 <ℤ d → (ss root : Spans) → AreSpans ss → Within ss root → (set c : ℕ) → InsideOn d root set (corner d ss set c)

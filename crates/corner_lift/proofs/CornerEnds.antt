@@ -3,24 +3,24 @@ use Rattle.std.proofs.Common.{◌≡◌, ℕ, zero, suc, ◌+◌, ◌*◌, ◌/�
 use Rattle.std.proofs.Math.Nat.{div-div-eq-div-mul}
 use Rattle.std.proofs.lemmas.Nat.{bit_set_by_shift, mod-pow-add, and_mask, ones_le_self}
 use lib.Count.{ones_step}
-use Rattle.lift_poly.proofs.Weights.{parity}
 use Rattle.lift_grid.specs.Rectangle.{Spans, end_of}
 use Rattle.corner_lift.specs.Corner.{corner, no_entry}
 use Rattle.corner_lift.specs.Laws.{CornersBoundWeights, WeightsAreNotNegative, WeightsSumToWhole, CornersChooseEnds}
-use Rattle.corner_lift.proofs.CornerBound.{Inside-on, corner-in, corner-out}
+use Rattle.corner_lift.proofs.Premises.{Premises}
+use Rattle.corner_lift.proofs.CornerBound.{parity, Inside-on, corner-in, corner-out}
 use Rattle.corner_lift.proofs.Summing.{entry_part}
 use Rattle.corner_lift.proofs.Cases.{poly_between, corner_least, corner_total, admitted_row}
 use Rattle.lift_model.specs.Model.{support, row_at}
 
-pub corners_bound_weights_lem : CornersBoundWeights
-corners_bound_weights_lem d spans row entry low high positive are lt lower upper v inside =
-    poly_between d positive spans are (support row) (get_or row entry no_entry).poly low high (entry_part row entry no_entry lt) lower upper v (Inside-on d spans (support row) v inside)
+pub corners_bound_weights_lem : Premises → CornersBoundWeights
+corners_bound_weights_lem laws d spans row entry low high positive are lt lower upper v inside =
+    poly_between laws d positive spans are (support row) (get_or row entry no_entry).poly low high (entry_part row entry no_entry lt) lower upper v (Inside-on d spans (support row) v inside)
 
-pub weights_least : WeightsAreNotNegative
-weights_least k spans s a is inside has c at = corner_least k (row_at k.model s a) spans is.asked.grid.positive is.asked.spans inside.rectangle inside.within (admitted_row k s a is has.state has.choice) c
+pub weights_least : Premises → WeightsAreNotNegative
+weights_least laws k spans s a is inside has c at = corner_least laws k (row_at k.model s a) spans is.asked.grid.positive is.asked.spans inside.rectangle inside.within (admitted_row k s a is has.state has.choice) c
 
-pub weights_sum : WeightsSumToWhole
-weights_sum k spans s a is inside has c at = corner_total k (row_at k.model s a) spans is.asked.grid.positive is.asked.spans inside.rectangle inside.within (admitted_row k s a is has.state has.choice) c
+pub weights_sum : Premises → WeightsSumToWhole
+weights_sum laws k spans s a is inside has c at = corner_total laws k (row_at k.model s a) spans is.asked.grid.positive is.asked.spans inside.rectangle inside.within (admitted_row k s a is has.state has.choice) c
 
 -- how many parameters come before the next one
 place_next : (set k : ℕ) → count_ones (set % 2 ^ (k + 1)) ≡ set % 2 + count_ones (set / 2 % 2 ^ k)

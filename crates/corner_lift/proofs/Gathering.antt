@@ -7,12 +7,11 @@ use Rattle.std.proofs.lemmas.List.{drop_all}
 use mir.Syntax.{w128}
 use Rattle.lift_poly.specs.Polynomial.{factor, monomial}
 use Rattle.lift_poly.proofs.Ring.{mul-assoc, mul-comm, one-mul}
-use Rattle.lift_poly.proofs.Weights.{parity}
 use Rattle.lift_grid.specs.Rectangle.{Spans, spans_of, end_of}
 use Rattle.corner_lift.specs.Corner.{corner, parameter_count, by_bit}
 use Rattle.corner_lift.specs.Case.{greatest_size}
 use Rattle.corner_lift.specs.Ends.{End, product_at, StandFor, greatest_end}
-use Rattle.corner_lift.proofs.CornerBound.{corner-in, corner-out, halved, even_part}
+use Rattle.corner_lift.proofs.CornerBound.{parity, corner-in, corner-out, halved, even_part}
 
 -- the ends that corner c of the set chooses, where the first span is that of parameter k
 unfoldable pub ends_from : ℕ → Spans → ℕ → ℕ → List End

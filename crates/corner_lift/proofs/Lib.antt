@@ -1,3 +1,4 @@
+pub mod Premises
 pub mod Rows
 pub mod CornerBound
 pub mod RowBound

@@ -1,24 +1,35 @@
 -- The corner bound for the rows of a model: what holds of a row's weighted sum at each of its corners holds at each valuation inside.
 use Rattle.std.proofs.Common.{◌≡◌, ℕ, zero, suc, ◌+◌, ◌/◌, ◌%◌, ◌^◌, ◌<◌, List, [], ◌∷◌, ◌++◌, ℤ, pos, ◌+ℤ◌, ◌*ℤ◌, neg_ℤ, ◌≤ℤ◌, ◌<ℤ◌, refl, sym, ap, ap₂, ◌∙◌, arith, ⊎_elim, bit_or, zero-add, one-add}
 use lib.Bits.{or_self, or_comm}
+use Rattle.std.proofs.lemmas.Nat.Bits.{same_from_bits, bit_at_or}
 use borrow.Author.Differences.{product_is}
 use Rattle.lift_poly.specs.Polynomial.{Term, Valuation, monomial, weight, denominator}
 use Rattle.lift_poly.specs.Arithmetic as polynomial
 use Rattle.lift_poly.proofs.Ring.{linear, mul-assoc, mul-comm, mul-zero, zero-mul, one-mul, mul-le, as_diff, diffs, diff-same}
-use Rattle.lift_poly.proofs.Sets.{or_assoc}
-use Rattle.lift_poly.proofs.Weights.{weight-append, parity}
+use Rattle.lift_poly.specs.Laws.{IsAffineInEach}
 use Rattle.lift_grid.specs.Rectangle.{Spans, AreSpans}
 use Rattle.lift_model.specs.declared.entry.Entry.{Entry}
 use Rattle.lift_model.specs.Process.{power, weighted_sum}
 use Rattle.lift_model.specs.Model.{support, moves_at}
 use Rattle.corner_lift.specs.Corner.{parameter_count, corner, corner_sum}
-use Rattle.corner_lift.proofs.CornerBound.{TermsIn, InsideOn, CornersNonpos, corner_bound, mul-pos_lem, corner-in, corner-out}
+use Rattle.corner_lift.proofs.CornerBound.{parity, TermsIn, InsideOn, CornersNonpos, corner_bound, mul-pos_lem, corner-in, corner-out}
 
 -- a row's weighted sum at a valuation
 abbrev pub row_sum : Valuation → (ℕ → ℤ) → List Entry → ℤ
 row_sum v z row = weighted_sum z (moves_at v row)
 
+-- what terms and more terms weigh
+pub weight-append : (v : Valuation) (ts us : List Term) → weight v (ts ++ us) ≡ weight v ts +ℤ weight v us
+weight-append v [] us = omega (arith, linear)
+weight-append v (t ∷ ts) us = omega (arith, linear, weight-append v ts us)
+
 -- ---- sets
+
+or_assoc : (a b c : ℕ) → bit_or (bit_or a b) c ≡ bit_or a (bit_or b c)
+or_assoc a b c =
+    same_from_bits (bit_or (bit_or a b) c) (bit_or a (bit_or b c))
+    (λ i. omega (arith, bit_at_or (bit_or a b) c i, bit_at_or a b i, bit_at_or a (bit_or b c) i, bit_at_or b c i))
+
 -- the first set is part of the second
 unfoldable pub PartOf : ℕ → ℕ → Type 0
 PartOf a b = bit_or a b ≡ b
@@ -115,9 +126,9 @@ unfolding less
 weight-less v k = rw (monomial-empty v, as_diff k, as_diff (denominator v)) (simp diffs (diff-same _ _ _ _ (omega arith)))
 
 -- what holds at each corner of the row holds at each valuation inside
-pub row_upper : (D : ℤ) → pos 0 <ℤ D → (ss : Spans) → AreSpans ss → (row : List Entry) (z : ℕ → ℤ) (k : ℤ) → ((c : ℕ) → c < 2 ^ parameter_count ss (support row) → corner_sum D ss row c z ≤ℤ (k *ℤ power D (parameter_count ss (support row)))) → (v : Valuation) → InsideOn D ss (support row) v → row_sum v z row ≤ℤ (k *ℤ denominator v)
+pub row_upper : IsAffineInEach → (D : ℤ) → pos 0 <ℤ D → (ss : Spans) → AreSpans ss → (row : List Entry) (z : ℕ → ℤ) (k : ℤ) → ((c : ℕ) → c < 2 ^ parameter_count ss (support row) → corner_sum D ss row c z ≤ℤ (k *ℤ power D (parameter_count ss (support row)))) → (v : Valuation) → InsideOn D ss (support row) v → row_sum v z row ≤ℤ (k *ℤ denominator v)
 unfolding CornersNonpos
-row_upper D positive ss ordered row z k h v inside =
+row_upper affine D positive ss ordered row z k h v inside =
     let all = row_terms z row ++ less k in
     let total : (v : Valuation) → weight v all ≡ row_sum v z row +ℤ neg_ℤ (k *ℤ denominator v) =
     λ v. weight-append v (row_terms z row) (less k) ∙ ap₂ ◌+ℤ◌ (weight-row_terms v z row) (weight-less v k) in
@@ -125,7 +136,7 @@ row_upper D positive ss ordered row z k h v inside =
     λ c lt. let e = denominator-corner D ss (support row) c in
     let bound : row_sum (corner D ss (support row) c) z row ≤ℤ (k *ℤ denominator (corner D ss (support row) c)) = rw e (h c lt) in
     rw (total (corner D ss (support row) c)) (omega (arith, linear, bound)) in
-    let result : weight v all ≤ℤ pos 0 = corner_bound D positive ss (support row) all v (all_in z row k) ordered at_corners inside in
+    let result : weight v all ≤ℤ pos 0 = corner_bound affine D positive ss (support row) all v (all_in z row k) ordered at_corners inside in
     omega (arith, linear, result, total v)
 
 pub row_sum-times : (v : Valuation) (w : ℤ) (z : ℕ → ℤ) (row : List Entry) → row_sum v (λ s. w *ℤ z s) row ≡ w *ℤ row_sum v z row
@@ -141,14 +152,14 @@ pub power-pos : (b : ℤ) (n : ℕ) → pos 0 <ℤ b → pos 0 <ℤ power b n
 power-pos b zero h = omega (arith, linear)
 power-pos b (suc n) h = mul-pos_lem b (power b n) h (power-pos b n h)
 
-pub row_lower : (D : ℤ) → pos 0 <ℤ D → (ss : Spans) → AreSpans ss → (row : List Entry) (z : ℕ → ℤ) (k : ℤ) → ((c : ℕ) → c < 2 ^ parameter_count ss (support row) → (k *ℤ power D (parameter_count ss (support row))) ≤ℤ corner_sum D ss row c z) → (v : Valuation) → InsideOn D ss (support row) v → (k *ℤ denominator v) ≤ℤ row_sum v z row
-row_lower D positive ss ordered row z k h v inside =
+pub row_lower : IsAffineInEach → (D : ℤ) → pos 0 <ℤ D → (ss : Spans) → AreSpans ss → (row : List Entry) (z : ℕ → ℤ) (k : ℤ) → ((c : ℕ) → c < 2 ^ parameter_count ss (support row) → (k *ℤ power D (parameter_count ss (support row))) ≤ℤ corner_sum D ss row c z) → (v : Valuation) → InsideOn D ss (support row) v → (k *ℤ denominator v) ≤ℤ row_sum v z row
+row_lower affine D positive ss ordered row z k h v inside =
     let minus : ℤ = neg_ℤ (pos 1) in
     let p = power D (parameter_count ss (support row)) in
     let at_corners : (c : ℕ) → c < 2 ^ parameter_count ss (support row) → corner_sum D ss row c (λ s. minus *ℤ z s) ≤ℤ ((minus *ℤ k) *ℤ p) =
     λ c lt. rw (row_sum-times (corner D ss (support row) c) minus z row, mul-assoc minus k p)
     (omega (arith, linear, h c lt, minus-one (row_sum (corner D ss (support row) c) z row), minus-one (k *ℤ p))) in
-    let result = row_upper D positive ss ordered row (λ s. minus *ℤ z s) (minus *ℤ k) at_corners v inside in
+    let result = row_upper affine D positive ss ordered row (λ s. minus *ℤ z s) (minus *ℤ k) at_corners v inside in
     omega (arith, linear, result, row_sum-times v minus z row, mul-assoc minus k (denominator v), minus-one (row_sum v z row), minus-one (k *ℤ denominator v))
 
 -- ((k C) p) as (C p) k
@@ -156,21 +167,21 @@ swap_factors : (k c p : ℤ) → (k *ℤ c) *ℤ p ≡ (c *ℤ p) *ℤ k
 swap_factors k c p = rw (as_diff k, as_diff c, as_diff p) (simp diffs (diff-same _ _ _ _ (omega arith)))
 
 -- The corner bound from above, for a number that no corner's sum exceeds: each side over its own total.
-pub row_upper_at : (D : ℤ) → pos 0 <ℤ D → (ss : Spans) → AreSpans ss → (row : List Entry) (z : ℕ → ℤ) (common high : ℤ) → pos 0 <ℤ common → ((c : ℕ) → c < 2 ^ parameter_count ss (support row) → corner_sum D ss row c z ≤ℤ high) → (v : Valuation) → InsideOn D ss (support row) v → (row_sum v z row *ℤ (common *ℤ power D (parameter_count ss (support row)))) ≤ℤ (high *ℤ (common *ℤ denominator v))
-row_upper_at D positive ss spans row z common high common_positive upper v inside =
+pub row_upper_at : IsAffineInEach → (D : ℤ) → pos 0 <ℤ D → (ss : Spans) → AreSpans ss → (row : List Entry) (z : ℕ → ℤ) (common high : ℤ) → pos 0 <ℤ common → ((c : ℕ) → c < 2 ^ parameter_count ss (support row) → corner_sum D ss row c z ≤ℤ high) → (v : Valuation) → InsideOn D ss (support row) v → (row_sum v z row *ℤ (common *ℤ power D (parameter_count ss (support row)))) ≤ℤ (high *ℤ (common *ℤ denominator v))
+row_upper_at affine D positive ss spans row z common high common_positive upper v inside =
     let p = power D (parameter_count ss (support row)) in
     let w = common *ℤ p in
     let w_positive : pos 0 <ℤ w = mul-pos_lem common p common_positive (power-pos D (parameter_count ss (support row)) positive) in
-    let highs = row_upper D positive ss spans row (λ s. w *ℤ z s) (high *ℤ common)
+    let highs = row_upper affine D positive ss spans row (λ s. w *ℤ z s) (high *ℤ common)
     (λ c lt. rw (row_sum-times (corner D ss (support row) c) w z row, swap_factors high common p) (mul-le w _ high (omega (arith, linear, w_positive)) (upper c lt))) v inside in
     omega (arith, linear, highs, row_sum-times v w z row, mul-comm w (row_sum v z row), mul-assoc high common (denominator v))
 
 -- the corner bound from below
-pub row_lower_at : (D : ℤ) → pos 0 <ℤ D → (ss : Spans) → AreSpans ss → (row : List Entry) (z : ℕ → ℤ) (common low : ℤ) → pos 0 <ℤ common → ((c : ℕ) → c < 2 ^ parameter_count ss (support row) → low ≤ℤ corner_sum D ss row c z) → (v : Valuation) → InsideOn D ss (support row) v → (low *ℤ (common *ℤ denominator v)) ≤ℤ (row_sum v z row *ℤ (common *ℤ power D (parameter_count ss (support row))))
-row_lower_at D positive ss spans row z common low common_positive lower v inside =
+pub row_lower_at : IsAffineInEach → (D : ℤ) → pos 0 <ℤ D → (ss : Spans) → AreSpans ss → (row : List Entry) (z : ℕ → ℤ) (common low : ℤ) → pos 0 <ℤ common → ((c : ℕ) → c < 2 ^ parameter_count ss (support row) → low ≤ℤ corner_sum D ss row c z) → (v : Valuation) → InsideOn D ss (support row) v → (low *ℤ (common *ℤ denominator v)) ≤ℤ (row_sum v z row *ℤ (common *ℤ power D (parameter_count ss (support row))))
+row_lower_at affine D positive ss spans row z common low common_positive lower v inside =
     let p = power D (parameter_count ss (support row)) in
     let w = common *ℤ p in
     let w_positive : pos 0 <ℤ w = mul-pos_lem common p common_positive (power-pos D (parameter_count ss (support row)) positive) in
-    let lows = row_lower D positive ss spans row (λ s. w *ℤ z s) (low *ℤ common)
+    let lows = row_lower affine D positive ss spans row (λ s. w *ℤ z s) (low *ℤ common)
     (λ c lt. rw (row_sum-times (corner D ss (support row) c) w z row, swap_factors low common p) (mul-le w low _ (omega (arith, linear, w_positive)) (lower c lt))) v inside in
     omega (arith, linear, lows, row_sum-times v w z row, mul-comm w (row_sum v z row), mul-assoc low common (denominator v))

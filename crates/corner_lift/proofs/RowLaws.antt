@@ -5,10 +5,10 @@ use Rattle.lift_poly.proofs.Ring.{linear, mul-assoc}
 use Rattle.lift_grid.specs.Rectangle.{Spans, AreSides, sides_of, spans_of}
 use Rattle.lift_model.specs.Process.{power}
 use Rattle.lift_model.specs.Model.{support, row_at, moves_at}
-use Rattle.lift_model.proofs.Sums.{weighted_sum-mono}
 use Rattle.corner_lift.specs.Corner.{corner, parameter_count}
 use Rattle.corner_lift.specs.Case.{CaseData, IsCase, Within, AreSidesInside, number}
 use Rattle.corner_lift.specs.Laws.{BitsAreParameters, ParametersAreTheRoots, NumbersAreInRange, SumsAreInRange, SumsRise, WeightsInside, SumsAreTotals, MeansAtMostInside, MeansAtLeastInside, RootIsInside}
+use Rattle.corner_lift.proofs.Premises.{Premises}
 use Rattle.corner_lift.proofs.CornerBound.{Inside-on}
 use Rattle.corner_lift.proofs.Coefficients.{row_total}
 use Rattle.corner_lift.proofs.Rows.{number_range}
@@ -26,37 +26,37 @@ parameters_are_the_roots k spans row within = parameter_count-within spans k.roo
 pub numbers_are_in_range : NumbersAreInRange
 numbers_are_in_range k x s are = number_range k x are s
 
-pub sums_are_in_range : SumsAreInRange
-sums_are_in_range k spans s a c x is inside has numbers =
-    corner_sum_range k (row_at k.model s a) spans is.asked.grid.positive is.asked.spans inside.rectangle inside.within (admitted_row k s a is has.state has.choice) c (number x) (pos (2 ^ k.w)) (number_range k x numbers)
+pub sums_are_in_range : Premises → SumsAreInRange
+sums_are_in_range laws k spans s a c x is inside has numbers =
+    corner_sum_range laws k (row_at k.model s a) spans is.asked.grid.positive is.asked.spans inside.rectangle inside.within (admitted_row k s a is has.state has.choice) c (number x) (pos (2 ^ k.w)) (number_range k x numbers)
 
-pub sums_rise : SumsRise
-sums_rise k spans s a c x y is inside has le =
+pub sums_rise : Premises → SumsRise
+sums_rise laws k spans s a c x y is inside has le =
     let row = row_at k.model s a in
-    weighted_sum-mono x y (moves_at (corner k.d spans (support row) c) row) le
-    (corner_moves k row spans is.asked.grid.positive is.asked.spans inside.rectangle inside.within (admitted_row k s a is has.state has.choice) c)
+    laws.rise x y (moves_at (corner k.d spans (support row) c) row) le
+    (corner_moves laws k row spans is.asked.grid.positive is.asked.spans inside.rectangle inside.within (admitted_row k s a is has.state has.choice) c)
 
 -- ---- inside
 
-pub weights_inside : WeightsInside
-weights_inside k spans v is inside at i d lt a r here =
+pub weights_inside : Premises → WeightsInside
+weights_inside laws k spans v is inside at i d lt a r here =
     let row = get_or (get_or k.model.states i d) a r in
-    inside_least k row spans is.asked.grid.positive is.asked.spans inside.rectangle inside.within (is.admitted i d lt a r here) v at
+    inside_least laws k row spans is.asked.grid.positive is.asked.spans inside.rectangle inside.within (is.admitted i d lt a r here) v at
 
 pub sums_are_totals : SumsAreTotals
 sums_are_totals m row v sums = row_total m.common row sums v
 
-pub means_at_most_inside : MeansAtMostInside
-means_at_most_inside k spans row x n is inside means v at =
+pub means_at_most_inside : Premises → MeansAtMostInside
+means_at_most_inside laws k spans row x n is inside means v at =
     let p = power k.d (parameter_count spans (support row)) in
-    let bound = row_upper k.d is.asked.grid.positive spans inside.rectangle row (number x) (n *ℤ k.model.common)
+    let bound = row_upper laws.affine k.d is.asked.grid.positive spans inside.rectangle row (number x) (n *ℤ k.model.common)
     (λ c lt. let here = means c lt in omega (arith, linear, here, mul-assoc n k.model.common p)) v (Inside-on k.d spans (support row) v at) in
     omega (arith, linear, bound, mul-assoc n k.model.common (denominator v))
 
-pub means_at_least_inside : MeansAtLeastInside
-means_at_least_inside k spans row y n is inside means v at =
+pub means_at_least_inside : Premises → MeansAtLeastInside
+means_at_least_inside laws k spans row y n is inside means v at =
     let p = power k.d (parameter_count spans (support row)) in
-    let bound = row_lower k.d is.asked.grid.positive spans inside.rectangle row y (n *ℤ k.model.common)
+    let bound = row_lower laws.affine k.d is.asked.grid.positive spans inside.rectangle row y (n *ℤ k.model.common)
     (λ c lt. let here = means c lt in omega (arith, linear, here, mul-assoc n k.model.common p)) v (Inside-on k.d spans (support row) v at) in
     omega (arith, linear, bound, mul-assoc n k.model.common (denominator v))
 

@@ -7,6 +7,7 @@ ghost use Rattle.corner_lift.specs.Corner.{parameter_count, corner as corner_poi
 ghost use Rattle.corner_lift.specs.Case.{greatest_size, engine_limit, most_row_parameters};
 ghost use Rattle.corner_lift.specs.Ends.{product_at, weight_at, StandFor, greatest_end};
 
+use lift_grid::rows_are_rectangles;
 use lift_poly::MultiAffine;
 
 /// The parameters of a row in ascending order, each with the end that a corner chooses for it. At most
@@ -67,6 +68,7 @@ impl Ends {
         ensures count { length result ≡ parameter_count (spans_of sides.now) support }
         ensures sizes { (d : ℤ) → greatest_end d result ≤ greatest_size d (spans_of sides.now) }
     {
+        rows_are_rectangles();
         let mut ends = Ends::none();
         let mut left = support;
         let mut bits = corner;

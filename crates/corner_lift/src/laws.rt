@@ -19,6 +19,8 @@ ghost use Rattle.corner_lift.specs.Laws.{
 };
 
 use lift_grid::halves_stay_on_grid;
+use lift_model::weighted_sums_follow;
+use lift_poly::weights_follow;
 
 /// Weights at corners: the corner bound for a single entry; that no weight of a case is negative at a
 /// corner of a rectangle inside the root, and that there a row's weights sum to the whole; and which
@@ -28,7 +30,10 @@ pub fn corners_bound_weights()
     ensures least { WeightsAreNotNegative }
     ensures sum { WeightsSumToWhole }
     ensures ends { CornersChooseEnds }
-{}
+{
+    weights_follow();
+    weighted_sums_follow();
+}
 
 /// Rows at corners: how many parameters a row has, in the root and in a rectangle inside it; in which
 /// range a vector's numbers and sums lie; and that a greater vector has no lesser sum.
@@ -38,7 +43,10 @@ pub fn rows_at_corners()
     ensures numbers { NumbersAreInRange }
     ensures range { SumsAreInRange }
     ensures rise { SumsRise }
-{}
+{
+    weights_follow();
+    weighted_sums_follow();
+}
 
 /// Rows at the valuations inside a rectangle inside the root: no weight is negative, they sum to the
 /// total, and a mean stays within what it keeps to at each corner. The root lies inside itself.
@@ -48,7 +56,10 @@ pub fn rows_inside()
     ensures most { MeansAtMostInside }
     ensures least { MeansAtLeastInside }
     ensures root { RootIsInside }
-{}
+{
+    weights_follow();
+    weighted_sums_follow();
+}
 
 /// Where a halving is left, both halves of a rectangle inside the root lie inside it.
 pub fn halves_are_inside()

@@ -9,7 +9,8 @@ ghost use Rattle.corner_lift.specs.Case.{number, IsCase, IsRowOf, AreSidesInside
 use crate::case::Case;
 use crate::ends::Ends;
 use crate::weighted::{sum_below, sum_of};
-use lift_model::{Model, Row};
+use lift_model::{Model, Row, weighted_sums_follow};
+use lift_poly::weights_follow;
 
 /// The weight of an entry of the state's choice, at a corner of that row. It has no case: the parameter_count is
 /// asked for here, with `d` from 1 on, one pair of sides for each declared parameter and at most 4
@@ -131,6 +132,8 @@ pub fn row_max(case: &Case, sides: &[i64], s: u32, a: u32, vec: &[i64]) -> i128
     ensures range { (pos 0 ≤ℤ result) × (result ≤ℤ (pos (2 ^ case.now.w) *ℤ row_whole case.now s a)) }
     ensures bound { BoundsAbove case.now (spans_of sides.now) s a vec.now result }
 {
+    weights_follow();
+    weighted_sums_follow();
     let row = case.model().row(s, a);
     let support = row.support();
     let mut greatest = value_at(case, sides, row, support, 0, vec);
@@ -151,6 +154,7 @@ pub fn row_min(case: &Case, sides: &[i64], s: u32, a: u32, vec: &[i64]) -> i128
     ensures least { IsLeast (row_value case.now (spans_of sides.now) s a vec.now) (corner_count case.now s a) result }
     ensures bound { BoundsBelow case.now (spans_of sides.now) s a vec.now result }
 {
+    weights_follow();
     let row = case.model().row(s, a);
     let support = row.support();
     let mut least = value_at(case, sides, row, support, 0, vec);

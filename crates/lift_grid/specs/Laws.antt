@@ -2,7 +2,7 @@
 use Rattle.std.specs.Prelude.{◌≡◌, Ok, ◌+◌, ◌*◌, ◌^◌, ◌<◌, ℕ, List, [], ◌∷◌, ℤ, pos, ◌+ℤ◌, ◌*ℤ◌, ◌<ℤ◌, unsigned_abs, length, IsBitSet, slice_index_or, All}
 use Rattle.std.specs.Int.{◌∣◌}
 use Rattle.lift_frac.specs.Ratio.{Ratio}
-use Rattle.lift_grid.specs.Rectangle.{Spans, AreSpans, AreSides, IsOnGrid, sides_of, spans_of}
+use Rattle.lift_grid.specs.Rectangle.{Spans, AreSpans, AreSides, IsOnGrid, end_of, sides_of, spans_of}
 use Rattle.lift_grid.specs.Region.{Region, region, Interval, Divides, common_denominator, number_over}
 use Rattle.lift_grid.specs.Splitting.{IsHalvable, HasHalvings}
 use Rattle.lift_grid.specs.Tree.{Tiles, middle, lower_half, upper_half}
@@ -37,6 +37,11 @@ SpansOfSides = (ss : Spans) → spans_of (sides_of ss) ≡ ss
 -- a rectangle's ends in a row are sides
 abbrev pub SidesOfSpans : Type 0
 SidesOfSpans = (ss : Spans) → AreSpans ss → AreSides (sides_of ss)
+
+-- an end of a parameter's span stands in the row at twice the parameter's index, or one behind that
+abbrev pub EndsStandInRow : Type 0
+EndsStandInRow = (sides : List ℤ) (i bit : ℕ) → bit < 2 → 2 * i + 1 < length sides
+    → slice_index_or sides (2 * i + bit) (pos 0) ≡ end_of bit (slice_index_or (spans_of sides) i (pos 0, pos 0))
 
 -- ---- halves
 

@@ -2,6 +2,7 @@
 
 ghost use Rattle.lift_grid.specs.Laws.{
   DenominatorsDivide,
+  EndsStandInRow,
   HalvesHaveOneLess,
   HalvesKeepCount,
   HalvesTile,
@@ -41,10 +42,11 @@ pub fn members_are_below()
     ensures { MembersAreBelow }
 {}
 
-/// A rectangle is the same by its spans as by its ends in a row.
+/// A rectangle is the same by its spans as by its ends in a row, and where each end stands.
 pub fn rows_are_rectangles()
     ensures spans { SpansOfSides }
     ensures sides { SidesOfSpans }
+    ensures ends { EndsStandInRow }
 {}
 
 /// Where a halving is left, each span can be halved, its midpoint is exact, and both halves are

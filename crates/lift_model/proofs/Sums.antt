@@ -1,12 +1,8 @@
 -- Weighted sums over the moves of a choice.
-use Rattle.std.proofs.Common.{◌≡◌, ◌&&◌, ℕ, zero, suc, Bool, true, false, refl, List, [], ◌∷◌, drop, ℤ, pos, ◌≤ℤ◌, arith}
-use Rattle.std.specs.List.{AllByRecursion}
+use Rattle.std.proofs.Common.{ℕ, List, [], ◌∷◌, ℤ, pos, ◌≤ℤ◌, arith}
 use Rattle.lift_poly.proofs.Ring.{linear, mul-le, mul-nonneg}
 use Rattle.lift_model.specs.Process.{Move, weighted_sum}
-
--- no move's weight is below 0
-abbrev pub AreNonNegative : List Move → Type 0
-AreNonNegative moves = AllByRecursion (λ move. pos 0 ≤ℤ move.1) moves
+use Rattle.lift_model.specs.Laws.{AreNonNegative}
 
 pub weighted_sum-least : (number : ℕ → ℤ) (moves : List Move) → ((s : ℕ) → pos 0 ≤ℤ number s) → AreNonNegative moves → pos 0 ≤ℤ weighted_sum number moves
 weighted_sum-least number [] least weights = omega (arith, linear)
@@ -16,14 +12,3 @@ weighted_sum-least number (move ∷ moves) least weights = omega (arith, linear,
 pub weighted_sum-mono : (x y : ℕ → ℤ) (moves : List Move) → ((s : ℕ) → x s ≤ℤ y s) → AreNonNegative moves → weighted_sum x moves ≤ℤ weighted_sum y moves
 weighted_sum-mono x y [] le weights = omega (arith, linear)
 weighted_sum-mono x y (move ∷ moves) le weights = omega (arith, linear, mul-le move.1 (x move.0) (y move.0) weights.0 (le move.0), weighted_sum-mono x y moves le weights.1)
-
-pub AreNonNegative-drop : (moves : List Move) (k : ℕ) → AreNonNegative moves → AreNonNegative (drop k moves)
-AreNonNegative-drop moves zero h = h
-AreNonNegative-drop [] (suc k) h = h
-AreNonNegative-drop (move ∷ moves) (suc k) h = AreNonNegative-drop moves k h.1
-
--- ---- two tests
-
-pub both : (a b : Bool) → (a && b) ≡ true → (a ≡ true) × (b ≡ true)
-both true b e = (refl, e)
-both false b e = cc

@@ -4,3 +4,4 @@ pub mod Reach
 pub mod Pick
 pub mod Model
 pub mod Valid
+pub mod Laws

@@ -1,4 +1,5 @@
 ghost use Rattle.lift_model.specs.Pick.{FitsPick, PicksFit, PicksReach};
+ghost use Rattle.lift_model.specs.Laws.{WeightedSumsAreNotNegative, WeightedSumsRise};
 
 /// Holds the laws of schedulers that don't toss, for who reasons about them: the plans over 1 are
 /// those that pick a choice for each history, and such a plan reaches what its choices reach. It does
@@ -7,4 +8,11 @@ pub fn plans_over_one_pick()
     ensures fits { PicksFit }
     ensures picks { FitsPick }
     ensures reach { PicksReach }
+{}
+
+/// Holds the laws of weighted sums where no weight is below 0, for who reasons about them: they rise with
+/// the numbers, and stay from 0 on. It does nothing.
+pub fn weighted_sums_follow()
+    ensures least { WeightedSumsAreNotNegative }
+    ensures rise { WeightedSumsRise }
 {}

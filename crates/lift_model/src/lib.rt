@@ -9,6 +9,6 @@ mod row;
 
 pub use entry::Entry;
 pub use kind::Kind;
-pub use laws::plans_over_one_pick;
+pub use laws::{plans_over_one_pick, weighted_sums_follow};
 pub use model::Model;
 pub use row::Row;

@@ -4,6 +4,7 @@ use Rattle.lift_grid.specs.Rectangle.{spans_of}
 use Rattle.lift_model.specs.Model.{row_at, support}
 use Rattle.corner_lift.specs.Corner.{parameter_count, corner_sum}
 use Rattle.corner_lift.specs.Case.{number, IsGreatest, row_value, corner_count}
+use Rattle.corner_lift.proofs.Premises.{Premises}
 use Rattle.corner_lift.proofs.Cases.{row_in_case, greatest_one_at, greatest_more, bounds_above, parameters_in_root, admitted_row, corners_done, greatest_range}
 use Rattle.corner_lift.proofs.row.row_max.Goals as goal
 use Rattle.corner_lift.proofs.row.row_max.Goals.{After-loop-corner}
@@ -49,8 +50,9 @@ pub returns-clause-greatest : goal.returns-clause-greatest
 returns-clause-greatest c = all_tried c
 
 pub returns-clause-bound : goal.returns-clause-bound
-returns-clause-bound c = bounds_above c.args.case.now c.args.s c.args.a c.args.sides.now c.args.vec.now c.model.ensures.case c.requires.sides (to_z w128 c.loop-corner.greatest-bits) (all_tried c)
+returns-clause-bound c = bounds_above c.weights_follow.ensures.affine c.args.case.now c.args.s c.args.a c.args.sides.now c.args.vec.now c.model.ensures.case c.requires.sides (to_z w128 c.loop-corner.greatest-bits) (all_tried c)
 
 pub returns-clause-range : goal.returns-clause-range
 returns-clause-range c =
-    greatest_range c.args.case.now c.args.s c.args.a (corner_count c.args.case.now c.args.s c.args.a) c.args.sides.now c.args.vec.now (to_z w128 c.loop-corner.greatest-bits) c.model.ensures.case c.requires.sides c.requires.state c.requires.choice c.requires.numbers (all_tried c)
+    let laws : Premises = record { affine = c.weights_follow.ensures.affine; least = c.weighted_sums_follow.ensures.least; rise = c.weighted_sums_follow.ensures.rise } in
+    greatest_range laws c.args.case.now c.args.s c.args.a (corner_count c.args.case.now c.args.s c.args.a) c.args.sides.now c.args.vec.now (to_z w128 c.loop-corner.greatest-bits) c.model.ensures.case c.requires.sides c.requires.state c.requires.choice c.requires.numbers (all_tried c)

@@ -49,4 +49,4 @@ pub returns-clause-least : goal.returns-clause-least
 returns-clause-least c = all_tried c
 
 pub returns-clause-bound : goal.returns-clause-bound
-returns-clause-bound c = bounds_below c.args.case.now c.args.s c.args.a c.args.sides.now c.args.vec.now c.model.ensures.case c.requires.sides (to_z w128 c.loop-corner.least-bits) (all_tried c)
+returns-clause-bound c = bounds_below c.weights_follow.ensures.affine c.args.case.now c.args.s c.args.a c.args.sides.now c.args.vec.now c.model.ensures.case c.requires.sides (to_z w128 c.loop-corner.least-bits) (all_tried c)

@@ -1,6 +1,5 @@
 use Rattle.std.proofs.Common.{rules, ◌≡◌, ◌≢◌, ℕ, ◌<◌, ◌+◌, ◌*◌, ◌%◌, ◌∙◌, ap, pos, List, ℤ, length, slice_index_or, to_z-of_z, SFits, w64, arith}
 use Rattle.lift_grid.specs.Rectangle.{spans_of}
-use Rattle.lift_grid.proofs.Sides.{end_in_row}
 use Rattle.corner_lift.specs.Ends.{End}
 use Rattle.corner_lift.proofs.Gathering.{AreGathered, span_left, below_16, gathered_out, gathered_in, gathered_all, room_left, two_each, ends_stand, ends_sizes, ends_count}
 use Rattle.corner_lift.proofs.ends.Ends.at.Goals as goal
@@ -42,7 +41,7 @@ loop-left-preserved c =
       | then-left-eq1 w ↦
           let in_row = in_sides sides c.args.support c.args.corner c.loop-left.ends c.loop-left.left bits parameter invariant c.loop-left-test.true in
           let end_fits : SFits w64 (slice_index_or sides (2 * parameter + bits % 2) (pos 0)) = search rules in
-          let end_is = end_in_row sides parameter (bits % 2) (omega arith) in_row in
+          let end_is = c.rows_are_rectangles.ensures.ends sides parameter (bits % 2) (omega arith) in_row in
           rw (w.ends-is, w.bits-is) (rw w.push.ensures (rw (to_z-of_z end_fits) (gathered_in (spans_of sides) c.args.support c.args.corner c.loop-left.ends c.loop-left.left bits parameter invariant c.loop-left-test.true (slice_index_or sides (2 * parameter + bits % 2) (pos 0)) w.if-left-eq1.true end_is)))
       | else-left-eq1 w ↦
           let even : c.loop-left.left % 2 ≡ 0 = omega (arith, w.if-left-eq1.false) in
