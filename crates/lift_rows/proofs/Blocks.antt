@@ -1,24 +1,25 @@
 -- Sums of a row's coefficients, a block of 256 sets at a time.
-use Rattle.std.proofs.Common.{◌≡◌, ◌≢◌, ℕ, zero, suc, ◌+◌, ◌-◌, ◌*◌, ◌/◌, ◌%◌, ◌<◌, ◌≤◌, List, [], ◌∷◌, length, drop, get_or, set, Option, None, Some, is_some, slice_get, true, false, ne_eqb, ℤ, pos, ◌+ℤ◌, unsigned_abs, All, FitsSigned, ⊎_elim, bit_or, refl, sym, ap, ap₂, subst, ◌∙◌, arith, drop-cons}
+use Rattle.std.proofs.Common.{◌≡◌, ◌≢◌, ℕ, zero, suc, ◌+◌, ◌-◌, ◌*◌, ◌/◌, ◌%◌, ◌<◌, ◌≤◌, List, [], ◌∷◌, length, drop, get_or, set, Option, None, Some, is_some, slice_get, true, false, cond, nat_eq, ne_eqb, ℤ, pos, ◌+ℤ◌, unsigned_abs, All, FitsSigned, ⊎_elim, bit_or, refl, sym, ap, ap₂, subst, ◌∙◌, arith, drop-cons}
 use Rattle.std.specs.Prelude.{MatchOption}
 use Rattle.std.proofs.lemmas.Bool.{cases_eq, cases_lt}
-use lib.Bits.{or_self}
+use Rattle.std.proofs.lemmas.Bool.Decides.{nat_tests}
+use lib.Bits.{or_self, or_comm}
 use Rattle.std.proofs.lemmas.Int.{fits_signed_from_abs, ints}
 use Rattle.std.proofs.lemmas.List.{get_or-set_same, get_or-set_other}
-use Rattle.std.proofs.lemmas.List.Elements.{All-head, All-tail}
+use Rattle.std.proofs.lemmas.List.Elements.{All-tail, All-drop}
 use Rattle.std.proofs.lemmas.Nat.{or_shr, le_or_l}
+use Rattle.std.proofs.lemmas.Nat.Bits.{same_from_bits, bit_at_or}
 use Rattle.std.proofs.lemmas.Option.{get_or_from_slice_get, slice_get_within}
 use mir.Syntax.{w128}
-use Rattle.lift_poly.specs.Polynomial.{Term}
+use Rattle.lift_poly.specs.Polynomial.{Term, IsPolynomial}
 use Rattle.lift_poly.specs.Arithmetic as polynomial
 use Rattle.lift_poly.specs.Arithmetic.{coefficient}
 use Rattle.lift_poly.specs.MultiAffine.{IsMultiAffine}
-use Rattle.lift_poly.proofs.Canonical.{Canonical, canonical_from_polynomial, coefficient-here, coefficient-other, coefficient_below}
+use Rattle.lift_poly.specs.Laws.{CoefficientsAreTerms}
 use Rattle.lift_poly.proofs.Ring.{linear}
 use Rattle.lift_model.specs.declared.entry.Entry.{Entry}
 use Rattle.lift_model.specs.Model.{support}
 use Rattle.corner_lift.specs.Case.{row_coefficient, due, SumsToOne}
-use Rattle.corner_lift.proofs.RowBound.{PartOf, PartOf-first, PartOf-second, PartOf-trans}
 use Rattle.lift_rows.specs.Fault.{IsSumFault}
 use Rattle.lift_model.specs.Valid.{coefficient_limit}
 use Rattle.lift_rows.specs.Sums.{IsFirstWrong, sum_limit}
@@ -29,20 +30,35 @@ use Rattle.lift_rows.specs.Sums.{IsFirstWrong, sum_limit}
 abbrev pub IsSmall : Term → Type 0
 IsSmall term = unsigned_abs term.1 < coefficient_limit
 
--- at most one term has a given set, so the terms that are left sum to a coefficient or to 0 there
-left_small : (at low k : ℕ) (ts : List Term) → Canonical low ts → All IsSmall ts → unsigned_abs (coefficient at (drop k ts)) < coefficient_limit
-left_small at low zero [] h small = omega arith
-left_small at low (suc k) [] h small = omega arith
-left_small at low zero (t ∷ ts) h small =
-    let size = All-head IsSmall t ts small in
-    ⊎_elim
-    (λ (e : t.0 ≡ at). omega (arith, ints, size, coefficient-here at t ts e, coefficient_below at (suc t.0) ts h.2 (omega arith)))
-    (λ (e : t.0 ≡ at → ⊥). rw (coefficient-other at t ts e) (left_small at (suc t.0) zero ts h.2 (All-tail IsSmall t ts small)))
-    (cases_eq t.0 at)
-left_small at low (suc k) (t ∷ ts) h small = left_small at (suc t.0) k ts h.2 (All-tail IsSmall t ts small)
+-- a polynomial without its first terms is one too
+polynomial_rest : (t : Term) (ts : List Term) → IsPolynomial (t ∷ ts) → IsPolynomial ts
+polynomial_rest t ts h = record {
+  ascending = λ i lt. let next : suc i + 1 ≡ suc (i + 1) = omega arith in rw next at (h.ascending (suc i) (omega (arith, lt)));
+  coefficients = All-tail (λ (u : Term). u.1 ≢ pos 0) t ts h.coefficients;
+}
 
-pub coefficient_small : (ts : List Term) → IsMultiAffine ts → All IsSmall ts → (at : ℕ) → unsigned_abs (coefficient at ts) < coefficient_limit
-coefficient_small ts fits small at = left_small at 0 zero ts (canonical_from_polynomial ts fits.polynomial) small
+polynomial_left : (k : ℕ) (ts : List Term) → IsPolynomial ts → IsPolynomial (drop k ts)
+polynomial_left zero ts h = h
+polynomial_left (suc k) [] h = h
+polynomial_left (suc k) (t ∷ ts) h = polynomial_left k ts (polynomial_rest t ts h)
+
+pub coefficient_small : CoefficientsAreTerms → (ts : List Term) → IsPolynomial ts → All IsSmall ts → (at : ℕ) → unsigned_abs (coefficient at ts) < coefficient_limit
+coefficient_small found ts h small at =
+    ⊎_elim
+    (λ none. subst (λ z. unsigned_abs z < coefficient_limit) (sym none) (omega arith))
+    (λ term. subst IsSmall term.2 (small term.0 (at, coefficient at ts) term.1))
+    (found ts at h)
+
+-- the terms that are left make a polynomial too
+left_small : CoefficientsAreTerms → (at k : ℕ) (ts : List Term) → IsPolynomial ts → All IsSmall ts → unsigned_abs (coefficient at (drop k ts)) < coefficient_limit
+left_small found at k ts h small = coefficient_small found (drop k ts) (polynomial_left k ts h) (All-drop IsSmall k ts small) at
+
+-- the coefficient at a set, by whether the first term has it
+coefficient-here : (set : ℕ) (t : Term) (ts : List Term) → t.0 ≡ set → coefficient set (t ∷ ts) ≡ t.1 +ℤ coefficient set ts
+coefficient-here set t ts e = grind (arith, nat_tests)
+
+coefficient-other : (set : ℕ) (t : Term) (ts : List Term) → t.0 ≢ set → coefficient set (t ∷ ts) ≡ coefficient set ts
+coefficient-other set t ts ne = let other : cond (nat_eq t.0 set) t.1 (pos 0) ≡ pos 0 = ap (λ b. cond b t.1 (pos 0)) (ne_eqb t.0 set ne) in omega (arith, linear, other)
 
 -- a loop's step: one term more
 module _ (ts : List Term) (k : ℕ) (t : Term) (is : slice_get ts k ≡ Some t) where
@@ -63,11 +79,11 @@ module _ (ts : List Term) (k : ℕ) (t : Term) (is : slice_get ts k ≡ Some t) 
     set_is = omega arith
 
     -- with the term, the sum fits
-    pub term_fits : (sum before : ℤ) → IsMultiAffine ts → All IsSmall ts → unsigned_abs before < sum_limit → sum +ℤ coefficient (block * 256 + t.0 % 256) (drop k ts) ≡ before +ℤ coefficient (block * 256 + t.0 % 256) ts → FitsSigned w128 (sum +ℤ t.1)
-    term_fits sum before fits small room h =
+    pub term_fits : CoefficientsAreTerms → (sum before : ℤ) → IsMultiAffine ts → All IsSmall ts → unsigned_abs before < sum_limit → sum +ℤ coefficient (block * 256 + t.0 % 256) (drop k ts) ≡ before +ℤ coefficient (block * 256 + t.0 % 256) ts → FitsSigned w128 (sum +ℤ t.1)
+    term_fits found sum before fits small room h =
         let at = block * 256 + t.0 % 256 in
         fits_signed_from_abs w128 (sum +ℤ t.1)
-        (omega (arith, ints, room, added_here at sum (before +ℤ coefficient at ts) set_is h, coefficient_small ts fits small at, left_small at 0 (k + 1) ts (canonical_from_polynomial ts fits.polynomial) small))
+        (omega (arith, ints, room, added_here at sum (before +ℤ coefficient at ts) set_is h, coefficient_small found ts fits.polynomial small at, left_small found at (k + 1) ts fits.polynomial small))
 
     -- the term is added to the sum at its set, and to no other
     pub added_in : (sums : List ℤ) (j : ℕ) (whole : ℤ) → t.0 % 256 < length sums → j < 256 → get_or sums j (pos 0) +ℤ coefficient (block * 256 + j) (drop k ts) ≡ whole
@@ -79,6 +95,27 @@ module _ (ts : List Term) (k : ℕ) (t : Term) (is : slice_get ts k ≡ Some t) 
         (cases_eq j (t.0 % 256))
 
 -- ---- the sets of a row
+
+or_assoc : (a b c : ℕ) → bit_or (bit_or a b) c ≡ bit_or a (bit_or b c)
+or_assoc a b c =
+    same_from_bits (bit_or (bit_or a b) c) (bit_or a (bit_or b c))
+    (λ i. omega (arith, bit_at_or (bit_or a b) c i, bit_at_or a b i, bit_at_or a (bit_or b c) i, bit_at_or b c i))
+
+-- the first set is part of the second
+unfoldable PartOf : ℕ → ℕ → Type 0
+PartOf a b = bit_or a b ≡ b
+
+PartOf-first : (a b : ℕ) → PartOf a (bit_or a b)
+unfolding PartOf
+PartOf-first a b = sym (or_assoc a a b) ∙ ap (λ x. bit_or x b) (or_self a)
+
+PartOf-second : (a b : ℕ) → PartOf b (bit_or a b)
+unfolding PartOf
+PartOf-second a b = or_comm b (bit_or a b) ∙ or_assoc a b b ∙ ap (bit_or a) (or_self b)
+
+PartOf-trans : (a b c : ℕ) → PartOf a b → PartOf b c → PartOf a c
+unfolding PartOf
+PartOf-trans a b c h k = ap (bit_or a) (sym k) ∙ sym (or_assoc a b c) ∙ ap (λ x. bit_or x c) h ∙ k
 
 -- no term has a set that isn't part of all
 outside_terms : (at all : ℕ) (ts : List Term) → (PartOf at all → ⊥) → PartOf (polynomial.support ts) all → coefficient at ts ≡ pos 0

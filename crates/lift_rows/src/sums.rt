@@ -8,7 +8,7 @@ ghost use Rattle.lift_rows.specs.Fault.{IsSumFault};
 ghost use Rattle.lift_rows.specs.Sums.{AreSmall, IsFirstWrong, block_size, sum_limit};
 
 use lift_model::{Entry, Row};
-use lift_poly::MultiAffine;
+use lift_poly::{MultiAffine, coefficients_determine};
 
 /// How many sets are summed at a time, a block of them.
 const BLOCK: usize = 256;
@@ -21,6 +21,7 @@ fn add_terms(sums: &mut [i128; BLOCK], poly: &MultiAffine, block: u16)
         ≡ slice_index_or sums.old i (pos 0) +ℤ coefficient (block * block_size + i) poly.now }
     ensures sizes { (set : ℕ) → unsigned_abs (coefficient set poly.now) < coefficient_limit }
 {
+    coefficients_determine();
     for i in 0..poly.len() {
         let (set, coefficient) = poly.term(i);
         if set / 256 == block {
