@@ -1,12 +1,12 @@
 -- The corner bound: a polynomial that is at most 0 at every corner of a rectangle is at most 0 at every valuation inside it. One parameter is fixed at a time.
-use Rattle.std.proofs.Common.{◌≡◌, ℕ, zero, suc, ◌+◌, ◌*◌, ◌/◌, ◌%◌, ◌^◌, ◌<◌, ◌≤◌, List, [], ◌∷◌, ℤ, pos, ◌+ℤ◌, ◌-ℤ◌, ◌*ℤ◌, ◌≤ℤ◌, ◌<ℤ◌, refl, sym, ap, ap₂, ◌∙◌, subst, arith, ◌⊎◌, inl, inr, ⊎_elim, bit_or, zero-add, one-add}
+use Rattle.std.proofs.Common.{◌≡◌, ◌==◌, cond, ℕ, zero, suc, ◌+◌, ◌*◌, ◌/◌, ◌%◌, ◌^◌, ◌<◌, ◌≤◌, List, [], ◌∷◌, ℤ, pos, ◌+ℤ◌, ◌-ℤ◌, ◌*ℤ◌, ◌≤ℤ◌, ◌<ℤ◌, refl, sym, ap, ap₂, ◌∙◌, subst, arith, ◌⊎◌, inl, inr, ⊎_elim, bit_or, zero-add, one-add}
 use Rattle.std.proofs.lemmas.Bool.{cases_eq}
 use Rattle.std.proofs.lemmas.Nat.{or_mod, or_shr, le_or_l}
 use Rattle.lift_poly.specs.Polynomial.{Term, Valuation, factor, monomial, weight}
 use Rattle.lift_poly.proofs.Ring.{linear, mul-assoc, mul-comm, mul-zero, zero-mul, mul-le, mul-le_cancel, mul-lt, as_diff, diffs, diff-same}
 use Rattle.lift_poly.specs.Laws.{IsAffineInEach}
 use Rattle.lift_grid.specs.Rectangle.{Spans, Inside, end_of, AreSpans}
-use Rattle.corner_lift.specs.Corner.{parameter_count, corner, by_bit}
+use Rattle.corner_lift.specs.Corner.{parameter_count, corner}
 use Rattle.corner_lift.specs.Case.{Within}
 
 -- a number is even or odd
@@ -78,23 +78,23 @@ no_numerator v set (t ∷ ts) h e =
     rw (even, mul-zero, zero-mul) (omega (arith, linear, no_numerator v set ts h.1 e))
 
 pub corner-out : (D : ℤ) (s : ℤ × ℤ) (ss : Spans) (set c : ℕ) → set % 2 ≡ 0 → corner D (s ∷ ss) set c ≡ (pos 0, pos 1) ∷ corner D ss (set / 2) c
-corner-out D s ss set c e = ap (λ b. by_bit b ((pos 0, pos 1) ∷ corner D ss (set / 2) c) ((end_of (c % 2) s, D) ∷ corner D ss (set / 2) (c / 2))) e
+corner-out D s ss set c e = ap (λ b. cond (b == 0) ((pos 0, pos 1) ∷ corner D ss (set / 2) c) ((end_of (c % 2) s, D) ∷ corner D ss (set / 2) (c / 2))) e
 
 pub corner-in : (D : ℤ) (s : ℤ × ℤ) (ss : Spans) (set c : ℕ) → set % 2 ≡ 1 → corner D (s ∷ ss) set c ≡ (end_of (c % 2) s, D) ∷ corner D ss (set / 2) (c / 2)
-corner-in D s ss set c e = ap (λ b. by_bit b ((pos 0, pos 1) ∷ corner D ss (set / 2) c) ((end_of (c % 2) s, D) ∷ corner D ss (set / 2) (c / 2))) e
+corner-in D s ss set c e = ap (λ b. cond (b == 0) ((pos 0, pos 1) ∷ corner D ss (set / 2) c) ((end_of (c % 2) s, D) ∷ corner D ss (set / 2) (c / 2))) e
 
 corner-low : (D : ℤ) (s : ℤ × ℤ) (ss : Spans) (set c : ℕ) → set % 2 ≡ 1 → corner D (s ∷ ss) set (2 * c) ≡ (s.0, D) ∷ corner D ss (set / 2) c
 corner-low D s ss set c e =
     let half : 2 * c / 2 ≡ c = omega arith in
     let bit : 2 * c % 2 ≡ 0 = omega arith in
-    ap (λ b. by_bit b ((pos 0, pos 1) ∷ corner D ss (set / 2) (2 * c)) ((end_of (2 * c % 2) s, D) ∷ corner D ss (set / 2) (2 * c / 2))) e
+    ap (λ b. cond (b == 0) ((pos 0, pos 1) ∷ corner D ss (set / 2) (2 * c)) ((end_of (2 * c % 2) s, D) ∷ corner D ss (set / 2) (2 * c / 2))) e
     ∙ ap₂ (λ (b k : ℕ). (end_of b s, D) ∷ corner D ss (set / 2) k) bit half
 
 corner-high : (D : ℤ) (s : ℤ × ℤ) (ss : Spans) (set c : ℕ) → set % 2 ≡ 1 → corner D (s ∷ ss) set (2 * c + 1) ≡ (s.1, D) ∷ corner D ss (set / 2) c
 corner-high D s ss set c e =
     let half : (2 * c + 1) / 2 ≡ c = omega arith in
     let bit : (2 * c + 1) % 2 ≡ 1 = omega arith in
-    ap (λ b. by_bit b ((pos 0, pos 1) ∷ corner D ss (set / 2) (2 * c + 1)) ((end_of ((2 * c + 1) % 2) s, D) ∷ corner D ss (set / 2) ((2 * c + 1) / 2))) e
+    ap (λ b. cond (b == 0) ((pos 0, pos 1) ∷ corner D ss (set / 2) (2 * c + 1)) ((end_of ((2 * c + 1) % 2) s, D) ∷ corner D ss (set / 2) ((2 * c + 1) / 2))) e
     ∙ ap₂ (λ (b k : ℕ). (end_of b s, D) ∷ corner D ss (set / 2) k) bit half
 
 -- the polynomial is at most 0 at every corner

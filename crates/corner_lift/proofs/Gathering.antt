@@ -1,5 +1,5 @@
 -- The ends that a corner chooses, parameter by parameter, and the products that they make.
-use Rattle.std.proofs.Common.{◌≡◌, ℕ, zero, suc, ◌+◌, ◌-◌, ◌*◌, ◌/◌, ◌%◌, ◌^◌, ◌<◌, ◌≤◌, max, List, [], ◌∷◌, ◌++◌, length, drop, get_or, ℤ, pos, ◌*ℤ◌, ◌<ℤ◌, unsigned_abs, FitsSigned, refl, sym, ap, subst, ◌∙◌, arith, ◌⊎◌, ⊎_elim, bit_or, add-one, pow-suc, drop-cons, append_assoc, length-append, length-drop, mul-le-mul_left, mul-le-mul_right, mul-le-mul, mul_assoc, mul_comm, le_trans}
+use Rattle.std.proofs.Common.{◌≡◌, ◌==◌, cond, ℕ, zero, suc, ◌+◌, ◌-◌, ◌*◌, ◌/◌, ◌%◌, ◌^◌, ◌<◌, ◌≤◌, max, List, [], ◌∷◌, ◌++◌, length, drop, get_or, ℤ, pos, ◌*ℤ◌, ◌<ℤ◌, unsigned_abs, FitsSigned, refl, sym, ap, subst, ◌∙◌, arith, ◌⊎◌, ⊎_elim, bit_or, add-one, pow-suc, drop-cons, append_assoc, length-append, length-drop, mul-le-mul_left, mul-le-mul_right, mul-le-mul, mul_assoc, mul_comm, le_trans}
 use Rattle.std.proofs.Math.Nat.{div-div-eq-div-mul, one-le-pow, pow-zero}
 use Rattle.std.proofs.Math.Pow.{pow_mono}
 use Rattle.std.proofs.lemmas.Int.{fits_signed_from_abs, unsigned_abs-mul, ints}
@@ -8,7 +8,7 @@ use mir.Syntax.{w128}
 use Rattle.lift_poly.specs.Polynomial.{factor, monomial}
 use Rattle.lift_poly.proofs.Ring.{mul-assoc, mul-comm, one-mul}
 use Rattle.lift_grid.specs.Rectangle.{Spans, spans_of, end_of}
-use Rattle.corner_lift.specs.Corner.{corner, parameter_count, by_bit}
+use Rattle.corner_lift.specs.Corner.{corner, parameter_count}
 use Rattle.corner_lift.specs.Case.{greatest_size}
 use Rattle.corner_lift.specs.Ends.{End, product_at, StandFor, greatest_end}
 use Rattle.corner_lift.proofs.CornerBound.{parity, corner-in, corner-out, halved, even_part}
@@ -16,15 +16,15 @@ use Rattle.corner_lift.proofs.CornerBound.{parity, corner-in, corner-out, halved
 -- the ends that corner c of the set chooses, where the first span is that of parameter k
 unfoldable pub ends_from : ℕ → Spans → ℕ → ℕ → List End
 ends_from k [] set c = []
-ends_from k (s ∷ ss) set c = by_bit (set % 2) (ends_from (k + 1) ss (set / 2) c) ((k, end_of (c % 2) s) ∷ ends_from (k + 1) ss (set / 2) (c / 2))
+ends_from k (s ∷ ss) set c = cond (set % 2 == 0) (ends_from (k + 1) ss (set / 2) c) ((k, end_of (c % 2) s) ∷ ends_from (k + 1) ss (set / 2) (c / 2))
 
 ends-out : (k : ℕ) (s : ℤ × ℤ) (ss : Spans) (set c : ℕ) → set % 2 ≡ 0 → ends_from k (s ∷ ss) set c ≡ ends_from (k + 1) ss (set / 2) c
 unfolding ends_from
-ends-out k s ss set c e = ap (λ b. by_bit b (ends_from (k + 1) ss (set / 2) c) ((k, end_of (c % 2) s) ∷ ends_from (k + 1) ss (set / 2) (c / 2))) e
+ends-out k s ss set c e = ap (λ b. cond (b == 0) (ends_from (k + 1) ss (set / 2) c) ((k, end_of (c % 2) s) ∷ ends_from (k + 1) ss (set / 2) (c / 2))) e
 
 ends-in : (k : ℕ) (s : ℤ × ℤ) (ss : Spans) (set c : ℕ) → set % 2 ≡ 1 → ends_from k (s ∷ ss) set c ≡ (k, end_of (c % 2) s) ∷ ends_from (k + 1) ss (set / 2) (c / 2)
 unfolding ends_from
-ends-in k s ss set c e = ap (λ b. by_bit b (ends_from (k + 1) ss (set / 2) c) ((k, end_of (c % 2) s) ∷ ends_from (k + 1) ss (set / 2) (c / 2))) e
+ends-in k s ss set c e = ap (λ b. cond (b == 0) (ends_from (k + 1) ss (set / 2) c) ((k, end_of (c % 2) s) ∷ ends_from (k + 1) ss (set / 2) (c / 2))) e
 
 ends-none : (k : ℕ) (ss : Spans) (set c : ℕ) → set ≡ 0 → ends_from k ss set c ≡ []
 unfolding ends_from

@@ -1,5 +1,5 @@
 -- Parameter lifting (Quatmann, Dehnert, Jansen, Junges and Katoen, ATVA 2016): each row of a model has parameters of its own, and over a rectangle of values its extremes are at the corners. Here is what a corner of a row is, and what the row weighs there.
-use Rattle.std.specs.Prelude.{ℕ, zero, suc, ◌+◌, ◌/◌, ◌%◌, ◌^◌, ◌<◌, List, [], ◌∷◌, ℤ, pos, ◌*ℤ◌, slice_index_or}
+use Rattle.std.specs.Prelude.{ℕ, ◌+◌, ◌/◌, ◌%◌, ◌^◌, ◌<◌, ◌==◌, List, [], ◌∷◌, ℤ, pos, ◌*ℤ◌, slice_index_or, if◌then◌else◌}
 use Rattle.lift_poly.specs.Polynomial.{Valuation, weight}
 use Rattle.lift_grid.specs.Rectangle.{Spans, end_of}
 use Rattle.lift_model.specs.Process.{power, weighted_sum}
@@ -11,16 +11,11 @@ abbrev pub parameter_count : Spans → ℕ → ℕ
 parameter_count [] set = 0
 parameter_count (span ∷ spans) set = set % 2 + parameter_count spans (set / 2)
 
--- the one where the bit is 0, else the other
-abbrev pub by_bit : {A : Type 0} → ℕ → A → A → A
-by_bit zero a b = a
-by_bit (suc bit) a b = b
-
 -- The corner of that number over the parameters of the set: each bit of the number, from the lowest, chooses the low or the high end of the next parameter of the set. A parameter outside the set has no part in the corner, and stands as 0 over 1.
 abbrev pub corner : ℤ → Spans → ℕ → ℕ → Valuation
 corner d [] set c = []
 corner d (span ∷ spans) set c =
-    by_bit (set % 2) ((pos 0, pos 1) ∷ corner d spans (set / 2) c) ((end_of (c % 2) span, d) ∷ corner d spans (set / 2) (c / 2))
+    if set % 2 == 0 then (pos 0, pos 1) ∷ corner d spans (set / 2) c else (end_of (c % 2) span, d) ∷ corner d spans (set / 2) (c / 2)
 
 -- P holds at each corner of the row, of which there are 2 to the number of its parameters
 abbrev pub AtCorners : Spans → List Entry → (ℕ → Type 0) → Type 0
