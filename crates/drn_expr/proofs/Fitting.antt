@@ -11,8 +11,8 @@ use Rattle.lift_frac.specs.declared.error.FracError.{FracError}
 use Rattle.drn_lexer.specs.declared.symbol.SymbolForm.{SymbolForm}
 use Rattle.drn_lexer.specs.declared.symbol.SymbolForm.TheVariants as form
 use Rattle.drn_expr.specs.Trees.{Expr, Literal, Parameter, Sum, Difference, Product, Quotient, Negative, ◌>>=◌}
-use Rattle.drn_expr.specs.Grammar.{most_nesting, Symbol, Parsed, value, term, factor, more_terms, more_factors, joins_terms, joins_factors, closed, ended, tree, literal_tree, name_tree}
-use Rattle.drn_expr.proofs.Forms.{unary, paren, factor_by, factor-is, more_by, more_terms-is, more_factors-is}
+use Rattle.drn_expr.specs.Grammar.{most_nesting, Symbol, Parsed, value, term, factor, more, joins_terms, joins_factors, closed, ended, tree, literal_tree, name_tree}
+use Rattle.drn_expr.proofs.Forms.{unary, paren, factor_by, factor-is, more_by, more-is}
 
 -- the parameters of a tree are below k, and its literals are fractions
 abbrev pub Fits : ℕ → Expr → Type 0
@@ -93,32 +93,31 @@ factors_form k e x s goes form.Times h more = more Product (λ a b p q. (p, q))
 factors_form k e x s goes form.Over h more = more Quotient (λ a b p q. (p, q))
 factors_form k e x s goes _ h more = h
 
+more_good : (k : ℕ) (joins : SymbolForm → Option (Expr → Expr → Expr)) (operand : List Symbol → Parsed)
+    → ((e : Expr) (x : Symbol) (s : List Symbol) (goes : (Expr → Expr → Expr) → Parsed) (f : SymbolForm) → Fits k e → ((join : Expr → Expr → Expr) → Keeps k join → Good k (goes join)) → Good k (more_by e x s goes (joins f)))
+    → ((s : List Symbol) → Good k (operand s)) → (n : ℕ) (e : Expr) (s : List Symbol) → Fits k e → Good k (more joins operand n e s)
+unfolding Good Keeps
+more_good k joins operand form each zero e s h = tt
+more_good k joins operand form each (suc n) e [] h = h
+more_good k joins operand form each (suc n) e (x ∷ s) h =
+    subst (Good k) (sym (more-is joins operand n e x s))
+    (form e x s _ x.form h
+    (λ join keeps. bind_good k (operand s) (λ b. more joins operand n (join e b.0) b.1) (each s) (λ r f. more_good k joins operand form each n (join e r.0) r.1 (keeps e r.0 h f))))
+
 mutual
-  unfolding value Good Keeps
+  unfolding value Good
 
   value_good : ReadingIsFraction → (n : ℕ) (names : List (List ℕ)) (depth : ℕ) (s : List Symbol) → Good (length names) (value n names depth s)
   value_good law zero names depth s = tt
-  value_good law (suc n) names depth s = bind_good (length names) (term n names depth s) (λ a. more_terms n names depth a.0 a.1) (term_good law n names depth s) (λ r f. more_terms_good law n names depth r.0 r.1 f)
-
-  more_terms_good : ReadingIsFraction → (n : ℕ) (names : List (List ℕ)) (depth : ℕ) (e : Expr) (s : List Symbol) → Fits (length names) e → Good (length names) (more_terms n names depth e s)
-  more_terms_good law zero names depth e s h = tt
-  more_terms_good law (suc n) names depth e [] h = h
-  more_terms_good law (suc n) names depth e (x ∷ s) h =
-      subst (Good (length names)) (sym (more_terms-is n names depth e x s))
-      (terms_form (length names) e x s _ x.form h
-      (λ join keeps. bind_good (length names) (term n names depth s) (λ b. more_terms n names depth (join e b.0) b.1) (term_good law n names depth s) (λ r f. more_terms_good law n names depth (join e r.0) r.1 (keeps e r.0 h f))))
+  value_good law (suc n) names depth s =
+      bind_good (length names) (term n names depth s) (λ a. more joins_terms (term n names depth) n a.0 a.1) (term_good law n names depth s)
+      (λ r f. more_good (length names) joins_terms (term n names depth) (terms_form (length names)) (λ t. term_good law n names depth t) n r.0 r.1 f)
 
   term_good : ReadingIsFraction → (n : ℕ) (names : List (List ℕ)) (depth : ℕ) (s : List Symbol) → Good (length names) (term n names depth s)
   term_good law zero names depth s = tt
-  term_good law (suc n) names depth s = bind_good (length names) (factor n names depth s) (λ a. more_factors n names depth a.0 a.1) (factor_good law n names depth s) (λ r f. more_factors_good law n names depth r.0 r.1 f)
-
-  more_factors_good : ReadingIsFraction → (n : ℕ) (names : List (List ℕ)) (depth : ℕ) (e : Expr) (s : List Symbol) → Fits (length names) e → Good (length names) (more_factors n names depth e s)
-  more_factors_good law zero names depth e s h = tt
-  more_factors_good law (suc n) names depth e [] h = h
-  more_factors_good law (suc n) names depth e (x ∷ s) h =
-      subst (Good (length names)) (sym (more_factors-is n names depth e x s))
-      (factors_form (length names) e x s _ x.form h
-      (λ join keeps. bind_good (length names) (factor n names depth s) (λ b. more_factors n names depth (join e b.0) b.1) (factor_good law n names depth s) (λ r f. more_factors_good law n names depth (join e r.0) r.1 (keeps e r.0 h f))))
+  term_good law (suc n) names depth s =
+      bind_good (length names) (factor n names depth s) (λ a. more joins_factors (factor n names depth) n a.0 a.1) (factor_good law n names depth s)
+      (λ r f. more_good (length names) joins_factors (factor n names depth) (factors_form (length names)) (λ t. factor_good law n names depth t) n r.0 r.1 f)
 
   factor_good : ReadingIsFraction → (n : ℕ) (names : List (List ℕ)) (depth : ℕ) (s : List Symbol) → Good (length names) (factor n names depth s)
   factor_good law zero names depth s = tt

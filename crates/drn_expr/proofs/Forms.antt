@@ -6,7 +6,7 @@ use Rattle.lift_frac.specs.Literal.{reading}
 use Rattle.drn_lexer.specs.declared.symbol.SymbolForm.{SymbolForm}
 use Rattle.drn_lexer.specs.declared.symbol.SymbolForm.TheVariants as form
 use Rattle.drn_expr.specs.Trees.{Expr, Negative, ◌>>=◌}
-use Rattle.drn_expr.specs.Grammar.{most_nesting, Symbol, Parsed, value, term, factor, more_terms, more_factors, joins_terms, joins_factors, closed, literal_tree, name_tree}
+use Rattle.drn_expr.specs.Grammar.{most_nesting, Symbol, Parsed, value, factor, more, closed, literal_tree, name_tree}
 use Rattle.drn_expr.specs.declared.error.ExprError.TheVariants.{Syntax, Deep}
 
 -- what stands behind a unary minus and in a parenthesis, by whether the place is at the limit
@@ -34,12 +34,7 @@ unfoldable pub more_by : Expr → Symbol → List Symbol → ((Expr → Expr →
 more_by e x s goes None = Ok (e, x ∷ s)
 more_by e x s goes (Some join) = goes join
 
-pub more_terms-is : (n : ℕ) (names : List (List ℕ)) (depth : ℕ) (e : Expr) (x : Symbol) (s : List Symbol)
-    → more_terms (suc n) names depth e (x ∷ s) ≡ more_by e x s (λ join. term n names depth s >>= (λ b. more_terms n names depth (join e b.0) b.1)) (joins_terms x.form)
-unfolding value more_by
-more_terms-is n names depth e x s = refl
-
-pub more_factors-is : (n : ℕ) (names : List (List ℕ)) (depth : ℕ) (e : Expr) (x : Symbol) (s : List Symbol)
-    → more_factors (suc n) names depth e (x ∷ s) ≡ more_by e x s (λ join. factor n names depth s >>= (λ b. more_factors n names depth (join e b.0) b.1)) (joins_factors x.form)
-unfolding value more_by
-more_factors-is n names depth e x s = refl
+pub more-is : (joins : SymbolForm → Option (Expr → Expr → Expr)) (operand : List Symbol → Parsed) (n : ℕ) (e : Expr) (x : Symbol) (s : List Symbol)
+    → more joins operand (suc n) e (x ∷ s) ≡ more_by e x s (λ join. operand s >>= (λ b. more joins operand n (join e b.0) b.1)) (joins x.form)
+unfolding more_by
+more-is joins operand n e x s = refl

@@ -9,9 +9,9 @@ use Rattle.lift_frac.specs.declared.error.FracError.{FracError}
 use Rattle.drn_lexer.specs.declared.symbol.SymbolForm.{SymbolForm}
 use Rattle.drn_lexer.specs.declared.symbol.SymbolForm.TheVariants as form
 use Rattle.drn_expr.specs.Trees.{Expr, Sum, Difference, Product, Quotient, Negative, ◌>>=◌}
-use Rattle.drn_expr.specs.Grammar.{most_nesting, Symbol, Parsed, value, term, factor, more_terms, more_factors, joins_terms, joins_factors, closed, ended, tree, literal_tree, name_tree}
+use Rattle.drn_expr.specs.Grammar.{most_nesting, Symbol, Parsed, value, term, factor, more, joins_terms, joins_factors, closed, ended, tree, literal_tree, name_tree}
 use Rattle.drn_expr.specs.Rules.{Kind, Value, Term, Factor, symbol, Writes, one_term, add, subtract, one_factor, multiply, divide, negate, enclose, literal, name}
-use Rattle.drn_expr.proofs.Forms.{unary, paren, factor_by, factor-is, more_by, more_terms-is, more_factors-is}
+use Rattle.drn_expr.proofs.Forms.{unary, paren, factor_by, factor-is, more_by, more-is}
 
 -- a part at the front of symbols that writes a tree, and what stands behind it
 record Front (names : List (List ℕ)) (kind : Kind) (s rest : List Symbol) (e : Expr) : Type 0 where
@@ -100,38 +100,34 @@ factors_form names whole before s e _ bytes goes w is more = record { front = be
 longer : (whole before s front rest : List Symbol) (x : Symbol) → whole ≡ before ++ x ∷ s → s ≡ front ++ rest → whole ≡ (before ++ x ∷ front) ++ rest
 longer whole before s front rest x e f = e ∙ ap (λ t. before ++ x ∷ t) f ∙ sym (append_assoc before (x ∷ front) rest)
 
+more_front : (names : List (List ℕ)) (kind part : Kind) (joins : SymbolForm → Option (Expr → Expr → Expr)) (operand : List Symbol → Parsed)
+    → ((whole before s : List Symbol) (e : Expr) (f : SymbolForm) (bytes : List ℕ) (goes : (Expr → Expr → Expr) → Parsed) → Writes names kind before e → whole ≡ before ++ symbol f bytes ∷ s
+        → ((join : Expr → Expr → Expr) → ((r : List Symbol) (b : Expr) → Writes names part r b → Writes names kind (before ++ symbol f bytes ∷ r) (join e b)) → Fronts names kind whole (goes join))
+        → Fronts names kind whole (more_by e (symbol f bytes) s goes (joins f)))
+    → ((s : List Symbol) → Fronts names part s (operand s)) → (n : ℕ) (e : Expr) (s whole before : List Symbol) → Writes names kind before e → whole ≡ before ++ s → Fronts names kind whole (more joins operand n e s)
+unfolding Fronts
+more_front names kind part joins operand form each zero e s whole before w is = tt
+more_front names kind part joins operand form each (suc n) e [] whole before w is = record { front = before; is = is; writes = w }
+more_front names kind part joins operand form each (suc n) e (x ∷ s) whole before w is =
+    subst (Fronts names kind whole) (sym (more-is joins operand n e x s))
+    (form whole before s e x.form x.bytes _ w is
+    (λ join joint. bind_front names part kind s whole (operand s) (λ b. more joins operand n (join e b.0) b.1) (each s)
+    (λ r f. more_front names kind part joins operand form each n (join e r.0) r.1 whole (before ++ x ∷ f.front) (joint f.front r.0 f.writes) (longer whole before s f.front r.1 x is f.is))))
+
 mutual
   unfolding value Fronts
 
   value_front : (n : ℕ) (names : List (List ℕ)) (depth : ℕ) (s : List Symbol) → Fronts names Value s (value n names depth s)
   value_front zero names depth s = tt
   value_front (suc n) names depth s =
-      bind_front names Term Value s s (term n names depth s) (λ a. more_terms n names depth a.0 a.1) (term_front n names depth s)
-      (λ r f. more_terms_front n names depth r.0 r.1 s f.front (one_term f.front r.0 f.writes) f.is)
-
-  more_terms_front : (n : ℕ) (names : List (List ℕ)) (depth : ℕ) (e : Expr) (s whole before : List Symbol) → Writes names Value before e → whole ≡ before ++ s → Fronts names Value whole (more_terms n names depth e s)
-  more_terms_front zero names depth e s whole before w is = tt
-  more_terms_front (suc n) names depth e [] whole before w is = record { front = before; is = is; writes = w }
-  more_terms_front (suc n) names depth e (x ∷ s) whole before w is =
-      subst (Fronts names Value whole) (sym (more_terms-is n names depth e x s))
-      (terms_form names whole before s e x.form x.bytes _ w is
-      (λ join joint. bind_front names Term Value s whole (term n names depth s) (λ b. more_terms n names depth (join e b.0) b.1) (term_front n names depth s)
-      (λ r f. more_terms_front n names depth (join e r.0) r.1 whole (before ++ x ∷ f.front) (joint f.front r.0 f.writes) (longer whole before s f.front r.1 x is f.is))))
+      bind_front names Term Value s s (term n names depth s) (λ a. more joins_terms (term n names depth) n a.0 a.1) (term_front n names depth s)
+      (λ r f. more_front names Value Term joins_terms (term n names depth) (terms_form names) (λ t. term_front n names depth t) n r.0 r.1 s f.front (one_term f.front r.0 f.writes) f.is)
 
   term_front : (n : ℕ) (names : List (List ℕ)) (depth : ℕ) (s : List Symbol) → Fronts names Term s (term n names depth s)
   term_front zero names depth s = tt
   term_front (suc n) names depth s =
-      bind_front names Factor Term s s (factor n names depth s) (λ a. more_factors n names depth a.0 a.1) (factor_front n names depth s)
-      (λ r f. more_factors_front n names depth r.0 r.1 s f.front (one_factor f.front r.0 f.writes) f.is)
-
-  more_factors_front : (n : ℕ) (names : List (List ℕ)) (depth : ℕ) (e : Expr) (s whole before : List Symbol) → Writes names Term before e → whole ≡ before ++ s → Fronts names Term whole (more_factors n names depth e s)
-  more_factors_front zero names depth e s whole before w is = tt
-  more_factors_front (suc n) names depth e [] whole before w is = record { front = before; is = is; writes = w }
-  more_factors_front (suc n) names depth e (x ∷ s) whole before w is =
-      subst (Fronts names Term whole) (sym (more_factors-is n names depth e x s))
-      (factors_form names whole before s e x.form x.bytes _ w is
-      (λ join joint. bind_front names Factor Term s whole (factor n names depth s) (λ b. more_factors n names depth (join e b.0) b.1) (factor_front n names depth s)
-      (λ r f. more_factors_front n names depth (join e r.0) r.1 whole (before ++ x ∷ f.front) (joint f.front r.0 f.writes) (longer whole before s f.front r.1 x is f.is))))
+      bind_front names Factor Term s s (factor n names depth s) (λ a. more joins_factors (factor n names depth) n a.0 a.1) (factor_front n names depth s)
+      (λ r f. more_front names Term Factor joins_factors (factor n names depth) (factors_form names) (λ t. factor_front n names depth t) n r.0 r.1 s f.front (one_factor f.front r.0 f.writes) f.is)
 
   factor_front : (n : ℕ) (names : List (List ℕ)) (depth : ℕ) (s : List Symbol) → Fronts names Factor s (factor n names depth s)
   factor_front zero names depth s = tt

@@ -66,33 +66,26 @@ joins_factors form.Times = Some Product
 joins_factors form.Over = Some Quotient
 joins_factors _ = None
 
--- The grammar. Sums and products group from the left: what was read so far is the left operand of the next operator. `depth` counts the parentheses and unary minus signs around the place. The first number only says that the reading ends: each call lowers it, and four times the symbols and four more are enough.
+-- Behind an operand: operators with further operands. They group from the left: what was read so far is the left operand of the next operator. The number only says that the reading ends.
+abbrev pub more : (SymbolForm → Option (Expr → Expr → Expr)) → (List Symbol → Parsed) → ℕ → Expr → List Symbol → Parsed
+more joins operand zero left s = Err Syntax
+more joins operand (suc n) left [] = Ok (left, [])
+more joins operand (suc n) left (x ∷ s) = elim (joins x.form) [
+  | None ↦ Ok (left, x ∷ s)
+  | Some join ↦ operand s >>= (λ right. more joins operand n (join left right.0) right.1)
+]
+
+-- The grammar. `depth` counts the parentheses and unary minus signs around the place. The first number only says that the reading ends: each call lowers it, and four times the symbols and four more are enough.
 unfoldable mutual
   -- value = term { ("+" | "-") term }
   pub value : ℕ → List (List ℕ) → ℕ → List Symbol → Parsed
   value zero names depth s = Err Syntax
-  value (suc n) names depth s = term n names depth s >>= (λ left. more_terms n names depth left.0 left.1)
-
-  pub more_terms : ℕ → List (List ℕ) → ℕ → Expr → List Symbol → Parsed
-  more_terms zero names depth left s = Err Syntax
-  more_terms (suc n) names depth left [] = Ok (left, [])
-  more_terms (suc n) names depth left (x ∷ s) = elim (joins_terms x.form) [
-    | None ↦ Ok (left, x ∷ s)
-    | Some join ↦ term n names depth s >>= (λ right. more_terms n names depth (join left right.0) right.1)
-  ]
+  value (suc n) names depth s = term n names depth s >>= (λ left. more joins_terms (term n names depth) n left.0 left.1)
 
   -- term = factor { ("*" | "/") factor }
   pub term : ℕ → List (List ℕ) → ℕ → List Symbol → Parsed
   term zero names depth s = Err Syntax
-  term (suc n) names depth s = factor n names depth s >>= (λ left. more_factors n names depth left.0 left.1)
-
-  pub more_factors : ℕ → List (List ℕ) → ℕ → Expr → List Symbol → Parsed
-  more_factors zero names depth left s = Err Syntax
-  more_factors (suc n) names depth left [] = Ok (left, [])
-  more_factors (suc n) names depth left (x ∷ s) = elim (joins_factors x.form) [
-    | None ↦ Ok (left, x ∷ s)
-    | Some join ↦ factor n names depth s >>= (λ right. more_factors n names depth (join left right.0) right.1)
-  ]
+  term (suc n) names depth s = factor n names depth s >>= (λ left. more joins_factors (factor n names depth) n left.0 left.1)
 
   -- factor = "-" factor | literal | name | "(" value ")"
   pub factor : ℕ → List (List ℕ) → ℕ → List Symbol → Parsed

@@ -1,5 +1,5 @@
 use Rattle.std.proofs.Common.{◌≡◌, Err, sym, ap, subst, ◌∙◌, arith, rules}
-use Rattle.drn_expr.specs.Grammar.{value, term, factor, more_terms, more_factors, joins_terms, joins_factors}
+use Rattle.drn_expr.specs.Grammar.{value, term, factor, joins_terms, joins_factors}
 use Rattle.drn_expr.specs.Parsing.{IsFactor, IsTerm, IsValue}
 use Rattle.drn_expr.proofs.Places.{further_still}
 use Rattle.drn_expr.proofs.Chains.{factors_chain, terms_chain, chain_begin, chain_begin_fault, chain_more, chain_fault, chain_end}
@@ -64,54 +64,54 @@ pub term-returns-in_err-left-clause-term : goal.term-returns-in_err-left-clause-
 term-returns-in_err-left-clause-term t c =
     let e : c.from_residual.result ≡ Err c.in_err-left.field-0.0 = search rules in
     subst (IsTerm c.args.names.now c.args.depth c.args.text.now c.args.line c.args.at) (sym e)
-    (chain_begin_fault 1 joins_factors (λ n. factor n c.args.names.now c.args.depth) (λ n. term n c.args.names.now c.args.depth) (λ n. more_factors n c.args.names.now c.args.depth) c.args.text.now c.args.line c.args.at _ (factors_chain c.args.names.now c.args.depth) c.in_err-left.ensures.factor)
+    (chain_begin_fault 1 joins_factors (λ n. factor n c.args.names.now c.args.depth) (λ n. term n c.args.names.now c.args.depth) (factors_chain c.args.names.now c.args.depth) c.args.text.now c.args.line c.args.at _ c.in_err-left.ensures.factor)
 
 pub term-loop-operation-init : goal.term-loop-operation-init
 term-loop-operation-init t c =
-    (c.in_ok-left.ensures.further, chain_begin 1 joins_factors (λ n. factor n c.args.names.now c.args.depth) (λ n. term n c.args.names.now c.args.depth) (λ n. more_factors n c.args.names.now c.args.depth) c.args.text.now c.args.line c.args.at c.in_ok-left.left (factors_chain c.args.names.now c.args.depth) (omega arith) c.in_ok-left.ensures.further c.in_ok-left.ensures.factor)
+    (c.in_ok-left.ensures.further, chain_begin 1 joins_factors (λ n. factor n c.args.names.now c.args.depth) (λ n. term n c.args.names.now c.args.depth) (factors_chain c.args.names.now c.args.depth) c.args.text.now c.args.line c.args.at c.in_ok-left.left (omega arith) c.in_ok-left.ensures.further c.in_ok-left.ensures.factor)
 
 pub term-returns-in_err-right-clause-term : goal.term-returns-in_err-right-clause-term
 term-returns-in_err-right-clause-term t c =
     let e : c.from_residual-in_err-right.result ≡ Err c.in_err-right.field-0.0 = search rules in
     subst (IsTerm c.args.names.now c.args.depth c.args.text.now c.args.line c.args.at) (sym e)
-    (chain_fault 1 joins_factors (λ n. factor n c.args.names.now c.args.depth) (λ n. term n c.args.names.now c.args.depth) (λ n. more_factors n c.args.names.now c.args.depth) c.args.text.now c.args.line c.args.at c.in-Some.to c.loop-operation.left c.in-Some.operation _ (factors_chain c.args.names.now c.args.depth) (omega arith) c.loop-operation.invariant.1 c.in-Some.ensures.operator c.in-Some.ensures.further c.in_err-right.ensures.factor)
+    (chain_fault 1 joins_factors (λ n. factor n c.args.names.now c.args.depth) (λ n. term n c.args.names.now c.args.depth) (factors_chain c.args.names.now c.args.depth) c.args.text.now c.args.line c.args.at c.loop-operation.left c.loop-operation.invariant.1 c.in-Some.to c.in-Some.operation c.loop-operation.invariant.0 c.in-Some.ensures.operator c.in-Some.ensures.further _ c.in_err-right.ensures.factor)
 
 pub term-loop-operation-preserved : goal.term-loop-operation-preserved
 term-loop-operation-preserved t c =
     let behind_operator = further_still c.args.text.now c.args.line c.loop-operation.left.to c.in-Some.to c.in_ok-right.right.to c.in-Some.ensures.further c.in_ok-right.ensures.further in (
       further_still c.args.text.now c.args.line c.args.at c.loop-operation.left.to c.in_ok-right.right.to c.loop-operation.invariant.0 behind_operator,
-      chain_more 1 joins_factors (λ n. factor n c.args.names.now c.args.depth) (λ n. term n c.args.names.now c.args.depth) (λ n. more_factors n c.args.names.now c.args.depth) c.args.text.now c.args.line c.args.at c.in-Some.to c.loop-operation.left c.in_ok-right.right c.in-Some.operation c.calculated.result (factors_chain c.args.names.now c.args.depth) (omega arith) c.loop-operation.invariant.1
-          c.in-Some.ensures.operator c.in-Some.ensures.further c.in_ok-right.ensures.factor c.in_ok-right.ensures.further c.calculated.ensures,
+      chain_more 1 joins_factors (λ n. factor n c.args.names.now c.args.depth) (λ n. term n c.args.names.now c.args.depth) (factors_chain c.args.names.now c.args.depth) c.args.text.now c.args.line c.args.at c.loop-operation.left c.loop-operation.invariant.1 c.in-Some.to c.in-Some.operation c.loop-operation.invariant.0 c.in-Some.ensures.operator c.in-Some.ensures.further
+          c.in_ok-right.right c.calculated.result c.in_ok-right.ensures.factor c.in_ok-right.ensures.further c.calculated.ensures,
     )
 
 pub term-returns-clause-term : goal.term-returns-clause-term
 term-returns-clause-term t c =
-    chain_end 2 joins_factors (λ n. factor n c.args.names.now c.args.depth) (λ n. term n c.args.names.now c.args.depth) (λ n. more_factors n c.args.names.now c.args.depth) c.args.text.now c.args.line c.args.at c.loop-operation.left (factors_chain c.args.names.now c.args.depth) c.loop-operation.invariant.1 c.in_default.ensures.operator
+    chain_end 1 joins_factors (λ n. factor n c.args.names.now c.args.depth) (λ n. term n c.args.names.now c.args.depth) (factors_chain c.args.names.now c.args.depth) c.args.text.now c.args.line c.args.at c.loop-operation.left c.loop-operation.invariant.1 c.in_default.ensures.operator
 
 pub value-returns-in_err-left-clause-value : goal.value-returns-in_err-left-clause-value
 value-returns-in_err-left-clause-value t c =
     let e : c.from_residual.result ≡ Err c.in_err-left.field-0.0 = search rules in
     subst (IsValue c.args.names.now c.args.depth c.args.text.now c.args.line c.args.at) (sym e)
-    (chain_begin_fault 2 joins_terms (λ n. term n c.args.names.now c.args.depth) (λ n. value n c.args.names.now c.args.depth) (λ n. more_terms n c.args.names.now c.args.depth) c.args.text.now c.args.line c.args.at _ (terms_chain c.args.names.now c.args.depth) c.in_err-left.ensures.term)
+    (chain_begin_fault 2 joins_terms (λ n. term n c.args.names.now c.args.depth) (λ n. value n c.args.names.now c.args.depth) (terms_chain c.args.names.now c.args.depth) c.args.text.now c.args.line c.args.at _ c.in_err-left.ensures.term)
 
 pub value-loop-operation-init : goal.value-loop-operation-init
 value-loop-operation-init t c =
-    (c.in_ok-left.ensures.further, chain_begin 2 joins_terms (λ n. term n c.args.names.now c.args.depth) (λ n. value n c.args.names.now c.args.depth) (λ n. more_terms n c.args.names.now c.args.depth) c.args.text.now c.args.line c.args.at c.in_ok-left.left (terms_chain c.args.names.now c.args.depth) (omega arith) c.in_ok-left.ensures.further c.in_ok-left.ensures.term)
+    (c.in_ok-left.ensures.further, chain_begin 2 joins_terms (λ n. term n c.args.names.now c.args.depth) (λ n. value n c.args.names.now c.args.depth) (terms_chain c.args.names.now c.args.depth) c.args.text.now c.args.line c.args.at c.in_ok-left.left (omega arith) c.in_ok-left.ensures.further c.in_ok-left.ensures.term)
 
 pub value-returns-in_err-right-clause-value : goal.value-returns-in_err-right-clause-value
 value-returns-in_err-right-clause-value t c =
     let e : c.from_residual-in_err-right.result ≡ Err c.in_err-right.field-0.0 = search rules in
     subst (IsValue c.args.names.now c.args.depth c.args.text.now c.args.line c.args.at) (sym e)
-    (chain_fault 2 joins_terms (λ n. term n c.args.names.now c.args.depth) (λ n. value n c.args.names.now c.args.depth) (λ n. more_terms n c.args.names.now c.args.depth) c.args.text.now c.args.line c.args.at c.in-Some.to c.loop-operation.left c.in-Some.operation _ (terms_chain c.args.names.now c.args.depth) (omega arith) c.loop-operation.invariant.1 c.in-Some.ensures.operator c.in-Some.ensures.further c.in_err-right.ensures.term)
+    (chain_fault 2 joins_terms (λ n. term n c.args.names.now c.args.depth) (λ n. value n c.args.names.now c.args.depth) (terms_chain c.args.names.now c.args.depth) c.args.text.now c.args.line c.args.at c.loop-operation.left c.loop-operation.invariant.1 c.in-Some.to c.in-Some.operation c.loop-operation.invariant.0 c.in-Some.ensures.operator c.in-Some.ensures.further _ c.in_err-right.ensures.term)
 
 pub value-loop-operation-preserved : goal.value-loop-operation-preserved
 value-loop-operation-preserved t c =
     let behind_operator = further_still c.args.text.now c.args.line c.loop-operation.left.to c.in-Some.to c.in_ok-right.right.to c.in-Some.ensures.further c.in_ok-right.ensures.further in (
       further_still c.args.text.now c.args.line c.args.at c.loop-operation.left.to c.in_ok-right.right.to c.loop-operation.invariant.0 behind_operator,
-      chain_more 2 joins_terms (λ n. term n c.args.names.now c.args.depth) (λ n. value n c.args.names.now c.args.depth) (λ n. more_terms n c.args.names.now c.args.depth) c.args.text.now c.args.line c.args.at c.in-Some.to c.loop-operation.left c.in_ok-right.right c.in-Some.operation c.calculated.result (terms_chain c.args.names.now c.args.depth) (omega arith) c.loop-operation.invariant.1
-          c.in-Some.ensures.operator c.in-Some.ensures.further c.in_ok-right.ensures.term c.in_ok-right.ensures.further c.calculated.ensures,
+      chain_more 2 joins_terms (λ n. term n c.args.names.now c.args.depth) (λ n. value n c.args.names.now c.args.depth) (terms_chain c.args.names.now c.args.depth) c.args.text.now c.args.line c.args.at c.loop-operation.left c.loop-operation.invariant.1 c.in-Some.to c.in-Some.operation c.loop-operation.invariant.0 c.in-Some.ensures.operator c.in-Some.ensures.further
+          c.in_ok-right.right c.calculated.result c.in_ok-right.ensures.term c.in_ok-right.ensures.further c.calculated.ensures,
     )
 
 pub value-returns-clause-value : goal.value-returns-clause-value
 value-returns-clause-value t c =
-    chain_end 3 joins_terms (λ n. term n c.args.names.now c.args.depth) (λ n. value n c.args.names.now c.args.depth) (λ n. more_terms n c.args.names.now c.args.depth) c.args.text.now c.args.line c.args.at c.loop-operation.left (terms_chain c.args.names.now c.args.depth) c.loop-operation.invariant.1 c.in_default.ensures.operator
+    chain_end 2 joins_terms (λ n. term n c.args.names.now c.args.depth) (λ n. value n c.args.names.now c.args.depth) (terms_chain c.args.names.now c.args.depth) c.args.text.now c.args.line c.args.at c.loop-operation.left c.loop-operation.invariant.1 c.in_default.ensures.operator
