@@ -1,5 +1,5 @@
 -- Sizes of coefficients: those of a sum, a multiple and a product of small polynomials.
-use Rattle.std.proofs.Common.{◌≡◌, ℕ, ◌*◌, ◌^◌, ◌<◌, ◌≤◌, false, List, ◌++◌, ℤ, pos, ◌+ℤ◌, ◌*ℤ◌, All, Ok, ⊎_elim, bit_and, get_or, unsigned_abs, sym, ap, subst, ◌∙◌, arith, refl}
+use Rattle.std.proofs.Common.{◌≡◌, ℕ, ◌*◌, ◌^◌, ◌<◌, ◌≤◌, false, List, ◌++◌, ℤ, ◌*ℤ◌, Ok, ⊎_elim, bit_and, get_or, unsigned_abs, sym, ap, subst, arith, refl}
 use Rattle.std.specs.List.{list_any}
 use Rattle.std.proofs.Math.Nat.{mul-le-mul}
 use Rattle.std.proofs.lemmas.Bool.Decides.{nat_tests}

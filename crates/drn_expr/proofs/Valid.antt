@@ -1,5 +1,5 @@
 -- What was read as a value is a polynomial in lowest terms over the names.
-use Rattle.std.proofs.Common.{◌≡◌, ℕ, suc, ◌*◌, ◌/◌, ◌^◌, ◌<◌, ◌≤◌, Bool, true, false, cond, nat_eq, ne_eqb, refl, List, [], ◌∷◌, ◌++◌, length, get_or, ℤ, zero, pos, negsuc, neg_ℤ, ◌+ℤ◌, ◌*ℤ◌, int_div, bit_or, unsigned_abs, All, ⊎_elim, sym, ap, subst, ◌∙◌, arith, Result, Ok, Err}
+use Rattle.std.proofs.Common.{◌≡◌, ℕ, suc, ◌*◌, ◌/◌, ◌^◌, ◌<◌, ◌≤◌, Bool, true, false, cond, nat_eq, ne_eqb, refl, List, [], ◌∷◌, ◌++◌, length, get_or, ℤ, zero, pos, negsuc, neg_ℤ, ◌*ℤ◌, int_div, bit_or, unsigned_abs, All, ⊎_elim, sym, ap, subst, ◌∙◌, arith, Ok, Err}
 use Rattle.std.specs.Prelude.{nat_le, nat_lt}
 use Rattle.std.specs.List.{list_any}
 use Rattle.std.proofs.Math.Pow.{pow-lt}
@@ -20,7 +20,6 @@ use Rattle.drn_expr.specs.Grammar.{most_symbols, tree}
 use Rattle.drn_expr.specs.RatPolys.{OverOne, IsOver, common_divisor, lowest, is_large, is_wide, narrow}
 use Rattle.drn_expr.specs.Expansion.{sum, negative, difference, product, by_number, quotient, expansion}
 use Rattle.drn_expr.specs.Values.{reading}
-use Rattle.drn_expr.specs.declared.error.ExprError.{ExprError}
 use Rattle.drn_expr.specs.declared.error.ExprError.TheVariants.{SharedParameter, ParametricDivisor, Wide, Long}
 use Rattle.drn_expr.proofs.Calls.{small_sizes, number_poly, parameter_poly, negative_poly, positive_size}
 use Rattle.drn_expr.proofs.Divisors.{common_divides, nothing_common}

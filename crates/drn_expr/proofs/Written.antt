@@ -102,8 +102,8 @@ longer whole before s front rest x e f = e ∙ ap (λ t. before ++ x ∷ t) f �
 
 more_front : (names : List (List ℕ)) (kind part : Kind) (joins : SymbolForm → Option (Expr → Expr → Expr)) (operand : List Symbol → Parsed)
     → ((whole before s : List Symbol) (e : Expr) (f : SymbolForm) (bytes : List ℕ) (goes : (Expr → Expr → Expr) → Parsed) → Writes names kind before e → whole ≡ before ++ symbol f bytes ∷ s
-        → ((join : Expr → Expr → Expr) → ((r : List Symbol) (b : Expr) → Writes names part r b → Writes names kind (before ++ symbol f bytes ∷ r) (join e b)) → Fronts names kind whole (goes join))
-        → Fronts names kind whole (more_by e (symbol f bytes) s goes (joins f)))
+    → ((join : Expr → Expr → Expr) → ((r : List Symbol) (b : Expr) → Writes names part r b → Writes names kind (before ++ symbol f bytes ∷ r) (join e b)) → Fronts names kind whole (goes join))
+    → Fronts names kind whole (more_by e (symbol f bytes) s goes (joins f)))
     → ((s : List Symbol) → Fronts names part s (operand s)) → (n : ℕ) (e : Expr) (s whole before : List Symbol) → Writes names kind before e → whole ≡ before ++ s → Fronts names kind whole (more joins operand n e s)
 unfolding Fronts
 more_front names kind part joins operand form each zero e s whole before w is = tt

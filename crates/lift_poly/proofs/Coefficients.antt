@@ -1,12 +1,12 @@
 -- The coefficients of polynomials, of their sums and multiples, and of products of polynomials that share no parameter.
-use Rattle.std.proofs.Common.{◌≡◌, ◌≢◌, ℕ, suc, ◌+◌, ◌*◌, ◌<◌, List, [], ◌∷◌, ◌++◌, length, get_or, ℤ, pos, ◌+ℤ◌, ◌*ℤ◌, All, ◌⊎◌, inl, inr, ⊎_elim, bit_and, bit_or, unsigned_abs, refl, sym, ap, ap₂, subst, ◌∙◌, arith}
+use Rattle.std.proofs.Common.{◌≡◌, ℕ, suc, List, [], ◌∷◌, ◌++◌, ℤ, pos, ◌+ℤ◌, ◌*ℤ◌, All, ◌⊎◌, inl, inr, ⊎_elim, bit_and, bit_or, unsigned_abs, refl, sym, ap, ap₂, subst, ◌∙◌, arith}
 use Rattle.std.specs.Prelude.{Contains}
 use Rattle.std.specs.Int.{bit_at}
 use Rattle.std.proofs.lemmas.Bool.{cases_eq}
 use Rattle.std.proofs.lemmas.Nat.{and_comm}
 use Rattle.std.proofs.lemmas.Nat.Bits.{same_from_bits, bit_at_and, bit_at_or, bit_at-zero}
 use Rattle.lift_poly.specs.Polynomial.{Term, IsPolynomial}
-use Rattle.lift_poly.specs.Arithmetic.{coefficient, collected, sum, times, scaled, quotient, products_of, products, product, support, DividesEach}
+use Rattle.lift_poly.specs.Arithmetic.{coefficient, sum, times, scaled, quotient, products_of, products, product, support, DividesEach}
 use Rattle.lift_poly.proofs.Canonical.{Canonical, canonical_from_polynomial, polynomial_from_canonical, coefficient-here, coefficient-other, coefficient_below, coefficient-append, coefficient-collected}
 use Rattle.lift_poly.proofs.Lookup.{coefficient_at}
 use Rattle.lift_poly.proofs.Products.{coefficient-times}

@@ -37,7 +37,7 @@ MultiplesScaleCoefficients = (by : ℤ) (terms : List Term) (set : ℕ) → coef
 abbrev pub ProductsMultiplyCoefficients : Type 0
 ProductsMultiplyCoefficients = (left right : List Term) (set : ℕ) → bit_and (support left) (support right) ≡ 0
     → (coefficient set (product left right) ≡ pos 0)
-      ⊎ (coefficient set (product left right) ≡ coefficient (bit_and set (support left)) left *ℤ coefficient (bit_and set (support right)) right)
+    ⊎ (coefficient set (product left right) ≡ coefficient (bit_and set (support left)) left *ℤ coefficient (bit_and set (support right)) right)
 
 -- ---- multiples and quotients, term by term
 
