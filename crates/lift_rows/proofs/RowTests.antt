@@ -1,5 +1,6 @@
 -- What the tests of a row need of what is asked for, and what it gives that all rows pass.
-use Rattle.std.proofs.Common.{ℕ, ◌^◌, ◌<◌, List, length, pos, ◌≤ℤ◌, ℤ, All, get_or, ◌≤◌, inl, [], arith}
+use Rattle.std.proofs.Common.{◌≡◌, ℕ, ◌+◌, ◌^◌, ◌<◌, List, length, pos, ◌≤ℤ◌, ℤ, All, get_or, ◌≤◌, inl, inr, ⊎_elim, [], sym, subst, arith}
+use Rattle.std.proofs.lemmas.Bool.{cases_lt}
 use Rattle.std.proofs.lemmas.List.{get_or_default}
 use Rattle.lift_poly.specs.Polynomial.{weight}
 use Rattle.lift_grid.specs.Rectangle.{Spans}
@@ -25,6 +26,20 @@ least_at d root row h c lt i e at = rw (get_or_default row i e no_entry at) (h i
 -- each row before that of the state's choice is admitted
 abbrev pub AreAdmittedBefore : CaseData → ℕ → ℕ → Type 0
 AreAdmittedBefore k i j = (s a : ℕ) → s < length k.model.states → a < length (choices k.model s) → ComesBefore (s, a) (i, j) → IsAdmittedRow k (row_at k.model s a)
+
+-- one row more
+pub one_more : (k : CaseData) (i j : ℕ) → AreAdmittedBefore k i j → IsAdmittedRow k (row_at k.model i j) → AreAdmittedBefore k i (j + 1)
+one_more k i j before here s a state choice first =
+    ⊎_elim
+    (λ (less : s < i). before s a state choice (inl less))
+    (λ (same : (s ≡ i) × (a < j + 1)).
+    ⊎_elim
+    (λ (less : a < j). before s a state choice (inr (same.0, less)))
+    (λ (most : j ≤ a).
+    let last : j ≡ a = omega (arith, same.1, most) in
+    subst (λ t. IsAdmittedRow k (row_at k.model t a)) (sym same.0) (subst (λ b. IsAdmittedRow k (row_at k.model i b)) last here))
+    (cases_lt a j))
+    first
 
 -- past the last state all are
 pub before_all : (k : CaseData) (i j : ℕ) → length k.model.states ≤ i → AreAdmittedBefore k i j → IsAdmitted k

@@ -1,7 +1,7 @@
 use Rattle.std.proofs.Common.{◌≤◌, length, arith}
 use Rattle.lift_grid.specs.Parts.{region_of}
 use Rattle.corner_lift.specs.Case.{IsCase, IsAdmitted, case_of}
-use Rattle.lift_rows.proofs.RowTests.{before_all, case_weights, case_sums}
+use Rattle.lift_rows.proofs.RowTests.{one_more, before_all, case_weights, case_sums}
 use Rattle.lift_rows.proofs.admission.admit.Goals as goal
 use Rattle.lift_rows.proofs.admission.admit.Goals.{After-loop-s}
 
@@ -22,3 +22,6 @@ returns-clause-weights c = rw c.new.ensures (case_weights c.rows_inside.ensures.
 
 pub returns-clause-sums : goal.returns-clause-sums
 returns-clause-sums c = rw c.new.ensures (case_sums c.rows_inside.ensures.sums _ (is_case (goal.at.returns-clause-sums c).After-loop-s))
+
+pub loop-a-preserved : goal.loop-a-preserved
+loop-a-preserved c = one_more c.new-asked.result c.loop-s.s c.loop-a.a c.loop-a.invariant c.in_ok-test_row.ensures.fault
