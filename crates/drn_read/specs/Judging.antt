@@ -1,4 +1,5 @@
 -- The tests of a line of a model text, by what the lines before it say, in their order from the left, by this project's profile of the DRN format.
+use Prim.Native.Char.{code}
 use Rattle.std.specs.Prelude.{ℕ, Bool, true, false, not, is_none, is_some, nat_lt, nat_le, List, [], ◌∷◌, ◌++◌, ◌==◌, ◌&&◌, ◌||◌, length, sum_by, codes, Option, Some, None, Ok, Err, if◌then◌else◌}
 use Rattle.std.specs.List.{list_any}
 use Rattle.std.specs.Option.{option_and_then}
@@ -8,7 +9,7 @@ use Rattle.std.specs.Str.Parse.{digits_value}
 use Rattle.lift_model.specs.declared.kind.Kind.{Kind}
 use Rattle.lift_model.specs.declared.kind.Kind.TheVariants.{Mdp}
 use Rattle.lift_model.specs.Valid.{most_states, most_choices, most_transitions, most_parameters, most_name_bytes}
-use Rattle.lift_bytes.specs.Bytes.{colon, dollar, exclamation, left_brace, right_bracket, is_blank, first_passes, behind}
+use Rattle.lift_bytes.specs.Bytes.{is_blank, first_passes, behind}
 use Rattle.drn_lexer.specs.Cutting.{Piece}
 use Rattle.drn_lexer.specs.Lines.{TextLine, content, is_blank_line}
 use Rattle.drn_lexer.specs.Words.{WordKind, words}
@@ -76,7 +77,7 @@ count_fault line = when (not (is_digits line && nat_le (length line) most_digits
 
 -- a placeholder's line has a name
 abbrev pub nameless_fault : List ℕ → Option DrnCause
-nameless_fault line = when (not (first_passes (λ b. b == dollar) line) || is_empty (placeholder_name line)) Syntax
+nameless_fault line = when (not (first_passes (λ b. b == code "$") line) || is_empty (placeholder_name line)) Syntax
 
 -- the name of one more placeholder, behind these
 abbrev pub new_name_fault : List Placeholder → List ℕ → Option DrnCause
@@ -137,7 +138,7 @@ target_fault states target = elim (open_choice states) [
 -- the digits of a transition's line, and the colon behind them
 abbrev pub target_text_fault : List ℕ → Option DrnCause
 target_text_fault line =
-    when (nat_lt most_digits (length (target_text line)) || not (first_passes (λ b. b == colon) (behind is_blank (behind is_ascii_digit line)))) Syntax
+    when (nat_lt most_digits (length (target_text line)) || not (first_passes (λ b. b == code ":") (behind is_blank (behind is_ascii_digit line)))) Syntax
 
 -- one more transition, to this target
 abbrev pub room_fault : List StateText → ℕ → Option DrnCause
@@ -154,13 +155,13 @@ transition_fault h states line = first_of (
 
 -- a group that has its end
 abbrev pub is_closed : Piece WordKind → Bool
-is_closed w = list_any (λ b. b == right_bracket) w.bytes
+is_closed w = list_any (λ b. b == code "]") w.bytes
 
 -- a label, which begins with neither `!` nor `{`
 abbrev pub label_fault : List ℕ → Option DrnCause
 label_fault label = first_of (
-    when (first_passes (λ b. b == exclamation) label) ExitRate
-    ∷ when (first_passes (λ b. b == left_brace) label) Observation
+    when (first_passes (λ b. b == code "!") label) ExitRate
+    ∷ when (first_passes (λ b. b == code "{") label) Observation
     ∷ [])
 
 -- a word among the labels of a state's line; a group may be the first of them alone

@@ -1,4 +1,5 @@
 -- The sections of a model text, by this project's profile of the DRN format: what they declare, and what may stand in them.
+use Prim.Native.Char.{code}
 use Rattle.std.specs.Prelude.{ℕ, Bool, false, not, nat_eq, List, [], ◌∷◌, ◌++◌, ◌==◌, take_while, drop, length, map, filter, codes, Option, Some, None, Result, Ok, Err, if◌then◌else◌}
 use Rattle.std.specs.List.{list_all, flat_map, starts_with}
 use Rattle.std.specs.Option.{option_map}
@@ -12,7 +13,7 @@ use Rattle.drn_lexer.specs.Lines.{TextLine, content, is_comment, is_blank_line}
 use Rattle.drn_lexer.specs.Words.{words}
 use Rattle.drn_expr.specs.RatPolys.{OverOne}
 use Rattle.drn_read.specs.Parts.{Part, parts, last}
-use Rattle.drn_read.specs.Text.{at_sign, value_behind}
+use Rattle.drn_read.specs.Text.{value_behind}
 use Rattle.drn_read.specs.declared.error.DrnCause.{DrnCause}
 use Rattle.drn_read.specs.declared.section.Phase.{Phase}
 use Rattle.drn_read.specs.declared.section.Phase.TheVariants as phase
@@ -48,7 +49,7 @@ is_same a b = section_number a == section_number b
 
 -- a line that begins with `@`
 abbrev pub is_head : TextLine → Bool
-is_head line = first_passes (λ b. b == at_sign) (content line)
+is_head line = first_passes (λ b. b == code "@") (content line)
 
 -- The sections of a text are the sublists of its lines that begin at lines with `@`. Comment lines belong to none.
 abbrev pub sections : List TextLine → List (Part TextLine)

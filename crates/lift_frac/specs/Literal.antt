@@ -1,4 +1,5 @@
 -- Literals, which write fractions: digits, then maybe a point and digits, then maybe `e` or `E`, maybe a sign, and digits.
+use Prim.Native.Char.{code}
 use Rattle.std.specs.Prelude.{ℕ, Bool, true, false, List, [], ◌∷◌, ◌++◌, ◌==◌, ◌||◌, ◌&&◌, ◌+◌, ◌-◌, ◌*◌, ◌^◌, pos, nat_lt, nat_le, take_while, take, drop, length, Result, Ok, Err, if◌then◌else◌}
 use Rattle.std.specs.List.{prefix_len, suffix_len}
 use Rattle.std.specs.Char.{is_ascii_digit}
@@ -32,19 +33,19 @@ behind_digits text = drop (prefix_len is_ascii_digit text) text
 -- A point and digits at the front: the digits, and what stands behind them. A point without a digit behind it is no part of a literal.
 abbrev pub decimals_at : List ℕ → List ℕ × List ℕ
 decimals_at [] = ([], [])
-decimals_at (b ∷ text) = if (b == byte.point) && begins_digit text then (digits_at text, behind_digits text) else ([], b ∷ text)
+decimals_at (b ∷ text) = if (b == code ".") && begins_digit text then (digits_at text, behind_digits text) else ([], b ∷ text)
 
 -- A sign at the front: whether it is a minus, and what stands behind it.
 abbrev pub sign_at : List ℕ → Bool × List ℕ
 sign_at [] = (false, [])
-sign_at (b ∷ text) = if b == byte.minus then (true, text) else (if b == byte.plus then (false, text) else (false, b ∷ text))
+sign_at (b ∷ text) = if b == code "-" then (true, text) else (if b == code "+" then (false, text) else (false, b ∷ text))
 
 -- An exponent at the front: whether it has a minus, its digits, and what stands behind them. Without a digit none of it is part of a literal.
 abbrev pub exponent_at : List ℕ → Bool × List ℕ × List ℕ
 exponent_at [] = (false, [], [])
 exponent_at (b ∷ text) =
     let signed = sign_at text in
-    if ((b == byte.small_e) || (b == byte.capital_e)) && begins_digit signed.1
+    if ((b == code "e") || (b == code "E")) && begins_digit signed.1
     then (signed.0, digits_at signed.1, behind_digits signed.1) else (false, [], b ∷ text)
 
 -- the longest literal at the front, and what stands behind it
@@ -69,7 +70,7 @@ digits_of l = l.whole ++ l.decimals
 
 -- how many zeros stand at their end
 abbrev pub zeros : Literal → ℕ
-zeros l = suffix_len (λ b. b == byte.zero_digit) (digits_of l)
+zeros l = suffix_len (λ b. b == code "0") (digits_of l)
 
 -- the whole number of these digits without the zeros at their end
 abbrev pub number : Literal → ℕ

@@ -1,6 +1,7 @@
 -- The intervals that a text gives: each has two ends with denominators above 0, the low one below the high one.
+use Prim.Native.Char.{code}
 use Rattle.std.proofs.Common.{◌≡◌, ◌≢◌, ◌<◌, ◌==◌, ℕ, zero, suc, List, [], ◌∷◌, ◌++◌, ℤ, pos, ◌*ℤ◌, ◌<ℤ◌, Bool, true, false, cond, Option, None, Some, Result, Ok, Err, map, length, refl, ap, arith, mul-pos, length-append}
-use Rattle.std.specs.Prelude.{unsigned_abs, is_some, position, ◌||◌, if◌then◌else◌, IfOk, IfSome}
+use Rattle.std.specs.Prelude.{codes, unsigned_abs, is_some, position, ◌||◌, if◌then◌else◌, IfOk, IfSome}
 use Rattle.std.specs.List.{AllByRecursion, list_all, slice_split}
 use Rattle.std.specs.Str.{bytes_eq}
 use Rattle.std.specs.Cmp.{int_ranks}
@@ -139,7 +140,7 @@ module _ (quotients : LowestIsFraction) (literals : ValueIsFraction) where
 
   divisor_worth : (text : List ℕ) → IfOk (divisor_at text) IsWorthFirst
   unfolding divisor_at divisor_by
-  divisor_worth text = divisor_worth_by text (behind_mark (byte.slash ∷ []) text)
+  divisor_worth text = divisor_worth_by text (behind_mark (codes "/") text)
 
   quotient_worth_by : (negative : Bool) (a b : Ratio) (zero : Bool) → (unsigned_abs b.num == 0) ≡ zero → IsFraction a → IsWorth (quotient_by negative a b zero)
   unfolding quotient_by
@@ -213,7 +214,7 @@ module _ (quotients : LowestIsFraction) (literals : ValueIsFraction) where
   pub intervals_are : (names : List (List ℕ)) (text : List ℕ) → IfOk (intervals_of names text) AreIntervals
   unfolding intervals_of
   intervals_are names text =
-      let pieces = slice_split (λ b. b == byte.comma) text in
+      let pieces = slice_split (λ b. b == code ",") text in
       tested AreIntervals (list_all byte.is_blank text) (Ok []) (intervals_from names [] pieces) tt (intervals_from_are names [] pieces tt)
 
 -- ---- in declared order

@@ -3,7 +3,8 @@
 --     clause = end "<=" name "<=" end
 --     end    = [ "-" ] literal [ "/" literal ]
 -- Blanks may stand between any two of these parts and at both ends. A text is read as its pieces between commas.
-use Rattle.std.specs.Prelude.{◌≡◌, ℕ, zero, suc, ◌*◌, ◌/◌, ◌^◌, Bool, true, false, ◌==◌, ◌||◌, ◌&&◌, List, [], ◌∷◌, ◌++◌, ℤ, pos, ◌*ℤ◌, neg_ℤ, unsigned_abs, nat_lt, length, take, drop, map, fold, position, Option, Some, None, is_some, Result, Ok, Err, if◌then◌else◌}
+use Prim.Native.Char.{code}
+use Rattle.std.specs.Prelude.{◌≡◌, ℕ, zero, suc, ◌*◌, ◌/◌, ◌^◌, Bool, true, false, ◌==◌, ◌||◌, ◌&&◌, List, [], ◌∷◌, ◌++◌, ℤ, pos, ◌*ℤ◌, neg_ℤ, unsigned_abs, nat_lt, length, take, drop, map, fold, position, codes, Option, Some, None, is_some, Result, Ok, Err, if◌then◌else◌}
 use Rattle.std.specs.List.{prefix_len, list_all, find, slice_split}
 use Rattle.std.specs.Int.{◌∣◌}
 use Rattle.std.specs.Str.{bytes_eq}
@@ -53,11 +54,11 @@ literal_at text =
 
 -- whether a minus stands at the front, and what stands behind it
 unfoldable pub sign_at : List ℕ → Bool × List ℕ
-sign_at text = elim (behind_mark (byte.minus ∷ []) text) [ None ↦ (false, text) | Some rest ↦ (true, rest) ]
+sign_at text = elim (behind_mark (codes "-") text) [ None ↦ (false, text) | Some rest ↦ (true, rest) ]
 
 -- the literal behind a slash at the front, and what stands behind that; 1 where no slash stands there
 unfoldable pub divisor_at : List ℕ → Result (Number × List ℕ) RegionError
-divisor_at text = elim (behind_mark (byte.slash ∷ []) text) [ None ↦ Ok (Ok (record { num = pos 1; den = pos 1 }), text) | Some rest ↦ literal_at rest ]
+divisor_at text = elim (behind_mark (codes "/") text) [ None ↦ Ok (Ok (record { num = pos 1; den = pos 1 }), text) | Some rest ↦ literal_at rest ]
 
 -- the number with the other sign, where there is a minus
 abbrev pub signed : Bool → ℤ → ℤ
@@ -91,7 +92,7 @@ pub record Clause : Type 0 where
 
 -- what stands behind `<=` at the front
 abbrev pub behind_at_most : List ℕ → Result (List ℕ) RegionError
-behind_at_most text = or_else Syntax (behind_mark (byte.less ∷ byte.equals ∷ []) text)
+behind_at_most text = or_else Syntax (behind_mark (codes "<=") text)
 
 -- the clause at the front, and what stands behind it
 unfoldable pub clause_at : List ℕ → Result (Clause × List ℕ) RegionError
@@ -153,7 +154,7 @@ intervals_from names before (text ∷ pieces) = interval_at names before text >>
 
 -- the intervals that a text gives; a text of blanks alone gives none
 unfoldable pub intervals_of : List (List ℕ) → List ℕ → Result (List Interval) RegionError
-intervals_of names text = if list_all byte.is_blank text then Ok [] else intervals_from names [] (slice_split (λ b. b == byte.comma) text)
+intervals_of names text = if list_all byte.is_blank text then Ok [] else intervals_from names [] (slice_split (λ b. b == code ",") text)
 
 -- the intervals of the first n parameters, in declared order; Missing where one has none
 abbrev pub in_order : List Interval → ℕ → Result (List Interval) RegionError

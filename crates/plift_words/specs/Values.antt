@@ -1,10 +1,10 @@
 -- The values of the command line: their grammars and ranges.
+use Prim.Native.Char.{code}
 use Rattle.std.specs.Prelude.{◌==◌, ◌&&◌, ◌^◌, ◌*ℤ◌, ℕ, pos, unsigned_abs, int_le, int_lt, List, length, Option, Some, None, Result, Ok, Err, Bool, true, false, not, nat_le, if◌then◌else◌, option_and_then}
 use Rattle.std.specs.List.{list_all}
 use Rattle.std.specs.Result.{result_ok}
 use Rattle.std.specs.Char.{is_ascii_digit}
 use Rattle.std.specs.Str.Parse.{digits_value}
-use Rattle.lift_bytes.specs.Bytes.{space, slash, tilde}
 use Rattle.lift_frac.specs.Literal.{reading}
 use Rattle.lift_frac.specs.Ratio.{Ratio, fraction}
 use Rattle.lift_frac.specs.declared.error.FracError.{FracError}
@@ -13,7 +13,7 @@ use Rattle.plift_words.specs.Line.{cut_at}
 
 -- a byte of a label: a visible one, or the space
 abbrev pub is_label_byte : ℕ → Bool
-is_label_byte b = nat_le space b && nat_le b tilde
+is_label_byte b = nat_le (code " ") b && nat_le b (code "~")
 
 -- a goal label: one or more such bytes
 abbrev pub goal_of : List ℕ → Option (List ℕ)
@@ -45,7 +45,7 @@ quotient (Ok a) (Ok b) = elim (unsigned_abs b.num == 0) [
 
 -- a fraction, written `literal` or `literal/literal`
 abbrev pub ratio_of : List ℕ → Option Ratio
-ratio_of word = elim (cut_at slash word) [
+ratio_of word = elim (cut_at (code "/") word) [
   | None ↦ result_ok (reading word)
   | Some parts ↦ quotient (reading parts.0) (reading parts.1)
 ]
