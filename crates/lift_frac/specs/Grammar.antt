@@ -5,11 +5,11 @@ use Rattle.std.specs.Prelude.{◌≡◌, ℕ, Bool, true, false, List, [], ◌�
 use Rattle.std.specs.List.{list_all}
 use Rattle.std.specs.Char.{is_ascii_digit}
 use Rattle.lift_bytes.specs.Bytes as byte
-use Rattle.lift_frac.specs.Literal.{Literal, begins_digit}
+use Rattle.lift_frac.specs.Literal.{Literal}
 
 -- one digit or more
 pub record IsDigits (text : List ℕ) : Type 0 where
-  pub some : begins_digit text ≡ true
+  pub some : byte.first_passes is_ascii_digit text ≡ true
   pub all : list_all is_ascii_digit text ≡ true
 
 -- what stands behind the whole digits: nothing, or a point and digits
