@@ -2,7 +2,7 @@
 use Prim.Native.Char.{code}
 use Rattle.std.proofs.Common.{◌≡◌, ◌==◌, ◌&&◌, ◌||◌, not, List, [], ◌∷◌, ◌++◌, map, Option, Some, None, Bool, true, false, refl, sym, ap, ap₂, ◌∙◌, subst, arith, codes, cond, append_assoc, append-nil, ◌⊎◌, inl, inr}
 use Rattle.std.specs.Prelude.{unwrap_or, drop}
-use Rattle.std.specs.List.{list_all, fold}
+use Rattle.std.specs.List.{list_all, list_any, fold}
 use Rattle.std.specs.Str.{bytes_eq}
 use Rattle.std.proofs.lemmas.Slice.Eq.{bytes_eq-Decides}
 use Rattle.std.proofs.lemmas.List.Folds.{list_any-append}
@@ -180,19 +180,21 @@ named : (name word : Text) → Known word (drop 2 word) → bytes_eq name word �
 named name word k e = subst (λ (w : Text). Known w (drop 2 w)) (sym ((bytes_eq-Decides name word).0 e)) k
 
 known : (name : Text) → is_option name ≡ true → Known name (drop 2 name)
-known name e = elim (either _ _ e) [
-  | inr p ↦ named name (codes "--precision") precision p
-  | inl e ↦ elim (either _ _ e) [
-    | inr d ↦ named name (codes "--depth") depth d
-    | inl e ↦ elim (either _ _ e) [
-      | inr r ↦ named name (codes "--region") region r
-      | inl e ↦ elim (either _ _ e) [
-        | inr b ↦ named name (codes "--bound") bound b
-        | inl g ↦ named name (codes "--goal") goal g
+known name e =
+    let is : Text → Bool = bytes_eq name in
+    elim (either (is (codes "--goal")) (list_any is (codes "--bound" ∷ codes "--region" ∷ codes "--depth" ∷ codes "--precision" ∷ [])) e) [
+    | inl g ↦ named name (codes "--goal") goal g
+    | inr e ↦ elim (either (is (codes "--bound")) (list_any is (codes "--region" ∷ codes "--depth" ∷ codes "--precision" ∷ [])) e) [
+      | inl b ↦ named name (codes "--bound") bound b
+      | inr e ↦ elim (either (is (codes "--region")) (list_any is (codes "--depth" ∷ codes "--precision" ∷ [])) e) [
+        | inl r ↦ named name (codes "--region") region r
+        | inr e ↦ elim (either (is (codes "--depth")) (list_any is (codes "--precision" ∷ [])) e) [
+          | inl d ↦ named name (codes "--depth") depth d
+          | inr e ↦ elim (either (is (codes "--precision")) false e) [ inl p ↦ named name (codes "--precision") precision p | inr none ↦ absurd (cc) ]
+        ]
       ]
     ]
   ]
-]
 
 -- the name is its id behind two dashes
 dashed : (name id : Text) → Known name id → name ≡ 45 ∷ 45 ∷ id

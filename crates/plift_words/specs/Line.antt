@@ -25,10 +25,7 @@ in_one parts = record { name = parts.0; value = attached parts.1 }
 -- The options of the words, in their order: one word, which is cut at its first `=`, or two words, a name and its value.
 abbrev pub options : List (List ℕ) → List Setting
 options [] = []
-options (word ∷ []) = elim (cut_at (code "=") word) [
-  | Some parts ↦ in_one parts ∷ []
-  | None ↦ record { name = word; value = None } ∷ []
-]
+options (word ∷ []) = elim (cut_at (code "=") word) [ Some parts ↦ in_one parts ∷ [] | None ↦ record { name = word; value = None } ∷ [] ]
 options (word ∷ next ∷ words) = elim (cut_at (code "=") word) [
   | Some parts ↦ in_one parts ∷ options (next ∷ words)
   | None ↦ record { name = word; value = Some next } ∷ options words
@@ -44,9 +41,7 @@ value_of name settings = option_and_then (λ s. s.value) (find (λ s. bytes_eq s
 
 -- the names of the options of `verify`
 abbrev pub is_option : List ℕ → Bool
-is_option name =
-    bytes_eq name (codes "--goal") || bytes_eq name (codes "--bound") || bytes_eq name (codes "--region")
-    || bytes_eq name (codes "--depth") || bytes_eq name (codes "--precision")
+is_option name = list_any (bytes_eq name) (codes "--goal" ∷ codes "--bound" ∷ codes "--region" ∷ codes "--depth" ∷ codes "--precision" ∷ [])
 
 -- a value is there, and doesn't begin with `-`
 abbrev pub is_value : Option (List ℕ) → Bool
