@@ -11,14 +11,12 @@ use Rattle.drn_lexer.specs.declared.symbol.SymbolForm.TheVariants.{Literal, Name
 
 -- A byte that is a symbol by itself: one of `+ - * / ^ ( ) :`, in this order, or any other.
 abbrev pub mark_form : ℕ → SymbolForm
-mark_form b =
-    if b == code "+" then Plus else (if b == code "-" then Minus else (if b == code "*" then Times else (if b == code "/" then Over else
+mark_form b = if b == code "+" then Plus else (if b == code "-" then Minus else (if b == code "*" then Times else (if b == code "/" then Over else
     (if b == code "^" then Power else (if b == code "(" then Left else (if b == code ")" then Right else (if b == code ":" then Colon else Other)))))))
 
 -- The longest symbol that begins with the byte b: how many bytes of the tail belong to it, and its form. It is a literal, a name, `$` with letters, digits and underscores, or a single byte.
 abbrev pub symbol_front : ℕ → List ℕ → ℕ × SymbolForm
-symbol_front b tail =
-    if is_ascii_digit b then (length tail - length (literal_at (b ∷ tail)).1, Literal)
+symbol_front b tail = if is_ascii_digit b then (length tail - length (literal_at (b ∷ tail)).1, Literal)
     else (if begins_name b then (prefix_len is_name_byte tail, Name)
     else (if (b == code "$") && first_passes is_name_byte tail then (prefix_len is_name_byte tail, Dollar)
     else (0, mark_form b)))

@@ -15,13 +15,11 @@ WordKind = Result WordForm LexError
 
 -- To the next byte `end`, that byte included, in the form `closed`; where there is none, to the end of the line in the form `unclosed`.
 abbrev pub runs_to : ℕ → WordKind → WordKind → List ℕ → ℕ × WordKind
-runs_to end closed unclosed tail =
-    if list_any (λ b. b == end) tail then (position_or_len (λ b. b == end) tail + 1, closed) else (length tail, unclosed)
+runs_to end closed unclosed tail = if list_any (λ b. b == end) tail then (position_or_len (λ b. b == end) tail + 1, closed) else (length tail, unclosed)
 
 -- The word that begins with the byte b: how many bytes of the tail belong to it, and its form. From `"` it runs to the next `"`, from `[` to the next `]`, and from any other byte to the next blank.
 abbrev pub word_front : ℕ → List ℕ → ℕ × WordKind
-word_front b tail =
-    if b == code "\"" then runs_to (code "\"") (Ok Quoted) (Err OpenQuote) tail
+word_front b tail = if b == code "\"" then runs_to (code "\"") (Ok Quoted) (Err OpenQuote) tail
     else (if b == code "[" then runs_to (code "]") (Ok Group) (Ok Group) tail
     else (position_or_len is_blank tail, Ok Plain))
 

@@ -221,8 +221,7 @@ words_fault h states line (w ∷ ws) = elim w.form [
 
 -- the first fault of a line of the model
 abbrev pub model_fault : Header → List StateText → TextLine → Option DrnError
-model_fault h states line =
-    if is_head line then told line.number (Some UnknownSection)
+model_fault h states line = if is_head line then told line.number (Some UnknownSection)
     else (if is_blank_line line then None
     else (if is_transition (content line) then told line.number (transition_fault h states (content line))
     else words_fault h states line (words (content line))))

@@ -5,7 +5,6 @@ use Rattle.std.specs.Option.{option_map, unwrap_or}
 use Rattle.lift_frac.specs.Gcd.{lcm}
 use Rattle.lift_poly.specs.Polynomial.{Term}
 use Rattle.lift_poly.specs.Arithmetic as poly
-use Rattle.lift_model.specs.declared.kind.Kind.{Kind}
 use Rattle.lift_model.specs.declared.kind.Kind.TheVariants.{Dtmc}
 use Rattle.lift_model.specs.Model.{ModelData}
 use Rattle.lift_model.specs.Valid.{common_limit, coefficient_limit}
@@ -87,14 +86,10 @@ end_fault number said =
 abbrev pub entry : ℕ → Transition → Entry
 entry c t = record { target = t.target; poly = scaled c t.value }
 
--- the type that was named, a chain where none was
-abbrev pub kind_or_chain : Option Kind → Kind
-kind_or_chain kind = unwrap_or kind Dtmc
-
--- The model. A choice is a row, whose entries keep the order of their lines; an entry of value 0 is kept.
+-- The model, a chain where no type was named. A choice is a row, whose entries keep the order of their lines; an entry of value 0 is kept.
 unfoldable pub model : Said → ModelData
 model said = record {
-  kind = kind_or_chain said.header.kind;
+  kind = unwrap_or said.header.kind Dtmc;
   common = pos (common said.states);
   names = said.header.names;
   goal = map (λ s. s.goal) said.states;

@@ -22,8 +22,7 @@ use Rattle.drn_read.specs.declared.section.Section.TheVariants.{ModelType, Value
 
 -- The section that a line begins. Behind `@type:` and `@value_type:` anything may stand, and behind the other words nothing.
 abbrev pub section_of : List ℕ → Option Section
-section_of line =
-    if starts_with nat_eq line (codes "@type:") then Some ModelType
+section_of line = if starts_with nat_eq line (codes "@type:") then Some ModelType
     else (if starts_with nat_eq line (codes "@value_type:") then Some ValueType
     else (if bytes_eq line (codes "@parameters") then Some Parameters
     else (if bytes_eq line (codes "@reward_models") then Some RewardModels

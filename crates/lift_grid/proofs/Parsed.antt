@@ -13,7 +13,6 @@ use Rattle.std.specs.declared.cmp.Ordering.{Ordering}
 use Rattle.std.specs.declared.cmp.Ordering.TheVariants.{Less, Equal, Greater}
 use Rattle.std.proofs.lemmas.Int.{ints, unsigned_abs-mul}
 use Rattle.lift_bytes.specs.Bytes as byte
-use Rattle.lift_bytes.specs.Trimming.{trimmed_front}
 use Rattle.lift_frac.specs.Gcd.{gcd}
 use Rattle.lift_frac.specs.Laws.{LowestIsFraction, ValueIsFraction}
 use Rattle.lift_frac.specs.Literal as literal
@@ -130,8 +129,8 @@ module _ (quotients : LowestIsFraction) (literals : ValueIsFraction) where
   literal_worth : (text : List ℕ) → IfOk (literal_at text) IsWorthFirst
   unfolding literal_at
   literal_worth text =
-      tested IsWorthFirst (byte.first_passes is_ascii_digit (trimmed_front text)) (Ok (literal.value_of (literal.literal_at (trimmed_front text)).0, (literal.literal_at (trimmed_front text)).1)) (Err Syntax)
-      (value_worth (literal.literal_at (trimmed_front text)).0) tt
+      tested IsWorthFirst (byte.first_passes is_ascii_digit (byte.behind byte.is_blank text)) (Ok (literal.value_of (literal.literal_at (byte.behind byte.is_blank text)).0, (literal.literal_at (byte.behind byte.is_blank text)).1)) (Err Syntax)
+      (value_worth (literal.literal_at (byte.behind byte.is_blank text)).0) tt
 
   one_worth : IsFraction (record { num = pos 1; den = pos 1 })
   unfolding gcd

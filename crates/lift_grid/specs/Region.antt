@@ -14,7 +14,6 @@ use Rattle.std.specs.Str.{bytes_eq}
 use Rattle.std.specs.Ordering.{int_cmp}
 use Rattle.std.specs.declared.cmp.Ordering.TheVariants.{Less, Equal, Greater}
 use Rattle.lift_bytes.specs.Bytes as byte
-use Rattle.lift_bytes.specs.Trimming.{trimmed_front}
 use Rattle.lift_frac.specs.Gcd.{lcm}
 use Rattle.lift_frac.specs.Limits.{size_limit}
 use Rattle.lift_frac.specs.Literal as literal
@@ -34,8 +33,7 @@ abbrev pub ◌>>=◌ : {A B E : Type 0} → Result A E → (A → Result B E) �
 -- What stands behind a mark at the front. Here and below blanks before a part are passed over.
 abbrev pub behind_mark : List ℕ → List ℕ → Option (List ℕ)
 behind_mark mark text =
-    let rest = trimmed_front text in
-    if bytes_eq (take (length mark) rest) mark then Some (drop (length mark) rest) else None
+    let rest = byte.behind byte.is_blank text in if bytes_eq (take (length mark) rest) mark then Some (drop (length mark) rest) else None
 
 -- a number that is written, or that it is too wide
 abbrev pub Number : Type 0
@@ -44,7 +42,7 @@ Number = Result Ratio FracError
 -- the literal at the front, the longest one, and what stands behind it; Syntax where there is none
 unfoldable pub literal_at : List ℕ → Result (Number × List ℕ) RegionError
 literal_at text =
-    let rest = trimmed_front text in
+    let rest = byte.behind byte.is_blank text in
     if byte.first_passes is_ascii_digit rest then Ok (literal.value_of (literal.literal_at rest).0, (literal.literal_at rest).1) else Err Syntax
 
 -- whether a minus stands at the front, and what stands behind it
@@ -75,7 +73,7 @@ end_at text = do
 -- the name at the front, the longest one, and what stands behind it
 unfoldable pub name_at : List ℕ → Result (List ℕ × List ℕ) RegionError
 name_at text =
-    let rest = trimmed_front text in
+    let rest = byte.behind byte.is_blank text in
     let len = prefix_len byte.is_name_byte rest in
     if byte.first_passes byte.begins_name rest then Ok (take len rest, drop len rest) else Err Syntax
 
@@ -171,8 +169,7 @@ is_narrow s = nat_lt (unsigned_abs s.0) size_limit && nat_lt (unsigned_abs s.1) 
 
 -- the intervals over the grid; Wide where the size of an end is the limit or more
 unfoldable pub spans_over : ℕ → ℕ → List Interval → Result Spans RegionError
-spans_over d depth intervals =
-    let spans = map (span_over d depth) intervals in if list_all is_narrow spans then Ok spans else Err Wide
+spans_over d depth intervals = let spans = map (span_over d depth) intervals in if list_all is_narrow spans then Ok spans else Err Wide
 
 -- a rectangle over its grid
 pub record Region : Type 0 where
