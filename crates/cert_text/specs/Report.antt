@@ -1,8 +1,8 @@
 -- The text of a report: version 1 of our own format. A report is a head and the nodes of a tree, line by line.
+use Prim.Native.Char.{code}
 use Rattle.std.specs.Prelude.{◌+◌, ◌*◌, ◌^◌, ◌==◌, ℕ, ℤ, List, [], ◌∷◌, ◌++◌, length, map, codes, Bool, true, false, if◌then◌else◌}
 use Rattle.std.specs.List.{concat}
 use Rattle.std.specs.Fmt.{decimal, signed_decimal}
-use Rattle.lift_bytes.specs.Bytes.{space, slash, colon}
 use Rattle.lift_poly.specs.Polynomial.{Term}
 use Rattle.lift_grid.specs.Rectangle.{Spans, sides_of}
 use Rattle.lift_grid.specs.Tree.{Tree, RejectData}
@@ -21,7 +21,7 @@ use Rattle.lift_cert.specs.declared.bound.Bound.{Bound}
 abbrev pub line : List (List ℕ) → List ℕ
 line [] = codes "\n"
 line (word ∷ []) = word ++ codes "\n"
-line (word ∷ words) = word ++ space ∷ line words
+line (word ∷ words) = word ++ code " " ∷ line words
 
 -- a word and one number behind it
 abbrev pub number_words : List ℕ → ℕ → List (List ℕ)
@@ -70,7 +70,7 @@ goal_words goal = codes "goal" ∷ decimal (length (goal_states 0 goal)) ∷ map
 
 -- a term: its set and its coefficient
 abbrev pub term_word : Term → List ℕ
-term_word term = decimal term.0 ++ colon ∷ signed_decimal term.1
+term_word term = decimal term.0 ++ code ":" ∷ signed_decimal term.1
 
 -- an entry: its target, and the terms of its polynomial over the common denominator by ascending set; none for 0
 abbrev pub entry_words : Entry → List (List ℕ)
@@ -110,7 +110,7 @@ model_lines m =
 
 -- a bound
 abbrev pub bound_words : Bound → List (List ℕ)
-bound_words bound = codes "bound" ∷ (decimal bound.num ++ slash ∷ decimal bound.den) ∷ []
+bound_words bound = codes "bound" ∷ (decimal bound.num ++ code "/" ∷ decimal bound.den) ∷ []
 
 -- bound, precision, depth and the grid's number
 unfoldable pub asked_lines : CaseData → Bound → List (List ℕ)
@@ -139,7 +139,7 @@ mark_word m = if m == unmarked then codes "-" else decimal m
 abbrev pub reject_words : ℕ → ℕ → ℤ → ℕ → List (List ℕ)
 reject_words e k y z =
     codes "reject" ∷ codes "e" ∷ decimal e ∷ codes "k" ∷ decimal k ∷ codes "m" ∷ decimal (e * k)
-    ∷ codes "b" ∷ (signed_decimal y ++ slash ∷ decimal z) ∷ []
+    ∷ codes "b" ∷ (signed_decimal y ++ code "/" ∷ decimal z) ∷ []
 
 -- a rejecting leaf, at a precision: its first line, then the number, the pick and the rank of each state
 abbrev pub reject_lines : ℕ → ℕ → RejectData → List (List ℕ)

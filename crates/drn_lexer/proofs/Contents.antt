@@ -1,9 +1,10 @@
 -- What a line says, as a span of the text.
-use Rattle.std.proofs.Common.{◌≡◌, ◌+◌, ◌-◌, ◌≤◌, ℕ, Bool, true, false, List, length, take, drop, sym, ◌∙◌, ap, cond, arith, length-take-le}
+use Prim.Native.Char.{code}
+use Rattle.std.proofs.Common.{codes, ◌≡◌, ◌+◌, ◌-◌, ◌≤◌, ℕ, Bool, true, false, List, length, take, drop, sym, ◌∙◌, ap, cond, arith, length-take-le}
 use Rattle.std.specs.Prelude.{nat_eq, slice_range, ◌∷◌, []}
 use Rattle.std.specs.List.{prefix_len, suffix_len, ends_with}
 use Rattle.std.proofs.lemmas.List.{take_all}
-use Rattle.lift_bytes.specs.Bytes.{carriage_return, is_blank}
+use Rattle.lift_bytes.specs.Bytes.{is_blank}
 use Rattle.lift_bytes.specs.Trimming.{trimmed}
 use Rattle.drn_lexer.specs.Lines.{without_return}
 use Rattle.drn_lexer.proofs.Pieces.{range-take, range-drop, length-range}
@@ -22,7 +23,7 @@ pub content_at : (text bytes inner : List ℕ) (from to n : ℕ) → bytes ≡ w
     → slice_range text (from + n) (from + n + length inner) ≡ trimmed (without_return (slice_range text from to))
 content_at text bytes inner from to n b count i fits ordered within =
     let whole = slice_range text from to in
-    let test = ends_with nat_eq whole (carriage_return ∷ []) in
+    let test = ends_with nat_eq whole (codes "\r") in
     let len = length bytes in
     let rest = drop (prefix_len is_blank bytes) bytes in
     let kept_of_rest = length rest - suffix_len is_blank rest in

@@ -1,11 +1,11 @@
 -- The first line at a place.
+use Prim.Native.Char.{code}
 use Rattle.std.proofs.Common.{◌≡◌, ◌+◌, ◌-◌, ◌<◌, ◌≤◌, ℕ, Bool, true, false, refl, List, [], ◌∷◌, length, take, drop, sym, ◌∙◌, ap, inl, inr, not, cond, min, arith, length-drop, length-take-le}
 use Rattle.std.specs.Prelude.{◌==◌, slice_range}
 use Rattle.std.specs.List.{slice_split, position_or_len}
 use Rattle.std.proofs.Math.Nat.{eq-or-lt_of_le}
 use Rattle.std.proofs.lemmas.List.{take_all}
 use Rattle.std.proofs.lemmas.List.Splits.{slice_split_first, slice_split-cons_no, length-slice_split}
-use Rattle.lift_bytes.specs.Bytes.{line_feed}
 use Rattle.drn_lexer.specs.Lines.{TextLine, numbered, without_empty_end, lines_from, lines_at, place_behind}
 use Rattle.drn_lexer.specs.Steps.{text_line, IsAtEnd, IsFirstLine}
 use Rattle.drn_lexer.specs.declared.line.Place.{Place}
@@ -18,13 +18,13 @@ not_last [] (next ∷ pieces) h = refl
 not_last (b ∷ piece) (next ∷ pieces) h = refl
 
 -- a line with its line feed
-with_feed : (number at len : ℕ) (text : List ℕ) → len ≡ position_or_len (λ b. b == line_feed) text → len < length text
+with_feed : (number at len : ℕ) (text : List ℕ) → len ≡ position_or_len (λ b. b == code "\n") text → len < length text
     → lines_from number at text ≡ record { number = number; at = at; bytes = take len text } ∷ lines_from (number + 1) (at + len + 1) (drop (len + 1) text)
 unfolding lines_from
 with_feed number at len text e h =
-    let cut = slice_split_first (λ b. b == line_feed) text 0 (omega (arith, e)) ∙ ap (λ n. take n text ∷ slice_split (λ b. b == line_feed) (drop (n + 1) text)) (sym e) in
-    let rest = slice_split (λ b. b == line_feed) (drop (len + 1) text) in
-    let some : 0 < length rest = omega (arith, length-slice_split (λ b. b == line_feed) (drop (len + 1) text)) in
+    let cut = slice_split_first (λ b. b == code "\n") text 0 (omega (arith, e)) ∙ ap (λ n. take n text ∷ slice_split (λ b. b == code "\n") (drop (n + 1) text)) (sym e) in
+    let rest = slice_split (λ b. b == code "\n") (drop (len + 1) text) in
+    let some : 0 < length rest = omega (arith, length-slice_split (λ b. b == code "\n") (drop (len + 1) text)) in
     ap (λ ps. numbered number at (without_empty_end ps)) cut
     ∙ ap (numbered number at) (not_last (take len text) rest some)
     ∙ ap (λ n. let line : TextLine = record { number = number; at = at; bytes = take len text } in line ∷ numbered (number + 1) (at + n + 1) (without_empty_end rest)) (length-take-le len text (omega arith))
@@ -40,11 +40,11 @@ no_cut p [] h = refl
 no_cut p (x ∷ xs) h = no_cut_step p x xs (p x) refl (no_cut p xs) h
 
 -- the last line, without a line feed
-without_feed : (number at : ℕ) (text : List ℕ) → length text ≤ position_or_len (λ b. b == line_feed) text → 0 < length text
+without_feed : (number at : ℕ) (text : List ℕ) → length text ≤ position_or_len (λ b. b == code "\n") text → 0 < length text
     → lines_from number at text ≡ record { number = number; at = at; bytes = text } ∷ []
 unfolding lines_from
 without_feed number at [] h some = absurd (omega arith)
-without_feed number at (b ∷ text) h some = ap (λ ps. numbered number at (without_empty_end ps)) (no_cut (λ b. b == line_feed) (b ∷ text) h)
+without_feed number at (b ∷ text) h some = ap (λ ps. numbered number at (without_empty_end ps)) (no_cut (λ b. b == code "\n") (b ∷ text) h)
 
 no_lines : (number at : ℕ) (text : List ℕ) → length text < 1 → lines_from number at text ≡ []
 unfolding lines_from
@@ -78,7 +78,7 @@ lines_behind : (text : List ℕ) (number from len next : ℕ) → from + len ≤
 lines_behind text number from len next h e = ap (λ k. lines_from (number + 1) k (drop k text)) (at_behind text from len h ∙ sym e)
 
 -- a line with its line feed is left
-with_feed_at : (text rest : List ℕ) (place : Place) (len : ℕ) → place.at ≤ length text → rest ≡ drop place.at text → len ≡ position_or_len (λ b. b == line_feed) rest → len < length rest
+with_feed_at : (text rest : List ℕ) (place : Place) (len : ℕ) → place.at ≤ length text → rest ≡ drop place.at text → len ≡ position_or_len (λ b. b == code "\n") rest → len < length rest
     → lines_at text place ≡ text_line text (record { from = place.at; to = place.at + len; number = place.number })
     ∷ lines_at text (place_behind text (text_line text (record { from = place.at; to = place.at + len; number = place.number })))
 with_feed_at text rest place len within r e more =
@@ -93,7 +93,7 @@ with_feed_at text rest place len within r e more =
     (sym (lines_behind text place.number place.at len (place.at + len + 1) (omega (arith, size, more)) (omega (arith, size, more))))
 
 -- the last line is left
-without_feed_at : (text rest : List ℕ) (place : Place) (len : ℕ) → place.at ≤ length text → rest ≡ drop place.at text → 0 < length rest → len ≡ position_or_len (λ b. b == line_feed) rest → len ≡ length rest
+without_feed_at : (text rest : List ℕ) (place : Place) (len : ℕ) → place.at ≤ length text → rest ≡ drop place.at text → 0 < length rest → len ≡ position_or_len (λ b. b == code "\n") rest → len ≡ length rest
     → lines_at text place ≡ text_line text (record { from = place.at; to = place.at + len; number = place.number })
     ∷ lines_at text (place_behind text (text_line text (record { from = place.at; to = place.at + len; number = place.number })))
 without_feed_at text rest place len within r some e all =
@@ -108,7 +108,7 @@ without_feed_at text rest place len within r some e all =
     ∙ no_lines (place.number + 1) (length text) (drop (length text) text) nothing))
 
 -- a line is left, and this many bytes of it stand before the line feed or the end of the text
-pub first_line : (text rest : List ℕ) (place : Place) (len : ℕ) → place.at ≤ length text → rest ≡ drop place.at text → 0 < length rest → len ≡ position_or_len (λ b. b == line_feed) rest → len ≤ length rest
+pub first_line : (text rest : List ℕ) (place : Place) (len : ℕ) → place.at ≤ length text → rest ≡ drop place.at text → 0 < length rest → len ≡ position_or_len (λ b. b == code "\n") rest → len ≤ length rest
     → IsFirstLine text place (record { from = place.at; to = place.at + len; number = place.number })
 first_line text rest place len within r some e fits = record {
   from = refl;

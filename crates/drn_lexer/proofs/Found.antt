@@ -2,9 +2,8 @@
 use Rattle.std.proofs.Common.{◌≡◌, ◌+◌, ◌-◌, ◌≤◌, ℕ, Bool, true, false, ◌&&◌, not, take, drop, get_or, List, [], ◌∷◌, length, sym, refl, ◌∙◌, ap, subst, arith, Option, Some, Result, Ok, Err}
 use Rattle.std.specs.Prelude.{◌==◌, slice_range, IfErr, if◌then◌else◌}
 use Rattle.std.specs.List.{prefix_len, list_any, position_or_len}
-use Rattle.lift_bytes.specs.Bytes.{is_blank}
+use Rattle.lift_bytes.specs.Bytes.{is_blank, behind}
 use Rattle.drn_lexer.specs.Cutting.{Piece}
-use Rattle.lift_bytes.specs.Trimming.{trimmed_front}
 use Rattle.drn_lexer.specs.Symbols.{symbols}
 use Rattle.drn_lexer.specs.Words.{WordKind, words, word_front, begins_open_quote}
 use Rattle.drn_lexer.specs.Spans.{IsFirst, first_symbol, first_word}
@@ -84,5 +83,5 @@ answers_at from line (b ∷ tail) d =
     (answers_by from front.1 (b ∷ take front.0 tail) (words (drop front.0 tail)) (begins_open_quote (b ∷ tail)) facts)
 
 -- OpenQuote is answered exactly where the next word begins with a quote that has no end, and no other error is
-pub open_quote : (from : ℕ) (line : List ℕ) (answer : Result (Option Word) LexError) → answer ≡ first_word from (words line) → AnswersOpen answer (begins_open_quote (trimmed_front line))
-open_quote from line answer e = subst (λ (a : Result (Option Word) LexError). AnswersOpen a (begins_open_quote (trimmed_front line))) (sym e) (answers_at from line (trimmed_front line) refl)
+pub open_quote : (from : ℕ) (line : List ℕ) (answer : Result (Option Word) LexError) → answer ≡ first_word from (words line) → AnswersOpen answer (begins_open_quote (behind is_blank line))
+open_quote from line answer e = subst (λ (a : Result (Option Word) LexError). AnswersOpen a (begins_open_quote (behind is_blank line))) (sym e) (answers_at from line (behind is_blank line) refl)

@@ -1,7 +1,8 @@
 -- The lines of a model text, by this project's profile of the DRN format.
+use Prim.Native.Char.{code}
 use Rattle.std.specs.Prelude.{ℕ, Bool, true, false, nat_eq, nat_lt, List, [], ◌∷◌, ◌==◌, ◌&&◌, ◌||◌, ◌+◌, ◌-◌, ◌^◌, not, min, take, drop, length, codes, Option, Some, None, Result, Ok, Err, if◌then◌else◌}
 use Rattle.std.specs.List.{slice_split, prefix_len, list_all, starts_with, ends_with}
-use Rattle.lift_bytes.specs.Bytes.{line_feed, carriage_return, is_blank}
+use Rattle.lift_bytes.specs.Bytes.{is_blank}
 use Rattle.lift_bytes.specs.Trimming.{trimmed}
 use Rattle.drn_lexer.specs.Bytes.{is_text_byte}
 use Rattle.drn_lexer.specs.declared.error.LexError.{LexError}
@@ -28,7 +29,7 @@ numbered number at (piece ∷ pieces) = record { number = number; at = at; bytes
 
 -- the lines of a text whose first one has this number and begins at this place
 unfoldable pub lines_from : ℕ → ℕ → List ℕ → List TextLine
-lines_from number at text = numbered number at (without_empty_end (slice_split (λ b. b == line_feed) text))
+lines_from number at text = numbered number at (without_empty_end (slice_split (λ b. b == code "\n") text))
 
 -- the lines of a text, cut at line feeds and numbered from 1
 abbrev pub lines : List ℕ → List TextLine
@@ -40,7 +41,7 @@ lines_at text place = lines_from place.number place.at (drop place.at text)
 
 -- without one carriage return at the end
 abbrev pub without_return : List ℕ → List ℕ
-without_return bytes = if ends_with nat_eq bytes (carriage_return ∷ []) then take (length bytes - 1) bytes else bytes
+without_return bytes = if ends_with nat_eq bytes (codes "\r") then take (length bytes - 1) bytes else bytes
 
 -- what a line says: its bytes without one carriage return at the end, and then without blanks at both ends
 abbrev pub content : TextLine → List ℕ

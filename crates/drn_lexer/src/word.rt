@@ -2,8 +2,7 @@ ghost use Rattle.std.specs.Prelude.{◌≡◌, ℕ, ◌↔◌, ◌+◌, ◌-◌,
 ghost use Rattle.std.specs.Prelude.{slice_range, Ok, Err, None, IfOk, IfErr, IfSome, IsTrue, Some};
 ghost use Rattle.std.specs.Prelude.{if◌then◌else◌};
 ghost use Rattle.std.specs.List.{prefix_len, list_all, list_any, position_or_len};
-ghost use Rattle.lift_bytes.specs.Bytes.{is_blank};
-ghost use Rattle.lift_bytes.specs.Trimming.{trimmed_front};
+ghost use Rattle.lift_bytes.specs.Bytes.{is_blank, behind};
 ghost use Rattle.drn_lexer.specs.Spans.{LiesIn, IsOn, first_word, IsNextWord};
 ghost use Rattle.drn_lexer.specs.Steps.{FrontIs};
 ghost use Rattle.drn_lexer.specs.Words.{words, word_front, begins_open_quote, unquoted};
@@ -102,7 +101,7 @@ pub fn next_word(text: &[u8], line: Line, at: usize) -> Result<Option<Word>, Lex
     ensures answer { let rest = slice_range text.now at line.to in
         result ≡ first_word (at + prefix_len is_blank rest) (words rest) }
     ensures quote { let rest = slice_range text.now at line.to in
-        (result ≡ Err LexError.OpenQuote) ↔ IsTrue (begins_open_quote (trimmed_front rest)) }
+        (result ≡ Err LexError.OpenQuote) ↔ IsTrue (begins_open_quote (behind is_blank rest)) }
     ensures cause { IfErr result (λ fault. fault ≡ LexError.OpenQuote) }
     ensures next { IfOk result (λ found. IfSome found (IsNextWord text.now line at)) }
 {

@@ -15,6 +15,7 @@ use Rattle.drn_read.proofs.Lists.{find_none, All-from_flat_map}
 use Rattle.lift_frac.specs.Parts.{capped}
 use Rattle.lift_frac.specs.Laws.{LcmIsAtLeast}
 use Rattle.lift_model.specs.declared.kind.Kind.{Kind}
+use Rattle.lift_model.specs.declared.kind.Kind.TheVariants.{Dtmc}
 use Rattle.lift_model.specs.declared.entry.Entry.{Entry}
 use Rattle.lift_model.specs.Model.{ModelData}
 use Rattle.lift_model.specs.Valid.{common_limit}
@@ -26,7 +27,7 @@ use Rattle.drn_read.specs.Judging.{choiceless}
 use Rattle.drn_read.specs.declared.error.DrnCause.TheVariants.{NoChoice, TargetRange, CommonDenominator}
 use Rattle.drn_read.specs.declared.error.DrnError.{DrnError}
 use Rattle.lift_frac.specs.Gcd.{lcm}
-use Rattle.drn_read.specs.Reading.{all_transitions, common, is_large, entry, kind_or_chain, model, common_fault}
+use Rattle.drn_read.specs.Reading.{all_transitions, common, is_large, entry, model, common_fault}
 use Rattle.drn_read.specs.Shown.{first_in, outside, with_den, Becomes, refusal}
 use Rattle.drn_read.specs.declared.state.Transition.{Transition}
 
@@ -248,14 +249,14 @@ same_data k l a b ns ms gs hs i j rs ts e f g h m n = cc
 
 -- the model from its parts, where the states were seen twice
 pub model_is : (header : Header) (states two three : List StateText) (kind : Option Kind) (k : Kind) (c : ℕ) (ns : List (List ℕ)) (gs : List Bool) (i : ℕ) (rs : List (List (List Entry)))
-    → two ≡ states → three ≡ states → kind ≡ header.kind → k ≡ kind_or_chain kind → c ≡ common two → c < common_limit → ns ≡ header.names → gs ≡ map (λ s. s.goal) two → i ≡ position_or_len (λ s. s.init) three
+    → two ≡ states → three ≡ states → kind ≡ header.kind → k ≡ unwrap_or kind Dtmc → c ≡ common two → c < common_limit → ns ≡ header.names → gs ≡ map (λ s. s.goal) two → i ≡ position_or_len (λ s. s.init) three
     → rs ≡ map (λ s. map (map (entry (common two))) s.choices) two → model (record { header = header; states = states }) ≡ parts k (to_z w64 c) ns gs i rs
 unfolding model
 model_is header states two three kind k c ns gs i rs d e f g same small h m n o =
     let number : to_z w64 c ≡ pos c = to_z_pos w64 c (omega (arith, small)) in
-    same_data (kind_or_chain header.kind) k (pos (common states)) (to_z w64 c) header.names ns (map (λ (s : StateText). s.goal) states) gs (position_or_len (λ (s : StateText). s.init) states) i
+    same_data (unwrap_or header.kind Dtmc) k (pos (common states)) (to_z w64 c) header.names ns (map (λ (s : StateText). s.goal) states) gs (position_or_len (λ (s : StateText). s.init) states) i
     (map (λ (s : StateText). map (map (entry (common states))) s.choices) states) rs
-    (sym (g ∙ ap kind_or_chain f)) (sym (number ∙ ap pos (same ∙ ap common d))) (sym h) (sym (m ∙ ap (map (λ (s : StateText). s.goal)) d)) (sym (n ∙ ap (position_or_len (λ (s : StateText). s.init)) e))
+    (sym (g ∙ ap (λ (k : Option Kind). unwrap_or k Dtmc) f)) (sym (number ∙ ap pos (same ∙ ap common d))) (sym h) (sym (m ∙ ap (map (λ (s : StateText). s.goal)) d)) (sym (n ∙ ap (position_or_len (λ (s : StateText). s.init)) e))
     (sym (o ∙ ap (λ (ss : List StateText). map (λ (s : StateText). map (map (entry (common ss))) s.choices) ss) d))
 
 -- where the last test finds nothing either, the whole text is without fault

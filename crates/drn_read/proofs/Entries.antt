@@ -1,4 +1,5 @@
 -- A transition's line by its pieces.
+use Prim.Native.Char.{code}
 use Rattle.std.proofs.Common.{◌≡◌, ◌==◌, ◌&&◌, ◌||◌, ◌≤◌, ◌<◌, ◌+◌, ◌^◌, ℕ, length-take-le, one-add, Bool, true, false, cond, List, [], ◌∷◌, length, take, drop, Option, Some, None, refl, sym, ◌∙◌, ap, arith}
 use Rattle.std.specs.Prelude.{is_some, nat_lt, not}
 use Rattle.std.specs.List.{list_all, prefix_len}
@@ -10,7 +11,7 @@ use Rattle.std.proofs.lemmas.Bool.Decides.{nat_tests}
 use Rattle.std.proofs.lemmas.Int.Digits.{digits_value-lt}
 use Rattle.std.proofs.lemmas.Str.{digit_value_digit}
 use Rattle.lift_frac.specs.Parts.{capped}
-use Rattle.lift_bytes.specs.Bytes.{colon, is_blank, first_passes, behind}
+use Rattle.lift_bytes.specs.Bytes.{is_blank, first_passes, behind}
 use Rattle.drn_read.specs.Faults.{when}
 use Rattle.drn_read.specs.Text.{most_digits, behind_colon}
 use Rattle.drn_read.specs.States.{target_text}
@@ -69,13 +70,13 @@ digits_end line digits e =
 
 -- the test of a line with these digits and what stands behind them
 fault_of_parts : (line digits rest : List ℕ) → target_text line ≡ digits → behind is_ascii_digit line ≡ rest
-    → target_text_fault line ≡ when (nat_lt most_digits (length digits) || not (first_passes (λ b. b == colon) (behind is_blank rest))) Syntax
+    → target_text_fault line ≡ when (nat_lt most_digits (length digits) || not (first_passes (λ b. b == code ":") (behind is_blank rest))) Syntax
 fault_of_parts line digits rest e f =
-    ap (λ (ds : List ℕ). when (nat_lt most_digits (length ds) || not (first_passes (λ b. b == colon) (behind is_blank (behind is_ascii_digit line)))) Syntax) e
-    ∙ ap (λ (r : List ℕ). when (nat_lt most_digits (length digits) || not (first_passes (λ b. b == colon) (behind is_blank r))) Syntax) f
+    ap (λ (ds : List ℕ). when (nat_lt most_digits (length ds) || not (first_passes (λ b. b == code ":") (behind is_blank (behind is_ascii_digit line)))) Syntax) e
+    ∙ ap (λ (r : List ℕ). when (nat_lt most_digits (length digits) || not (first_passes (λ b. b == code ":") (behind is_blank r))) Syntax) f
 
-colon_is : (rest : List ℕ) (o : Option (List ℕ)) → behind_colon rest ≡ o → first_passes (λ b. b == colon) (behind is_blank rest) ≡ is_some o
-colon_is rest o e = by_test (first_passes (λ b. b == colon) (behind is_blank rest)) ∙ ap (λ (o : Option (List ℕ)). is_some o) e
+colon_is : (rest : List ℕ) (o : Option (List ℕ)) → behind_colon rest ≡ o → first_passes (λ b. b == code ":") (behind is_blank rest) ≡ is_some o
+colon_is rest o e = by_test (first_passes (λ b. b == code ":") (behind is_blank rest)) ∙ ap (λ (o : Option (List ℕ)). is_some o) e
   where
     by_test : (b : Bool) → b ≡ is_some (cond b (Some (drop 1 (behind is_blank rest))) None)
     by_test true = refl
@@ -87,7 +88,7 @@ short_is line digits o d within short e =
     let size : length (take digits line) ≡ digits = length-take-le digits line within in
     let lt : nat_lt most_digits (length (take digits line)) ≡ false = rw size (grind (arith, nat_tests)) in
     fault_of_parts line (take digits line) (drop digits line) d.front d.rest
-    ∙ ap (λ b. when (b || not (first_passes (λ b. b == colon) (behind is_blank (drop digits line)))) Syntax) lt
+    ∙ ap (λ b. when (b || not (first_passes (λ b. b == code ":") (behind is_blank (drop digits line)))) Syntax) lt
     ∙ ap (λ b. when (not b) Syntax) (colon_is (drop digits line) o e)
 
 -- too many digits
@@ -96,7 +97,7 @@ long_text line digits d within long =
     let size : length (take digits line) ≡ digits = length-take-le digits line within in
     let lt : nat_lt most_digits (length (take digits line)) ≡ true = rw size (grind (arith, nat_tests)) in
     fault_of_parts line (take digits line) (drop digits line) d.front d.rest
-    ∙ ap (λ b. when (b || not (first_passes (λ b. b == colon) (behind is_blank (drop digits line)))) Syntax) lt
+    ∙ ap (λ b. when (b || not (first_passes (λ b. b == code ":") (behind is_blank (drop digits line)))) Syntax) lt
 
 -- no colon behind the digits
 pub no_colon : (line : List ℕ) (digits : ℕ) → DigitsEnd line digits → digits ≤ length line → digits ≤ most_digits → behind_colon (drop digits line) ≡ None → target_text_fault line ≡ Some Syntax

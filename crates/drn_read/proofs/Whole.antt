@@ -2,7 +2,7 @@
 use Rattle.std.proofs.Common.{is_some, ◌≡◌, ◌≢◌, ◌==◌, ℕ, ◌/◌, ◌^◌, ◌<◌, ◌≤◌, ◌||◌, Bool, true, false, not, List, [], ◌∷◌, length, get_or, map, fold, All, Contains, pos, unsigned_abs, Option, Some, None, refl, sym, ap, subst, ◌∙◌, arith, count_ones, le_trans}
 use Rattle.std.specs.Prelude.{nat_le}
 use Rattle.std.specs.List.{list_any, find, flat_map, sum_by, count_by}
-use Rattle.std.specs.Option.{option_map}
+use Rattle.std.specs.Option.{option_map, unwrap_or}
 use Rattle.std.proofs.Math.Nat.{pow-le-pow_right}
 use Rattle.std.proofs.lemmas.Bool.{leb-false, eqb-true, eqb-false, not-false, or_parts}
 use Rattle.std.proofs.lemmas.List.{length-map, get_or-map}
@@ -18,7 +18,7 @@ use Rattle.drn_read.specs.Faults.{when, told}
 use Rattle.drn_read.specs.States.{StateText}
 use Rattle.drn_read.specs.Judging.{Said, has, choice_count, choiceless}
 use Rattle.lift_frac.specs.Gcd.{lcm}
-use Rattle.drn_read.specs.Reading.{all_transitions, common, scaled, is_large, mismatch, end_fault, entry, kind_or_chain, model}
+use Rattle.drn_read.specs.Reading.{all_transitions, common, scaled, is_large, mismatch, end_fault, entry, model}
 use Rattle.drn_read.specs.declared.error.DrnCause.{DrnCause}
 use Rattle.drn_read.specs.declared.error.DrnCause.TheVariants.{MissingSection, NoState, CountMismatch, TargetRange, InitCount, UnknownLabel, CommonDenominator}
 use Rattle.drn_read.specs.declared.error.DrnError.{DrnError}
@@ -161,8 +161,8 @@ entry_count c states =
 
 -- ---- the model
 
-chain_kind : (kind : Option Kind) → kind_or_chain kind ≡ Dtmc → kind ≢ Some Mdp
-chain_kind kind e same = let f : kind_or_chain kind ≡ Mdp = ap kind_or_chain same in cc
+chain_kind : (kind : Option Kind) → unwrap_or kind Dtmc ≡ Dtmc → kind ≢ Some Mdp
+chain_kind kind e same = let f : unwrap_or kind Dtmc ≡ Mdp = ap (λ (k : Option Kind). unwrap_or k Dtmc) same in cc
 
 goal_there : (states : List StateText) → list_any (λ s. s.goal) states ≡ true → Contains (map (λ s. s.goal) states) true
 goal_there states e =

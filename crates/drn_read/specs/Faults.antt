@@ -1,8 +1,11 @@
 -- Causes of a refusal, and which of several tests comes first.
 use Rattle.std.specs.Prelude.{ℕ, Bool, codes, List, [], ◌∷◌, Option, Some, None, Result, Ok, Err, if◌then◌else◌}
 use Rattle.std.specs.Option.{option_map}
+use Rattle.drn_lexer.specs.Cutting.{Piece}
+use Rattle.drn_lexer.specs.Words.{WordKind}
 use Rattle.drn_lexer.specs.declared.error.LexError.{LexError}
 use Rattle.drn_lexer.specs.declared.error.LexError.TheVariants as lex
+use Rattle.drn_lexer.specs.declared.word.WordForm.{WordForm}
 use Rattle.drn_expr.specs.declared.error.ExprError.{ExprError}
 use Rattle.drn_expr.specs.declared.error.ExprError.TheVariants as expr
 use Rattle.drn_read.specs.declared.error.DrnCause.{DrnCause}
@@ -37,6 +40,10 @@ abbrev pub first_of : {A : Type 0} → List (Option A) → Option A
 first_of [] = None
 first_of (Some fault ∷ tests) = Some fault
 first_of (None ∷ tests) = first_of tests
+
+-- a word's own fault, or else what is wrong with it by its form
+abbrev pub word_fault : Piece WordKind → (WordForm → Option DrnCause) → Option DrnCause
+word_fault w by_form = elim w.form [ Err fault ↦ Some (lexed fault) | Ok form ↦ by_form form ]
 
 -- what is wrong with what was read
 abbrev pub fault_of : {A : Type 0} → Result A DrnCause → Option DrnCause

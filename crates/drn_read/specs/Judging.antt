@@ -1,4 +1,5 @@
 -- The tests of a line of a model text, by what the lines before it say, in their order from the left, by this project's profile of the DRN format.
+use Prim.Native.Char.{code}
 use Rattle.std.specs.Prelude.{ℕ, Bool, true, false, not, is_none, is_some, nat_lt, nat_le, List, [], ◌∷◌, ◌++◌, ◌==◌, ◌&&◌, ◌||◌, length, sum_by, codes, Option, Some, None, Ok, Err, if◌then◌else◌}
 use Rattle.std.specs.List.{list_any}
 use Rattle.std.specs.Option.{option_and_then}
@@ -8,12 +9,12 @@ use Rattle.std.specs.Str.Parse.{digits_value}
 use Rattle.lift_model.specs.declared.kind.Kind.{Kind}
 use Rattle.lift_model.specs.declared.kind.Kind.TheVariants.{Mdp}
 use Rattle.lift_model.specs.Valid.{most_states, most_choices, most_transitions, most_parameters, most_name_bytes}
-use Rattle.lift_bytes.specs.Bytes.{colon, dollar, exclamation, left_brace, right_bracket, is_blank, first_passes, behind}
+use Rattle.lift_bytes.specs.Bytes.{is_blank, first_passes, behind}
 use Rattle.drn_lexer.specs.Cutting.{Piece}
 use Rattle.drn_lexer.specs.Lines.{TextLine, content, is_blank_line}
 use Rattle.drn_lexer.specs.Words.{WordKind, words}
 use Rattle.drn_lexer.specs.declared.word.WordForm.TheVariants as word
-use Rattle.drn_read.specs.Faults.{when, first_of, fault_of, lexed, told}
+use Rattle.drn_read.specs.Faults.{when, first_of, word_fault, fault_of, lexed, told}
 use Rattle.drn_read.specs.Parts.{last, is_empty}
 use Rattle.drn_read.specs.Text.{most_digits, is_digits, is_name}
 use Rattle.drn_read.specs.Sections.{Header, Placeholder, section_of, is_same, is_head, kind_of, type_text, placeholder_name, placeholder_value}
@@ -46,8 +47,7 @@ abbrev pub section_fault : Header → List ℕ → Section → Option DrnCause
 section_fault h line s = first_of (
     when (has s h) RepeatedSection
     ∷ when (is_same s ModelType && is_none (kind_of (type_text line))) UnsupportedType
-    ∷ when (is_same s Model && not (has ModelType h)) MissingSection
-    ∷ [])
+    ∷ when (is_same s Model && not (has ModelType h)) MissingSection ∷ [])
 
 -- a line that begins with `@`
 abbrev pub head_fault : Header → List ℕ → Option DrnCause
@@ -55,15 +55,11 @@ head_fault h line = elim (section_of line) [ Some s ↦ section_fault h line s |
 
 -- a word of the list of parameters, behind these names
 abbrev pub name_fault : List (List ℕ) → Piece WordKind → Option DrnCause
-name_fault names w = elim w.form [
-  | Err fault ↦ Some (lexed fault)
-  | Ok form ↦ first_of (
-      when (not (is_name w.bytes)) Syntax
-      ∷ when (nat_lt most_name_bytes (length w.bytes)) LimitName
-      ∷ when (list_any (bytes_eq w.bytes) names) RepeatedName
-      ∷ when (nat_le most_parameters (length names)) LimitParameters
-      ∷ [])
-]
+name_fault names w = word_fault w (λ form. first_of (
+    when (not (is_name w.bytes)) Syntax
+    ∷ when (nat_lt most_name_bytes (length w.bytes)) LimitName
+    ∷ when (list_any (bytes_eq w.bytes) names) RepeatedName
+    ∷ when (nat_le most_parameters (length names)) LimitParameters ∷ []))
 
 -- the list of parameters, whose words are tested one by one
 abbrev pub names_fault : List (List ℕ) → List (Piece WordKind) → Option DrnCause
@@ -76,15 +72,14 @@ count_fault line = when (not (is_digits line && nat_le (length line) most_digits
 
 -- a placeholder's line has a name
 abbrev pub nameless_fault : List ℕ → Option DrnCause
-nameless_fault line = when (not (first_passes (λ b. b == dollar) line) || is_empty (placeholder_name line)) Syntax
+nameless_fault line = when (not (first_passes (λ b. b == code "$") line) || is_empty (placeholder_name line)) Syntax
 
 -- the name of one more placeholder, behind these
 abbrev pub new_name_fault : List Placeholder → List ℕ → Option DrnCause
 new_name_fault before name = first_of (
     when (nat_lt most_name_bytes (length name)) LimitName
     ∷ when (list_any (λ p. bytes_eq name p.name) before) RepeatedName
-    ∷ when (nat_le most_placeholders (length before)) LimitPlaces
-    ∷ [])
+    ∷ when (nat_le most_placeholders (length before)) LimitPlaces ∷ [])
 
 -- the name in a placeholder's line
 abbrev pub placeholder_name_fault : List Placeholder → List ℕ → Option DrnCause
@@ -137,7 +132,7 @@ target_fault states target = elim (open_choice states) [
 -- the digits of a transition's line, and the colon behind them
 abbrev pub target_text_fault : List ℕ → Option DrnCause
 target_text_fault line =
-    when (nat_lt most_digits (length (target_text line)) || not (first_passes (λ b. b == colon) (behind is_blank (behind is_ascii_digit line)))) Syntax
+    when (nat_lt most_digits (length (target_text line)) || not (first_passes (λ b. b == code ":") (behind is_blank (behind is_ascii_digit line)))) Syntax
 
 -- one more transition, to this target
 abbrev pub room_fault : List StateText → ℕ → Option DrnCause
@@ -149,27 +144,19 @@ transition_fault h states line = first_of (
     when (is_empty states) Syntax
     ∷ target_text_fault line
     ∷ room_fault states (target_of line)
-    ∷ fault_of (entry_value h.names h.placeholders line)
-    ∷ [])
+    ∷ fault_of (entry_value h.names h.placeholders line) ∷ [])
 
 -- a group that has its end
 abbrev pub is_closed : Piece WordKind → Bool
-is_closed w = list_any (λ b. b == right_bracket) w.bytes
+is_closed w = list_any (λ b. b == code "]") w.bytes
 
 -- a label, which begins with neither `!` nor `{`
 abbrev pub label_fault : List ℕ → Option DrnCause
-label_fault label = first_of (
-    when (first_passes (λ b. b == exclamation) label) ExitRate
-    ∷ when (first_passes (λ b. b == left_brace) label) Observation
-    ∷ [])
+label_fault label = first_of (when (first_passes (λ b. b == code "!") label) ExitRate ∷ when (first_passes (λ b. b == code "{") label) Observation ∷ [])
 
 -- a word among the labels of a state's line; a group may be the first of them alone
 abbrev pub state_word_fault : Bool → Piece WordKind → Option DrnCause
-state_word_fault is_first w = elim w.form [
-  | Err fault ↦ Some (lexed fault)
-  | Ok word.Group ↦ when (not (is_first && is_closed w)) Syntax
-  | Ok _ ↦ label_fault w.bytes
-]
+state_word_fault is_first w = word_fault w (λ form. elim form [ word.Group ↦ when (not (is_first && is_closed w)) Syntax | _ ↦ label_fault w.bytes ])
 
 -- the words behind a state's number: an optional group, and then labels
 abbrev pub labels_fault : Bool → List (Piece WordKind) → Option DrnCause
@@ -178,14 +165,10 @@ labels_fault is_first (w ∷ ws) = elim (state_word_fault is_first w) [ Some cau
 
 -- the number of a state, where so many stand before it
 abbrev pub number_fault : ℕ → Piece WordKind → Option DrnCause
-number_fault before w = elim w.form [
-  | Err fault ↦ Some (lexed fault)
-  | Ok _ ↦ first_of (
-      when (not (is_digits w.bytes)) Syntax
-      ∷ when (not (digits_value 10 w.bytes == before)) StateOrder
-      ∷ when (nat_le most_states before) LimitStates
-      ∷ [])
-]
+number_fault before w = word_fault w (λ form. first_of (
+    when (not (is_digits w.bytes)) Syntax
+    ∷ when (not (digits_value 10 w.bytes == before)) StateOrder
+    ∷ when (nat_le most_states before) LimitStates ∷ []))
 
 -- the words behind `state`
 abbrev pub state_fault : ℕ → List (Piece WordKind) → Option DrnCause
@@ -199,25 +182,17 @@ choiceless states = option_and_then (λ s. if is_empty s.choices then Some (reco
 -- nothing more stands on the line
 abbrev pub more_fault : List (Piece WordKind) → Option DrnCause
 more_fault [] = None
-more_fault (w ∷ ws) = elim w.form [ Err fault ↦ Some (lexed fault) | Ok _ ↦ Some Syntax ]
+more_fault (w ∷ ws) = word_fault w (λ form. Some Syntax)
 
 -- an optional group
 abbrev pub group_fault : List (Piece WordKind) → Option DrnCause
 group_fault [] = None
-group_fault (w ∷ ws) = elim w.form [
-  | Err fault ↦ Some (lexed fault)
-  | Ok word.Group ↦ if is_closed w then more_fault ws else Some Syntax
-  | Ok _ ↦ Some Syntax
-]
+group_fault (w ∷ ws) = word_fault w (λ form. elim form [ word.Group ↦ if is_closed w then more_fault ws else Some Syntax | _ ↦ Some Syntax ])
 
 -- the words behind `action`: an optional name, and then an optional group
 abbrev pub name_and_group_fault : List (Piece WordKind) → Option DrnCause
 name_and_group_fault [] = None
-name_and_group_fault (w ∷ ws) = elim w.form [
-  | Err fault ↦ Some (lexed fault)
-  | Ok word.Group ↦ group_fault (w ∷ ws)
-  | Ok _ ↦ group_fault ws
-]
+name_and_group_fault (w ∷ ws) = word_fault w (λ form. elim form [ word.Group ↦ group_fault (w ∷ ws) | _ ↦ group_fault ws ])
 
 -- a state of a chain has one choice, and so has one of a model without type
 abbrev pub is_chain : Option Kind → Bool
@@ -228,8 +203,7 @@ abbrev pub choice_fault : Option Kind → List StateText → Option DrnCause
 choice_fault kind states = first_of (
     when (is_empty states) Syntax
     ∷ when (is_chain kind && is_some (open_choice states)) ExtraChoice
-    ∷ when (nat_le most_choices (choice_count states)) LimitChoices
-    ∷ [])
+    ∷ when (nat_le most_choices (choice_count states)) LimitChoices ∷ [])
 
 -- an action's line
 abbrev pub action_fault : Header → List StateText → List (Piece WordKind) → Option DrnCause
@@ -242,21 +216,16 @@ words_fault h states line (w ∷ ws) = elim w.form [
   | Err fault ↦ told line.number (Some (lexed fault))
   | Ok _ ↦
       if bytes_eq w.bytes (codes "state") then first_of (choiceless states ∷ told line.number (state_fault (length states) ws) ∷ [])
-      else (if bytes_eq w.bytes (codes "action") then told line.number (action_fault h states ws)
-      else told line.number (Some Syntax))
+      else (if bytes_eq w.bytes (codes "action") then told line.number (action_fault h states ws) else told line.number (Some Syntax))
 ]
 
 -- the first fault of a line of the model
 abbrev pub model_fault : Header → List StateText → TextLine → Option DrnError
-model_fault h states line =
-    if is_head line then told line.number (Some UnknownSection)
+model_fault h states line = if is_head line then told line.number (Some UnknownSection)
     else (if is_blank_line line then None
     else (if is_transition (content line) then told line.number (transition_fault h states (content line))
     else words_fault h states line (words (content line))))
 
 -- the first fault of a line that is no comment, by what the lines before it say
 abbrev pub line_fault : Said → TextLine → Option DrnError
-line_fault said line = elim said.header.phase [
-  | phase.Model ↦ model_fault said.header said.states line
-  | _ ↦ told line.number (header_fault said.header line)
-]
+line_fault said line = elim said.header.phase [ phase.Model ↦ model_fault said.header said.states line | _ ↦ told line.number (header_fault said.header line) ]

@@ -10,8 +10,7 @@ pub record Part (Line : Type 0) : Type 0 where
 abbrev pub parts : {Line : Type 0} → (Line → Bool) → List Line → List Line × List (Part Line)
 parts begins [] = ([], [])
 parts begins (l ∷ ls) =
-    let rest = parts begins ls in
-    if begins l then ([], record { head = l; body = rest.0 } ∷ rest.1) else (l ∷ rest.0, rest.1)
+    let rest = parts begins ls in if begins l then ([], record { head = l; body = rest.0 } ∷ rest.1) else (l ∷ rest.0, rest.1)
 
 -- the last, if there is one
 abbrev pub last : {A : Type 0} → List A → Option A

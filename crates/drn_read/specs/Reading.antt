@@ -5,7 +5,6 @@ use Rattle.std.specs.Option.{option_map, unwrap_or}
 use Rattle.lift_frac.specs.Gcd.{lcm}
 use Rattle.lift_poly.specs.Polynomial.{Term}
 use Rattle.lift_poly.specs.Arithmetic as poly
-use Rattle.lift_model.specs.declared.kind.Kind.{Kind}
 use Rattle.lift_model.specs.declared.kind.Kind.TheVariants.{Dtmc}
 use Rattle.lift_model.specs.Model.{ModelData}
 use Rattle.lift_model.specs.Valid.{common_limit, coefficient_limit}
@@ -32,19 +31,13 @@ said label lines = record { header = header (sections lines); states = states la
 unfoldable pub judge : List ℕ → List TextLine → TextLine → Option DrnError
 judge label before line = elim (own_fault line) [
   | Some fault ↦ told line.number (Some (lexed fault))
-  | None ↦ elim (is_comment line) [
-    | true ↦ None
-    | false ↦ line_fault (said label before) line
-  ]
+  | None ↦ if is_comment line then None else line_fault (said label before) line
 ]
 
 -- the fault of the first line that has one, behind these others
 unfoldable pub first_fault : List ℕ → List TextLine → List TextLine → Option DrnError
 first_fault label before [] = None
-first_fault label before (line ∷ lines) = elim (judge label before line) [
-  | Some fault ↦ Some fault
-  | None ↦ first_fault label (before ++ line ∷ []) lines
-]
+first_fault label before (line ∷ lines) = elim (judge label before line) [ Some fault ↦ Some fault | None ↦ first_fault label (before ++ line ∷ []) lines ]
 
 -- ---- the end of the text
 
@@ -79,8 +72,7 @@ common_fault states = when (nat_le common_limit (common states) || list_any (is_
 -- The tests at the end of the text, whose last line has this number. A state without choice and a target that is no state are told by their own lines.
 unfoldable pub end_fault : ℕ → Said → Option DrnError
 end_fault number said =
-    let count = length said.states in
-    first_of (
+    let count = length said.states in first_of (
     told number (when (not (has Model said.header)) MissingSection)
     ∷ choiceless said.states
     ∷ told number (when (count == 0) NoState)
@@ -88,21 +80,16 @@ end_fault number said =
     ∷ option_map (λ t. record { line = t.line; cause = TargetRange }) (find (λ t. nat_le count t.target) (all_transitions said.states))
     ∷ told number (when (not (count_by (λ s. s.init) said.states == 1)) InitCount)
     ∷ told number (when (not (list_any (λ s. s.goal) said.states)) UnknownLabel)
-    ∷ told number (common_fault said.states)
-    ∷ [])
+    ∷ told number (common_fault said.states) ∷ [])
 
 -- a transition as an entry of a row, over the common denominator
 abbrev pub entry : ℕ → Transition → Entry
 entry c t = record { target = t.target; poly = scaled c t.value }
 
--- the type that was named, a chain where none was
-abbrev pub kind_or_chain : Option Kind → Kind
-kind_or_chain kind = unwrap_or kind Dtmc
-
--- The model. A choice is a row, whose entries keep the order of their lines; an entry of value 0 is kept.
+-- The model, a chain where no type was named. A choice is a row, whose entries keep the order of their lines; an entry of value 0 is kept.
 unfoldable pub model : Said → ModelData
 model said = record {
-  kind = kind_or_chain said.header.kind;
+  kind = unwrap_or said.header.kind Dtmc;
   common = pos (common said.states);
   names = said.header.names;
   goal = map (λ s. s.goal) said.states;
@@ -120,10 +107,7 @@ ended number said = elim (end_fault number said) [ Some fault ↦ Err fault | No
 
 -- The model that a text stands for, where the goal states are those with this label, or its refusal.
 unfoldable pub drn : List ℕ → List ℕ → Result ModelData DrnError
-drn text label = elim (first_fault label [] (lines text)) [
-  | Some fault ↦ Err fault
-  | None ↦ ended (last_number (lines text)) (said label (lines text))
-]
+drn text label = elim (first_fault label [] (lines text)) [ Some fault ↦ Err fault | None ↦ ended (last_number (lines text)) (said label (lines text)) ]
 
 -- the answer is this one, want of memory aside
 abbrev pub IsAnswer : Result ModelData DrnError → Result ModelData DrnError → Type 0

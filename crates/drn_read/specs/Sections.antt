@@ -1,4 +1,5 @@
 -- The sections of a model text, by this project's profile of the DRN format: what they declare, and what may stand in them.
+use Prim.Native.Char.{code}
 use Rattle.std.specs.Prelude.{ℕ, Bool, false, not, nat_eq, List, [], ◌∷◌, ◌++◌, ◌==◌, take_while, drop, length, map, filter, codes, Option, Some, None, Result, Ok, Err, if◌then◌else◌}
 use Rattle.std.specs.List.{list_all, flat_map, starts_with}
 use Rattle.std.specs.Option.{option_map}
@@ -12,7 +13,7 @@ use Rattle.drn_lexer.specs.Lines.{TextLine, content, is_comment, is_blank_line}
 use Rattle.drn_lexer.specs.Words.{words}
 use Rattle.drn_expr.specs.RatPolys.{OverOne}
 use Rattle.drn_read.specs.Parts.{Part, parts, last}
-use Rattle.drn_read.specs.Text.{at_sign, value_behind}
+use Rattle.drn_read.specs.Text.{value_behind}
 use Rattle.drn_read.specs.declared.error.DrnCause.{DrnCause}
 use Rattle.drn_read.specs.declared.section.Phase.{Phase}
 use Rattle.drn_read.specs.declared.section.Phase.TheVariants as phase
@@ -21,8 +22,7 @@ use Rattle.drn_read.specs.declared.section.Section.TheVariants.{ModelType, Value
 
 -- The section that a line begins. Behind `@type:` and `@value_type:` anything may stand, and behind the other words nothing.
 abbrev pub section_of : List ℕ → Option Section
-section_of line =
-    if starts_with nat_eq line (codes "@type:") then Some ModelType
+section_of line = if starts_with nat_eq line (codes "@type:") then Some ModelType
     else (if starts_with nat_eq line (codes "@value_type:") then Some ValueType
     else (if bytes_eq line (codes "@parameters") then Some Parameters
     else (if bytes_eq line (codes "@reward_models") then Some RewardModels
@@ -48,7 +48,7 @@ is_same a b = section_number a == section_number b
 
 -- a line that begins with `@`
 abbrev pub is_head : TextLine → Bool
-is_head line = first_passes (λ b. b == at_sign) (content line)
+is_head line = first_passes (λ b. b == code "@") (content line)
 
 -- The sections of a text are the sublists of its lines that begin at lines with `@`. Comment lines belong to none.
 abbrev pub sections : List TextLine → List (Part TextLine)

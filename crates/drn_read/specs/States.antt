@@ -100,8 +100,7 @@ transitions lines = flat_map transition lines
 abbrev pub choices : List ModelLine → List (List Transition)
 choices lines =
     let cut = parts is_action lines in
-    let actions = map (λ action. transitions action.body) cut.1 in
-    if is_empty cut.0 then actions else transitions cut.0 ∷ actions
+    let actions = map (λ action. transitions action.body) cut.1 in if is_empty cut.0 then actions else transitions cut.0 ∷ actions
 
 -- a state: its line, whether it carries `init` and whether the goal's label, and its choices
 pub record StateText : Type 0 where

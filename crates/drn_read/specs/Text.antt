@@ -1,9 +1,10 @@
 -- Pieces of a line, by this project's profile of the DRN format.
+use Prim.Native.Char.{code}
 use Rattle.std.specs.Prelude.{ℕ, Bool, List, ◌==◌, ◌&&◌, not, nat_lt, length, drop, count_ones, Option, Some, None, Result, Ok, Err, if◌then◌else◌}
 use Rattle.std.specs.List.{list_all}
 use Rattle.std.specs.Char.{is_ascii_digit}
 use Rattle.lift_poly.specs.Arithmetic.{support}
-use Rattle.lift_bytes.specs.Bytes.{colon, is_blank, begins_name, is_name_byte, first_passes, behind}
+use Rattle.lift_bytes.specs.Bytes.{is_blank, begins_name, is_name_byte, first_passes, behind}
 use Rattle.drn_expr.specs.Values.{reading}
 use Rattle.drn_expr.specs.RatPolys.{OverOne}
 use Rattle.drn_read.specs.Faults.{valued}
@@ -18,10 +19,6 @@ most_digits = 20
 abbrev pub most_value_parameters : ℕ
 most_value_parameters = 4
 
--- `@`, with which a section begins
-abbrev pub at_sign : ℕ
-at_sign = 64
-
 -- one or more digits
 abbrev pub is_digits : List ℕ → Bool
 is_digits word = list_all is_ascii_digit word && not (length word == 0)
@@ -32,7 +29,7 @@ is_name word = first_passes begins_name word && list_all is_name_byte word
 
 -- what stands behind a colon, around which blanks are free; none without a colon
 abbrev pub behind_colon : List ℕ → Option (List ℕ)
-behind_colon text = if first_passes (λ b. b == colon) (behind is_blank text) then Some (drop 1 (behind is_blank text)) else None
+behind_colon text = if first_passes (λ b. b == code ":") (behind is_blank text) then Some (drop 1 (behind is_blank text)) else None
 
 -- a value that holds no more parameters than it may
 abbrev pub with_few_parameters : OverOne → Result OverOne DrnCause

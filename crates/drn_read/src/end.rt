@@ -3,11 +3,11 @@ ghost use Rattle.std.specs.Prelude.{◌≡◌, ◌==◌, ◌<◌, ◌≤◌, ◌
 ghost use Rattle.std.specs.Prelude.{find, count_by, is_some, position, All, Some, None, IfOk, OnOk};
 ghost use Rattle.std.specs.Prelude.{◌^◌};
 ghost use Rattle.std.specs.List.{list_any, position_or_len};
-ghost use Rattle.std.specs.Option.{option_map};
+ghost use Rattle.std.specs.Option.{option_map, unwrap_or};
 ghost use Rattle.lift_model.specs.Valid.{most_states, common_limit, IsModel};
 ghost use Rattle.drn_read.specs.Faults.{when, first_of, told};
 ghost use Rattle.drn_read.specs.Judging.{has, choice_count};
-ghost use Rattle.drn_read.specs.Reading.{differs, mismatch, kind_or_chain, all_transitions, common};
+ghost use Rattle.drn_read.specs.Reading.{differs, mismatch, all_transitions, common};
 ghost use Rattle.drn_read.specs.Reading.{entry, common_fault, end_fault, model};
 ghost use Rattle.drn_read.specs.Shown.{Tells, TellsLine, refusal, outside, first_in, TargetsBelow};
 
@@ -222,7 +222,7 @@ fn goals(alloc: Global, states: &[State]) -> Result<Vec<bool>, AllocError>
 
 /// The type that was named, a chain where none was.
 fn kind_or_chain(kind: Option<Kind>) -> Kind
-    ensures { result ≡ kind_or_chain kind }
+    ensures { result ≡ unwrap_or kind Kind.Dtmc }
 {
     kind.unwrap_or(Kind::Dtmc)
 }

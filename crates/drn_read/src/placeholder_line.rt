@@ -2,7 +2,7 @@
 ghost use Rattle.std.specs.Prelude.{◌≡◌, ◌<◌, ◌≤◌, ◌==◌, ◌+◌, false, length, drop, IfOk};
 ghost use Rattle.std.specs.List.{list_any};
 ghost use Rattle.std.specs.Str.{bytes_eq};
-ghost use Rattle.lift_bytes.specs.Bytes.{dollar, first_passes, is_name_byte, behind};
+ghost use Rattle.lift_bytes.specs.Bytes.{code, first_passes, is_name_byte, behind};
 ghost use Rattle.drn_read.specs.Faults.{fault_of};
 ghost use Rattle.drn_read.specs.Sections.{placeholder_name};
 ghost use Rattle.drn_read.specs.Judging.{most_placeholders, nameless_fault, new_name_fault};
@@ -19,7 +19,7 @@ const MOST_PLACEHOLDERS: usize = 65_536;
 
 /// Whether a line begins with `$`.
 fn begins_dollar(line: &[u8]) -> bool
-    ensures { result ≡ first_passes (λ b. b == dollar) line.now }
+    ensures { result ≡ first_passes (λ b. b == code "$") line.now }
 {
     matches!(line, [b'$', ..])
 }

@@ -3,8 +3,8 @@ ghost use Rattle.std.specs.Prelude.{◌≡◌, ◌==◌, ◌≤◌, length};
 ghost use Rattle.std.specs.List.{prefix_len, list_all};
 ghost use Rattle.std.specs.Option.{option_map};
 ghost use Rattle.std.specs.Char.{is_ascii_digit};
-ghost use Rattle.lift_bytes.specs.Bytes.{colon, begins_name, is_name_byte, first_passes};
-ghost use Rattle.drn_read.specs.Text.{at_sign, is_name, behind_colon};
+ghost use Rattle.lift_bytes.specs.Bytes.{code, begins_name, is_name_byte, first_passes};
+ghost use Rattle.drn_read.specs.Text.{is_name, behind_colon};
 ghost use Rattle.drn_read.specs.Shown.{rest};
 
 use crate::cursor::Cursor;
@@ -25,7 +25,7 @@ pub(crate) fn digits_len(text: &[u8]) -> usize
 
 /// Whether a line begins with `@`.
 pub(crate) fn is_head(line: &[u8]) -> bool
-    ensures { result ≡ first_passes (λ b. b == at_sign) line.now }
+    ensures { result ≡ first_passes (λ b. b == code "@") line.now }
 {
     matches!(line, [b'@', ..])
 }
@@ -53,7 +53,7 @@ pub(crate) fn is_name(word: &[u8]) -> bool
 }
 
 fn begins_colon(text: &[u8]) -> bool
-    ensures { result ≡ first_passes (λ b. b == colon) text.now }
+    ensures { result ≡ first_passes (λ b. b == code ":") text.now }
 {
     matches!(text, [b':', ..])
 }

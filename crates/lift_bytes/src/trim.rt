@@ -1,7 +1,7 @@
 ghost use Rattle.std.specs.Prelude.{◌≡◌, ◌+◌, ◌≤◌, length};
 ghost use Rattle.std.specs.List.{prefix_len, suffix_len};
-ghost use Rattle.lift_bytes.specs.Bytes.{is_blank};
-ghost use Rattle.lift_bytes.specs.Trimming.{trimmed_front, trimmed_end, trimmed};
+ghost use Rattle.lift_bytes.specs.Bytes.{is_blank, behind};
+ghost use Rattle.lift_bytes.specs.Trimming.{trimmed_end, trimmed};
 
 use crate::class::is_blank;
 use crate::front::blanks_len;
@@ -20,7 +20,7 @@ fn blanks_at_end(text: &[u8]) -> usize
 
 /// Without the blanks at the front.
 pub fn trimmed_front(text: &[u8]) -> &[u8]
-    ensures trimmed { result.now ≡ trimmed_front text.now }
+    ensures trimmed { result.now ≡ behind is_blank text.now }
     ensures within { prefix_len is_blank text.now + length result.now ≤ length text.now }
 {
     &text[blanks_len(text)..]

@@ -1,9 +1,12 @@
 -- What the answer to a text says of the grammar.
-use Rattle.std.proofs.Common.{◌≡◌, ◌++◌, List, [], ◌∷◌, ℕ, pos, ◌*◌, ◌-◌, ◌^◌, Bool, true, false, Result, Ok, Err, Option, Some, None, cond, refl, sym, ap, ◌∙◌, subst, append-nil}
+use Rattle.std.proofs.Common.{◌≡◌, ◌++◌, length, arith, List, [], ◌∷◌, ℕ, pos, ◌*◌, ◌-◌, ◌^◌, Bool, true, false, Result, Ok, Err, Option, Some, None, cond, refl, sym, ap, ◌∙◌, subst, append-nil}
 use Rattle.std.specs.Prelude.{◌&&◌, ◌==◌, ◌↔◌}
+use Rattle.lift_bytes.specs.Bytes as byte
+use Rattle.std.specs.Char.{is_ascii_digit}
+use Rattle.std.proofs.lemmas.Bool.Decides.{nat_tests}
 use Rattle.lift_frac.specs.Ratio.{Ratio, lowest, is_wide, fraction}
 use Rattle.lift_frac.specs.Frac.{answer_of}
-use Rattle.lift_frac.specs.Literal.{Literal, begins_digit, is_end, literal_at, is_literal, number, up, down, is_far, scaled, value_of, reading}
+use Rattle.lift_frac.specs.Literal.{Literal, literal_at, is_literal, number, up, down, is_far, scaled, value_of, reading}
 use Rattle.lift_frac.specs.Grammar.{Writes}
 use Rattle.lift_frac.specs.declared.frac.Frac.{Frac}
 use Rattle.lift_frac.specs.declared.error.FracError.{FracError}
@@ -13,13 +16,13 @@ use Rattle.lift_frac.proofs.Writing.{literal_front, written_read, writes_begin, 
 -- ---- the definitions after their tests
 
 abbrev scaled_by : ℕ → ℕ → ℕ → Bool → Result Ratio FracError
-scaled_by n up down far = elim far [ true ↦ Err Wide | false ↦ fraction (pos (n * 10 ^ (up - down))) (pos (10 ^ (down - up))) ]
+scaled_by n up down far = cond far (Err Wide) (fraction (pos (n * 10 ^ (up - down))) (pos (10 ^ (down - up))))
 
 abbrev value_by : Literal → Bool → Result Ratio FracError
-value_by l none = elim none [ true ↦ Ok (record { num = pos 0; den = pos 1 }) | false ↦ scaled (number l) (up l) (down l) ]
+value_by l none = cond none (Ok (record { num = pos 0; den = pos 1 })) (scaled (number l) (up l) (down l))
 
 abbrev reading_by : List ℕ → Bool → Result Ratio FracError
-reading_by text fits = elim fits [ true ↦ value_of (literal_at text).0 | false ↦ Err BadLiteral ]
+reading_by text fits = cond fits (value_of (literal_at text).0) (Err BadLiteral)
 
 abbrev parts_by : List ℕ → Bool → Option Literal
 parts_by text fits = cond fits (Some (literal_at text).0) None
@@ -66,7 +69,7 @@ value_not_bad l h = value_tested l (number l == 0) h
 
 written_is_literal : (text : List ℕ) (l : Literal) → Writes text l → is_literal text ≡ true
 written_is_literal text l w =
-    ap (λ t. t && is_end (literal_at text).1) (writes_begin text l w) ∙ ap (λ t. is_end t.1) (written_read text l w)
+    ap (λ t. t && (length (literal_at text).1 == 0)) (writes_begin text l w) ∙ ap (λ t. length t.1 == 0) (written_read text l w)
 
 -- a text that writes a literal is worth what that literal is
 pub reading-written : (text : List ℕ) (l : Literal) → Writes text l → reading text ≡ value_of l
@@ -76,16 +79,16 @@ reading-written text l w =
 written_not_bad : (text : List ℕ) (l : Literal) → Writes text l → reading text ≡ Err BadLiteral → ⊥
 written_not_bad text l w h = value_not_bad l (sym (reading-written text l w) ∙ h)
 
-end_is : (rest : List ℕ) → is_end rest ≡ true → rest ≡ []
+end_is : (rest : List ℕ) → (length rest == 0) ≡ true → rest ≡ []
 end_is [] h = refl
-end_is (b ∷ rest) h = cc
+end_is (b ∷ rest) h = absurd (grind (arith, nat_tests, h))
 
 -- a text that is a literal is written by the grammar
 literal_written : (text : List ℕ) → is_literal text ≡ true → Writes text (literal_at text).0
 literal_written text h =
-    let begins = first_of_and (begins_digit text) (is_end (literal_at text).1) h in
+    let begins = first_of_and (byte.first_passes is_ascii_digit text) (length (literal_at text).1 == 0) h in
     let all = literal_front text begins in
-    let rest = end_is (literal_at text).1 (second_of_and (begins_digit text) (is_end (literal_at text).1) h) in
+    let rest = end_is (literal_at text).1 (second_of_and (byte.first_passes is_ascii_digit text) (length (literal_at text).1 == 0) h) in
     let whole : all.front ≡ text = sym (append-nil all.front) ∙ ap (λ t. all.front ++ t) (sym rest) ∙ sym all.text_is in
     let P : List ℕ → Type 0 = λ t. Writes t (literal_at text).0 in
     subst P whole all.writes

@@ -1,5 +1,5 @@
 -- Powers of ten, and numbers times them.
-use Rattle.std.proofs.Common.{◌≡◌, ◌≢◌, ◌+◌, ◌-◌, ◌*◌, ◌^◌, ◌<◌, ◌≤◌, ℕ, pos, ap, sym, ◌∙◌, arith, to_z, Bool, true, false, Err, Result}
+use Rattle.std.proofs.Common.{◌≡◌, ◌≢◌, ◌+◌, ◌-◌, ◌*◌, ◌^◌, ◌<◌, ◌≤◌, ℕ, pos, ap, sym, ◌∙◌, arith, to_z, Bool, true, false, cond, Err, Result}
 use Rattle.std.specs.Int.{w128}
 use Rattle.std.proofs.Math.Nat.{one-le-pow, pow-le-pow_right}
 use Rattle.std.proofs.lemmas.Nat.{mul-lt}
@@ -35,5 +35,5 @@ scaled-raised n up down p small order close e =
     let fits : n * p < size_limit * 2 ^ 60 = mul-lt n p size_limit (2 ^ 60) small (omega (arith, e, power_small (up - down) (omega arith))) in
     let num : to_z w128 (n * p) ≡ pos (n * 10 ^ (up - down)) = to_z_pos w128 (n * p) (omega arith) ∙ ap (λ k. pos (n * k)) e in
     let den : pos (10 ^ (down - up)) ≡ pos 1 = ap (λ k. pos (10 ^ k)) zero in
-    let after_test = λ (b : Bool). let r : Result Ratio FracError = elim b [ true ↦ Err Wide | false ↦ fraction (pos (n * 10 ^ (up - down))) (pos (10 ^ (down - up))) ] in r in
+    let after_test = λ (b : Bool). let r : Result Ratio FracError = cond b (Err Wide) (fraction (pos (n * 10 ^ (up - down))) (pos (10 ^ (down - up)))) in r in
     ap (λ k. fraction k (pos 1)) num ∙ ap (λ k. fraction (pos (n * 10 ^ (up - down))) k) (sym den) ∙ sym (ap after_test far)

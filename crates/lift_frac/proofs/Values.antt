@@ -56,16 +56,13 @@ no_fraction : IsFraction (record { num = pos 0; den = pos 1 })
 no_fraction = record { positive = above_zero 1 (omega arith); num = omega arith; den = omega arith; lowest = gcd-one 0 }
 
 scaled_by : ℕ → ℕ → ℕ → Bool → Result Ratio FracError
-scaled_by n u d true = Err Wide
-scaled_by n u d false = fraction (pos (n * 10 ^ (u - d))) (pos (10 ^ (d - u)))
+scaled_by n u d far = cond far (Err Wide) (fraction (pos (n * 10 ^ (u - d))) (pos (10 ^ (d - u))))
 
 value_by : ℕ → ℕ → ℕ → Bool → Result Ratio FracError
-value_by n u d true = Ok (record { num = pos 0; den = pos 1 })
-value_by n u d false = scaled n u d
+value_by n u d none = cond none (Ok (record { num = pos 0; den = pos 1 })) (scaled n u d)
 
 reading_by : lit.Literal → Bool → Result Ratio FracError
-reading_by l true = value_of l
-reading_by l false = Err BadLiteral
+reading_by l fits = cond fits (value_of l) (Err BadLiteral)
 
 scaled_fraction : (n u d : ℕ) (b : Bool) (r : Ratio) → scaled_by n u d b ≡ Ok r → IsFraction r
 unfolding scaled_by

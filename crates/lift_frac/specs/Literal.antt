@@ -1,4 +1,5 @@
 -- Literals, which write fractions: digits, then maybe a point and digits, then maybe `e` or `E`, maybe a sign, and digits.
+use Prim.Native.Char.{code}
 use Rattle.std.specs.Prelude.{ℕ, Bool, true, false, List, [], ◌∷◌, ◌++◌, ◌==◌, ◌||◌, ◌&&◌, ◌+◌, ◌-◌, ◌*◌, ◌^◌, pos, nat_lt, nat_le, take_while, take, drop, length, Result, Ok, Err, if◌then◌else◌}
 use Rattle.std.specs.List.{prefix_len, suffix_len}
 use Rattle.std.specs.Char.{is_ascii_digit}
@@ -16,52 +17,34 @@ pub record Literal : Type 0 where
   pub negative : Bool
   pub exponent : List ℕ
 
--- a digit stands at the front
-abbrev pub begins_digit : List ℕ → Bool
-begins_digit [] = false
-begins_digit (b ∷ text) = is_ascii_digit b
-
--- the digits at the front
-abbrev pub digits_at : List ℕ → List ℕ
-digits_at text = take_while is_ascii_digit text
-
--- what stands behind the digits at the front
-abbrev pub behind_digits : List ℕ → List ℕ
-behind_digits text = drop (prefix_len is_ascii_digit text) text
-
 -- A point and digits at the front: the digits, and what stands behind them. A point without a digit behind it is no part of a literal.
 abbrev pub decimals_at : List ℕ → List ℕ × List ℕ
 decimals_at [] = ([], [])
-decimals_at (b ∷ text) = if (b == byte.point) && begins_digit text then (digits_at text, behind_digits text) else ([], b ∷ text)
+decimals_at (b ∷ text) = if (b == code ".") && byte.first_passes is_ascii_digit text then (take_while is_ascii_digit text, byte.behind is_ascii_digit text) else ([], b ∷ text)
 
 -- A sign at the front: whether it is a minus, and what stands behind it.
 abbrev pub sign_at : List ℕ → Bool × List ℕ
 sign_at [] = (false, [])
-sign_at (b ∷ text) = if b == byte.minus then (true, text) else (if b == byte.plus then (false, text) else (false, b ∷ text))
+sign_at (b ∷ text) = if b == code "-" then (true, text) else (if b == code "+" then (false, text) else (false, b ∷ text))
 
 -- An exponent at the front: whether it has a minus, its digits, and what stands behind them. Without a digit none of it is part of a literal.
 abbrev pub exponent_at : List ℕ → Bool × List ℕ × List ℕ
 exponent_at [] = (false, [], [])
 exponent_at (b ∷ text) =
     let signed = sign_at text in
-    if ((b == byte.small_e) || (b == byte.capital_e)) && begins_digit signed.1
-    then (signed.0, digits_at signed.1, behind_digits signed.1) else (false, [], b ∷ text)
+    if ((b == code "e") || (b == code "E")) && byte.first_passes is_ascii_digit signed.1
+    then (signed.0, take_while is_ascii_digit signed.1, byte.behind is_ascii_digit signed.1) else (false, [], b ∷ text)
 
 -- the longest literal at the front, and what stands behind it
 abbrev pub literal_at : List ℕ → Literal × List ℕ
 literal_at text =
-    let decimals = decimals_at (behind_digits text) in
+    let decimals = decimals_at (byte.behind is_ascii_digit text) in
     let exponent = exponent_at decimals.1 in
-    (record { whole = digits_at text; decimals = decimals.0; negative = exponent.0; exponent = exponent.1 }, exponent.2)
-
--- nothing is left
-abbrev pub is_end : List ℕ → Bool
-is_end [] = true
-is_end (b ∷ text) = false
+    (record { whole = take_while is_ascii_digit text; decimals = decimals.0; negative = exponent.0; exponent = exponent.1 }, exponent.2)
 
 -- the whole text is a literal
 abbrev pub is_literal : List ℕ → Bool
-is_literal text = begins_digit text && is_end (literal_at text).1
+is_literal text = byte.first_passes is_ascii_digit text && (length (literal_at text).1 == 0)
 
 -- all digits before the exponent
 abbrev pub digits_of : Literal → List ℕ
@@ -69,7 +52,7 @@ digits_of l = l.whole ++ l.decimals
 
 -- how many zeros stand at their end
 abbrev pub zeros : Literal → ℕ
-zeros l = suffix_len (λ b. b == byte.zero_digit) (digits_of l)
+zeros l = suffix_len (λ b. b == code "0") (digits_of l)
 
 -- the whole number of these digits without the zeros at their end
 abbrev pub number : Literal → ℕ
@@ -93,21 +76,12 @@ is_far n up down = nat_le size_limit n || (nat_lt (down + greatest_power) up || 
 
 -- n times ten to the power `up - down`; Wide where that is far, or where a part in lowest terms is too large
 abbrev pub scaled : ℕ → ℕ → ℕ → Result Ratio FracError
-scaled n up down = elim (is_far n up down) [
-  | true ↦ Err Wide
-  | false ↦ fraction (pos (n * 10 ^ (up - down))) (pos (10 ^ (down - up)))
-]
+scaled n up down = if is_far n up down then Err Wide else fraction (pos (n * 10 ^ (up - down))) (pos (10 ^ (down - up)))
 
 -- what a literal is worth; where all its digits are 0 it is 0, whatever its exponent
 abbrev pub value_of : Literal → Result Ratio FracError
-value_of l = elim (number l == 0) [
-  | true ↦ Ok (record { num = pos 0; den = pos 1 })
-  | false ↦ scaled (number l) (up l) (down l)
-]
+value_of l = if number l == 0 then Ok (record { num = pos 0; den = pos 1 }) else scaled (number l) (up l) (down l)
 
 -- what a text is worth; BadLiteral where it isn't a literal
 abbrev pub reading : List ℕ → Result Ratio FracError
-reading text = elim (is_literal text) [
-  | true ↦ value_of (literal_at text).0
-  | false ↦ Err BadLiteral
-]
+reading text = if is_literal text then value_of (literal_at text).0 else Err BadLiteral

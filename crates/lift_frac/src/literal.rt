@@ -3,11 +3,11 @@ ghost use Rattle.std.specs.Prelude.{take, drop, ◌↔◌};
 ghost use Rattle.std.specs.List.{suffix_len, list_all};
 ghost use Rattle.std.specs.Char.{is_ascii_digit};
 ghost use Rattle.std.specs.Str.Parse.{digits_value_after, digits_value};
+ghost use Rattle.lift_bytes.specs.Bytes.{code, first_passes};
 ghost use Rattle.lift_frac.specs.Frac.{answer_of};
 ghost use Rattle.lift_frac.specs.Grammar.{Writes};
-ghost use Rattle.lift_frac.specs.Literal.{Literal, begins_digit, literal_at, digits_of, zeros};
+ghost use Rattle.lift_frac.specs.Literal.{Literal, literal_at, digits_of, zeros};
 ghost use Rattle.lift_frac.specs.Literal.{scaled, value_of, reading};
-ghost use Rattle.lift_bytes.specs.Bytes.{zero_digit};
 ghost use Rattle.lift_frac.specs.Limits.{size_limit};
 ghost use Rattle.lift_frac.specs.Parts.{exponent_limit, power_limit, literal_of, capped, AreDigits};
 
@@ -29,7 +29,7 @@ const GREATEST_POWER: u128 = 18;
 /// How many zeros stand at the end.
 fn zeros_len(digits: &[u8]) -> usize
     ensures within { result ≤ length digits.now }
-    ensures len { result ≡ suffix_len (λ b. b == zero_digit) digits.now }
+    ensures len { result ≡ suffix_len (λ b. b == code "0") digits.now }
 {
     let mut left = digits.len();
     while left > 0 && digits[left - 1] == b'0' {
@@ -163,7 +163,7 @@ pub fn read_literal(text: &[u8]) -> Result<Frac, FracError>
 /// How many bytes the longest literal at the front of the text has. A point or an exponent belongs
 /// to it only where a digit follows.
 pub fn literal_len(text: &[u8]) -> usize
-    requires { IsTrue (begins_digit text.now) }
+    requires { IsTrue (first_passes is_ascii_digit text.now) }
     ensures within { (0 < result) × (result ≤ length text.now) }
     ensures literal { Writes (take result text.now) (literal_at text.now).0 }
     ensures rest { drop result text.now ≡ (literal_at text.now).1 }

@@ -1,8 +1,9 @@
-ghost use Rattle.std.specs.Prelude.{◌≡◌, ◌<◌, ◌≤◌, length, true, IfSome, Some, None, if◌then◌else◌};
+ghost use Rattle.std.specs.Prelude.{◌≡◌, ◌<◌, ◌≤◌, length, true, IfSome, Some, None, take_while, if◌then◌else◌};
 ghost use Rattle.std.specs.List.{prefix_len, list_all};
 ghost use Rattle.std.specs.Option.{option_map};
 ghost use Rattle.std.specs.Char.{is_ascii_digit};
-ghost use Rattle.lift_frac.specs.Literal.{begins_digit, digits_at, behind_digits, decimals_at};
+ghost use Rattle.lift_bytes.specs.Bytes.{first_passes, behind};
+ghost use Rattle.lift_frac.specs.Literal.{decimals_at};
 ghost use Rattle.lift_frac.specs.Literal.{sign_at, exponent_at, literal_at, is_literal};
 ghost use Rattle.lift_frac.specs.Parts.{literal_of, AreDigits};
 
@@ -16,7 +17,7 @@ pub(crate) struct Parts<'a> {
 }
 
 fn begins_digit(text: &[u8]) -> bool
-    ensures { result ≡ begins_digit text.now }
+    ensures { result ≡ first_passes is_ascii_digit text.now }
 {
     match text {
         [first, ..] => first.is_ascii_digit(),
@@ -40,11 +41,11 @@ fn digits_len(text: &[u8]) -> usize
 /// The digits at the front, and what stands behind them.
 #[tactic(auto, using(crate::proofs::Fronts::front_passes))]
 fn split_digits(text: &[u8]) -> (&[u8], &[u8])
-    ensures front { result.0.now ≡ digits_at text.now }
+    ensures front { result.0.now ≡ take_while is_ascii_digit text.now }
     ensures digits { list_all is_ascii_digit result.0.now ≡ true }
-    ensures rest { result.1.now ≡ behind_digits text.now }
+    ensures rest { result.1.now ≡ behind is_ascii_digit text.now }
     ensures shorter { length result.1.now ≤ length text.now }
-    ensures taken { begins_digit text.now ≡ true → length result.1.now < length text.now }
+    ensures taken { first_passes is_ascii_digit text.now ≡ true → length result.1.now < length text.now }
 {
     let len = digits_len(text);
     (&text[..len], &text[len..])
@@ -94,7 +95,7 @@ fn exponent_at(text: &[u8]) -> (bool, &[u8], &[u8])
 pub(crate) fn literal_at(text: &[u8]) -> (Parts<'_>, &[u8])
     ensures value { (literal_of result.0, result.1.now) ≡ literal_at text.now }
     ensures shorter { length result.1.now ≤ length text.now }
-    ensures taken { begins_digit text.now ≡ true → length result.1.now < length text.now }
+    ensures taken { first_passes is_ascii_digit text.now ≡ true → length result.1.now < length text.now }
     ensures digits { AreDigits result.0 }
 {
     let (whole, rest) = split_digits(text);

@@ -2,6 +2,7 @@ pub mod Sides
 pub mod Ordering
 pub mod Multiples
 pub mod Ring
+pub mod LiteralEnds
 pub mod Parsed
 pub mod Spans
 pub mod Axis

@@ -1,7 +1,11 @@
 -- The intervals that a text gives: each has two ends with denominators above 0, the low one below the high one.
+use Prim.Native.Char.{code}
 use Rattle.std.proofs.Common.{◌≡◌, ◌≢◌, ◌<◌, ◌==◌, ℕ, zero, suc, List, [], ◌∷◌, ◌++◌, ℤ, pos, ◌*ℤ◌, ◌<ℤ◌, Bool, true, false, cond, Option, None, Some, Result, Ok, Err, map, length, refl, ap, arith, mul-pos, length-append}
-use Rattle.std.specs.Prelude.{unsigned_abs, is_some, position, ◌||◌, if◌then◌else◌, IfOk, IfSome}
+use Rattle.std.specs.Prelude.{codes, unsigned_abs, is_some, position, ◌||◌, if◌then◌else◌, IfOk, IfSome}
 use Rattle.std.specs.List.{AllByRecursion, list_all, slice_split}
+use Rattle.std.specs.Option.{ok_or}
+use Rattle.std.specs.Result.{result_ok}
+use Rattle.std.specs.Char.{is_ascii_digit}
 use Rattle.std.specs.Str.{bytes_eq}
 use Rattle.std.specs.Cmp.{int_ranks}
 use Rattle.std.specs.Ordering.{int_cmp, MatchOrdering}
@@ -14,11 +18,11 @@ use Rattle.lift_frac.specs.Laws.{LowestIsFraction, ValueIsFraction}
 use Rattle.lift_frac.specs.Literal as literal
 use Rattle.lift_frac.specs.Ratio.{Ratio, IsFraction, fraction}
 use Rattle.lift_frac.specs.declared.error.FracError.TheVariants as frac
-use Rattle.lift_grid.specs.Region.{◌>>=◌, or_else, skip_blanks, behind_mark, Number, literal_at, sign_at, divisor_at, signed, quotient, end_at, name_at, Clause, behind_at_most, clause_at, Interval, has_zero_divisor, narrow_number, rising, given, interval_of, interval_at, intervals_from, intervals_of, in_order}
+use Rattle.lift_grid.specs.Region.{◌>>=◌, behind_mark, Number, literal_at, sign_at, divisor_at, signed, quotient, end_at, name_at, Clause, behind_at_most, clause_at, Interval, has_zero_divisor, rising, given, interval_of, interval_at, intervals_from, intervals_of, in_order}
 use Rattle.lift_grid.specs.Parts.{ratios_of}
 use Rattle.lift_grid.specs.declared.interval.Interval as code
 use Rattle.lift_grid.specs.declared.error.RegionError.{RegionError}
-use Rattle.lift_grid.specs.declared.error.RegionError.TheVariants.{Syntax, UnknownName, Repeated, Missing, EmptyInterval}
+use Rattle.lift_grid.specs.declared.error.RegionError.TheVariants.{Syntax, UnknownName, Repeated, Missing, EmptyInterval, Wide}
 
 -- ---- steps that may fail
 
@@ -114,7 +118,7 @@ rises : (i : Interval) → pos 0 <ℤ i.low.den → pos 0 <ℤ i.high.den → If
 unfolding rising_by
 rises i low high = rises_by i (int_cmp (i.low.num *ℤ i.high.den) (i.high.num *ℤ i.low.den)) (int_ranks (i.low.num *ℤ i.high.den) (i.high.num *ℤ i.low.den)) low high
 
-narrow_worth : (number : Number) → IsWorth number → IfOk (narrow_number number) IsFraction
+narrow_worth : (number : Number) → IsWorth number → IfOk (ok_or (result_ok number) Wide) IsFraction
 narrow_worth (Err e) h = tt
 narrow_worth (Ok q) h = h
 
@@ -125,8 +129,8 @@ module _ (quotients : LowestIsFraction) (literals : ValueIsFraction) where
   literal_worth : (text : List ℕ) → IfOk (literal_at text) IsWorthFirst
   unfolding literal_at
   literal_worth text =
-      tested IsWorthFirst (literal.begins_digit (skip_blanks text)) (Ok (literal.value_of (literal.literal_at (skip_blanks text)).0, (literal.literal_at (skip_blanks text)).1)) (Err Syntax)
-      (value_worth (literal.literal_at (skip_blanks text)).0) tt
+      tested IsWorthFirst (byte.first_passes is_ascii_digit (byte.behind byte.is_blank text)) (Ok (literal.value_of (literal.literal_at (byte.behind byte.is_blank text)).0, (literal.literal_at (byte.behind byte.is_blank text)).1)) (Err Syntax)
+      (value_worth (literal.literal_at (byte.behind byte.is_blank text)).0) tt
 
   one_worth : IsFraction (record { num = pos 1; den = pos 1 })
   unfolding gcd
@@ -139,7 +143,7 @@ module _ (quotients : LowestIsFraction) (literals : ValueIsFraction) where
 
   divisor_worth : (text : List ℕ) → IfOk (divisor_at text) IsWorthFirst
   unfolding divisor_at divisor_by
-  divisor_worth text = divisor_worth_by text (behind_mark (byte.slash ∷ []) text)
+  divisor_worth text = divisor_worth_by text (behind_mark (codes "/") text)
 
   quotient_worth_by : (negative : Bool) (a b : Ratio) (zero : Bool) → (unsigned_abs b.num == 0) ≡ zero → IsFraction a → IsWorth (quotient_by negative a b zero)
   unfolding quotient_by
@@ -187,11 +191,11 @@ module _ (quotients : LowestIsFraction) (literals : ValueIsFraction) where
   interval_is names before c low high =
       after IsInterval (if has_zero_divisor c.low || has_zero_divisor c.high then Err Syntax else Ok c) _
       (λ checked.
-      and_then IsFraction IsInterval (narrow_number c.low) _ (narrow_worth c.low low)
+      and_then IsFraction IsInterval (ok_or (result_ok c.low) Wide) _ (narrow_worth c.low low)
       (λ q is_q.
-      and_then IsFraction IsInterval (narrow_number c.high) _ (narrow_worth c.high high)
+      and_then IsFraction IsInterval (ok_or (result_ok c.high) Wide) _ (narrow_worth c.high high)
       (λ r is_r.
-      after IsInterval (or_else UnknownName (position (bytes_eq c.name) names)) _
+      after IsInterval (ok_or (position (bytes_eq c.name) names) UnknownName) _
       (λ parameter.
       after IsInterval (if is_some (given before parameter) then Err Repeated else Ok parameter) _
       (λ first. rises (record { parameter = parameter; low = q; high = r }) is_q.positive is_r.positive)))))
@@ -213,7 +217,7 @@ module _ (quotients : LowestIsFraction) (literals : ValueIsFraction) where
   pub intervals_are : (names : List (List ℕ)) (text : List ℕ) → IfOk (intervals_of names text) AreIntervals
   unfolding intervals_of
   intervals_are names text =
-      let pieces = slice_split (λ b. b == byte.comma) text in
+      let pieces = slice_split (λ b. b == code ",") text in
       tested AreIntervals (list_all byte.is_blank text) (Ok []) (intervals_from names [] pieces) tt (intervals_from_are names [] pieces tt)
 
 -- ---- in declared order
@@ -226,9 +230,9 @@ given_is : (is : List Interval) (parameter : ℕ) → AreIntervals is → IfSome
 given_is [] parameter h = tt
 given_is (i ∷ is) parameter h = some_tested (i.parameter == parameter) i (given is parameter) h.0 (given_is is parameter h.1)
 
-or_else_is : (o : Option Interval) → IfSome o IsInterval → IfOk (or_else Missing o) IsInterval
-or_else_is None h = tt
-or_else_is (Some i) h = h
+given_or_missing : (o : Option Interval) → IfSome o IsInterval → IfOk (ok_or o Missing) IsInterval
+given_or_missing None h = tt
+given_or_missing (Some i) h = h
 
 -- so many intervals
 abbrev pub AreSoMany : ℕ → List Interval → Type 0
@@ -239,5 +243,5 @@ in_order_are is zero h = (tt, refl)
 in_order_are is (suc n) h =
     and_then (AreSoMany n) (AreSoMany (suc n)) (in_order is n) _ (in_order_are is n h)
     (λ front so.
-    and_then IsInterval (AreSoMany (suc n)) (or_else Missing (given is n)) _ (or_else_is (given is n) (given_is is n h))
+    and_then IsInterval (AreSoMany (suc n)) (ok_or (given is n) Missing) _ (given_or_missing (given is n) (given_is is n h))
     (λ i here. (one_more front i so.0 here, omega (arith, length-append front (i ∷ []), so.1))))

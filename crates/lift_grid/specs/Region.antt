@@ -3,8 +3,12 @@
 --     clause = end "<=" name "<=" end
 --     end    = [ "-" ] literal [ "/" literal ]
 -- Blanks may stand between any two of these parts and at both ends. A text is read as its pieces between commas.
-use Rattle.std.specs.Prelude.{◌≡◌, ℕ, zero, suc, ◌*◌, ◌/◌, ◌^◌, Bool, true, false, ◌==◌, ◌||◌, ◌&&◌, List, [], ◌∷◌, ◌++◌, ℤ, pos, ◌*ℤ◌, neg_ℤ, unsigned_abs, nat_lt, length, take, drop, map, fold, position, Option, Some, None, is_some, Result, Ok, Err, if◌then◌else◌}
+use Prim.Native.Char.{code}
+use Rattle.std.specs.Prelude.{◌≡◌, ℕ, zero, suc, ◌*◌, ◌/◌, ◌^◌, Bool, true, false, ◌==◌, ◌||◌, ◌&&◌, List, [], ◌∷◌, ◌++◌, ℤ, pos, ◌*ℤ◌, neg_ℤ, unsigned_abs, nat_lt, length, take, drop, map, fold, position, codes, Option, Some, None, is_some, Result, Ok, Err, if◌then◌else◌}
 use Rattle.std.specs.List.{prefix_len, list_all, find, slice_split}
+use Rattle.std.specs.Option.{ok_or}
+use Rattle.std.specs.Result.{result_ok}
+use Rattle.std.specs.Char.{is_ascii_digit}
 use Rattle.std.specs.Int.{◌∣◌}
 use Rattle.std.specs.Str.{bytes_eq}
 use Rattle.std.specs.Ordering.{int_cmp}
@@ -22,24 +26,14 @@ use Rattle.lift_grid.specs.declared.error.RegionError.TheVariants.{Syntax, Unkno
 
 infixl 10 ◌>>=◌
 -- one step behind another; the first refusal is told
-abbrev pub ◌>>=◌ : {A B : Type 0} → Result A RegionError → (A → Result B RegionError) → Result B RegionError
+abbrev pub ◌>>=◌ : {A B E : Type 0} → Result A E → (A → Result B E) → Result B E
 (Ok x) >>= f = f x
 (Err e) >>= f = Err e
-
--- what there is, or else that refusal
-abbrev pub or_else : {A : Type 0} → RegionError → Option A → Result A RegionError
-or_else e None = Err e
-or_else e (Some x) = Ok x
-
--- the text from its first byte on that isn't a blank
-abbrev pub skip_blanks : List ℕ → List ℕ
-skip_blanks text = byte.behind byte.is_blank text
 
 -- What stands behind a mark at the front. Here and below blanks before a part are passed over.
 abbrev pub behind_mark : List ℕ → List ℕ → Option (List ℕ)
 behind_mark mark text =
-    let rest = skip_blanks text in
-    if bytes_eq (take (length mark) rest) mark then Some (drop (length mark) rest) else None
+    let rest = byte.behind byte.is_blank text in if bytes_eq (take (length mark) rest) mark then Some (drop (length mark) rest) else None
 
 -- a number that is written, or that it is too wide
 abbrev pub Number : Type 0
@@ -48,16 +42,16 @@ Number = Result Ratio FracError
 -- the literal at the front, the longest one, and what stands behind it; Syntax where there is none
 unfoldable pub literal_at : List ℕ → Result (Number × List ℕ) RegionError
 literal_at text =
-    let rest = skip_blanks text in
-    if literal.begins_digit rest then Ok (literal.value_of (literal.literal_at rest).0, (literal.literal_at rest).1) else Err Syntax
+    let rest = byte.behind byte.is_blank text in
+    if byte.first_passes is_ascii_digit rest then Ok (literal.value_of (literal.literal_at rest).0, (literal.literal_at rest).1) else Err Syntax
 
 -- whether a minus stands at the front, and what stands behind it
 unfoldable pub sign_at : List ℕ → Bool × List ℕ
-sign_at text = elim (behind_mark (byte.minus ∷ []) text) [ None ↦ (false, text) | Some rest ↦ (true, rest) ]
+sign_at text = elim (behind_mark (codes "-") text) [ None ↦ (false, text) | Some rest ↦ (true, rest) ]
 
 -- the literal behind a slash at the front, and what stands behind that; 1 where no slash stands there
 unfoldable pub divisor_at : List ℕ → Result (Number × List ℕ) RegionError
-divisor_at text = elim (behind_mark (byte.slash ∷ []) text) [ None ↦ Ok (Ok (record { num = pos 1; den = pos 1 }), text) | Some rest ↦ literal_at rest ]
+divisor_at text = elim (behind_mark (codes "/") text) [ None ↦ Ok (Ok (record { num = pos 1; den = pos 1 }), text) | Some rest ↦ literal_at rest ]
 
 -- the number with the other sign, where there is a minus
 abbrev pub signed : Bool → ℤ → ℤ
@@ -79,7 +73,7 @@ end_at text = do
 -- the name at the front, the longest one, and what stands behind it
 unfoldable pub name_at : List ℕ → Result (List ℕ × List ℕ) RegionError
 name_at text =
-    let rest = skip_blanks text in
+    let rest = byte.behind byte.is_blank text in
     let len = prefix_len byte.is_name_byte rest in
     if byte.first_passes byte.begins_name rest then Ok (take len rest, drop len rest) else Err Syntax
 
@@ -91,7 +85,7 @@ pub record Clause : Type 0 where
 
 -- what stands behind `<=` at the front
 abbrev pub behind_at_most : List ℕ → Result (List ℕ) RegionError
-behind_at_most text = or_else Syntax (behind_mark (byte.less ∷ byte.equals ∷ []) text)
+behind_at_most text = ok_or (behind_mark (codes "<=") text) Syntax
 
 -- the clause at the front, and what stands behind it
 unfoldable pub clause_at : List ℕ → Result (Clause × List ℕ) RegionError
@@ -111,15 +105,7 @@ pub record Interval : Type 0 where
 
 -- the divisor of an end is 0
 abbrev pub has_zero_divisor : Number → Bool
-has_zero_divisor (Err frac.Zero) = true
-has_zero_divisor (Err frac.Wide) = false
-has_zero_divisor (Err frac.BadLiteral) = false
-has_zero_divisor (Ok q) = false
-
--- a number that isn't too wide
-abbrev pub narrow_number : Number → Result Ratio RegionError
-narrow_number (Err e) = Err Wide
-narrow_number (Ok q) = Ok q
+has_zero_divisor number = elim number [ Err frac.Zero ↦ true | _ ↦ false ]
 
 -- an interval is refused where its low end isn't below its high end
 abbrev pub rising : Interval → Result Interval RegionError
@@ -133,9 +119,9 @@ given intervals parameter = find (λ i. i.parameter == parameter) intervals
 unfoldable pub interval_of : List (List ℕ) → List Interval → Clause → Result Interval RegionError
 interval_of names before c = do
   checked ← if has_zero_divisor c.low || has_zero_divisor c.high then Err Syntax else Ok c
-  low ← narrow_number c.low
-  high ← narrow_number c.high
-  parameter ← or_else UnknownName (position (bytes_eq c.name) names)
+  low ← ok_or (result_ok c.low) Wide
+  high ← ok_or (result_ok c.high) Wide
+  parameter ← ok_or (position (bytes_eq c.name) names) UnknownName
   first ← if is_some (given before parameter) then Err Repeated else Ok parameter
   rising (record { parameter = parameter; low = low; high = high })
 
@@ -153,12 +139,12 @@ intervals_from names before (text ∷ pieces) = interval_at names before text >>
 
 -- the intervals that a text gives; a text of blanks alone gives none
 unfoldable pub intervals_of : List (List ℕ) → List ℕ → Result (List Interval) RegionError
-intervals_of names text = if list_all byte.is_blank text then Ok [] else intervals_from names [] (slice_split (λ b. b == byte.comma) text)
+intervals_of names text = if list_all byte.is_blank text then Ok [] else intervals_from names [] (slice_split (λ b. b == code ",") text)
 
 -- the intervals of the first n parameters, in declared order; Missing where one has none
 abbrev pub in_order : List Interval → ℕ → Result (List Interval) RegionError
 in_order intervals zero = Ok []
-in_order intervals (suc n) = in_order intervals n >>= λ front. or_else Missing (given intervals n) >>= λ interval. Ok (front ++ interval ∷ [])
+in_order intervals (suc n) = in_order intervals n >>= λ front. ok_or (given intervals n) Missing >>= λ interval. Ok (front ++ interval ∷ [])
 
 -- the least common denominator of all ends, 1 where there is none
 abbrev pub common_denominator : List Interval → ℕ
@@ -183,9 +169,7 @@ is_narrow s = nat_lt (unsigned_abs s.0) size_limit && nat_lt (unsigned_abs s.1) 
 
 -- the intervals over the grid; Wide where the size of an end is the limit or more
 unfoldable pub spans_over : ℕ → ℕ → List Interval → Result Spans RegionError
-spans_over d depth intervals =
-    let spans = map (span_over d depth) intervals in
-    if list_all is_narrow spans then Ok spans else Err Wide
+spans_over d depth intervals = let spans = map (span_over d depth) intervals in if list_all is_narrow spans then Ok spans else Err Wide
 
 -- a rectangle over its grid
 pub record Region : Type 0 where

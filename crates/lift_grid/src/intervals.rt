@@ -2,7 +2,7 @@
 ghost use Rattle.std.specs.Prelude.{◌≡◌, ◌==◌, map, IfOk};
 ghost use Rattle.std.specs.List.{list_all, slice_split};
 ghost use Rattle.std.specs.Option.{option_map};
-ghost use Rattle.lift_bytes.specs.Bytes.{is_blank, comma};
+ghost use Rattle.lift_bytes.specs.Bytes.{code, is_blank};
 ghost use Rattle.lift_grid.specs.Region.{interval_of, interval_at, intervals_of, in_order, given, Gives};
 ghost use Rattle.lift_grid.specs.Parts.{clause_of, ratios_of};
 
@@ -77,7 +77,7 @@ fn interval_at(names: &Names, before: &[Interval], text: &[u8]) -> Result<Interv
 
 /// The pieces of the text between its commas.
 fn pieces(alloc: Global, text: &[u8]) -> Result<Vec<&[u8]>, AllocError>
-    ensures { IfOk result (λ v. map (λ x. x.now) v.items ≡ slice_split (λ b. b == comma) text.now) }
+    ensures { IfOk result (λ v. map (λ x. x.now) v.items ≡ slice_split (λ b. b == code ",") text.now) }
 {
     text.split(|byte| *byte == b',').collect(alloc)
 }

@@ -2,26 +2,20 @@
 // part too.
 ghost use Rattle.std.specs.Prelude.{◌≡◌, ◌∷◌, ◌≤◌, [], length, map, option_copied, option_map};
 ghost use Rattle.lift_frac.specs.Frac.{answer_of};
-ghost use Rattle.lift_grid.specs.Region.{skip_blanks, behind_mark, literal_at, sign_at, divisor_at, quotient, end_at, name_at, behind_at_most, Gives};
+ghost use Rattle.lift_grid.specs.Region.{behind_mark, literal_at, sign_at, divisor_at, quotient, end_at, name_at, behind_at_most, Gives};
 
 use crate::error::RegionError;
-use lift_bytes::{begins_name, blanks_len, name_len};
+use lift_bytes::{begins_name, name_len, trimmed_front};
 use lift_frac::{Frac, FracError, literal_len, read_literal};
 
 /// A number that is written, or why it isn't given.
 pub(crate) type Number = Result<Frac, FracError>;
 
-fn skip_blanks(text: &[u8]) -> &[u8]
-    ensures { result.now ≡ skip_blanks text.now }
-{
-    &text[blanks_len(text)..]
-}
-
 /// What stands behind a mark.
 pub(crate) fn behind_mark<'a>(mark: &[u8], text: &'a [u8]) -> Option<&'a [u8]>
     ensures { option_copied result ≡ behind_mark mark.now text.now }
 {
-    skip_blanks(text).strip_prefix(mark)
+    trimmed_front(text).strip_prefix(mark)
 }
 
 /// A literal's value.
@@ -29,7 +23,7 @@ pub(crate) fn behind_mark<'a>(mark: &[u8], text: &'a [u8]) -> Option<&'a [u8]>
 fn literal_at(text: &[u8]) -> Result<(Number, &[u8]), RegionError>
     ensures { Gives (λ p. (answer_of p.0, p.1.now)) result (literal_at text.now) }
 {
-    let rest = skip_blanks(text);
+    let rest = trimmed_front(text);
     match rest {
         [b'0'..=b'9', ..] => {
             let (literal, rest) = rest.split_at(literal_len(rest));
@@ -96,7 +90,7 @@ pub(crate) fn end_at(text: &[u8]) -> Result<(Number, &[u8]), RegionError>
 pub(crate) fn name_at(text: &[u8]) -> Result<(&[u8], &[u8]), RegionError>
     ensures { Gives (λ p. (p.0.now, p.1.now)) result (name_at text.now) }
 {
-    let rest = skip_blanks(text);
+    let rest = trimmed_front(text);
     match rest.first() {
         Some(byte) if begins_name(*byte) => Ok(rest.split_at(name_len(rest))),
         _ => Err(RegionError::Syntax),

@@ -16,7 +16,7 @@ use Rattle.plift_words.specs.declared.error.WordsError.{WordsError}
 use Rattle.plift_words.specs.declared.error.WordsError.TheVariants as words
 use Rattle.plift_top.specs.Refused.{words_refusal}
 use Rattle.plift_top.specs.Verify.{WasRead, Reports, IsRefused, KeepsLimit, text_limit}
-use Rattle.plift_top.specs.Answers.{Acts, AsksToVerify, NoFault, WroteNote, IsNoted, HasNote, RefusesText, status_of, answered, note_of, usage_note}
+use Rattle.plift_top.specs.Answers.{Acts, AsksToVerify, NoFault, WroteNote, IsNoted, HasNote, status_of, answered, note_of}
 use Rattle.plift_top.specs.declared.status.Status.{Status}
 use Rattle.plift_top.specs.declared.status.Status.TheVariants as status
 use Rattle.plift_top.specs.declared.refusal.Refusal.{Refusal}
@@ -30,10 +30,6 @@ never_done (refusal.Usage f) e = absurd (cc)
 never_done refusal.Memory e = absurd (cc)
 never_done _ e = absurd (cc)
 
--- a refusal at the text that was read, with its status and its note
-told_of : (j : VerifyData) (why : Refusal) (old new : Option (List ℕ)) → WasRead (IsRefused j why) old new → RefusesText (status_of why) (Ok (verify j)) old new (note_of why)
-told_of j why old new read = (j, refl, read_as (λ text is. record { why = why; refused = is; status = refl; noted = refl }) read)
-
 module _ {S K : Type 0} (left : S → Option (List ℕ)) (faults : S → ℕ) (taken : K → Option (List ℕ)) (counts : K → ℕ) (source source' : S) (out out' : K) where
   pub done : (asked : Result JobData Field) (answer : Result (Unit {0}) Refusal) → Acts left faults taken counts asked source source' out out' answer → answered answer ≡ status.Done
       → (j : VerifyData) × AsksToVerify asked j × WasRead (Reports (Appends (taken out) (taken out')) j) (left source) (left source')
@@ -43,12 +39,15 @@ module _ {S K : Type 0} (left : S → Option (List ℕ)) (faults : S → ℕ) (t
 
   noted : (asked : Result JobData Field) (r : Refusal) → Acts {T = Unit {0}} left faults taken counts asked source source' out out' (Err r) → HasNote (status_of r) asked (left source) (left source') (note_of r)
   noted (Ok (verify j)) (refusal.Usage f) a = absurd a.0
-  noted (Ok (verify j)) (refusal.Region error) a = inr (told_of j (refusal.Region error) _ _ a.0)
-  noted (Ok (verify j)) (refusal.Model error) a = told_of j (refusal.Model error) _ _ a.0
-  noted (Ok (verify j)) (refusal.Rows error) a = told_of j (refusal.Rows error) _ _ a.0
-  noted (Ok (verify j)) _ a = refl
-  noted (Err f) (refusal.Usage g) a = inl (f, refl, ap usage_note a.0)
-  noted (Err f) refusal.Memory a = refl
+  noted (Ok (verify j)) refusal.ReadFault a = (refusal.ReadFault, refl, refl, tt)
+  noted (Ok (verify j)) refusal.WriteFault a = (refusal.WriteFault, refl, refl, tt)
+  noted (Ok (verify j)) refusal.TooLong a = (refusal.TooLong, refl, refl, tt)
+  noted (Ok (verify j)) refusal.Memory a = (refusal.Memory, refl, refl, tt)
+  noted (Ok (verify j)) (refusal.Region error) a = (refusal.Region error, refl, refl, (j, refl, a.0))
+  noted (Ok (verify j)) (refusal.Model error) a = (refusal.Model error, refl, refl, (j, refl, a.0))
+  noted (Ok (verify j)) (refusal.Rows error) a = (refusal.Rows error, refl, refl, (j, refl, a.0))
+  noted (Err f) (refusal.Usage g) a = (refusal.Usage g, refl, refl, ap (λ f. Err f) (sym a.0))
+  noted (Err f) refusal.Memory a = (refusal.Memory, refl, refl, tt)
   noted (Err f) _ a = absurd a.0
 
   pub told : {E : Type 0} (kept : E → Option (List ℕ)) (lost : E → ℕ) (notes notes' : E) (asked : Result JobData Field) (answer : Result (Unit {0}) Refusal) → Acts left faults taken counts asked source source' out out' answer

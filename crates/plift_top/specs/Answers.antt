@@ -1,5 +1,5 @@
 -- The answers of the program, and the notes that tell them.
-use Rattle.std.specs.Prelude.{◌≡◌, ◌≢◌, ◌≤◌, ◌⊎◌, ℕ, List, ◌++◌, codes, Ok, Err, Result}
+use Rattle.std.specs.Prelude.{◌≡◌, ◌≢◌, ◌≤◌, ⊤, ℕ, List, ◌++◌, codes, Ok, Err, Result}
 use Rattle.std.specs.Fmt.{decimal, signed_decimal}
 use Rattle.std.specs.declared.option.Option.{Option}
 use Rattle.std.specs.Io.KnownBytes.{Appends}
@@ -59,13 +59,9 @@ row_fault (Negative s a target corner weight) = codes "target " ++ decimal targe
 row_fault (RowParameters s a count) = decimal count ++ codes " parameters"
 row_fault (TooWide s a) = codes "too wide"
 
--- which row is at fault, and what is wrong with it
-abbrev pub row_words : RowError → List ℕ
-row_words error = row_place (error_row error) ++ row_fault error
-
--- the note of a row that isn't admitted
+-- the note of a row that isn't admitted: which row it is, and what is wrong with it
 abbrev pub rows_note : RowError → List ℕ
-rows_note error = codes "rows: " ++ row_words error ++ codes "\n"
+rows_note error = codes "rows: " ++ (row_place (error_row error) ++ row_fault error) ++ codes "\n"
 
 -- the note of a refusal: one line
 abbrev pub note_of : Refusal → List ℕ
@@ -103,28 +99,18 @@ AsksToVerify asked j = asked ≡ Ok (verify j)
 abbrev pub NoFault : ℕ → ℕ → Type 0
 NoFault before now = Rose before now → ⊥
 
--- the job is refused at the text, with this status and this note
-pub record IsRefusedWith (s : Status) (note : List ℕ) (job : VerifyData) (text : List ℕ) : Type 0 where
-  pub why : Refusal
-  pub refused : IsRefused job why text
-  pub status : status_of why ≡ s
-  pub noted : note_of why ≡ note
+-- The words, and what was read of a source, give cause for a refusal: their part at fault is told, or they ask for a job and it is refused at the text that was read. Faults, the length of the text and want of memory are no matter of theirs.
+abbrev pub HasCause : Refusal → Result JobData Field → Option (List ℕ) → Option (List ℕ) → Type 0
+HasCause (refusal.Usage f) asked old new = asked ≡ Err f
+HasCause refusal.ReadFault asked old new = ⊤
+HasCause refusal.WriteFault asked old new = ⊤
+HasCause refusal.TooLong asked old new = ⊤
+HasCause refusal.Memory asked old new = ⊤
+HasCause why asked old new = (j : VerifyData) × AsksToVerify asked j × WasRead (IsRefused j why) old new
 
--- the words ask for a job, and it is refused at the text that was read, with this status and this note
-abbrev pub RefusesText : Status → Result JobData Field → Option (List ℕ) → Option (List ℕ) → List ℕ → Type 0
-RefusesText s asked old new note = (j : VerifyData) × AsksToVerify asked j × WasRead (IsRefusedWith s note j) old new
-
--- an answer to these words, and to what was read of a source, has this note; a job that is done has none, and one answer doesn't come yet
+-- an answer to these words, and to what was read of a source, has this note: that of a refusal with its status, for which there is cause
 abbrev pub HasNote : Status → Result JobData Field → Option (List ℕ) → Option (List ℕ) → List ℕ → Type 0
-HasNote status.Done asked old new note = ⊥
-HasNote status.NotSound asked old new note = ⊥
-HasNote status.Usage asked old new note = ((f : Field) × (asked ≡ Err f) × (note ≡ usage_note f)) ⊎ RefusesText status.Usage asked old new note
-HasNote status.ModelRefused asked old new note = RefusesText status.ModelRefused asked old new note
-HasNote status.RowsRefused asked old new note = RefusesText status.RowsRefused asked old new note
-HasNote status.ReadFault asked old new note = note ≡ codes "read fault\n"
-HasNote status.WriteFault asked old new note = note ≡ codes "write fault\n"
-HasNote status.TooLong asked old new note = note ≡ codes "too long\n"
-HasNote status.Memory asked old new note = note ≡ codes "out of memory\n"
+HasNote s asked old new note = (why : Refusal) × (status_of why ≡ s) × (note_of why ≡ note) × HasCause why asked old new
 
 -- a note was written: whole where no fault was counted, else a part of it
 pub record WroteNote {E : Type 0} (taken : E → Option (List ℕ)) (faults : E → ℕ) (old new : E) (note : List ℕ) : Type 0 where

@@ -1,8 +1,9 @@
 // Notes of refusals.
-ghost use Rattle.std.specs.Prelude.{◌≡◌};
+ghost use Rattle.std.specs.Prelude.{◌≡◌, ◌++◌};
 ghost use Rattle.lift_base.specs.Outside.{Wrote};
+ghost use Rattle.lift_rows.specs.Number.{error_row};
 ghost use Rattle.plift_top.specs.Answers.{status_of, usage_note, region_note, model_note};
-ghost use Rattle.plift_top.specs.Answers.{row_fault, row_words};
+ghost use Rattle.plift_top.specs.Answers.{row_place, row_fault};
 ghost use Rattle.plift_top.specs.Answers.{rows_note, note_of, answered, IsNoted};
 
 use crate::refusal::Refusal;
@@ -105,7 +106,8 @@ fn write_row_fault<E: Sink>(notes: &mut E, error: RowError) -> Result<(), WriteF
 }
 
 fn write_row_words<E: Sink>(notes: &mut E, error: RowError) -> Result<(), WriteFault>
-    ensures { Wrote E.taken E.faults notes.old notes.new result (row_words error) }
+    ensures { Wrote E.taken E.faults notes.old notes.new result
+        (row_place (error_row error) ++ row_fault error) }
 {
     writes_in_turn::<E>();
     let (state, choice) = error.row();

@@ -1,11 +1,11 @@
 -- Texts that are cut at a byte, and how the options of words begin.
+use Prim.Native.Char.{code}
 use Rattle.std.proofs.Common.{◌≡◌, ◌==◌, ◌||◌, ◌<◌, ℕ, List, [], ◌∷◌, ◌++◌, length, get_or, Option, Some, None, Bool, true, false, refl, ap, ap₂, ◌∙◌, arith, option_map}
 use Rattle.std.specs.Prelude.{MatchOption}
 use Rattle.std.specs.Borrow.{Bor}
 use Rattle.std.specs.List.{list_any, position_or_len, before_first, after_first}
 use Rattle.std.proofs.lemmas.Bool.Decides.{nat_tests}
 use Rattle.std.proofs.lemmas.List.Sums.{split_at_first, passes_at_first}
-use Rattle.lift_bytes.specs.Bytes.{equals}
 use Rattle.plift_words.specs.Line.{cut_at, attached, options}
 
 pub neither : (a b : Bool) → (a || b) ≡ false → (a ≡ false) × (b ≡ false)
@@ -45,14 +45,14 @@ cut_parts c text parts e = go (list_any (λ b. b == c) text) refl
     go false is = absurd (cc (rw is at e))
 
 -- how the options of words begin
-pub options_one : (word : List ℕ) (words : List (List ℕ)) (parts : List ℕ × List ℕ) → cut_at equals word ≡ Some parts → options (word ∷ words) ≡ record { name = parts.0; value = attached parts.1 } ∷ options words
+pub options_one : (word : List ℕ) (words : List (List ℕ)) (parts : List ℕ × List ℕ) → cut_at (code "=") word ≡ Some parts → options (word ∷ words) ≡ record { name = parts.0; value = attached parts.1 } ∷ options words
 options_one word [] parts e = rw (e, options) refl
 options_one word (next ∷ words) parts e = rw (e, options) refl
 
-pub options_two : (word next : List ℕ) (words : List (List ℕ)) → cut_at equals word ≡ None → options (word ∷ next ∷ words) ≡ record { name = word; value = Some next } ∷ options words
+pub options_two : (word next : List ℕ) (words : List (List ℕ)) → cut_at (code "=") word ≡ None → options (word ∷ next ∷ words) ≡ record { name = word; value = Some next } ∷ options words
 options_two word next words e = rw (e, options) refl
 
-pub options_lone : (word : List ℕ) → cut_at equals word ≡ None → options (word ∷ []) ≡ record { name = word; value = None } ∷ []
+pub options_lone : (word : List ℕ) → cut_at (code "=") word ≡ None → options (word ∷ []) ≡ record { name = word; value = None } ∷ []
 options_lone word e = rw (e, options) refl
 
 -- what a text split at its first such byte says

@@ -1,7 +1,8 @@
 -- The parser of command lines over the options of a plain line: what each word does, in any order and in both spellings.
+use Prim.Native.Char.{code}
 use Rattle.std.proofs.Common.{◌≡◌, ◌==◌, ◌&&◌, ◌||◌, not, List, [], ◌∷◌, ◌++◌, map, Option, Some, None, Bool, true, false, refl, sym, ap, ap₂, ◌∙◌, subst, arith, codes, cond, append_assoc, append-nil, ◌⊎◌, inl, inr}
 use Rattle.std.specs.Prelude.{unwrap_or, drop}
-use Rattle.std.specs.List.{list_all, fold}
+use Rattle.std.specs.List.{list_all, list_any, fold}
 use Rattle.std.specs.Str.{bytes_eq}
 use Rattle.std.proofs.lemmas.Slice.Eq.{bytes_eq-Decides}
 use Rattle.std.proofs.lemmas.List.Folds.{list_any-append}
@@ -19,7 +20,6 @@ use Rattle.clap.specs.declared.builder.value_parser.Reading.TheVariants.{AsWritt
 use Rattle.clap.proofs.TakesLemmas.{leaf_takes}
 use Rattle.clap.proofs.WalkLemmas.{both, first_value-rows}
 use Rattle.clap.proofs.SimpleLemmas.{is_false, is_nil}
-use Rattle.lift_bytes.specs.Bytes.{equals}
 use Rattle.plift_words.specs.Line.{Setting, cut_at, attached, options, stands, value_of, is_option, is_value, are_options, is_plain}
 use Rattle.plift_words.proofs.Cuts.{neither, cut_parts, options_one, options_two, options_lone}
 use Rattle.plift_words.specs.Parser.{HasValues, verify_app}
@@ -106,7 +106,7 @@ value_passes id v rows name precision n = rw (n.long, n.short, n.marker) refl
 abbrev used_with : Text → Text → List Row → List Row
 used_with id v rows = used_by_id (arg_by_id rules id) (v ∷ []) rows
 
-one_walked : (name id v : Text) → Known name id → (h : Held) → walked rules [] (walk_from h) (name ++ equals ∷ v) ≡ walk_from (record (settled rules h) { rows = used_with id v (settled rules h).rows })
+one_walked : (name id v : Text) → Known name id → (h : Held) → walked rules [] (walk_from h) (name ++ code "=" ∷ v) ≡ walk_from (record (settled rules h) { rows = used_with id v (settled rules h).rows })
 unfolding walked shape verify_app
 one_walked name id v goal h = refl
 one_walked name id v bound h = refl
@@ -115,7 +115,7 @@ one_walked name id v depth h = refl
 one_walked name id v precision h = refl
 
 one_passes : (name id v : Text) → Known name id → (h : Held) → settle_passes rules false h ≡ true → has_row id (settled rules h).rows ≡ false
-    → turn_passes shape [] (walk_from h) (name ++ equals ∷ v) ≡ true
+    → turn_passes shape [] (walk_from h) (name ++ code "=" ∷ v) ≡ true
 unfolding shape verify_app
 one_passes name id v goal h e fresh = rw (e, fresh) refl
 one_passes name id v bound h e fresh = rw (e, fresh) refl
@@ -180,19 +180,21 @@ named : (name word : Text) → Known word (drop 2 word) → bytes_eq name word �
 named name word k e = subst (λ (w : Text). Known w (drop 2 w)) (sym ((bytes_eq-Decides name word).0 e)) k
 
 known : (name : Text) → is_option name ≡ true → Known name (drop 2 name)
-known name e = elim (either _ _ e) [
-  | inr p ↦ named name (codes "--precision") precision p
-  | inl e ↦ elim (either _ _ e) [
-    | inr d ↦ named name (codes "--depth") depth d
-    | inl e ↦ elim (either _ _ e) [
-      | inr r ↦ named name (codes "--region") region r
-      | inl e ↦ elim (either _ _ e) [
-        | inr b ↦ named name (codes "--bound") bound b
-        | inl g ↦ named name (codes "--goal") goal g
+known name e =
+    let is : Text → Bool = bytes_eq name in
+    elim (either (is (codes "--goal")) (list_any is (codes "--bound" ∷ codes "--region" ∷ codes "--depth" ∷ codes "--precision" ∷ [])) e) [
+    | inl g ↦ named name (codes "--goal") goal g
+    | inr e ↦ elim (either (is (codes "--bound")) (list_any is (codes "--region" ∷ codes "--depth" ∷ codes "--precision" ∷ [])) e) [
+      | inl b ↦ named name (codes "--bound") bound b
+      | inr e ↦ elim (either (is (codes "--region")) (list_any is (codes "--depth" ∷ codes "--precision" ∷ [])) e) [
+        | inl r ↦ named name (codes "--region") region r
+        | inr e ↦ elim (either (is (codes "--depth")) (list_any is (codes "--precision" ∷ [])) e) [
+          | inl d ↦ named name (codes "--depth") depth d
+          | inr e ↦ elim (either (is (codes "--precision")) false e) [ inl p ↦ named name (codes "--precision") precision p | inr none ↦ absurd (cc) ]
+        ]
       ]
     ]
   ]
-]
 
 -- the name is its id behind two dashes
 dashed : (name id : Text) → Known name id → name ≡ 45 ∷ 45 ∷ id
@@ -259,11 +261,11 @@ record Walks (words : List Text) (h : Held) (rows : List Row) : Type 0 where
 
 -- an option in one word, and the words behind it
 one_then : (name id v : Text) (words : List Text) (h : Held) (rows all : List Row) → Known name id → Ready h rows → has_row id rows ≡ false
-    → ((h : Held) → Ready h (rows ++ row id v ∷ []) → Walks words h all) → Walks ((name ++ equals ∷ v) ∷ words) h all
+    → ((h : Held) → Ready h (rows ++ row id v ∷ []) → Walks words h all) → Walks ((name ++ code "=" ∷ v) ∷ words) h all
 unfolding walk_passes
 one_then name id v words h rows all k r fresh next =
     let w = next (clean (rows ++ row id v ∷ [])) (clean_ready _) in
-    let same : walked rules [] (walk_from h) (name ++ equals ∷ v) ≡ walk_from (clean (rows ++ row id v ∷ [])) =
+    let same : walked rules [] (walk_from h) (name ++ code "=" ∷ v) ≡ walk_from (clean (rows ++ row id v ∷ [])) =
     one_walked name id v k h ∙ ap (λ (q : Held). walk_from (record q { rows = used_with id v q.rows })) r.settles ∙ ap (λ (rs : List Row). walk_from (clean rs)) (used_new name id v k rows fresh) in
     let new : has_row id (settled rules h).rows ≡ false = ap (λ (q : Held). has_row id q.rows) r.settles ∙ fresh in
     record {
@@ -306,7 +308,7 @@ goes_on name v words more rows next e new h r =
     let w = next h (rows ++ row (drop 2 name) v ∷ []) f.rest r (are_new_more name v rows more f.name f.rest f.once (both _ _ new).1) in
     subst (Walks words h) (append_assoc rows (row (drop 2 name) v ∷ []) (map row_of more)) w
 
-goes_one : (name v : Text) (words : List Text) (more : List Setting) → Goes words more → Goes ((name ++ equals ∷ v) ∷ words) (record { name = name; value = Some v } ∷ more)
+goes_one : (name v : Text) (words : List Text) (more : List Setting) → Goes words more → Goes ((name ++ code "=" ∷ v) ∷ words) (record { name = name; value = Some v } ∷ more)
 goes_one name v words more next h rows e r new =
     let f = front (record { name = name; value = Some v }) more e in
     one_then name (drop 2 name) v words h rows _ f.name r (are_new_here rows (record { name = name; value = Some v }) more new) (goes_on name v words more rows next e new)
@@ -320,12 +322,12 @@ goes_two name v words more next h rows e r new =
 goes_lone : (name : Text) (words : List Text) (more : List Setting) → Goes words (record { name = name; value = None } ∷ more)
 goes_lone name words more h rows e r new = absurd (cc ((front (record { name = name; value = None }) more e).value))
 
-goes_attached : (name v : Text) (words : List Text) (more : List Setting) → Goes words more → Goes ((name ++ equals ∷ v) ∷ words) (record { name = name; value = attached v } ∷ more)
+goes_attached : (name v : Text) (words : List Text) (more : List Setting) → Goes words more → Goes ((name ++ code "=" ∷ v) ∷ words) (record { name = name; value = attached v } ∷ more)
 goes_attached name [] words more next = goes_lone name _ more
 goes_attached name (b ∷ v) words more next = goes_one name (b ∷ v) words more next
 
 -- a word that is cut at `=`
-goes_cut : (word : Text) (words : List Text) (parts : Text × Text) → cut_at equals word ≡ Some parts → Goes words (options words) → Goes (word ∷ words) (options (word ∷ words))
+goes_cut : (word : Text) (words : List Text) (parts : Text × Text) → cut_at (code "=") word ≡ Some parts → Goes words (options words) → Goes (word ∷ words) (options (word ∷ words))
 goes_cut word words parts is next =
     subst (Goes (word ∷ words)) (sym (options_one word words parts is))
     (subst (λ (w : Text). Goes (w ∷ words) (record { name = parts.0; value = attached parts.1 } ∷ options words)) (sym (cut_parts 61 word parts is)) (goes_attached parts.0 parts.1 words (options words) next))
@@ -337,14 +339,14 @@ goes_none h rows e r new = record { end = h; walks = refl; passes = refl; ready 
 -- the parser takes options in any order and in both spellings
 goes : (words : List Text) → Goes words (options words)
 goes [] = goes_none
-goes (word ∷ []) = go (cut_at equals word) refl
+goes (word ∷ []) = go (cut_at (code "=") word) refl
   where
-    go : (o : Option (Text × Text)) → cut_at equals word ≡ o → Goes (word ∷ []) (options (word ∷ []))
+    go : (o : Option (Text × Text)) → cut_at (code "=") word ≡ o → Goes (word ∷ []) (options (word ∷ []))
     go None is = subst (Goes (word ∷ [])) (sym (options_lone word is)) (goes_lone word _ [])
     go (Some parts) is = goes_cut word [] parts is goes_none
-goes (word ∷ next ∷ words) = go (goes (next ∷ words)) (goes words) (cut_at equals word) refl
+goes (word ∷ next ∷ words) = go (goes (next ∷ words)) (goes words) (cut_at (code "=") word) refl
   where
-    go : Goes (next ∷ words) (options (next ∷ words)) → Goes words (options words) → (o : Option (Text × Text)) → cut_at equals word ≡ o
+    go : Goes (next ∷ words) (options (next ∷ words)) → Goes words (options words) → (o : Option (Text × Text)) → cut_at (code "=") word ≡ o
         → Goes (word ∷ next ∷ words) (options (word ∷ next ∷ words))
     go one two None is = subst (Goes (word ∷ next ∷ words)) (sym (options_two word next words is)) (goes_two word next words (options words) two)
     go one two (Some parts) is = goes_cut word (next ∷ words) parts is one

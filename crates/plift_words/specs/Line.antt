@@ -1,8 +1,8 @@
 -- The words of the command line, and which lines are plain.
+use Prim.Native.Char.{code}
 use Rattle.std.specs.Prelude.{◌==◌, ◌&&◌, ◌||◌, ℕ, List, [], ◌∷◌, codes, Option, Some, None, Bool, true, false, not, option_and_then, if◌then◌else◌, nat_eq}
 use Rattle.std.specs.List.{starts_with, list_any, find, before_first, after_first}
 use Rattle.std.specs.Str.{bytes_eq}
-use Rattle.lift_bytes.specs.Bytes.{equals}
 
 -- what stands before and behind the first byte c of a text, where it has one
 abbrev pub cut_at : ℕ → List ℕ → Option (List ℕ × List ℕ)
@@ -25,11 +25,8 @@ in_one parts = record { name = parts.0; value = attached parts.1 }
 -- The options of the words, in their order: one word, which is cut at its first `=`, or two words, a name and its value.
 abbrev pub options : List (List ℕ) → List Setting
 options [] = []
-options (word ∷ []) = elim (cut_at equals word) [
-  | Some parts ↦ in_one parts ∷ []
-  | None ↦ record { name = word; value = None } ∷ []
-]
-options (word ∷ next ∷ words) = elim (cut_at equals word) [
+options (word ∷ []) = elim (cut_at (code "=") word) [ Some parts ↦ in_one parts ∷ [] | None ↦ record { name = word; value = None } ∷ [] ]
+options (word ∷ next ∷ words) = elim (cut_at (code "=") word) [
   | Some parts ↦ in_one parts ∷ options (next ∷ words)
   | None ↦ record { name = word; value = Some next } ∷ options words
 ]
@@ -44,9 +41,7 @@ value_of name settings = option_and_then (λ s. s.value) (find (λ s. bytes_eq s
 
 -- the names of the options of `verify`
 abbrev pub is_option : List ℕ → Bool
-is_option name =
-    bytes_eq name (codes "--goal") || bytes_eq name (codes "--bound") || bytes_eq name (codes "--region")
-    || bytes_eq name (codes "--depth") || bytes_eq name (codes "--precision")
+is_option name = list_any (bytes_eq name) (codes "--goal" ∷ codes "--bound" ∷ codes "--region" ∷ codes "--depth" ∷ codes "--precision" ∷ [])
 
 -- a value is there, and doesn't begin with `-`
 abbrev pub is_value : Option (List ℕ) → Bool

@@ -1,10 +1,10 @@
 -- The values of the command line: their grammars and ranges.
+use Prim.Native.Char.{code}
 use Rattle.std.specs.Prelude.{◌==◌, ◌&&◌, ◌^◌, ◌*ℤ◌, ℕ, pos, unsigned_abs, int_le, int_lt, List, length, Option, Some, None, Result, Ok, Err, Bool, true, false, not, nat_le, if◌then◌else◌, option_and_then}
 use Rattle.std.specs.List.{list_all}
 use Rattle.std.specs.Result.{result_ok}
 use Rattle.std.specs.Char.{is_ascii_digit}
 use Rattle.std.specs.Str.Parse.{digits_value}
-use Rattle.lift_bytes.specs.Bytes.{space, slash, tilde}
 use Rattle.lift_frac.specs.Literal.{reading}
 use Rattle.lift_frac.specs.Ratio.{Ratio, fraction}
 use Rattle.lift_frac.specs.declared.error.FracError.{FracError}
@@ -13,7 +13,7 @@ use Rattle.plift_words.specs.Line.{cut_at}
 
 -- a byte of a label: a visible one, or the space
 abbrev pub is_label_byte : ℕ → Bool
-is_label_byte b = nat_le space b && nat_le b tilde
+is_label_byte b = nat_le (code " ") b && nat_le b (code "~")
 
 -- a goal label: one or more such bytes
 abbrev pub goal_of : List ℕ → Option (List ℕ)
@@ -25,30 +25,20 @@ most_digits = 3
 
 -- a number of one digit or more, up to that many
 abbrev pub number_of : List ℕ → Option ℕ
-number_of word =
-    if list_all is_ascii_digit word && not (length word == 0) && nat_le (length word) most_digits
-    then Some (digits_value 10 word) else None
+number_of word = if list_all is_ascii_digit word && not (length word == 0) && nat_le (length word) most_digits then Some (digits_value 10 word) else None
 
 -- such a number within a range
 abbrev pub number_within : ℕ → ℕ → List ℕ → Option ℕ
-number_within low high word =
-    option_and_then (λ n. if nat_le low n && nat_le n high then Some n else None) (number_of word)
+number_within low high word = option_and_then (λ n. if nat_le low n && nat_le n high then Some n else None) (number_of word)
 
 -- One number over another, in lowest terms. None where one of them is no literal or too wide, where the divisor is 0, or where the result is too wide.
 abbrev pub quotient : Result Ratio FracError → Result Ratio FracError → Option Ratio
-quotient (Err e) _ = None
-quotient (Ok a) (Err e) = None
-quotient (Ok a) (Ok b) = elim (unsigned_abs b.num == 0) [
-  | true ↦ None
-  | false ↦ result_ok (fraction (a.num *ℤ b.den) (a.den *ℤ b.num))
-]
+quotient (Ok a) (Ok b) = if unsigned_abs b.num == 0 then None else result_ok (fraction (a.num *ℤ b.den) (a.den *ℤ b.num))
+quotient _ _ = None
 
 -- a fraction, written `literal` or `literal/literal`
 abbrev pub ratio_of : List ℕ → Option Ratio
-ratio_of word = elim (cut_at slash word) [
-  | None ↦ result_ok (reading word)
-  | Some parts ↦ quotient (reading parts.0) (reading parts.1)
-]
+ratio_of word = elim (cut_at (code "/") word) [ None ↦ result_ok (reading word) | Some parts ↦ quotient (reading parts.0) (reading parts.1) ]
 
 -- a bound's denominator in lowest terms is below this, by our own profile
 abbrev pub denominator_limit : ℕ
@@ -56,8 +46,7 @@ denominator_limit = 2 ^ 32
 
 -- a fraction in lowest terms, where it is from 0 to 1 and its denominator is below the limit
 abbrev pub bound_by : Ratio → Option Bound
-bound_by q =
-    if int_le (pos 0) q.num && int_le q.num q.den && int_lt q.den (pos denominator_limit)
+bound_by q = if int_le (pos 0) q.num && int_le q.num q.den && int_lt q.den (pos denominator_limit)
     then Some (record { num = unsigned_abs q.num; den = unsigned_abs q.den }) else None
 
 -- a bound: a fraction from 0 to 1 whose denominator in lowest terms is below the limit

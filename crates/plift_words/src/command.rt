@@ -1,9 +1,9 @@
 // Reads the command line.
-ghost use Rattle.std.specs.Prelude.{◌≡◌, ◌≤◌, codes, option_and_then, IfSome};
-ghost use Rattle.std.specs.Option.{option_map};
+ghost use Rattle.std.specs.Prelude.{◌≡◌, ◌≤◌, codes, drop, [], option_and_then, IfSome};
+ghost use Rattle.std.specs.Option.{option_map, unwrap_or};
 ghost use Rattle.clap.specs.Words.{found_of, first_value};
-ghost use Rattle.plift_words.specs.Values.{goal_of, bound_of};
-ghost use Rattle.plift_words.specs.Job.{job_of, number_or, text_or_nothing};
+ghost use Rattle.plift_words.specs.Values.{goal_of, bound_of, number_within};
+ghost use Rattle.plift_words.specs.Job.{job_of};
 ghost use Rattle.plift_words.specs.Given.{answer_data, asked, Asks};
 
 use crate::error::WordsError;
@@ -22,10 +22,10 @@ const MOST_HALVINGS: u32 = 20;
 const MOST_PRECISION: u32 = 40;
 
 /// The depth where none is given.
-const DEFAULT_DEPTH: u32 = 0;
+const DEFAULT_DEPTH: &str = "0";
 
 /// The precision where none is given.
-const DEFAULT_PRECISION: u32 = 24;
+const DEFAULT_PRECISION: &str = "24";
 
 fn goal_in<'a>(matches: &ArgMatches<'a>) -> Option<&'a [u8]>
     ensures { option_map (λ label. label.now) result
@@ -42,7 +42,7 @@ fn bound_in(matches: &ArgMatches<'_>) -> Option<Bound>
 
 // The text that names the region, which may be left out.
 fn region_in<'a>(matches: &ArgMatches<'a>) -> &'a [u8]
-    ensures { result.now ≡ text_or_nothing (first_value (found_of matches.now) (codes "region")) }
+    ensures { result.now ≡ unwrap_or (first_value (found_of matches.now) (codes "region")) [] }
 {
     match matches.get_str("region") {
         Some(text) => text.as_bytes(),
@@ -51,22 +51,19 @@ fn region_in<'a>(matches: &ArgMatches<'a>) -> &'a [u8]
 }
 
 // The number of an option that may be left out.
-fn number_in(matches: &ArgMatches<'_>, id: &str, default: u32, low: u32, high: u32) -> Option<u32>
-    requires low { low ≤ default }
-    requires high { default ≤ high }
-    ensures value { result ≡ number_or default low high (first_value (found_of matches.now) id.now) }
+fn number_in(matches: &ArgMatches<'_>, id: &str, default: &str, low: u32, high: u32) -> Option<u32>
+    ensures value { result
+        ≡ number_within low high (unwrap_or (first_value (found_of matches.now) id.now) default.now) }
     ensures range { IfSome result (λ n. (low ≤ n) × (n ≤ high)) }
 {
     match matches.get_str(id) {
         Some(word) => number_within(word, low, high),
-        None => Some(default),
+        None => number_within(default, low, high),
     }
 }
 
 fn job_in<'a>(matches: &ArgMatches<'a>) -> Result<Job<'a>, Field>
-    ensures { let value = first_value (found_of matches.now) in
-        answer_data result ≡ job_of (value (codes "goal")) (value (codes "bound"))
-        (value (codes "region")) (value (codes "depth")) (value (codes "precision")) }
+    ensures { answer_data result ≡ job_of (λ name. first_value (found_of matches.now) (drop 2 name)) }
 {
     let goal = goal_in(matches).ok_or(Field::Goal)?;
     let bound = bound_in(matches).ok_or(Field::Bound)?;

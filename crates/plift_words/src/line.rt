@@ -2,7 +2,7 @@
 ghost use Rattle.std.specs.Prelude.{◌≡◌, ◌&&◌, ◌<◌, ◌≤◌, ◌∷◌, [], None, length, map, not};
 ghost use Rattle.std.specs.Prelude.{string_bytes, IfSome, MatchOption};
 ghost use Rattle.std.specs.Option.{option_map};
-ghost use Rattle.lift_bytes.specs.Bytes.{equals};
+ghost use Rattle.lift_bytes.specs.Bytes.{code};
 ghost use Rattle.plift_words.specs.Line.{cut_at, attached, options, stands};
 ghost use Rattle.plift_words.specs.Line.{is_option, is_value, are_options, is_plain};
 ghost use Rattle.plift_words.specs.Given.{setting_of};
@@ -31,7 +31,7 @@ fn attached(text: &str) -> Option<&str>
 
 // An option of two words: a name, and the value at the front of the words behind it.
 fn in_two_words<'a>(name: &'a str, words: &'a [String]) -> (Setting<'a>, &'a [String])
-    requires { cut_at equals name.now ≡ None }
+    requires { cut_at (code "=") name.now ≡ None }
     ensures option { options (name.now ∷ map string_bytes words.now)
         ≡ setting_of result.0 ∷ options (map string_bytes result.1.now) }
     ensures shorter { length result.1.now ≤ length words.now }

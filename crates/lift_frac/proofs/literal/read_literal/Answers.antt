@@ -18,3 +18,6 @@ pub returns-clause-bad : goal.returns-clause-bad
 returns-clause-bad c =
     bad_exactly c.args.text.now c.value_of.result
     (c.value_of.ensures ∙ reading-some c.args.text.now (literal_of c.in-Some.parts) c.in-Some.ensures.value)
+
+pub returns-clause-answer : goal.returns-clause-answer
+returns-clause-answer c = c.value_of.ensures ∙ reading-some c.args.text.now (literal_of c.in-Some.parts) c.in-Some.ensures.value
