@@ -12,9 +12,9 @@ use crate::weighted::{sum_below, sum_of};
 use lift_model::{Model, Row, weighted_sums_follow};
 use lift_poly::weights_follow;
 
-/// The weight of an entry of the state's choice, at a corner of that row. It has no case: the parameter_count is
-/// asked for here, with `d` from 1 on, one pair of sides for each declared parameter and at most 4
-/// parameters in the row.
+/// The weight of an entry of the state's choice, at a corner of that row. It has no case, so what a case
+/// gives is asked for here: `d` from 1 on, one pair of sides for each declared parameter, at most 4
+/// parameters in the row, and numbers that fit 126 bits.
 pub fn raw_weight(
     model: &Model,
     d: i64,
