@@ -34,7 +34,7 @@ by_number a (negsuc n) d = narrow (scaled (neg_ℤ (pos d)) a.terms) (a.den * su
 abbrev pub quotient : OverOne → OverOne → Result OverOne ExprError
 quotient a b = if support b.terms == 0 then by_number a (coefficient 0 b.terms) b.den else Err ParametricDivisor
 
--- an operation on two operands, which are there from left to right before it is done
+-- An operation on two operands. The first that fails is told: the left operand, then the right one, then the operation.
 abbrev pub both : (OverOne → OverOne → Result OverOne ExprError) → Result OverOne ExprError → Result OverOne ExprError → Result OverOne ExprError
 both operation left right = left >>= (λ a. right >>= (λ b. operation a b))
 
