@@ -71,8 +71,7 @@ common_fault states = when (nat_le common_limit (common states) || list_any (is_
 
 -- The tests at the end of the text, whose last line has this number. A state without choice and a target that is no state are told by their own lines.
 unfoldable pub end_fault : ℕ → Said → Option DrnError
-end_fault number said =
-    let count = length said.states in first_of (
+end_fault number said = let count = length said.states in first_of (
     told number (when (not (has Model said.header)) MissingSection)
     ∷ choiceless said.states
     ∷ told number (when (count == 0) NoState)
