@@ -1,7 +1,7 @@
 -- Literals, which write fractions: digits, then maybe a point and digits, then maybe `e` or `E`, maybe a sign, and digits.
 use Prim.Native.Char.{code}
-use Rattle.std.specs.Prelude.{ℕ, Bool, true, false, List, [], ◌∷◌, ◌++◌, ◌==◌, ◌||◌, ◌&&◌, ◌+◌, ◌-◌, ◌*◌, ◌^◌, pos, nat_lt, nat_le, take_while, take, drop, length, Result, Ok, Err, if◌then◌else◌}
-use Rattle.std.specs.List.{prefix_len, suffix_len}
+use Rattle.std.specs.Prelude.{ℕ, Bool, true, false, List, [], ◌∷◌, ◌++◌, ◌==◌, ◌||◌, ◌&&◌, ◌+◌, ◌-◌, ◌*◌, ◌^◌, pos, nat_lt, nat_le, take_while, take, length, Result, Ok, Err, if◌then◌else◌}
+use Rattle.std.specs.List.{suffix_len}
 use Rattle.std.specs.Char.{is_ascii_digit}
 use Rattle.std.specs.Str.Parse.{digits_value}
 use Rattle.lift_bytes.specs.Bytes.{first_passes, behind}
