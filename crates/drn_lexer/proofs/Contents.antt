@@ -1,7 +1,6 @@
 -- What a line says, as a span of the text.
-use Prim.Native.Char.{code}
 use Rattle.std.proofs.Common.{codes, ◌≡◌, ◌+◌, ◌-◌, ◌≤◌, ℕ, Bool, true, false, List, length, take, drop, sym, ◌∙◌, ap, cond, arith, length-take-le}
-use Rattle.std.specs.Prelude.{nat_eq, slice_range, ◌∷◌, []}
+use Rattle.std.specs.Prelude.{nat_eq, slice_range}
 use Rattle.std.specs.List.{prefix_len, suffix_len, ends_with}
 use Rattle.std.proofs.lemmas.List.{take_all}
 use Rattle.lift_bytes.specs.Bytes.{is_blank}

@@ -1,5 +1,5 @@
 -- What a model text stands for: a model, or a refusal with its line and cause. Each line is judged by what the lines before it say, and after the last line the whole text is judged.
-use Rattle.std.specs.Prelude.{if◌then◌else◌, ◌≡◌, ◌≢◌, ℕ, pos, Bool, true, false, not, nat_le, List, [], ◌∷◌, ◌++◌, ◌==◌, ◌||◌, ◌/◌, length, map, find, fold, count_by, is_some, unsigned_abs, Option, Some, None, Result, Ok, Err}
+use Rattle.std.specs.Prelude.{if◌then◌else◌, ◌≡◌, ◌≢◌, ℕ, pos, Bool, false, not, nat_le, List, [], ◌∷◌, ◌++◌, ◌==◌, ◌||◌, ◌/◌, length, map, find, fold, count_by, is_some, unsigned_abs, Option, Some, None, Result, Ok, Err}
 use Rattle.std.specs.List.{list_any, flat_map, position_or_len}
 use Rattle.std.specs.Option.{option_map, unwrap_or}
 use Rattle.lift_frac.specs.Gcd.{lcm}
@@ -71,8 +71,7 @@ common_fault states = when (nat_le common_limit (common states) || list_any (is_
 
 -- The tests at the end of the text, whose last line has this number. A state without choice and a target that is no state are told by their own lines.
 unfoldable pub end_fault : ℕ → Said → Option DrnError
-end_fault number said =
-    let count = length said.states in first_of (
+end_fault number said = let count = length said.states in first_of (
     told number (when (not (has Model said.header)) MissingSection)
     ∷ choiceless said.states
     ∷ told number (when (count == 0) NoState)

@@ -98,8 +98,7 @@ transitions lines = flat_map transition lines
 
 -- The choices of a state: transitions that stand before its first action line are its choice 0, and each action line begins a choice.
 abbrev pub choices : List ModelLine → List (List Transition)
-choices lines =
-    let cut = parts is_action lines in
+choices lines = let cut = parts is_action lines in
     let actions = map (λ action. transitions action.body) cut.1 in if is_empty cut.0 then actions else transitions cut.0 ∷ actions
 
 -- a state: its line, whether it carries `init` and whether the goal's label, and its choices
@@ -111,12 +110,7 @@ pub record StateText : Type 0 where
 
 -- the state that a part of the model is, for a goal's label
 abbrev pub state : List ℕ → Part ModelLine → StateText
-state label part = record {
-  line = part.head.line.number;
-  init = carries (codes "init") part.head;
-  goal = carries label part.head;
-  choices = choices part.body;
-}
+state label part = record { line = part.head.line.number; init = carries (codes "init") part.head; goal = carries label part.head; choices = choices part.body }
 
 -- the states of a text for a goal's label
 abbrev pub states : List ℕ → List (Part TextLine) → List StateText

@@ -1,5 +1,5 @@
 -- Powers of ten, and numbers times them.
-use Rattle.std.proofs.Common.{◌≡◌, ◌≢◌, ◌+◌, ◌-◌, ◌*◌, ◌^◌, ◌<◌, ◌≤◌, ℕ, pos, ap, sym, ◌∙◌, arith, to_z, Bool, true, false, cond, Err, Result}
+use Rattle.std.proofs.Common.{◌≡◌, ◌≢◌, ◌+◌, ◌-◌, ◌*◌, ◌^◌, ◌<◌, ◌≤◌, ℕ, pos, ap, sym, ◌∙◌, arith, to_z, Bool, false, cond, Err, Result}
 use Rattle.std.specs.Int.{w128}
 use Rattle.std.proofs.Math.Nat.{one-le-pow, pow-le-pow_right}
 use Rattle.std.proofs.lemmas.Nat.{mul-lt}

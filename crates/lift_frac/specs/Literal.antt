@@ -1,10 +1,10 @@
 -- Literals, which write fractions: digits, then maybe a point and digits, then maybe `e` or `E`, maybe a sign, and digits.
 use Prim.Native.Char.{code}
-use Rattle.std.specs.Prelude.{ℕ, Bool, true, false, List, [], ◌∷◌, ◌++◌, ◌==◌, ◌||◌, ◌&&◌, ◌+◌, ◌-◌, ◌*◌, ◌^◌, pos, nat_lt, nat_le, take_while, take, drop, length, Result, Ok, Err, if◌then◌else◌}
-use Rattle.std.specs.List.{prefix_len, suffix_len}
+use Rattle.std.specs.Prelude.{ℕ, Bool, true, false, List, [], ◌∷◌, ◌++◌, ◌==◌, ◌||◌, ◌&&◌, ◌+◌, ◌-◌, ◌*◌, ◌^◌, pos, nat_lt, nat_le, take_while, take, length, Result, Ok, Err, if◌then◌else◌}
+use Rattle.std.specs.List.{suffix_len}
 use Rattle.std.specs.Char.{is_ascii_digit}
 use Rattle.std.specs.Str.Parse.{digits_value}
-use Rattle.lift_bytes.specs.Bytes as byte
+use Rattle.lift_bytes.specs.Bytes.{first_passes, behind}
 use Rattle.lift_frac.specs.Limits.{size_limit}
 use Rattle.lift_frac.specs.Ratio.{Ratio, fraction}
 use Rattle.lift_frac.specs.declared.error.FracError.{FracError}
@@ -20,7 +20,8 @@ pub record Literal : Type 0 where
 -- A point and digits at the front: the digits, and what stands behind them. A point without a digit behind it is no part of a literal.
 abbrev pub decimals_at : List ℕ → List ℕ × List ℕ
 decimals_at [] = ([], [])
-decimals_at (b ∷ text) = if (b == code ".") && byte.first_passes is_ascii_digit text then (take_while is_ascii_digit text, byte.behind is_ascii_digit text) else ([], b ∷ text)
+decimals_at (b ∷ text) =
+    if (b == code ".") && first_passes is_ascii_digit text then (take_while is_ascii_digit text, behind is_ascii_digit text) else ([], b ∷ text)
 
 -- A sign at the front: whether it is a minus, and what stands behind it.
 abbrev pub sign_at : List ℕ → Bool × List ℕ
@@ -30,21 +31,19 @@ sign_at (b ∷ text) = if b == code "-" then (true, text) else (if b == code "+"
 -- An exponent at the front: whether it has a minus, its digits, and what stands behind them. Without a digit none of it is part of a literal.
 abbrev pub exponent_at : List ℕ → Bool × List ℕ × List ℕ
 exponent_at [] = (false, [], [])
-exponent_at (b ∷ text) =
-    let signed = sign_at text in
-    if ((b == code "e") || (b == code "E")) && byte.first_passes is_ascii_digit signed.1
-    then (signed.0, take_while is_ascii_digit signed.1, byte.behind is_ascii_digit signed.1) else (false, [], b ∷ text)
+exponent_at (b ∷ text) = let signed = sign_at text in
+    if ((b == code "e") || (b == code "E")) && first_passes is_ascii_digit signed.1
+    then (signed.0, take_while is_ascii_digit signed.1, behind is_ascii_digit signed.1) else (false, [], b ∷ text)
 
 -- the longest literal at the front, and what stands behind it
 abbrev pub literal_at : List ℕ → Literal × List ℕ
-literal_at text =
-    let decimals = decimals_at (byte.behind is_ascii_digit text) in
+literal_at text = let decimals = decimals_at (behind is_ascii_digit text) in
     let exponent = exponent_at decimals.1 in
     (record { whole = take_while is_ascii_digit text; decimals = decimals.0; negative = exponent.0; exponent = exponent.1 }, exponent.2)
 
 -- the whole text is a literal
 abbrev pub is_literal : List ℕ → Bool
-is_literal text = byte.first_passes is_ascii_digit text && (length (literal_at text).1 == 0)
+is_literal text = first_passes is_ascii_digit text && (length (literal_at text).1 == 0)
 
 -- all digits before the exponent
 abbrev pub digits_of : Literal → List ℕ

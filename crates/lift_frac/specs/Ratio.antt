@@ -13,8 +13,7 @@ pub record Ratio : Type 0 where
 
 -- n / d in lowest terms: neither part keeps a factor that both have, and the sign stands above the line
 abbrev pub lowest : ℤ → ℤ → Ratio
-lowest n d =
-    let divisor = gcd (unsigned_abs n) (unsigned_abs d) in
+lowest n d = let divisor = gcd (unsigned_abs n) (unsigned_abs d) in
     record { num = int_signum n *ℤ int_signum d *ℤ pos (unsigned_abs n / divisor); den = pos (unsigned_abs d / divisor) }
 
 -- a part is too large for a fraction: its size has reached the limit

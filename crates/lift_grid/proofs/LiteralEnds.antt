@@ -1,5 +1,5 @@
 -- The literal at the front of an end.
-use Rattle.std.proofs.Common.{◌≡◌, Bool, true, false, List, ℕ, Result, Ok, Err, cond, sym, ap, ◌∙◌}
+use Rattle.std.proofs.Common.{◌≡◌, Bool, true, List, ℕ, Result, Ok, Err, cond, sym, ap, ◌∙◌}
 use Rattle.std.specs.Char.{is_ascii_digit}
 use Rattle.lift_bytes.specs.Bytes.{is_blank, first_passes, behind}
 use Rattle.lift_frac.specs.Literal as literal

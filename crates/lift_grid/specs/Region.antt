@@ -41,8 +41,7 @@ Number = Result Ratio FracError
 
 -- the literal at the front, the longest one, and what stands behind it; Syntax where there is none
 unfoldable pub literal_at : List ℕ → Result (Number × List ℕ) RegionError
-literal_at text =
-    let rest = byte.behind byte.is_blank text in
+literal_at text = let rest = byte.behind byte.is_blank text in
     if byte.first_passes is_ascii_digit rest then Ok (literal.value_of (literal.literal_at rest).0, (literal.literal_at rest).1) else Err Syntax
 
 -- whether a minus stands at the front, and what stands behind it
@@ -72,8 +71,7 @@ end_at text = do
 
 -- the name at the front, the longest one, and what stands behind it
 unfoldable pub name_at : List ℕ → Result (List ℕ × List ℕ) RegionError
-name_at text =
-    let rest = byte.behind byte.is_blank text in
+name_at text = let rest = byte.behind byte.is_blank text in
     let len = prefix_len byte.is_name_byte rest in
     if byte.first_passes byte.begins_name rest then Ok (take len rest, drop len rest) else Err Syntax
 
@@ -179,8 +177,7 @@ pub record Region : Type 0 where
 
 -- the intervals over the grid that they and the depth call for; Wide where its size, or that of an end over it, is the limit or more
 unfoldable pub over_grid : ℕ → List Interval → Result Region RegionError
-over_grid depth intervals =
-    let common = common_denominator intervals in
+over_grid depth intervals = let common = common_denominator intervals in
     if nat_lt (common * 2 ^ depth) size_limit
     then (spans_over common depth intervals >>= λ spans. Ok (record { d = pos (common * 2 ^ depth); depth = depth; spans = spans })) else Err Wide
 

@@ -99,7 +99,7 @@ AsksToVerify asked j = asked ≡ Ok (verify j)
 abbrev pub NoFault : ℕ → ℕ → Type 0
 NoFault before now = Rose before now → ⊥
 
--- The words, and what was read of a source, give cause for a refusal: their part at fault is told, or they ask for a job and it is refused at the text that was read. Faults, the length of the text and want of memory are no matter of theirs.
+-- The words, and what was read of a source, give cause for a refusal: the words are at fault in this part, or they ask for a job that is refused at the text that was read. Of a fault, a text that is too long and want of memory nothing is asked here.
 abbrev pub HasCause : Refusal → Result JobData Field → Option (List ℕ) → Option (List ℕ) → Type 0
 HasCause (refusal.Usage f) asked old new = asked ≡ Err f
 HasCause refusal.ReadFault asked old new = ⊤
@@ -108,7 +108,7 @@ HasCause refusal.TooLong asked old new = ⊤
 HasCause refusal.Memory asked old new = ⊤
 HasCause why asked old new = (j : VerifyData) × AsksToVerify asked j × WasRead (IsRefused j why) old new
 
--- an answer to these words, and to what was read of a source, has this note: that of a refusal with its status, for which there is cause
+-- An answer to these words, and to what was read of a source, has this note: that of a refusal with its status, for which they give cause. A job that is done has none.
 abbrev pub HasNote : Status → Result JobData Field → Option (List ℕ) → Option (List ℕ) → List ℕ → Type 0
 HasNote s asked old new note = (why : Refusal) × (status_of why ≡ s) × (note_of why ≡ note) × HasCause why asked old new
 

@@ -183,18 +183,18 @@ known : (name : Text) → is_option name ≡ true → Known name (drop 2 name)
 known name e =
     let is : Text → Bool = bytes_eq name in
     elim (either (is (codes "--goal")) (list_any is (codes "--bound" ∷ codes "--region" ∷ codes "--depth" ∷ codes "--precision" ∷ [])) e) [
-    | inl g ↦ named name (codes "--goal") goal g
-    | inr e ↦ elim (either (is (codes "--bound")) (list_any is (codes "--region" ∷ codes "--depth" ∷ codes "--precision" ∷ [])) e) [
-      | inl b ↦ named name (codes "--bound") bound b
-      | inr e ↦ elim (either (is (codes "--region")) (list_any is (codes "--depth" ∷ codes "--precision" ∷ [])) e) [
-        | inl r ↦ named name (codes "--region") region r
-        | inr e ↦ elim (either (is (codes "--depth")) (list_any is (codes "--precision" ∷ [])) e) [
-          | inl d ↦ named name (codes "--depth") depth d
-          | inr e ↦ elim (either (is (codes "--precision")) false e) [ inl p ↦ named name (codes "--precision") precision p | inr none ↦ absurd (cc) ]
+      | inl g ↦ named name (codes "--goal") goal g
+      | inr e ↦ elim (either (is (codes "--bound")) (list_any is (codes "--region" ∷ codes "--depth" ∷ codes "--precision" ∷ [])) e) [
+        | inl b ↦ named name (codes "--bound") bound b
+        | inr e ↦ elim (either (is (codes "--region")) (list_any is (codes "--depth" ∷ codes "--precision" ∷ [])) e) [
+          | inl r ↦ named name (codes "--region") region r
+          | inr e ↦ elim (either (is (codes "--depth")) (list_any is (codes "--precision" ∷ [])) e) [
+            | inl d ↦ named name (codes "--depth") depth d
+            | inr e ↦ elim (either (is (codes "--precision")) false e) [ inl p ↦ named name (codes "--precision") precision p | inr none ↦ absurd (cc) ]
+          ]
         ]
       ]
     ]
-  ]
 
 -- the name is its id behind two dashes
 dashed : (name id : Text) → Known name id → name ≡ 45 ∷ 45 ∷ id
