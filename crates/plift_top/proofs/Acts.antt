@@ -21,7 +21,6 @@ use Rattle.plift_top.specs.declared.status.Status.{Status}
 use Rattle.plift_top.specs.declared.status.Status.TheVariants as status
 use Rattle.plift_top.specs.declared.refusal.Refusal.{Refusal}
 use Rattle.plift_top.specs.declared.refusal.Refusal.TheVariants as refusal
-use Rattle.plift_top.proofs.Reading.{read_as}
 use Rattle.plift_top.proofs.Refusals.{never_refused, one_status, rows_status}
 
 -- no refusal has the status of what is done

@@ -1,11 +1,11 @@
 -- What a command line asks for.
-use Rattle.std.specs.Prelude.{ℕ, List, [], ◌∷◌, codes, Option, Some, None, Result, Ok, Err, if◌then◌else◌, option_and_then}
+use Rattle.std.specs.Prelude.{ℕ, List, [], ◌∷◌, codes, Option, Result, Ok, Err, if◌then◌else◌, option_and_then}
 use Rattle.std.specs.Option.{ok_or, unwrap_or}
 use Rattle.lift_grid.specs.Rectangle.{most_halvings}
 use Rattle.lift_grid.specs.Region.{◌>>=◌}
 use Rattle.corner_lift.specs.Case.{most_precision}
 use Rattle.lift_cert.specs.declared.bound.Bound.{Bound}
-use Rattle.plift_words.specs.Line.{Setting, is_plain, options, value_of}
+use Rattle.plift_words.specs.Line.{is_plain, options, value_of}
 use Rattle.plift_words.specs.Values.{goal_of, bound_of, number_within}
 use Rattle.plift_words.specs.declared.job.Field.{Field}
 use Rattle.plift_words.specs.declared.job.Field.TheVariants as field

@@ -1,6 +1,6 @@
 -- The words of the command line, and which lines are plain.
 use Prim.Native.Char.{code}
-use Rattle.std.specs.Prelude.{◌==◌, ◌&&◌, ◌||◌, ℕ, List, [], ◌∷◌, codes, Option, Some, None, Bool, true, false, not, option_and_then, if◌then◌else◌, nat_eq}
+use Rattle.std.specs.Prelude.{◌==◌, ◌&&◌, ℕ, List, [], ◌∷◌, codes, Option, Some, None, Bool, true, false, not, option_and_then, if◌then◌else◌, nat_eq}
 use Rattle.std.specs.List.{starts_with, list_any, find, before_first, after_first}
 use Rattle.std.specs.Str.{bytes_eq}
 

@@ -1,6 +1,6 @@
 -- The values of the command line: their grammars and ranges.
 use Prim.Native.Char.{code}
-use Rattle.std.specs.Prelude.{◌==◌, ◌&&◌, ◌^◌, ◌*ℤ◌, ℕ, pos, unsigned_abs, int_le, int_lt, List, length, Option, Some, None, Result, Ok, Err, Bool, true, false, not, nat_le, if◌then◌else◌, option_and_then}
+use Rattle.std.specs.Prelude.{◌==◌, ◌&&◌, ◌^◌, ◌*ℤ◌, ℕ, pos, unsigned_abs, int_le, int_lt, List, length, Option, Some, None, Result, Ok, Bool, not, nat_le, if◌then◌else◌, option_and_then}
 use Rattle.std.specs.List.{list_all}
 use Rattle.std.specs.Result.{result_ok}
 use Rattle.std.specs.Char.{is_ascii_digit}
