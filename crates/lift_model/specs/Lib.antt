@@ -4,3 +4,8 @@ pub mod Reach
 pub mod Pick
 pub mod Model
 pub mod Valid
+pub mod Order
+pub mod Links
+pub mod Layout
+pub mod Before
+pub mod Stored
