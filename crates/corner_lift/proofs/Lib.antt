@@ -9,3 +9,6 @@ pub mod Cases
 pub mod CornerEnds
 pub mod RowLaws
 pub mod HalvesInside
+pub mod Sums
+pub mod Filling
+pub mod Reading

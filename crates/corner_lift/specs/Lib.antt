@@ -4,3 +4,5 @@ pub mod Stages
 pub mod Case
 pub mod Ends
 pub mod Laws
+pub mod Table
+pub mod Dot

@@ -104,7 +104,7 @@ pub fn row_value(case: &Case, sides: &[i64], s: u32, a: u32, corner: u32, vec: &
 }
 
 /// The greater of two numbers.
-fn greater(left: i128, right: i128) -> i128
+pub(crate) fn greater(left: i128, right: i128) -> i128
     ensures left { left ≤ℤ result }
     ensures right { right ≤ℤ result }
     ensures one { (result ≡ left) ⊎ (result ≡ right) }
@@ -113,7 +113,7 @@ fn greater(left: i128, right: i128) -> i128
 }
 
 /// The lesser of two numbers.
-fn lesser(left: i128, right: i128) -> i128
+pub(crate) fn lesser(left: i128, right: i128) -> i128
     ensures left { result ≤ℤ left }
     ensures right { result ≤ℤ right }
     ensures one { (result ≡ left) ⊎ (result ≡ right) }

@@ -2,3 +2,6 @@ pub mod Sums
 pub mod Picking
 pub mod Unions
 mod Samples
+pub mod Listing
+pub mod Laying
+pub mod Linking

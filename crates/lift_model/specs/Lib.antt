@@ -5,3 +5,8 @@ pub mod Pick
 pub mod Model
 pub mod Valid
 pub mod Laws
+pub mod Order
+pub mod Links
+pub mod Layout
+pub mod Before
+pub mod Stored

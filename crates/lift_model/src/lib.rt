@@ -1,14 +1,23 @@
 //! Markov models: what they are, and what their schedulers reach.
 #![tactic(auto)]
 
+mod before;
+mod blocks;
 mod entry;
 mod kind;
 mod laws;
+mod layout;
+mod links;
+mod lists;
 mod model;
+mod order;
 mod row;
 
+pub use blocks::FirstRow;
 pub use entry::Entry;
 pub use kind::Kind;
 pub use laws::{plans_over_one_pick, weighted_sums_follow};
+pub use layout::RowPlace;
+pub use links::Links;
 pub use model::Model;
 pub use row::Row;

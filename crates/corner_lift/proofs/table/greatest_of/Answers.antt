@@ -1,0 +1,19 @@
+use Rattle.std.proofs.Common.{rules, ◌≡◌, ◌∙◌, ℕ, ℤ, ap, to_z, of_z, to_z-of_z, SFits}
+use mir.Syntax.{w128}
+use Rattle.corner_lift.specs.Case.{number}
+use Rattle.corner_lift.specs.Dot.{dot, corner_part}
+use Rattle.corner_lift.proofs.Cases.{greatest_more}
+use Rattle.corner_lift.proofs.table.greatest_of.Goals as goal
+
+pub loop-corner-preserved : goal.loop-corner-preserved
+loop-corner-preserved c =
+    let fits : SFits w128 c.greater-greatest.result = search rules in
+    let sum_fits : SFits w128 c.sum_of-sum.result = search rules in
+    let f : ℕ → ℤ = λ n. dot (number c.args.vec.now) (corner_part c.args.weights.now c.args.place n) c.args.targets.now in
+    let n = c.loop-corner.corner in
+    let z = to_z w128 c.loop-corner.greatest-bits in
+    let value : to_z w128 (of_z w128 c.sum_of-sum.result) ≡ f n = to_z-of_z sum_fits ∙ c.sum_of-sum.ensures ∙ ap (λ ws. dot (number c.args.vec.now) ws c.args.targets.now) c.corner_of-in-loop-corner.ensures in
+    let left = c.greater-greatest.ensures.left in
+    let right = rw value at c.greater-greatest.ensures.right in
+    let one = rw value at c.greater-greatest.ensures.one in
+    rw (to_z-of_z fits) (greatest_more f n z c.greater-greatest.result c.loop-corner.invariant left right one)

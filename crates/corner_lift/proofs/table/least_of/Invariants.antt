@@ -1,0 +1,7 @@
+use Rattle.corner_lift.specs.Case.{number, IsLeast}
+use Rattle.corner_lift.specs.Dot.{dot, corner_part}
+use Rattle.corner_lift.proofs.table.least_of.Given as goal
+
+-- the least of the corners so far
+abbrev pub invariant-loop-corner : goal.invariant-loop-corner
+invariant-loop-corner l = IsLeast (λ c. dot (number l.vec) (corner_part l.weights l.place c) l.targets) l.corner l.least

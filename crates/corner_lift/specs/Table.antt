@@ -1,0 +1,42 @@
+-- Tables of corner weights: the weights of all rows of a case at the corners of a rectangle, made once for it. Rows with the same polynomials share a block of weights.
+use Rattle.std.specs.Prelude.{◌≡◌, ℕ, zero, suc, ◌^◌, List, [], ◌∷◌, ◌++◌, ℤ, map}
+use Rattle.lift_poly.specs.Polynomial.{weight}
+use Rattle.lift_grid.specs.Rectangle.{Spans}
+use Rattle.lift_model.specs.declared.entry.Entry.{Entry}
+use Rattle.lift_model.specs.Model.{ModelData, support}
+use Rattle.lift_model.specs.Links.{LinksData, AreLinks, HasChoice, Firsts, first_row}
+use Rattle.corner_lift.specs.Corner.{corner, parameter_count}
+use Rattle.corner_lift.specs.Case.{CaseData, IsInside}
+
+-- the weights of a row at a corner, entry by entry
+abbrev pub corner_weights : ℤ → Spans → List Entry → ℕ → List ℤ
+corner_weights d spans row c = map (λ entry. weight (corner d spans (support row) c) entry.poly) row
+
+-- the weights of a row at its first corners, so many, corner by corner
+abbrev pub first_corners : ℤ → Spans → List Entry → ℕ → List ℤ
+first_corners d spans row zero = []
+first_corners d spans row (suc c) = first_corners d spans row c ++ corner_weights d spans row c
+
+-- the block of a row: its weights at all its corners
+abbrev pub block : ℤ → Spans → List Entry → List ℤ
+block d spans row = first_corners d spans row (2 ^ parameter_count spans (support row))
+
+-- the blocks of these rows, one after another
+abbrev pub blocks : ModelData → ℤ → Spans → Firsts → List ℤ
+blocks m d spans [] = []
+blocks m d spans (first ∷ firsts) = block d spans (first_row m first) ++ blocks m d spans firsts
+
+-- the table of a rectangle
+abbrev pub table : CaseData → LinksData → Spans → List ℤ
+table k l spans = blocks k.model k.d spans l.firsts
+
+-- the weights are the table of the rectangle, which lies inside the root
+pub record IsTable (k : CaseData) (l : LinksData) (spans : Spans) (weights : List ℤ) : Type 0 where
+  pub inside : IsInside k.root spans
+  pub same : weights ≡ table k l spans
+
+-- A row's weights can be read: the links are those of the case's model, the weights are the table of a rectangle, and there is such a row.
+pub record CanRead (k : CaseData) (l : LinksData) (spans : Spans) (weights : List ℤ) (s a : ℕ) : Type 0 where
+  pub links : AreLinks k.model l
+  pub table : IsTable k l spans weights
+  pub row : HasChoice k.model s a

@@ -1,0 +1,260 @@
+//! Tables of the weights of all rows at the corners of a rectangle, made once for it.
+
+ghost use Rattle.std.specs.Prelude.{◌≡◌, ℕ, ◌+◌, ◌*◌, ◌^◌, ◌<◌, ◌≤◌, ◌++◌, ◌≤ℤ◌, ◌<ℤ◌, ◌*ℤ◌, pos, length, All, map, take, count_ones, unsigned_abs, if◌then◌else◌};
+ghost use Rattle.lift_grid.specs.Rectangle.{Spans, spans_of};
+ghost use Rattle.lift_model.specs.Model.{row_at};
+ghost use Rattle.lift_model.specs.Links.{AreLinks, weight_count};
+ghost use Rattle.corner_lift.specs.Corner.{corner_sum};
+ghost use Rattle.corner_lift.specs.Certificate.{AreNumbers, mark, ranked_below};
+ghost use Rattle.corner_lift.specs.Case.{number, IsCase, IsRowOf, AreSidesInside, IsGreatest, IsLeast, BoundsAbove, BoundsBelow, row_value, row_whole, corner_count, abs_sum, engine_limit, most_row_parameters};
+ghost use Rattle.corner_lift.specs.Ends.{weight_at, greatest_end};
+ghost use Rattle.corner_lift.specs.Table.{block, IsTable, CanRead};
+ghost use Rattle.corner_lift.specs.Dot.{dot, total, corner_part, CanSum, CanCompare};
+
+use crate::case::Case;
+use crate::ends::Ends;
+use crate::row::{greater, lesser};
+use lift_model::{Links, Row, RowPlace};
+
+/// Writes the weights of a row at a corner.
+fn fill_corner(case: &Case, row: &Row, ends: &Ends, place: usize, weights: &mut [i128])
+    requires room { abs_sum row.now * (greatest_end case.now.d ends.now ^ length ends.now * 2 ^ case.now.w) < engine_limit }
+    requires space { place + length row.now ≤ length weights.old }
+    ensures { take (place + length row.now) weights.new
+        ≡ take place weights.old ++ map (λ entry. weight_at case.now.d ends.now entry.poly) row.now }
+{
+    let d = case.grid().d;
+    let mut at = place;
+    for entry in row.entries() {
+        weights[at] = ends.weight(d, &entry.poly);
+        at += 1;
+    }
+}
+
+/// How many corners a set of parameters has.
+fn corners(support: u16) -> u32
+    requires { count_ones support ≤ most_row_parameters }
+    ensures { result ≡ 2 ^ count_ones support }
+{
+    1 << support.count_ones()
+}
+
+/// Writes the weights of a row at all its corners, and tells where they end.
+fn fill_row(case: &Case, sides: &[i64], row: &Row, place: usize, weights: &mut [i128]) -> usize
+    requires case { IsCase case.now }
+    requires sides { AreSidesInside case.now.root sides.now }
+    requires row { IsRowOf case.now row.now }
+    requires space { place + weight_count row.now ≤ length weights.old }
+    ensures end { result ≡ place + weight_count row.now }
+    ensures filled { take result weights.new
+        ≡ take place weights.old ++ block case.now.d (spans_of sides.now) row.now }
+{
+    let support = row.support();
+    let count = row.entries().len();
+    let mut at = place;
+    for corner in 0..corners(support) {
+        let ends = Ends::at(sides, support, corner);
+        fill_corner(case, row, &ends, at, weights);
+        at += count;
+    }
+    at
+}
+
+/// Makes the table of a rectangle inside the root. What the weights are before is of no account. Rows
+/// with the same polynomials have one block, which is made once.
+pub fn fill(case: &Case, links: &Links, sides: &[i64], weights: &mut [i128])
+    requires links { AreLinks case.now.model links.now }
+    requires sides { AreSidesInside case.now.root sides.now }
+    requires size { length weights.old ≡ links.now.weights }
+    ensures { IsTable case.now links.now (spans_of sides.now) weights.new }
+{
+    let model = case.model();
+    let mut at = 0;
+    for first in links.firsts() {
+        at = fill_row(
+            case,
+            sides,
+            model.row(first.state, first.choice),
+            at,
+            weights,
+        );
+    }
+}
+
+/// The weights of a corner of the row that stands at that place.
+fn corner_of(weights: &[i128], place: RowPlace, corner: usize) -> &[i128]
+    requires { place.weights + place.count * corner + place.count ≤ length weights.now }
+    ensures { result.now ≡ corner_part weights.now place corner }
+{
+    let at = place.weights + place.count * corner;
+    &weights[at..at + place.count]
+}
+
+/// A weight times a number.
+fn times(weight: i128, number: i64) -> i128
+    requires { unsigned_abs weight * unsigned_abs number < engine_limit }
+    ensures { result ≡ weight *ℤ number }
+{
+    weight * i128::from(number)
+}
+
+/// The sum of the weights, each times its target's number.
+fn sum_of(weights: &[i128], targets: &[u32], vec: &[i64]) -> i128
+    requires targets { All (λ t. t < length vec.now) targets.now }
+    requires room { CanSum (number vec.now) weights.now targets.now }
+    ensures { result ≡ dot (number vec.now) weights.now targets.now }
+{
+    let mut sum = 0;
+    for j in 0..targets.len() {
+        sum += times(weights[j], vec[targets[j] as usize]);
+    }
+    sum
+}
+
+/// The weight where it counts, else 0.
+fn counted(weight: i128, counts: bool) -> i128
+    ensures { result ≡ weight *ℤ (if counts then pos 1 else pos 0) }
+{
+    if counts { weight } else { 0 }
+}
+
+/// The sum of the weights whose target's rank is less than `below`.
+fn sum_below(weights: &[i128], targets: &[u32], ranks: &[u32], below: u32) -> i128
+    requires targets { All (λ t. t < length ranks.now) targets.now }
+    requires room { CanSum (ranked_below (mark ranks.now) below) weights.now targets.now }
+    ensures { result ≡ dot (ranked_below (mark ranks.now) below) weights.now targets.now }
+{
+    let mut sum = 0;
+    for j in 0..targets.len() {
+        sum += counted(weights[j], ranks[targets[j] as usize] < below);
+    }
+    sum
+}
+
+/// The sum of the weights.
+fn total_of(weights: &[i128]) -> i128
+    requires weights { All (λ w. pos 0 ≤ℤ w) weights.now }
+    requires room { total weights.now <ℤ pos engine_limit }
+    ensures { result ≡ total weights.now }
+{
+    let mut sum = 0;
+    for weight in weights {
+        sum += *weight;
+    }
+    sum
+}
+
+/// The greatest sum over the corners of the row that stands at that place.
+fn greatest_of(weights: &[i128], place: RowPlace, targets: &[u32], vec: &[i64]) -> i128
+    requires targets { All (λ t. t < length vec.now) targets.now }
+    requires room { CanCompare (number vec.now) weights.now targets.now place }
+    ensures { IsGreatest (λ c. dot (number vec.now) (corner_part weights.now place c) targets.now) place.corners result }
+{
+    let mut greatest = sum_of(corner_of(weights, place, 0), targets, vec);
+    for corner in 1..place.corners {
+        let sum = sum_of(corner_of(weights, place, corner), targets, vec);
+        greatest = greater(greatest, sum);
+    }
+    greatest
+}
+
+/// The least sum over the corners of the row that stands at that place.
+fn least_of(weights: &[i128], place: RowPlace, targets: &[u32], vec: &[i64]) -> i128
+    requires targets { All (λ t. t < length vec.now) targets.now }
+    requires room { CanCompare (number vec.now) weights.now targets.now place }
+    ensures { IsLeast (λ c. dot (number vec.now) (corner_part weights.now place c) targets.now) place.corners result }
+{
+    let mut least = sum_of(corner_of(weights, place, 0), targets, vec);
+    for corner in 1..place.corners {
+        let sum = sum_of(corner_of(weights, place, corner), targets, vec);
+        least = lesser(least, sum);
+    }
+    least
+}
+
+/// `row_value` of the rectangle whose table `weights` is. One multiplication for each entry.
+pub fn table_value(
+    case: &Case,
+    links: &Links,
+    weights: &[i128],
+    s: u32,
+    a: u32,
+    corner: u32,
+    vec: &[i64],
+) -> i128
+    ghost spans: { Spans }
+    requires { CanRead case.now links.now spans weights.now s a × AreNumbers case.now vec.now × (corner < corner_count case.now s a) }
+    ensures { result ≡ row_value case.now spans s a vec.now corner }
+{
+    let _ = case.w();
+    let place = links.place(s, a);
+    sum_of(
+        corner_of(weights, place, corner as usize),
+        links.targets(place),
+        vec,
+    )
+}
+
+/// `row_max` of the rectangle whose table `weights` is. One multiplication for each entry and corner.
+pub fn table_max(case: &Case, links: &Links, weights: &[i128], s: u32, a: u32, vec: &[i64]) -> i128
+    ghost spans: { Spans }
+    requires { CanRead case.now links.now spans weights.now s a × AreNumbers case.now vec.now }
+    ensures greatest { IsGreatest (row_value case.now spans s a vec.now) (corner_count case.now s a) result }
+    ensures range { (pos 0 ≤ℤ result) × (result ≤ℤ (pos (2 ^ case.now.w) *ℤ row_whole case.now s a)) }
+    ensures bound { BoundsAbove case.now spans s a vec.now result }
+{
+    let _ = case.w();
+    let place = links.place(s, a);
+    greatest_of(weights, place, links.targets(place), vec)
+}
+
+/// `row_min` of the rectangle whose table `weights` is. One multiplication for each entry and corner.
+pub fn table_min(case: &Case, links: &Links, weights: &[i128], s: u32, a: u32, vec: &[i64]) -> i128
+    ghost spans: { Spans }
+    requires { CanRead case.now links.now spans weights.now s a × AreNumbers case.now vec.now }
+    ensures least { IsLeast (row_value case.now spans s a vec.now) (corner_count case.now s a) result }
+    ensures bound { BoundsBelow case.now spans s a vec.now result }
+{
+    let _ = case.w();
+    let place = links.place(s, a);
+    least_of(weights, place, links.targets(place), vec)
+}
+
+/// `weight_into` of the rectangle whose table `weights` is. No multiplication.
+pub fn table_into(
+    case: &Case,
+    links: &Links,
+    weights: &[i128],
+    s: u32,
+    a: u32,
+    corner: u32,
+    ranks: &[u32],
+    below: u32,
+) -> i128
+    ghost spans: { Spans }
+    requires { CanRead case.now links.now spans weights.now s a × (length ranks.now ≡ length case.now.model.states) × (corner < corner_count case.now s a) }
+    ensures { result ≡ corner_sum case.now.d spans (row_at case.now.model s a) corner
+        (ranked_below (mark ranks.now) below) }
+{
+    let _ = case.w();
+    let place = links.place(s, a);
+    sum_below(
+        corner_of(weights, place, corner as usize),
+        links.targets(place),
+        ranks,
+        below,
+    )
+}
+
+/// `whole`, from the table: the sum of the weights at the first corner.
+pub fn table_whole(case: &Case, links: &Links, weights: &[i128], s: u32, a: u32) -> i128
+    ghost spans: { Spans }
+    requires { CanRead case.now links.now spans weights.now s a }
+    ensures value { result ≡ row_whole case.now s a }
+    ensures positive { pos 1 ≤ℤ result }
+    ensures size { unsigned_abs result < engine_limit }
+    ensures room { (n : ℕ) → n ≤ 2 ^ case.now.w → n * unsigned_abs result < engine_limit }
+{
+    let _ = case.w();
+    total_of(corner_of(weights, links.place(s, a), 0))
+}

@@ -1,0 +1,182 @@
+//! The blocks of a table of weights: one for all rows with the same polynomials.
+
+ghost use Rattle.std.specs.Prelude.{◌≡◌, ◌<◌, ◌≤◌, ◌^◌, [], length, count_ones, slice_index_or, IsTrue, IfSome, IfOk};
+ghost use Rattle.lift_model.specs.Model.{support, row_at};
+ghost use Rattle.lift_model.specs.Links.{HasChoice, polynomials, first_row, no_first};
+ghost use Rattle.lift_model.specs.Layout.{AreFirsts, AreBlocks, IsPlaced};
+
+use crate::lists::{number_at, put};
+use crate::model::Model;
+use crate::row::Row;
+use lift_poly::MultiAffine;
+use std::alloc::{AllocError, Global};
+
+/// How many slots are looked at for a row.
+const TRIES: u64 = 64;
+
+/// A row whose weights have a block in a table: the choice of a state.
+#[derive(Clone, Copy)]
+pub struct FirstRow {
+    /// The state.
+    pub state: u32,
+    /// The choice.
+    pub choice: u32,
+}
+
+/// The blocks so far. They are found by a hash of the polynomials, of which nothing is promised, and
+/// tested by comparison.
+#[derive(Drop)]
+pub struct Blocks {
+    // by the hash the number of a block from 1 on, or 0
+    slots: Vec<u32>,
+    /// The first row of each block.
+    pub firsts: Vec<FirstRow>,
+    /// Where each block begins.
+    pub places: Vec<usize>,
+    /// How many weights they have.
+    pub weights: usize,
+}
+
+/// A hash, and one number more.
+fn mixed(hash: u64, number: u64) -> u64 {
+    (hash.rotate_left(5) ^ number).wrapping_mul(0x9e37_79b9_7f4a_7c15)
+}
+
+/// A hash of a row's polynomials.
+fn hash_of(row: &Row) -> u64 {
+    let mut hash = 0;
+    for entry in row.entries() {
+        let poly = &entry.poly;
+        for index in 0..poly.len() {
+            let (set, coefficient) = poly.term(index);
+            hash = mixed(hash, u64::from(set));
+            hash = mixed(hash, (coefficient.unsigned_abs() % (1 << 64)) as u64);
+        }
+        hash = mixed(hash, 1);
+    }
+    hash ^ (hash >> 32)
+}
+
+/// Whether two polynomials are the same.
+fn is_same(left: &MultiAffine, right: &MultiAffine) -> bool
+    ensures { IsTrue result → left.now ≡ right.now }
+{
+    if left.len() != right.len() {
+        return false;
+    }
+    for index in 0..left.len() {
+        let (left_set, left_number) = left.term(index);
+        let (right_set, right_number) = right.term(index);
+        if left_set != right_set || left_number != right_number {
+            return false;
+        }
+    }
+    true
+}
+
+/// Whether two rows have the same polynomials, entry for entry.
+fn are_same(left: &Row, right: &Row) -> bool
+    ensures { IsTrue result → polynomials left.now ≡ polynomials right.now }
+{
+    let left = left.entries();
+    let right = right.entries();
+    if left.len() != right.len() {
+        return false;
+    }
+    for index in 0..left.len() {
+        if !is_same(&left[index].poly, &right[index].poly) {
+            return false;
+        }
+    }
+    true
+}
+
+/// The number of corners of a row.
+pub(crate) fn corners_of(row: &Row) -> usize
+    ensures value { result ≡ 2 ^ count_ones (support row.now) }
+    ensures most { result ≤ 65536 }
+{
+    1 << row.support().count_ones()
+}
+
+/// Which slot a hash has after so many tries.
+fn slot_of(slots: &[u32], hash: u64, tries: u64) -> usize {
+    let last = slots.len().saturating_sub(1);
+    (hash.wrapping_add(tries) as usize) & last
+}
+
+/// The block of a row with the same polynomials, if one is found.
+fn find(slots: &[u32], firsts: &[FirstRow], model: &Model, hash: u64, row: &Row) -> Option<usize>
+    requires { AreFirsts model.now firsts.now }
+    ensures { IfSome result (λ block. (block < length firsts.now)
+        × (polynomials (first_row model.now (slice_index_or firsts.now block no_first)) ≡ polynomials row.now)) }
+{
+    for tries in 0..TRIES {
+        let number = number_at(slots, slot_of(slots, hash, tries)) as usize;
+        if number == 0 || number > firsts.len() {
+            return None;
+        }
+        let first = firsts[number - 1];
+        if are_same(model.row(first.state, first.choice), row) {
+            return Some(number - 1);
+        }
+    }
+    None
+}
+
+/// Enters a number at a hash, if a slot is free.
+fn enter(slots: &mut [u32], hash: u64, number: usize) {
+    for tries in 0..TRIES {
+        let slot = slot_of(slots, hash, tries);
+        if number_at(slots, slot) == 0 {
+            put(slots, slot, u32::try_from(number).unwrap_or(0));
+            return;
+        }
+    }
+}
+
+impl Blocks {
+    /// No blocks, with slots for so many rows.
+    pub(crate) fn new(alloc: Global, rows: usize) -> Result<Blocks, AllocError>
+        ensures firsts { IfOk result (λ blocks. blocks.firsts.items ≡ []) }
+        ensures places { IfOk result (λ blocks. blocks.places.items ≡ []) }
+        ensures weights { IfOk result (λ blocks. blocks.weights ≡ 0) }
+    {
+        let mut size = 1usize;
+        for _ in 0..20 {
+            if size < rows.saturating_mul(2) {
+                size = size.saturating_mul(2);
+            }
+        }
+        Ok(Blocks {
+            slots: vec![in alloc; 0; size]?,
+            firsts: Vec::new(alloc),
+            places: Vec::new(alloc),
+            weights: 0,
+        })
+    }
+
+    /// Where the weights of a row begin: in the block of a row with the same polynomials, or in a block
+    /// more.
+    pub(crate) fn place(&mut self, model: &Model, s: u32, a: u32) -> Result<usize, AllocError>
+        requires blocks { AreBlocks model.now self.old }
+        requires row { HasChoice model.now s a }
+        requires room { self.old.weights ≤ 2 ^ 40 }
+        ensures { IfOk result (λ place. IsPlaced model.now self.old self.new (row_at model.now s a) place) }
+    {
+        let row = model.row(s, a);
+        let hash = hash_of(row);
+        if let Some(block) = find(&self.slots, &self.firsts, model, hash, row) {
+            return Ok(self.places[block]);
+        }
+        let place = self.weights;
+        self.firsts.push(FirstRow {
+            state: s,
+            choice: a,
+        })?;
+        self.places.push(place)?;
+        enter(&mut self.slots, hash, self.firsts.len());
+        self.weights += row.entries().len() * corners_of(row);
+        Ok(place)
+    }
+}

@@ -1,0 +1,119 @@
+//! Where the rows of a model and their weights stand in flat lists.
+
+ghost use Rattle.std.specs.Prelude.{◌≡◌, ◌+◌, ◌<◌, ◌++◌, length, OnOk, IfOk};
+ghost use Rattle.lift_model.specs.Model.{row_at};
+ghost use Rattle.lift_model.specs.Links.{HasChoice, targets_of, all_targets};
+ghost use Rattle.lift_model.specs.Layout.{IsLaid, AreRowStarts, AreCut};
+
+use crate::blocks::{Blocks, corners_of};
+use crate::model::Model;
+use crate::row::Row;
+use std::alloc::{AllocError, Global};
+
+/// Where a row's targets and weights begin, and how many entries and corners it has.
+#[derive(Clone, Copy)]
+pub struct RowPlace {
+    /// Where its targets begin among those of all rows.
+    pub entries: usize,
+    /// How many entries it has.
+    pub count: usize,
+    /// How many corners it has.
+    pub corners: usize,
+    /// Where its weights begin in a table.
+    pub weights: usize,
+}
+
+/// The rows so far, their targets, and the blocks of their weights.
+#[derive(Drop)]
+pub struct Layout {
+    /// The places of the rows.
+    pub rows: Vec<RowPlace>,
+    /// The targets of all rows.
+    pub targets: Vec<u32>,
+    /// The blocks.
+    pub blocks: Blocks,
+}
+
+/// Where the rows and the targets of each state begin, and where the last ones end.
+#[derive(Drop)]
+pub struct Starts {
+    /// The numbers of the first rows.
+    pub rows: Vec<usize>,
+    /// The places of the first targets.
+    pub targets: Vec<usize>,
+}
+
+/// Appends the targets of a row.
+fn push_targets(targets: &mut Vec<u32>, row: &Row) -> Result<(), AllocError>
+    ensures { OnOk result (targets.new.items ≡ targets.old.items ++ targets_of row.now) }
+{
+    for entry in row.entries() {
+        targets.push(entry.target)?;
+    }
+    Ok(())
+}
+
+/// Appends a row.
+fn push_row(layout: &mut Layout, model: &Model, s: u32, a: u32) -> Result<(), AllocError>
+    requires row { HasChoice model.now s a }
+    requires laid { IsLaid model.now layout.old s a }
+    ensures laid { OnOk result (IsLaid model.now layout.new s (a + 1)) }
+    ensures targets { OnOk result (layout.new.targets.items ≡ layout.old.targets.items ++ targets_of (row_at model.now s a)) }
+{
+    let row = model.row(s, a);
+    let weights = layout.blocks.place(model, s, a)?;
+    layout.rows.push(RowPlace {
+        entries: layout.targets.len(),
+        count: row.entries().len(),
+        corners: corners_of(row),
+        weights,
+    })?;
+    push_targets(&mut layout.targets, row)?;
+    Ok(())
+}
+
+/// Appends the rows of a state.
+fn push_rows(layout: &mut Layout, model: &Model, s: u32) -> Result<(), AllocError>
+    requires state { s < length model.now.states }
+    requires laid { IsLaid model.now layout.old s 0 }
+    ensures laid { OnOk result (IsLaid model.now layout.new (s + 1) 0) }
+    ensures targets { OnOk result (layout.new.targets.items ≡ layout.old.targets.items ++ all_targets model.now s) }
+{
+    for a in 0..model.choices(s) {
+        push_row(layout, model, s, a)?;
+    }
+    Ok(())
+}
+
+/// The number of rows.
+fn count_rows(model: &Model) -> usize {
+    let mut count = 0usize;
+    for s in 0..model.states() {
+        count = count.saturating_add(model.choices(s) as usize);
+    }
+    count
+}
+
+/// Lays out the rows of all states.
+pub(crate) fn lay_out(alloc: Global, model: &Model) -> Result<(Layout, Starts), AllocError>
+    ensures laid { IfOk result (λ all. IsLaid model.now all.0 (length model.now.states) 0) }
+    ensures rows { IfOk result (λ all. AreRowStarts model.now all.1.rows.items (length model.now.states)) }
+    ensures targets { IfOk result (λ all. AreCut model.now all.1.targets.items all.0.targets.items (length model.now.states)) }
+{
+    let count = count_rows(model);
+    let mut layout = Layout {
+        rows: Vec::with_capacity(alloc, count)?,
+        targets: Vec::new(alloc),
+        blocks: Blocks::new(alloc, count)?,
+    };
+    let mut starts = Starts {
+        rows: vec![in alloc; 0]?,
+        targets: vec![in alloc; 0]?,
+    };
+    for s in 0..model.states() {
+        push_rows(&mut layout, model, s)?;
+        starts.rows.push(layout.rows.len())?;
+        starts.targets.push(layout.targets.len())?;
+    }
+    Ok((layout, starts))
+}
