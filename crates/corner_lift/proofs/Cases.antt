@@ -23,7 +23,7 @@ use Rattle.corner_lift.specs.Corner.{corner, parameter_count, corner_sum, whole}
 use Rattle.corner_lift.specs.Certificate.{AreNumbers}
 use Rattle.corner_lift.specs.Case.{number, CaseData, IsAsked, IsCase, IsAdmittedRow, IsRowOf, IsGreatest, IsLeast, BoundsAbove, BoundsBelow, row_value, row_whole, corner_count, greatest_size, abs_sum, row_coefficient, Within, AreSidesInside, row_parameters, engine_limit}
 use Rattle.corner_lift.specs.Ends.{End, greatest_end, StandFor, moves_by}
-use Rattle.corner_lift.proofs.Premises.{Premises}
+use Rattle.corner_lift.specs.Premises.{Premises}
 use Rattle.corner_lift.proofs.CornerBound.{InsideOn, Inside-on, CornersNonpos, corner_bound, corner-inside}
 use Rattle.corner_lift.proofs.RowBound.{PartOf, weight-append, terms_in, TermsIn-more, scaled, weight-scaled_by, less, weight-less, less_in, TermsIn-append, denominator-corner, power-pos, minus-one, row_sum, row_upper_at, row_lower_at}
 use Rattle.corner_lift.proofs.Coefficients.{row_total}

@@ -6,7 +6,7 @@ use lib.Count.{ones_step}
 use Rattle.lift_grid.specs.Rectangle.{Spans, end_of}
 use Rattle.corner_lift.specs.Corner.{corner, no_entry}
 use Rattle.corner_lift.specs.Laws.{CornersBoundWeights, WeightsAreNotNegative, WeightsSumToWhole, CornersChooseEnds}
-use Rattle.corner_lift.proofs.Premises.{Premises}
+use Rattle.corner_lift.specs.Premises.{Premises}
 use Rattle.corner_lift.proofs.CornerBound.{parity, Inside-on, corner-in, corner-out}
 use Rattle.corner_lift.proofs.Summing.{entry_part}
 use Rattle.corner_lift.proofs.Cases.{poly_between, corner_least, corner_total, admitted_row}

@@ -1,4 +1,3 @@
-pub mod Premises
 pub mod Rows
 pub mod CornerBound
 pub mod RowBound

@@ -18,6 +18,7 @@ use Rattle.lift_model.specs.Links.{LinksData, IsRowPlace, polynomials, first_row
 use Rattle.corner_lift.specs.Corner.{corner, parameter_count, corner_sum, whole}
 use Rattle.corner_lift.specs.Certificate.{AreNumbers, ranked_below}
 use Rattle.corner_lift.specs.Case.{CaseData, IsCase, IsRowOf, IsInside, AreSidesInside, Within, BoundsAbove, BoundsBelow, IsGreatest, IsLeast, number, corner_count, row_value, row_whole, row_parameters, engine_limit}
+use Rattle.corner_lift.specs.Premises.{Premises}
 use Rattle.corner_lift.specs.Table.{corner_weights, first_corners, block, blocks, CanRead}
 use Rattle.corner_lift.specs.Dot.{dot, total, corner_part, CanSum, CanCompare}
 use Rattle.corner_lift.proofs.CornerBound.{mul-pos_lem}
@@ -121,7 +122,7 @@ module _ (d : ℤ) (spans : Spans) (one other : List Entry) (same : polynomials 
 
 -- ---- a row of a case
 
-module _ (k : CaseData) (l : LinksData) (spans : Spans) (weights : List ℤ) (s a : ℕ) (is : IsCase k) (can : CanRead k l spans weights s a) (place : RowPlace) (placed : IsRowPlace k.model l.targets l.firsts (row_at k.model s a) place) where
+module _ (laws : Premises) (k : CaseData) (l : LinksData) (spans : Spans) (weights : List ℤ) (s a : ℕ) (is : IsCase k) (can : CanRead k l spans weights s a) (place : RowPlace) (placed : IsRowPlace k.model l.targets l.firsts (row_at k.model s a) place) where
   abbrev row : List Entry
   row = row_at k.model s a
 
@@ -197,7 +198,7 @@ module _ (k : CaseData) (l : LinksData) (spans : Spans) (weights : List ℤ) (s 
       ∙ corner_in_block k.d spans row c (2 ^ parameter_count spans (support row)) inside)
 
   weights_least : (c : ℕ) → All Least (corner_weights k.d spans row c)
-  weights_least c = All-map Least (λ (entry : Entry). weight (corner k.d spans (support row) c) entry.poly) row (corner_least k row spans is.asked.grid.positive is.asked.spans can.table.inside.rectangle can.table.inside.within of.admitted c)
+  weights_least c = All-map Least (λ (entry : Entry). weight (corner k.d spans (support row) c) entry.poly) row (corner_least laws k row spans is.asked.grid.positive is.asked.spans can.table.inside.rectangle can.table.inside.within of.admitted c)
 
   sum_by_row : (c : ℕ) (z : ℕ → ℤ) → dot z (corner_weights k.d spans row c) (targets_of row) ≡ corner_sum k.d spans row c z
   sum_by_row c z = dot_row z (corner k.d spans (support row) c) row
@@ -209,7 +210,7 @@ module _ (k : CaseData) (l : LinksData) (spans : Spans) (weights : List ℤ) (s 
   -- numbers up to 2 ^ w can be summed
   pub can_sum : (c : ℕ) → c < corner_count k s a → (z : ℕ → ℤ) (top : ℕ) → top ≤ 2 ^ k.w → ((t : ℕ) → (pos 0 ≤ℤ z t) × (z t ≤ℤ pos top)) → CanSum z (corner_part weights place c) (targets_of row)
   can_sum c lt z top le range =
-      let bound = corner_sum_range k row spans is.asked.grid.positive is.asked.spans can.table.inside.rectangle can.table.inside.within of.admitted c z (pos top) range in
+      let bound = corner_sum_range laws k row spans is.asked.grid.positive is.asked.spans can.table.inside.rectangle can.table.inside.within of.admitted c z (pos top) range in
       let size : unsigned_abs (pos top *ℤ whole k.model k.d k.root row) ≡ top * unsigned_abs (whole k.model k.d k.root row) = unsigned_abs-mul (pos top) (whole k.model k.d k.root row) in
       let room = number_room k row top le of.admitted in
       rw (corner_stands c lt) (record {
@@ -244,7 +245,7 @@ module _ (k : CaseData) (l : LinksData) (spans : Spans) (weights : List ℤ) (s 
   -- ---- the whole
 
   pub whole_stands : (c : ℕ) → c < corner_count k s a → total (corner_part weights place c) ≡ row_whole k s a
-  whole_stands c lt = ap total (corner_stands c lt) ∙ total_row (corner k.d spans (support row) c) row ∙ corner_total k row spans is.asked.grid.positive is.asked.spans can.table.inside.rectangle can.table.inside.within of.admitted c
+  whole_stands c lt = ap total (corner_stands c lt) ∙ total_row (corner k.d spans (support row) c) row ∙ corner_total laws k row spans is.asked.grid.positive is.asked.spans can.table.inside.rectangle can.table.inside.within of.admitted c
 
   pub corner_least_at : (c : ℕ) → c < corner_count k s a → All Least (corner_part weights place c)
   corner_least_at c lt = rw (corner_stands c lt) (weights_least c)
@@ -278,16 +279,16 @@ sides_inside root ss inside = record {
   within = subst (λ (ss : Spans). Within ss root) (sym (spans_back ss)) inside.within;
 }
 
-module _ (k : CaseData) (s a : ℕ) (spans : Spans) (x : List ℤ) (is : IsCase k) (inside : IsInside k.root spans) (z : ℤ) where
+module _ (laws : Premises) (k : CaseData) (s a : ℕ) (spans : Spans) (x : List ℤ) (is : IsCase k) (inside : IsInside k.root spans) (z : ℤ) where
   pub above : IsGreatest (row_value k spans s a x) (corner_count k s a) z → BoundsAbove k spans s a x z
-  above = subst (λ (ss : Spans). IsGreatest (row_value k ss s a x) (corner_count k s a) z → BoundsAbove k ss s a x z) (spans_back spans) (bounds_above k s a (sides_of spans) x is (sides_inside k.root spans inside) z)
+  above = subst (λ (ss : Spans). IsGreatest (row_value k ss s a x) (corner_count k s a) z → BoundsAbove k ss s a x z) (spans_back spans) (bounds_above laws.affine k s a (sides_of spans) x is (sides_inside k.root spans inside) z)
 
   pub beneath : IsLeast (row_value k spans s a x) (corner_count k s a) z → BoundsBelow k spans s a x z
-  beneath = subst (λ (ss : Spans). IsLeast (row_value k ss s a x) (corner_count k s a) z → BoundsBelow k ss s a x z) (spans_back spans) (bounds_below k s a (sides_of spans) x is (sides_inside k.root spans inside) z)
+  beneath = subst (λ (ss : Spans). IsLeast (row_value k ss s a x) (corner_count k s a) z → BoundsBelow k ss s a x z) (spans_back spans) (bounds_below laws.affine k s a (sides_of spans) x is (sides_inside k.root spans inside) z)
 
   pub in_range : (n : ℕ) → s < length k.model.states → a < length (choices k.model s) → AreNumbers k x → IsGreatest (row_value k spans s a x) n z → (pos 0 ≤ℤ z) × (z ≤ℤ (pos (2 ^ k.w) *ℤ row_whole k s a))
   in_range n state choice numbers =
-      subst (λ (ss : Spans). IsGreatest (row_value k ss s a x) n z → (pos 0 ≤ℤ z) × (z ≤ℤ (pos (2 ^ k.w) *ℤ row_whole k s a))) (spans_back spans) (greatest_range k s a n (sides_of spans) x z is (sides_inside k.root spans inside) state choice numbers)
+      subst (λ (ss : Spans). IsGreatest (row_value k ss s a x) n z → (pos 0 ≤ℤ z) × (z ≤ℤ (pos (2 ^ k.w) *ℤ row_whole k s a))) (spans_back spans) (greatest_range laws k s a n (sides_of spans) x z is (sides_inside k.root spans inside) state choice numbers)
 
 -- the links know where a row stands
 pub row_placed : (k : CaseData) (l : LinksData) (spans : Spans) (weights : List ℤ) (s a : ℕ) (p : RowPlace) → CanRead k l spans weights s a → p ≡ place_in_links l s a → IsRowPlace k.model l.targets l.firsts (row_at k.model s a) p

@@ -8,7 +8,7 @@ use Rattle.lift_model.specs.Model.{support, row_at, moves_at}
 use Rattle.corner_lift.specs.Corner.{corner, parameter_count}
 use Rattle.corner_lift.specs.Case.{CaseData, IsCase, Within, AreSidesInside, number}
 use Rattle.corner_lift.specs.Laws.{BitsAreParameters, ParametersAreTheRoots, NumbersAreInRange, SumsAreInRange, SumsRise, WeightsInside, SumsAreTotals, MeansAtMostInside, MeansAtLeastInside, RootIsInside}
-use Rattle.corner_lift.proofs.Premises.{Premises}
+use Rattle.corner_lift.specs.Premises.{Premises}
 use Rattle.corner_lift.proofs.CornerBound.{Inside-on}
 use Rattle.corner_lift.proofs.Coefficients.{row_total}
 use Rattle.corner_lift.proofs.Rows.{number_range}

@@ -6,3 +6,4 @@ pub mod Ends
 pub mod Laws
 pub mod Table
 pub mod Dot
+pub mod Premises

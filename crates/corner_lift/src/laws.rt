@@ -17,6 +17,7 @@ ghost use Rattle.corner_lift.specs.Laws.{
   RootIsInside,
   HalvesAreInside,
 };
+ghost use Rattle.corner_lift.specs.Premises.{Premises};
 
 use lift_grid::halves_stay_on_grid;
 use lift_model::weighted_sums_follow;
@@ -66,4 +67,12 @@ pub fn halves_are_inside()
     ensures { HalvesAreInside }
 {
     halves_stay_on_grid();
+}
+
+/// Holds the laws of the crates below that rows at corners rest on. It does nothing.
+pub(crate) fn premises()
+    ensures { Premises }
+{
+    weights_follow();
+    weighted_sums_follow();
 }

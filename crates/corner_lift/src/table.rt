@@ -13,6 +13,7 @@ ghost use Rattle.corner_lift.specs.Dot.{dot, total, corner_part, CanSum, CanComp
 
 use crate::case::Case;
 use crate::ends::Ends;
+use crate::laws::premises;
 use crate::row::{greater, lesser};
 use lift_model::{Links, Row, RowPlace};
 
@@ -186,6 +187,7 @@ pub fn table_value(
     requires { CanRead case.now links.now spans weights.now s a × AreNumbers case.now vec.now × (corner < corner_count case.now s a) }
     ensures { result ≡ row_value case.now spans s a vec.now corner }
 {
+    premises();
     let _ = case.w();
     let place = links.place(s, a);
     sum_of(
@@ -203,6 +205,7 @@ pub fn table_max(case: &Case, links: &Links, weights: &[i128], s: u32, a: u32, v
     ensures range { (pos 0 ≤ℤ result) × (result ≤ℤ (pos (2 ^ case.now.w) *ℤ row_whole case.now s a)) }
     ensures bound { BoundsAbove case.now spans s a vec.now result }
 {
+    premises();
     let _ = case.w();
     let place = links.place(s, a);
     greatest_of(weights, place, links.targets(place), vec)
@@ -215,6 +218,7 @@ pub fn table_min(case: &Case, links: &Links, weights: &[i128], s: u32, a: u32, v
     ensures least { IsLeast (row_value case.now spans s a vec.now) (corner_count case.now s a) result }
     ensures bound { BoundsBelow case.now spans s a vec.now result }
 {
+    premises();
     let _ = case.w();
     let place = links.place(s, a);
     least_of(weights, place, links.targets(place), vec)
@@ -236,6 +240,7 @@ pub fn table_into(
     ensures { result ≡ corner_sum case.now.d spans (row_at case.now.model s a) corner
         (ranked_below (mark ranks.now) below) }
 {
+    premises();
     let _ = case.w();
     let place = links.place(s, a);
     sum_below(
@@ -255,6 +260,7 @@ pub fn table_whole(case: &Case, links: &Links, weights: &[i128], s: u32, a: u32)
     ensures size { unsigned_abs result < engine_limit }
     ensures room { (n : ℕ) → n ≤ 2 ^ case.now.w → n * unsigned_abs result < engine_limit }
 {
+    premises();
     let _ = case.w();
     total_of(corner_of(weights, links.place(s, a), 0))
 }

@@ -1,4 +1,4 @@
-use Rattle.corner_lift.proofs.Premises.{Premises}
+use Rattle.corner_lift.specs.Premises.{Premises}
 use Rattle.corner_lift.proofs.CornerEnds.{corners_bound_weights_lem, weights_least, weights_sum, corners_choose}
 use Rattle.corner_lift.proofs.laws.corners_bound_weights.Goals as goal
 

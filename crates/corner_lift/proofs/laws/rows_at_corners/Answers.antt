@@ -1,4 +1,4 @@
-use Rattle.corner_lift.proofs.Premises.{Premises}
+use Rattle.corner_lift.specs.Premises.{Premises}
 use Rattle.corner_lift.proofs.RowLaws.{bits_are_parameters, parameters_are_the_roots, numbers_are_in_range, sums_are_in_range, sums_rise}
 use Rattle.corner_lift.proofs.laws.rows_at_corners.Goals as goal
 

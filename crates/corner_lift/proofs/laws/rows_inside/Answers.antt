@@ -1,4 +1,4 @@
-use Rattle.corner_lift.proofs.Premises.{Premises}
+use Rattle.corner_lift.specs.Premises.{Premises}
 use Rattle.corner_lift.proofs.RowLaws.{weights_inside, sums_are_totals, means_at_most_inside, means_at_least_inside, root_is_inside}
 use Rattle.corner_lift.proofs.laws.rows_inside.Goals as goal
 

@@ -4,7 +4,7 @@ use Rattle.lift_grid.specs.Rectangle.{spans_of}
 use Rattle.lift_model.specs.Model.{row_at, support}
 use Rattle.corner_lift.specs.Corner.{parameter_count, corner_sum}
 use Rattle.corner_lift.specs.Case.{number, IsGreatest, row_value, corner_count}
-use Rattle.corner_lift.proofs.Premises.{Premises}
+use Rattle.corner_lift.specs.Premises.{Premises}
 use Rattle.corner_lift.proofs.Cases.{row_in_case, greatest_one_at, greatest_more, bounds_above, parameters_in_root, admitted_row, corners_done, greatest_range}
 use Rattle.corner_lift.proofs.row.row_max.Goals as goal
 use Rattle.corner_lift.proofs.row.row_max.Goals.{After-loop-corner}

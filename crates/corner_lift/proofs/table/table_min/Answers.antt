@@ -10,10 +10,10 @@ use Rattle.corner_lift.proofs.table.table_min.Goals as goal
 use Rattle.corner_lift.proofs.table.table_min.Goals.{After-least_of}
 
 pub least_of-requires-clause-targets : goal.least_of-requires-clause-targets
-least_of-requires-clause-targets g c = rw (c.targets.ensures, (row_placed c.args.case.now c.args.links.now g.spans c.args.weights.now c.args.s c.args.a c.place-place.result c.requires.0 c.place-place.ensures).entries) (targets_inside c.args.case.now c.args.links.now g.spans c.args.weights.now c.args.s c.args.a c.w.ensures.case c.requires.0 c.place-place.result (row_placed c.args.case.now c.args.links.now g.spans c.args.weights.now c.args.s c.args.a c.place-place.result c.requires.0 c.place-place.ensures) _ c.requires.1.size)
+least_of-requires-clause-targets g c = rw (c.targets.ensures, (row_placed c.args.case.now c.args.links.now g.spans c.args.weights.now c.args.s c.args.a c.place-place.result c.requires.0 c.place-place.ensures).entries) (targets_inside c.premises.ensures c.args.case.now c.args.links.now g.spans c.args.weights.now c.args.s c.args.a c.w.ensures.case c.requires.0 c.place-place.result (row_placed c.args.case.now c.args.links.now g.spans c.args.weights.now c.args.s c.args.a c.place-place.result c.requires.0 c.place-place.ensures) _ c.requires.1.size)
 
 pub least_of-requires-clause-room : goal.least_of-requires-clause-room
-least_of-requires-clause-room g c = rw (c.targets.ensures, (row_placed c.args.case.now c.args.links.now g.spans c.args.weights.now c.args.s c.args.a c.place-place.result c.requires.0 c.place-place.ensures).entries) (can_compare c.args.case.now c.args.links.now g.spans c.args.weights.now c.args.s c.args.a c.w.ensures.case c.requires.0 c.place-place.result (row_placed c.args.case.now c.args.links.now g.spans c.args.weights.now c.args.s c.args.a c.place-place.result c.requires.0 c.place-place.ensures) c.args.vec.now c.requires.1)
+least_of-requires-clause-room g c = rw (c.targets.ensures, (row_placed c.args.case.now c.args.links.now g.spans c.args.weights.now c.args.s c.args.a c.place-place.result c.requires.0 c.place-place.ensures).entries) (can_compare c.premises.ensures c.args.case.now c.args.links.now g.spans c.args.weights.now c.args.s c.args.a c.w.ensures.case c.requires.0 c.place-place.result (row_placed c.args.case.now c.args.links.now g.spans c.args.weights.now c.args.s c.args.a c.place-place.result c.requires.0 c.place-place.ensures) c.args.vec.now c.requires.1)
 
 -- of all corners
 of_all : (g : _) (c : After-least_of g) → IsLeast (row_value c.args.case.now g.spans c.args.s c.args.a c.args.vec.now) (corner_count c.args.case.now c.args.s c.args.a) (to_z w128 (of_z w128 c.least_of.result))
@@ -21,10 +21,10 @@ of_all g c =
     let fits : SFits w128 c.least_of.result = search rules in
     let value = rw (c.targets.ensures, (row_placed c.args.case.now c.args.links.now g.spans c.args.weights.now c.args.s c.args.a c.place-place.result c.requires.0 c.place-place.ensures).entries) at c.least_of.ensures in
     rw (to_z-of_z fits) (least_same (λ n. dot (number c.args.vec.now) (corner_part c.args.weights.now c.place-place.result n) (targets_of (row_at c.args.case.now.model c.args.s c.args.a))) (row_value c.args.case.now g.spans c.args.s c.args.a c.args.vec.now) c.place-place.result.corners (corner_count c.args.case.now c.args.s c.args.a) c.least_of.result
-    (corners_all c.args.case.now c.args.links.now g.spans c.args.weights.now c.args.s c.args.a c.w.ensures.case c.requires.0 c.place-place.result (row_placed c.args.case.now c.args.links.now g.spans c.args.weights.now c.args.s c.args.a c.place-place.result c.requires.0 c.place-place.ensures)) (λ n lt. sum_stands c.args.case.now c.args.links.now g.spans c.args.weights.now c.args.s c.args.a c.w.ensures.case c.requires.0 c.place-place.result (row_placed c.args.case.now c.args.links.now g.spans c.args.weights.now c.args.s c.args.a c.place-place.result c.requires.0 c.place-place.ensures) n lt (number c.args.vec.now)) value)
+    (corners_all c.premises.ensures c.args.case.now c.args.links.now g.spans c.args.weights.now c.args.s c.args.a c.w.ensures.case c.requires.0 c.place-place.result (row_placed c.args.case.now c.args.links.now g.spans c.args.weights.now c.args.s c.args.a c.place-place.result c.requires.0 c.place-place.ensures)) (λ n lt. sum_stands c.premises.ensures c.args.case.now c.args.links.now g.spans c.args.weights.now c.args.s c.args.a c.w.ensures.case c.requires.0 c.place-place.result (row_placed c.args.case.now c.args.links.now g.spans c.args.weights.now c.args.s c.args.a c.place-place.result c.requires.0 c.place-place.ensures) n lt (number c.args.vec.now)) value)
 
 pub returns-clause-least : goal.returns-clause-least
 returns-clause-least g c = of_all g c
 
 pub returns-clause-bound : goal.returns-clause-bound
-returns-clause-bound g c = beneath c.args.case.now c.args.s c.args.a g.spans c.args.vec.now c.w.ensures.case c.requires.0.table.inside (to_z w128 (of_z w128 c.least_of.result)) (of_all g c)
+returns-clause-bound g c = beneath c.premises.ensures c.args.case.now c.args.s c.args.a g.spans c.args.vec.now c.w.ensures.case c.requires.0.table.inside (to_z w128 (of_z w128 c.least_of.result)) (of_all g c)
