@@ -24,7 +24,7 @@ use Rattle.plift_top.specs.declared.refusal.Refusal.TheVariants as refusal
 use Rattle.plift_top.proofs.Refusals.{never_refused, one_status, rows_status}
 
 -- no refusal has the status of what is done
-never_done : (r : Refusal) → status_of r ≡ status.Done → ⊥
+pub never_done : (r : Refusal) → status_of r ≡ status.Done → ⊥
 never_done (refusal.Usage f) e = absurd (cc)
 never_done refusal.Memory e = absurd (cc)
 never_done _ e = absurd (cc)

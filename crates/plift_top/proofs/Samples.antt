@@ -1,11 +1,16 @@
 -- The definitions tried on samples that were worked out by hand.
-use Rattle.std.proofs.Common.{◌≡◌, codes, pos, negsuc, refl}
+use Rattle.std.proofs.Common.{◌≡◌, ℕ, List, codes, pos, negsuc, refl, Result}
 use Rattle.std.specs.Fmt.{digits}
+use Rattle.std.specs.declared.option.Option.{Option}
 use Rattle.lift_grid.specs.declared.error.RegionError.TheVariants.{Missing}
 use Rattle.lift_rows.specs.declared.error.RowError.TheVariants.{RowSum, Negative, RowParameters, TooWide}
 use Rattle.drn_read.specs.declared.error.DrnCause.TheVariants.{Power}
-use Rattle.plift_top.specs.Answers.{note_of}
+use Rattle.plift_words.specs.Job.{JobData}
+use Rattle.plift_words.specs.declared.job.Field.{Field}
+use Rattle.plift_top.specs.Answers.{note_of, HasNote}
+use Rattle.plift_top.specs.declared.status.Status.TheVariants as status
 use Rattle.plift_top.specs.declared.refusal.Refusal.TheVariants as refusal
+use Rattle.plift_top.proofs.Acts.{never_done}
 
 -- the notes of a text that stands for no model, of a region at fault, and of rows
 refused : note_of (refusal.Model (record { line = 6; cause = Power })) ≡ codes "model: line 6: Power\n"
@@ -30,3 +35,10 @@ many = refl
 wide : note_of (refusal.Rows (TooWide 12 3)) ≡ codes "rows: state 12 choice 3: too wide\n"
 unfolding digits
 wide = refl
+
+-- the note of a text that is too long, whatever the words and the text are, and none of a job that is done
+too_long : (asked : Result JobData Field) (old new : Option (List ℕ)) → HasNote status.TooLong asked old new (codes "too long\n")
+too_long asked old new = (refusal.TooLong, refl, refl, tt)
+
+done : (asked : Result JobData Field) (old new : Option (List ℕ)) (note : List ℕ) → HasNote status.Done asked old new note → ⊥
+done asked old new note h = never_done h.0 h.1

@@ -25,6 +25,11 @@ asks_region : job (codes "verify" ∷ codes "--goal=heads" ∷ codes "--bound=1/
 unfolding at_most_half gcd
 asks_region = refl
 
+-- what is left out: no region, the depth 0 and the precision 24
+asks_least : job (codes "verify" ∷ codes "--goal=heads" ∷ codes "--bound=1/2" ∷ []) ≡ Ok (verify (record at_most_half { depth = 0; precision = 24 }))
+unfolding at_most_half gcd
+asks_least = refl
+
 -- an empty text in two words is what a line without a region gives
 asks_nothing : job (codes "verify" ∷ codes "--goal=heads" ∷ codes "--bound=1/2" ∷ codes "--region" ∷ [] ∷ codes "--depth=5" ∷ codes "--precision=4" ∷ []) ≡ Ok (verify at_most_half)
 unfolding at_most_half gcd

@@ -56,12 +56,10 @@ fn number_in(matches: &ArgMatches<'_>, id: &str, default: &str, low: u32, high: 
         ≡ number_within low high (unwrap_or (first_value (found_of matches.now) id.now) default.now) }
     ensures range { IfSome result (λ n. (low ≤ n) × (n ≤ high)) }
 {
-    match matches.get_str(id) {
-        Some(word) => number_within(word, low, high),
-        None => number_within(default, low, high),
-    }
+    number_within(matches.get_str(id).unwrap_or(default), low, high)
 }
 
+// The parser finds a value by its option's name without the dashes.
 fn job_in<'a>(matches: &ArgMatches<'a>) -> Result<Job<'a>, Field>
     ensures { answer_data result ≡ job_of (λ name. first_value (found_of matches.now) (drop 2 name)) }
 {
