@@ -1,2 +1,21 @@
-pub mod Lines
 mod Samples
+mod Lines
+mod Steps
+mod Decimals
+mod CutLines
+mod Inverting
+mod Peeking
+mod Fields
+mod NumberWords
+mod FirstLines
+mod LaterLines
+mod Fits
+mod RowLaws
+mod HeadLaws
+mod NodeLaws
+mod ModelOf
+mod Ones
+mod HeadForms
+mod ReportLaws
+mod ReadSamples
+mod Refusals

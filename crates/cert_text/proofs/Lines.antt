@@ -7,13 +7,13 @@ use Rattle.lift_model.specs.Model.{ModelData}
 use Rattle.lift_grid.specs.Rectangle.{Spans}
 use Rattle.corner_lift.specs.Case.{CaseData}
 use Rattle.lift_cert.specs.declared.bound.Bound.{Bound}
-use Rattle.lift_bytes.specs.Bytes.{space}
+use Prim.Native.Char.{code}
 use Rattle.cert_text.specs.Report.{line, version_words, kind_words, parameters_words, size_lines, goal_words, rows_lines, model_lines, asked_lines, box_line, head_lines, goal_states, numbered}
 
 -- a line is its first word, each further word behind a space, and a line feed
-pub line-words : {X : Type 0} (f : X → List ℕ) (word : List ℕ) (xs : List X) → line (word ∷ map f xs) ≡ word ++ (flat_map (λ x. space ∷ f x) xs ++ codes "\n")
+pub line-words : {X : Type 0} (f : X → List ℕ) (word : List ℕ) (xs : List X) → line (word ∷ map f xs) ≡ word ++ (flat_map (λ x. code " " ∷ f x) xs ++ codes "\n")
 line-words f word [] = refl
-line-words f word (x ∷ xs) = ap (λ (r : List ℕ). word ++ (space ∷ r)) (line-words f (f x) xs ∙ sym (append_assoc (f x) (flat_map (λ x. space ∷ f x) xs) (codes "\n")))
+line-words f word (x ∷ xs) = ap (λ (r : List ℕ). word ++ (code " " ∷ r)) (line-words f (f x) xs ∙ sym (append_assoc (f x) (flat_map (λ x. code " " ∷ f x) xs) (codes "\n")))
 
 pub concat-map : {X : Type 0} (f : X → List ℕ) (xs : List X) → concat (map f xs) ≡ flat_map f xs
 concat-map f [] = refl
@@ -57,9 +57,9 @@ pub flat_next : {A : Type 0} (f : A → List ℕ) (xs : List A) (k : ℕ) (x : A
 flat_next f xs k x e = rw (add-one k) (flat_suc f xs k x e)
 
 -- a line whose further words are its own
-pub line-names : (word : List ℕ) (names : List (List ℕ)) → line (word ∷ names) ≡ word ++ (flat_map (λ name. space ∷ name) names ++ codes "\n")
+pub line-names : (word : List ℕ) (names : List (List ℕ)) → line (word ∷ names) ≡ word ++ (flat_map (λ name. code " " ∷ name) names ++ codes "\n")
 line-names word [] = refl
-line-names word (name ∷ names) = ap (λ (r : List ℕ). word ++ (space ∷ r)) (line-names name names ∙ sym (append_assoc name (flat_map (λ name. space ∷ name) names) (codes "\n")))
+line-names word (name ∷ names) = ap (λ (r : List ℕ). word ++ (code " " ∷ r)) (line-names name names ∙ sym (append_assoc name (flat_map (λ name. code " " ∷ name) names) (codes "\n")))
 
 -- the lines of a model, one after the other
 pub model_parts : (m : ModelData) (kind : Kind) (names : List (List ℕ)) → kind ≡ m.kind → names ≡ m.names

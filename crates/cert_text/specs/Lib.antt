@@ -1,1 +1,9 @@
 pub mod Report
+pub mod Words
+pub mod Reading
+pub mod Lines
+pub mod Head
+pub mod Nodes
+pub mod Forms
+pub mod Whole
+pub mod Laws

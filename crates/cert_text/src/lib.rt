@@ -1,9 +1,16 @@
 //! The text of a report: its head, and the lines of its nodes. No call takes memory.
 #![tactic(auto)]
 
+mod error;
 mod head;
+mod laws;
 mod model;
 mod node;
 
+pub use error::{TextCause, TextError};
 pub use head::write_head;
+pub use laws::{
+    heads_are_read, nodes_are_read, prefixes_are_truncated, reports_are_read,
+    texts_tell_one_report,
+};
 pub use node::{write_accept, write_split, write_unknown};
