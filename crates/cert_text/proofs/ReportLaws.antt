@@ -138,13 +138,12 @@ reports_back h t levels rest fit low =
     ∙ ap (λ k. Ok ((h, t), (1 + k, rest))) (whole_count h t)
 
 pub reports_told : ReadReportsAreTold
-reports_told h t levels m text rest e = let r = (inverts_report levels).takes 1 m text rest (h, t) e in
-    (
-      record { head = form_head h r.1.1; nodes = r.1.2 },
-      r.1.3,
-      r.2 ∙ ap (λ (ls : Lines). concat ls ++ rest) r.1.0 ∙ ap (λ x. x ++ rest) (whole_text h t),
-      r.3 ∙ ap (λ (ls : Lines). 1 + length ls) r.1.0 ∙ ap (λ k. 1 + k) (whole_count h t),
-    )
+reports_told h t levels m text rest e = let r = (inverts_report levels).takes 1 m text rest (h, t) e in (
+  record { head = form_head h r.1.1; nodes = r.1.2 },
+  r.1.3,
+  r.2 ∙ ap (λ (ls : Lines). concat ls ++ rest) r.1.0 ∙ ap (λ x. x ++ rest) (whole_text h t),
+  r.3 ∙ ap (λ (ls : Lines). 1 + length ls) r.1.0 ∙ ap (λ k. 1 + k) (whole_count h t),
+)
 
 pub one_report : TextsTellOneReport
 one_report h g t s rest more fh fg e =

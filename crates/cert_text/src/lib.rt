@@ -10,7 +10,6 @@ mod node;
 pub use error::{TextCause, TextError};
 pub use head::write_head;
 pub use laws::{
-    heads_are_read, nodes_are_read, prefixes_are_truncated, reports_are_read,
-    texts_tell_one_report,
+    heads_are_read, nodes_are_read, prefixes_are_truncated, reports_are_read, texts_tell_one_report,
 };
-pub use node::{write_accept, write_split, write_unknown};
+pub use node::{write_accept, write_reject, write_split, write_unknown};
