@@ -7,3 +7,4 @@ pub mod Nodes
 pub mod Forms
 pub mod Whole
 pub mod Laws
+pub mod Shown

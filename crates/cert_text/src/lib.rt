@@ -1,11 +1,15 @@
 //! The text of a report: its head, and the lines of its nodes. No call takes memory.
 #![tactic(auto)]
 
+mod cursor;
+mod decimal;
 mod error;
 mod head;
 mod laws;
 mod model;
 mod node;
+mod numbers;
+mod words;
 
 pub use error::{TextCause, TextError};
 pub use head::write_head;
