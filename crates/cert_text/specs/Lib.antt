@@ -8,3 +8,4 @@ pub mod Forms
 pub mod Whole
 pub mod Laws
 pub mod Shown
+pub mod Leaf

@@ -233,29 +233,37 @@ box_of parameters depth words = do
 
 -- ---- the nodes' lines
 
--- so many numbers from 0 to 2 ^ u
+-- a number from 0 to 2 ^ u
 abbrev pub is_value : ℕ → ℤ → Bool
 is_value u (pos n) = nat_le n (2 ^ u)
 is_value u (negsuc n) = false
 
+-- the numbers, if each is from 0 to 2 ^ u
+abbrev pub values_in : ℕ → List ℤ → Read (List ℤ)
+values_in u zs = must (list_all (is_value u) zs) Limit >>= λ _. Ok zs
+
+-- so many of them behind a word
 abbrev pub values_of : List ℕ → ℕ → ℕ → Words → Read (List ℤ)
 values_of key count u words = do
   zs ← numbers_of key words
   _ ← must (length zs == count) Syntax
-  _ ← must (list_all (is_value u) zs) Limit
-  Ok zs
+  values_in u zs
 
 -- a mark: - or a number
 abbrev pub mark_of : List ℕ → Option (Option ℤ)
 mark_of word = if bytes_eq word (codes "-") then Some None else option_map (λ z. Some z) (number_of word)
 
--- marks below their ends
+-- a mark below its end, or none
+abbrev pub mark_in : ℕ → Option ℤ → Read ℕ
+mark_in end None = Ok unmarked
+mark_in end (Some z) = between 0 end z
+
+-- marks below their ends, or none
 abbrev pub marks_in : List ℕ → List (Option ℤ) → Read (List ℕ)
 marks_in [] [] = Ok []
 marks_in [] (m ∷ ms) = Err Syntax
 marks_in (end ∷ ends) [] = Err Syntax
-marks_in (end ∷ ends) (None ∷ ms) = marks_in ends ms >>= λ marks. Ok (unmarked ∷ marks)
-marks_in (end ∷ ends) (Some z ∷ ms) = between 0 end z >>= λ mark. marks_in ends ms >>= λ marks. Ok (mark ∷ marks)
+marks_in (end ∷ ends) (m ∷ ms) = mark_in end m >>= λ mark. marks_in ends ms >>= λ marks. Ok (mark ∷ marks)
 
 abbrev pub marks_of : List ℕ → List ℕ → Words → Read (List ℕ)
 marks_of key ends words = do

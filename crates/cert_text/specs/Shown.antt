@@ -1,10 +1,10 @@
 -- How what the code holds is seen, and what its functions answer.
-use Rattle.std.specs.Prelude.{◌≡◌, ◌≢◌, ℕ, ℤ, pos, neg_ℤ, Bool, true, false, List, [], ◌∷◌, Result, Ok, Err}
+use Rattle.std.specs.Prelude.{◌≡◌, ◌≢◌, ℕ, ℤ, pos, neg_ℤ, Bool, true, false, List, [], ◌∷◌, Option, Some, None, Result, Ok, Err, if◌then◌else◌}
 use Rattle.cert_text.specs.declared.error.TextCause.{TextCause}
 use Rattle.cert_text.specs.declared.error.TextCause.TheVariants.{Memory}
 use Rattle.cert_text.specs.declared.error.TextError.{TextError}
 use Rattle.cert_text.specs.Words.{words}
-use Rattle.cert_text.specs.Lines.{Words, Read}
+use Rattle.cert_text.specs.Lines.{Words, Read, is_value}
 
 -- what a function answers, seen by view, is what is read there, unless memory ran out
 abbrev pub Gives : {X Y : Type 0} → (X → Y) → Result X TextError → Result Y TextError → Type 0
@@ -30,3 +30,7 @@ is_none_left (w ∷ ws) = false
 abbrev pub signed : Bool → ℕ → ℤ
 signed true n = neg_ℤ (pos n)
 signed false n = pos n
+
+-- the number, if it is from 0 to 2 ^ u
+abbrev pub in_values : ℕ → ℤ → Option ℤ
+in_values u z = if is_value u z then Some z else None

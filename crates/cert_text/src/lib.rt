@@ -6,9 +6,11 @@ mod decimal;
 mod error;
 mod head;
 mod laws;
+mod marks;
 mod model;
 mod node;
 mod numbers;
+mod rejected;
 mod words;
 
 pub use error::{TextCause, TextError};
