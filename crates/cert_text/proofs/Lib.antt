@@ -22,3 +22,4 @@ mod Refusals
 mod WordsLeft
 mod LongNumbers
 mod NumberLoop
+mod MarkLoops

@@ -27,7 +27,7 @@ use Rattle.std.proofs.lemmas.List.Elements.{All-from_recursion, recursion_from_A
 use Rattle.corner_lift.specs.Case.{CaseData}
 use Rattle.corner_lift.specs.Certificate.{AreNumbers}
 use Rattle.cert_text.specs.Forms.{AreMarks, IsReject, IsNode}
-use Rattle.cert_text.specs.Nodes.{Node, split, accept, reject, unknown, begins, fit_states, fits_leaf, split_at, accept_at, reject_at, unknown_at, node_by, node_at, node_lines}
+use Rattle.cert_text.specs.Nodes.{Node, split, accept, reject, unknown, begins, fit_states, fits_leaf, split_at, accept_at, rejecting_at, reject_at, unknown_at, node_by, node_at, node_lines}
 use Rattle.cert_text.proofs.Steps.{Reads, reads_ok, reads_spelled, reads_first, reads_ended, reads_so, reads_pass}
 use Rattle.cert_text.proofs.Decimals.{number_back, number_again}
 use Rattle.cert_text.proofs.CutLines.{IsPlain, IsLine, every_append}
@@ -279,7 +279,7 @@ reject_is_line h e k y head v he hk =
     (omega arith)
 
 inverts_reject : (h : HeadData) → HeadForm h → Inverts Anything (RejectLines h) (reject_at h)
-unfolding reject_at
+unfolding reject_at rejecting_at
 inverts_reject h k =
     inverts_so
     (inverts_pass (inverts_line_in Anything (λ r ws. IsRejected r ws) reject_of reads_reject) (λ r _ (ws0, (l, _), _).

@@ -7,7 +7,7 @@ use Rattle.cert_text.specs.declared.error.TextCause.TheVariants.{Syntax, Version
 use Rattle.cert_text.specs.declared.error.TextError.{TextError}
 use Rattle.cert_text.specs.Reading.{Cursor, due, line_at, fault}
 use Rattle.cert_text.specs.Head.{HeadData, head_at, state_at, states_at, behind_first, row_at, entries_at, further_at}
-use Rattle.cert_text.specs.Nodes.{node_at, node_by, accept_at, reject_at, split_at, unknown_at}
+use Rattle.cert_text.specs.Nodes.{node_at, node_by, accept_at, reject_at, rejecting_at, split_at, unknown_at}
 use Rattle.cert_text.proofs.ReadSamples.{coin, coin_lines}
 
 -- what is read of the head with another line of that number
@@ -291,81 +291,81 @@ cut_behind_150 = refl
 -- ---- nodes
 
 value_out : node_at coin (20, codes "accept 7 17 0\n") ≡ fault 20 Limit
-unfolding coin node_at node_by accept_at reject_at split_at unknown_at due line_at
+unfolding coin node_at node_by accept_at reject_at rejecting_at split_at unknown_at due line_at
 value_out = refl
 
 value_count : node_at coin (20, codes "accept 7 16\n") ≡ fault 20 Syntax
-unfolding coin node_at node_by accept_at reject_at split_at unknown_at due line_at
+unfolding coin node_at node_by accept_at reject_at rejecting_at split_at unknown_at due line_at
 value_count = refl
 
 value_lead : node_at coin (20, codes "accept 07 16 0\n") ≡ fault 20 Syntax
-unfolding coin node_at node_by accept_at reject_at split_at unknown_at due line_at
+unfolding coin node_at node_by accept_at reject_at rejecting_at split_at unknown_at due line_at
 value_lead = refl
 
 value_minus : node_at coin (20, codes "accept -7 16 0\n") ≡ fault 20 Limit
-unfolding coin node_at node_by accept_at reject_at split_at unknown_at due line_at
+unfolding coin node_at node_by accept_at reject_at rejecting_at split_at unknown_at due line_at
 value_minus = refl
 
 syntax_first : node_at coin (20, codes "accept 7 17 x\n") ≡ fault 20 Syntax
-unfolding coin node_at node_by accept_at reject_at split_at unknown_at due line_at
+unfolding coin node_at node_by accept_at reject_at rejecting_at split_at unknown_at due line_at
 syntax_first = refl
 
 split_none : node_at coin (20, codes "split 1\n") ≡ fault 20 Limit
-unfolding coin node_at node_by accept_at reject_at split_at unknown_at due line_at
+unfolding coin node_at node_by accept_at reject_at rejecting_at split_at unknown_at due line_at
 split_none = refl
 
 unknown_with_a_word : node_at coin (20, codes "unknown 1\n") ≡ fault 20 Syntax
-unfolding coin node_at node_by accept_at reject_at split_at unknown_at due line_at
+unfolding coin node_at node_by accept_at reject_at rejecting_at split_at unknown_at due line_at
 unknown_with_a_word = refl
 
 reject_m : node_at coin (20, codes "reject e 1 k 1 m 2 b 7/16\ny 7 16 0\nchoice 0 - -\nrank 1 0 -\n") ≡ fault 20 Syntax
-unfolding coin node_at node_by accept_at reject_at split_at unknown_at due line_at
+unfolding coin node_at node_by accept_at reject_at rejecting_at split_at unknown_at due line_at
 reject_m = refl
 
 split_below_zero : node_at coin (20, codes "split -1\n") ≡ fault 20 Limit
-unfolding coin node_at node_by accept_at reject_at split_at unknown_at due line_at
+unfolding coin node_at node_by accept_at reject_at rejecting_at split_at unknown_at due line_at
 split_below_zero = refl
 
 no_such_node : node_at coin (20, codes "leaf\n") ≡ fault 20 Syntax
-unfolding coin node_at node_by accept_at reject_at split_at unknown_at due line_at
+unfolding coin node_at node_by accept_at reject_at rejecting_at split_at unknown_at due line_at
 no_such_node = refl
 
 rejecting_e_out : node_at coin (20, codes "reject e 127 k 1 m 127 b 7/16\ny 7 16 0\nchoice 0 - -\nrank 1 0 -\n") ≡ fault 20 Limit
-unfolding coin node_at node_by accept_at reject_at split_at unknown_at due line_at
+unfolding coin node_at node_by accept_at reject_at rejecting_at split_at unknown_at due line_at
 rejecting_e_out = refl
 
 rejecting_k_zero : node_at coin (20, codes "reject e 1 k 0 m 0 b 7/16\ny 7 16 0\nchoice 0 - -\nrank 1 0 -\n") ≡ fault 20 Limit
-unfolding coin node_at node_by accept_at reject_at split_at unknown_at due line_at
+unfolding coin node_at node_by accept_at reject_at rejecting_at split_at unknown_at due line_at
 rejecting_k_zero = refl
 
 rejecting_number : node_at coin (20, codes "reject e 1 k 1 m 1 b 8/16\ny 7 16 0\nchoice 0 - -\nrank 1 0 -\n") ≡ fault 20 Syntax
-unfolding coin node_at node_by accept_at reject_at split_at unknown_at due line_at
+unfolding coin node_at node_by accept_at reject_at rejecting_at split_at unknown_at due line_at
 rejecting_number = refl
 
 rejecting_whole : node_at coin (20, codes "reject e 1 k 1 m 1 b 7/32\ny 7 16 0\nchoice 0 - -\nrank 1 0 -\n") ≡ fault 20 Syntax
-unfolding coin node_at node_by accept_at reject_at split_at unknown_at due line_at
+unfolding coin node_at node_by accept_at reject_at rejecting_at split_at unknown_at due line_at
 rejecting_whole = refl
 
 pick_of_the_goal : node_at coin (20, codes "reject e 1 k 1 m 1 b 7/16\ny 7 16 0\nchoice 0 0 -\nrank 1 0 -\n") ≡ fault 20 Syntax
-unfolding coin node_at node_by accept_at reject_at split_at unknown_at due line_at
+unfolding coin node_at node_by accept_at reject_at rejecting_at split_at unknown_at due line_at
 pick_of_the_goal = refl
 
 no_pick_of_a_ranked : node_at coin (20, codes "reject e 1 k 1 m 1 b 7/16\ny 7 16 0\nchoice - - -\nrank 1 0 -\n") ≡ fault 20 Syntax
-unfolding coin node_at node_by accept_at reject_at split_at unknown_at due line_at
+unfolding coin node_at node_by accept_at reject_at rejecting_at split_at unknown_at due line_at
 no_pick_of_a_ranked = refl
 
 rank_zero : node_at coin (20, codes "reject e 1 k 1 m 1 b 7/16\ny 7 16 0\nchoice 0 - 0\nrank 1 0 0\n") ≡ fault 20 Syntax
-unfolding coin node_at node_by accept_at reject_at split_at unknown_at due line_at
+unfolding coin node_at node_by accept_at reject_at rejecting_at split_at unknown_at due line_at
 rank_zero = refl
 
 pick_out : node_at coin (20, codes "reject e 1 k 1 m 1 b 7/16\ny 7 16 0\nchoice 1 - -\nrank 1 0 -\n") ≡ fault 22 Limit
-unfolding coin node_at node_by accept_at reject_at split_at unknown_at due line_at
+unfolding coin node_at node_by accept_at reject_at rejecting_at split_at unknown_at due line_at
 pick_out = refl
 
 rank_out : node_at coin (20, codes "reject e 1 k 1 m 1 b 7/16\ny 7 16 0\nchoice 0 - -\nrank 2 0 -\n") ≡ fault 23 Limit
-unfolding coin node_at node_by accept_at reject_at split_at unknown_at due line_at
+unfolding coin node_at node_by accept_at reject_at rejecting_at split_at unknown_at due line_at
 rank_out = refl
 
 number_out_in_y : node_at coin (20, codes "reject e 1 k 1 m 1 b 7/16\ny 7 17 0\nchoice 0 - -\nrank 1 0 -\n") ≡ fault 21 Limit
-unfolding coin node_at node_by accept_at reject_at split_at unknown_at due line_at
+unfolding coin node_at node_by accept_at reject_at rejecting_at split_at unknown_at due line_at
 number_out_in_y = refl

@@ -46,16 +46,20 @@ split_at h c = line_at (number_in (codes "split") 0 (length h.asked.model.names)
 unfoldable pub accept_at : HeadData → Reader Node
 accept_at h c = line_at (values_of (codes "accept") (length h.asked.model.states) h.asked.w) c >>= λ x. Ok (accept h.asked.w x.0, x.1)
 
--- a rejecting leaf: its four lines, and then the tests of the whole leaf, which are told at the first of them
-unfoldable pub reject_at : HeadData → Reader Node
-reject_at h c = do
-  r ← line_at reject_of c
-  y ← line_at (values_of (codes "y") (length h.asked.model.states) h.asked.w) r.1
+-- a rejecting leaf behind its first line: three lines more, and then the tests of the whole leaf, which are told at the first of its four
+unfoldable pub rejecting_at : HeadData → Rejected → Reader Node
+rejecting_at h r c = do
+  y ← line_at (values_of (codes "y") (length h.asked.model.states) h.asked.w) c
   picks ← line_at (marks_of (codes "choice") (map length h.asked.model.states)) y.1
-  ranks ← line_at (marks_of (codes "rank") (map (λ _. r.0.k + 1) h.asked.model.states)) picks.1
-  _ ← at (ranks.1.0 - 4) (must (fits_leaf h r.0 y.0 picks.0 ranks.0) Syntax)
-  Ok (reject h.asked.w (record { numbers = y.0; picks = picks.0; ranks = ranks.0; e = r.0.e; k = r.0.k }), ranks.1)
+  ranks ← line_at (marks_of (codes "rank") (map (λ _. r.k + 1) h.asked.model.states)) picks.1
+  _ ← at (ranks.1.0 - 4) (must (fits_leaf h r y.0 picks.0 ranks.0) Syntax)
+  Ok (reject h.asked.w (record { numbers = y.0; picks = picks.0; ranks = ranks.0; e = r.e; k = r.k }), ranks.1)
 
+-- a rejecting leaf
+unfoldable pub reject_at : HeadData → Reader Node
+reject_at h c = line_at reject_of c >>= λ r. rejecting_at h r.0 r.1
+
+-- an unknown leaf
 unfoldable pub unknown_at : Reader Node
 unknown_at c = line_at (λ words. keyed (codes "unknown") words >>= ended) c >>= λ x. Ok (unknown, x.1)
 

@@ -1,5 +1,5 @@
 // Places in a text, and the line that is due.
-ghost use Rattle.std.specs.Prelude.{◌≡◌, ◌≤◌, ◌<◌, ◌==◌, ◌^◌, length};
+ghost use Rattle.std.specs.Prelude.{◌≡◌, ◌-◌, ◌≤◌, ◌<◌, ◌==◌, ◌^◌, length};
 ghost use Rattle.std.specs.List.{position_or_len};
 ghost use Rattle.cert_text.specs.Reading.{due, is_feed};
 ghost use Rattle.cert_text.specs.Shown.{Gives};
@@ -65,6 +65,16 @@ impl<'t> Cursor<'t> {
     {
         TextError {
             line: self.number,
+            cause,
+        }
+    }
+
+    /// A fault at a line so many lines above the one that is due.
+    pub(crate) fn fault_above(&self, lines: u32, cause: TextCause) -> TextError
+        ensures { result ≡ record { line = self.now.0 - lines; cause = cause } }
+    {
+        TextError {
+            line: self.number.saturating_sub(lines),
             cause,
         }
     }

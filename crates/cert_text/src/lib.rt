@@ -10,6 +10,8 @@ mod marks;
 mod model;
 mod node;
 mod numbers;
+mod read_head;
+mod read_node;
 mod rejected;
 mod words;
 
@@ -18,4 +20,6 @@ pub use head::write_head;
 pub use laws::{
     heads_are_read, nodes_are_read, prefixes_are_truncated, reports_are_read, texts_tell_one_report,
 };
+pub use read_head::Head;
+pub use read_node::Node;
 pub use node::{write_accept, write_reject, write_split, write_unknown};

@@ -57,7 +57,8 @@ fn mark_in(mark: &Option<Decimal>, end: u32) -> Result<u32, TextCause>
 /// The marks, if each is none or below its end.
 fn marks_in(alloc: Global, ends: &[u32], marks: &[Option<Decimal>]) -> Result<Vec<u32>, TextCause>
     requires { length marks.now ≡ length ends.now }
-    ensures { Says (λ v. v.items) result (marks_in ends.now marks.now) }
+    ensures value { Says (λ v. v.items) result (marks_in ends.now marks.now) }
+    ensures size { IfOk result (λ v. length v.items ≡ length ends.now) }
 {
     let mut kept = Vec::new(alloc);
     for i in 0..ends.len() {
@@ -76,7 +77,8 @@ pub(crate) fn marks_of(
     key: &[u8],
     ends: &[u32],
 ) -> Result<Vec<u32>, TextCause>
-    ensures { Says (λ v. v.items) result (marks_of key.now ends.now words.now) }
+    ensures value { Says (λ v. v.items) result (marks_of key.now ends.now words.now) }
+    ensures size { IfOk result (λ v. length v.items ≡ length ends.now) }
 {
     let rest = words.keyed(key)?;
     let marks = marks(alloc, rest)?;
@@ -95,6 +97,17 @@ pub(crate) fn choice_counts(alloc: Global, model: &Model) -> Result<Vec<u32>, Al
         counts.push(model.choices(s))?;
     }
     Ok(counts)
+}
+
+/// For each state, what its rank stays below.
+pub(crate) fn rank_ends(alloc: Global, model: &Model, limit: u32) -> Result<Vec<u32>, AllocError>
+    ensures { IfOk result (λ v. v.items ≡ map (λ _. limit) model.now.states) }
+{
+    let mut ends = Vec::new(alloc);
+    for _ in 0..model.states() {
+        ends.push(limit)?;
+    }
+    Ok(ends)
 }
 
 /// Whether a state's pick and rank stand where they may.

@@ -1,5 +1,5 @@
 // Numbers of a line.
-ghost use Rattle.std.specs.Prelude.{◌≡◌, ◌≤◌, ◌^◌, ◌++◌, ◌∷◌, [], pos, IfOk};
+ghost use Rattle.std.specs.Prelude.{◌≡◌, ◌≤◌, ◌<◌, ◌^◌, pos, length, IfOk};
 ghost use Rattle.cert_text.specs.Words.{number_of};
 ghost use Rattle.cert_text.specs.Reading.{line_at};
 ghost use Rattle.cert_text.specs.Lines.{each, numbers_of, between, number_in, values_in, values_of};
@@ -47,7 +47,8 @@ pub(crate) fn numbers_of<'t>(
 /// The number, from low to below end.
 pub(crate) fn between(number: &Decimal, low: u64, end: u64) -> Result<u64, TextCause>
     requires { end ≤ 2 ^ 62 }
-    ensures { Says (λ n. n) result (between low end number.now) }
+    ensures value { Says (λ n. n) result (between low end number.now) }
+    ensures range { IfOk result (λ n. n < end) }
 {
     match number.narrow() {
         Some(n) if i128::from(low) <= n && n < i128::from(end) => Ok(n as u64),
@@ -64,7 +65,8 @@ fn number_in(
     end: u64,
 ) -> Result<u64, TextCause>
     requires { end ≤ 2 ^ 62 }
-    ensures { Says (λ n. n) result (number_in key.now low end words.now) }
+    ensures value { Says (λ n. n) result (number_in key.now low end words.now) }
+    ensures range { IfOk result (λ n. n < end) }
 {
     let numbers = numbers_of(alloc, words, key)?;
     match numbers.as_slice() {
@@ -83,7 +85,8 @@ pub(crate) fn number_line<'t>(
     end: u64,
 ) -> Result<(u64, Cursor<'t>), TextError>
     requires { end ≤ 2 ^ 62 }
-    ensures { Gives (λ x. x) result (line_at (number_in key.now low end) cursor.now) }
+    ensures value { Gives (λ x. x) result (line_at (number_in key.now low end) cursor.now) }
+    ensures range { IfOk result (λ x. x.0 < end) }
 {
     let (line, behind) = cursor.due()?;
     match number_in(alloc, &Words::of(line), key, low, end) {
@@ -95,6 +98,16 @@ pub(crate) fn number_line<'t>(
 /// Whether the number is that one.
 pub(crate) fn is_number(number: &Decimal, n: u64) -> bool
     ensures { result ≡ int_eq number.now (pos n) }
+{
+    match number.narrow() {
+        Some(m) => m == i128::from(n),
+        None => false,
+    }
+}
+
+/// Whether the number is that one, which may be below 0.
+pub(crate) fn is_signed(number: &Decimal, n: i64) -> bool
+    ensures { result ≡ int_eq number.now n }
 {
     match number.narrow() {
         Some(m) => m == i128::from(n),
@@ -117,7 +130,8 @@ fn value(number: &Decimal, u: u32) -> Option<i64>
 /// The numbers, if each is from 0 to 2 to the `u`.
 fn values_in(alloc: Global, numbers: &[Decimal], u: u32) -> Result<Vec<i64>, TextCause>
     requires { u ≤ 40 }
-    ensures { Says (λ v. v.items) result (values_in u numbers.now) }
+    ensures value { Says (λ v. v.items) result (values_in u numbers.now) }
+    ensures size { IfOk result (λ v. length v.items ≡ length numbers.now) }
 {
     let mut values = Vec::new(alloc);
     for number in numbers {
@@ -138,7 +152,8 @@ pub(crate) fn values_of(
     u: u32,
 ) -> Result<Vec<i64>, TextCause>
     requires { u ≤ 40 }
-    ensures { Says (λ v. v.items) result (values_of key.now count u words.now) }
+    ensures value { Says (λ v. v.items) result (values_of key.now count u words.now) }
+    ensures size { IfOk result (λ v. length v.items ≡ count) }
 {
     let numbers = numbers_of(alloc, words, key)?;
     if numbers.len() != count as usize {
