@@ -16,7 +16,7 @@ use Rattle.cert_text.specs.declared.error.TextCause.{TextCause}
 use Rattle.cert_text.specs.declared.error.TextCause.TheVariants.{Syntax, Version, Limit}
 use Rattle.cert_text.specs.Report.{kind_name, kind_words, version_words, numbers_words, parameters_words, goal_words, goal_states, row_words}
 use Rattle.cert_text.specs.Words.{number_of, is_name}
-use Rattle.cert_text.specs.Lines.{Words, Read, must, first, counted, natural, version_of, kind_of, name_of, names_in, parameters_of, is_above, goals_in, flags, goal_of, row_of, terms_in}
+use Rattle.cert_text.specs.Lines.{Words, Read, must, first, count_of, counted, natural, version_of, kind_of, name_of, names_in, parameters_of, is_above, goals_in, flags, goal_of, row_of, terms_in}
 use Rattle.cert_text.proofs.Steps.{Reads, Both, ok_is, reads_ok, reads_must, reads_spelled, reads_first, reads_single, reads_so, reads_pass, reads_test}
 use Rattle.cert_text.proofs.Decimals.{number_back, number_again}
 use Rattle.cert_text.proofs.Fields.{Writes, IsSmall, reads_keyed, reads_each, reads_numbers, reads_one, reads_between, numbers_back, numbers_again}
@@ -65,12 +65,20 @@ pub record IsCounted {A : Type 0} (key : List ℕ) (of : List ℕ → Option A) 
   pub number : number_of count ≡ Some (pos (length xs))
   pub writes : Writes of rest xs
 
+reads_count : (key : List ℕ) (ws : Words) → Reads (λ p. (count : List ℕ) × (ws ≡ key ∷ count ∷ p.1) × (number_of count ≡ Some p.0)) (count_of key ws)
+reads_count key ws =
+    reads_so (reads_pass (reads_keyed key ws) (λ rest _. reads_pass (reads_first rest) (λ parts _. reads_pass (reads_spelled (number_of parts.0)) (λ count _. reads_ok (count, parts.1)))))
+    (λ p. (count : List ℕ) × (ws ≡ key ∷ count ∷ p.1) × (number_of count ≡ Some p.0))
+    (λ p (rest, is, (parts, parted, (count, number, same))).
+    (parts.0, is ∙ ap (λ t. key ∷ t) parted ∙ ap (λ (q : ℤ × Words). key ∷ parts.0 ∷ q.1) same, number ∙ ap (λ (q : ℤ × Words). Some q.0) same))
+    (λ p (count, is, number). (count ∷ p.1, is, ((count, p.1), refl, (p.0, number, refl))))
+
 pub reads_counted : {A : Type 0} (key : List ℕ) (of : List ℕ → Option A) (ws : Words) → Reads (IsCounted key of ws) (counted key of ws)
 reads_counted {A} key of ws =
-    reads_so (reads_pass (reads_keyed key ws) (λ rest _. reads_pass (reads_first rest) (λ parts _. reads_pass (reads_spelled (number_of parts.0)) (λ count _. reads_pass (reads_each of parts.1) (λ xs _. reads_test (int_eq count (pos (length xs))) Syntax (Decides-int_eq count (pos (length xs))) (λ _. reads_ok xs)))))) (IsCounted key of ws)
-    (λ xs (rest, is, (parts, parted, (count, number, (ys, writes, (same, ends))))).
-    record { count = parts.0; rest = parts.1; is = is ∙ ap (λ t. key ∷ t) parted; number = number ∙ ap (λ z. Some z) same ∙ ap (λ y. Some (pos (length y))) ends; writes = subst (λ y. Writes of parts.1 y) ends writes })
-    (λ xs c. (c.count ∷ c.rest, c.is, ((c.count, c.rest), refl, (pos (length xs), c.number, (xs, c.writes, (refl, refl))))))
+    reads_so (reads_pass (reads_count key ws) (λ parts _. reads_pass (reads_each of parts.1) (λ xs _. reads_test (int_eq parts.0 (pos (length xs))) Syntax (Decides-int_eq parts.0 (pos (length xs))) (λ _. reads_ok xs)))) (IsCounted key of ws)
+    (λ xs (parts, (count, is, number), (ys, writes, (same, ends))).
+    record { count = count; rest = parts.1; is = is; number = number ∙ ap (λ z. Some z) same ∙ ap (λ y. Some (pos (length y))) ends; writes = subst (λ y. Writes of parts.1 y) ends writes })
+    (λ xs c. ((pos (length xs), c.rest), (c.count, c.is, c.number), (xs, c.writes, (refl, refl))))
 
 -- ---- parameters
 

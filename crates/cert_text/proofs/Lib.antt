@@ -23,3 +23,4 @@ mod WordsLeft
 mod LongNumbers
 mod NumberLoop
 mod MarkLoops
+mod Places

@@ -1,6 +1,7 @@
 -- Numbers of any length, digit by digit.
 use Rattle.std.proofs.Common.{◌≡◌, ◌≢◌, ℕ, zero, suc, ◌+◌, ◌-◌, ◌*◌, ◌%◌, ◌^◌, ◌<◌, ◌≤◌, Bool, true, false, cond, not, ◌&&◌, List, [], ◌∷◌, length, take, get_or, Some, None, refl, sym, ap, ◌∙◌, arith, pow-suc}
-use Rattle.std.specs.Prelude.{ℤ, pos, neg_ℤ, unsigned_abs, ◌==◌}
+use Rattle.std.specs.Prelude.{ℤ, pos, neg_ℤ, unsigned_abs, int_lt, ◌==◌}
+use Rattle.std.proofs.lemmas.Bool.{le-ltb}
 use Rattle.std.specs.List.{list_all}
 use Rattle.std.specs.Char.{is_ascii_digit, digit_value}
 use Rattle.std.specs.Str.{bytes_eq}
@@ -107,3 +108,11 @@ remainder_next ds i by rest e h is =
   where
     inner : (v d by : ℕ) → (v % by * 10 + d) % by ≡ (v * 10 + d) % by
     inner v d by = sym (mod-add-mod (v % by * 10) by d) ∙ ap (λ k. (k + d) % by) (mul-mod_first v 10 by) ∙ mod-add-mod (v * 10) by d
+
+pub below_wide : (negative : Bool) (n : ℕ) (z : ℤ) → signed negative n ≡ z → 2 ^ 100 ≤ unsigned_abs z → negative ≡ int_lt z (pos 0)
+below_wide true zero z e h = absurd (omega (arith, h, ap unsigned_abs e))
+below_wide true (suc n) z e h = ap (λ x. int_lt x (pos 0)) e
+below_wide false n z e h = not_below n ∙ ap (λ x. int_lt x (pos 0)) e
+  where
+    not_below : (n : ℕ) → false ≡ int_lt (pos n) (pos 0)
+    not_below n = sym (le-ltb n 0 (omega arith))

@@ -1,8 +1,8 @@
 -- How what the code reads is seen: the first line of a rejecting leaf, and a node.
 use Rattle.std.specs.Prelude.{ℕ}
 use Rattle.cert_text.specs.declared.rejected.Rejected.{Rejected as Held}
-use Rattle.cert_text.specs.declared.read_node.Node.{Node as Given}
-use Rattle.cert_text.specs.declared.read_node.Node.TheVariants as given
+use Rattle.cert_text.specs.declared.node_reader.Node.{Node as Given}
+use Rattle.cert_text.specs.declared.node_reader.Node.TheVariants as given
 use Rattle.cert_text.specs.Lines.{Rejected}
 use Rattle.cert_text.specs.Nodes.{Node, split, accept, reject, unknown}
 

@@ -68,14 +68,20 @@ each of (word ∷ words) = spelled (of word) >>= λ x. each of words >>= λ xs. 
 abbrev pub numbers_of : List ℕ → Words → Read (List ℤ)
 numbers_of key words = keyed key words >>= each number_of
 
--- a word, the number of those behind it, and these
-abbrev pub counted : {A : Type 0} → List ℕ → (List ℕ → Option A) → Words → Read (List A)
-counted key of words = do
+-- a word, the number of those behind it, and these words
+abbrev pub count_of : List ℕ → Words → Read (ℤ × Words)
+count_of key words = do
   rest ← keyed key words
   parts ← first rest
   count ← spelled (number_of parts.0)
+  Ok (count, parts.1)
+
+-- a word, the number of those behind it, and what these write
+abbrev pub counted : {A : Type 0} → List ℕ → (List ℕ → Option A) → Words → Read (List A)
+counted key of words = do
+  parts ← count_of key words
   xs ← each of parts.1
-  _ ← must (int_eq count (pos (length xs))) Syntax
+  _ ← must (int_eq parts.0 (pos (length xs))) Syntax
   Ok xs
 
 -- ---- numbers

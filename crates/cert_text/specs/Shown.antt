@@ -1,5 +1,5 @@
 -- How what the code holds is seen, and what its functions answer.
-use Rattle.std.specs.Prelude.{◌≡◌, ◌≢◌, ℕ, ℤ, pos, neg_ℤ, Bool, true, false, List, [], ◌∷◌, Option, Some, None, Result, Ok, Err, if◌then◌else◌}
+use Rattle.std.specs.Prelude.{◌≡◌, ◌≢◌, ℕ, ℤ, pos, neg_ℤ, ◌==◌, Bool, true, false, List, [], ◌∷◌, Option, Some, None, Result, Ok, Err, if◌then◌else◌}
 use Rattle.cert_text.specs.declared.error.TextCause.{TextCause}
 use Rattle.cert_text.specs.declared.error.TextCause.TheVariants.{Memory}
 use Rattle.cert_text.specs.declared.error.TextError.{TextError}
@@ -34,3 +34,8 @@ signed false n = pos n
 -- the number, if it is from 0 to 2 ^ u
 abbrev pub in_values : ℕ → ℤ → Option ℤ
 in_values u z = if is_value u z then Some z else None
+
+-- whether the number comes first
+abbrev pub comes_first : ℕ → List ℕ → Bool
+comes_first s [] = false
+comes_first s (x ∷ xs) = x == s

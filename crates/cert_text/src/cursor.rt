@@ -1,13 +1,21 @@
 // Places in a text, and the line that is due.
-ghost use Rattle.std.specs.Prelude.{◌≡◌, ◌-◌, ◌≤◌, ◌<◌, ◌==◌, ◌^◌, length};
+ghost use Rattle.std.specs.Prelude.{◌≡◌, ◌+◌, ◌-◌, ◌≤◌, ◌<◌, ◌==◌, ◌^◌, length, drop};
 ghost use Rattle.std.specs.List.{position_or_len};
-ghost use Rattle.cert_text.specs.Reading.{due, is_feed};
+ghost use Rattle.cert_text.specs.Reading.{IsIn, due, is_feed};
 ghost use Rattle.cert_text.specs.Shown.{Gives};
 
 use crate::error::{TextCause, TextError};
 
 /// The greatest length of a line in bytes, its line feed not counted.
 const LINE_LIMIT: usize = 1 << 20;
+
+/// A place in a text, where a line is due: how many bytes stand before it, and the line's number,
+/// from 1 on.
+#[derive(Clone, Copy, Debug, PartialEq, Eq)]
+pub struct Place {
+    pub at: usize,
+    pub number: u32,
+}
 
 /// A place in a text: the number of the line that is due, and the bytes that are left.
 #[derive(Drop)]
@@ -41,6 +49,32 @@ pub(crate) fn len_before(text: &[u8], end: u8) -> usize
 }
 
 impl<'t> Cursor<'t> {
+    /// The place of that text.
+    pub(crate) fn at(text: &'t [u8], place: Place) -> Self
+        requires text { length text.now < 2 ^ 31 }
+        requires at { place.at ≤ length text.now }
+        requires number { place.number ≤ place.at + 1 }
+        ensures { result ≡ (place.number, drop place.at text.now) }
+    {
+        Cursor {
+            number: place.number,
+            rest: &text[place.at..],
+        }
+    }
+
+    /// The place as one of that text.
+    pub(crate) fn place_in(&self, text: &[u8]) -> Place
+        requires { IsIn text.now self.now }
+        ensures value { (result.number, drop result.at text.now) ≡ self.now }
+        ensures at { result.at ≤ length text.now }
+        ensures number { result.number ≤ result.at + 1 }
+    {
+        Place {
+            at: text.len() - self.rest.len(),
+            number: self.number,
+        }
+    }
+
     /// The start of a text. Its first line has number 1.
     pub(crate) fn start(text: &'t [u8]) -> Self
         requires { length text.now < 2 ^ 31 }

@@ -1,5 +1,5 @@
 // Numbers that words write.
-ghost use Rattle.std.specs.Prelude.{◌≡◌, ◌%◌, ◌≤◌, ◌<◌, ◌^◌, length, pos, true, unsigned_abs, IfSome, IfNone};
+ghost use Rattle.std.specs.Prelude.{◌≡◌, ◌%◌, ◌≤◌, ◌<◌, ◌^◌, length, pos, true, unsigned_abs, int_lt, IfSome, IfNone};
 ghost use Rattle.std.specs.List.{list_all};
 ghost use Rattle.std.specs.Option.{option_map};
 ghost use Rattle.std.specs.Char.{is_ascii_digit};
@@ -113,6 +113,16 @@ impl<'t> Decimal<'t> {
             [] => None,
             [b'-', digits @ ..] => Decimal::below_zero(digits),
             _ => Decimal::natural(word),
+        }
+    }
+
+    /// Whether it is below 0.
+    pub(crate) fn is_below_zero(&self) -> bool
+        ensures { result ≡ int_lt self.now (pos 0) }
+    {
+        match self.narrow() {
+            Some(n) => n < 0,
+            None => self.negative,
         }
     }
 

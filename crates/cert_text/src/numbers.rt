@@ -14,7 +14,7 @@ use corner_lift::one_at;
 use std::alloc::Global;
 
 /// The numbers that words write.
-fn decimals<'t>(alloc: Global, words: Words<'t>) -> Result<Vec<Decimal<'t>>, TextCause>
+pub(crate) fn decimals<'t>(alloc: Global, words: Words<'t>) -> Result<Vec<Decimal<'t>>, TextCause>
     ensures { Says (λ v. v.items) result (each number_of words.entry) }
 {
     let mut numbers = Vec::new(alloc);

@@ -1,5 +1,5 @@
 // Reads a node of a report.
-ghost use Rattle.std.specs.Prelude.{◌≡◌, ◌≤◌, ◌+◌, ℕ, length, map, codes, IfOk};
+ghost use Rattle.std.specs.Prelude.{◌≡◌, ◌≤◌, ◌<◌, ◌+◌, ◌^◌, ℕ, drop, length, map, codes, IfOk};
 ghost use Rattle.cert_text.specs.Reading.{line_at};
 ghost use Rattle.cert_text.specs.Lines.{values_of, marks_of, reject_of, most_e, most_k};
 ghost use Rattle.cert_text.specs.Nodes.{begins, fits_leaf, reject};
@@ -7,11 +7,11 @@ ghost use Rattle.cert_text.specs.Nodes.{split_at, accept_at, rejecting_at, rejec
 ghost use Rattle.cert_text.specs.Shown.{Gives};
 ghost use Rattle.cert_text.specs.Leaf.{rejected_of, node_of};
 
-use crate::cursor::Cursor;
+use crate::cursor::{Cursor, Place};
 use crate::error::{TextCause, TextError};
 use crate::marks::{choice_counts, fit_states, marks_of, rank_ends};
 use crate::numbers::{is_number, is_signed, number_line, values_of};
-use crate::read_head::Head;
+use crate::head_reader::Head;
 use crate::rejected::{Rejected, reject_of};
 use crate::words::Words;
 use corner_lift::one_at;
@@ -291,4 +291,27 @@ fn node_at<'t>(
 {
     let (line, _) = cursor.due()?;
     node_by(alloc, &Words::of(line), cursor, head)
+}
+
+/// Reads the node whose first line is due at that place, and gives the place behind it.
+pub fn read_node(
+    alloc: Global,
+    text: &[u8],
+    place: Place,
+    head: &Head,
+) -> Result<(Node, Place), TextError>
+    requires text { length text.now < 2 ^ 31 }
+    requires at { place.at ≤ length text.now }
+    requires number { place.number ≤ place.at + 1 }
+    ensures value { Gives
+        (λ x. (node_of head.now.asked.w x.0, (x.1.number, drop x.1.at text.now)))
+        result
+        (node_at head.now (place.number, drop place.at text.now)) }
+    ensures at { IfOk result (λ x. x.1.at ≤ length text.now) }
+    ensures number { IfOk result (λ x. x.1.number ≤ x.1.at + 1) }
+{
+    let _w = head.w();
+    let cursor = Cursor::at(text, place);
+    let (node, behind) = node_at(alloc, &cursor, head)?;
+    Ok((node, behind.place_in(text)))
 }
