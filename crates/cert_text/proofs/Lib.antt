@@ -24,3 +24,4 @@ mod LongNumbers
 mod NumberLoop
 mod MarkLoops
 mod Places
+mod Remainders

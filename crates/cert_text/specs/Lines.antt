@@ -158,6 +158,10 @@ goal_of states words = do
   goals ← goals_in states None zs
   Ok (flags states 0 goals)
 
+-- the number of a row's entries, where so many choices and transitions are left
+abbrev pub count_in : ℕ → ℕ → ℤ → Read ℕ
+count_in choices transitions count = natural count >>= λ n. must (nat_lt 0 choices && nat_le n transitions) Limit >>= λ _. Ok n
+
 -- the number of entries of the row of state s and choice a, where so many choices and transitions are left
 abbrev pub row_of : ℕ → ℕ → ℕ → ℕ → Words → Read ℕ
 row_of s a choices transitions words = do
@@ -166,9 +170,7 @@ row_of s a choices transitions words = do
   choice ← first state.1
   count ← single choice.1
   _ ← must (int_eq state.0 (pos s) && int_eq choice.0 (pos a)) Syntax
-  n ← natural count
-  _ ← must (nat_lt 0 choices && nat_le n transitions) Limit
-  Ok n
+  count_in choices transitions count
 
 -- terms by ascending set, behind those that hold the parameters of seen
 abbrev pub terms_in : ℕ → ℕ → Option ℕ → List (ℤ × ℤ) → Read (List Term)
