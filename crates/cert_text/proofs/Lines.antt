@@ -1,14 +1,16 @@
 -- The lines of a report, as the pieces that are written one after the other.
-use Prim.Native.Char.{code}
-use Rattle.std.proofs.Common.{◌≡◌, ◌+◌, ◌<◌, ℕ, zero, suc, List, [], ◌∷◌, ◌++◌, length, map, get_or, drop, slice_get, Some, Bool, true, false, refl, sym, ap, ap₂, ◌∙◌, arith, add-one, append_assoc, append-nil, codes}
+use Rattle.std.proofs.Common.{◌≡◌, ◌+◌, ◌*◌, ◌<◌, ℕ, ℤ, zero, suc, List, [], ◌∷◌, ◌++◌, length, map, get_or, drop, slice_get, Some, Bool, true, false, refl, sym, ap, ap₂, ◌∙◌, arith, add-one, append_assoc, append-nil, codes}
+use Rattle.std.specs.Fmt.{decimal, signed_decimal}
 use Rattle.std.specs.List.{flat_map, concat}
 use Rattle.std.proofs.lemmas.List.Folds.{concat-append}
 use Rattle.lift_model.specs.declared.kind.Kind.{Kind}
 use Rattle.lift_model.specs.Model.{ModelData}
 use Rattle.lift_grid.specs.Rectangle.{Spans}
+use Rattle.lift_grid.specs.Tree.{RejectData}
 use Rattle.corner_lift.specs.Case.{CaseData}
 use Rattle.lift_cert.specs.declared.bound.Bound.{Bound}
-use Rattle.cert_text.specs.Report.{line, version_words, kind_words, parameters_words, size_lines, goal_words, rows_lines, model_lines, asked_lines, box_line, head_lines, goal_states, numbered}
+use Prim.Native.Char.{code}
+use Rattle.cert_text.specs.Report.{line, version_words, kind_words, parameters_words, size_lines, goal_words, rows_lines, model_lines, asked_lines, box_line, head_lines, goal_states, numbered, reject_words, reject_lines}
 
 -- a line is its first word, each further word behind a space, and a line feed
 pub line-words : {X : Type 0} (f : X → List ℕ) (word : List ℕ) (xs : List X) → line (word ∷ map f xs) ≡ word ++ (flat_map (λ x. code " " ∷ f x) xs ++ codes "\n")
@@ -86,3 +88,20 @@ flat_item_suc f (y ∷ xs) (suc k) x h is = flat_item_suc f xs k x (omega arith)
 -- the piece of an item that a loop is at, and those behind it
 pub flat_item : {A : Type 0} (f : A → List ℕ) (xs : List A) (k : ℕ) (x : A) → k < length xs → x ≡ get_or xs k x → flat_map f (drop k xs) ≡ f x ++ flat_map f (drop (k + 1) xs)
 flat_item f xs k x h is = rw (add-one k) (flat_item_suc f xs k x h is)
+
+flat_at_suc : {A : Type 0} (f : A → List ℕ) (xs : List A) (k : ℕ) (d : A) → k < length xs → flat_map f (drop k xs) ≡ f (get_or xs k d) ++ flat_map f (drop (suc k) xs)
+flat_at_suc f [] k d h = absurd (omega arith)
+flat_at_suc f (y ∷ xs) zero d h = refl
+flat_at_suc f (y ∷ xs) (suc k) d h = flat_at_suc f xs k d (omega arith)
+
+-- the piece of the item at a place, and those behind it
+pub flat_at : {A : Type 0} (f : A → List ℕ) (xs : List A) (k : ℕ) (d : A) → k < length xs → flat_map f (drop k xs) ≡ f (get_or xs k d) ++ flat_map f (drop (k + 1) xs)
+flat_at f xs k d h = rw (add-one k) (flat_at_suc f xs k d h)
+
+-- the lines of a rejecting leaf, one after the other
+pub reject_parts : (init u : ℕ) (r : RejectData) (a b c d : List ℕ) → reject_lines init u r ≡ a ∷ b ∷ c ∷ d ∷ [] → concat (reject_lines init u r) ≡ a ++ (b ++ (c ++ d))
+reject_parts init u r a b c d e = ap concat e ∙ ap (λ (rest : List ℕ). a ++ (b ++ (c ++ rest))) (append-nil d)
+
+-- the first line of a rejecting leaf, as the pieces that are written
+pub rate_line : (e k : ℕ) (y : ℤ) (z : ℕ) → line (reject_words e k y z) ≡ codes "reject e " ++ (decimal e ++ (codes " k " ++ (decimal k ++ (codes " m " ++ (decimal (e * k) ++ (codes " b " ++ (signed_decimal y ++ (codes "/" ++ (decimal z ++ codes "\n")))))))))
+rate_line e k y z = ap (λ (rest : List ℕ). codes "reject e " ++ (decimal e ++ (codes " k " ++ (decimal k ++ (codes " m " ++ (decimal (e * k) ++ (codes " b " ++ rest))))))) (append_assoc (signed_decimal y) (codes "/" ++ decimal z) (codes "\n"))

@@ -1,1 +1,11 @@
 pub mod Report
+pub mod Words
+pub mod Reading
+pub mod Lines
+pub mod Head
+pub mod Nodes
+pub mod Forms
+pub mod Whole
+pub mod Laws
+pub mod Shown
+pub mod Leaf

@@ -1,8 +1,8 @@
 -- The text of a report: version 1 of our own format. A report is a head and the nodes of a tree, line by line.
-use Prim.Native.Char.{code}
 use Rattle.std.specs.Prelude.{◌+◌, ◌*◌, ◌^◌, ◌==◌, ℕ, ℤ, List, [], ◌∷◌, ◌++◌, length, map, codes, Bool, true, false, if◌then◌else◌}
 use Rattle.std.specs.List.{concat}
 use Rattle.std.specs.Fmt.{decimal, signed_decimal}
+use Prim.Native.Char.{code}
 use Rattle.lift_poly.specs.Polynomial.{Term}
 use Rattle.lift_grid.specs.Rectangle.{Spans, sides_of}
 use Rattle.lift_grid.specs.Tree.{Tree, RejectData}
@@ -17,11 +17,15 @@ use Rattle.lift_cert.specs.declared.bound.Bound.{Bound}
 
 -- ---- words and lines
 
+-- a word behind another: a space, and the word
+abbrev pub spaced : List ℕ → List ℕ
+spaced word = code " " ∷ word
+
 -- a line: its words with one space between two, and a line feed at the end
 abbrev pub line : List (List ℕ) → List ℕ
 line [] = codes "\n"
 line (word ∷ []) = word ++ codes "\n"
-line (word ∷ words) = word ++ code " " ∷ line words
+line (word ∷ words) = word ++ spaced (line words)
 
 -- a word and one number behind it
 abbrev pub number_words : List ℕ → ℕ → List (List ℕ)
@@ -80,9 +84,13 @@ entry_words entry = codes "to" ∷ decimal entry.target ∷ map term_word entry.
 abbrev pub entry_line : Entry → List ℕ
 entry_line entry = line (entry_words entry)
 
--- the first line of the row of state s and choice a, which has so many entries
+-- the row of state s and choice a, which has so many entries
+abbrev pub row_words : ℕ → ℕ → ℕ → List (List ℕ)
+row_words s a count = codes "row" ∷ decimal s ∷ decimal a ∷ decimal count ∷ []
+
+-- the first line of a row
 unfoldable pub row_line : ℕ → ℕ → ℕ → List ℕ
-row_line s a count = line (codes "row" ∷ decimal s ∷ decimal a ∷ decimal count ∷ [])
+row_line s a count = line (row_words s a count)
 
 -- the row of state s and choice a: how many entries it has, and these in their order
 abbrev pub row_lines : ℕ → ℕ → List Entry → List (List ℕ)
@@ -122,8 +130,12 @@ asked_lines k bound =
     ∷ []
 
 -- the low and the high end of each parameter, over the grid's number
+abbrev pub box_words : Spans → List (List ℕ)
+box_words root = numbers_words (codes "box") (sides_of root)
+
+-- the line of the root
 abbrev pub box_line : Spans → List ℕ
-box_line root = line (numbers_words (codes "box") (sides_of root))
+box_line root = line (box_words root)
 
 -- the head: the version, the model, and what is asked of it
 abbrev pub head_lines : CaseData → Bound → List (List ℕ)

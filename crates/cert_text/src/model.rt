@@ -2,10 +2,9 @@
 ghost use Rattle.std.specs.Prelude.{◌≡◌, ◌<◌, ◌∷◌, length};
 ghost use Rattle.std.specs.List.{concat, flat_map};
 ghost use Rattle.std.specs.Fmt.{decimal};
-ghost use Rattle.lift_bytes.specs.Bytes.{code};
 ghost use Rattle.lift_base.specs.Outside.{Wrote};
 ghost use Rattle.lift_model.specs.Model.{choices};
-ghost use Rattle.cert_text.specs.Report.{line, kind_name, kind_words, parameters_words, size_lines};
+ghost use Rattle.cert_text.specs.Report.{line, spaced, kind_name, kind_words, parameters_words, size_lines};
 ghost use Rattle.cert_text.specs.Report.{goal_states, goal_words, term_word, entry_line, row_line};
 ghost use Rattle.cert_text.specs.Report.{row_lines, state_lines, rows_lines, model_lines};
 
@@ -37,14 +36,14 @@ fn write_kind<K: Sink>(out: &mut K, kind: Kind) -> Result<(), WriteFault>
 }
 
 fn write_name<K: Sink>(out: &mut K, name: &[u8]) -> Result<(), WriteFault>
-    ensures { Wrote K.taken K.faults out.old out.new result (code " " ∷ name.now) }
+    ensures { Wrote K.taken K.faults out.old out.new result (spaced name.now) }
 {
     write_words(out, &[Word::Text(b" "), Word::Text(name)])
 }
 
 fn write_names<K: Sink>(out: &mut K, names: &Names) -> Result<(), WriteFault>
     ensures { Wrote K.taken K.faults out.old out.new result
-        (flat_map (λ name. code " " ∷ name) names.now) }
+        (flat_map (λ name. spaced name) names.now) }
 {
     writes_in_turn::<K>();
     for place in 0..names.len() {
@@ -99,14 +98,14 @@ fn goal_count(model: &Model) -> u32
 }
 
 fn write_state<K: Sink>(out: &mut K, s: u32) -> Result<(), WriteFault>
-    ensures { Wrote K.taken K.faults out.old out.new result (code " " ∷ decimal s) }
+    ensures { Wrote K.taken K.faults out.old out.new result (spaced (decimal s)) }
 {
     write_words(out, &[Word::Text(b" "), Word::Count(u64::from(s))])
 }
 
 fn write_goal_states<K: Sink>(out: &mut K, model: &Model) -> Result<(), WriteFault>
     ensures { Wrote K.taken K.faults out.old out.new result
-        (flat_map (λ s. code " " ∷ decimal s) (goal_states 0 model.now.goal)) }
+        (flat_map (λ s. spaced (decimal s)) (goal_states 0 model.now.goal)) }
 {
     writes_in_turn::<K>();
     for s in 0..model.states() {
@@ -128,7 +127,7 @@ fn write_goal<K: Sink>(out: &mut K, model: &Model) -> Result<(), WriteFault>
 }
 
 fn write_term<K: Sink>(out: &mut K, term: (u16, i128)) -> Result<(), WriteFault>
-    ensures { Wrote K.taken K.faults out.old out.new result (code " " ∷ term_word term) }
+    ensures { Wrote K.taken K.faults out.old out.new result (spaced (term_word term)) }
 {
     let (set, coefficient) = term;
     write_words(
@@ -144,7 +143,7 @@ fn write_term<K: Sink>(out: &mut K, term: (u16, i128)) -> Result<(), WriteFault>
 
 fn write_terms<K: Sink>(out: &mut K, poly: &MultiAffine) -> Result<(), WriteFault>
     ensures { Wrote K.taken K.faults out.old out.new result
-        (flat_map (λ term. code " " ∷ term_word term) poly.now) }
+        (flat_map (λ term. spaced (term_word term)) poly.now) }
 {
     writes_in_turn::<K>();
     for index in 0..poly.len() {

@@ -1,7 +1,7 @@
-use Prim.Native.Char.{code}
 use Rattle.std.proofs.Common.{◌<◌, ◌∷◌, length, sym, ap, arith}
 use Rattle.std.specs.List.{flat_map}
 use Rattle.std.specs.Fmt.{decimal}
+use Prim.Native.Char.{code}
 use Rattle.cert_text.proofs.Lines.{goal_state, other_state}
 use Rattle.cert_text.proofs.model.write_goal_states.Goals as goal
 use Rattle.cert_text.proofs.model.write_goal_states.Goals.{then-is_goal+in_ok-write_state, else-is_goal}

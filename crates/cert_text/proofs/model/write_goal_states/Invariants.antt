@@ -1,7 +1,7 @@
-use Prim.Native.Char.{code}
 use Rattle.std.proofs.Common.{drop, ◌∷◌}
 use Rattle.std.specs.List.{flat_map}
 use Rattle.std.specs.Fmt.{decimal}
+use Prim.Native.Char.{code}
 use Rattle.lift_base.specs.Laws.{WroteUpTo}
 use Rattle.cert_text.specs.Report.{goal_states}
 use Rattle.cert_text.proofs.model.write_goal_states.Given as goal

@@ -1,5 +1,5 @@
-use Prim.Native.Char.{code}
 use Rattle.std.proofs.Common.{◌∷◌}
+use Prim.Native.Char.{code}
 use Rattle.cert_text.specs.Report.{term_word}
 use Rattle.cert_text.proofs.Lines.{flat_next}
 use Rattle.cert_text.proofs.model.write_terms.Goals as goal

@@ -1,6 +1,6 @@
-use Prim.Native.Char.{code}
 use Rattle.std.proofs.Common.{drop, ◌∷◌}
 use Rattle.std.specs.List.{flat_map}
+use Prim.Native.Char.{code}
 use Rattle.lift_base.specs.Laws.{WroteUpTo}
 use Rattle.cert_text.specs.Report.{term_word}
 use Rattle.cert_text.proofs.model.write_terms.Given as goal

@@ -1,0 +1,89 @@
+-- A node of a report: its lines, in preorder.
+use Rattle.std.specs.Prelude.{ℕ, ℤ, pos, ◌+◌, ◌-◌, ◌*◌, ◌^◌, ◌==◌, ◌&&◌, not, Bool, true, false, List, [], ◌∷◌, length, map, codes, Ok, if◌then◌else◌}
+use Rattle.std.specs.Ordering.{int_eq}
+use Rattle.std.specs.Str.{bytes_eq}
+use Rattle.corner_lift.specs.Case.{number}
+use Rattle.corner_lift.specs.Certificate.{unmarked}
+use Rattle.cert_text.specs.declared.error.TextCause.TheVariants.{Syntax}
+use Rattle.lift_grid.specs.Tree.{RejectData}
+use Rattle.cert_text.specs.Report.{split_line, accept_line, reject_lines, unknown_line}
+use Rattle.cert_text.specs.Words.{words}
+use Rattle.cert_text.specs.Reading.{◌>>=◌, Reader, at, due, line_at}
+use Rattle.cert_text.specs.Head.{HeadData}
+use Rattle.cert_text.specs.Lines.{must, keyed, ended, number_in, values_of, marks_of, reject_of, Rejected}
+
+-- a node without its halves; a decided leaf has its precision
+pub data Node : Type 0 where
+  split : ℕ → Node
+  accept : ℕ → List ℤ → Node
+  reject : ℕ → RejectData → Node
+  unknown : Node
+
+-- whether the line begins with that word
+abbrev pub begins : List ℕ → List (List ℕ) → Bool
+begins key [] = false
+begins key (word ∷ words) = bytes_eq word key
+
+-- A state's pick and rank stand where they may: a goal state has rank 0 and no pick, a state without rank has no pick, and any other has a pick and a rank above 0.
+abbrev pub fits_state : Bool → ℕ → ℕ → Bool
+fits_state true pick rank = pick == unmarked && rank == 0
+fits_state false pick rank = if rank == unmarked then pick == unmarked else not (rank == 0) && not (pick == unmarked)
+
+abbrev pub fit_states : List Bool → List ℕ → List ℕ → Bool
+fit_states (goal ∷ goals) (pick ∷ picks) (rank ∷ ranks) = fits_state goal pick rank && fit_states goals picks ranks
+fit_states [] [] [] = true
+fit_states _ _ _ = false
+
+-- what is tested of a rejecting leaf after its four lines of a rejecting leaf were read
+abbrev pub fits_leaf : HeadData → Rejected → List ℤ → List ℕ → List ℕ → Bool
+fits_leaf h r y picks ranks =
+    int_eq r.m (pos (r.e * r.k)) && (int_eq r.y (number y h.asked.model.init) && (int_eq r.z (pos (2 ^ h.asked.w)) && fit_states h.asked.model.goal picks ranks))
+
+-- a split, whose line is due
+unfoldable pub split_at : HeadData → Reader Node
+split_at h c = line_at (number_in (codes "split") 0 (length h.asked.model.names)) c >>= λ axis. Ok (split axis.0, axis.1)
+
+unfoldable pub accept_at : HeadData → Reader Node
+accept_at h c = line_at (values_of (codes "accept") (length h.asked.model.states) h.asked.w) c >>= λ x. Ok (accept h.asked.w x.0, x.1)
+
+-- a rejecting leaf behind its first line: three lines more, and then the tests of the whole leaf, which are told at the first of its four
+unfoldable pub rejecting_at : HeadData → Rejected → Reader Node
+rejecting_at h r c = do
+  y ← line_at (values_of (codes "y") (length h.asked.model.states) h.asked.w) c
+  picks ← line_at (marks_of (codes "choice") (map length h.asked.model.states)) y.1
+  ranks ← line_at (marks_of (codes "rank") (map (λ _. r.k + 1) h.asked.model.states)) picks.1
+  _ ← at (ranks.1.0 - 4) (must (fits_leaf h r y.0 picks.0 ranks.0) Syntax)
+  Ok (reject h.asked.w (record { numbers = y.0; picks = picks.0; ranks = ranks.0; e = r.e; k = r.k }), ranks.1)
+
+-- a rejecting leaf
+unfoldable pub reject_at : HeadData → Reader Node
+reject_at h c = line_at reject_of c >>= λ r. rejecting_at h r.0 r.1
+
+-- an unknown leaf
+unfoldable pub unknown_at : Reader Node
+unknown_at c = line_at (λ words. keyed (codes "unknown") words >>= ended) c >>= λ x. Ok (unknown, x.1)
+
+-- the node whose first line is due and has these words
+unfoldable pub node_by : HeadData → List (List ℕ) → Reader Node
+node_by h words c =
+    elim (begins (codes "split") words) [
+      | true ↦ split_at h c
+      | false ↦ elim (begins (codes "accept") words) [
+        | true ↦ accept_at h c
+        | false ↦ elim (begins (codes "reject") words) [
+          | true ↦ reject_at h c
+          | false ↦ unknown_at c
+        ]
+      ]
+    ]
+
+-- the node whose first line is due
+unfoldable pub node_at : HeadData → Reader Node
+node_at h c = due c >>= λ l. node_by h (words l.0) c
+
+-- the lines of a node
+abbrev pub node_lines : ℕ → Node → List (List ℕ)
+node_lines init (split axis) = split_line axis ∷ []
+node_lines init (accept u x) = accept_line x ∷ []
+node_lines init (reject u r) = reject_lines init u r
+node_lines init unknown = unknown_line ∷ []

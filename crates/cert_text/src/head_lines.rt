@@ -1,0 +1,263 @@
+// Lines of a head.
+ghost use Rattle.std.specs.Prelude.{◌≡◌, ◌≤◌, ◌<◌, ◌+◌, ◌^◌, ◌%◌, length, map, pos, ◌==◌, ◌<ℤ◌, unsigned_abs, drop, true, None, IfOk};
+ghost use Rattle.cert_text.specs.Lines.{version_of, kind_named, kind_of, each, name_of, is_above};
+ghost use Rattle.cert_text.specs.Lines.{count_in, row_of, bound_in, bound_of, count_of, goals_in, flags, goal_of, parameters_of, names_in};
+ghost use Rattle.std.specs.List.{list_all};
+ghost use Rattle.lift_bytes.specs.Bytes.{is_name_byte};
+ghost use Rattle.lift_frac.specs.Gcd.{gcd};
+ghost use Rattle.cert_text.specs.Words.{is_name};
+ghost use Rattle.cert_text.specs.Shown.{Says, comes_first};
+
+use crate::decimal::Decimal;
+use crate::error::TextCause;
+use crate::numbers::{between, decimals, is_number, numbers_of};
+use crate::rejected::pair_of;
+use crate::words::Words;
+use lift_bytes::{begins_name, is_name_byte};
+use lift_cert::Bound;
+use lift_frac::gcd;
+use lift_model::Kind;
+use std::alloc::{AllocError, Global};
+
+/// The version, which has to be 1.
+pub(crate) fn version_of(alloc: Global, words: &Words) -> Result<(), TextCause>
+    ensures { Says (λ x. x) result (version_of words.now) }
+{
+    let numbers = numbers_of(alloc, words, b"plift")?;
+    match numbers.as_slice() {
+        [version] => {
+            if is_number(version, 1) {
+                Ok(())
+            } else {
+                Err(TextCause::Version)
+            }
+        }
+        _ => Err(TextCause::Syntax),
+    }
+}
+
+/// The kind of that name.
+fn kind_named(word: &[u8]) -> Result<Kind, TextCause>
+    ensures { Says (λ x. x) result (kind_named word.now) }
+{
+    if word == b"dtmc".as_slice() {
+        Ok(Kind::Dtmc)
+    } else if word == b"mdp".as_slice() {
+        Ok(Kind::Mdp)
+    } else {
+        Err(TextCause::Syntax)
+    }
+}
+
+/// The kind.
+pub(crate) fn kind_of(words: &Words) -> Result<Kind, TextCause>
+    ensures { Says (λ x. x) result (kind_of words.now) }
+{
+    let rest = words.keyed(b"kind")?;
+    let word = rest.single()?;
+    kind_named(word)
+}
+
+/// Whether the number is above the one before it.
+fn is_above(before: Option<u64>, number: &Decimal) -> bool
+    ensures { result ≡ is_above before number.now }
+{
+    match before {
+        None => true,
+        Some(n) => match number.narrow() {
+            Some(m) => i128::from(n) < m,
+            None => !number.is_below_zero(),
+        },
+    }
+}
+
+/// The states, if they ascend.
+fn goals_in(alloc: Global, states: u32, numbers: &[Decimal]) -> Result<Vec<u64>, TextCause>
+    ensures { Says (λ v. v.items) result (goals_in states None numbers.now) }
+{
+    let mut goals = Vec::new(alloc);
+    let mut before = None;
+    for number in numbers {
+        if !is_above(before, number) {
+            return Err(TextCause::Syntax);
+        }
+        match between(number, 0, u64::from(states)) {
+            Ok(s) => {
+                goals.push(s)?;
+                before = Some(s);
+            }
+            Err(cause) => return Err(cause),
+        }
+    }
+    Ok(goals)
+}
+
+/// Whether that state comes first of those that are left.
+fn is_next(goals: &[u64], next: usize, s: u32) -> bool
+    requires { next ≤ length goals.now }
+    ensures value { result ≡ comes_first s (drop next goals.now) }
+    ensures some { result ≡ true → next < length goals.now }
+{
+    next < goals.len() && goals[next] == u64::from(s)
+}
+
+/// For each state whether it stands in the ascending list.
+fn flags(alloc: Global, states: u32, goals: &[u64]) -> Result<Vec<bool>, AllocError>
+    ensures { IfOk result (λ v. v.items ≡ flags states 0 goals.now) }
+{
+    let mut flags = Vec::new(alloc);
+    let mut next = 0;
+    for s in 0..states {
+        if is_next(goals, next, s) {
+            flags.push(true)?;
+            next += 1;
+        } else {
+            flags.push(false)?;
+        }
+    }
+    Ok(flags)
+}
+
+/// The first of the words behind a word, as the number of those that follow it, and these.
+fn counted<'t>(words: &Words<'t>, key: &[u8]) -> Result<(Decimal<'t>, Words<'t>), TextCause>
+    ensures { Says (λ x. x) result (count_of key.now words.now) }
+{
+    let rest = words.keyed(key)?;
+    let (count, rest) = rest.first()?;
+    match Decimal::read(count) {
+        Some(count) => Ok((count, rest)),
+        None => Err(TextCause::Syntax),
+    }
+}
+
+/// For each of so many states whether it is a goal state.
+pub(crate) fn goal_of(alloc: Global, states: u32, words: &Words) -> Result<Vec<bool>, TextCause>
+    ensures { Says (λ v. v.items) result (goal_of states words.now) }
+{
+    let (count, rest) = counted(words, b"goal")?;
+    let numbers = decimals(alloc, rest)?;
+    if !is_number(&count, numbers.len() as u64) {
+        return Err(TextCause::Syntax);
+    }
+    if numbers.is_empty() {
+        return Err(TextCause::Syntax);
+    }
+    let goals = goals_in(alloc, states, &numbers)?;
+    let flags = flags(alloc, states, &goals)?;
+    Ok(flags)
+}
+
+/// How many entries a row has, where so many transitions are left and a choice is.
+fn count_in(number: &Decimal, choices: u32, transitions: u32) -> Result<u32, TextCause>
+    ensures { Says (λ n. n) result (count_in choices transitions number.now) }
+{
+    if number.is_below_zero() {
+        return Err(TextCause::Syntax);
+    }
+    match number.narrow() {
+        Some(n) if choices > 0 && n <= i128::from(transitions) => Ok(n as u32),
+        _ => Err(TextCause::Limit),
+    }
+}
+
+/// How many entries the row of state s and choice a has, where so many choices and transitions are
+/// left.
+pub(crate) fn row_of(
+    alloc: Global,
+    words: &Words,
+    s: u32,
+    a: u32,
+    choices: u32,
+    transitions: u32,
+) -> Result<u32, TextCause>
+    ensures { Says (λ n. n) result (row_of s a choices transitions words.now) }
+{
+    let numbers = numbers_of(alloc, words, b"row")?;
+    match numbers.as_slice() {
+        [state, choice, count] => {
+            if is_number(state, u64::from(s)) && is_number(choice, u64::from(a)) {
+                count_in(count, choices, transitions)
+            } else {
+                Err(TextCause::Syntax)
+            }
+        }
+        _ => Err(TextCause::Syntax),
+    }
+}
+
+/// Whether the fraction is in lowest terms. What the numerator leaves of the denominator tells it, so
+/// that the denominator may have any length.
+fn is_lowest(num: u32, den: &Decimal) -> bool
+    requires { pos 0 <ℤ den.now }
+    ensures { result ≡ gcd num (unsigned_abs den.now) == 1 }
+{
+    if num == 0 {
+        is_number(den, 1)
+    } else {
+        gcd(u128::from(den.remainder(num)), u128::from(num)) == 1
+    }
+}
+
+/// The fraction of two numbers, in lowest terms and from 0 to 1.
+fn bound_in(num: &Decimal, den: &Decimal) -> Result<Bound, TextCause>
+    ensures { Says (λ b. b) result (bound_in (num.now, den.now)) }
+{
+    let num = between(num, 0, 1 << 32)? as u32;
+    if den.is_below_zero() || is_number(den, 0) {
+        return Err(TextCause::Limit);
+    }
+    if !is_lowest(num, den) {
+        return Err(TextCause::Syntax);
+    }
+    match den.narrow() {
+        Some(n) if n < 1 << 32 && i128::from(num) <= n => Ok(Bound { num, den: n as u32 }),
+        _ => Err(TextCause::Limit),
+    }
+}
+
+/// The bound.
+pub(crate) fn bound_of(words: &Words) -> Result<Bound, TextCause>
+    ensures { Says (λ b. b) result (bound_of words.now) }
+{
+    let rest = words.keyed(b"bound")?;
+    let word = rest.single()?;
+    let Some((num, den)) = pair_of(word, b'/') else {
+        return Err(TextCause::Syntax);
+    };
+    bound_in(&num, &den)
+}
+
+fn are_name_bytes(word: &[u8]) -> bool
+    ensures { result ≡ list_all is_name_byte word.now }
+{
+    word.iter().all(|byte| is_name_byte(*byte))
+}
+
+/// Whether the word is a name.
+fn is_name(word: &[u8]) -> bool
+    ensures { result ≡ is_name word.now }
+{
+    match word {
+        [] => false,
+        [first, rest @ ..] => begins_name(*first) && are_name_bytes(rest),
+    }
+}
+
+/// The names that words write.
+fn names<'t>(alloc: Global, words: Words<'t>) -> Result<Vec<&'t [u8]>, TextCause>
+    ensures { Says (λ v. map (λ w. w.now) v.items) result (each name_of words.entry) }
+{
+    let mut names = Vec::new(alloc);
+    let mut rest = words;
+    while !rest.is_empty() {
+        let Ok((word, behind)) = rest.first() else {
+            return Err(TextCause::Syntax);
+        };
+        if !is_name(word) {
+            return Err(TextCause::Syntax);
+        }
+        names.push(word)?;
+        rest = behind;
+    }
+    Ok(names)
+}

@@ -1,0 +1,40 @@
+//! Laws of report texts, for who reasons about them. The functions do nothing.
+
+ghost use Rattle.cert_text.specs.Laws.{
+  HeadsAreReadBack,
+  NodesAreReadBack,
+  PrefixesAreTruncated,
+  ReadHeadsAreTold,
+  ReadNodesAreTold,
+  ReadReportsAreTold,
+  ReportsAreReadBack,
+  TextsTellOneReport,
+};
+
+/// A head is read exactly where its lines begin the text.
+pub fn heads_are_read()
+    ensures back { HeadsAreReadBack }
+    ensures told { ReadHeadsAreTold }
+{}
+
+/// A node is read exactly where its lines begin the text.
+pub fn nodes_are_read()
+    ensures back { NodesAreReadBack }
+    ensures told { ReadNodesAreTold }
+{}
+
+/// A report is read exactly where its text begins the text.
+pub fn reports_are_read()
+    ensures back { ReportsAreReadBack }
+    ensures told { ReadReportsAreTold }
+{}
+
+/// No report's text begins another's, and none is told by two reports.
+pub fn texts_tell_one_report()
+    ensures { TextsTellOneReport }
+{}
+
+/// Each text that is cut off is refused as truncated.
+pub fn prefixes_are_truncated()
+    ensures { PrefixesAreTruncated }
+{}

@@ -1,0 +1,163 @@
+// Numbers of a line.
+ghost use Rattle.std.specs.Prelude.{◌≡◌, ◌≤◌, ◌<◌, ◌^◌, pos, length, IfOk};
+ghost use Rattle.cert_text.specs.Words.{number_of};
+ghost use Rattle.cert_text.specs.Reading.{line_at};
+ghost use Rattle.cert_text.specs.Lines.{each, numbers_of, between, number_in, values_in, values_of};
+ghost use Rattle.std.specs.Ordering.{int_eq};
+ghost use Rattle.cert_text.specs.Shown.{Says, Gives, in_values};
+
+use crate::cursor::Cursor;
+use crate::decimal::Decimal;
+use crate::error::{TextCause, TextError};
+use crate::words::Words;
+use corner_lift::one_at;
+use std::alloc::Global;
+
+/// The numbers that words write.
+pub(crate) fn decimals<'t>(alloc: Global, words: Words<'t>) -> Result<Vec<Decimal<'t>>, TextCause>
+    ensures { Says (λ v. v.items) result (each number_of words.entry) }
+{
+    let mut numbers = Vec::new(alloc);
+    let mut rest = words;
+    while !rest.is_empty() {
+        let Ok((word, behind)) = rest.first() else {
+            return Err(TextCause::Syntax);
+        };
+        let Some(number) = Decimal::read(word) else {
+            return Err(TextCause::Syntax);
+        };
+        numbers.push(number)?;
+        rest = behind;
+    }
+    Ok(numbers)
+}
+
+/// The numbers behind a word.
+pub(crate) fn numbers_of<'t>(
+    alloc: Global,
+    words: &Words<'t>,
+    key: &[u8],
+) -> Result<Vec<Decimal<'t>>, TextCause>
+    ensures { Says (λ v. v.items) result (numbers_of key.now words.now) }
+{
+    let rest = words.keyed(key)?;
+    decimals(alloc, rest)
+}
+
+/// The number, from low to below end.
+pub(crate) fn between(number: &Decimal, low: u64, end: u64) -> Result<u64, TextCause>
+    requires { end ≤ 2 ^ 62 }
+    ensures value { Says (λ n. n) result (between low end number.now) }
+    ensures range { IfOk result (λ n. n < end) }
+{
+    match number.narrow() {
+        Some(n) if i128::from(low) <= n && n < i128::from(end) => Ok(n as u64),
+        _ => Err(TextCause::Limit),
+    }
+}
+
+/// A word and one number from low to below end.
+fn number_in(
+    alloc: Global,
+    words: &Words,
+    key: &[u8],
+    low: u64,
+    end: u64,
+) -> Result<u64, TextCause>
+    requires { end ≤ 2 ^ 62 }
+    ensures value { Says (λ n. n) result (number_in key.now low end words.now) }
+    ensures range { IfOk result (λ n. n < end) }
+{
+    let numbers = numbers_of(alloc, words, key)?;
+    match numbers.as_slice() {
+        [number] => between(number, low, end),
+        _ => Err(TextCause::Syntax),
+    }
+}
+
+/// The line that is due, as a word and one number from low to below end.
+#[tactic(auto, unfolding(crate::specs::Reading::line_at))]
+pub(crate) fn number_line<'t>(
+    alloc: Global,
+    cursor: &Cursor<'t>,
+    key: &[u8],
+    low: u64,
+    end: u64,
+) -> Result<(u64, Cursor<'t>), TextError>
+    requires { end ≤ 2 ^ 62 }
+    ensures value { Gives (λ x. x) result (line_at (number_in key.now low end) cursor.now) }
+    ensures range { IfOk result (λ x. x.0 < end) }
+{
+    let (line, behind) = cursor.due()?;
+    match number_in(alloc, &Words::of(line), key, low, end) {
+        Ok(n) => Ok((n, behind)),
+        Err(cause) => Err(cursor.fault(cause)),
+    }
+}
+
+/// Whether the number is that one.
+pub(crate) fn is_number(number: &Decimal, n: u64) -> bool
+    ensures { result ≡ int_eq number.now (pos n) }
+{
+    match number.narrow() {
+        Some(m) => m == i128::from(n),
+        None => false,
+    }
+}
+
+/// Whether the number is that one, which may be below 0.
+pub(crate) fn is_signed(number: &Decimal, n: i64) -> bool
+    ensures { result ≡ int_eq number.now n }
+{
+    match number.narrow() {
+        Some(m) => m == i128::from(n),
+        None => false,
+    }
+}
+
+/// The number, if it is from 0 to 2 to the `u`.
+fn value(number: &Decimal, u: u32) -> Option<i64>
+    requires { u ≤ 40 }
+    ensures { result ≡ in_values u number.now }
+{
+    let most = one_at(u);
+    match number.narrow() {
+        Some(n) if 0 <= n && n <= i128::from(most) => Some(n as i64),
+        _ => None,
+    }
+}
+
+/// The numbers, if each is from 0 to 2 to the `u`.
+fn values_in(alloc: Global, numbers: &[Decimal], u: u32) -> Result<Vec<i64>, TextCause>
+    requires { u ≤ 40 }
+    ensures value { Says (λ v. v.items) result (values_in u numbers.now) }
+    ensures size { IfOk result (λ v. length v.items ≡ length numbers.now) }
+{
+    let mut values = Vec::new(alloc);
+    for number in numbers {
+        match value(number, u) {
+            Some(n) => values.push(n)?,
+            None => return Err(TextCause::Limit),
+        }
+    }
+    Ok(values)
+}
+
+/// So many numbers from 0 to 2 to the `u` behind a word.
+pub(crate) fn values_of(
+    alloc: Global,
+    words: &Words,
+    key: &[u8],
+    count: u32,
+    u: u32,
+) -> Result<Vec<i64>, TextCause>
+    requires { u ≤ 40 }
+    ensures value { Says (λ v. v.items) result (values_of key.now count u words.now) }
+    ensures size { IfOk result (λ v. length v.items ≡ count) }
+{
+    let numbers = numbers_of(alloc, words, key)?;
+    if numbers.len() != count as usize {
+        return Err(TextCause::Syntax);
+    }
+    values_in(alloc, &numbers, u)
+}

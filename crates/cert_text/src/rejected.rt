@@ -1,0 +1,81 @@
+// The first line of a rejecting leaf.
+ghost use Rattle.std.specs.Prelude.{◌≡◌, ◌≤◌, IfOk};
+ghost use Rattle.cert_text.specs.Words.{pair_of};
+ghost use Rattle.cert_text.specs.Lines.{named, reject_of, most_e, most_k};
+ghost use Rattle.cert_text.specs.Shown.{Says};
+ghost use Rattle.cert_text.specs.Leaf.{rejected_of};
+
+use crate::cursor::len_before;
+use crate::decimal::Decimal;
+use crate::error::TextCause;
+use crate::numbers::between;
+use crate::words::Words;
+
+/// What the first line of a rejecting leaf tells: its rate, and the number of the initial state as a
+/// fraction of two numbers.
+#[derive(Drop)]
+pub(crate) struct Rejected<'t> {
+    pub e: u32,
+    pub k: u32,
+    pub m: Decimal<'t>,
+    pub y: Decimal<'t>,
+    pub z: Decimal<'t>,
+}
+
+/// The two numbers that a word writes with this byte between them.
+pub(crate) fn pair_of(word: &[u8], byte: u8) -> Option<(Decimal, Decimal)>
+    ensures { result ≡ pair_of byte word.now }
+{
+    let len = len_before(word, byte);
+    if len == word.len() {
+        return None;
+    }
+    let first = Decimal::read(&word[..len])?;
+    let second = Decimal::read(&word[len + 1..])?;
+    Some((first, second))
+}
+
+/// A word that has to stand next, and the one behind it.
+fn named<'t>(words: &Words<'t>, key: &[u8]) -> Result<(&'t [u8], Words<'t>), TextCause>
+    ensures { Says (λ x. (x.0.now, x.1)) result (named key.now words.now) }
+{
+    let rest = words.keyed(key)?;
+    rest.first()
+}
+
+/// What the first line of a rejecting leaf tells.
+pub(crate) fn reject_of<'t>(words: &Words<'t>) -> Result<Rejected<'t>, TextCause>
+    ensures value { Says rejected_of result (reject_of words.now) }
+    ensures e { IfOk result (λ r. r.e ≤ most_e) }
+    ensures k { IfOk result (λ r. r.k ≤ most_k) }
+{
+    let rest = words.keyed(b"reject")?;
+    let (e, rest) = named(&rest, b"e")?;
+    let Some(e) = Decimal::read(e) else {
+        return Err(TextCause::Syntax);
+    };
+    let (k, rest) = named(&rest, b"k")?;
+    let Some(k) = Decimal::read(k) else {
+        return Err(TextCause::Syntax);
+    };
+    let (m, rest) = named(&rest, b"m")?;
+    let Some(m) = Decimal::read(m) else {
+        return Err(TextCause::Syntax);
+    };
+    let (b, rest) = named(&rest, b"b")?;
+    let Some((y, z)) = pair_of(b, b'/') else {
+        return Err(TextCause::Syntax);
+    };
+    if !rest.is_empty() {
+        return Err(TextCause::Syntax);
+    }
+    let e = between(&e, 0, 127)?;
+    let k = between(&k, 1, 65537)?;
+    Ok(Rejected {
+        e: e as u32,
+        k: k as u32,
+        m,
+        y,
+        z,
+    })
+}
