@@ -34,7 +34,7 @@ fit_states (goal ∷ goals) (pick ∷ picks) (rank ∷ ranks) = fits_state goal 
 fit_states [] [] [] = true
 fit_states _ _ _ = false
 
--- what is tested of a rejecting leaf after its four lines of a rejecting leaf were read
+-- what is tested of a rejecting leaf after its four lines were read
 abbrev pub fits_leaf : HeadData → Rejected → List ℤ → List ℕ → List ℕ → Bool
 fits_leaf h r y picks ranks =
     int_eq r.m (pos (r.e * r.k)) && (int_eq r.y (number y h.asked.model.init) && (int_eq r.z (pos (2 ^ h.asked.w)) && fit_states h.asked.model.goal picks ranks))
