@@ -56,13 +56,13 @@ at_place P [] s none h = none
 at_place P (state ∷ states) zero none h = All-head P state states h
 at_place P (state ∷ states) (suc s) none h = at_place P states s none (All-tail P state states h)
 
-denominator-least : (d : ℤ) (ss : Spans) (v : Valuation) → Inside d ss v → pos 0 ≤ℤ denominator v
+pub denominator-least : (d : ℤ) (ss : Spans) (v : Valuation) → Inside d ss v → pos 0 ≤ℤ denominator v
 denominator-least d [] [] h = omega (arith, linear)
 denominator-least d (s ∷ ss) (x ∷ v) h = mul-nonneg x.1 (denominator v) (omega (arith, linear, h.0)) (denominator-least d ss v h.3)
 denominator-least d [] (x ∷ v) h = absurd h
 denominator-least d (s ∷ ss) [] h = absurd h
 
-moves_least : (v : Valuation) (row : List Entry) → All (λ entry. pos 0 ≤ℤ weight v entry.poly) row → AreNonNegative (moves_at v row)
+pub moves_least : (v : Valuation) (row : List Entry) → All (λ entry. pos 0 ≤ℤ weight v entry.poly) row → AreNonNegative (moves_at v row)
 moves_least v [] h = tt
 moves_least v (e ∷ row) h = let least : Entry → Type 0 = λ entry. pos 0 ≤ℤ weight v entry.poly in (All-head least e row h, moves_least v row (All-tail least e row h))
 

@@ -1,4 +1,8 @@
 pub mod Inductive
 pub mod Accepting
 pub mod Misses
+pub mod RejectMisses
+pub mod Holding
+pub mod Rejecting
+pub mod BothKinds
 mod Samples

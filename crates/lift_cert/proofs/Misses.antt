@@ -25,7 +25,7 @@ neither_less : (m n : ℕ) → (m < n → ⊥) → (n < m → ⊥) → m ≡ n
 neither_less m n f g = omega arith
 
 -- two numbers, each the first at which P doesn't hold
-first_is_one : (P : ℕ → Type 0) (m n : ℕ) → ((i : ℕ) → i < m → P i) → (P m → ⊥) → ((i : ℕ) → i < n → P i) → (P n → ⊥) → m ≡ n
+pub first_is_one : (P : ℕ → Type 0) (m n : ℕ) → ((i : ℕ) → i < m → P i) → (P m → ⊥) → ((i : ℕ) → i < n → P i) → (P n → ⊥) → m ≡ n
 first_is_one P m n before_one not_one before_two not_two = neither_less m n (λ lt. not_one (before_two m lt)) (λ lt. not_two (before_one n lt))
 
 module _ (k : CaseData) (spans : Spans) (x : List ℤ) where

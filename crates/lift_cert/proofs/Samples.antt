@@ -1,5 +1,5 @@
 -- A certificate worked by hand: a state with two choices, of which one leads to the goal with p and the other with 1 - p.
-use Rattle.std.proofs.Common.{◌≡◌, ℕ, zero, suc, ◌^◌, true, false, List, [], ◌∷◌, All, ℤ, pos, negsuc, ◌*ℤ◌, ◌≤ℤ◌, refl, arith}
+use Rattle.std.proofs.Common.{◌≡◌, ℕ, zero, suc, ◌^◌, true, false, List, [], ◌∷◌, All, ℤ, pos, negsuc, ◌≤ℤ◌, refl, arith}
 use Rattle.std.proofs.lemmas.List.Elements.{All-cons, All-nil}
 use Rattle.lift_poly.specs.Polynomial.{Term}
 use Rattle.lift_grid.specs.Rectangle.{Spans}
@@ -8,7 +8,7 @@ use Rattle.lift_model.specs.declared.entry.Entry.{Entry}
 use Rattle.lift_model.specs.Model.{ModelData, is_goal, choices}
 use Rattle.corner_lift.specs.Corner.{corner_sum, whole}
 use Rattle.corner_lift.specs.Case.{CaseData, number}
-use Rattle.corner_lift.specs.Certificate.{IsUpper, MeansAtMost}
+use Rattle.corner_lift.specs.Certificate.{MeansAtMost}
 use Rattle.lift_cert.specs.Certificate.{IsAccepting}
 
 -- the polynomials p, 1 - p and 1

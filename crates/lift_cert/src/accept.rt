@@ -16,7 +16,7 @@ use crate::miss::Miss;
 use corner_lift::{Case, one_at, row_value, rows_at_corners, whole};
 
 /// How many corners the row of the state's choice has.
-fn corners_of(case: &Case, state: u32, choice: u32) -> u32
+pub(crate) fn corners_of(case: &Case, state: u32, choice: u32) -> u32
     requires state { state < length case.now.model.states }
     requires choice { choice < length (choices case.now.model state) }
     ensures count { result ≡ corner_count case.now state choice }
@@ -27,7 +27,7 @@ fn corners_of(case: &Case, state: u32, choice: u32) -> u32
 }
 
 /// A number times a whole.
-fn times(number: i64, whole: i128) -> i128
+pub(crate) fn times(number: i64, whole: i128) -> i128
     requires room { unsigned_abs number * unsigned_abs whole < engine_limit }
     ensures { result ≡ number *ℤ whole }
 {

@@ -1,6 +1,7 @@
 ghost use Rattle.std.specs.Prelude.{◌≡◌, ◌≤◌, ◌^◌, ◌*ℤ◌, ◌↔◌, pos, IsTrue};
 ghost use Rattle.corner_lift.specs.Case.{most_precision};
 ghost use Rattle.lift_cert.specs.Certificate.{IsWithin};
+ghost use Rattle.lift_cert.specs.Miss.{IsSmall};
 
 use corner_lift::one_at;
 
@@ -39,6 +40,7 @@ impl Bound {
         requires { w ≤ most_precision }
         ensures value { result.0 ≡ value *ℤ pos self.den }
         ensures bound { result.1 ≡ pos self.num *ℤ pos (2 ^ w) }
+        ensures small { IsSmall result.0 × IsSmall result.1 }
     {
         let one = one_at(w);
         (

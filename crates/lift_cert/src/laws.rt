@@ -1,7 +1,11 @@
 ghost use Rattle.lift_cert.specs.Laws.{AcceptingBounds, LeastRefutes};
+ghost use Rattle.lift_cert.specs.Laws.{RejectingReaches, LowerBounds};
+ghost use Rattle.lift_cert.specs.Laws.{LowerIsBelowUpper, NotBothKinds};
 ghost use Rattle.lift_cert.specs.Laws.{FirstAcceptMissIsOne, AcceptingMissesNone};
+ghost use Rattle.lift_cert.specs.Laws.{FirstRejectMissIsOne, RejectingMissesNone};
 
-use corner_lift::{rows_at_corners, rows_inside};
+use corner_lift::{corners_bound_weights, rows_at_corners, rows_inside};
+use lift_model::weighted_sums_follow;
 
 /// Holds the laws of certificates, for who reasons about them: an accepting one bounds every
 /// scheduler at every valuation inside its rectangle, and where the least upper vector is beyond
@@ -14,11 +18,36 @@ pub fn certificates_decide()
     rows_inside();
 }
 
-/// Holds the laws of first misses, for who reasons about them: there is at most one, and an
-/// accepting certificate has none. It does nothing.
+/// Holds the laws of rejecting certificates, for who reasons about them: at every valuation inside its
+/// rectangle, each scheduler that makes its choices reaches the goal with at least what it tells; and,
+/// in parts, what is reached or undecided, and how the undecided runs fall. It does nothing.
+pub fn rejecting_certificates_reach()
+    ensures reached { RejectingReaches }
+    ensures lower { LowerBounds }
+{
+    weighted_sums_follow();
+    rows_at_corners();
+    rows_inside();
+}
+
+/// Holds the laws of certificates of both kinds, for who reasons about them: no lower vector of a
+/// rectangle is above an upper one, and so it has no certificates of both kinds for one bound. It does
+/// nothing.
+pub fn certificates_are_of_one_kind()
+    ensures below { LowerIsBelowUpper }
+    ensures one { NotBothKinds }
+{
+    corners_bound_weights();
+    rows_at_corners();
+}
+
+/// Holds the laws of first misses, for who reasons about them: there is at most one, and a
+/// certificate of its kind has none. It does nothing.
 pub fn first_miss_is_one()
     ensures one { FirstAcceptMissIsOne }
     ensures none { AcceptingMissesNone }
+    ensures one_reject { FirstRejectMissIsOne }
+    ensures none_reject { RejectingMissesNone }
 {
     rows_at_corners();
 }

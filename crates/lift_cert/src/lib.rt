@@ -3,10 +3,16 @@
 
 mod accept;
 mod bound;
+mod certificate;
 mod laws;
 mod miss;
+mod reject;
 
 pub use accept::meets_accept;
 pub use bound::Bound;
-pub use laws::{certificates_decide, first_miss_is_one};
+pub use laws::{
+    certificates_are_of_one_kind, certificates_decide, first_miss_is_one,
+    rejecting_certificates_reach,
+};
 pub use miss::Miss;
+pub use reject::meets_reject;

@@ -1,11 +1,12 @@
--- Two models of one step, worked by hand: what their schedulers reach.
-use Rattle.std.proofs.Common.{◌≡◌, ◌≢◌, ℕ, zero, suc, ◌^◌, ◌<◌, ◌≤◌, ℤ, true, false, List, [], ◌∷◌, length, pos, negsuc, ◌*ℤ◌, All, AllPairs, unsigned_abs, refl, arith, inr}
+-- Models of few states, worked by hand: what their schedulers reach.
+use Rattle.std.proofs.Common.{◌≡◌, ◌≢◌, ℕ, zero, suc, ◌^◌, ◌<◌, ◌≤◌, ℤ, true, false, List, [], ◌∷◌, length, pos, negsuc, ◌*ℤ◌, ◌==◌, All, AllPairs, unsigned_abs, refl, arith, inr}
 use Rattle.std.proofs.lemmas.List.Elements.{All-cons, All-nil}
 use Rattle.std.specs.List.Sorted.{IsStrictlyIncreasing}
 use Rattle.lift_poly.specs.Polynomial.{Term}
 use Rattle.lift_poly.proofs.Ring.{as_diff, diffs, diff-same}
 use Rattle.lift_model.specs.declared.kind.Kind.TheVariants.{Dtmc, Mdp}
 use Rattle.lift_model.specs.Process.{power}
+use Rattle.lift_model.specs.Memoryless.{memoryless_reach, undecided}
 use Rattle.lift_model.specs.Plan.{Plan, Fits}
 use Rattle.lift_model.specs.Plan.Plan.{stop, toss}
 use Rattle.lift_model.specs.Plan.Parts.{no_parts, part}
@@ -59,6 +60,29 @@ coin_reaches = refl
 
 coin_total : power (pos 1 *ℤ (process_at coin ((pos 1, pos 4) ∷ [])).total) 1 ≡ pos 4
 coin_total = refl
+
+-- state 0 leads to the goal with p, and else back to itself
+abbrev pub retry_row : List Entry
+retry_row = record { target = 1; poly = heads } ∷ record { target = 0; poly = tails } ∷ []
+
+-- the coin is tossed until it leads to the goal
+abbrev pub retry : ModelData
+retry = record coin { states = (retry_row ∷ []) ∷ (goal_row ∷ []) ∷ (sink_row ∷ []) ∷ [] }
+
+-- at 1/4 it does so within two steps with 7 over 16, and is undecided with the other 9
+retry_reaches : memoryless_reach (process_at retry ((pos 1, pos 4) ∷ [])) (λ s. 0) 2 0 ≡ pos 7
+retry_reaches = refl
+
+retry_undecided : undecided (process_at retry ((pos 1, pos 4) ∷ [])) (λ s. 0) (λ s. s == 0) 2 0 ≡ pos 9
+retry_undecided = refl
+
+-- with the twin's second choice the goal is reached within two steps with 12 over 16
+twin_reaches : memoryless_reach (process_at twin ((pos 1, pos 4) ∷ [])) (λ s. 1) 2 0 ≡ pos 12
+twin_reaches = refl
+
+-- a choice that there isn't reaches nothing
+nothing_reached : memoryless_reach (process_at twin ((pos 1, pos 4) ∷ [])) (λ s. 2) 2 0 ≡ pos 0
+nothing_reached = refl
 
 -- each choice with weight 1 of 2, for one step
 abbrev pub fair : Plan

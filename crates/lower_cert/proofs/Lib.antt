@@ -1,0 +1,7 @@
+pub mod Means
+pub mod Capped
+pub mod Closed
+pub mod Stuck
+pub mod Guess
+pub mod Frontier
+pub mod Attract

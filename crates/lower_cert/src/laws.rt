@@ -1,0 +1,58 @@
+//! Laws of greatest lower vectors, for who reasons about them. The functions do nothing.
+
+ghost use Rattle.lower_cert.specs.Laws.{
+  CappedIsBelow,
+  CappingKeeps,
+  QuotientCaps,
+  StayingCaps,
+  CapsMore,
+  LevelCaps,
+  ClosedIsAbove,
+  StuckAreCapped,
+  StagesAreGreatest,
+  GreatestIsOne,
+  CappingKeepsUnder,
+  GuessIsAbove,
+  SmallRefutes,
+  FrontierLeads,
+  GapLeads,
+};
+ghost use Rattle.lower_cert.specs.Attracting.{StartIsStaged, NextIsStaged, EmptyStageEnds, StagesOfTest};
+
+use corner_lift::{corners_bound_weights, rows_at_corners};
+
+/// Lowering a vector that is at or above every lower vector: which steps keep it so, from where to
+/// start, and when what is left is the greatest lower vector, which is one. Where it is within the
+/// bound there is no rejecting certificate.
+pub fn vectors_are_lowered()
+    ensures below { CappedIsBelow }
+    ensures keeps { CappingKeeps }
+    ensures quotient { QuotientCaps }
+    ensures staying { StayingCaps }
+    ensures more { CapsMore }
+    ensures level { LevelCaps }
+    ensures start { ClosedIsAbove }
+    ensures stuck { StuckAreCapped }
+    ensures greatest { StagesAreGreatest }
+    ensures one { GreatestIsOne }
+    ensures under { CappingKeepsUnder }
+    ensures guess { GuessIsAbove }
+    ensures refutes { SmallRefutes }
+{
+    corners_bound_weights();
+    rows_at_corners();
+}
+
+/// Ranking stage by stage: where the stages begin and end, what the next one has to find, and that it
+/// need only look at what leads into the last one.
+pub fn ranks_go_by_stages()
+    ensures start { StartIsStaged }
+    ensures next { NextIsStaged }
+    ensures end { EmptyStageEnds }
+    ensures test { StagesOfTest }
+    ensures frontier { FrontierLeads }
+    ensures gap { GapLeads }
+{
+    corners_bound_weights();
+    rows_at_corners();
+}

@@ -1,0 +1,6 @@
+//! Greatest lower vectors of rectangles: the laws of finding one.
+#![tactic(auto)]
+
+mod laws;
+
+pub use laws::{ranks_go_by_stages, vectors_are_lowered};
