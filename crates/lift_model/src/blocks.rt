@@ -5,7 +5,6 @@ ghost use Rattle.lift_model.specs.Model.{support, row_at};
 ghost use Rattle.lift_model.specs.Links.{HasChoice, polynomials, first_row, no_first};
 ghost use Rattle.lift_model.specs.Layout.{AreFirsts, AreBlocks, IsPlaced};
 
-use crate::lists::{number_at, put};
 use crate::model::Model;
 use crate::row::Row;
 use lift_poly::MultiAffine;
@@ -23,12 +22,18 @@ pub struct FirstRow {
     pub choice: u32,
 }
 
+/// A slot of the hash table: the number of a block from 1 on with a part of its hash, or 0.
+#[derive(Clone, Copy)]
+struct Slot {
+    tag: u32,
+    number: u32,
+}
+
 /// The blocks so far. They are found by a hash of the polynomials, of which nothing is promised, and
 /// tested by comparison.
 #[derive(Drop)]
 pub struct Blocks {
-    // by the hash the number of a block from 1 on, or 0
-    slots: Vec<u32>,
+    slots: Vec<Slot>,
     /// The first row of each block.
     pub firsts: Vec<FirstRow>,
     /// Where each block begins.
@@ -100,24 +105,30 @@ pub(crate) fn corners_of(row: &Row) -> usize
 }
 
 /// Which slot a hash has after so many tries.
-fn slot_of(slots: &[u32], hash: u64, tries: u64) -> usize {
+fn slot_of(slots: &[Slot], hash: u64, tries: u64) -> usize {
     let last = slots.len().saturating_sub(1);
     (hash.wrapping_add(tries) as usize) & last
 }
 
+/// The part of a hash that a slot keeps.
+fn tag_of(hash: u64) -> u32 {
+    (hash >> 32) as u32
+}
+
 /// The block of a row with the same polynomials, if one is found.
-fn find(slots: &[u32], firsts: &[FirstRow], model: &Model, hash: u64, row: &Row) -> Option<usize>
+fn find(slots: &[Slot], firsts: &[FirstRow], model: &Model, hash: u64, row: &Row) -> Option<usize>
     requires { AreFirsts model.now firsts.now }
     ensures { IfSome result (λ block. (block < length firsts.now)
         × (polynomials (first_row model.now (slice_index_or firsts.now block no_first)) ≡ polynomials row.now)) }
 {
     for tries in 0..TRIES {
-        let number = number_at(slots, slot_of(slots, hash, tries)) as usize;
+        let slot = slots.get(slot_of(slots, hash, tries)).copied()?;
+        let number = slot.number as usize;
         if number == 0 || number > firsts.len() {
             return None;
         }
         let first = firsts[number - 1];
-        if are_same(model.row(first.state, first.choice), row) {
+        if slot.tag == tag_of(hash) && are_same(model.row(first.state, first.choice), row) {
             return Some(number - 1);
         }
     }
@@ -125,12 +136,15 @@ fn find(slots: &[u32], firsts: &[FirstRow], model: &Model, hash: u64, row: &Row)
 }
 
 /// Enters a number at a hash, if a slot is free.
-fn enter(slots: &mut [u32], hash: u64, number: usize) {
+fn enter(slots: &mut [Slot], hash: u64, number: usize) {
     for tries in 0..TRIES {
-        let slot = slot_of(slots, hash, tries);
-        if number_at(slots, slot) == 0 {
-            put(slots, slot, u32::try_from(number).unwrap_or(0));
-            return;
+        let place = slot_of(slots, hash, tries);
+        if let Some(slot) = slots.get_mut(place) {
+            if slot.number == 0 {
+                slot.tag = tag_of(hash);
+                slot.number = u32::try_from(number).unwrap_or(0);
+                return;
+            }
         }
     }
 }
@@ -149,7 +163,7 @@ impl Blocks {
             }
         }
         Ok(Blocks {
-            slots: vec![in alloc; 0; size]?,
+            slots: vec![in alloc; Slot { tag: 0, number: 0 }; size]?,
             firsts: Vec::new(alloc),
             places: Vec::new(alloc),
             weights: 0,

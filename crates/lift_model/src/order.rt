@@ -22,17 +22,31 @@ pub struct Order {
     pub ends: Vec<u32>,
 }
 
+/// What a search in depth knows of a state.
+#[derive(Clone, Copy)]
+struct Visit {
+    // when it was met, from 1, and 0 where it wasn't
+    met: u32,
+    // the earliest time of a state that is reached from it
+    low: u32,
+    // its component, from 1, and 0 where it isn't known
+    component: u32,
+    // where the search goes on among the targets
+    next: usize,
+}
+
+/// A state that wasn't met.
+const UNMET: Visit = Visit {
+    met: 0,
+    low: 0,
+    component: 0,
+    next: 0,
+};
+
 /// What a search in depth knows.
 #[derive(Drop)]
 struct Search {
-    // when each state was met, from 1, and 0 where it wasn't
-    met: Vec<u32>,
-    // the earliest state that is reached back to
-    low: Vec<u32>,
-    // the component of each state, from 1, and 0 where it isn't known
-    component: Vec<u32>,
-    // where the search goes on among the targets
-    next: Vec<usize>,
+    visits: Vec<Visit>,
     // the states that are open, and those whose component isn't known
     open: Vec<u32>,
     waiting: Vec<u32>,
@@ -47,14 +61,18 @@ fn start_of(starts: &[usize], s: u32) -> usize {
     starts.get(s as usize).copied().unwrap_or(0)
 }
 
+/// Puts a state into a component.
+fn assign(visits: &mut [Visit], s: u32, component: u32) {
+    if let Some(visit) = visits.get_mut(s as usize) {
+        visit.component = component;
+    }
+}
+
 impl Search {
     /// No state was met yet, of so many.
     fn new(alloc: Global, states: usize) -> Result<Search, AllocError> {
         Ok(Search {
-            met: vec![in alloc; 0; states]?,
-            low: vec![in alloc; 0; states]?,
-            component: vec![in alloc; 0; states]?,
-            next: vec![in alloc; 0; states]?,
+            visits: vec![in alloc; UNMET; states]?,
             open: Vec::new(alloc),
             waiting: Vec::new(alloc),
             left: Vec::with_capacity(alloc, states)?,
@@ -63,13 +81,18 @@ impl Search {
         })
     }
 
+    /// What is known of a state.
+    fn visit(&self, s: u32) -> Visit {
+        self.visits.get(s as usize).copied().unwrap_or(UNMET)
+    }
+
     /// Opens a state whose targets begin there.
     fn meet(&mut self, s: u32, start: usize) -> Result<(), AllocError> {
         self.times = self.times.saturating_add(1);
-        put(&mut self.met, s as usize, self.times);
-        put(&mut self.low, s as usize, self.times);
-        if let Some(next) = self.next.get_mut(s as usize) {
-            *next = start;
+        if let Some(visit) = self.visits.get_mut(s as usize) {
+            visit.met = self.times;
+            visit.low = self.times;
+            visit.next = start;
         }
         self.open.push(s)?;
         self.waiting.push(s)?;
@@ -78,23 +101,25 @@ impl Search {
 
     /// Notes that from `s` a state is reached that was met at that time.
     fn reach(&mut self, s: u32, time: u32) {
-        if time < number_at(&self.low, s as usize) {
-            put(&mut self.low, s as usize, time);
+        if let Some(visit) = self.visits.get_mut(s as usize) {
+            if time < visit.low {
+                visit.low = time;
+            }
         }
     }
 
     /// Leaves the state that was opened last, and with the first state of a component all of it.
     fn leave(&mut self, s: u32) -> Result<(), AllocError> {
         self.left.push(s)?;
-        let low = number_at(&self.low, s as usize);
+        let visit = self.visit(s);
         if let Some(parent) = self.open.last() {
             let parent = *parent;
-            self.reach(parent, low);
+            self.reach(parent, visit.low);
         }
-        if low == number_at(&self.met, s as usize) {
+        if visit.low == visit.met {
             self.components = self.components.saturating_add(1);
             while let Some(t) = self.waiting.pop() {
-                put(&mut self.component, t as usize, self.components);
+                assign(&mut self.visits, t, self.components);
                 if t == s {
                     break;
                 }
@@ -112,21 +137,21 @@ impl Search {
         starts: &[usize],
         s: u32,
     ) -> Result<(), AllocError> {
-        let next = start_of(&self.next, s);
+        let next = self.visit(s).next;
         let is_goal = s < model.states() && model.is_goal(s);
         if is_goal || next >= start_of(starts, s.saturating_add(1)) {
             self.open.pop();
             return self.leave(s);
         }
-        if let Some(entry) = self.next.get_mut(s as usize) {
-            *entry = next.saturating_add(1);
+        if let Some(visit) = self.visits.get_mut(s as usize) {
+            visit.next = next.saturating_add(1);
         }
         let target = number_at(targets, next);
-        let time = number_at(&self.met, target as usize);
-        if time == 0 {
+        let visit = self.visit(target);
+        if visit.met == 0 {
             self.meet(target, start_of(starts, target))?;
-        } else if number_at(&self.component, target as usize) == 0 {
-            self.reach(s, time);
+        } else if visit.component == 0 {
+            self.reach(s, visit.met);
         }
         Ok(())
     }
@@ -147,7 +172,7 @@ fn search_states(
             let s = *s;
             search.turn(model, targets, starts, s)?;
         } else if first < states {
-            if number_at(&search.met, first as usize) == 0 {
+            if search.visit(first).met == 0 {
                 search.meet(first, start_of(starts, first))?;
             }
             first += 1;
@@ -161,9 +186,10 @@ fn search_states(
 /// Where the states of each component end, if those of each stand behind those of the one before.
 fn ends_of(alloc: Global, search: &Search) -> Result<Vec<u32>, AllocError> {
     let mut ends = vec![in alloc; 0u32; (search.components as usize).saturating_add(1)]?;
-    for component in &search.component {
-        let count = number_at(&ends, *component as usize);
-        put(&mut ends, *component as usize, count.saturating_add(1));
+    for visit in &search.visits {
+        let component = visit.component as usize;
+        let count = number_at(&ends, component);
+        put(&mut ends, component, count.saturating_add(1));
     }
     let mut sum = 0u32;
     for end in ends.iter_mut() {
@@ -187,7 +213,7 @@ fn by_components(
     let mut order = vec![in alloc; 0u32; states]?;
     let mut order_ends = vec![in alloc; 0u32; states]?;
     for s in &search.left {
-        let component = number_at(&search.component, *s as usize) as usize;
+        let component = search.visit(*s).component as usize;
         let before = component.saturating_sub(1);
         let place = number_at(&next, before);
         put(&mut next, before, place.saturating_add(1));
