@@ -19,9 +19,10 @@ use Rattle.lift_model.specs.declared.kind.Kind.{Kind}
 use Rattle.lift_model.specs.declared.kind.Kind.TheVariants.{Dtmc}
 use Rattle.lift_model.specs.Valid.{IsEntry, IsRow, IsModel}
 use Rattle.cert_text.specs.Report.{goal_states}
-use Rattle.cert_text.specs.Words.{is_name}
+use Rattle.line_text.specs.Words.{is_name}
 use Rattle.cert_text.specs.Head.{HeadData}
-use Rattle.cert_text.specs.Lines.{Words, is_multiple}
+use Rattle.line_text.specs.Parts.{Words}
+use Rattle.cert_text.specs.Lines.{is_multiple}
 use Rattle.cert_text.specs.Forms.{IsShortName, IsSmallEntry, IsHead}
 use Rattle.cert_text.proofs.Ones.{ones_within, first_within, last_within, regrouped, grouped, none_within, zero_within}
 use Rattle.cert_text.proofs.FirstLines.{Fresh, Named, AreDeclared, AreTerms}

@@ -2,7 +2,7 @@
 use Rattle.std.proofs.Common.{◌≡◌, ℕ, zero, suc, ◌+◌, ◌-◌, ◌≤◌, ◌<◌, Bool, true, false, cond, List, [], ◌∷◌, ◌++◌, length, take, drop, Ok, refl, sym, ap, ◌∙◌, append_assoc, arith}
 use Rattle.std.specs.List.{concat}
 use Rattle.std.proofs.lemmas.List.{length-append, length-take}
-use Rattle.cert_text.specs.Reading.{Cursor, Reader, IsIn, is_feed}
+use Rattle.line_text.specs.Reading.{Cursor, Reader, IsIn, is_feed}
 use Rattle.cert_text.specs.Head.{HeadData, head_at}
 use Rattle.cert_text.specs.Nodes.{Node, node_at}
 use Rattle.cert_text.specs.Whole.{feed_count}

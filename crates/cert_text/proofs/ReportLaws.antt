@@ -5,10 +5,10 @@ use Rattle.std.specs.List.{concat}
 use Rattle.std.proofs.lemmas.List.{append-nil}
 use Rattle.lift_grid.specs.Tree.{Tree}
 use Rattle.lift_grid.specs.Tree.Tree.{split as splits, accept as accepts, reject as rejects, unknown as unknowns}
-use Rattle.cert_text.specs.declared.error.TextCause.TheVariants.{Limit, Truncated}
+use Rattle.line_text.specs.declared.error.TextCause.TheVariants.{Limit, Truncated}
 use Rattle.cert_text.specs.Head.{HeadData}
 use Rattle.cert_text.specs.Report.{head_lines, tree_lines, report_text}
-use Rattle.cert_text.specs.Reading.{◌>>=◌, Cursor, Reader, fault}
+use Rattle.line_text.specs.Reading.{◌>>=◌, Cursor, Reader, fault}
 use Rattle.cert_text.specs.Head.{head_at}
 use Rattle.cert_text.specs.Nodes.{Node, split, accept, reject, unknown, node_lines}
 use Rattle.cert_text.proofs.Steps.{ok_is}
