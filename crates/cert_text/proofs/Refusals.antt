@@ -1,5 +1,5 @@
 -- Refused texts, by computation: the report of the coin with one line changed, or cut off, and nodes behind its head.
-use Rattle.std.proofs.Common.{◌≡◌, ℕ, refl, List, [], ◌∷◌, ◌++◌, ◌-◌, set, take, Result}
+use Rattle.std.proofs.Common.{◌≡◌, ℕ, refl, List, ◌++◌, ◌-◌, set, take, Result}
 use Rattle.std.specs.Prelude.{codes}
 use Rattle.std.specs.List.{concat}
 use Rattle.lift_frac.specs.Gcd.{gcd}

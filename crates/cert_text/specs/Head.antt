@@ -1,5 +1,5 @@
 -- The head of a report: what stands before its nodes.
-use Rattle.std.specs.Prelude.{ℕ, pos, zero, suc, ◌+◌, ◌-◌, ◌^◌, Bool, true, false, List, [], ◌∷◌, length, codes, ◌&&◌, Ok}
+use Rattle.std.specs.Prelude.{ℕ, pos, zero, suc, ◌+◌, ◌-◌, Bool, true, false, List, [], ◌∷◌, length, codes, ◌&&◌, Ok}
 use Rattle.std.specs.List.{sum_by}
 use Rattle.std.specs.Str.{bytes_eq}
 use Rattle.std.specs.Fmt.{decimal}

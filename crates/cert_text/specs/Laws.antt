@@ -8,7 +8,7 @@ use Rattle.line_text.specs.Reading.{fault}
 use Rattle.cert_text.specs.Head.{HeadData, head_at}
 use Rattle.cert_text.specs.Nodes.{Node, node_at, node_lines}
 use Rattle.cert_text.specs.Whole.{height, report_at, feed_count}
-use Rattle.cert_text.specs.Forms.{IsHead, IsNode, IsTree, IsReport}
+use Rattle.cert_text.specs.Forms.{IsHead, IsNode, IsReport}
 
 -- ---- a head
 

@@ -1,5 +1,5 @@
 -- What a line says by its words. Its form comes first, and then its numbers and names from left to right.
-use Rattle.std.specs.Prelude.{ℕ, ℤ, pos, negsuc, zero, suc, ◌+◌, ◌*◌, ◌^◌, ◌%◌, Bool, true, false, nat_lt, nat_le, nat_eq, ◌==◌, ◌&&◌, not, List, [], ◌∷◌, length, codes, count_ones, bit_or, int_lt, Option, Some, None, Result, Ok, Err, unsigned_abs, if◌then◌else◌}
+use Rattle.std.specs.Prelude.{ℕ, ℤ, pos, negsuc, zero, suc, ◌+◌, ◌*◌, ◌^◌, ◌%◌, Bool, true, false, nat_lt, nat_le, nat_eq, ◌==◌, ◌&&◌, not, List, [], ◌∷◌, length, codes, count_ones, bit_or, int_lt, Option, Some, None, Ok, Err, unsigned_abs, if◌then◌else◌}
 use Rattle.std.specs.List.{list_all, list_any}
 use Rattle.std.specs.Option.{option_map}
 use Rattle.std.specs.Ordering.{int_eq}
@@ -16,7 +16,6 @@ use Rattle.lift_model.specs.Valid.{most_parameters, most_name_bytes, coefficient
 use Rattle.corner_lift.specs.Case.{most_row_parameters}
 use Rattle.corner_lift.specs.Certificate.{unmarked}
 use Rattle.lift_cert.specs.declared.bound.Bound.{Bound}
-use Rattle.line_text.specs.declared.error.TextCause.{TextCause}
 use Rattle.line_text.specs.declared.error.TextCause.TheVariants.{Syntax, Version, Limit}
 use Rattle.line_text.specs.Words.{number_of, pair_of, is_name}
 use Rattle.line_text.specs.Reading.{◌>>=◌}

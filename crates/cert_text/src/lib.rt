@@ -1,4 +1,5 @@
-//! The text of a report: its head, and the lines of its nodes. No call takes memory.
+//! The text of a report: its head and the lines of its nodes, written and read. The writers take no
+//! memory.
 #![tactic(auto)]
 
 mod head;

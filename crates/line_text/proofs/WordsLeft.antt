@@ -4,7 +4,6 @@ use Rattle.std.specs.Prelude.{◌==◌}
 use Rattle.std.specs.List.{slice_split, onto_first, position_or_len}
 use Rattle.std.proofs.lemmas.List.{length-drop}
 use Rattle.std.proofs.lemmas.List.Splits.{length-slice_split, slice_split_first}
-use Prim.Native.Char.{code}
 use Rattle.line_text.specs.Shown.{words_left, is_none_left}
 use Rattle.line_text.specs.Words.{words}
 use Rattle.line_text.specs.Parts.{first}

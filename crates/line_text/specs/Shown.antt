@@ -1,5 +1,5 @@
 -- How what the code holds is seen, and what its functions answer.
-use Rattle.std.specs.Prelude.{◌≡◌, ◌≢◌, ℕ, ℤ, pos, neg_ℤ, ◌==◌, Bool, true, false, List, [], ◌∷◌, ◌++◌, Option, Some, None, Result, Ok, Err, if◌then◌else◌}
+use Rattle.std.specs.Prelude.{◌≡◌, ◌≢◌, ℕ, ℤ, pos, neg_ℤ, Bool, true, false, List, [], ◌∷◌, ◌++◌, Option, Result, Ok, Err}
 use Rattle.line_text.specs.declared.error.TextCause.{TextCause}
 use Rattle.line_text.specs.declared.error.TextCause.TheVariants.{Memory}
 use Rattle.line_text.specs.declared.error.TextError.{TextError}
