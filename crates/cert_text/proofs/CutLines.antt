@@ -7,11 +7,11 @@ use Rattle.std.proofs.lemmas.List.Splits.{join_with_byte-slice_split, slice_spli
 use Rattle.std.proofs.lemmas.List.Sums.{split_at_first, prefix_len_stops}
 use Rattle.std.proofs.lemmas.List.Elements.{All-from_recursion}
 use Rattle.std.proofs.lemmas.Bool.{eqb-true, ltb-true, ltb-false, le-ltb, lt-ltb}
-use Rattle.cert_text.specs.declared.error.TextCause.TheVariants.{Limit, Truncated}
+use Rattle.line_text.specs.declared.error.TextCause.TheVariants.{Limit, Truncated}
 use Rattle.cert_text.specs.Report.{line}
-use Rattle.cert_text.specs.Words.{words}
+use Rattle.line_text.specs.Words.{words}
 use Rattle.cert_text.specs.Whole.{feed_count}
-use Rattle.cert_text.specs.Reading.{Cursor, due, fault, is_feed}
+use Rattle.line_text.specs.Reading.{Cursor, due, fault, is_feed}
 
 -- a word holds no space and no line feed
 abbrev pub IsPlain : ℕ → Type 0

@@ -13,25 +13,25 @@ use Rattle.std.specs.Option.{option_map}
 use Rattle.std.proofs.lemmas.List.{append-nil}
 use Rattle.std.proofs.lemmas.Str.{digit_value_digit}
 use Rattle.std.proofs.lemmas.Str.Parse.{digit_from_value}
-use Rattle.cert_text.specs.Words.{are_digits, natural_of, number_of, below_zero}
+use Rattle.line_text.specs.Words.{are_digits, natural_of, number_of, below_zero}
 
 -- ---- digits
 
-pub digit_in : (c : ℕ) → is_ascii_digit c ≡ true → IsInRange 48 57 c
+digit_in : (c : ℕ) → is_ascii_digit c ≡ true → IsInRange 48 57 c
 digit_in c e = grind (arith, e)
 
 digit_of : (c : ℕ) → digit_value c < 10 → is_ascii_digit c ≡ true
 digit_of c h = grind (arith, digit_from_value c h)
 
-pub and_left : (a b : Bool) → (a && b) ≡ true → a ≡ true
+and_left : (a b : Bool) → (a && b) ≡ true → a ≡ true
 and_left true b e = refl
 and_left false b e = absurd cc
 
-pub and_right : (a b : Bool) → (a && b) ≡ true → b ≡ true
+and_right : (a b : Bool) → (a && b) ≡ true → b ≡ true
 and_right true b e = e
 and_right false b e = absurd cc
 
-pub digits_in : (ds : List ℕ) → list_all is_ascii_digit ds ≡ true → AllDigits 10 ds
+digits_in : (ds : List ℕ) → list_all is_ascii_digit ds ≡ true → AllDigits 10 ds
 digits_in [] e = tt
 digits_in (d ∷ ds) e =
     let r = digit_in d (and_left _ _ e) in
@@ -43,7 +43,7 @@ digits_from (c ∷ cs) d = rw (digit_of c d.0, digits_from cs d.1) refl
 
 -- ---- from digits to a number and back
 
-pub le_value_after : (n : ℕ) (ds : List ℕ) → n ≤ digits_value_after 10 n ds
+le_value_after : (n : ℕ) (ds : List ℕ) → n ≤ digits_value_after 10 n ds
 le_value_after n [] = omega arith
 le_value_after n (c ∷ cs) = omega (arith, le_value_after (n * 10 + digit_value c) cs)
 
@@ -58,7 +58,7 @@ value_after n (c ∷ cs) some d small =
     ∙ ap (λ x. x ++ cs) (decimal_step_wide m (omega arith) (omega (arith, le_value_after m cs)) ∙ (λ i. decimal (front i) ++ (end i ∷ [])))
     ∙ append_assoc (decimal n) (c ∷ []) cs
 
-pub not_zero : (d : ℕ) → not (d == 48) ≡ true → d ≡ 48 → ⊥
+not_zero : (d : ℕ) → not (d == 48) ≡ true → d ≡ 48 → ⊥
 not_zero d e refl = absurd cc
 
 pub natural_back : (w : List ℕ) → are_digits w ≡ true → digits_value 10 w < 10 ^ 64 → decimal (digits_value 10 w) ≡ w

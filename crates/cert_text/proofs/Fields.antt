@@ -8,11 +8,11 @@ use Rattle.std.specs.Bool.{Decides}
 use Rattle.std.proofs.lemmas.Bool.Decides.{Decides-and}
 use Rattle.std.proofs.lemmas.Slice.Eq.{bytes_eq-Decides}
 use Rattle.std.proofs.lemmas.Bool.{leb-true, ltb-true, le-leb, lt-ltb}
-use Rattle.cert_text.specs.declared.error.TextCause.TheVariants.{Syntax, Limit}
+use Rattle.line_text.specs.declared.error.TextCause.TheVariants.{Syntax, Limit}
 use Rattle.cert_text.specs.Report.{number_words, numbers_words}
-use Rattle.cert_text.specs.Words.{number_of}
-use Rattle.cert_text.specs.Reading.{◌>>=◌}
-use Rattle.cert_text.specs.Lines.{Words, Read, spelled, keyed, single, each, numbers_of, between, number_in}
+use Rattle.line_text.specs.Words.{number_of}
+use Rattle.line_text.specs.Reading.{◌>>=◌}
+use Rattle.line_text.specs.Parts.{Words, Read, spelled, keyed, single, each, numbers_of, between, number_in}
 use Rattle.cert_text.proofs.Steps.{Reads, Both, ok_is, reads_ok, reads_spelled, reads_single, reads_so, reads_pass, reads_test}
 use Rattle.cert_text.proofs.Decimals.{number_back, number_again}
 

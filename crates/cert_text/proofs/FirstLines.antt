@@ -12,11 +12,12 @@ use Rattle.std.proofs.lemmas.Slice.Eq.{bytes_eq-Decides}
 use Rattle.std.proofs.lemmas.Bool.{leb-true, ltb-true, le-leb, lt-ltb}
 use Rattle.lift_model.specs.declared.kind.Kind.{Kind}
 use Rattle.lift_model.specs.declared.kind.Kind.TheVariants.{Dtmc, Mdp}
-use Rattle.cert_text.specs.declared.error.TextCause.{TextCause}
-use Rattle.cert_text.specs.declared.error.TextCause.TheVariants.{Syntax, Version, Limit}
+use Rattle.line_text.specs.declared.error.TextCause.{TextCause}
+use Rattle.line_text.specs.declared.error.TextCause.TheVariants.{Syntax, Version, Limit}
 use Rattle.cert_text.specs.Report.{kind_name, kind_words, version_words, numbers_words, parameters_words, goal_words, goal_states, row_words}
-use Rattle.cert_text.specs.Words.{number_of, is_name}
-use Rattle.cert_text.specs.Lines.{Words, Read, must, first, count_of, counted, natural, version_of, kind_of, name_of, names_in, parameters_of, is_above, goals_in, flags, goal_of, row_of, terms_in}
+use Rattle.line_text.specs.Words.{number_of, is_name}
+use Rattle.line_text.specs.Parts.{Words, Read, must, first, count_of, counted, natural, is_above}
+use Rattle.cert_text.specs.Lines.{version_of, kind_of, name_of, names_in, parameters_of, goals_in, flags, goal_of, row_of, terms_in}
 use Rattle.cert_text.proofs.Steps.{Reads, Both, ok_is, reads_ok, reads_must, reads_spelled, reads_first, reads_single, reads_so, reads_pass, reads_test}
 use Rattle.cert_text.proofs.Decimals.{number_back, number_again}
 use Rattle.cert_text.proofs.Fields.{Writes, IsSmall, reads_keyed, reads_each, reads_numbers, reads_one, reads_between, numbers_back, numbers_again}

@@ -17,9 +17,10 @@ use Rattle.corner_lift.specs.Certificate.{unmarked}
 use Rattle.cert_text.specs.Report.{kind_name, kind_words, version_words, number_words, numbers_words, parameters_words, goal_words, goal_states, row_words, entry_words, term_word, bound_words, box_words, mark_word}
 use Rattle.lift_bytes.specs.Bytes.{begins_name}
 use Rattle.cert_text.specs.Forms.{AreMarks}
-use Rattle.cert_text.specs.Words.{is_name}
-use Rattle.cert_text.specs.Reading.{is_feed}
-use Rattle.cert_text.specs.Lines.{Words, is_value}
+use Rattle.line_text.specs.Words.{is_name}
+use Rattle.line_text.specs.Reading.{is_feed}
+use Rattle.line_text.specs.Parts.{Words}
+use Rattle.cert_text.specs.Lines.{is_value}
 use Rattle.cert_text.proofs.CutLines.{IsPlain, IsWord, IsLine, every_append}
 use Rattle.cert_text.proofs.NumberWords.{signed_word, signed_len, join_len}
 use Rattle.cert_text.proofs.FirstLines.{Ascending, AreTerms, AreDeclared, AreGoals, Named, goal_asc, asc_len, map_len}

@@ -1,6 +1,6 @@
 -- What the lines of a head tell, and what may be asked to be admitted: the same, both ways.
 use Rattle.std.proofs.Common.{◌≡◌, ◌≢◌, ℕ, zero, suc, ◌+◌, ◌-◌, ◌*◌, ◌/◌, ◌%◌, ◌^◌, ◌<◌, ◌≤◌, Bool, true, false, List, [], ◌∷◌, length, map, All, refl, sym, ap, subst, ◌∙◌, arith}
-use Rattle.std.specs.Prelude.{ℤ, pos, negsuc, ◌*ℤ◌, ◌<ℤ◌, ◌≤ℤ◌, unsigned_abs, bit_or, count_ones, sum_by, int_lt, AllPairs, Contains, slice_index, slice_index_or, T, neg_ℤ}
+use Rattle.std.specs.Prelude.{ℤ, pos, negsuc, ◌<ℤ◌, ◌≤ℤ◌, unsigned_abs, bit_or, count_ones, sum_by, int_lt, AllPairs, slice_index, slice_index_or, T, neg_ℤ}
 use Rattle.std.specs.List.{AllByRecursion}
 use Rattle.std.specs.Int.Signed.{lt_z_yes}
 use Rattle.std.specs.List.Sorted.{IsStrictlyIncreasing}
@@ -13,18 +13,19 @@ use Rattle.lift_poly.proofs.Ring.{mul-comm, mul-neg}
 use Rattle.std.proofs.Math.Nat.{mul-mod_left}
 use Rattle.lift_poly.specs.Arithmetic as polynomial
 use Rattle.lift_poly.specs.Polynomial.{Term}
-use Rattle.lift_grid.specs.Rectangle.{Spans, AreSpans, IsSpan, IsMultiple, AreMultiples, IsOnGrid}
+use Rattle.lift_grid.specs.Rectangle.{Spans, AreSpans, IsMultiple, AreMultiples}
 use Rattle.lift_model.specs.declared.entry.Entry.{Entry}
 use Rattle.lift_model.specs.declared.kind.Kind.{Kind}
 use Rattle.lift_model.specs.declared.kind.Kind.TheVariants.{Dtmc}
-use Rattle.lift_model.specs.Valid.{IsEntry, IsRow, IsModel}
+use Rattle.lift_model.specs.Valid.{IsEntry, IsRow}
 use Rattle.cert_text.specs.Report.{goal_states}
-use Rattle.cert_text.specs.Words.{is_name}
+use Rattle.line_text.specs.Words.{is_name}
 use Rattle.cert_text.specs.Head.{HeadData}
-use Rattle.cert_text.specs.Lines.{Words, is_multiple}
+use Rattle.line_text.specs.Parts.{Words}
+use Rattle.cert_text.specs.Lines.{is_multiple}
 use Rattle.cert_text.specs.Forms.{IsShortName, IsSmallEntry, IsHead}
 use Rattle.cert_text.proofs.Ones.{ones_within, first_within, last_within, regrouped, grouped, none_within, zero_within}
-use Rattle.cert_text.proofs.FirstLines.{Fresh, Named, AreDeclared, AreTerms}
+use Rattle.cert_text.proofs.FirstLines.{Fresh, Named, AreTerms}
 use Rattle.cert_text.proofs.LaterLines.{AreBoxed}
 use Rattle.cert_text.proofs.RowLaws.{AreEntries, AreRows, AreStates}
 use Rattle.cert_text.proofs.HeadLaws.{HeadForm, Ranged}

@@ -8,9 +8,10 @@ use Rattle.lift_model.specs.declared.kind.Kind.{Kind}
 use Rattle.lift_cert.specs.declared.bound.Bound.{Bound}
 use Rattle.cert_text.specs.Head.{HeadData}
 use Rattle.cert_text.specs.Report.{line, version_words, kind_words, parameters_words, number_words, goal_words, bound_words, box_words, rows_lines, size_lines, asked_lines, head_lines}
-use Rattle.cert_text.specs.Words.{words}
-use Rattle.cert_text.specs.Reading.{◌>>=◌, Reader, line_at}
-use Rattle.cert_text.specs.Lines.{Words, version_of, kind_of, parameters_of, number_in, goal_of, bound_of, box_of}
+use Rattle.line_text.specs.Words.{words}
+use Rattle.line_text.specs.Reading.{◌>>=◌, Reader, line_at}
+use Rattle.line_text.specs.Parts.{Words, number_in}
+use Rattle.cert_text.specs.Lines.{version_of, kind_of, parameters_of, goal_of, bound_of, box_of}
 use Rattle.cert_text.specs.Head.{states_at, head_at}
 use Rattle.cert_text.proofs.CutLines.{IsLine}
 use Rattle.cert_text.proofs.Fields.{reads_number_in}

@@ -3,12 +3,12 @@ use Rattle.std.proofs.Common.{◌≡◌, ℕ, ◌+◌, ◌^◌, ◌<◌, ◌≤�
 use Rattle.std.specs.List.{concat, join_with_byte}
 use Rattle.std.proofs.lemmas.List.{append-nil, length-append}
 use Rattle.std.proofs.lemmas.List.Folds.{concat-append}
-use Rattle.cert_text.specs.declared.error.TextCause.TheVariants.{Truncated}
-use Rattle.cert_text.specs.declared.error.TextError.{TextError}
+use Rattle.line_text.specs.declared.error.TextCause.TheVariants.{Truncated}
+use Rattle.line_text.specs.declared.error.TextError.{TextError}
 use Rattle.cert_text.specs.Report.{line}
-use Rattle.cert_text.specs.Words.{words}
-use Rattle.cert_text.specs.Reading.{◌>>=◌, Cursor, Reader, at, fault, due, line_at, is_feed}
-use Rattle.cert_text.specs.Lines.{Words, Read}
+use Rattle.line_text.specs.Words.{words}
+use Rattle.line_text.specs.Reading.{◌>>=◌, Cursor, Reader, at, fault, due, line_at, is_feed}
+use Rattle.line_text.specs.Parts.{Words, Read}
 use Rattle.cert_text.proofs.Steps.{Reads, ok_is}
 use Rattle.cert_text.specs.Whole.{feed_count}
 use Rattle.cert_text.proofs.CutLines.{IsLine, NoFeed, line_join, line_words, words_join, no_feeds, every_front, due_again, due_short, due_takes, due_clean, words_line, feed_count-append, feed_count-none}

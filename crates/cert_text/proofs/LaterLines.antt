@@ -14,11 +14,12 @@ use Rattle.lift_grid.specs.Rectangle.{Spans, spans_of, sides_of}
 use Rattle.lift_model.specs.declared.entry.Entry.{Entry}
 use Rattle.lift_cert.specs.declared.bound.Bound.{Bound}
 use Rattle.corner_lift.specs.Certificate.{unmarked}
-use Rattle.cert_text.specs.declared.error.TextCause.TheVariants.{Syntax, Limit}
+use Rattle.line_text.specs.declared.error.TextCause.TheVariants.{Syntax, Limit}
 use Rattle.cert_text.specs.Forms.{AreMarks}
 use Rattle.cert_text.specs.Report.{numbers_words, entry_words, term_word, bound_words, box_words, mark_word}
-use Rattle.cert_text.specs.Words.{number_of, pair_of}
-use Rattle.cert_text.specs.Lines.{Words, Read, entry_of, positive, bound_in, bound_of, is_multiple, spans_in, box_of, is_value, values_of, mark_of, marks_in, marks_of}
+use Rattle.line_text.specs.Words.{number_of, pair_of}
+use Rattle.line_text.specs.Parts.{Words, Read}
+use Rattle.cert_text.specs.Lines.{entry_of, positive, bound_in, bound_of, is_multiple, spans_in, box_of, is_value, values_of, mark_of, marks_in, marks_of}
 use Rattle.cert_text.proofs.Steps.{Reads, Both, ok_is, reads_ok, reads_err, reads_spelled, reads_first, reads_single, reads_so, reads_pass, reads_test}
 use Rattle.cert_text.proofs.Decimals.{number_back, number_again}
 use Rattle.cert_text.proofs.Fields.{Writes, IsSmall, reads_keyed, reads_each, reads_numbers, reads_between, numbers_back, numbers_again}

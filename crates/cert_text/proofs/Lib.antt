@@ -19,9 +19,6 @@ mod HeadForms
 mod ReportLaws
 mod ReadSamples
 mod Refusals
-mod WordsLeft
-mod LongNumbers
-mod NumberLoop
 mod MarkLoops
 mod Places
 mod Remainders

@@ -1,6 +1,5 @@
 -- One mark or flag for each state, as a loop makes them.
 use Rattle.std.proofs.Common.{◌≡◌, ℕ, zero, suc, ◌+◌, ◌-◌, ◌<◌, ◌≤◌, Bool, true, false, cond, List, [], ◌∷◌, ◌++◌, length, map, take, drop, refl, sym, ap, ◌∙◌, append_assoc, arith}
-use Rattle.std.specs.Prelude.{◌==◌}
 use Rattle.cert_text.specs.Lines.{flags}
 use Rattle.cert_text.specs.Shown.{comes_first}
 

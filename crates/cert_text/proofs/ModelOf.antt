@@ -14,7 +14,7 @@ use Rattle.lift_model.specs.declared.kind.Kind.TheVariants.{Dtmc}
 use Rattle.lift_model.specs.Valid.{IsEntry, IsRow, IsModel}
 use Rattle.cert_text.specs.Head.{HeadData}
 use Rattle.cert_text.specs.Report.{goal_states}
-use Rattle.cert_text.specs.Lines.{Words}
+use Rattle.line_text.specs.Parts.{Words}
 use Rattle.cert_text.proofs.FirstLines.{Fresh, Named, AreTerms}
 use Rattle.cert_text.proofs.RowLaws.{AreEntries, AreRows, AreStates}
 use Rattle.cert_text.proofs.HeadLaws.{HeadForm}

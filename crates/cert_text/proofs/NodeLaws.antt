@@ -13,13 +13,14 @@ use Rattle.std.proofs.Math.Pow.{pow_mono}
 use Rattle.std.proofs.Math.Nat.{mul-le-mul_right}
 use Rattle.corner_lift.specs.Case.{number}
 use Rattle.corner_lift.specs.Certificate.{unmarked}
-use Rattle.cert_text.specs.declared.error.TextCause.TheVariants.{Syntax}
-use Rattle.cert_text.specs.declared.error.TextError.{TextError}
+use Rattle.line_text.specs.declared.error.TextCause.TheVariants.{Syntax}
+use Rattle.line_text.specs.declared.error.TextError.{TextError}
 use Rattle.cert_text.specs.Head.{HeadData}
 use Rattle.cert_text.specs.Report.{line, number_words, numbers_words, reject_words, mark_word}
-use Rattle.cert_text.specs.Words.{words, number_of, pair_of}
-use Rattle.cert_text.specs.Reading.{◌>>=◌, Cursor, Reader, at, due, line_at}
-use Rattle.cert_text.specs.Lines.{Words, must, keyed, first, ended, is_value, values_of, marks_of, Rejected, named, reject_of}
+use Rattle.line_text.specs.Words.{words, number_of, pair_of}
+use Rattle.line_text.specs.Reading.{◌>>=◌, Cursor, Reader, at, due, line_at}
+use Rattle.line_text.specs.Parts.{Words, must, keyed, first, ended}
+use Rattle.cert_text.specs.Lines.{is_value, values_of, marks_of, Rejected, named, reject_of}
 use Rattle.lift_grid.specs.Tree.{RejectData}
 use Rattle.std.specs.Prelude.{◌≤ℤ◌}
 use Rattle.std.proofs.lemmas.Int.{ints}

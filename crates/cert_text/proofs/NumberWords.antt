@@ -11,7 +11,7 @@ use Rattle.std.proofs.lemmas.Str.Parse.{digit_from_value}
 use Rattle.std.proofs.lemmas.Bool.{eqb-true, eq-eqb}
 use Rattle.std.proofs.lemmas.List.{length-append, length-drop}
 use Rattle.std.proofs.lemmas.List.Sums.{split_at_first, prefix_len_stops}
-use Rattle.cert_text.specs.Words.{number_of, pair_of}
+use Rattle.line_text.specs.Words.{number_of, pair_of}
 use Rattle.cert_text.proofs.CutLines.{IsPlain, IsWord}
 use Rattle.cert_text.proofs.Decimals.{number_back, number_again}
 use Rattle.cert_text.proofs.Fields.{IsSmall}

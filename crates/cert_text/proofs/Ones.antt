@@ -1,5 +1,5 @@
 -- Sets of parameters as numbers: a set within another has no more members.
-use Rattle.std.proofs.Common.{◌≡◌, ℕ, zero, suc, ◌+◌, ◌*◌, ◌/◌, ◌%◌, ◌^◌, ◌<◌, ◌≤◌, bit_or, count_ones, sym, ap, subst, arith, pow-suc}
+use Rattle.std.proofs.Common.{◌≡◌, ℕ, zero, suc, ◌/◌, ◌%◌, ◌^◌, ◌<◌, ◌≤◌, bit_or, count_ones, ap, arith, pow-suc}
 use Rattle.std.specs.Int.{bit_at}
 use lib.Count.{ones_step}
 use Rattle.std.proofs.lemmas.Nat.Bits.{bit_at_lowest, bit_at-suc, bit_at-zero, bit_at_or}

@@ -2,9 +2,9 @@
 use Rattle.std.proofs.Common.{◌≡◌, ℕ, ◌+◌, ◌^◌, ◌<◌, ◌≤◌, Bool, true, false, List, [], ◌∷◌, ◌++◌, length, Result, Ok, sym, ap, subst, ◌∙◌, append_assoc, arith, inl, inr, ◌⊎◌}
 use Rattle.std.specs.List.{concat}
 use Rattle.std.proofs.lemmas.List.{length-append}
-use Rattle.cert_text.specs.declared.error.TextCause.TheVariants.{Truncated}
-use Rattle.cert_text.specs.declared.error.TextError.{TextError}
-use Rattle.cert_text.specs.Reading.{◌>>=◌, Cursor, Reader, fault, due, is_feed}
+use Rattle.line_text.specs.declared.error.TextCause.TheVariants.{Truncated}
+use Rattle.line_text.specs.declared.error.TextError.{TextError}
+use Rattle.line_text.specs.Reading.{◌>>=◌, Cursor, Reader, fault, due, is_feed}
 use Rattle.cert_text.specs.Whole.{feed_count}
 use Rattle.cert_text.proofs.CutLines.{NoFeed, every_front, due_again, due_short, feed_count-none}
 use Rattle.cert_text.proofs.Inverting.{Lines, IsPartial, Inverts, Opens, CutFirst, CutLast, cut, front_of, bind_is}

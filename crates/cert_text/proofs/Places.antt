@@ -1,16 +1,16 @@
 -- Places of a text.
-use Rattle.std.proofs.Common.{◌≡◌, ℕ, zero, suc, ◌+◌, ◌-◌, ◌≤◌, ◌<◌, Bool, true, false, cond, List, [], ◌∷◌, ◌++◌, length, take, drop, Ok, refl, sym, ap, ◌∙◌, append_assoc, arith}
+use Rattle.std.proofs.Common.{◌≡◌, ℕ, zero, suc, ◌+◌, ◌-◌, ◌≤◌, Bool, true, false, cond, List, [], ◌∷◌, ◌++◌, length, take, drop, Ok, refl, sym, ap, ◌∙◌, append_assoc, arith}
 use Rattle.std.specs.List.{concat}
 use Rattle.std.proofs.lemmas.List.{length-append, length-take}
-use Rattle.cert_text.specs.Reading.{Cursor, Reader, IsIn, is_feed}
+use Rattle.line_text.specs.Reading.{Cursor, Reader, IsIn, is_feed}
 use Rattle.cert_text.specs.Head.{HeadData, head_at}
 use Rattle.cert_text.specs.Nodes.{Node, node_at}
 use Rattle.cert_text.specs.Whole.{feed_count}
 use Rattle.cert_text.specs.Forms.{IsHead}
 use Rattle.cert_text.proofs.Inverting.{Lines, Anything, Inverts}
 use Rattle.cert_text.proofs.HeadForms.{head_form}
-use Rattle.cert_text.proofs.HeadLaws.{HeadLines, inverts_head}
-use Rattle.cert_text.proofs.NodeLaws.{NodeLines, inverts_node}
+use Rattle.cert_text.proofs.HeadLaws.{inverts_head}
+use Rattle.cert_text.proofs.NodeLaws.{inverts_node}
 
 few_feeds : (t : List ℕ) → feed_count t ≤ length t
 few_feeds [] = omega arith

@@ -5,7 +5,7 @@ use Rattle.std.specs.List.{concat}
 use Rattle.lift_model.specs.declared.kind.Kind.TheVariants.{Dtmc}
 use Rattle.cert_text.specs.Head.{HeadData}
 use Rattle.cert_text.specs.Report.{size_lines, row_line, asked_lines, report_text}
-use Rattle.cert_text.specs.Reading.{due, line_at}
+use Rattle.line_text.specs.Reading.{due, line_at}
 use Rattle.cert_text.specs.Head.{head_at, state_at, states_at, behind_first, row_at, entries_at, further_at}
 use Rattle.cert_text.specs.Nodes.{accept, node_at, node_by, accept_at}
 use Rattle.lift_grid.specs.Tree.Tree.{accept as accepted}

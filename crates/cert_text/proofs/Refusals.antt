@@ -1,11 +1,11 @@
 -- Refused texts, by computation: the report of the coin with one line changed, or cut off, and nodes behind its head.
-use Rattle.std.proofs.Common.{◌≡◌, ℕ, refl, List, [], ◌∷◌, ◌++◌, ◌-◌, set, take, Result}
+use Rattle.std.proofs.Common.{◌≡◌, ℕ, refl, List, ◌++◌, ◌-◌, set, take, Result}
 use Rattle.std.specs.Prelude.{codes}
 use Rattle.std.specs.List.{concat}
 use Rattle.lift_frac.specs.Gcd.{gcd}
-use Rattle.cert_text.specs.declared.error.TextCause.TheVariants.{Syntax, Version, Limit, Truncated}
-use Rattle.cert_text.specs.declared.error.TextError.{TextError}
-use Rattle.cert_text.specs.Reading.{Cursor, due, line_at, fault}
+use Rattle.line_text.specs.declared.error.TextCause.TheVariants.{Syntax, Version, Limit, Truncated}
+use Rattle.line_text.specs.declared.error.TextError.{TextError}
+use Rattle.line_text.specs.Reading.{Cursor, due, line_at, fault}
 use Rattle.cert_text.specs.Head.{HeadData, head_at, state_at, states_at, behind_first, row_at, entries_at, further_at}
 use Rattle.cert_text.specs.Nodes.{node_at, node_by, accept_at, reject_at, rejecting_at, split_at, unknown_at}
 use Rattle.cert_text.proofs.ReadSamples.{coin, coin_lines}

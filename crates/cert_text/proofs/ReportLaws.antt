@@ -1,25 +1,22 @@
 -- A whole report, both ways.
-use Rattle.std.proofs.Common.{◌≡◌, ℕ, zero, suc, ◌+◌, ◌<◌, ◌≤◌, List, [], ◌++◌, length, Ok, refl, sym, ap, subst, ◌∙◌, arith}
-use Rattle.std.specs.Prelude.{max}
+use Rattle.std.proofs.Common.{◌≡◌, ℕ, zero, suc, ◌+◌, ◌<◌, ◌≤◌, [], ◌++◌, length, Ok, refl, sym, ap, subst, ◌∙◌, arith}
 use Rattle.std.specs.List.{concat}
 use Rattle.std.proofs.lemmas.List.{append-nil}
 use Rattle.lift_grid.specs.Tree.{Tree}
 use Rattle.lift_grid.specs.Tree.Tree.{split as splits, accept as accepts, reject as rejects, unknown as unknowns}
-use Rattle.cert_text.specs.declared.error.TextCause.TheVariants.{Limit, Truncated}
+use Rattle.line_text.specs.declared.error.TextCause.TheVariants.{Limit}
 use Rattle.cert_text.specs.Head.{HeadData}
-use Rattle.cert_text.specs.Report.{head_lines, tree_lines, report_text}
-use Rattle.cert_text.specs.Reading.{◌>>=◌, Cursor, Reader, fault}
-use Rattle.cert_text.specs.Head.{head_at}
+use Rattle.cert_text.specs.Report.{head_lines, tree_lines}
+use Rattle.line_text.specs.Reading.{Cursor, Reader, fault}
 use Rattle.cert_text.specs.Nodes.{Node, split, accept, reject, unknown, node_lines}
 use Rattle.cert_text.proofs.Steps.{ok_is}
-use Rattle.cert_text.specs.Whole.{feed_count}
 use Rattle.cert_text.proofs.Inverting.{Lines, Anything, Inverts, Then, Done, inverts_pass, inverts_done, inverts_so}
 use Rattle.cert_text.proofs.HeadLaws.{HeadForm, inverts_head}
 use Rattle.std.proofs.lemmas.List.{length-append}
 use Rattle.std.proofs.lemmas.List.Folds.{concat-append}
 use Rattle.cert_text.specs.Laws.{told_lines, text_of, line_count, HeadsAreReadBack, ReadHeadsAreTold, NodesAreReadBack, ReadNodesAreTold, ReportsAreReadBack, ReadReportsAreTold, TextsTellOneReport, PrefixesAreTruncated}
 use Rattle.cert_text.proofs.HeadForms.{head_form, form_head}
-use Rattle.cert_text.specs.Forms.{IsNode, IsTree}
+use Rattle.cert_text.specs.Forms.{IsTree}
 use Rattle.cert_text.specs.Whole.{height, branch_at, tree_at, report_at}
 use Rattle.cert_text.proofs.NodeLaws.{NodeLines, inverts_node}
 

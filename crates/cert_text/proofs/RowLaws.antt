@@ -14,9 +14,10 @@ use Rattle.lift_model.specs.declared.entry.Entry.{Entry}
 use Rattle.lift_model.specs.declared.kind.Kind.{Kind}
 use Rattle.lift_model.specs.declared.kind.Kind.TheVariants.{Dtmc, Mdp}
 use Rattle.cert_text.specs.Report.{line, row_words, row_line, row_lines, entry_words, numbered, state_lines}
-use Rattle.cert_text.specs.Words.{words}
-use Rattle.cert_text.specs.Reading.{◌>>=◌, line_at}
-use Rattle.cert_text.specs.Lines.{Words, row_of, entry_of}
+use Rattle.line_text.specs.Words.{words}
+use Rattle.line_text.specs.Reading.{◌>>=◌, line_at}
+use Rattle.line_text.specs.Parts.{Words}
+use Rattle.cert_text.specs.Lines.{row_of, entry_of}
 use Rattle.cert_text.specs.Head.{entries_at, row_at, is_row_of, further_at, behind_first, state_at, states_at}
 use Rattle.cert_text.proofs.CutLines.{IsLine, line_join, words_join, no_feeds}
 use Rattle.cert_text.proofs.Inverting.{Lines, Anything, Inverts, OneLine, Then, Done, Opens, opens_anything, inverts_line, inverts_then, inverts_pass, inverts_done, inverts_so}

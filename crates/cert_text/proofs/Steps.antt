@@ -1,9 +1,9 @@
 -- What a step of reading gives, both ways.
 use Rattle.std.proofs.Common.{◌≡◌, Bool, true, false, List, [], ◌∷◌, Result, Ok, Err, Option, Some, None, refl, sym, ap, subst, ◌∙◌}
 use Rattle.std.specs.Bool.{Decides}
-use Rattle.cert_text.specs.declared.error.TextCause.{TextCause}
-use Rattle.cert_text.specs.Reading.{◌>>=◌}
-use Rattle.cert_text.specs.Lines.{Read, must, spelled, first, ended, single}
+use Rattle.line_text.specs.declared.error.TextCause.{TextCause}
+use Rattle.line_text.specs.Reading.{◌>>=◌}
+use Rattle.line_text.specs.Parts.{Read, must, spelled, first, ended, single}
 
 -- Ok exactly with the values of which P holds
 pub record Reads {A : Type 0} (P : A → Type 0) (r : Read A) : Type 0 where

@@ -9,7 +9,7 @@ use Rattle.corner_lift.specs.Case.{CaseData, IsAsked, most_row_parameters}
 use Rattle.corner_lift.specs.Certificate.{AreNumbers, unmarked}
 use Rattle.lift_cert.specs.Bound.{IsBound}
 use Rattle.lift_cert.specs.declared.bound.Bound.{Bound}
-use Rattle.cert_text.specs.Words.{is_name}
+use Rattle.line_text.specs.Words.{is_name}
 use Rattle.cert_text.specs.Lines.{most_terms, most_e, most_k}
 use Rattle.cert_text.specs.Head.{HeadData}
 use Rattle.cert_text.specs.Nodes.{Node, split, accept, reject, unknown, fit_states}

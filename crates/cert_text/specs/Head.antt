@@ -1,5 +1,5 @@
 -- The head of a report: what stands before its nodes.
-use Rattle.std.specs.Prelude.{ℕ, pos, zero, suc, ◌+◌, ◌-◌, ◌^◌, Bool, true, false, List, [], ◌∷◌, length, codes, ◌&&◌, Ok}
+use Rattle.std.specs.Prelude.{ℕ, pos, zero, suc, ◌+◌, ◌-◌, Bool, true, false, List, [], ◌∷◌, length, codes, ◌&&◌, Ok}
 use Rattle.std.specs.List.{sum_by}
 use Rattle.std.specs.Str.{bytes_eq}
 use Rattle.std.specs.Fmt.{decimal}
@@ -11,9 +11,10 @@ use Rattle.lift_model.specs.Valid.{most_states, most_choices, most_transitions, 
 use Rattle.lift_frac.specs.Limits.{size_limit}
 use Rattle.corner_lift.specs.Case.{CaseData, most_halvings, most_precision}
 use Rattle.lift_cert.specs.declared.bound.Bound.{Bound}
-use Rattle.cert_text.specs.Words.{words}
-use Rattle.cert_text.specs.Reading.{◌>>=◌, Reader, due, line_at}
-use Rattle.cert_text.specs.Lines.{version_of, kind_of, parameters_of, number_in, goal_of, row_of, entry_of, bound_of, box_of}
+use Rattle.line_text.specs.Words.{words}
+use Rattle.line_text.specs.Reading.{◌>>=◌, Reader, due, line_at}
+use Rattle.cert_text.specs.Lines.{version_of, kind_of, parameters_of, goal_of, row_of, entry_of, bound_of, box_of}
+use Rattle.line_text.specs.Parts.{number_in}
 
 -- what a report says before its nodes
 pub record HeadData : Type 0 where

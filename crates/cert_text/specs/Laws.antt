@@ -2,13 +2,13 @@
 use Rattle.std.specs.Prelude.{◌≡◌, ℕ, ◌+◌, ◌<◌, ◌≤◌, List, ◌++◌, length, Ok}
 use Rattle.std.specs.List.{concat}
 use Rattle.lift_grid.specs.Tree.{Tree}
-use Rattle.cert_text.specs.declared.error.TextCause.TheVariants.{Truncated}
+use Rattle.line_text.specs.declared.error.TextCause.TheVariants.{Truncated}
 use Rattle.cert_text.specs.Report.{head_lines, tree_lines, report_text}
-use Rattle.cert_text.specs.Reading.{fault}
+use Rattle.line_text.specs.Reading.{fault}
 use Rattle.cert_text.specs.Head.{HeadData, head_at}
 use Rattle.cert_text.specs.Nodes.{Node, node_at, node_lines}
 use Rattle.cert_text.specs.Whole.{height, report_at, feed_count}
-use Rattle.cert_text.specs.Forms.{IsHead, IsNode, IsTree, IsReport}
+use Rattle.cert_text.specs.Forms.{IsHead, IsNode, IsReport}
 
 -- ---- a head
 

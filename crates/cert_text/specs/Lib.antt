@@ -1,6 +1,4 @@
 pub mod Report
-pub mod Words
-pub mod Reading
 pub mod Lines
 pub mod Head
 pub mod Nodes

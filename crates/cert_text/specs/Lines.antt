@@ -1,5 +1,5 @@
 -- What a line says by its words. Its form comes first, and then its numbers and names from left to right.
-use Rattle.std.specs.Prelude.{ℕ, ℤ, pos, negsuc, zero, suc, ◌+◌, ◌*◌, ◌^◌, ◌%◌, Bool, true, false, nat_lt, nat_le, nat_eq, ◌==◌, ◌&&◌, not, List, [], ◌∷◌, length, codes, count_ones, bit_or, int_lt, Option, Some, None, Result, Ok, Err, unsigned_abs, if◌then◌else◌}
+use Rattle.std.specs.Prelude.{ℕ, ℤ, pos, negsuc, zero, suc, ◌+◌, ◌*◌, ◌^◌, ◌%◌, Bool, true, false, nat_lt, nat_le, nat_eq, ◌==◌, ◌&&◌, not, List, [], ◌∷◌, length, codes, count_ones, bit_or, int_lt, Option, Some, None, Ok, Err, unsigned_abs, if◌then◌else◌}
 use Rattle.std.specs.List.{list_all, list_any}
 use Rattle.std.specs.Option.{option_map}
 use Rattle.std.specs.Ordering.{int_eq}
@@ -16,94 +16,10 @@ use Rattle.lift_model.specs.Valid.{most_parameters, most_name_bytes, coefficient
 use Rattle.corner_lift.specs.Case.{most_row_parameters}
 use Rattle.corner_lift.specs.Certificate.{unmarked}
 use Rattle.lift_cert.specs.declared.bound.Bound.{Bound}
-use Rattle.cert_text.specs.declared.error.TextCause.{TextCause}
-use Rattle.cert_text.specs.declared.error.TextCause.TheVariants.{Syntax, Version, Limit}
-use Rattle.cert_text.specs.Words.{number_of, pair_of, is_name}
-use Rattle.cert_text.specs.Reading.{◌>>=◌}
-
--- words, or what else is read of them
-abbrev pub Words : Type 0
-Words = List (List ℕ)
-
-abbrev pub Read : Type 0 → Type 0
-Read A = Result A TextCause
-
--- ---- forms
-
--- a test, and the cause where it fails
-abbrev pub must : Bool → TextCause → Read (Unit {0})
-must true cause = Ok tt
-must false cause = Err cause
-
--- a word of that form, or Syntax
-abbrev pub spelled : {A : Type 0} → Option A → Read A
-spelled None = Err Syntax
-spelled (Some x) = Ok x
-
--- what stands behind a word that has to stand first
-abbrev pub keyed : List ℕ → Words → Read Words
-keyed key [] = Err Syntax
-keyed key (word ∷ words) = must (bytes_eq word key) Syntax >>= λ _. Ok words
-
--- the first of several, and those behind it
-abbrev pub first : {A : Type 0} → List A → Read (A × List A)
-first [] = Err Syntax
-first (x ∷ xs) = Ok (x, xs)
-
--- nothing is left
-abbrev pub ended : {A : Type 0} → List A → Read (Unit {0})
-ended [] = Ok tt
-ended (x ∷ xs) = Err Syntax
-
--- the only one
-abbrev pub single : {A : Type 0} → List A → Read A
-single xs = first xs >>= λ x. ended x.1 >>= λ _. Ok x.0
-
--- what each word writes
-abbrev pub each : {A : Type 0} → (List ℕ → Option A) → Words → Read (List A)
-each of [] = Ok []
-each of (word ∷ words) = spelled (of word) >>= λ x. each of words >>= λ xs. Ok (x ∷ xs)
-
--- a word, and numbers behind it
-abbrev pub numbers_of : List ℕ → Words → Read (List ℤ)
-numbers_of key words = keyed key words >>= each number_of
-
--- a word, the number of those behind it, and these words
-abbrev pub count_of : List ℕ → Words → Read (ℤ × Words)
-count_of key words = do
-  rest ← keyed key words
-  parts ← first rest
-  count ← spelled (number_of parts.0)
-  Ok (count, parts.1)
-
--- a word, the number of those behind it, and what these write
-abbrev pub counted : {A : Type 0} → List ℕ → (List ℕ → Option A) → Words → Read (List A)
-counted key of words = do
-  parts ← count_of key words
-  xs ← each of parts.1
-  _ ← must (int_eq parts.0 (pos (length xs))) Syntax
-  Ok xs
-
--- ---- numbers
-
--- the number, from low to below end
-abbrev pub between : ℕ → ℕ → ℤ → Read ℕ
-between low end (pos n) = must (nat_le low n && nat_lt n end) Limit >>= λ _. Ok n
-between low end (negsuc n) = Err Limit
-
--- a number from 0 on, or Syntax
-abbrev pub natural : ℤ → Read ℕ
-natural (pos n) = Ok n
-natural (negsuc n) = Err Syntax
-
--- a word and one number in that range
-abbrev pub number_in : List ℕ → ℕ → ℕ → Words → Read ℕ
-number_in key low end words = numbers_of key words >>= single >>= between low end
-
--- the number is above the one before it
-abbrev pub is_above : Option ℕ → ℤ → Bool
-is_above None z = true
-is_above (Some n) z = int_lt (pos n) z
+use Rattle.line_text.specs.declared.error.TextCause.TheVariants.{Syntax, Version, Limit}
+use Rattle.line_text.specs.Words.{number_of, pair_of, is_name}
+use Rattle.line_text.specs.Reading.{◌>>=◌}
+use Rattle.line_text.specs.Parts.{Words, Read, must, spelled, keyed, first, ended, single, each, counted, numbers_of, between, natural, is_above}
 
 -- ---- the head's lines
 

@@ -4,13 +4,14 @@ use Rattle.std.specs.Ordering.{int_eq}
 use Rattle.std.specs.Str.{bytes_eq}
 use Rattle.corner_lift.specs.Case.{number}
 use Rattle.corner_lift.specs.Certificate.{unmarked}
-use Rattle.cert_text.specs.declared.error.TextCause.TheVariants.{Syntax}
+use Rattle.line_text.specs.declared.error.TextCause.TheVariants.{Syntax}
 use Rattle.lift_grid.specs.Tree.{RejectData}
 use Rattle.cert_text.specs.Report.{split_line, accept_line, reject_lines, unknown_line}
-use Rattle.cert_text.specs.Words.{words}
-use Rattle.cert_text.specs.Reading.{◌>>=◌, Reader, at, due, line_at}
+use Rattle.line_text.specs.Words.{words}
+use Rattle.line_text.specs.Reading.{◌>>=◌, Reader, at, due, line_at}
 use Rattle.cert_text.specs.Head.{HeadData}
-use Rattle.cert_text.specs.Lines.{must, keyed, ended, number_in, values_of, marks_of, reject_of, Rejected}
+use Rattle.line_text.specs.Parts.{must, keyed, ended, number_in}
+use Rattle.cert_text.specs.Lines.{values_of, marks_of, reject_of, Rejected}
 
 -- a node without its halves; a decided leaf has its precision
 pub data Node : Type 0 where

@@ -2,8 +2,8 @@
 use Rattle.std.specs.Prelude.{ℕ, zero, suc, ◌+◌, max, List, [], ◌∷◌, Ok, if◌then◌else◌}
 use Rattle.lift_grid.specs.Tree.{Tree}
 use Rattle.lift_grid.specs.Tree.Tree.{split as splits, accept as accepts, reject as rejects, unknown as unknowns}
-use Rattle.cert_text.specs.declared.error.TextCause.TheVariants.{Limit}
-use Rattle.cert_text.specs.Reading.{◌>>=◌, Reader, fault, is_feed}
+use Rattle.line_text.specs.declared.error.TextCause.TheVariants.{Limit}
+use Rattle.line_text.specs.Reading.{◌>>=◌, Reader, fault, is_feed}
 use Rattle.cert_text.specs.Head.{HeadData, head_at}
 use Rattle.cert_text.specs.Nodes.{Node, split, accept, reject, unknown, node_at}
 

@@ -1,22 +1,22 @@
 // Lines of a head.
 ghost use Rattle.std.specs.Prelude.{◌≡◌, ◌≤◌, ◌<◌, ◌+◌, ◌^◌, ◌%◌, length, map, pos, ◌==◌, ◌<ℤ◌, unsigned_abs, drop, true, None, IfOk};
-ghost use Rattle.cert_text.specs.Lines.{version_of, kind_named, kind_of, each, name_of, is_above};
-ghost use Rattle.cert_text.specs.Lines.{count_in, row_of, bound_in, bound_of, count_of, goals_in, flags, goal_of, parameters_of, names_in};
+ghost use Rattle.cert_text.specs.Lines.{version_of, kind_named, kind_of, name_of};
+ghost use Rattle.line_text.specs.Parts.{each, is_above};
+ghost use Rattle.cert_text.specs.Lines.{count_in, row_of, bound_in, bound_of, goals_in, flags, goal_of, parameters_of, names_in};
+ghost use Rattle.line_text.specs.Parts.{count_of};
 ghost use Rattle.std.specs.List.{list_all};
 ghost use Rattle.lift_bytes.specs.Bytes.{is_name_byte};
 ghost use Rattle.lift_frac.specs.Gcd.{gcd};
-ghost use Rattle.cert_text.specs.Words.{is_name};
-ghost use Rattle.cert_text.specs.Shown.{Says, comes_first};
+ghost use Rattle.line_text.specs.Words.{is_name};
+ghost use Rattle.line_text.specs.Shown.{Says};
+ghost use Rattle.cert_text.specs.Shown.{comes_first};
 
-use crate::decimal::Decimal;
-use crate::error::TextCause;
-use crate::numbers::{between, decimals, is_number, numbers_of};
 use crate::rejected::pair_of;
-use crate::words::Words;
 use lift_bytes::{begins_name, is_name_byte};
 use lift_cert::Bound;
 use lift_frac::gcd;
 use lift_model::Kind;
+use line_text::{Decimal, TextCause, Words, between, decimals, is_number, numbers_of};
 use std::alloc::{AllocError, Global};
 
 /// The version, which has to be 1.

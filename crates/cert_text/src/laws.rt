@@ -1,15 +1,6 @@
 //! Laws of report texts, for who reasons about them. The functions do nothing.
 
-ghost use Rattle.cert_text.specs.Laws.{
-  HeadsAreReadBack,
-  NodesAreReadBack,
-  PrefixesAreTruncated,
-  ReadHeadsAreTold,
-  ReadNodesAreTold,
-  ReadReportsAreTold,
-  ReportsAreReadBack,
-  TextsTellOneReport,
-};
+ghost use Rattle.cert_text.specs.Laws.{HeadsAreReadBack, NodesAreReadBack, PrefixesAreTruncated, ReadHeadsAreTold, ReadNodesAreTold, ReadReportsAreTold, ReportsAreReadBack, TextsTellOneReport};
 
 /// A head is read exactly where its lines begin the text.
 pub fn heads_are_read()

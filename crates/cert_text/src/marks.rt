@@ -1,14 +1,12 @@
 // Marks of states: picks and ranks.
 ghost use Rattle.std.specs.Prelude.{◌≡◌, ◌≤◌, ◌^◌, length, map, IfOk};
-ghost use Rattle.cert_text.specs.Lines.{each, mark_of, mark_in, marks_in, marks_of};
+ghost use Rattle.line_text.specs.Parts.{each};
+ghost use Rattle.cert_text.specs.Lines.{mark_of, mark_in, marks_in, marks_of};
 ghost use Rattle.cert_text.specs.Nodes.{fits_state, fit_states};
-ghost use Rattle.cert_text.specs.Shown.{Says};
+ghost use Rattle.line_text.specs.Shown.{Says};
 
-use crate::decimal::Decimal;
-use crate::error::TextCause;
-use crate::numbers::between;
-use crate::words::Words;
 use lift_model::Model;
+use line_text::{Decimal, TextCause, Words, between};
 use std::alloc::{AllocError, Global};
 
 /// A mark: `-` for none, or a number.

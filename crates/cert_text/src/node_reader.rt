@@ -1,30 +1,32 @@
 // Reads a node of a report.
 ghost use Rattle.std.specs.Prelude.{◌≡◌, ◌≤◌, ◌<◌, ◌+◌, ◌^◌, ℕ, drop, length, map, codes, IfOk};
-ghost use Rattle.cert_text.specs.Reading.{line_at};
+ghost use Rattle.line_text.specs.Reading.{line_at};
 ghost use Rattle.cert_text.specs.Lines.{values_of, marks_of, reject_of, most_e, most_k};
 ghost use Rattle.cert_text.specs.Nodes.{begins, fits_leaf, reject};
 ghost use Rattle.cert_text.specs.Nodes.{split_at, accept_at, rejecting_at, reject_at, unknown_at, node_by, node_at};
-ghost use Rattle.cert_text.specs.Shown.{Gives};
+ghost use Rattle.line_text.specs.Shown.{Gives};
 ghost use Rattle.cert_text.specs.Leaf.{rejected_of, node_of};
 
-use crate::cursor::{Cursor, Place};
-use crate::error::{TextCause, TextError};
-use crate::marks::{choice_counts, fit_states, marks_of, rank_ends};
-use crate::numbers::{is_number, is_signed, number_line, values_of};
 use crate::head_reader::Head;
+use crate::marks::{choice_counts, fit_states, marks_of, rank_ends};
 use crate::rejected::{Rejected, reject_of};
-use crate::words::Words;
+use crate::values::values_of;
 use corner_lift::one_at;
 use lift_grid::{Marks, Values};
+use line_text::{Cursor, Place, TextCause, TextError, Words, is_number, is_signed, number_line};
 use std::alloc::{AllocError, Global};
 
 /// A node of a report, without its halves.
 #[derive(Drop)]
 pub enum Node {
     /// A split on a parameter. The nodes of the lower half follow it, then those of the upper half.
-    Split { axis: u32 },
+    Split {
+        axis: u32,
+    },
     /// An accepting leaf, with the number of each state.
-    Accept { x: Values },
+    Accept {
+        x: Values,
+    },
     /// A rejecting leaf, with its rate, and the number, the pick and the rank of each state,
     /// `u32::MAX` standing for none.
     Reject {
@@ -49,7 +51,7 @@ fn begins(words: &Words, key: &[u8]) -> bool
 }
 
 /// The line that is due, as a word and a number for each state.
-#[tactic(auto, unfolding(crate::specs::Reading::line_at))]
+#[tactic(auto, unfolding(line_text::specs::Reading::line_at))]
 fn values_line<'t>(
     alloc: Global,
     cursor: &Cursor<'t>,
@@ -61,14 +63,20 @@ fn values_line<'t>(
     ensures size { IfOk result (λ x. length x.0.items ≡ length head.now.asked.model.states) }
 {
     let (line, behind) = cursor.due()?;
-    match values_of(alloc, &Words::of(line), key, head.model().states(), head.w()) {
+    match values_of(
+        alloc,
+        &Words::of(line),
+        key,
+        head.model().states(),
+        head.w(),
+    ) {
         Ok(values) => Ok((values, behind)),
         Err(cause) => Err(cursor.fault(cause)),
     }
 }
 
 /// The line that is due, as a word and a mark for each of the ends.
-#[tactic(auto, unfolding(crate::specs::Reading::line_at))]
+#[tactic(auto, unfolding(line_text::specs::Reading::line_at))]
 fn marks_line<'t>(
     alloc: Global,
     cursor: &Cursor<'t>,
@@ -87,7 +95,7 @@ fn marks_line<'t>(
 }
 
 /// The line that is due, as the first one of a rejecting leaf.
-#[tactic(auto, unfolding(crate::specs::Reading::line_at))]
+#[tactic(auto, unfolding(line_text::specs::Reading::line_at))]
 fn rejected_line<'t>(cursor: &Cursor<'t>) -> Result<(Rejected<'t>, Cursor<'t>), TextError>
     ensures value { Gives (λ x. (rejected_of x.0, x.1)) result (line_at reject_of cursor.now) }
     ensures e { IfOk result (λ x. x.0.e ≤ most_e) }
@@ -148,7 +156,7 @@ fn fits_leaf(head: &Head, rejected: &Rejected, y: &[i64], picks: &[u32], ranks: 
 }
 
 /// An unknown leaf, whose line is due.
-#[tactic(auto, unfolding(crate::specs::Nodes::unknown_at, crate::specs::Reading::line_at))]
+#[tactic(auto, unfolding(crate::specs::Nodes::unknown_at, line_text::specs::Reading::line_at))]
 fn unknown_at<'t>(cursor: &Cursor<'t>, head: &Head) -> Result<(Node, Cursor<'t>), TextError>
     ensures { Gives (λ x. (node_of head.now.asked.w x.0, x.1)) result (unknown_at cursor.now) }
 {
@@ -233,7 +241,11 @@ fn leaf(
     ranks: &[u32],
 ) -> Result<Node, AllocError>
     ensures { IfOk result (λ n. (w : ℕ) → node_of w n ≡ reject w (record {
-      numbers = y.now; picks = picks.now; ranks = ranks.now; e = rejected.now.e; k = rejected.now.k;
+      numbers = y.now;
+      picks = picks.now;
+      ranks = ranks.now;
+      e = rejected.now.e;
+      k = rejected.now.k;
     })) }
 {
     Ok(Node::Reject {

@@ -1,15 +1,11 @@
 // The first line of a rejecting leaf.
 ghost use Rattle.std.specs.Prelude.{◌≡◌, ◌≤◌, IfOk};
-ghost use Rattle.cert_text.specs.Words.{pair_of};
+ghost use Rattle.line_text.specs.Words.{pair_of};
 ghost use Rattle.cert_text.specs.Lines.{named, reject_of, most_e, most_k};
-ghost use Rattle.cert_text.specs.Shown.{Says};
+ghost use Rattle.line_text.specs.Shown.{Says};
 ghost use Rattle.cert_text.specs.Leaf.{rejected_of};
 
-use crate::cursor::len_before;
-use crate::decimal::Decimal;
-use crate::error::TextCause;
-use crate::numbers::between;
-use crate::words::Words;
+use line_text::{Decimal, TextCause, Words, between, len_before};
 
 /// What the first line of a rejecting leaf tells: its rate, and the number of the initial state as a
 /// fraction of two numbers.

@@ -1,5 +1,5 @@
 use Rattle.std.proofs.Common.{◌≡◌, ◌++◌, drop, Ok, None}
-use Rattle.cert_text.specs.Reading.{◌>>=◌}
+use Rattle.line_text.specs.Reading.{◌>>=◌}
 use Rattle.cert_text.specs.Lines.{goals_in}
 use Rattle.cert_text.proofs.head_lines.goals_in.Given as goal
 

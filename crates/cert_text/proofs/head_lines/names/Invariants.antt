@@ -1,6 +1,6 @@
 use Rattle.std.proofs.Common.{length, map}
 use Rattle.cert_text.specs.Lines.{name_of}
-use Rattle.cert_text.proofs.NumberLoop.{Goes}
+use Rattle.line_text.specs.Shown.{Goes}
 use Rattle.cert_text.proofs.head_lines.names.Given as goal
 
 abbrev pub invariant-loop-rest : goal.invariant-loop-rest

@@ -1,5 +1,5 @@
 use Rattle.std.proofs.Common.{◌≡◌, ◌++◌, drop, length, Ok}
-use Rattle.cert_text.specs.Reading.{◌>>=◌}
+use Rattle.line_text.specs.Reading.{◌>>=◌}
 use Rattle.cert_text.specs.Lines.{marks_in}
 use Rattle.cert_text.proofs.marks.marks_in.Given as goal
 

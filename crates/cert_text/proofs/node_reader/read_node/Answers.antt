@@ -1,4 +1,4 @@
-use Rattle.std.proofs.Common.{sym, subst, ap, ◌∙◌, drop, Ok}
+use Rattle.std.proofs.Common.{sym, ap, ◌∙◌}
 use Rattle.cert_text.specs.Nodes.{node_at}
 use Rattle.cert_text.specs.Leaf.{node_of}
 use Rattle.cert_text.proofs.Places.{node_left}

@@ -1,7 +1,0 @@
-use Rattle.std.proofs.Common.{◌∙◌, ap}
-use Rattle.cert_text.specs.Shown.{is_none_left}
-use Rattle.cert_text.proofs.WordsLeft.{none_left}
-use Rattle.cert_text.proofs.words.Words.is_empty.Goals as goal
-
-pub returns : goal.returns
-returns c = none_left c.self.inside.text.now c.self.inside.ended ∙ ap is_none_left c.self.view_is

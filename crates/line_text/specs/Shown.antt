@@ -1,0 +1,37 @@
+-- How what the code holds is seen, and what its functions answer.
+use Rattle.std.specs.Prelude.{◌≡◌, ◌≢◌, ℕ, ℤ, pos, neg_ℤ, Bool, true, false, List, [], ◌∷◌, ◌++◌, Option, Result, Ok, Err}
+use Rattle.line_text.specs.declared.error.TextCause.{TextCause}
+use Rattle.line_text.specs.declared.error.TextCause.TheVariants.{Memory}
+use Rattle.line_text.specs.declared.error.TextError.{TextError}
+use Rattle.line_text.specs.Words.{words}
+use Rattle.line_text.specs.Reading.{◌>>=◌}
+use Rattle.line_text.specs.Parts.{Words, Read, each}
+
+-- what a function answers, seen by view, is what is read there, unless memory ran out
+abbrev pub Gives : {X Y : Type 0} → (X → Y) → Result X TextError → Result Y TextError → Type 0
+Gives view (Ok x) read = read ≡ Ok (view x)
+Gives view (Err e) read = e.cause ≢ Memory → read ≡ Err e
+
+-- the same of what reads words
+abbrev pub Says : {X Y : Type 0} → (X → Y) → Result X TextCause → Read Y → Type 0
+Says view (Ok x) read = read ≡ Ok (view x)
+Says view (Err e) read = e ≢ Memory → read ≡ Err e
+
+-- the words of a text, or none behind its end
+abbrev pub words_left : List ℕ → Bool → Words
+words_left text true = []
+words_left text false = words text
+
+-- no word is left
+abbrev pub is_none_left : Words → Bool
+is_none_left [] = true
+is_none_left (w ∷ ws) = false
+
+-- a number, or the one of that size below 0
+abbrev pub signed : Bool → ℕ → ℤ
+signed true n = neg_ℤ (pos n)
+signed false n = pos n
+
+-- what all words write is what is done, and what those write that are left
+abbrev pub Goes : {A : Type 0} → (List ℕ → Option A) → Words → List A → Words → Type 0
+Goes of start done rest = each of start ≡ (each of rest >>= λ xs. Ok (done ++ xs))

@@ -1,0 +1,148 @@
+// Numbers that words write.
+ghost use Rattle.std.specs.Prelude.{◌≡◌, ◌%◌, ◌≤◌, ◌<◌, ◌^◌, length, pos, true, unsigned_abs, int_lt, IfSome, IfNone};
+ghost use Rattle.std.specs.List.{list_all};
+ghost use Rattle.std.specs.Option.{option_map};
+ghost use Rattle.std.specs.Char.{is_ascii_digit};
+ghost use Rattle.std.specs.Str.Parse.{digits_value};
+ghost use Rattle.line_text.specs.Words.{are_digits, natural_of, below_zero, number_of};
+
+/// How many digits a number has at most that isn't wide.
+const MOST_DIGITS: usize = 31;
+
+/// A number that a word writes, of any length.
+#[derive(Drop)]
+pub struct Decimal<'t> {
+    negative: bool,
+    digits: &'t [u8],
+}
+
+impl<'t> std::marker::Model for Decimal<'t> {
+    ghost use Rattle.std.specs.Prelude.{ℤ, ◌≡◌, true};
+    ghost use Rattle.std.specs.Str.Parse.{digits_value};
+    ghost use Rattle.line_text.specs.Words.{are_digits};
+    ghost use Rattle.line_text.specs.Shown.{signed};
+
+    ghost Value = { ℤ };
+
+    ghost view = { λ d. signed d.negative (digits_value 10 d.digits.now) };
+
+    ghost invariant = { λ d. are_digits d.digits.now ≡ true };
+}
+
+fn are_all_digits(word: &[u8]) -> bool
+    ensures { result ≡ list_all is_ascii_digit word.now }
+{
+    word.iter().all(|byte| byte.is_ascii_digit())
+}
+
+/// Whether the word is one digit, or several of which the first isn't 0.
+fn are_digits(word: &[u8]) -> bool
+    ensures { result ≡ are_digits word.now }
+{
+    match word {
+        [] => false,
+        [digit] => digit.is_ascii_digit(),
+        [first, ..] => *first != b'0' && are_all_digits(word),
+    }
+}
+
+/// The number that at most 31 digits write.
+fn digits_value(digits: &[u8]) -> u128
+    requires digits { list_all is_ascii_digit digits.now ≡ true }
+    requires short { length digits.now ≤ 31 }
+    ensures value { result ≡ digits_value 10 digits.now }
+    ensures small { result < 10 ^ 31 }
+{
+    let mut number = 0;
+    for digit in digits {
+        number = number * 10 + u128::from(*digit - b'0');
+    }
+    number
+}
+
+/// What the number that digits write leaves at a division.
+fn digits_remainder(digits: &[u8], by: u32) -> u32
+    requires digits { list_all is_ascii_digit digits.now ≡ true }
+    requires by { 0 < by }
+    ensures { result ≡ digits_value 10 digits.now % by }
+{
+    let mut rest: u64 = 0;
+    for digit in digits {
+        rest = (rest * 10 + u64::from(*digit - b'0')) % u64::from(by);
+    }
+    rest as u32
+}
+
+impl<'t> Decimal<'t> {
+    /// The number from 0 on that digits write; none where they write none.
+    fn natural(digits: &'t [u8]) -> Option<Self>
+        ensures { result ≡ option_map pos (natural_of digits.now) }
+    {
+        if are_digits(digits) {
+            Some(Decimal {
+                negative: false,
+                digits,
+            })
+        } else {
+            None
+        }
+    }
+
+    /// The number below 0 of a size that digits write; none where they write none, and for 0.
+    fn below_zero(digits: &'t [u8]) -> Option<Self>
+        ensures { result ≡ below_zero (natural_of digits.now) }
+    {
+        if digits == b"0".as_slice() {
+            return None;
+        }
+        if are_digits(digits) {
+            Some(Decimal {
+                negative: true,
+                digits,
+            })
+        } else {
+            None
+        }
+    }
+
+    /// The number that a word writes; none where it writes none.
+    pub fn read(word: &'t [u8]) -> Option<Self>
+        ensures { result ≡ number_of word.now }
+    {
+        match word {
+            [] => None,
+            [b'-', digits @ ..] => Decimal::below_zero(digits),
+            _ => Decimal::natural(word),
+        }
+    }
+
+    /// Whether it is below 0.
+    pub fn is_below_zero(&self) -> bool
+        ensures { result ≡ int_lt self.now (pos 0) }
+    {
+        match self.narrow() {
+            Some(n) => n < 0,
+            None => self.negative,
+        }
+    }
+
+    /// The number, unless it is wide.
+    pub fn narrow(&self) -> Option<i128>
+        ensures some { IfSome result (λ n. n ≡ self.now) }
+        ensures none { IfNone result (2 ^ 100 ≤ unsigned_abs self.now) }
+    {
+        if self.digits.len() > MOST_DIGITS {
+            return None;
+        }
+        let size = digits_value(self.digits) as i128;
+        Some(if self.negative { -size } else { size })
+    }
+
+    /// What the number's size leaves at a division.
+    pub fn remainder(&self, by: u32) -> u32
+        requires { 0 < by }
+        ensures { result ≡ unsigned_abs self.now % by }
+    {
+        digits_remainder(self.digits, by)
+    }
+}
