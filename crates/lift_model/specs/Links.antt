@@ -48,7 +48,7 @@ pub record AreBefore (m : ModelData) (s : ℕ) (before : List ℕ) : Type 0 wher
 
 -- ---- the blocks of a table
 
--- A table has a block of weights for each of these rows, in this order. They are the first ones with their polynomials, and a block serves all rows with the same ones.
+-- A table has a block of weights for each of these rows, in this order. A block serves only rows with the same polynomials, entry for entry.
 abbrev pub Firsts : Type 0
 Firsts = List FirstRow
 

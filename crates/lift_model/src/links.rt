@@ -121,8 +121,8 @@ impl Links {
         &self.rows[self.row_starts[s as usize]..self.row_starts[s as usize + 1]]
     }
 
-    /// The place of a row's first corner weight in a table. Rows with the same polynomials, entry for
-    /// entry, share their weights.
+    /// The place of a row's first corner weight in a table. Only rows with the same polynomials, entry
+    /// for entry, share a place.
     pub fn weight_place(&self, s: u32, a: u32) -> usize
         requires state { s < state_count self.now }
         requires choice { a < choice_count self.now s }
