@@ -1,5 +1,5 @@
 -- Reading a row's weights from a table.
-use Rattle.std.proofs.Common.{◌≡◌, ℕ, zero, suc, ◌+◌, ◌*◌, ◌^◌, ◌<◌, ◌≤◌, List, [], ◌∷◌, ◌++◌, length, map, take, drop, get_or, ℤ, pos, ◌*ℤ◌, ◌≤ℤ◌, ◌<ℤ◌, unsigned_abs, count_ones, refl, sym, ap, ap₂, subst, ◌∙◌, arith, ◌⊎◌, ⊎_elim, All, length-append, mul-le-mul_left, bit_or, Bool, true, false, cond, nat_lt}
+use Rattle.std.proofs.Common.{◌≡◌, ◌==◌, ℕ, zero, suc, ◌+◌, ◌*◌, ◌^◌, ◌<◌, ◌≤◌, List, [], ◌∷◌, ◌++◌, length, map, take, drop, get_or, ℤ, pos, ◌*ℤ◌, ◌≤ℤ◌, ◌<ℤ◌, unsigned_abs, count_ones, refl, sym, ap, ap₂, subst, ◌∙◌, arith, ◌⊎◌, ⊎_elim, All, length-append, mul-le-mul_left, bit_or, Bool, true, false, cond, nat_lt}
 use Rattle.std.proofs.lemmas.List.{take_all, take-append-drop}
 use Rattle.std.proofs.Math.Seq.{take-append_seam}
 use Rattle.std.proofs.lemmas.List.Elements.{All-map}
@@ -20,7 +20,7 @@ use Rattle.corner_lift.specs.Certificate.{AreNumbers, ranked_below}
 use Rattle.corner_lift.specs.Case.{CaseData, IsCase, IsRowOf, IsInside, AreSidesInside, Within, BoundsAbove, BoundsBelow, IsGreatest, IsLeast, number, corner_count, row_value, row_whole, row_parameters, engine_limit}
 use Rattle.corner_lift.specs.Premises.{Premises}
 use Rattle.corner_lift.specs.Table.{corner_weights, first_corners, block, blocks, CanRead}
-use Rattle.corner_lift.specs.Dot.{dot, total, corner_part, CanSum, CanCompare}
+use Rattle.corner_lift.specs.Dot.{dot, total, corner_part, only_at, CanSum, CanCompare}
 use Rattle.corner_lift.proofs.CornerBound.{mul-pos_lem}
 use Rattle.corner_lift.proofs.RowBound.{power-pos}
 use Rattle.corner_lift.proofs.Rows.{number_range}
@@ -234,13 +234,16 @@ module _ (laws : Premises) (k : CaseData) (l : LinksData) (spans : Spans) (weigh
   pub targets_inside : (n : ℕ) → n ≡ length k.model.states → All (λ t. t < n) (targets_of row)
   targets_inside n size = All-map (λ t. t < n) (λ (entry : Entry). entry.target) row (λ i d lt. let entry = of.valid.entries i d lt in omega (arith, entry.target, size))
 
-  -- ranks below a number count as 1, and others as 0
+  -- what is counted counts as 1, and the rest as 0
+  count_range : (b : Bool) → (pos 0 ≤ℤ cond b (pos 1) (pos 0)) × (cond b (pos 1) (pos 0) ≤ℤ pos 1)
+  count_range true = (omega (arith, linear), omega (arith, linear))
+  count_range false = (omega (arith, linear), omega (arith, linear))
+
   pub can_count : (c : ℕ) → c < corner_count k s a → (rank : ℕ → ℕ) (below : ℕ) → CanSum (ranked_below rank below) (corner_part weights place c) (targets_of row)
-  can_count c lt rank below = can_sum c lt (ranked_below rank below) 1 (pow_pos k.w) (λ t. by_test (nat_lt (rank t) below))
-    where
-      by_test : (b : Bool) → (pos 0 ≤ℤ cond b (pos 1) (pos 0)) × (cond b (pos 1) (pos 0) ≤ℤ pos 1)
-      by_test true = (omega (arith, linear), omega (arith, linear))
-      by_test false = (omega (arith, linear), omega (arith, linear))
+  can_count c lt rank below = can_sum c lt (ranked_below rank below) 1 (pow_pos k.w) (λ t. count_range (nat_lt (rank t) below))
+
+  pub can_count_only : (c : ℕ) → c < corner_count k s a → (u : ℕ) → CanSum (only_at u) (corner_part weights place c) (targets_of row)
+  can_count_only c lt u = can_sum c lt (only_at u) 1 (pow_pos k.w) (λ t. count_range (t == u))
 
   -- ---- the whole
 

@@ -1,5 +1,5 @@
 -- Sums over weights as a table has them, and what keeps them within 128 bits.
-use Rattle.std.specs.Prelude.{◌≡◌, ℕ, ◌+◌, ◌*◌, ◌<◌, ◌≤◌, List, [], ◌∷◌, length, take, drop, All, ℤ, pos, ◌+ℤ◌, ◌*ℤ◌, ◌≤ℤ◌, ◌<ℤ◌}
+use Rattle.std.specs.Prelude.{◌≡◌, ◌==◌, if◌then◌else◌, ℕ, ◌+◌, ◌*◌, ◌<◌, ◌≤◌, List, [], ◌∷◌, length, take, drop, All, ℤ, pos, ◌+ℤ◌, ◌*ℤ◌, ◌≤ℤ◌, ◌<ℤ◌}
 use Rattle.lift_model.specs.declared.layout.RowPlace.{RowPlace}
 use Rattle.corner_lift.specs.Case.{engine_limit}
 
@@ -8,6 +8,10 @@ abbrev pub dot : (ℕ → ℤ) → List ℤ → List ℕ → ℤ
 dot number [] targets = pos 0
 dot number (weight ∷ weights) [] = pos 0
 dot number (weight ∷ weights) (target ∷ targets) = weight *ℤ number target +ℤ dot number weights targets
+
+-- 1 for the state, and 0 for any other
+abbrev pub only_at : ℕ → ℕ → ℤ
+only_at s t = if t == s then pos 1 else pos 0
 
 -- the sum of the weights
 abbrev pub total : List ℤ → ℤ

@@ -9,7 +9,7 @@ ghost use Rattle.corner_lift.specs.Certificate.{AreNumbers, mark, ranked_below};
 ghost use Rattle.corner_lift.specs.Case.{number, IsCase, IsRowOf, AreSidesInside, IsGreatest, IsLeast, BoundsAbove, BoundsBelow, row_value, row_whole, corner_count, abs_sum, engine_limit, most_row_parameters};
 ghost use Rattle.corner_lift.specs.Ends.{weight_at, greatest_end};
 ghost use Rattle.corner_lift.specs.Table.{block, IsTable, CanRead};
-ghost use Rattle.corner_lift.specs.Dot.{dot, total, corner_part, CanSum, CanCompare};
+ghost use Rattle.corner_lift.specs.Dot.{dot, total, corner_part, only_at, CanSum, CanCompare};
 
 use crate::case::Case;
 use crate::ends::Ends;
@@ -128,6 +128,18 @@ fn sum_below(weights: &[i128], targets: &[u32], ranks: &[u32], below: u32) -> i1
     let mut sum = 0;
     for j in 0..targets.len() {
         sum += counted(weights[j], ranks[targets[j] as usize] < below);
+    }
+    sum
+}
+
+/// The sum of the weights whose target is `s`.
+fn sum_at(weights: &[i128], targets: &[u32], s: u32) -> i128
+    requires { CanSum (only_at s) weights.now targets.now }
+    ensures { result ≡ dot (only_at s) weights.now targets.now }
+{
+    let mut sum = 0;
+    for j in 0..targets.len() {
+        sum += counted(weights[j], targets[j] == s);
     }
     sum
 }
@@ -263,4 +275,27 @@ pub fn table_whole(case: &Case, links: &Links, weights: &[i128], s: u32, a: u32)
     premises();
     let _ = case.w();
     total_of(corner_of(weights, links.place(s, a), 0))
+}
+
+/// What a row weighs at a corner into the state that has it: the weight of its self loop. No
+/// multiplication.
+pub fn table_loop(
+    case: &Case,
+    links: &Links,
+    weights: &[i128],
+    s: u32,
+    a: u32,
+    corner: u32,
+) -> i128
+    ghost spans: { Spans }
+    requires { CanRead case.now links.now spans weights.now s a × (corner < corner_count case.now s a) }
+    ensures { result ≡ corner_sum case.now.d spans (row_at case.now.model s a) corner (only_at s) }
+{
+    let _ = case.w();
+    let place = links.place(s, a);
+    sum_at(
+        corner_of(weights, place, corner as usize),
+        links.targets(place),
+        s,
+    )
 }
