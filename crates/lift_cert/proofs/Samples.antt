@@ -1,15 +1,17 @@
--- A certificate worked by hand: a state with two choices, of which one leads to the goal with p and the other with 1 - p.
+-- Certificates worked by hand: a state with two choices, of which one leads to the goal with p and the other with 1 - p.
 use Rattle.std.proofs.Common.{◌≡◌, ℕ, zero, suc, ◌^◌, true, false, List, [], ◌∷◌, All, ℤ, pos, negsuc, ◌≤ℤ◌, refl, arith}
 use Rattle.std.proofs.lemmas.List.Elements.{All-cons, All-nil}
 use Rattle.lift_poly.specs.Polynomial.{Term}
 use Rattle.lift_grid.specs.Rectangle.{Spans}
+use Rattle.lift_grid.specs.Tree.{RejectData}
 use Rattle.lift_model.specs.declared.kind.Kind.TheVariants.{Mdp}
 use Rattle.lift_model.specs.declared.entry.Entry.{Entry}
 use Rattle.lift_model.specs.Model.{ModelData, is_goal, choices}
 use Rattle.corner_lift.specs.Corner.{corner_sum, whole}
 use Rattle.corner_lift.specs.Case.{CaseData, number}
-use Rattle.corner_lift.specs.Certificate.{MeansAtMost}
+use Rattle.corner_lift.specs.Certificate.{MeansAtMost, unmarked}
 use Rattle.lift_cert.specs.Certificate.{IsAccepting}
+use Rattle.lift_cert.specs.Reached.{Follows, IsReachedAt}
 
 -- the polynomials p, 1 - p and 1
 abbrev heads : List Term
@@ -109,3 +111,23 @@ twin_accepts = record {
   where
     within : ℤ → Type 0
     within n = (pos 0 ≤ℤ n) × (n ≤ℤ pos 16)
+
+-- ---- what a rejecting certificate says, in numbers
+
+-- 9, 16, 0 with the toss picked, at rate 2 ^ -1 and height 1
+abbrev rejection : RejectData
+rejection = record { numbers = pos 9 ∷ pos 16 ∷ pos 0 ∷ []; picks = 0 ∷ unmarked ∷ unmarked ∷ []; ranks = 1 ∷ 0 ∷ unmarked ∷ []; e = 1; k = 1 }
+
+toss_follows : Follows twin rejection.picks (λ s. 0)
+toss_follows zero lt = refl
+toss_follows (suc zero) lt = absurd (omega arith)
+toss_follows (suc (suc zero)) lt = absurd (omega arith)
+toss_follows (suc (suc (suc s))) lt = absurd (omega arith)
+
+-- At p = 3/5 and for one block of one step: 9 times 2 times 5 is at most 16 times the sum of 2 times 3, as 3 of 5 reach the goal, and 1 times 5.
+rejection_says : IsReachedAt twin ((pos 3, pos 5) ∷ []) 4 rejection → pos 90 ≤ℤ pos 176
+rejection_says reached = reached (λ s. 0) 1 toss_follows
+
+-- and for two blocks, where nothing is left undecided: 9 times 4 times 25 is at most 16 times the sum of 4 times 15 and 1 times 25
+rejection_says_more : IsReachedAt twin ((pos 3, pos 5) ∷ []) 4 rejection → pos 900 ≤ℤ pos 1360
+rejection_says_more reached = reached (λ s. 0) 2 toss_follows

@@ -5,3 +5,6 @@ pub mod Stuck
 pub mod Guess
 pub mod Frontier
 pub mod Attract
+pub mod Heights
+pub mod Renumbering
+mod Samples

@@ -17,6 +17,7 @@ ghost use Rattle.lower_cert.specs.Laws.{
   FrontierLeads,
   GapLeads,
 };
+ghost use Rattle.lower_cert.specs.AnyRanks.{RanksFit, HeightFits};
 ghost use Rattle.lower_cert.specs.Attracting.{StartIsStaged, NextIsStaged, EmptyStageEnds, StagesOfTest};
 
 use corner_lift::{corners_bound_weights, rows_at_corners};
@@ -56,3 +57,10 @@ pub fn ranks_go_by_stages()
     corners_bound_weights();
     rows_at_corners();
 }
+
+/// Ranks stay below the number of states, and no lower vector is left out by it: one with any ranks has
+/// one with such ranks, for the same numbers and rate; and so has the greatest one.
+pub fn ranks_fit()
+    ensures any { RanksFit }
+    ensures greatest { HeightFits }
+{}

@@ -1,0 +1,60 @@
+-- A loop worked by hand: from state 0 to the goal with p / 2, back to itself with 1 / 2, and else to a sink.
+use Rattle.std.proofs.Common.{◌≡◌, ℕ, true, false, Bool, List, [], ◌∷◌, ℤ, pos, negsuc, refl, inl, ◌==◌, if◌then◌else◌}
+use Rattle.lift_grid.specs.Rectangle.{Spans}
+use Rattle.lift_model.specs.declared.kind.Kind.TheVariants.{Dtmc}
+use Rattle.lift_model.specs.declared.entry.Entry.{Entry}
+use Rattle.lift_model.specs.Model.{ModelData}
+use Rattle.corner_lift.specs.Corner.{corner_sum, whole}
+use Rattle.corner_lift.specs.Case.{CaseData}
+use Rattle.lower_cert.specs.Capping.{into, out, beyond, filled, CapsAt}
+
+abbrev loop_row : List Entry
+loop_row = record { target = 0; poly = (0, pos 1) ∷ [] } ∷ record { target = 1; poly = (1, pos 1) ∷ [] } ∷ record { target = 2; poly = (0, pos 1) ∷ (1, negsuc 0) ∷ [] } ∷ []
+
+abbrev loop : ModelData
+loop = record {
+  kind = Dtmc;
+  common = pos 2;
+  names = (112 ∷ []) ∷ [];
+  goal = false ∷ true ∷ false ∷ [];
+  init = 0;
+  states = (loop_row ∷ []) ∷ (loop_row ∷ []) ∷ (loop_row ∷ []) ∷ [];
+}
+
+-- p from 1/5 to 2/5
+abbrev sides : Spans
+sides = (pos 1, pos 2) ∷ []
+
+abbrev case : CaseData
+case = record { model = loop; root = sides; d = pos 5; depth = 0; w = 4 }
+
+-- 16 everywhere but 0 in the sink, and the set of state 0 alone
+abbrev start : ℕ → ℤ
+start s = if s == 2 then pos 0 else pos 16
+
+abbrev self : ℕ → Bool
+self s = s == 0
+
+-- at p = 1/5 the weights are 5, 1 and 4 of 10: with 4 in state 0 the sum is 5 * 4 + 1 * 16, less than 4 * 10
+loop_sum : corner_sum (pos 5) sides loop_row 0 (filled self (pos 4) start) ≡ pos 36
+loop_sum = refl
+
+loop_whole : whole loop (pos 5) sides loop_row ≡ pos 10
+loop_whole = refl
+
+loop_capped : CapsAt case sides self start (pos 4) loop_row 0
+loop_capped = inl (record { lt = tt })
+
+-- with 3 it isn't: 5 * 3 + 1 * 16 is more than 3 * 10
+loop_held : corner_sum (pos 5) sides loop_row 0 (filled self (pos 3) start) ≡ pos 31
+loop_held = refl
+
+-- 1 and 4 of 10 leave the set, and 16 comes from beyond it
+loop_leaves : corner_sum (pos 5) sides loop_row 0 (out self) ≡ pos 5
+loop_leaves = refl
+
+loop_stays : corner_sum (pos 5) sides loop_row 0 (into self) ≡ pos 5
+loop_stays = refl
+
+loop_beyond : corner_sum (pos 5) sides loop_row 0 (beyond self start) ≡ pos 16
+loop_beyond = refl
