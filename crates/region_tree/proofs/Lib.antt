@@ -1,0 +1,3 @@
+pub mod Unique
+pub mod Depths
+pub mod Tiling

@@ -1,0 +1,7 @@
+//! The tree of a region: which rectangles are decided and which are halved, and the room for a walk
+//! over it.
+#![tactic(auto)]
+
+mod laws;
+
+pub use laws::{certificates_are_one, rectangles_at_depths, right_trees_are_one, right_trees_tile};
