@@ -1,6 +1,6 @@
 -- What holds of right trees, for who reasons about them.
-use Rattle.std.specs.Prelude.{◌≡◌, ℕ, ◌+◌, ◌<◌, List, ℤ, map}
-use Rattle.lift_grid.specs.Rectangle.{Spans}
+use Rattle.std.specs.Prelude.{◌≡◌, ℕ, ◌+◌, ◌<◌, Bool, List, ℤ, map}
+use Rattle.lift_grid.specs.Rectangle.{Spans, spans_of}
 use Rattle.lift_grid.specs.Splitting.{IsSplitAxis}
 use Rattle.lift_grid.specs.Tree.{Tree, RejectData, Tiles, leaves, lower_half, upper_half}
 use Rattle.lift_model.specs.Model.{live}
@@ -8,7 +8,9 @@ use Rattle.corner_lift.specs.Case.{CaseData, IsCase, IsInside, greatest_depth}
 use Rattle.corner_lift.specs.Certificate.{IsLeastUpper}
 use Rattle.corner_lift.specs.Stages.{IsGreatestLower}
 use Rattle.lift_cert.specs.declared.bound.Bound.{Bound}
+use Rattle.lift_model.specs.Links.{LinksData}
 use Rattle.region_tree.specs.Right.{IsRightTree, IsAtDepth}
+use Rattle.region_tree.specs.Rooms.{RoomData, IsMadeFor, IsPlaced, StepsDown, last_sides, room_at_root}
 
 -- a case has at most one right tree for a bound
 abbrev pub RightTreesAreOne : Type 0
@@ -38,3 +40,14 @@ RootIsAtDepth = (k : CaseData) → IsCase k → IsAtDepth k 0 k.root
 abbrev pub HalvesAreDeeper : Type 0
 HalvesAreDeeper = (k : CaseData) (spans : Spans) (depth axis : ℕ) → IsCase k → IsAtDepth k depth spans → depth < greatest_depth k → IsSplitAxis (live k.model) spans axis
     → IsAtDepth k (depth + 1) (lower_half axis spans) × IsAtDepth k (depth + 1) (upper_half axis spans)
+
+-- ---- rooms
+
+-- a room that is made for a case, with the root's sides in its lane of sides, stands at depth 0
+abbrev pub WalksBeginAtRoot : Type 0
+WalksBeginAtRoot = (k : CaseData) (l : LinksData) (room : RoomData) → IsCase k → IsMadeFor k l room → IsPlaced k 0 (room_at_root k room)
+
+-- while a halving is left, a walk can step down to both halves on the axis of the split rule
+abbrev pub WalksStepDown : Type 0
+WalksStepDown = (k : CaseData) (room : RoomData) (depth axis : ℕ) (lower : Bool) → IsCase k → IsPlaced k depth room → depth < greatest_depth k → IsSplitAxis (live k.model) (spans_of (last_sides room)) axis
+    → StepsDown k depth axis lower room

@@ -8,10 +8,13 @@ ghost use Rattle.region_tree.specs.Laws.{
   RightTreesTile,
   RootIsAtDepth,
   SplitAxesAreOne,
+  WalksBeginAtRoot,
+  WalksStepDown,
 };
 
 use corner_lift::{halves_are_inside, live_parameters_have_spans, rows_at_corners, rows_inside};
-use lift_grid::{halves_stay_on_grid, halves_tile};
+use lift_grid::{halves_stay_on_grid, halves_tile, rows_are_rectangles};
+use lift_pool::lanes_stand_alone;
 
 /// What a decided leaf holds and where a rectangle is halved is one: a rectangle has at most one least
 /// upper vector, at most one greatest lower vector with its ranks, picks, e and k, and at most one axis
@@ -51,4 +54,17 @@ pub fn right_trees_tile()
     halves_are_inside();
     halves_tile();
     live_parameters_have_spans();
+}
+
+/// A walk begins at the root in a room that is made for the case, and steps down to both halves of a
+/// rectangle while a halving is left.
+pub fn walks_are_placed()
+    ensures root { WalksBeginAtRoot }
+    ensures down { WalksStepDown }
+{
+    rectangles_at_depths();
+    halves_stay_on_grid();
+    live_parameters_have_spans();
+    rows_are_rectangles();
+    lanes_stand_alone::<i64>();
 }

@@ -2,6 +2,16 @@
 //! over it.
 #![tactic(auto)]
 
+mod halves;
 mod laws;
+mod room;
+mod verdict;
+mod visitor;
 
-pub use laws::{certificates_are_one, rectangles_at_depths, right_trees_are_one, right_trees_tile};
+pub use laws::{
+    certificates_are_one, rectangles_at_depths, right_trees_are_one, right_trees_tile,
+    walks_are_placed,
+};
+pub use room::Room;
+pub use verdict::Verdict;
+pub use visitor::{Seen, Visitor};
