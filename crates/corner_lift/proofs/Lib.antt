@@ -11,3 +11,4 @@ pub mod HalvesInside
 pub mod Sums
 pub mod Filling
 pub mod Reading
+pub mod LiveSpans

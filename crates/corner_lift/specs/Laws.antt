@@ -6,7 +6,7 @@ use Rattle.lift_grid.specs.Splitting.{HasHalvings}
 use Rattle.lift_grid.specs.Tree.{lower_half, upper_half}
 use Rattle.lift_model.specs.declared.entry.Entry.{Entry}
 use Rattle.lift_model.specs.Process.{power, weighted_sum}
-use Rattle.lift_model.specs.Model.{ModelData, support, choices, row_at, moves_at, process_at}
+use Rattle.lift_model.specs.Model.{ModelData, support, choices, live, row_at, moves_at, process_at}
 use Rattle.corner_lift.specs.Corner.{AtCorners, corner, parameter_count, corner_weight, corner_sum, no_entry}
 use Rattle.corner_lift.specs.Case.{CaseData, IsAsked, IsCase, IsInside, Within, SumsToOne, row_parameters, row_whole, number}
 use Rattle.corner_lift.specs.Certificate.{AreNumbers, MeansAtMost, MeansAtLeast}
@@ -95,3 +95,7 @@ RootIsInside = (k : CaseData) → IsCase k → IsInside k.root k.root
 abbrev pub HalvesAreInside : Type 0
 HalvesAreInside = (root spans : Spans) (n axis : ℕ) → IsInside root spans → HasHalvings (n + 1) spans → axis < length spans
     → IsInside root (lower_half axis spans) × IsInside root (upper_half axis spans)
+
+-- a live parameter has a span in each rectangle inside the root
+abbrev pub LiveHasSpan : Type 0
+LiveHasSpan = (k : CaseData) (spans : Spans) (i : ℕ) → IsCase k → IsInside k.root spans → IsBitSet (live k.model) i → i < length spans

@@ -16,10 +16,11 @@ ghost use Rattle.corner_lift.specs.Laws.{
   MeansAtLeastInside,
   RootIsInside,
   HalvesAreInside,
+  LiveHasSpan,
 };
 ghost use Rattle.corner_lift.specs.Premises.{Premises};
 
-use lift_grid::halves_stay_on_grid;
+use lift_grid::{halves_stay_on_grid, members_are_below};
 use lift_model::weighted_sums_follow;
 use lift_poly::weights_follow;
 
@@ -67,6 +68,13 @@ pub fn halves_are_inside()
     ensures { HalvesAreInside }
 {
     halves_stay_on_grid();
+}
+
+/// A live parameter has a span in each rectangle inside the root.
+pub fn live_parameters_have_spans()
+    ensures { LiveHasSpan }
+{
+    members_are_below();
 }
 
 /// Holds the laws of the crates below that rows at corners rest on. It does nothing.

@@ -10,7 +10,10 @@ mod table;
 mod weighted;
 
 pub use case::Case;
-pub use laws::{corners_bound_weights, halves_are_inside, rows_at_corners, rows_inside};
+pub use laws::{
+    corners_bound_weights, halves_are_inside, live_parameters_have_spans, rows_at_corners,
+    rows_inside,
+};
 pub use precision::one_at;
 pub use row::{raw_weight, row_max, row_min, row_value, weight_into, whole};
 pub use table::{fill, table_into, table_loop, table_max, table_min, table_value, table_whole};

@@ -1,0 +1,56 @@
+-- Pools of one lane, and how long a rectangle's row of ends is.
+use Rattle.std.proofs.Common.{◌≡◌, ℕ, suc, ◌+◌, ◌-◌, ◌*◌, ◌^◌, ◌<◌, ◌≤◌, ◌==◌, Bool, true, false, cond, List, [], ◌∷◌, length, map, get_or, set, replicate, refl, sym, ap, ◌∙◌, arith, mul-le-mul}
+use Rattle.std.proofs.lemmas.List.{length-replicate}
+use Rattle.lift_pool.specs.Lanes.{PoolData, pool_written}
+use Rattle.lift_pool.specs.Laws.{WritesOneLane}
+use Rattle.lift_grid.specs.Rectangle.{Spans, sides_of}
+use Rattle.lift_model.specs.Model.{live}
+use Rattle.corner_lift.specs.Case.{CaseData, IsCase, greatest_depth}
+use Rattle.region_tree.specs.Rooms.{HasLane, end_count}
+
+pub length-sides : (ss : Spans) → length (sides_of ss) ≡ 2 * length ss
+length-sides [] = refl
+length-sides (s ∷ ss) = omega (arith, length-sides ss)
+
+-- the root's row has two ends for each parameter
+pub root_ends : (k : CaseData) → IsCase k → length (sides_of k.root) ≡ end_count k
+root_ends k is = length-sides k.root ∙ ap (λ n. 2 * n) is.asked.grid.one_each
+
+module _ {T : Type 0} where
+  pub lane_filled : (p : PoolData T) (n : ℕ) (fill : T) → p.lanes ≡ replicate n fill ∷ [] → HasLane p n
+  lane_filled p n fill e = ap (λ lanes. map length lanes) e ∙ ap (λ m. m ∷ []) (length-replicate n fill)
+
+  pub one_of : (lanes : List (List T)) (n : ℕ) → map length lanes ≡ n ∷ [] → (0 < length lanes) × (length (get_or lanes 0 []) ≡ n)
+  one_of [] n e = absurd (let size : 0 ≡ 1 = ap length e in omega arith)
+  one_of (a ∷ []) n e = (omega arith, ap (λ l. get_or l 0 0) e)
+  one_of (a ∷ b ∷ lanes) n e = absurd (let size : suc (suc (length (map length lanes))) ≡ 1 = ap length e in omega (arith, size))
+
+  set_one : (lanes : List (List T)) (n : ℕ) (w : List T) → map length lanes ≡ n ∷ [] → set lanes 0 w ≡ w ∷ []
+  set_one [] n w e = absurd (let size : 0 ≡ 1 = ap length e in omega arith)
+  set_one (a ∷ []) n w e = refl
+  set_one (a ∷ b ∷ lanes) n w e = absurd (let size : suc (suc (length (map length lanes))) ≡ 1 = ap length e in omega (arith, size))
+
+  -- a pool's one lane, written over
+  pub written_one : WritesOneLane T → (p : PoolData T) (n : ℕ) (w : List T) → HasLane p n → length w ≡ n → pool_written p 0 w ≡ record p { lanes = w ∷ [] }
+  written_one writes p n w has size =
+      let one = one_of p.lanes n has in
+      writes p 0 w one.0 (size ∙ sym one.1)
+      ∙ ap (λ (lanes : List (List T)). let q : PoolData T = record p { lanes = lanes } in q) (set_one p.lanes n w has)
+
+-- ---- sizes
+
+by_bool : (P : Bool → Type 0) (b : Bool) → P true → P false → P b
+by_bool P true x y = x
+by_bool P false x y = y
+
+pub few_depths : (k : CaseData) → IsCase k → greatest_depth k ≤ 20
+few_depths k is = by_bool (λ b. cond b 0 k.depth ≤ 20) (live k.model == 0) (omega arith) is.asked.depth
+
+pub few_words : (depths len : ℕ) → depths ≤ 20 → len ≤ 32 → (depths + 1) * len < 2 ^ 64
+few_words depths len a b =
+    let more : depths + 1 ≤ 21 = omega (arith, a) in
+    let words : (depths + 1) * len ≤ 21 * 32 = mul-le-mul more b in
+    omega (arith, words)
+
+pub words_left : (depths len n spare : ℕ) → len ≡ n → (depths + 1) * len ≤ spare → depths * n ≤ spare - len
+words_left depths len n spare e h = rw (sym e) (let all : (depths + 1) * len ≡ depths * len + len = omega arith in omega (arith, all, h))

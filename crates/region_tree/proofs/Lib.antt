@@ -1,0 +1,5 @@
+pub mod Unique
+pub mod Depths
+pub mod Tiling
+pub mod Lanes
+pub mod Stepping

@@ -1,0 +1,53 @@
+-- What holds of right trees, for who reasons about them.
+use Rattle.std.specs.Prelude.{◌≡◌, ℕ, ◌+◌, ◌<◌, Bool, List, ℤ, map}
+use Rattle.lift_grid.specs.Rectangle.{Spans, spans_of}
+use Rattle.lift_grid.specs.Splitting.{IsSplitAxis}
+use Rattle.lift_grid.specs.Tree.{Tree, RejectData, Tiles, leaves, lower_half, upper_half}
+use Rattle.lift_model.specs.Model.{live}
+use Rattle.corner_lift.specs.Case.{CaseData, IsCase, IsInside, greatest_depth}
+use Rattle.corner_lift.specs.Certificate.{IsLeastUpper}
+use Rattle.corner_lift.specs.Stages.{IsGreatestLower}
+use Rattle.lift_cert.specs.declared.bound.Bound.{Bound}
+use Rattle.lift_model.specs.Links.{LinksData}
+use Rattle.region_tree.specs.Right.{IsRightTree, IsAtDepth}
+use Rattle.region_tree.specs.Rooms.{RoomData, IsMadeFor, IsPlaced, StepsDown, last_sides, room_at_root}
+
+-- a case has at most one right tree for a bound
+abbrev pub RightTreesAreOne : Type 0
+RightTreesAreOne = (k : CaseData) (bound : Bound) (tree other : Tree) → IsCase k → IsRightTree k bound tree → IsRightTree k bound other → tree ≡ other
+
+-- a rectangle has at most one least upper vector
+abbrev pub LeastUppersAreOne : Type 0
+LeastUppersAreOne = (k : CaseData) (spans : Spans) (x y : List ℤ) → IsLeastUpper k spans x → IsLeastUpper k spans y → x ≡ y
+
+-- a rectangle inside the root has at most one greatest lower vector, with one list of ranks, one of picks, one e and one k
+abbrev pub GreatestLowersAreOne : Type 0
+GreatestLowersAreOne = (k : CaseData) (spans : Spans) (r q : RejectData) → IsCase k → IsInside k.root spans → IsGreatestLower k spans r → IsGreatestLower k spans q → r ≡ q
+
+-- the split rule chooses at most one axis
+abbrev pub SplitAxesAreOne : Type 0
+SplitAxesAreOne = (live : ℕ) (spans : Spans) (i j : ℕ) → IsSplitAxis live spans i → IsSplitAxis live spans j → i ≡ j
+
+-- the leaves of a right tree tile the root
+abbrev pub RightTreesTile : Type 0
+RightTreesTile = (k : CaseData) (bound : Bound) (tree : Tree) → IsCase k → IsRightTree k bound tree → Tiles k.d k.root (map (λ leaf. leaf.spans) (leaves k.root 0 tree))
+
+-- the root stands at depth 0
+abbrev pub RootIsAtDepth : Type 0
+RootIsAtDepth = (k : CaseData) → IsCase k → IsAtDepth k 0 k.root
+
+-- while a halving is left, both halves on the axis of the split rule stand one deeper
+abbrev pub HalvesAreDeeper : Type 0
+HalvesAreDeeper = (k : CaseData) (spans : Spans) (depth axis : ℕ) → IsCase k → IsAtDepth k depth spans → depth < greatest_depth k → IsSplitAxis (live k.model) spans axis
+    → IsAtDepth k (depth + 1) (lower_half axis spans) × IsAtDepth k (depth + 1) (upper_half axis spans)
+
+-- ---- rooms
+
+-- a room that is made for a case, with the root's sides in its lane of sides, stands at depth 0
+abbrev pub WalksBeginAtRoot : Type 0
+WalksBeginAtRoot = (k : CaseData) (l : LinksData) (room : RoomData) → IsCase k → IsMadeFor k l room → IsPlaced k 0 (room_at_root k room)
+
+-- while a halving is left, a walk can step down to both halves on the axis of the split rule
+abbrev pub WalksStepDown : Type 0
+WalksStepDown = (k : CaseData) (room : RoomData) (depth axis : ℕ) (lower : Bool) → IsCase k → IsPlaced k depth room → depth < greatest_depth k → IsSplitAxis (live k.model) (spans_of (last_sides room)) axis
+    → StepsDown k depth axis lower room

@@ -1,0 +1,5 @@
+pub mod Right
+pub mod Laws
+pub mod Nodes
+pub mod Visits
+pub mod Rooms

@@ -1,0 +1,18 @@
+-- The nodes of a tree, one after another, as a visitor is shown them.
+use Rattle.std.specs.Prelude.{ℕ, List, [], ◌∷◌, ◌++◌, ℤ}
+use Rattle.lift_grid.specs.Tree.{Tree, RejectData}
+use Rattle.lift_grid.specs.Tree.Tree.{split as split-tree, accept as accept-tree, reject as reject-tree, unknown as unknown-tree}
+
+-- A node without what lies below it: a split on a parameter, or a leaf with what decides it. A leaf's precision is that of its case.
+pub data Node : Type 0 where
+  split : ℕ → Node
+  accept : List ℤ → Node
+  reject : RejectData → Node
+  unknown : Node
+
+-- the nodes of a tree in preorder: a split comes before its halves, and the lower half before the upper one
+abbrev pub nodes : Tree → List Node
+nodes (split-tree axis lower upper) = split axis ∷ (nodes lower ++ nodes upper)
+nodes (accept-tree u x) = accept x ∷ []
+nodes (reject-tree u r) = reject r ∷ []
+nodes unknown-tree = unknown ∷ []

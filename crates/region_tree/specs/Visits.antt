@@ -1,0 +1,34 @@
+-- What a visitor is shown, and what it does with a node.
+use Rattle.std.specs.Prelude.{◌≡◌, ◌≤◌, ℕ, List, ℤ, pos, ◌^◌, ◌≤ℤ◌, All, length}
+use Rattle.std.specs.declared.option.Option.{Option}
+use Rattle.std.specs.Io.KnownBytes.{Appends}
+use Rattle.lift_base.specs.Outside.{Rose, AppendsFront}
+use Rattle.lift_grid.specs.Tree.{RejectData}
+use Rattle.lift_model.specs.Valid.{most_states}
+use Rattle.corner_lift.specs.Case.{most_precision}
+use Rattle.region_tree.specs.declared.visitor.Seen.{Seen}
+use Rattle.region_tree.specs.declared.visitor.Seen.TheVariants.{Kept, Failed}
+
+-- numbers that can be shown: one for each state, from 0 to 2 to the greatest precision
+pub record AreShown (states : ℕ) (x : List ℤ) : Type 0 where
+  pub size : length x ≡ states
+  pub range : All (λ n. (pos 0 ≤ℤ n) × (n ≤ℤ pos (2 ^ most_precision))) x
+
+-- a rejecting certificate that can be shown: a number, a pick and a rank for each state, and e and k within their limits
+pub record IsShown (states : ℕ) (r : RejectData) : Type 0 where
+  pub numbers : AreShown states r.numbers
+  pub picks : length r.picks ≡ states
+  pub ranks : length r.ranks ≡ states
+  pub e : r.e ≤ 126
+  pub k : (1 ≤ r.k) × (r.k ≤ most_states)
+
+-- the bytes were appended where the node was kept, and else a part of them, from their front
+abbrev pub Takes : Option (List ℕ) → Option (List ℕ) → Seen → List ℕ → Type 0
+Takes old new Kept bytes = Appends old new bytes
+Takes old new Failed bytes = AppendsFront old new bytes
+
+-- What a visitor did with a node of that entry: it took the entry, or failed, and then it took a part of it and a fault was counted. No count falls.
+pub record Visits {V : Type 0} (taken : V → Option (List ℕ)) (faults : V → ℕ) (old new : V) (seen : Seen) (entry : List ℕ) : Type 0 where
+  pub took : Takes (taken old) (taken new) seen entry
+  pub cause : seen ≡ Failed → Rose (faults old) (faults new)
+  pub later : faults old ≤ faults new

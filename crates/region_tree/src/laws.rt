@@ -1,0 +1,70 @@
+//! Laws of right trees, for who reasons about them. The functions do nothing.
+
+ghost use Rattle.region_tree.specs.Laws.{
+  GreatestLowersAreOne,
+  HalvesAreDeeper,
+  LeastUppersAreOne,
+  RightTreesAreOne,
+  RightTreesTile,
+  RootIsAtDepth,
+  SplitAxesAreOne,
+  WalksBeginAtRoot,
+  WalksStepDown,
+};
+
+use corner_lift::{halves_are_inside, live_parameters_have_spans, rows_at_corners, rows_inside};
+use lift_grid::{halves_stay_on_grid, halves_tile, rows_are_rectangles};
+use lift_pool::lanes_stand_alone;
+
+/// What a decided leaf holds and where a rectangle is halved is one: a rectangle has at most one least
+/// upper vector, at most one greatest lower vector with its ranks, picks, e and k, and at most one axis
+/// of the split rule.
+pub fn certificates_are_one()
+    ensures least { LeastUppersAreOne }
+    ensures greatest { GreatestLowersAreOne }
+    ensures axis { SplitAxesAreOne }
+{
+    rows_at_corners();
+}
+
+/// The root stands at depth 0, and the halves of a rectangle one deeper than it.
+pub fn rectangles_at_depths()
+    ensures root { RootIsAtDepth }
+    ensures halves { HalvesAreDeeper }
+{
+    rows_inside();
+    halves_are_inside();
+    halves_stay_on_grid();
+    live_parameters_have_spans();
+}
+
+/// A case has at most one right tree for a bound.
+pub fn right_trees_are_one()
+    ensures { RightTreesAreOne }
+{
+    certificates_are_one();
+    rectangles_at_depths();
+}
+
+/// The leaves of a right tree tile the root.
+pub fn right_trees_tile()
+    ensures { RightTreesTile }
+{
+    rectangles_at_depths();
+    halves_are_inside();
+    halves_tile();
+    live_parameters_have_spans();
+}
+
+/// A walk begins at the root in a room that is made for the case, and steps down to both halves of a
+/// rectangle while a halving is left.
+pub fn walks_are_placed()
+    ensures root { WalksBeginAtRoot }
+    ensures down { WalksStepDown }
+{
+    rectangles_at_depths();
+    halves_stay_on_grid();
+    live_parameters_have_spans();
+    rows_are_rectangles();
+    lanes_stand_alone::<i64>();
+}

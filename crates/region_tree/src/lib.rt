@@ -1,0 +1,17 @@
+//! The tree of a region: which rectangles are decided and which are halved, and the room for a walk
+//! over it.
+#![tactic(auto)]
+
+mod halves;
+mod laws;
+mod room;
+mod verdict;
+mod visitor;
+
+pub use laws::{
+    certificates_are_one, rectangles_at_depths, right_trees_are_one, right_trees_tile,
+    walks_are_placed,
+};
+pub use room::Room;
+pub use verdict::Verdict;
+pub use visitor::{Seen, Visitor};
