@@ -291,6 +291,7 @@ pub fn table_loop(
     requires { CanRead case.now links.now spans weights.now s a × (corner < corner_count case.now s a) }
     ensures { result ≡ corner_sum case.now.d spans (row_at case.now.model s a) corner (only_at s) }
 {
+    premises();
     let _ = case.w();
     let place = links.place(s, a);
     sum_at(
