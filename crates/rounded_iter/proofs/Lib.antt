@@ -1,3 +1,2 @@
-pub mod Ceilings
-pub mod Raising
-pub mod Searching
+mod Ceilings
+pub mod Solving

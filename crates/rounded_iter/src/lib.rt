@@ -1,8 +1,5 @@
-//! Least vectors, by sweeps from below that round up.
+//! Least vectors over a table of corner weights, by an iteration from below that rounds up.
 #![tactic(auto)]
 
-mod order;
-mod upper;
-
-pub use order::Order;
-pub use upper::least_upper;
+mod solve;
+mod table;

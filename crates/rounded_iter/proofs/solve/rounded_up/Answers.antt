@@ -1,5 +1,5 @@
 use Rattle.rounded_iter.proofs.Ceilings.{IsCeiling, ceiling_of, small_fits, small_is}
-use Rattle.rounded_iter.proofs.upper.rounded_up.Goals as goal
+use Rattle.rounded_iter.proofs.solve.rounded_up.Goals as goal
 
 ceiling : (c : goal.After-div_ceil) → IsCeiling c.args.sum c.args.whole c.div_ceil.result
 ceiling c = ceiling_of c.args.sum c.args.whole c.div_ceil.result c.ranges.sum c.ranges.whole c.requires.least c.requires.positive c.requires.most c.div_ceil.ensures
