@@ -1,2 +1,4 @@
 mod Ceilings
 pub mod Solving
+pub mod Raising
+pub mod Watching

@@ -74,10 +74,10 @@ sum_none : (moves : List Move) → weighted_sum (λ t. pos 0) moves ≡ pos 0
 sum_none [] = refl
 sum_none (m ∷ ms) = omega (arith, linear, mul-zero m.1, sum_none ms)
 
-only_same : (s : ℕ) → only_at s s ≡ pos 1
+pub only_same : (s : ℕ) → only_at s s ≡ pos 1
 only_same s = let e : (s == s) ≡ true = grind arith in ap (λ b. cond b (pos 1) (pos 0)) e
 
-only_other : (s t : ℕ) → t ≢ s → only_at s t ≡ pos 0
+pub only_other : (s t : ℕ) → t ≢ s → only_at s t ≡ pos 0
 only_other s t ne = let e : (t == s) ≡ false = grind arith in ap (λ b. cond b (pos 1) (pos 0)) e
 
 only_least : (s t : ℕ) → pos 0 ≤ℤ only_at s t
@@ -101,7 +101,7 @@ contains_tail : (x t : ℕ) (xs : List ℕ) → Contains xs t → Contains (x �
 contains_tail x t xs (i, lt, e) = (suc i, omega (arith, lt), e)
 
 -- a row without an entry into a state weighs nothing into it
-own_none : (v : Valuation) (s : ℕ) (row : List Entry) → (Contains (targets_of row) s → ⊥) → weighted_sum (only_at s) (moves_at v row) ≡ pos 0
+pub own_none : (v : Valuation) (s : ℕ) (row : List Entry) → (Contains (targets_of row) s → ⊥) → weighted_sum (only_at s) (moves_at v row) ≡ pos 0
 own_none v s [] none = refl
 own_none v s (e ∷ row) none =
     let other : only_at s e.target ≡ pos 0 = only_other s e.target (λ same. none (subst (λ t. Contains (targets_of (e ∷ row)) t) same (contains_head e.target (targets_of row)))) in

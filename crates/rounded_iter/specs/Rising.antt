@@ -64,6 +64,11 @@ pub record IsBelow (e : Extreme) (k : CaseData) (spans : Spans) (x : List ℤ) :
   pub goal : (s : ℕ) → is_goal k.model s ≡ true → number x s ≡ pos (2 ^ k.w)
   pub least : (y : List ℤ) → IsBound e k spans y → AtMost x y
 
+-- the bound that is least at each state
+pub record IsLeastBound (e : Extreme) (k : CaseData) (spans : Spans) (x : List ℤ) : Type 0 where
+  pub bound : IsBound e k spans x
+  pub least : (y : List ℤ) → IsBound e k spans y → AtMost x y
+
 -- ---- one choice
 
 -- what it needs to try a choice

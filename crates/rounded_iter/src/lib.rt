@@ -1,5 +1,9 @@
 //! Least vectors over a table of corner weights, by an iteration from below that rounds up.
 #![tactic(auto)]
 
+mod least;
 mod solve;
 mod table;
+mod worklist;
+
+pub use least::{least_upper, least_value};

@@ -1,0 +1,280 @@
+-- What a raise of a state keeps.
+use Rattle.std.proofs.Common.{◌≡◌, ◌≢◌, ℕ, zero, suc, ◌+◌, ◌*◌, ◌^◌, ◌<◌, ◌≤◌, Bool, true, false, List, [], ◌∷◌, length, map, set, get_or, ℤ, pos, ◌+ℤ◌, ◌-ℤ◌, ◌*ℤ◌, ◌≤ℤ◌, ◌<ℤ◌, refl, sym, ap, ap₂, subst, ◌∙◌, arith, ◌⊎◌, ⊎_elim, All, Contains, get_or-set_same, get_or-set_other, cond}
+use Rattle.std.specs.List.{concat}
+use Rattle.std.proofs.lemmas.Bool.{both_ways}
+use Rattle.std.proofs.lemmas.Int.{ints, by_lt_z}
+use Rattle.std.proofs.lemmas.List.{get_or_past, get_or_default}
+use Rattle.std.proofs.lemmas.List.Elements.{All-from_get_or, Contains-append_left, Contains-append_right}
+use Rattle.lift_poly.proofs.Ring.{linear, mul-zero, mul-comm, one-mul}
+use Rattle.lift_grid.specs.Rectangle.{Spans}
+use Rattle.lift_model.specs.declared.entry.Entry.{Entry}
+use Rattle.lift_model.specs.Model.{ModelData, choices, row_at, is_goal, support, moves_at}
+use Rattle.lift_model.specs.Links.{HasChoice, Leads, targets_of, all_targets}
+use Rattle.corner_lift.specs.Certificate.{AreNumbers, AtMost, IsUpper, IsLeastUpper}
+use Rattle.corner_lift.specs.Corner.{AtCorners, corner, corner_sum, whole, parameter_count}
+use Rattle.corner_lift.specs.Case.{CaseData, IsCase, IsInside, number, row_value, row_whole, corner_count}
+use Rattle.corner_lift.specs.Dot.{only_at}
+use Rattle.corner_lift.specs.Laws.{NumbersAreInRange}
+use Rattle.rounded_iter.specs.declared.table.Extreme.{Extreme}
+use Rattle.rounded_iter.specs.declared.table.Extreme.TheVariants.{Greatest, Least}
+use Rattle.rounded_iter.specs.Value.{IsValue, IsLeastValue, SomeMeanAtMost}
+use Rattle.rounded_iter.specs.Rising.{TableData, IsRead, IsBelow, IsBound, IsLeastBound, IsEnough, IsEnoughFor, IsEnoughAt, IsSolved, Across, room}
+use Rattle.rounded_iter.specs.Watching.{count, CanRaise, IsRaised, IsRaisedBy, IsRaisedState}
+use Rattle.rounded_iter.proofs.Solving.{RowLaws, across_map, same_or_not, sum_moved, only_same, only_other, own_none, same_whole, at_root, at_spans, enough_shifted, in_lane, set_numbers, value_set, n_least}
+
+abbrev Range : ℕ → ℤ → Type 0
+Range w n = (pos 0 ≤ℤ n) × (n ≤ℤ pos (2 ^ w))
+
+room-set : (w : ℕ) (x : List ℤ) (s : ℕ) (v : ℤ) → s < length x → number x s <ℤ v → v ≤ℤ pos (2 ^ w) → room w (set x s v) < room w x
+room-set w [] s v lt higher most = absurd (omega arith)
+room-set w (n ∷ x) zero v lt higher most = omega (arith, ints)
+room-set w (n ∷ x) (suc s) v lt higher most = omega (arith, room-set w x s v (omega arith) higher most)
+
+-- whether a state is one of so many
+pub in_or_past : (s count : ℕ) → (s < count) ⊎ (count ≤ s)
+in_or_past s count = grind arith
+
+pub one_more : (b a : ℕ) → b < a + 1 → (b < a) ⊎ (b ≡ a)
+one_more b a lt = grind arith
+
+-- ---- one choice
+
+module _ (laws : RowLaws) (t : TableData) (spans : Spans) (x : List ℤ) (s a : ℕ) (can : CanRaise t spans x s) (choice : a < length (choices t.case.model s)) where
+  abbrev k : CaseData
+  k = t.case
+
+  abbrev e : Extreme
+  e = t.extreme
+
+  has : HasChoice k.model s a
+  has = record { state = can.state; choice = choice }
+
+  -- the number is enough already
+  pub raised_none : (v : ℤ) → IsSolved e k spans x s a (corner_count k s a) v → v ≡ number x s → IsRaised t spans x x s a false
+  raised_none v h same = record {
+    below = can.below;
+    kept = λ b. refl;
+    less = λ b. cc;
+    other = λ i ne. refl;
+    grown = omega (arith, linear);
+    enough = across_map e (corner_count k s a) (IsEnoughAt k spans (set x s v) s a v) (IsEnoughAt k spans x s a (number x s))
+        (λ c lt at. omega (arith, linear, at, value_set laws k spans can.read.case can.read.table.inside s a has x can.below.numbers v c, ap (λ m. m *ℤ corner_sum k.d spans (row_at k.model s a) c (only_at s)) same, ap (λ m. m *ℤ row_whole k s a) same)) h.enough;
+  }
+
+  module _ (v : ℤ) (h : IsSolved e k spans x s a (corner_count k s a) v) (ne : v ≢ number x s) where
+    rises : number x s <ℤ v
+    rises = by_lt_z (number x s) v (λ lt. lt) (λ le. absurd (ne (omega (arith, linear, le, h.grown))))
+
+    lane : s < length x
+    lane = in_lane laws k spans can.read.case can.read.table.inside s a has x can.below.numbers
+
+    at_s : number (set x s v) s ≡ v
+    at_s = let lt = lane in rw get_or-set_same refl
+
+    others : (i : ℕ) → i ≢ s → number (set x s v) i ≡ number x i
+    others i differs = rw get_or-set_other refl
+
+    free : number x s ≢ pos (2 ^ k.w)
+    free is = absurd (omega (arith, linear, is, rises, h.most))
+
+    open_state : (b : Bool) → is_goal k.model s ≡ b → is_goal k.model s ≡ false
+    open_state true is = absurd (free (can.below.goal s is))
+    open_state false is = is
+
+    pub raised_up : IsRaised t spans x (set x s v) s a true
+    raised_up = record {
+      below = record {
+        numbers = set_numbers laws k spans can.read.case can.read.table.inside s a has x can.below.numbers v (omega (arith, linear, rises, n_least laws k spans can.read.case can.read.table.inside s a has x can.below.numbers)) h.most;
+        goal = λ i is. ⊎_elim
+            (λ (same : i ≡ s). absurd (free (sym (ap (number x) same) ∙ can.below.goal i is)))
+            (λ (differs : i ≢ s). others i differs ∙ can.below.goal i is)
+            (same_or_not i s);
+        least = λ y bound i. ⊎_elim
+            (λ (same : i ≡ s). subst (λ j. number (set x s v) j ≤ℤ number y j) (sym same)
+            (omega (arith, linear, at_s, h.least y (can.below.least y bound) (bound.enough s can.state (open_state (is_goal k.model s) refl) a choice))))
+            (λ (differs : i ≢ s). omega (arith, linear, others i differs, can.below.least y bound i))
+            (same_or_not i s);
+      };
+      kept = λ b. cc;
+      less = λ b. room-set k.w x s v lane rises h.most;
+      other = others;
+      grown = omega (arith, linear, at_s, rises);
+      enough = subst (λ m. Across e (corner_count k s a) (IsEnoughAt k spans (set x s v) s a m)) (sym at_s) h.enough;
+    }
+
+-- ---- the choices of a state
+
+pub raised_by_none : (t : TableData) (spans : Spans) (x : List ℤ) (s : ℕ) → CanRaise t spans x s → IsRaisedBy t spans x x s 0 false
+raised_by_none t spans x s can = record {
+  below = can.below;
+  kept = λ b. refl;
+  less = λ b. cc;
+  other = λ i ne. refl;
+  enough = λ b lt. absurd (omega (arith, lt));
+}
+
+module _ (laws : RowLaws) (t : TableData) (spans : Spans) (old x y : List ℤ) (s a : ℕ) (read : IsRead t spans) (state : s < count t) (choice : a < length (choices t.case.model s)) where
+  -- a choice by which it rose
+  pub raised_by_risen : (rose : Bool) → IsRaisedBy t spans old x s a rose → IsRaised t spans x y s a true → IsRaisedBy t spans old y s (a + 1) true
+  raised_by_risen rose h g = record {
+    below = g.below;
+    kept = λ b. cc;
+    less = λ b. lower rose refl;
+    other = λ i ne. g.other i ne ∙ h.other i ne;
+    enough = λ b lt. ⊎_elim
+        (λ (before : b < a). across_map t.extreme (corner_count t.case s b) (IsEnoughAt t.case spans x s b (number x s)) (IsEnoughAt t.case spans y s b (number y s))
+        (λ c at. enough_shifted laws t.case spans read.case read.table.inside s b (record { state = state; choice = omega (arith, before, choice) }) x y (number y s -ℤ number x s) shifted (omega (arith, linear)) c at) (h.enough b before))
+        (λ (here : b ≡ a). subst (λ i. IsEnoughFor t.extreme t.case spans y s i) (sym here) g.enough)
+        (one_more b a lt);
+  }
+    where
+      lower : (r : Bool) → rose ≡ r → room t.case.w y < room t.case.w old
+      lower true is = omega (arith, g.less refl, h.less is)
+      lower false is = subst (λ l. room t.case.w y < room t.case.w l) (h.kept is) (g.less refl)
+
+      shifted : (i : ℕ) → number y i ≤ℤ (number x i +ℤ (number y s -ℤ number x s))
+      shifted i = ⊎_elim
+          (λ (same : i ≡ s). subst (λ j. number y j ≤ℤ (number x j +ℤ (number y s -ℤ number x s))) (sym same) (omega (arith, linear)))
+          (λ (ne : i ≢ s). omega (arith, linear, g.other i ne, g.grown))
+          (same_or_not i s)
+
+  -- one by which it didn't
+  pub raised_by_kept : (rose : Bool) → IsRaisedBy t spans old x s a rose → IsRaised t spans x y s a false → IsRaisedBy t spans old y s (a + 1) rose
+  raised_by_kept rose h g =
+      let same : y ≡ x = g.kept refl in
+      record {
+        below = g.below;
+        kept = λ b. same ∙ h.kept b;
+        less = λ b. subst (λ l. room t.case.w l < room t.case.w old) (sym same) (h.less b);
+        other = λ i ne. ap (λ l. number l i) same ∙ h.other i ne;
+        enough = λ b lt. ⊎_elim
+            (λ (before : b < a). subst (λ l. IsEnoughFor t.extreme t.case spans l s b) (sym same) (h.enough b before))
+            (λ (here : b ≡ a). subst (λ i. IsEnoughFor t.extreme t.case spans y s i) (sym here) g.enough)
+            (one_more b a lt);
+      }
+
+pub raised_by_all : (t : TableData) (spans : Spans) (old x : List ℤ) (s a : ℕ) (rose : Bool) → length (choices t.case.model s) ≤ a → IsRaisedBy t spans old x s a rose → IsRaisedState t spans old x s rose
+raised_by_all t spans old x s a rose all h = record {
+  below = h.below;
+  kept = h.kept;
+  less = h.less;
+  other = h.other;
+  enough = λ b lt. h.enough b (omega (arith, lt, all));
+}
+
+-- ---- other states
+
+contains_all : (rows : List (List Entry)) (a i : ℕ) → a < length rows → Contains (targets_of (get_or rows a [])) i → Contains (concat (map targets_of rows)) i
+contains_all [] a i lt h = absurd (omega (arith, lt))
+contains_all (row ∷ rows) zero i lt h = Contains-append_left (targets_of row) (concat (map targets_of rows)) i h
+contains_all (row ∷ rows) (suc a) i lt h = Contains-append_right (targets_of row) (concat (map targets_of rows)) i (contains_all rows a i (omega (arith, lt)) h)
+
+-- a target of a row is one that its state leads to
+pub row_leads : (m : ModelData) (q b i : ℕ) → b < length (choices m q) → Contains (targets_of (row_at m q b)) i → Leads m q i
+row_leads m q b i lt h = contains_all (choices m q) b i lt h
+
+pub leads_inside : (m : ModelData) (q i : ℕ) → Leads m q i → q < length m.states
+leads_inside m q i at = ⊎_elim
+    (λ (inside : q < length m.states). inside)
+    (λ (past : length m.states ≤ q). absurd (let none : all_targets m q ≡ [] = ap (λ rows. concat (map targets_of rows)) (get_or_past m.states q [] past) in omega (arith, at.1, ap (length {A = ℕ}) none)))
+    (in_or_past q (length m.states))
+
+-- a state that doesn't lead to the one that rose keeps what it has enough
+pub enough_kept : (t : TableData) (spans : Spans) (x y : List ℤ) (q s : ℕ) → q ≢ s → (Leads t.case.model q s → ⊥) → ((i : ℕ) → i ≢ s → number y i ≡ number x i) → IsEnough t.extreme t.case spans x q → IsEnough t.extreme t.case spans y q
+enough_kept t spans x y q s differs none other h b lt =
+    let k = t.case in
+    let row = row_at k.model q b in
+    across_map t.extreme (corner_count k q b) (IsEnoughAt k spans x q b (number x q)) (IsEnoughAt k spans y q b (number y q))
+    (λ c at le.
+    let v = corner k.d spans (support row) c in
+    let d = number y s -ℤ number x s in
+    let sum = sum_moved (number x) (number y) (only_at s) d (moves_at v row) moved in
+    let nothing = own_none v s row (λ at_row. none (row_leads k.model q b s lt at_row)) in
+    omega (arith, linear, le, sum, ap (λ m. d *ℤ m) nothing, mul-zero d, ap (λ m. m *ℤ row_whole k q b) (other q differs))) (h b lt)
+  where
+    moved : (i : ℕ) → number y i ≡ number x i +ℤ (number y s -ℤ number x s) *ℤ only_at s i
+    moved i = ⊎_elim
+        (λ (same : i ≡ s). subst (λ j. number y j ≡ number x j +ℤ (number y s -ℤ number x s) *ℤ only_at s j) (sym same)
+        (omega (arith, linear, ap (λ m. (number y s -ℤ number x s) *ℤ m) (only_same s), mul-comm (number y s -ℤ number x s) (pos 1), one-mul (number y s -ℤ number x s))))
+        (λ (ne : i ≢ s). omega (arith, linear, other i ne, ap (λ m. (number y s -ℤ number x s) *ℤ m) (only_other s i ne), mul-zero (number y s -ℤ number x s)))
+        (same_or_not i s)
+
+-- ---- the start
+
+-- 2 ^ w on goal states and 0 elsewhere
+pub start_below : NumbersAreInRange → (e : Extreme) (k : CaseData) (spans : Spans) (x : List ℤ) → length k.model.goal ≡ length k.model.states → length x ≡ length k.model.states → ((i : ℕ) → i < length k.model.states → number x i ≡ cond (is_goal k.model i) (pos (2 ^ k.w)) (pos 0)) → IsBelow e k spans x
+start_below numbers e k spans x goals size written = record {
+  numbers = record {
+    size = size;
+    range = λ i d lt. subst (Range k.w) (sym (get_or_default x i d (pos 0) lt ∙ written i (omega (arith, lt, size)))) (either (is_goal k.model i));
+  };
+  goal = λ s is. written s (goal_in s is) ∙ ap (λ g. cond g (pos (2 ^ k.w)) (pos 0)) is;
+  least = λ y bound s. ⊎_elim
+      (λ (lt : s < length k.model.states). rw (written s lt) (under y bound s (is_goal k.model s) refl))
+      (λ (past : length k.model.states ≤ s). rw (get_or_past x s (pos 0) (omega (arith, past, size))) ((numbers k y s bound.numbers).0))
+      (in_or_past s (length k.model.states));
+}
+  where
+    either : (b : Bool) → Range k.w (cond b (pos (2 ^ k.w)) (pos 0))
+    either true = (omega (arith, linear), omega (arith, linear))
+    either false = (omega (arith, linear), omega (arith, linear))
+
+    goal_in : (s : ℕ) → is_goal k.model s ≡ true → s < length k.model.states
+    goal_in s is = ⊎_elim (λ (lt : s < length k.model.states). lt) (λ (past : length k.model.states ≤ s). absurd (both_ways (is_goal k.model s) (get_or_past k.model.goal s false (omega (arith, past, goals))) is)) (in_or_past s (length k.model.states))
+
+    under : (y : List ℤ) → IsBound e k spans y → (s : ℕ) (b : Bool) → is_goal k.model s ≡ b → cond b (pos (2 ^ k.w)) (pos 0) ≤ℤ number y s
+    under y bound s true is = rw (bound.goal s is) (omega (arith, linear))
+    under y bound s false is = (numbers k y s bound.numbers).0
+
+-- ---- bounds are upper vectors and value vectors
+
+module _ (laws : RowLaws) (k : CaseData) (spans : Spans) (is : IsCase k) (within : IsInside k.root spans) where
+  row_of : (Meets : List Entry → Type 0) (s : ℕ) → ((a : ℕ) → HasChoice k.model s a → Meets (row_at k.model s a)) → All Meets (choices k.model s)
+  row_of Meets s h = All-from_get_or Meets (choices k.model s) [] (λ a lt. ⊎_elim
+      (λ (state : s < length k.model.states). h a (record { state = state; choice = lt }))
+      (λ (past : length k.model.states ≤ s). absurd (let none = get_or_past k.model.states s [] past in omega (arith, lt, ap (length {A = List Entry}) none)))
+      (in_or_past s (length k.model.states)))
+
+  product : (s a : ℕ) → HasChoice k.model s a → (n : ℤ) → n *ℤ whole k.model k.d spans (row_at k.model s a) ≡ n *ℤ row_whole k s a
+  product s a has n = ap (λ w. n *ℤ w) (same_whole laws k spans is within s a has)
+
+  upper_of : (x : List ℤ) → IsBound Greatest k spans x → IsUpper k spans x
+  upper_of x h = record {
+    numbers = h.numbers;
+    goal = h.goal;
+    means = λ s g. row_of (λ row. AtCorners spans row (λ c. corner_sum k.d spans row c (number x) ≤ℤ (number x s *ℤ whole k.model k.d spans row))) s (λ a has c lt. omega (arith, linear, h.enough s has.state g a has.choice c (at_root laws k spans is within s a has c lt), product s a has (number x s)));
+  }
+
+  bound_of : (y : List ℤ) → IsUpper k spans y → IsBound Greatest k spans y
+  bound_of y h = record {
+    numbers = h.numbers;
+    goal = h.goal;
+    enough = λ s state g a lt c at.
+        let has : HasChoice k.model s a = record { state = state; choice = lt } in
+        omega (arith, linear, h.means s g a [] lt c (at_spans laws k spans is within s a has c at), product s a has (number y s));
+  }
+
+  pub least_upper_of : (x : List ℤ) → IsLeastBound Greatest k spans x → IsLeastUpper k spans x
+  least_upper_of x h = record { upper = upper_of x h.bound; least = λ y upper. h.least y (bound_of y upper) }
+
+  value_of : (x : List ℤ) → IsBound Least k spans x → IsValue k spans x
+  value_of x h = record {
+    numbers = h.numbers;
+    goal = h.goal;
+    means = λ s g. row_of (λ row. SomeMeanAtMost k spans row x (number x s)) s (λ a has.
+        let one = h.enough s has.state g a has.choice in
+        (one.0, (at_spans laws k spans is within s a has one.0 one.1.0, omega (arith, linear, one.1.1, product s a has (number x s)))));
+  }
+
+  value_bound : (y : List ℤ) → IsValue k spans y → IsBound Least k spans y
+  value_bound y h = record {
+    numbers = h.numbers;
+    goal = h.goal;
+    enough = λ s state g a lt.
+        let has : HasChoice k.model s a = record { state = state; choice = lt } in
+        let one = h.means s g a [] lt in
+        (one.0, (at_root laws k spans is within s a has one.0 one.1.0, omega (arith, linear, one.1.1, product s a has (number y s))));
+  }
+
+  pub least_value_of : (x : List ℤ) → IsLeastBound Least k spans x → IsLeastValue k spans x
+  least_value_of x h = record { value = value_of x h.bound; least = λ y value. h.least y (value_bound y value) }
