@@ -9,7 +9,8 @@ ghost use Rattle.rounded_iter.specs.Rising.{CanTry, CanSolve, IsExtreme, IsMoreE
 
 use crate::table::{Extreme, Table};
 use corner_lift::{
-    corners_bound_weights, rows_at_corners, table_loop, table_max, table_min, table_value, table_whole,
+    corners_bound_weights, rows_at_corners, table_loop, table_max, table_min, table_value,
+    table_whole,
 };
 
 /// The quotient, rounded up to a whole number.
