@@ -19,7 +19,7 @@ use Rattle.rounded_iter.specs.declared.table.Extreme.{Extreme}
 use Rattle.rounded_iter.specs.declared.table.Extreme.TheVariants.{Greatest, Least}
 use Rattle.rounded_iter.specs.Value.{IsValue, IsLeastValue, SomeMeanAtMost}
 use Rattle.rounded_iter.specs.Rising.{TableData, IsRead, IsBelow, IsBound, IsLeastBound, IsEnough, IsEnoughFor, IsEnoughAt, IsSolved, Across, room}
-use Rattle.rounded_iter.specs.Watching.{count, CanRaise, IsRaised, IsRaisedBy, IsRaisedState}
+use Rattle.rounded_iter.specs.Watching.{count, CanRaise, IsRaised, IsRaisedBy, IsRaisedState, IsBelowUppers}
 use Rattle.rounded_iter.proofs.Solving.{RowLaws, across_map, same_or_not, sum_moved, only_same, only_other, own_none, same_whole, at_root, at_spans, enough_shifted, in_lane, set_numbers, value_set, n_least}
 
 abbrev Range : ℕ → ℤ → Type 0
@@ -256,6 +256,12 @@ module _ (laws : RowLaws) (k : CaseData) (spans : Spans) (is : IsCase k) (within
 
   pub least_upper_of : (x : List ℤ) → IsLeastBound Greatest k spans x → IsLeastUpper k spans x
   least_upper_of x h = record { upper = upper_of x h.bound; least = λ y upper. h.least y (bound_of y upper) }
+
+  pub below_of : (x : List ℤ) → IsBelowUppers k spans x → IsBelow Greatest k spans x
+  below_of x h = record { numbers = h.numbers; goal = h.goal; least = λ y bound. h.least y (upper_of y bound) }
+
+  pub past_of : (x : List ℤ) (limit : ℤ) → IsBelow Greatest k spans x → limit <ℤ number x k.model.init → (y : List ℤ) → IsUpper k spans y → limit <ℤ number y k.model.init
+  past_of x limit h past y upper = omega (arith, linear, past, h.least y (bound_of y upper) k.model.init)
 
   value_of : (x : List ℤ) → IsBound Least k spans x → IsValue k spans x
   value_of x h = record {

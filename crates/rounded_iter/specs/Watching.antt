@@ -1,10 +1,11 @@
 -- What the iteration keeps: a vector at or below every bound, and flags at the positions of the states that may have to rise.
-use Rattle.std.specs.Prelude.{◌≡◌, ◌≢◌, ℕ, ◌+◌, ◌*◌, ◌<◌, ◌≤◌, Bool, true, false, List, ℤ, pos, ◌≤ℤ◌, ◌<ℤ◌, length, slice_index_or}
+use Rattle.std.specs.Prelude.{◌≡◌, ◌≢◌, ℕ, ◌+◌, ◌*◌, ◌^◌, ◌<◌, ◌≤◌, Bool, true, false, List, ℤ, pos, ◌≤ℤ◌, ◌<ℤ◌, length, slice_index_or}
 use Rattle.lift_grid.specs.Rectangle.{Spans}
-use Rattle.lift_model.specs.Model.{choices}
+use Rattle.lift_model.specs.Model.{choices, is_goal}
 use Rattle.lift_model.specs.Links.{LinksData, AreLinks, Leads, position}
 use Rattle.corner_lift.specs.Case.{CaseData, IsCase, number}
 use Rattle.corner_lift.specs.Table.{IsTable}
+use Rattle.corner_lift.specs.Certificate.{AreNumbers, AtMost, IsUpper, IsLeastUpper}
 use Rattle.rounded_iter.specs.Rising.{TableData, IsRead, IsBelow, IsLeastBound, IsEnough, IsEnoughFor, room}
 
 -- how many states there are
@@ -162,3 +163,20 @@ pub record CanIterate (k : CaseData) (l : LinksData) (spans : Spans) (weights x 
   pub table : IsTable k l spans weights
   pub size : length x ≡ length k.model.states
   pub places : length work ≡ 2 * length k.model.states
+
+-- A vector to start from: one number from 0 to 2 ^ w for each state, 2 ^ w on goal states, and at most every upper vector.
+pub record IsBelowUppers (k : CaseData) (spans : Spans) (x : List ℤ) : Type 0 where
+  pub numbers : AreNumbers k x
+  pub goal : (s : ℕ) → is_goal k.model s ≡ true → number x s ≡ pos (2 ^ k.w)
+  pub least : (y : List ℤ) → IsUpper k spans y → AtMost x y
+
+-- what a least vector needs that is raised from another
+pub record CanContinue (k : CaseData) (l : LinksData) (spans : Spans) (weights x : List ℤ) (work : List ℕ) : Type 0 where
+  pub can : CanIterate k l spans weights x work
+  pub below : IsBelowUppers k spans x
+
+-- the least upper vector, where the initial state's number in it is within the limit; else that number is above the limit in every upper vector
+pub record IsLeastWithin (k : CaseData) (spans : Spans) (limit : ℤ) (x : List ℤ) (within : Bool) : Type 0 where
+  pub least : within ≡ true → IsLeastUpper k spans x
+  pub first : within ≡ true → number x k.model.init ≤ℤ limit
+  pub past : within ≡ false → (y : List ℤ) → IsUpper k spans y → limit <ℤ number y k.model.init

@@ -5,7 +5,7 @@ ghost use Rattle.corner_lift.specs.Certificate.{IsLeastUpper};
 ghost use Rattle.corner_lift.specs.Table.{IsTable};
 ghost use Rattle.rounded_iter.specs.Value.{IsLeastValue};
 ghost use Rattle.rounded_iter.specs.Rising.{IsBelow};
-ghost use Rattle.rounded_iter.specs.Watching.{CanStart, CanIterate};
+ghost use Rattle.rounded_iter.specs.Watching.{CanStart, CanIterate, CanContinue, IsLeastWithin};
 
 use crate::table::{Extreme, Table};
 use corner_lift::{Case, corners_bound_weights, one_at, rows_at_corners};
@@ -71,5 +71,59 @@ pub fn least_value(case: &Case, links: &Links, weights: &[i128], lane: &mut [i64
         limit: top,
     };
     table.start(lane);
+    table.climb(lane, work);
+}
+
+/// As `least_upper`, but stops where the initial state's number passes the limit. True: `lane` is the least
+/// upper vector, and its number there is within the limit. False: in each upper vector it is above.
+pub fn least_upper_within(
+    case: &Case,
+    links: &Links,
+    weights: &[i128],
+    limit: i64,
+    lane: &mut [i64],
+    work: &mut [u32],
+) -> bool
+    ghost spans: { Spans }
+    requires { CanIterate case.now links.now spans weights.now lane.old work.old }
+    ensures { IsLeastWithin case.now spans limit lane.new result }
+{
+    rows_at_corners();
+    corners_bound_weights();
+    let table = Table {
+        case: &*case,
+        links: &*links,
+        weights: &*weights,
+        extreme: Extreme::Greatest,
+        top: one_at(case.w()),
+        limit,
+    };
+    table.start(lane);
+    table.climb(lane, work)
+}
+
+/// As `least_upper`, but starts from the vector in `lane`, which lies at or below each upper vector.
+pub fn least_upper_from(
+    case: &Case,
+    links: &Links,
+    weights: &[i128],
+    lane: &mut [i64],
+    work: &mut [u32],
+)
+    ghost spans: { Spans }
+    requires { CanContinue case.now links.now spans weights.now lane.old work.old }
+    ensures { IsLeastUpper case.now spans lane.new }
+{
+    rows_at_corners();
+    corners_bound_weights();
+    let top = one_at(case.w());
+    let table = Table {
+        case: &*case,
+        links: &*links,
+        weights: &*weights,
+        extreme: Extreme::Greatest,
+        top,
+        limit: top,
+    };
     table.climb(lane, work);
 }
