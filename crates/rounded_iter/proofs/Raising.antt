@@ -1,5 +1,5 @@
 -- What a raise of a state keeps.
-use Rattle.std.proofs.Common.{◌≡◌, ◌≢◌, ℕ, zero, suc, ◌+◌, ◌*◌, ◌^◌, ◌<◌, ◌≤◌, Bool, true, false, List, [], ◌∷◌, length, map, set, get_or, ℤ, pos, ◌+ℤ◌, ◌-ℤ◌, ◌*ℤ◌, ◌≤ℤ◌, ◌<ℤ◌, refl, sym, ap, ap₂, subst, ◌∙◌, arith, ◌⊎◌, ⊎_elim, All, Contains, get_or-set_same, get_or-set_other, cond}
+use Rattle.std.proofs.Common.{◌≡◌, ◌≢◌, ℕ, zero, suc, ◌+◌, ◌^◌, ◌<◌, ◌≤◌, Bool, true, false, List, [], ◌∷◌, length, map, set, get_or, ℤ, pos, ◌+ℤ◌, ◌-ℤ◌, ◌*ℤ◌, ◌≤ℤ◌, ◌<ℤ◌, refl, sym, ap, subst, ◌∙◌, arith, ◌⊎◌, ⊎_elim, All, Contains, get_or-set_same, get_or-set_other, cond}
 use Rattle.std.specs.List.{concat}
 use Rattle.std.proofs.lemmas.Bool.{both_ways}
 use Rattle.std.proofs.lemmas.Int.{ints, by_lt_z}
@@ -10,9 +10,9 @@ use Rattle.lift_grid.specs.Rectangle.{Spans}
 use Rattle.lift_model.specs.declared.entry.Entry.{Entry}
 use Rattle.lift_model.specs.Model.{ModelData, choices, row_at, is_goal, support, moves_at}
 use Rattle.lift_model.specs.Links.{HasChoice, Leads, targets_of, all_targets}
-use Rattle.corner_lift.specs.Certificate.{AreNumbers, AtMost, IsUpper, IsLeastUpper}
-use Rattle.corner_lift.specs.Corner.{AtCorners, corner, corner_sum, whole, parameter_count}
-use Rattle.corner_lift.specs.Case.{CaseData, IsCase, IsInside, number, row_value, row_whole, corner_count}
+use Rattle.corner_lift.specs.Certificate.{IsUpper, IsLeastUpper}
+use Rattle.corner_lift.specs.Corner.{AtCorners, corner, corner_sum, whole}
+use Rattle.corner_lift.specs.Case.{CaseData, IsCase, IsInside, number, row_whole, corner_count}
 use Rattle.corner_lift.specs.Dot.{only_at}
 use Rattle.corner_lift.specs.Laws.{NumbersAreInRange}
 use Rattle.rounded_iter.specs.declared.table.Extreme.{Extreme}

@@ -1,5 +1,5 @@
 -- What a number must be to be enough for a choice, and how far that goes when numbers rise.
-use Rattle.std.proofs.Common.{◌≡◌, ◌≢◌, ◌==◌, ℕ, zero, suc, ◌+◌, ◌*◌, ◌^◌, ◌<◌, ◌≤◌, Bool, true, false, List, [], ◌∷◌, length, set, ℤ, pos, negsuc, ◌+ℤ◌, ◌-ℤ◌, ◌*ℤ◌, ◌≤ℤ◌, ◌<ℤ◌, refl, sym, ap, ap₂, subst, ◌∙◌, arith, ◌⊎◌, ⊎_elim, inl, inr, length-set, get_or-set_same, get_or-set_other, cond, pow_mono, Contains, unsigned_abs, int_le, SFits, w64, to_z, of_z, to_z-of_z, mul-le-mul_left}
+use Rattle.std.proofs.Common.{◌≡◌, ◌≢◌, ◌==◌, ℕ, suc, ◌+◌, ◌*◌, ◌^◌, ◌<◌, ◌≤◌, Bool, true, false, List, [], ◌∷◌, length, set, ℤ, pos, negsuc, ◌+ℤ◌, ◌-ℤ◌, ◌*ℤ◌, ◌≤ℤ◌, ◌<ℤ◌, refl, sym, ap, ap₂, subst, ◌∙◌, arith, ◌⊎◌, ⊎_elim, length-set, get_or-set_same, get_or-set_other, cond, pow_mono, Contains, unsigned_abs, int_le, SFits, w64, to_z, of_z, to_z-of_z, mul-le-mul_left}
 use mir.Syntax.{w128}
 use Rattle.std.proofs.lemmas.Bool.{both_ways}
 use Rattle.std.proofs.lemmas.Int.{ints, by_lt_z, fits_signed_from_abs}
@@ -9,18 +9,18 @@ use Rattle.lift_poly.proofs.Ring.{linear, mul-comm, mul-assoc, mul-add, mul-le, 
 use Rattle.lift_grid.specs.Rectangle.{Spans}
 use Rattle.lift_model.specs.declared.entry.Entry.{Entry}
 use Rattle.lift_model.specs.Process.{Move, power, weighted_sum}
-use Rattle.lift_model.specs.Model.{ModelData, choices, row_at, support, moves_at}
+use Rattle.lift_model.specs.Model.{row_at, support, moves_at}
 use Rattle.lift_model.specs.Links.{LinksData, AreLinks, HasChoice, targets_of, place}
 use Rattle.lift_model.specs.declared.layout.RowPlace.{RowPlace}
 use Rattle.lift_poly.specs.Polynomial.{Valuation, weight}
 use Rattle.corner_lift.specs.Certificate.{AreNumbers, AtMost}
-use Rattle.corner_lift.specs.Corner.{AtCorners, corner, corner_sum, whole, parameter_count}
-use Rattle.corner_lift.specs.Case.{CaseData, IsCase, IsInside, IsGreatest, IsLeast, number, row_value, row_whole, corner_count, row_parameters, most_precision, most_row_parameters}
+use Rattle.corner_lift.specs.Corner.{corner, corner_sum, whole, parameter_count}
+use Rattle.corner_lift.specs.Case.{CaseData, IsCase, IsInside, number, row_value, row_whole, corner_count, row_parameters, most_precision, most_row_parameters}
 use Rattle.corner_lift.specs.Dot.{only_at}
 use Rattle.corner_lift.specs.Laws.{HasRow, BitsAreParameters, ParametersAreTheRoots, NumbersAreInRange, SumsAreInRange, SumsRise, WeightsSumToWhole}
 use Rattle.rounded_iter.specs.declared.table.Extreme.{Extreme}
 use Rattle.rounded_iter.specs.declared.table.Extreme.TheVariants.{Greatest, Least}
-use Rattle.rounded_iter.specs.Rising.{Across, IsExtreme, IsMoreExtreme, IsEnoughAt, IsEnoughFor, SolvesAt, IsSolved}
+use Rattle.rounded_iter.specs.Rising.{Across, IsExtreme, IsMoreExtreme, IsEnoughAt, SolvesAt, IsSolved}
 
 -- ---- order
 

@@ -1,17 +1,15 @@
 -- The iteration with flags: what a visit, a turn and a pass keep.
-use Rattle.std.proofs.Common.{◌≡◌, ◌≢◌, ℕ, ◌+◌, ◌*◌, ◌^◌, ◌<◌, ◌≤◌, Bool, true, false, List, [], length, map, get_or, ℤ, pos, ◌≤ℤ◌, refl, sym, ap, subst, ◌∙◌, arith, ◌⊎◌, ⊎_elim, Contains}
+use Rattle.std.proofs.Common.{◌≡◌, ◌≢◌, ℕ, ◌+◌, ◌*◌, ◌^◌, ◌<◌, ◌≤◌, Bool, true, false, List, length, get_or, ℤ, pos, refl, sym, ap, subst, ◌∙◌, arith, ⊎_elim, Contains}
 use Rattle.std.proofs.lemmas.List.{get_or_default, get_or-map, length-map}
 use Rattle.std.proofs.lemmas.List.Elements.{Contains-get_or}
 use Rattle.lift_poly.proofs.Ring.{linear}
 use Rattle.lift_grid.specs.Rectangle.{Spans}
-use Rattle.lift_model.specs.Model.{is_goal}
-use Rattle.lift_model.specs.Links.{LinksData, AreLinks, Leads, position, states_before, positions_before}
-use Rattle.corner_lift.specs.Case.{number}
+use Rattle.lift_model.specs.Links.{LinksData, Leads, position, states_before, positions_before}
 use Rattle.corner_lift.specs.Laws.{NumbersAreInRange}
 use Rattle.rounded_iter.specs.Rising.{TableData, IsRead, IsBelow, IsLeastBound, IsEnough, room}
-use Rattle.rounded_iter.specs.Watching.{count, flag, IsRaisedState, IsWatched, IsWatchedBut, CanMark, IsMarked, IsKept, IsStep, CanVisit, IsVisited, IsTurned, IsPassed, IsClimbed}
+use Rattle.rounded_iter.specs.Watching.{count, flag, IsRaisedState, IsWatched, IsWatchedBut, CanMark, IsMarked, IsKept, CanVisit, IsVisited, IsTurned, IsPassed, IsClimbed}
 use Rattle.rounded_iter.proofs.Solving.{same_or_not}
-use Rattle.rounded_iter.proofs.Raising.{in_or_past, one_more, leads_inside, enough_kept}
+use Rattle.rounded_iter.proofs.Raising.{one_more, leads_inside, enough_kept}
 
 -- ---- flags
 

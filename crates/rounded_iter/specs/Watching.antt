@@ -1,5 +1,5 @@
 -- What the iteration keeps: a vector at or below every bound, and flags at the positions of the states that may have to rise.
-use Rattle.std.specs.Prelude.{◌≡◌, ◌≢◌, ℕ, ◌+◌, ◌*◌, ◌^◌, ◌<◌, ◌≤◌, Bool, true, false, List, ℤ, pos, ◌≤ℤ◌, ◌<ℤ◌, length, slice_index_or}
+use Rattle.std.specs.Prelude.{◌≡◌, ◌≢◌, ℕ, ◌*◌, ◌^◌, ◌<◌, ◌≤◌, Bool, true, false, List, ℤ, pos, ◌≤ℤ◌, ◌<ℤ◌, length, slice_index_or}
 use Rattle.lift_grid.specs.Rectangle.{Spans}
 use Rattle.lift_model.specs.Model.{choices, is_goal}
 use Rattle.lift_model.specs.Links.{LinksData, AreLinks, Leads, position}

@@ -1,4 +1,4 @@
-use Rattle.std.proofs.Common.{rules, SFits, w64, to_z-of_z}
+use Rattle.std.proofs.Common.{to_z-of_z}
 use Rattle.rounded_iter.proofs.Solving.{laws_of}
 use Rattle.rounded_iter.proofs.Raising.{least_upper_of, past_of}
 use Rattle.rounded_iter.proofs.least.least_upper_within.Goals as goal

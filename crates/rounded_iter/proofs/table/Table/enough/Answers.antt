@@ -1,4 +1,4 @@
-use Rattle.std.proofs.Common.{rules, ◌≡◌, SFits, w64, pos, ◌*ℤ◌, ◌≤ℤ◌, ◌<ℤ◌, to_z, of_z, to_z-of_z, ap, sym, ◌∙◌, arith}
+use Rattle.std.proofs.Common.{rules, SFits, w64, ◌*ℤ◌, ◌<ℤ◌, to_z, of_z, to_z-of_z, ap, ◌∙◌, arith}
 use mir.Syntax.{w128}
 use Rattle.lift_poly.proofs.Ring.{linear, le_from_test}
 use Rattle.corner_lift.specs.Case.{number, row_whole}

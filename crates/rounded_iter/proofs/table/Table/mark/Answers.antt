@@ -1,6 +1,5 @@
-use Rattle.std.proofs.Common.{◌≡◌, ◌<◌, ◌≤◌, length, subst, sym, arith}
-use Rattle.rounded_iter.specs.Watching.{CanMark}
-use Rattle.rounded_iter.proofs.Watching.{position_inside, marked_more, marked_all}
+use Rattle.std.proofs.Common.{arith}
+use Rattle.rounded_iter.proofs.Watching.{position_inside, marked_all}
 use Rattle.rounded_iter.proofs.table.Table.mark.Goals as goal
 
 pub set_flag-requires : goal.set_flag-requires

@@ -1,9 +1,9 @@
-use Rattle.std.proofs.Common.{◌≡◌, ◌+◌, ◌<◌, true, false, length, ap, subst, sym, arith}
+use Rattle.std.proofs.Common.{◌+◌, ◌<◌, length, ap, subst, sym, arith}
 use Rattle.lift_model.specs.Model.{ModelData, choices}
 use Rattle.rounded_iter.specs.Rising.{TableData}
 use Rattle.rounded_iter.specs.Watching.{IsRaised, IsRaisedBy}
 use Rattle.rounded_iter.proofs.Solving.{laws_of}
-use Rattle.rounded_iter.proofs.Raising.{raised_by_none, raised_by_risen, raised_by_kept, raised_by_all}
+use Rattle.rounded_iter.proofs.Raising.{raised_by_risen, raised_by_kept}
 use Rattle.rounded_iter.proofs.table.Table.raise.Goals as goal
 use Rattle.rounded_iter.proofs.table.Table.raise.Goals.{then-raise_choice, else-raise_choice}
 

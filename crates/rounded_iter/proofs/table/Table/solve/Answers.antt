@@ -1,8 +1,5 @@
-use Rattle.std.proofs.Common.{rules, ◌≡◌, ◌<◌, ◌≤◌, ◌^◌, count_ones, Fits, SFits, w32, w64, pos, to_z, of_z, to_z-of_z, ap, sym, subst, ◌∙◌, arith}
-use Rattle.lift_model.specs.Model.{row_at, support}
-use Rattle.lift_model.specs.declared.layout.RowPlace.{RowPlace}
-use Rattle.corner_lift.specs.Case.{number, corner_count}
-use Rattle.rounded_iter.specs.Rising.{SolvesAt, IsSolved, IsMoreExtreme}
+use Rattle.std.proofs.Common.{rules, ◌<◌, SFits, w64, to_z-of_z, arith}
+use Rattle.corner_lift.specs.Case.{corner_count}
 use Rattle.rounded_iter.proofs.Solving.{laws_of, corners_is, few_corners, solved_first, solved_more}
 use Rattle.rounded_iter.proofs.table.Table.solve.Goals as goal
 

@@ -1,4 +1,4 @@
-use Rattle.std.proofs.Common.{rules, ◌≡◌, ◌<◌, SFits, w64, pos, ◌-ℤ◌, ◌*ℤ◌, ◌≤ℤ◌, ◌<ℤ◌, to_z, of_z, to_z-of_z, ap, ap₂, sym, ◌∙◌, arith}
+use Rattle.std.proofs.Common.{rules, ◌≡◌, SFits, w64, ◌-ℤ◌, ◌*ℤ◌, ◌<ℤ◌, to_z, of_z, to_z-of_z, ap, ap₂, ◌∙◌, arith}
 use mir.Syntax.{w128}
 use Rattle.lift_poly.proofs.Ring.{linear, le_from_test, mul-nonneg}
 use Rattle.lift_model.specs.Model.{row_at}

@@ -1,4 +1,4 @@
-use Rattle.std.proofs.Common.{◌≡◌, true, false, length, subst, sym, arith, refl}
+use Rattle.std.proofs.Common.{subst, sym, arith, refl}
 use Rattle.rounded_iter.specs.Watching.{IsRaisedState, IsVisited}
 use Rattle.rounded_iter.proofs.Watching.{visited_risen, visited_kept}
 use Rattle.rounded_iter.proofs.table.Table.visit.Goals as goal
