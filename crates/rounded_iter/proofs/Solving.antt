@@ -1,11 +1,11 @@
 -- What a number must be to be enough for a choice, and how far that goes when numbers rise.
-use Rattle.std.proofs.Common.{◌≡◌, ◌≢◌, ◌==◌, ℕ, suc, ◌+◌, ◌*◌, ◌^◌, ◌<◌, ◌≤◌, Bool, true, false, List, [], ◌∷◌, length, set, ℤ, pos, negsuc, ◌+ℤ◌, ◌-ℤ◌, ◌*ℤ◌, ◌≤ℤ◌, ◌<ℤ◌, refl, sym, ap, ap₂, subst, ◌∙◌, arith, ◌⊎◌, ⊎_elim, length-set, get_or-set_same, get_or-set_other, cond, pow_mono, Contains, unsigned_abs, int_le, SFits, w64, to_z, of_z, to_z-of_z, mul-le-mul_left}
+use Rattle.std.proofs.Common.{◌≡◌, ◌≢◌, ◌==◌, ℕ, suc, ◌+◌, ◌*◌, ◌^◌, ◌<◌, ◌≤◌, Bool, true, false, List, [], ◌∷◌, length, set, get_or, All, ℤ, pos, negsuc, ◌+ℤ◌, ◌-ℤ◌, ◌*ℤ◌, ◌≤ℤ◌, ◌<ℤ◌, refl, sym, ap, ap₂, subst, ◌∙◌, arith, ◌⊎◌, ⊎_elim, length-set, get_or-set_same, get_or-set_other, cond, pow_mono, Contains, unsigned_abs, int_le, SFits, w64, to_z, of_z, to_z-of_z, mul-le-mul_left}
 use mir.Syntax.{w128}
 use Rattle.std.proofs.lemmas.Bool.{both_ways}
 use Rattle.std.proofs.lemmas.Int.{ints, by_lt_z, fits_signed_from_abs}
 use Rattle.std.proofs.lemmas.List.Elements.{All-set}
 use Rattle.std.proofs.lemmas.Nat.{pow_pos}
-use Rattle.lift_poly.proofs.Ring.{linear, mul-comm, mul-assoc, mul-add, mul-le, mul-zero, zero-mul, one-mul, as_diff, diffs, diff-same, test_from_le}
+use Rattle.lift_poly.proofs.Ring.{linear, mul-comm, mul-assoc, mul-add, mul-le, mul-le_cancel, mul-zero, zero-mul, one-mul, as_diff, diffs, diff-same, test_from_le}
 use Rattle.lift_grid.specs.Rectangle.{Spans}
 use Rattle.lift_model.specs.declared.entry.Entry.{Entry}
 use Rattle.lift_model.specs.Process.{Move, power, weighted_sum}
@@ -13,6 +13,7 @@ use Rattle.lift_model.specs.Model.{row_at, support, moves_at}
 use Rattle.lift_model.specs.Links.{LinksData, AreLinks, HasChoice, targets_of, place}
 use Rattle.lift_model.specs.declared.layout.RowPlace.{RowPlace}
 use Rattle.lift_poly.specs.Polynomial.{Valuation, weight}
+use Rattle.lift_model.specs.Valid.{IsEntry}
 use Rattle.corner_lift.specs.Certificate.{AreNumbers, AtMost}
 use Rattle.corner_lift.specs.Corner.{corner, corner_sum, whole, parameter_count}
 use Rattle.corner_lift.specs.Case.{CaseData, IsCase, IsInside, number, row_value, row_whole, corner_count, row_parameters, most_precision, most_row_parameters}
@@ -108,6 +109,23 @@ own_none v s (e ∷ row) none =
     let product : weight v e.poly *ℤ only_at s e.target ≡ pos 0 = ap (λ n. weight v e.poly *ℤ n) other ∙ mul-zero (weight v e.poly) in
     omega (arith, linear, product, own_none v s row (λ at. none (contains_tail e.target s (targets_of row) at)))
 
+-- a row with one entry weighs its target's number with all its weight
+single : (v : Valuation) (f : ℕ → ℤ) (row : List Entry) (t : ℕ) → targets_of row ≡ t ∷ [] → weighted_sum f (moves_at v row) ≡ weighted_sum (λ i. pos 1) (moves_at v row) *ℤ f t
+single v f [] t e = absurd (omega (arith, ap (length {A = ℕ}) e))
+single v f (x ∷ []) t e =
+    let same : x.target ≡ t = ap (λ l. get_or l 0 0) e in
+    let w = weight v x.poly in
+    let all : w *ℤ pos 1 +ℤ pos 0 ≡ w = omega (arith, linear, mul-comm w (pos 1), one-mul w) in
+    omega (arith, linear, ap (λ i. w *ℤ f i) same, ap (λ n. n *ℤ f t) all)
+single v f (x ∷ (y ∷ row)) t e = absurd (omega (arith, ap (length {A = ℕ}) e))
+
+target_inside : (n p : ℕ) (row : List Entry) (t : ℕ) → targets_of row ≡ t ∷ [] → All (IsEntry n p) row → t < n
+target_inside n p [] t e h = absurd (omega (arith, ap (length {A = ℕ}) e))
+target_inside n p (x ∷ row) t e h =
+    let same : x.target ≡ t = ap (λ l. get_or l 0 0) e in
+    let here : IsEntry n p x = h 0 x (omega arith) in
+    omega (arith, here.target, same)
+
 -- ---- corners that count
 
 pub across_map : (e : Extreme) (n : ℕ) (P Q : ℕ → Type 0) → ((c : ℕ) → c < n → P c → Q c) → Across e n P → Across e n Q
@@ -126,6 +144,10 @@ extreme_holds Least value n z b is le = (is.attained.0, (is.attained.1.0, omega 
 pub extreme_from : (e : Extreme) (value more : ℕ → ℤ) (n : ℕ) (z b : ℤ) → IsExtreme e value n z → ((c : ℕ) → value c ≤ℤ more c) → Across e n (λ c. more c ≤ℤ b) → z ≤ℤ b
 extreme_from Greatest value more n z b is rise h = omega (arith, linear, is.attained.1.1, rise is.attained.0, h is.attained.0 is.attained.1.0)
 extreme_from Least value more n z b is rise h = omega (arith, linear, is.least h.0 h.1.0, rise h.0, h.1.1)
+
+some_at : (e : Extreme) (n : ℕ) (P : ℕ → Type 0) → 1 ≤ n → Across e n P → (c : ℕ) × ((c < n) × P c)
+some_at Greatest n P some h = (0, (some, h 0 some))
+some_at Least n P some h = h
 
 pub extreme_attained : (e : Extreme) (value : ℕ → ℤ) (n : ℕ) (z : ℤ) → IsExtreme e value n z → (c : ℕ) × ((c < n) × (z ≡ value c))
 extreme_attained Greatest value n z is = is.attained
@@ -368,6 +390,38 @@ module _ (laws : RowLaws) (k : CaseData) (spans : Spans) (is : IsCase k) (within
         everywhere : (e : Extreme) → Across e (corner_count k s a) (IsEnoughAt k spans (set x s n) s a n)
         everywhere Greatest = λ c lt. at_corner c
         everywhere Least = (0, (some, at_corner 0))
+
+    -- a row with one entry takes its target's number
+    module _ (e : Extreme) (target : ℕ) (only : targets_of row ≡ target ∷ []) where
+      pub only_inside : target < length x
+      only_inside = omega (arith, numbers.size, target_inside (length k.model.states) (length k.model.names) row target only (is.asked.model.rows s [] has.state a [] has.choice).entries)
+
+      only_value : (c : ℕ) → c < corner_count k s a → (f : ℕ → ℤ) → corner_sum k.d spans row c f ≡ full *ℤ f target
+      only_value c lt f = single (corner k.d spans (support row) c) f row target only ∙ ap (λ w. w *ℤ f target) (full_sum c lt)
+
+      pub only_solved : pos 1 ≤ℤ full → (v : ℤ) → IsMoreExtreme Greatest n (number x target) v → IsSolved e k spans x s a (corner_count k s a) v
+      only_solved positive v o = record {
+        grown = o.0;
+        most = ⊎_elim (λ (e : v ≡ n). omega (arith, linear, e, n_range.1)) (λ (e : v ≡ number x target). omega (arith, linear, e, (laws.numbers k x target numbers).1)) o.2;
+        enough = everywhere e;
+        least = λ y at h.
+            let one = some_at e (corner_count k s a) (IsEnoughAt k spans y s a (number y s)) some_corner h in
+            let le : number y target ≤ℤ number y s = mul-le_cancel full (number y target) (number y s) (omega (arith, linear, positive)) (omega (arith, linear, one.1.1, only_value one.0 one.1.0 (number y), mul-comm full (number y s))) in
+            ⊎_elim (λ (e : v ≡ n). omega (arith, linear, e, at s)) (λ (e : v ≡ number x target). omega (arith, linear, e, at target, le)) o.2;
+      }
+        where
+          below : number (set x s v) target ≤ℤ v
+          below = ⊎_elim
+              (λ (same : target ≡ s). subst (λ u. number (set x s v) u ≤ℤ v) (sym same) (let lt = in_lane in rw get_or-set_same (omega (arith, linear))))
+              (λ (ne : target ≢ s). rw get_or-set_other o.1)
+              (same_or_not target s)
+
+          at_corner : (c : ℕ) → c < corner_count k s a → IsEnoughAt k spans (set x s v) s a v c
+          at_corner c lt = omega (arith, linear, only_value c lt (number (set x s v)), mul-le full (number (set x s v) target) v (omega (arith, linear, positive)) below, mul-comm full v)
+
+          everywhere : (e : Extreme) → Across e (corner_count k s a) (IsEnoughAt k spans (set x s v) s a v)
+          everywhere Greatest = λ c lt. at_corner c lt
+          everywhere Least = (0, (some_corner, at_corner 0 some_corner))
 
     module _ (e : Extreme) (z : ℤ) (extreme : IsExtreme e (row_value k spans s a x) (corner_count k s a) z) where
       abbrev witness : (c : ℕ) × ((c < corner_count k s a) × (z ≡ S c))

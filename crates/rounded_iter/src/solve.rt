@@ -1,6 +1,6 @@
 //! The least number of a state that is enough for one of its choices.
 
-ghost use Rattle.std.specs.Prelude.{◌≡◌, ◌*◌, ◌<◌, ◌^◌, ◌≤ℤ◌, ◌<ℤ◌, ◌*ℤ◌, ◌-ℤ◌, pos, unsigned_abs, Contains, IsTrue, IsFalse};
+ghost use Rattle.std.specs.Prelude.{◌≡◌, ◌*◌, ◌<◌, ◌^◌, ◌≤ℤ◌, ◌<ℤ◌, ◌*ℤ◌, ◌-ℤ◌, pos, unsigned_abs, Contains, IsFalse, IfSome, [], ◌∷◌};
 ghost use Rattle.lift_model.specs.Model.{row_at};
 ghost use Rattle.lift_model.specs.Links.{AreLinks, HasChoice, targets_of};
 ghost use Rattle.lift_grid.specs.Rectangle.{Spans};
@@ -72,6 +72,20 @@ impl Table<'_> {
         false
     }
 
+    /// The target of a row that has only one.
+    fn only_target(&self, s: u32, a: u32) -> Option<u32>
+        requires links { AreLinks self.now.case.model self.now.links }
+        requires row { HasChoice self.now.case.model s a }
+        ensures { IfSome result (λ t. targets_of (row_at self.now.case.model s a) ≡ t ∷ []) }
+    {
+        let targets = self.links.targets(self.links.place(s, a));
+        if targets.len() == 1 {
+            Some(targets[0])
+        } else {
+            None
+        }
+    }
+
     /// The least number from the state's own on that is enough for a row at one corner. The weight of a
     /// self loop is taken out of the whole, so that one division finds it.
     fn solve_corner(&self, lane: &[i64], s: u32, a: u32, corner: u32) -> i64
@@ -109,7 +123,7 @@ impl Table<'_> {
     }
 
     /// The least number from the state's own on that is enough for a row. A number that is `top`, as a
-    /// goal state's is, is always enough.
+    /// goal state's is, is always enough. A row with one entry takes its target's number.
     pub(crate) fn enough(&self, lane: &[i64], s: u32, a: u32) -> i64
         ghost spans: { Spans }
         requires { CanTry self.now spans lane.now s a }
@@ -121,8 +135,11 @@ impl Table<'_> {
         if number == self.top {
             return number;
         }
-        let sum = self.extreme_sum(lane, s, a);
         let whole = table_whole(self.case, self.links, self.weights, s, a);
+        if let Some(target) = self.only_target(s, a) {
+            return Extreme::Greatest.of(number, lane[target as usize]);
+        }
+        let sum = self.extreme_sum(lane, s, a);
         if sum <= times(number, whole) {
             return number;
         }

@@ -2,7 +2,7 @@ use Rattle.std.proofs.Common.{rules, SFits, w64, ◌*ℤ◌, ◌<ℤ◌, to_z, o
 use mir.Syntax.{w128}
 use Rattle.lift_poly.proofs.Ring.{linear, le_from_test}
 use Rattle.corner_lift.specs.Case.{number, row_whole}
-use Rattle.rounded_iter.proofs.Solving.{laws_of, same_number, lt_from_test, read_product, number_small, some_corner, top_solved, extreme_least, extreme_most, still_solved, lone_solved}
+use Rattle.rounded_iter.proofs.Solving.{laws_of, same_number, lt_from_test, read_product, number_small, some_corner, top_solved, extreme_least, extreme_most, still_solved, lone_solved, only_inside, only_solved}
 use Rattle.rounded_iter.proofs.table.Table.enough.Goals as goal
 
 pub returns-then-number-self : goal.returns-then-number-self
@@ -12,6 +12,20 @@ returns-then-number-self g c =
     let top_fits : SFits w64 c.self.inside.top = search rules in
     rw (← c.self.view_is, to_z-of_z number_fits)
     (top_solved (laws_of c.rows_at_corners.ensures.parameters c.rows_at_corners.ensures.numbers c.rows_at_corners.ensures.range c.rows_at_corners.ensures.rise c.corners_bound_weights.ensures.sum) c.self.inside.case.now g.spans r.read.case r.read.table.inside c.args.s c.args.a r.row c.args.lane.now r.numbers _ (some_corner (laws_of c.rows_at_corners.ensures.parameters c.rows_at_corners.ensures.numbers c.rows_at_corners.ensures.range c.rows_at_corners.ensures.rise c.corners_bound_weights.ensures.sum) c.self.inside.case.now g.spans r.read.case r.read.table.inside c.args.s c.args.a r.row) (same_number (number c.args.lane.now c.args.s) c.self.inside.top number_fits top_fits c.if-number-self.true ∙ c.self.invariant))
+
+pub bounds-lane-target : goal.bounds-lane-target
+bounds-lane-target g c =
+    let r = rw (← c.self.view_is) at c.requires in
+    only_inside (laws_of c.rows_at_corners.ensures.parameters c.rows_at_corners.ensures.numbers c.rows_at_corners.ensures.range c.rows_at_corners.ensures.rise c.corners_bound_weights.ensures.sum) c.self.inside.case.now g.spans r.read.case r.read.table.inside c.args.s c.args.a r.row c.args.lane.now r.numbers c.self.inside.extreme c.in-Some.target (rw (← c.self.view_is) at c.in-Some.ensures)
+
+pub returns-in-Some : goal.returns-in-Some
+returns-in-Some g c =
+    let r = rw (← c.self.view_is) at c.requires in
+    let fits : SFits w64 c.of.result = search rules in
+    let number_fits : SFits w64 (number c.args.lane.now c.args.s) = search rules in
+    let target_fits : SFits w64 (number c.args.lane.now c.in-Some.target) = search rules in
+    rw (← c.self.view_is, to_z-of_z fits)
+    (only_solved (laws_of c.rows_at_corners.ensures.parameters c.rows_at_corners.ensures.numbers c.rows_at_corners.ensures.range c.rows_at_corners.ensures.rise c.corners_bound_weights.ensures.sum) c.self.inside.case.now g.spans r.read.case r.read.table.inside c.args.s c.args.a r.row c.args.lane.now r.numbers c.self.inside.extreme c.in-Some.target (rw (← c.self.view_is) at c.in-Some.ensures) (rw c.table_whole-whole.ensures.value at c.table_whole-whole.ensures.positive) c.of.result (rw (to_z-of_z number_fits, to_z-of_z target_fits) at c.of.ensures))
 
 pub times-requires : goal.times-requires
 times-requires g c =
