@@ -3,3 +3,4 @@ pub mod Depths
 pub mod Tiling
 pub mod Lanes
 pub mod Stepping
+pub mod Steps

@@ -3,3 +3,4 @@ pub mod Laws
 pub mod Nodes
 pub mod Visits
 pub mod Rooms
+pub mod Decided

@@ -1,11 +1,16 @@
 -- What a visitor is shown, and what it does with a node.
 use Rattle.std.specs.Prelude.{◌≡◌, ◌≤◌, ℕ, List, ℤ, pos, ◌^◌, ◌≤ℤ◌, All, length}
 use Rattle.std.specs.declared.option.Option.{Option}
+use Rattle.std.specs.List.{flat_map}
 use Rattle.std.specs.Io.KnownBytes.{Appends}
 use Rattle.lift_base.specs.Outside.{Rose, AppendsFront}
-use Rattle.lift_grid.specs.Tree.{RejectData}
+use Rattle.lift_grid.specs.Rectangle.{Spans}
+use Rattle.lift_grid.specs.Tree.{Tree, RejectData}
 use Rattle.lift_model.specs.Valid.{most_states}
-use Rattle.corner_lift.specs.Case.{most_precision}
+use Rattle.corner_lift.specs.Case.{CaseData, most_precision}
+use Rattle.lift_cert.specs.declared.bound.Bound.{Bound}
+use Rattle.region_tree.specs.Nodes.{Node, nodes}
+use Rattle.region_tree.specs.Right.{IsRight}
 use Rattle.region_tree.specs.declared.visitor.Seen.{Seen}
 use Rattle.region_tree.specs.declared.visitor.Seen.TheVariants.{Kept, Failed}
 
@@ -30,5 +35,16 @@ Takes old new Failed bytes = AppendsFront old new bytes
 -- What a visitor did with a node of that entry: it took the entry, or failed, and then it took a part of it and a fault was counted. No count falls.
 pub record Visits {V : Type 0} (taken : V → Option (List ℕ)) (faults : V → ℕ) (old new : V) (seen : Seen) (entry : List ℕ) : Type 0 where
   pub took : Takes (taken old) (taken new) seen entry
+  pub cause : seen ≡ Failed → Rose (faults old) (faults new)
+  pub later : faults old ≤ faults new
+
+-- the entries of a tree's nodes, in preorder
+abbrev pub entries : (Node → List ℕ) → Tree → List ℕ
+entries entry tree = flat_map entry (nodes tree)
+
+-- What a walk over a rectangle at a depth did. Where it kept all, there is a right tree. Whichever tree is right, the entries of all its nodes were taken, or after a failure a part of them, from the front. A failure comes only with a fault, and no count falls.
+pub record Walks {V : Type 0} (k : CaseData) (spans : Spans) (bound : Bound) (depth : ℕ) (taken : V → Option (List ℕ)) (faults : V → ℕ) (entry : Node → List ℕ) (old new : V) (seen : Seen) : Type 0 where
+  pub tree : seen ≡ Kept → (t : Tree) × IsRight k spans bound depth t
+  pub took : (t : Tree) → IsRight k spans bound depth t → Takes (taken old) (taken new) seen (entries entry t)
   pub cause : seen ≡ Failed → Rose (faults old) (faults new)
   pub later : faults old ≤ faults new

@@ -4,6 +4,7 @@
 
 mod halves;
 mod laws;
+mod leaf;
 mod room;
 mod verdict;
 mod visitor;
