@@ -4,3 +4,4 @@ pub mod Tiling
 pub mod Lanes
 pub mod Stepping
 pub mod Steps
+mod Samples
