@@ -1,7 +1,7 @@
-use Rattle.lower_cert.proofs.Means.{Premises}
-use Rattle.lower_cert.proofs.Frontier.{frontier_leads, gap_leads}
-use Rattle.lower_cert.proofs.Attract.{start_is_staged, next_is_staged, empty_stage_ends, stages_of_test}
-use Rattle.lower_cert.proofs.laws.ranks_go_by_stages.Goals as goal
+use Rattle.robust_rank.proofs.Means.{Premises}
+use Rattle.robust_rank.proofs.Frontier.{frontier_leads, gap_leads}
+use Rattle.robust_rank.proofs.Attract.{start_is_staged, next_is_staged, empty_stage_ends, stages_of_test}
+use Rattle.robust_rank.proofs.laws.ranks_go_by_stages.Goals as goal
 
 pub returns : goal.returns
 returns c =

@@ -1,0 +1,2 @@
+pub mod Attracting
+pub mod Rate
