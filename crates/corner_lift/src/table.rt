@@ -279,18 +279,12 @@ pub fn table_whole(case: &Case, links: &Links, weights: &[i128], s: u32, a: u32)
 
 /// What a row weighs at a corner into the state that has it: the weight of its self loop. No
 /// multiplication.
-pub fn table_loop(
-    case: &Case,
-    links: &Links,
-    weights: &[i128],
-    s: u32,
-    a: u32,
-    corner: u32,
-) -> i128
+pub fn table_loop(case: &Case, links: &Links, weights: &[i128], s: u32, a: u32, corner: u32) -> i128
     ghost spans: { Spans }
     requires { CanRead case.now links.now spans weights.now s a × (corner < corner_count case.now s a) }
     ensures { result ≡ corner_sum case.now.d spans (row_at case.now.model s a) corner (only_at s) }
 {
+    premises();
     let _ = case.w();
     let place = links.place(s, a);
     sum_at(

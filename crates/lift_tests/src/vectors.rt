@@ -1,41 +1,61 @@
 //! Tests of least vectors.
 
 use crate::example::model_of;
+use corner_lift::fill;
 use lift_grid::read_region;
+use lift_model::Links;
 use lift_rows::admit;
-use rounded_iter::{Order, least_upper};
+use rounded_iter::{least_upper, least_value};
 use std::test::Fail;
 
 /// What stands around the choices of state 0 in the text of a process with the goal state 1 and the
 /// state 2.
-const HEAD: &str = "@type: MDP;@parameters;p;@model;state 0 init;";
+const HEAD: &str = "@type: MDP;@parameters;p q;@model;state 0 init;";
 
 const TAIL: &str = ";state 1 goal;action a;1 : 1;state 2;action a;2 : 1";
 
-/// The choices of state 0, and the least numbers for p from 2/5 to 3/5 and at precision 4: a coin that
-/// shows heads with 1/4, one with 1/10, and one with 1/4 that is thrown again with 1/2; two coins to
-/// choose from, that show heads with p and with 1 - p; and a coin with p that needn't be thrown.
+/// The choices of state 0, with what further states there are, and the least upper vector and the least
+/// value vector for p from 2/5 to 3/5, q from 1/5 to 2/5 and at precision 4: a coin that shows heads with
+/// 1/4, and one with 1/10; one with 1/4 that is thrown again with 1/2, so that it shows heads with 1/2;
+/// two coins to choose from, that show heads with p and with 1 - p; a coin with p that needn't be thrown;
+/// a loop that is never left; a coin that is thrown again with p; a coin over p and q whose greatest corner
+/// has high p and low q, and its least one low p and high q; two states that lead to each other; and a
+/// state that nothing leads to.
 const LEAST: &str = "\
-action a;1 : 1/4;2 : 3/4 | [4, 16, 0]
-action a;1 : 1/10;2 : 9/10 | [2, 16, 0]
-action a;0 : 1/2;1 : 1/4;2 : 1/4 | [8, 16, 0]
-action a;1 : p;2 : 1-p;action b;1 : 1-p;2 : p | [10, 16, 0]
-action a;0 : 1;action b;1 : p;2 : 1-p | [10, 16, 0]";
+action a;1 : 1/4;2 : 3/4 | [4, 16, 0] | [4, 16, 0]
+action a;1 : 1/10;2 : 9/10 | [2, 16, 0] | [2, 16, 0]
+action a;0 : 1/2;1 : 1/4;2 : 1/4 | [8, 16, 0] | [8, 16, 0]
+action a;1 : p;2 : 1-p;action b;1 : 1-p;2 : p | [10, 16, 0] | [7, 16, 0]
+action a;0 : 1;action b;1 : p;2 : 1-p | [10, 16, 0] | [7, 16, 0]
+action a;0 : 1 | [0, 16, 0] | [0, 16, 0]
+action a;0 : p;1 : 1/5;2 : 4/5-p | [8, 16, 0] | [6, 16, 0]
+action a;1 : p*(1-q);2 : 1-p*(1-q) | [8, 16, 0] | [4, 16, 0]
+action a;3 : 1/2;2 : 1/2 / action a;0 : 1/2;1 : 1/2 | [6, 16, 0, 11] | [6, 16, 0, 11]
+action a;1 : p;2 : 1-p / action a;0 : 1/2;3 : 1/2 | [10, 16, 0, 10] | [7, 16, 0, 7]";
 
 #[test]
 fn finds_the_least_vectors(rt: HostRuntime) -> Result<(), Fail> {
     let alloc = rt.alloc();
     for line in LEAST.split('\n') {
         let (choices, want) = line.split_once(" | ").unwrap_or(("", ""));
-        let text = format!(in alloc; "{HEAD}{choices}{TAIL}")?;
+        let text = match choices.split_once(" / ") {
+            Some((first, last)) => format!(in alloc; "{HEAD}{first}{TAIL};state 3;{last}")?,
+            None => format!(in alloc; "{HEAD}{choices}{TAIL}")?,
+        };
         let model = model_of(&rt, alloc, &text)?;
-        let (grid, root) = read_region(alloc, b"2/5<=p<=3/5", model.names(), 0)?;
+        let (grid, root) = read_region(alloc, b"2/5<=p<=3/5,1/5<=q<=2/5", model.names(), 0)?;
         let case = admit(&model, &root, grid, 4)?;
-        let order = Order::targets_first(alloc, case.model())?;
-        let mut lane = [8, 16, 0];
-        assert_eq!(rt; case.model().states(), 3);
-        least_upper(&case, case.root().sides(), &order, &mut lane);
-        let shown = format!(in alloc; "{lane:?}")?;
+        let links = Links::build(alloc, &model)?;
+        let mut weights = vec![in alloc; 0; links.weights_len()]?;
+        let count = model.states() as usize;
+        let mut upper = vec![in alloc; 8; count]?;
+        let mut value = vec![in alloc; 8; count]?;
+        let mut work = vec![in alloc; 0; 2 * count]?;
+        fill(&case, &links, case.root().sides(), &mut weights);
+        least_upper(&case, &links, &weights, &mut upper, &mut work);
+        least_value(&case, &links, &weights, &mut value, &mut work);
+        let (upper, value) = (upper.as_slice(), value.as_slice());
+        let shown = format!(in alloc; "{upper:?} | {value:?}")?;
         assert_eq!(rt; shown.as_str(), want, "{line}");
     }
     Ok(())

@@ -14,16 +14,16 @@ ghost use Rattle.plift_top.specs.Steps.{WritesCase, WritesOver};
 
 use crate::refusal::Refusal;
 use crate::report::{Report, Verdict};
-use corner_lift::{Case, rows_inside};
+use corner_lift::{Case, fill, rows_inside};
 use drn_read::read_model;
 use lift_base::{Sink, Source, read_all, write_buffered};
 use lift_cert::{Bound, certificates_decide};
 use lift_grid::{Grid, Rect, read_region};
-use lift_model::Model;
+use lift_model::{Links, Model};
 use lift_names::Names;
 use lift_rows::admit;
 use plift_words::VerifyJob;
-use rounded_iter::{Order, least_upper};
+use rounded_iter::least_upper;
 use std::alloc::{AllocError, Global};
 
 /// How many bytes a text may have.
@@ -68,10 +68,13 @@ fn case_of<'m>(
 fn upper_of(alloc: Global, case: &Case) -> Result<Vec<i64>, AllocError>
     ensures { IfOk result (λ x. IsLeastUpper case.now case.now.root x.items) }
 {
-    let model = case.model();
-    let order = Order::targets_first(alloc, model)?;
-    let mut lane = vec![in alloc; 0; model.states() as usize]?;
-    least_upper(case, case.root().sides(), &order, &mut lane);
+    let count = case.model().states() as usize;
+    let links = Links::build(alloc, case.model())?;
+    let mut weights = vec![in alloc; 0; links.weights_len()]?;
+    let mut lane = vec![in alloc; 0; count]?;
+    let mut work = vec![in alloc; 0; 2 * count]?;
+    fill(case, &links, case.root().sides(), &mut weights);
+    least_upper(case, &links, &weights, &mut lane, &mut work);
     Ok(lane)
 }
 

@@ -1,3 +1,4 @@
-pub mod Ceilings
+mod Ceilings
+pub mod Solving
 pub mod Raising
-pub mod Searching
+pub mod Watching

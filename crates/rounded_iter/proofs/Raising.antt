@@ -1,264 +1,286 @@
--- What one raise of a state keeps, and what a sweep keeps.
-use Rattle.std.proofs.Common.{◌≡◌, ◌≢◌, ℕ, zero, suc, ◌+◌, ◌^◌, ◌<◌, ◌≤◌, Bool, true, false, List, [], ◌∷◌, length, set, ℤ, pos, ◌-ℤ◌, ◌*ℤ◌, ◌≤ℤ◌, ◌<ℤ◌, unsigned_abs, refl, sym, ap, ap₂, subst, ◌∙◌, arith, ◌⊎◌, ⊎_elim, length-set, get_or-set_same, get_or-set_other, cond, int_le, SFits, w64, to_z, of_z, to_z-of_z, pow_mono}
-use mir.Syntax.{w128}
+-- What a raise of a state keeps.
+use Rattle.std.proofs.Common.{◌≡◌, ◌≢◌, ℕ, zero, suc, ◌+◌, ◌^◌, ◌<◌, ◌≤◌, Bool, true, false, List, [], ◌∷◌, length, map, set, get_or, ℤ, pos, ◌+ℤ◌, ◌-ℤ◌, ◌*ℤ◌, ◌≤ℤ◌, ◌<ℤ◌, refl, sym, ap, subst, ◌∙◌, arith, ◌⊎◌, ⊎_elim, All, Contains, get_or-set_same, get_or-set_other, cond}
+use Rattle.std.specs.List.{concat}
 use Rattle.std.proofs.lemmas.Bool.{both_ways}
 use Rattle.std.proofs.lemmas.Int.{ints, by_lt_z}
 use Rattle.std.proofs.lemmas.List.{get_or_past, get_or_default}
-use Rattle.std.proofs.lemmas.List.Elements.{All-set, All-from_get_or}
-use Rattle.lift_poly.proofs.Ring.{linear, mul-comm, mul-le, test_from_le}
-use Rattle.lift_grid.specs.Rectangle.{Spans, spans_of}
+use Rattle.std.proofs.lemmas.List.Elements.{All-from_get_or, Contains-append_left, Contains-append_right}
+use Rattle.lift_poly.proofs.Ring.{linear, mul-zero, mul-comm, one-mul}
+use Rattle.lift_grid.specs.Rectangle.{Spans}
 use Rattle.lift_model.specs.declared.entry.Entry.{Entry}
-use Rattle.lift_model.specs.Process.{power}
-use Rattle.lift_model.specs.Model.{choices, row_at, is_goal, support}
+use Rattle.lift_model.specs.Model.{ModelData, choices, row_at, is_goal, support, moves_at}
+use Rattle.lift_model.specs.Links.{HasChoice, Leads, targets_of, all_targets}
 use Rattle.corner_lift.specs.Certificate.{IsUpper, IsLeastUpper}
-use Rattle.corner_lift.specs.Corner.{AtCorners, corner_sum, whole, parameter_count}
-use Rattle.corner_lift.specs.Case.{CaseData, IsCase, IsInside, AreSidesInside, IsGreatest, number, row_value, row_whole, corner_count, most_precision}
-use Rattle.corner_lift.specs.Laws.{HasRow, ParametersAreTheRoots, NumbersAreInRange, SumsAreInRange, SumsRise}
-use Rattle.rounded_iter.specs.Rising.{IsEnough, IsEnoughFor, IsBelow, room}
+use Rattle.corner_lift.specs.Corner.{AtCorners, corner, corner_sum, whole}
+use Rattle.corner_lift.specs.Case.{CaseData, IsCase, IsInside, number, row_whole, corner_count}
+use Rattle.corner_lift.specs.Dot.{only_at}
+use Rattle.corner_lift.specs.Laws.{NumbersAreInRange}
+use Rattle.rounded_iter.specs.declared.table.Extreme.{Extreme}
+use Rattle.rounded_iter.specs.declared.table.Extreme.TheVariants.{Greatest, Least}
+use Rattle.rounded_iter.specs.Value.{IsValue, IsLeastValue, SomeMeanAtMost}
+use Rattle.rounded_iter.specs.Rising.{TableData, IsRead, IsBelow, IsBound, IsLeastBound, IsEnough, IsEnoughFor, IsEnoughAt, IsSolved, Across, room}
+use Rattle.rounded_iter.specs.Watching.{count, CanRaise, IsRaised, IsRaisedBy, IsRaisedState, IsBelowUppers}
+use Rattle.rounded_iter.proofs.Solving.{RowLaws, across_map, same_or_not, sum_moved, only_same, only_other, own_none, same_whole, at_root, at_spans, enough_shifted, in_lane, set_numbers, value_set, n_least}
 
-abbrev Within : ℕ → ℤ → Type 0
-Within w n = (pos 0 ≤ℤ n) × (n ≤ℤ pos (2 ^ w))
-
--- ---- order
-
--- a product with c above 0 keeps the order, and tells it
-pub mul-lt_cancel : (c a b : ℤ) → pos 1 ≤ℤ c → (a *ℤ c) <ℤ (b *ℤ c) → a <ℤ b
-mul-lt_cancel c a b positive h = by_lt_z a b (λ lt. lt) (λ le. absurd (omega (arith, linear, h, mul-le c b a (omega (arith, linear)) le, mul-comm a c, mul-comm b c)))
+abbrev Range : ℕ → ℤ → Type 0
+Range w n = (pos 0 ≤ℤ n) × (n ≤ℤ pos (2 ^ w))
 
 room-set : (w : ℕ) (x : List ℤ) (s : ℕ) (v : ℤ) → s < length x → number x s <ℤ v → v ≤ℤ pos (2 ^ w) → room w (set x s v) < room w x
 room-set w [] s v lt higher most = absurd (omega arith)
 room-set w (n ∷ x) zero v lt higher most = omega (arith, ints)
 room-set w (n ∷ x) (suc s) v lt higher most = omega (arith, room-set w x s v (omega arith) higher most)
 
--- two numbers of one parameter_count are equal where their bits are
-pub same_number : (a b : ℤ) → SFits w64 a → SFits w64 b → of_z w64 a ≡ of_z w64 b → a ≡ b
-same_number a b a_fits b_fits e = sym (to_z-of_z a_fits) ∙ ap (to_z w64) e ∙ to_z-of_z b_fits
-
--- a test of an order that failed
-pub lt_from_test : (a b : ℤ) → int_le a b ≡ false → b <ℤ a
-lt_from_test a b e = by_lt_z b a (λ lt. lt) (λ le. absurd (both_ways (int_le a b) e (test_from_le a b le)))
-
--- the form in which the code holds a product
-pub read_product : (n whole product : ℤ) → SFits w64 n → SFits w128 whole → SFits w128 product → product ≡ to_z w64 (of_z w64 n) *ℤ to_z w128 (of_z w128 whole) → to_z w128 (of_z w128 product) ≡ n *ℤ whole
-read_product n whole product n_fits whole_fits product_fits e = to_z-of_z product_fits ∙ e ∙ ap₂ ◌*ℤ◌ (to_z-of_z n_fits) (to_z-of_z whole_fits)
-
--- by a choice with the greatest weighted sum z, state s may be raised to v: v is z over the whole, rounded up, and the number is less
-pub record Raises (k : CaseData) (x : List ℤ) (s a : ℕ) (z v : ℤ) : Type 0 where
-  pub positive : pos 1 ≤ℤ row_whole k s a
-  pub short : (number x s *ℤ row_whole k s a) <ℤ z
-  pub enough : z ≤ℤ (v *ℤ row_whole k s a)
-  pub least : ((v -ℤ pos 1) *ℤ row_whole k s a) <ℤ z
-
--- ---- one raise
-
--- the laws of rows that a raise rests on
-pub record RowLaws : Type 0 where
-  pub parameters : ParametersAreTheRoots
-  pub numbers : NumbersAreInRange
-  pub range : SumsAreInRange
-  pub rise : SumsRise
-
-pub laws_of : ParametersAreTheRoots → NumbersAreInRange → SumsAreInRange → SumsRise → RowLaws
-laws_of parameters numbers range rise = record { parameters = parameters; numbers = numbers; range = range; rise = rise }
-
--- a number from 0 to 2 ^ w has at most that size
-number_size : (n : ℤ) (w : ℕ) → pos 0 ≤ℤ n → n ≤ℤ pos (2 ^ w) → unsigned_abs n ≤ 2 ^ w
-number_size n w least most = omega (arith, ints, least, most)
-
 -- whether a state is one of so many
-in_or_past : (s count : ℕ) → (s < count) ⊎ (count ≤ s)
+pub in_or_past : (s count : ℕ) → (s < count) ⊎ (count ≤ s)
 in_or_past s count = grind arith
 
-module _ (laws : RowLaws) (k : CaseData) (sides : List ℤ) (is : IsCase k) (inside : AreSidesInside k.root sides) (x : List ℤ) (below : IsBelow k (spans_of sides) x) (s a : ℕ) (state : s < length k.model.states) (choice : a < length (choices k.model s)) where
-  abbrev spans : Spans
-  spans = spans_of sides
+pub one_more : (b a : ℕ) → b < a + 1 → (b < a) ⊎ (b ≡ a)
+one_more b a lt = grind arith
 
-  abbrev row : List Entry
-  row = row_at k.model s a
+-- ---- one choice
 
-  abbrev top : ℤ
-  top = pos (2 ^ k.w)
+module _ (laws : RowLaws) (t : TableData) (spans : Spans) (x : List ℤ) (s a : ℕ) (can : CanRaise t spans x s) (choice : a < length (choices t.case.model s)) where
+  abbrev k : CaseData
+  k = t.case
 
-  within : IsInside k.root spans
-  within = record { rectangle = inside.rectangle.spans; within = inside.within }
+  abbrev e : Extreme
+  e = t.extreme
 
-  has : HasRow k s a
-  has = record { state = state; choice = choice }
+  has : HasChoice k.model s a
+  has = record { state = can.state; choice = choice }
 
-  same_width : parameter_count spans (support row) ≡ parameter_count k.root (support row)
-  same_width = laws.parameters k spans row inside.within
+  -- the number is enough already
+  pub raised_none : (v : ℤ) → IsSolved e k spans x s a (corner_count k s a) v → v ≡ number x s → IsRaised t spans x x s a false
+  raised_none v h same = record {
+    below = can.below;
+    kept = λ b. refl;
+    less = λ b. cc;
+    other = λ i ne. refl;
+    grown = omega (arith, linear);
+    enough = across_map e (corner_count k s a) (IsEnoughAt k spans (set x s v) s a v) (IsEnoughAt k spans x s a (number x s))
+        (λ c lt at. omega (arith, linear, at, value_set laws k spans can.read.case can.read.table.inside s a has x can.below.numbers v c, ap (λ m. m *ℤ corner_sum k.d spans (row_at k.model s a) c (only_at s)) same, ap (λ m. m *ℤ row_whole k s a) same)) h.enough;
+  }
 
-  same_whole : whole k.model k.d spans row ≡ row_whole k s a
-  same_whole = ap (λ n. k.model.common *ℤ power k.d n) same_width
+  module _ (v : ℤ) (h : IsSolved e k spans x s a (corner_count k s a) v) (ne : v ≢ number x s) where
+    rises : number x s <ℤ v
+    rises = by_lt_z (number x s) v (λ lt. lt) (λ le. absurd (ne (omega (arith, linear, le, h.grown))))
 
-  at_root : (c : ℕ) → c < 2 ^ parameter_count spans (support row) → c < corner_count k s a
-  at_root c lt = subst (λ n. c < 2 ^ n) same_width lt
+    lane : s < length x
+    lane = in_lane laws k spans can.read.case can.read.table.inside s a has x can.below.numbers
 
-  at_sides : (c : ℕ) → c < corner_count k s a → c < 2 ^ parameter_count spans (support row)
-  at_sides c lt = subst (λ n. c < 2 ^ n) (sym same_width) lt
+    at_s : number (set x s v) s ≡ v
+    at_s = let lt = lane in rw get_or-set_same refl
 
-  -- each corner's sum lies from 0 to 2 ^ w times the whole
-  value_range : (c : ℕ) → (pos 0 ≤ℤ row_value k spans s a x c) × (row_value k spans s a x c ≤ℤ (top *ℤ row_whole k s a))
-  value_range c = laws.range k spans s a c x is within has below.numbers
+    others : (i : ℕ) → i ≢ s → number (set x s v) i ≡ number x i
+    others i differs = rw get_or-set_other refl
 
-  -- a number that is 2 ^ w is enough
-  pub top_enough : number x s ≡ pos (2 ^ k.w) → IsEnoughFor k (spans_of sides) x s a
-  top_enough e c lt = omega (arith, linear, (value_range c).1, ap (λ n. n *ℤ row_whole k s a) e, ap (λ n. number x s *ℤ n) same_whole)
+    free : number x s ≢ pos (2 ^ k.w)
+    free is = absurd (omega (arith, linear, is, rises, h.most))
 
-  -- so is one that is at least the greatest weighted mean
-  pub greatest_enough : (z : ℤ) → IsGreatest (row_value k (spans_of sides) s a x) (corner_count k s a) z → z ≤ℤ (number x s *ℤ row_whole k s a) → IsEnoughFor k (spans_of sides) x s a
-  greatest_enough z greatest le c lt = omega (arith, linear, greatest.most c (at_root c lt), le, ap (λ n. number x s *ℤ n) same_whole)
+    open_state : (b : Bool) → is_goal k.model s ≡ b → is_goal k.model s ≡ false
+    open_state true is = absurd (free (can.below.goal s is))
+    open_state false is = is
 
-  pub number_small : unsigned_abs (number x s) ≤ 2 ^ k.w
-  number_small = let range = laws.numbers k x s below.numbers in number_size (number x s) k.w range.0 range.1
+    pub raised_up : IsRaised t spans x (set x s v) s a true
+    raised_up = record {
+      below = record {
+        numbers = set_numbers laws k spans can.read.case can.read.table.inside s a has x can.below.numbers v (omega (arith, linear, rises, n_least laws k spans can.read.case can.read.table.inside s a has x can.below.numbers)) h.most;
+        goal = λ i is. ⊎_elim
+            (λ (same : i ≡ s). absurd (free (sym (ap (number x) same) ∙ can.below.goal i is)))
+            (λ (differs : i ≢ s). others i differs ∙ can.below.goal i is)
+            (same_or_not i s);
+        least = λ y bound i. ⊎_elim
+            (λ (same : i ≡ s). subst (λ j. number (set x s v) j ≤ℤ number y j) (sym same)
+            (omega (arith, linear, at_s, h.least y (can.below.least y bound) (bound.enough s can.state (open_state (is_goal k.model s) refl) a choice))))
+            (λ (differs : i ≢ s). omega (arith, linear, others i differs, can.below.least y bound i))
+            (same_or_not i s);
+      };
+      kept = λ b. cc;
+      less = λ b. room-set k.w x s v lane rises h.most;
+      other = others;
+      grown = omega (arith, linear, at_s, rises);
+      enough = subst (λ m. Across e (corner_count k s a) (IsEnoughAt k spans (set x s v) s a m)) (sym at_s) h.enough;
+    }
 
-  module _ (z : ℤ) (greatest : IsGreatest (row_value k (spans_of sides) s a x) (corner_count k s a) z) where
-    pub sum_least : pos 0 ≤ℤ z
-    sum_least = omega (arith, linear, greatest.attained.1.1, (value_range greatest.attained.0).0)
+-- ---- the choices of a state
 
-    sum_top : z ≤ℤ (top *ℤ row_whole k s a)
-    sum_top = omega (arith, linear, greatest.attained.1.1, (value_range greatest.attained.0).1)
+pub raised_by_none : (t : TableData) (spans : Spans) (x : List ℤ) (s : ℕ) → CanRaise t spans x s → IsRaisedBy t spans x x s 0 false
+raised_by_none t spans x s can = record {
+  below = can.below;
+  kept = λ b. refl;
+  less = λ b. cc;
+  other = λ i ne. refl;
+  enough = λ b lt. absurd (omega (arith, lt));
+}
 
-    pub sum_most : pos 1 ≤ℤ row_whole k s a → z ≤ℤ (pos (2 ^ most_precision) *ℤ row_whole k s a)
-    sum_most positive =
-        let small : 2 ^ k.w ≤ 2 ^ most_precision = pow_mono is.asked.precision.1 in
-        omega (arith, linear, sum_top, mul-le (row_whole k s a) top (pos (2 ^ most_precision)) (omega (arith, linear, positive)) (omega (arith, linear, small)), mul-comm top (row_whole k s a), mul-comm (pos (2 ^ most_precision)) (row_whole k s a))
+module _ (laws : RowLaws) (t : TableData) (spans : Spans) (old x y : List ℤ) (s a : ℕ) (read : IsRead t spans) (state : s < count t) (choice : a < length (choices t.case.model s)) where
+  -- a choice by which it rose
+  pub raised_by_risen : (rose : Bool) → IsRaisedBy t spans old x s a rose → IsRaised t spans x y s a true → IsRaisedBy t spans old y s (a + 1) true
+  raised_by_risen rose h g = record {
+    below = g.below;
+    kept = λ b. cc;
+    less = λ b. lower rose refl;
+    other = λ i ne. g.other i ne ∙ h.other i ne;
+    enough = λ b lt. ⊎_elim
+        (λ (before : b < a). across_map t.extreme (corner_count t.case s b) (IsEnoughAt t.case spans x s b (number x s)) (IsEnoughAt t.case spans y s b (number y s))
+        (λ c at. enough_shifted laws t.case spans read.case read.table.inside s b (record { state = state; choice = omega (arith, before, choice) }) x y (number y s -ℤ number x s) shifted (omega (arith, linear)) c at) (h.enough b before))
+        (λ (here : b ≡ a). subst (λ i. IsEnoughFor t.extreme t.case spans y s i) (sym here) g.enough)
+        (one_more b a lt);
+  }
+    where
+      lower : (r : Bool) → rose ≡ r → room t.case.w y < room t.case.w old
+      lower true is = omega (arith, g.less refl, h.less is)
+      lower false is = subst (λ l. room t.case.w y < room t.case.w l) (h.kept is) (g.less refl)
 
-    module _ (v : ℤ) (raises : Raises k x s a z v) where
-      rises : number x s <ℤ v
-      rises = mul-lt_cancel (row_whole k s a) (number x s) v raises.positive (omega (arith, linear, raises.short, raises.enough))
+      shifted : (i : ℕ) → number y i ≤ℤ (number x i +ℤ (number y s -ℤ number x s))
+      shifted i = ⊎_elim
+          (λ (same : i ≡ s). subst (λ j. number y j ≤ℤ (number x j +ℤ (number y s -ℤ number x s))) (sym same) (omega (arith, linear)))
+          (λ (ne : i ≢ s). omega (arith, linear, g.other i ne, g.grown))
+          (same_or_not i s)
 
-      at_most : v ≤ℤ top
-      at_most = let lt : (v -ℤ pos 1) <ℤ top = mul-lt_cancel (row_whole k s a) (v -ℤ pos 1) top raises.positive (omega (arith, linear, raises.least, sum_top)) in omega (arith, linear, lt)
-
-      -- a number that rises isn't 2 ^ w
-      free : number x s ≢ top
-      free e = absurd (omega (arith, linear, e, rises, at_most))
-
-      open_state : (b : Bool) → is_goal k.model s ≡ b → is_goal k.model s ≡ false
-      open_state true e = absurd (free (below.goal s e))
-      open_state false e = e
-
-      in_lane : s < length x
-      in_lane = omega (arith, state, below.numbers.size)
-
-      same_or_not : (s t : ℕ) → (t ≡ s) ⊎ (t ≢ s)
-      same_or_not s t = grind arith
-
-      -- no upper vector is lower at s than v
-      under : (y : List ℤ) → IsUpper k spans y → v ≤ℤ number y s
-      under y upper =
-          let c = greatest.attained.0 in
-          let more = laws.rise k spans s a c (number x) (number y) is within has (below.least y upper) in
-          let enough : corner_sum k.d spans row c (number y) ≤ℤ (number y s *ℤ whole k.model k.d spans row) = upper.means s (open_state (is_goal k.model s) refl) a [] choice c (at_sides c greatest.attained.1.0) in
-          let lt : (v -ℤ pos 1) <ℤ number y s = mul-lt_cancel (row_whole k s a) (v -ℤ pos 1) (number y s) raises.positive (omega (arith, linear, raises.least, greatest.attained.1.1, more, enough, ap (λ n. number y s *ℤ n) same_whole)) in
-          omega (arith, linear, lt)
-
-      pub raised_below : IsBelow k (spans_of sides) (set x s v)
-      raised_below = record {
-        numbers = record {
-          size = length-set x s v ∙ below.numbers.size;
-          range = All-set (Within k.w) x s v (omega (arith, linear, rises, (laws.numbers k x s below.numbers).0), at_most) below.numbers.range;
-        };
-        goal =
-            λ t e. ⊎_elim
-            (λ (same : t ≡ s). absurd (free (sym (ap (number x) same) ∙ below.goal t e)))
-            (λ (ne : t ≢ s). rw get_or-set_other (below.goal t e))
-            (same_or_not s t);
-        least =
-            λ y upper t. ⊎_elim
-            (λ (same : t ≡ s). subst (λ i. number (set x s v) i ≤ℤ number y i) (sym same) (let lt = in_lane in rw get_or-set_same (under y upper)))
-            (λ (ne : t ≢ s). rw get_or-set_other (below.least y upper t))
-            (same_or_not s t);
+  -- one by which it didn't
+  pub raised_by_kept : (rose : Bool) → IsRaisedBy t spans old x s a rose → IsRaised t spans x y s a false → IsRaisedBy t spans old y s (a + 1) rose
+  raised_by_kept rose h g =
+      let same : y ≡ x = g.kept refl in
+      record {
+        below = g.below;
+        kept = λ b. same ∙ h.kept b;
+        less = λ b. subst (λ l. room t.case.w l < room t.case.w old) (sym same) (h.less b);
+        other = λ i ne. ap (λ l. number l i) same ∙ h.other i ne;
+        enough = λ b lt. ⊎_elim
+            (λ (before : b < a). subst (λ l. IsEnoughFor t.extreme t.case spans l s b) (sym same) (h.enough b before))
+            (λ (here : b ≡ a). subst (λ i. IsEnoughFor t.extreme t.case spans y s i) (sym here) g.enough)
+            (one_more b a lt);
       }
 
-      pub raised_room : room k.w (set x s v) < room k.w x
-      raised_room = room-set k.w x s v in_lane rises at_most
-
--- ---- a sweep
-
--- What a sweep over states, or over the choices of one, keeps: the vector stays below every upper vector and can only rise, and while it hasn't risen, it is as at the start, and good at each number that was seen.
-pub record IsSwept (k : CaseData) (spans : Spans) (old x : List ℤ) (rose : Bool) (Good : List ℤ → ℕ → Type 0) (Seen : ℕ → Type 0) : Type 0 where
-  pub below : IsBelow k spans x
-  pub enough : rose ≡ false → (i : ℕ) → Seen i → Good x i
-  pub same : rose ≡ false → x ≡ old
-  pub less : rose ≡ true → room k.w x < room k.w old
-
--- a number at which it didn't rise was seen
-pub swept_kept : (k : CaseData) (spans : Spans) (old x y : List ℤ) (rose rose' : Bool) (s : ℕ) (Good : List ℤ → ℕ → Type 0) (Seen Seen' : ℕ → Type 0) → rose' ≡ rose → y ≡ x → Good y s → ((i : ℕ) → Seen' i → (i ≡ s) ⊎ Seen i) → IsSwept k spans old x rose Good Seen → IsSwept k spans old y rose' Good Seen'
-swept_kept k spans old x y rose rose' s Good Seen Seen' r e enough seen h = record {
-  below = rw e h.below;
-  enough =
-      λ still i at. ⊎_elim
-      (λ (here : i ≡ s). subst (Good y) (sym here) enough)
-      (λ (before : Seen i). subst (λ z. Good z i) (sym e) (h.enough (sym r ∙ still) i before))
-      (seen i at);
-  same = λ still. e ∙ h.same (sym r ∙ still);
-  less = λ risen. rw e (h.less (sym r ∙ risen));
+pub raised_by_all : (t : TableData) (spans : Spans) (old x : List ℤ) (s a : ℕ) (rose : Bool) → length (choices t.case.model s) ≤ a → IsRaisedBy t spans old x s a rose → IsRaisedState t spans old x s rose
+raised_by_all t spans old x s a rose all h = record {
+  below = h.below;
+  kept = h.kept;
+  less = h.less;
+  other = h.other;
+  enough = λ b lt. h.enough b (omega (arith, lt, all));
 }
 
--- a number at which it rose
-pub swept_risen : (k : CaseData) (spans : Spans) (old x y : List ℤ) (rose rose' : Bool) (Good : List ℤ → ℕ → Type 0) (Seen Seen' : ℕ → Type 0) → rose' ≡ true → IsBelow k spans y → room k.w y < room k.w x → IsSwept k spans old x rose Good Seen → IsSwept k spans old y rose' Good Seen'
-swept_risen k spans old x y rose rose' Good Seen Seen' r below falls h = record {
-  below = below;
-  enough = λ still. absurd (both_ways rose' still r);
-  same = λ still. absurd (both_ways rose' still r);
-  less = λ risen. more rose h.same h.less;
-}
+-- ---- other states
+
+contains_all : (rows : List (List Entry)) (a i : ℕ) → a < length rows → Contains (targets_of (get_or rows a [])) i → Contains (concat (map targets_of rows)) i
+contains_all [] a i lt h = absurd (omega (arith, lt))
+contains_all (row ∷ rows) zero i lt h = Contains-append_left (targets_of row) (concat (map targets_of rows)) i h
+contains_all (row ∷ rows) (suc a) i lt h = Contains-append_right (targets_of row) (concat (map targets_of rows)) i (contains_all rows a i (omega (arith, lt)) h)
+
+-- a target of a row is one that its state leads to
+pub row_leads : (m : ModelData) (q b i : ℕ) → b < length (choices m q) → Contains (targets_of (row_at m q b)) i → Leads m q i
+row_leads m q b i lt h = contains_all (choices m q) b i lt h
+
+pub leads_inside : (m : ModelData) (q i : ℕ) → Leads m q i → q < length m.states
+leads_inside m q i at = ⊎_elim
+    (λ (inside : q < length m.states). inside)
+    (λ (past : length m.states ≤ q). absurd (let none : all_targets m q ≡ [] = ap (λ rows. concat (map targets_of rows)) (get_or_past m.states q [] past) in omega (arith, at.1, ap (length {A = ℕ}) none)))
+    (in_or_past q (length m.states))
+
+-- a state that doesn't lead to the one that rose keeps what it has enough
+pub enough_kept : (t : TableData) (spans : Spans) (x y : List ℤ) (q s : ℕ) → q ≢ s → (Leads t.case.model q s → ⊥) → ((i : ℕ) → i ≢ s → number y i ≡ number x i) → IsEnough t.extreme t.case spans x q → IsEnough t.extreme t.case spans y q
+enough_kept t spans x y q s differs none other h b lt =
+    let k = t.case in
+    let row = row_at k.model q b in
+    across_map t.extreme (corner_count k q b) (IsEnoughAt k spans x q b (number x q)) (IsEnoughAt k spans y q b (number y q))
+    (λ c at le.
+    let v = corner k.d spans (support row) c in
+    let d = number y s -ℤ number x s in
+    let sum = sum_moved (number x) (number y) (only_at s) d (moves_at v row) moved in
+    let nothing = own_none v s row (λ at_row. none (row_leads k.model q b s lt at_row)) in
+    omega (arith, linear, le, sum, ap (λ m. d *ℤ m) nothing, mul-zero d, ap (λ m. m *ℤ row_whole k q b) (other q differs))) (h b lt)
   where
-    more : (b : Bool) → (b ≡ false → x ≡ old) → (b ≡ true → room k.w x < room k.w old) → room k.w y < room k.w old
-    more true f g = omega (arith, g refl)
-    more false f g = subst (λ l. room k.w y < room k.w l) (f refl) falls
-
-pub swept_none : (k : CaseData) (spans : Spans) (x : List ℤ) (Good : List ℤ → ℕ → Type 0) (Seen : ℕ → Type 0) → ((i : ℕ) → Seen i → ⊥) → IsBelow k spans x → IsSwept k spans x x false Good Seen
-swept_none k spans x Good Seen none below = record { below = below; enough = λ still i at. absurd (none i at); same = λ still. refl; less = λ risen. cc }
-
--- the numbers below i + 1 are i and those below i
-pub seen_one_more : (i n : ℕ) → n < i + 1 → (n ≡ i) ⊎ (n < i)
-seen_one_more i n lt = grind arith
-
--- a whole sweep in which none rose leaves the least upper vector
-pub swept_all : (k : CaseData) (spans : Spans) (old x : List ℤ) (rose : Bool) (Seen : ℕ → Type 0) → ((i : ℕ) → i < length k.model.states → Seen i) → IsSwept k spans old x rose (IsEnough k spans) Seen → rose ≡ false → IsLeastUpper k spans x
-swept_all k spans old x rose Seen all h still = record {
-  upper = record {
-    numbers = h.below.numbers;
-    goal = h.below.goal;
-    means =
-        λ s e. All-from_get_or (Meets s) (choices k.model s) []
-        (λ a lt. ⊎_elim
-        (λ (state : s < length k.model.states). h.enough still s (all s state) a lt)
-        (λ (past : length k.model.states ≤ s). absurd (let none = get_or_past k.model.states s [] past in omega (arith, lt, ap (length {A = List Entry}) none)))
-        (in_or_past s (length k.model.states)));
-  };
-  least = h.below.least;
-}
-  where
-    Meets : ℕ → List Entry → Type 0
-    Meets s row = AtCorners spans row (λ c. corner_sum k.d spans row c (number x) ≤ℤ (number x s *ℤ whole k.model k.d spans row))
+    moved : (i : ℕ) → number y i ≡ number x i +ℤ (number y s -ℤ number x s) *ℤ only_at s i
+    moved i = ⊎_elim
+        (λ (same : i ≡ s). subst (λ j. number y j ≡ number x j +ℤ (number y s -ℤ number x s) *ℤ only_at s j) (sym same)
+        (omega (arith, linear, ap (λ m. (number y s -ℤ number x s) *ℤ m) (only_same s), mul-comm (number y s -ℤ number x s) (pos 1), one-mul (number y s -ℤ number x s))))
+        (λ (ne : i ≢ s). omega (arith, linear, other i ne, ap (λ m. (number y s -ℤ number x s) *ℤ m) (only_other s i ne), mul-zero (number y s -ℤ number x s)))
+        (same_or_not i s)
 
 -- ---- the start
 
 -- 2 ^ w on goal states and 0 elsewhere
-pub start_below : NumbersAreInRange → (k : CaseData) (spans : Spans) (x : List ℤ) → length k.model.goal ≡ length k.model.states → length x ≡ length k.model.states → ((i : ℕ) → i < length k.model.states → number x i ≡ cond (is_goal k.model i) (pos (2 ^ k.w)) (pos 0)) → IsBelow k spans x
-start_below numbers k spans x goals size written = record {
+pub start_below : NumbersAreInRange → (e : Extreme) (k : CaseData) (spans : Spans) (x : List ℤ) → length k.model.goal ≡ length k.model.states → length x ≡ length k.model.states → ((i : ℕ) → i < length k.model.states → number x i ≡ cond (is_goal k.model i) (pos (2 ^ k.w)) (pos 0)) → IsBelow e k spans x
+start_below numbers e k spans x goals size written = record {
   numbers = record {
     size = size;
-    range = λ i d lt. subst (Within k.w) (sym (get_or_default x i d (pos 0) lt ∙ written i (omega (arith, lt, size)))) (either (is_goal k.model i));
+    range = λ i d lt. subst (Range k.w) (sym (get_or_default x i d (pos 0) lt ∙ written i (omega (arith, lt, size)))) (either (is_goal k.model i));
   };
-  goal = λ s e. written s (goal_in s e) ∙ ap (λ g. cond g (pos (2 ^ k.w)) (pos 0)) e;
-  least = λ y upper s. ⊎_elim
-      (λ (lt : s < length k.model.states). rw (written s lt) (under y upper s (is_goal k.model s) refl))
-      (λ (past : length k.model.states ≤ s). rw (get_or_past x s (pos 0) (omega (arith, past, size))) ((numbers k y s upper.numbers).0))
+  goal = λ s is. written s (goal_in s is) ∙ ap (λ g. cond g (pos (2 ^ k.w)) (pos 0)) is;
+  least = λ y bound s. ⊎_elim
+      (λ (lt : s < length k.model.states). rw (written s lt) (under y bound s (is_goal k.model s) refl))
+      (λ (past : length k.model.states ≤ s). rw (get_or_past x s (pos 0) (omega (arith, past, size))) ((numbers k y s bound.numbers).0))
       (in_or_past s (length k.model.states));
 }
   where
-    either : (b : Bool) → Within k.w (cond b (pos (2 ^ k.w)) (pos 0))
+    either : (b : Bool) → Range k.w (cond b (pos (2 ^ k.w)) (pos 0))
     either true = (omega (arith, linear), omega (arith, linear))
     either false = (omega (arith, linear), omega (arith, linear))
 
     goal_in : (s : ℕ) → is_goal k.model s ≡ true → s < length k.model.states
-    goal_in s e = ⊎_elim (λ (lt : s < length k.model.states). lt) (λ (past : length k.model.states ≤ s). absurd (both_ways (is_goal k.model s) (get_or_past k.model.goal s false (omega (arith, past, goals))) e)) (in_or_past s (length k.model.states))
+    goal_in s is = ⊎_elim (λ (lt : s < length k.model.states). lt) (λ (past : length k.model.states ≤ s). absurd (both_ways (is_goal k.model s) (get_or_past k.model.goal s false (omega (arith, past, goals))) is)) (in_or_past s (length k.model.states))
 
-    under : (y : List ℤ) → IsUpper k spans y → (s : ℕ) (b : Bool) → is_goal k.model s ≡ b → cond b (pos (2 ^ k.w)) (pos 0) ≤ℤ number y s
-    under y upper s true e = rw (upper.goal s e) (omega (arith, linear))
-    under y upper s false e = (numbers k y s upper.numbers).0
+    under : (y : List ℤ) → IsBound e k spans y → (s : ℕ) (b : Bool) → is_goal k.model s ≡ b → cond b (pos (2 ^ k.w)) (pos 0) ≤ℤ number y s
+    under y bound s true is = rw (bound.goal s is) (omega (arith, linear))
+    under y bound s false is = (numbers k y s bound.numbers).0
+
+-- ---- bounds are upper vectors and value vectors
+
+module _ (laws : RowLaws) (k : CaseData) (spans : Spans) (is : IsCase k) (within : IsInside k.root spans) where
+  row_of : (Meets : List Entry → Type 0) (s : ℕ) → ((a : ℕ) → HasChoice k.model s a → Meets (row_at k.model s a)) → All Meets (choices k.model s)
+  row_of Meets s h = All-from_get_or Meets (choices k.model s) [] (λ a lt. ⊎_elim
+      (λ (state : s < length k.model.states). h a (record { state = state; choice = lt }))
+      (λ (past : length k.model.states ≤ s). absurd (let none = get_or_past k.model.states s [] past in omega (arith, lt, ap (length {A = List Entry}) none)))
+      (in_or_past s (length k.model.states)))
+
+  product : (s a : ℕ) → HasChoice k.model s a → (n : ℤ) → n *ℤ whole k.model k.d spans (row_at k.model s a) ≡ n *ℤ row_whole k s a
+  product s a has n = ap (λ w. n *ℤ w) (same_whole laws k spans is within s a has)
+
+  upper_of : (x : List ℤ) → IsBound Greatest k spans x → IsUpper k spans x
+  upper_of x h = record {
+    numbers = h.numbers;
+    goal = h.goal;
+    means = λ s g. row_of (λ row. AtCorners spans row (λ c. corner_sum k.d spans row c (number x) ≤ℤ (number x s *ℤ whole k.model k.d spans row))) s (λ a has c lt. omega (arith, linear, h.enough s has.state g a has.choice c (at_root laws k spans is within s a has c lt), product s a has (number x s)));
+  }
+
+  bound_of : (y : List ℤ) → IsUpper k spans y → IsBound Greatest k spans y
+  bound_of y h = record {
+    numbers = h.numbers;
+    goal = h.goal;
+    enough = λ s state g a lt c at.
+        let has : HasChoice k.model s a = record { state = state; choice = lt } in
+        omega (arith, linear, h.means s g a [] lt c (at_spans laws k spans is within s a has c at), product s a has (number y s));
+  }
+
+  pub least_upper_of : (x : List ℤ) → IsLeastBound Greatest k spans x → IsLeastUpper k spans x
+  least_upper_of x h = record { upper = upper_of x h.bound; least = λ y upper. h.least y (bound_of y upper) }
+
+  pub below_of : (x : List ℤ) → IsBelowUppers k spans x → IsBelow Greatest k spans x
+  below_of x h = record { numbers = h.numbers; goal = h.goal; least = λ y bound. h.least y (upper_of y bound) }
+
+  pub past_of : (x : List ℤ) (limit : ℤ) → IsBelow Greatest k spans x → limit <ℤ number x k.model.init → (y : List ℤ) → IsUpper k spans y → limit <ℤ number y k.model.init
+  past_of x limit h past y upper = omega (arith, linear, past, h.least y (bound_of y upper) k.model.init)
+
+  value_of : (x : List ℤ) → IsBound Least k spans x → IsValue k spans x
+  value_of x h = record {
+    numbers = h.numbers;
+    goal = h.goal;
+    means = λ s g. row_of (λ row. SomeMeanAtMost k spans row x (number x s)) s (λ a has.
+        let one = h.enough s has.state g a has.choice in
+        (one.0, (at_spans laws k spans is within s a has one.0 one.1.0, omega (arith, linear, one.1.1, product s a has (number x s)))));
+  }
+
+  value_bound : (y : List ℤ) → IsValue k spans y → IsBound Least k spans y
+  value_bound y h = record {
+    numbers = h.numbers;
+    goal = h.goal;
+    enough = λ s state g a lt.
+        let has : HasChoice k.model s a = record { state = state; choice = lt } in
+        let one = h.means s g a [] lt in
+        (one.0, (at_root laws k spans is within s a has one.0 one.1.0, omega (arith, linear, one.1.1, product s a has (number y s))));
+  }
+
+  pub least_value_of : (x : List ℤ) → IsLeastBound Least k spans x → IsLeastValue k spans x
+  least_value_of x h = record { value = value_of x h.bound; least = λ y value. h.least y (value_bound y value) }

@@ -1,30 +1,102 @@
--- What the sweeps keep: a vector below every upper vector, which can only rise.
-use Rattle.std.specs.Prelude.{◌≡◌, ℕ, ◌+◌, ◌<◌, ◌^◌, true, List, [], ◌∷◌, ℤ, pos, ◌-ℤ◌, nat_abs, length}
+-- What the iteration keeps: a vector at or below every bound, which can only rise. A bound is an upper vector where the greatest corner of a row counts, and a value vector where the least does.
+use Rattle.std.specs.Prelude.{◌≡◌, ℕ, ◌+◌, ◌<◌, ◌^◌, ◌⊎◌, true, false, List, [], ◌∷◌, ℤ, pos, ◌-ℤ◌, ◌*ℤ◌, ◌≤ℤ◌, nat_abs, length, slice_set}
 use Rattle.lift_grid.specs.Rectangle.{Spans}
-use Rattle.lift_model.specs.Model.{is_goal, choices, row_at}
-use Rattle.corner_lift.specs.Case.{CaseData, number}
-use Rattle.corner_lift.specs.Certificate.{AreNumbers, MeansAtMost, AtMost, IsUpper}
+use Rattle.lift_model.specs.Model.{is_goal, choices}
+use Rattle.lift_model.specs.Links.{LinksData, AreLinks, HasChoice}
+use Rattle.corner_lift.specs.Case.{CaseData, IsCase, IsGreatest, IsLeast, number, row_value, row_whole, corner_count}
+use Rattle.corner_lift.specs.Certificate.{AreNumbers, AtMost}
+use Rattle.corner_lift.specs.Table.{IsTable}
+use Rattle.rounded_iter.specs.declared.table.Extreme.{Extreme}
+use Rattle.rounded_iter.specs.declared.table.Extreme.TheVariants.{Greatest, Least}
 
--- a rectangle inside the root of a case
-pub record RectangleData : Type 0 where
+-- the rows of a case, their weights in a rectangle, which corner counts, and where an iteration may stop
+pub record TableData : Type 0 where
   pub case : CaseData
-  pub spans : Spans
+  pub links : LinksData
+  pub weights : List ℤ
+  pub extreme : Extreme
+  pub limit : ℤ
 
--- one number from 0 to 2 ^ w for each state, 2 ^ w on goal states, and at most every upper vector
-pub record IsBelow (k : CaseData) (spans : Spans) (x : List ℤ) : Type 0 where
-  pub numbers : AreNumbers k x
-  pub goal : (s : ℕ) → is_goal k.model s ≡ true → number x s ≡ pos (2 ^ k.w)
-  pub least : (y : List ℤ) → IsUpper k spans y → AtMost x y
+-- the links are those of the case's model, and the weights are the table of a rectangle inside its root
+pub record IsRead (t : TableData) (spans : Spans) : Type 0 where
+  pub case : IsCase t.case
+  pub links : AreLinks t.case.model t.links
+  pub table : IsTable t.case t.links spans t.weights
 
--- the state's number is at least the choice's weighted mean at each corner
-abbrev pub IsEnoughFor : CaseData → Spans → List ℤ → ℕ → ℕ → Type 0
-IsEnoughFor k spans x s a = MeansAtMost k spans (row_at k.model s a) x (number x s)
+-- ---- bounds
+
+-- at each of so many corners where the greatest counts, and at one of them where the least does
+abbrev pub Across : Extreme → ℕ → (ℕ → Type 0) → Type 0
+Across Greatest n P = (c : ℕ) → c < n → P c
+Across Least n P = (c : ℕ) × ((c < n) × P c)
+
+-- the value that counts of so many
+abbrev pub IsExtreme : Extreme → (ℕ → ℤ) → ℕ → ℤ → Type 0
+IsExtreme Greatest value n z = IsGreatest value n z
+IsExtreme Least value n z = IsLeast value n z
+
+-- the number that counts of two
+abbrev pub IsMoreExtreme : Extreme → ℤ → ℤ → ℤ → Type 0
+IsMoreExtreme Greatest a b z = (a ≤ℤ z) × (b ≤ℤ z) × ((z ≡ a) ⊎ (z ≡ b))
+IsMoreExtreme Least a b z = (z ≤ℤ a) × (z ≤ℤ b) × ((z ≡ a) ⊎ (z ≡ b))
+
+-- a number is at least the choice's weighted mean at a corner
+abbrev pub IsEnoughAt : CaseData → Spans → List ℤ → ℕ → ℕ → ℤ → ℕ → Type 0
+IsEnoughAt k spans x s a n c = row_value k spans s a x c ≤ℤ (n *ℤ row_whole k s a)
+
+-- the state's number is enough for the choice at the corners that count
+abbrev pub IsEnoughFor : Extreme → CaseData → Spans → List ℤ → ℕ → ℕ → Type 0
+IsEnoughFor e k spans x s a = Across e (corner_count k s a) (IsEnoughAt k spans x s a (number x s))
 
 -- the state's number is enough for each of its choices
-abbrev pub IsEnough : CaseData → Spans → List ℤ → ℕ → Type 0
-IsEnough k spans x s = (a : ℕ) → a < length (choices k.model s) → IsEnoughFor k spans x s a
+abbrev pub IsEnough : Extreme → CaseData → Spans → List ℤ → ℕ → Type 0
+IsEnough e k spans x s = (a : ℕ) → a < length (choices k.model s) → IsEnoughFor e k spans x s a
 
--- by how much a vector can rise in all: the measure of the sweeps
+-- a bound: 2 ^ w on goal states, and enough elsewhere
+pub record IsBound (e : Extreme) (k : CaseData) (spans : Spans) (x : List ℤ) : Type 0 where
+  pub numbers : AreNumbers k x
+  pub goal : (s : ℕ) → is_goal k.model s ≡ true → number x s ≡ pos (2 ^ k.w)
+  pub enough : (s : ℕ) → s < length k.model.states → is_goal k.model s ≡ false → IsEnough e k spans x s
+
+-- one number from 0 to 2 ^ w for each state, 2 ^ w on goal states, and at most every bound
+pub record IsBelow (e : Extreme) (k : CaseData) (spans : Spans) (x : List ℤ) : Type 0 where
+  pub numbers : AreNumbers k x
+  pub goal : (s : ℕ) → is_goal k.model s ≡ true → number x s ≡ pos (2 ^ k.w)
+  pub least : (y : List ℤ) → IsBound e k spans y → AtMost x y
+
+-- the bound that is least at each state
+pub record IsLeastBound (e : Extreme) (k : CaseData) (spans : Spans) (x : List ℤ) : Type 0 where
+  pub bound : IsBound e k spans x
+  pub least : (y : List ℤ) → IsBound e k spans y → AtMost x y
+
+-- ---- one choice
+
+-- what it needs to try a choice
+pub record CanTry (t : TableData) (spans : Spans) (x : List ℤ) (s a : ℕ) : Type 0 where
+  pub read : IsRead t spans
+  pub row : HasChoice t.case.model s a
+  pub numbers : AreNumbers t.case x
+
+-- what it needs to try it at a corner
+pub record CanSolve (t : TableData) (spans : Spans) (x : List ℤ) (s a c : ℕ) : Type 0 where
+  pub can : CanTry t spans x s a
+  pub corner : c < corner_count t.case s a
+
+-- in place of the state's number, v is enough for the choice at the corner, and no vector from x on has less that is enough there
+pub record SolvesAt (k : CaseData) (spans : Spans) (x : List ℤ) (s a c : ℕ) (v : ℤ) : Type 0 where
+  pub grown : number x s ≤ℤ v
+  pub most : v ≤ℤ pos (2 ^ k.w)
+  pub enough : IsEnoughAt k spans (slice_set x s v) s a v c
+  pub least : (y : List ℤ) → AtMost x y → IsEnoughAt k spans y s a (number y s) c → v ≤ℤ number y s
+
+-- the same at the corners of so many that count
+pub record IsSolved (e : Extreme) (k : CaseData) (spans : Spans) (x : List ℤ) (s a n : ℕ) (v : ℤ) : Type 0 where
+  pub grown : number x s ≤ℤ v
+  pub most : v ≤ℤ pos (2 ^ k.w)
+  pub enough : Across e n (IsEnoughAt k spans (slice_set x s v) s a v)
+  pub least : (y : List ℤ) → AtMost x y → Across e n (IsEnoughAt k spans y s a (number y s)) → v ≤ℤ number y s
+
+-- by how much a vector can rise in all: the measure of the iteration
 abbrev pub room : ℕ → List ℤ → ℕ
 room w [] = 0
 room w (n ∷ x) = nat_abs (pos (2 ^ w) -ℤ n) + room w x

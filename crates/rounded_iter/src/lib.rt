@@ -1,8 +1,9 @@
-//! Least vectors, by sweeps from below that round up.
+//! Least vectors over a table of corner weights, by an iteration from below that rounds up.
 #![tactic(auto)]
 
-mod order;
-mod upper;
+mod least;
+mod solve;
+mod table;
+mod worklist;
 
-pub use order::Order;
-pub use upper::least_upper;
+pub use least::{least_upper, least_upper_from, least_upper_within, least_value};

@@ -1,8 +1,0 @@
-use Rattle.std.proofs.Common.{◌<◌}
-use Rattle.rounded_iter.specs.Rising.{IsEnough}
-use Rattle.rounded_iter.proofs.Raising.{IsSwept}
-use Rattle.rounded_iter.proofs.upper.Rectangle.ascend.Given as goal
-
--- the states below s were seen
-abbrev pub invariant-loop-s : goal.invariant-loop-s
-invariant-loop-s l = IsSwept l.self.case l.self.spans l.initial.lane l.lane l.rose (IsEnough l.self.case l.self.spans) (λ i. i < l.s)

@@ -1,0 +1,129 @@
+ghost use Rattle.std.specs.Prelude.{◌≡◌, ◌*◌, ◌^◌, pos, length};
+ghost use Rattle.lift_grid.specs.Rectangle.{Spans};
+ghost use Rattle.lift_model.specs.Links.{AreLinks};
+ghost use Rattle.corner_lift.specs.Certificate.{IsLeastUpper};
+ghost use Rattle.corner_lift.specs.Table.{IsTable};
+ghost use Rattle.rounded_iter.specs.Value.{IsLeastValue};
+ghost use Rattle.rounded_iter.specs.Rising.{IsBelow};
+ghost use Rattle.rounded_iter.specs.Watching.{CanStart, CanIterate, CanContinue, IsLeastWithin};
+
+use crate::table::{Extreme, Table};
+use corner_lift::{Case, corners_bound_weights, one_at, rows_at_corners};
+use lift_model::Links;
+
+impl Table<'_> {
+    /// Writes `top` for each goal state, and 0 for each other.
+    fn start(&self, lane: &mut [i64])
+        ghost spans: { Spans }
+        requires { CanStart self.now lane.old }
+        ensures { IsBelow self.now.extreme self.now.case spans lane.new }
+    {
+        rows_at_corners();
+        let model = self.case.model();
+        for s in 0..model.states() {
+            lane[s as usize] = if model.is_goal(s) { self.top } else { 0 };
+        }
+    }
+}
+
+/// Leaves in `lane` the least upper vector of the case on the rectangle whose table `weights` is: of the
+/// vectors of numbers from 0 to 2 to the `w` that have 2 to the `w` on goal states, and elsewhere at
+/// least the weighted mean of each choice at each corner of its row, the one that is least at each
+/// state. What `lane` and `work` hold at entry is free. Takes no memory.
+pub fn least_upper(case: &Case, links: &Links, weights: &[i128], lane: &mut [i64], work: &mut [u32])
+    ghost spans: { Spans }
+    requires { CanIterate case.now links.now spans weights.now lane.old work.old }
+    ensures { IsLeastUpper case.now spans lane.new }
+{
+    rows_at_corners();
+    corners_bound_weights();
+    let top = one_at(case.w());
+    let table = Table {
+        case: &*case,
+        links: &*links,
+        weights: &*weights,
+        extreme: Extreme::Greatest,
+        top,
+        limit: top,
+    };
+    table.start(lane);
+    table.climb(lane, work);
+}
+
+/// Leaves in `lane` the least value vector of the case on the rectangle whose table `weights` is: of the
+/// vectors of numbers from 0 to 2 to the `w` that have 2 to the `w` on goal states, and elsewhere at
+/// least the least weighted mean over the corners of each choice's row, the one that is least at each
+/// state. What `lane` and `work` hold at entry is free. Takes no memory.
+pub fn least_value(case: &Case, links: &Links, weights: &[i128], lane: &mut [i64], work: &mut [u32])
+    ghost spans: { Spans }
+    requires { CanIterate case.now links.now spans weights.now lane.old work.old }
+    ensures { IsLeastValue case.now spans lane.new }
+{
+    rows_at_corners();
+    corners_bound_weights();
+    let top = one_at(case.w());
+    let table = Table {
+        case: &*case,
+        links: &*links,
+        weights: &*weights,
+        extreme: Extreme::Least,
+        top,
+        limit: top,
+    };
+    table.start(lane);
+    table.climb(lane, work);
+}
+
+/// As `least_upper`, but stops where the initial state's number passes the limit. True: `lane` is the least
+/// upper vector, and its number there is within the limit. False: in each upper vector it is above.
+pub fn least_upper_within(
+    case: &Case,
+    links: &Links,
+    weights: &[i128],
+    limit: i64,
+    lane: &mut [i64],
+    work: &mut [u32],
+) -> bool
+    ghost spans: { Spans }
+    requires { CanIterate case.now links.now spans weights.now lane.old work.old }
+    ensures { IsLeastWithin case.now spans limit lane.new result }
+{
+    rows_at_corners();
+    corners_bound_weights();
+    let table = Table {
+        case: &*case,
+        links: &*links,
+        weights: &*weights,
+        extreme: Extreme::Greatest,
+        top: one_at(case.w()),
+        limit,
+    };
+    table.start(lane);
+    table.climb(lane, work)
+}
+
+/// As `least_upper`, but starts from the vector in `lane`, which lies at or below each upper vector.
+pub fn least_upper_from(
+    case: &Case,
+    links: &Links,
+    weights: &[i128],
+    lane: &mut [i64],
+    work: &mut [u32],
+)
+    ghost spans: { Spans }
+    requires { CanContinue case.now links.now spans weights.now lane.old work.old }
+    ensures { IsLeastUpper case.now spans lane.new }
+{
+    rows_at_corners();
+    corners_bound_weights();
+    let top = one_at(case.w());
+    let table = Table {
+        case: &*case,
+        links: &*links,
+        weights: &*weights,
+        extreme: Extreme::Greatest,
+        top,
+        limit: top,
+    };
+    table.climb(lane, work);
+}

@@ -1,0 +1,34 @@
+use corner_lift::Case;
+use lift_model::Links;
+
+/// Which corner of a row counts for its state's number.
+#[derive(Clone, Copy)]
+pub(crate) enum Extreme {
+    /// The one with the greatest weighted mean.
+    Greatest,
+    /// The one with the least.
+    Least,
+}
+
+/// The rows of a case, with their weights at the corners of a rectangle, on which vectors are raised.
+/// `top` stands for 1. An iteration may stop where the initial state's number is above `limit`.
+#[derive(Drop)]
+pub(crate) struct Table<'a> {
+    pub(crate) case: &'a Case<'a>,
+    pub(crate) links: &'a Links,
+    pub(crate) weights: &'a [i128],
+    pub(crate) extreme: Extreme,
+    pub(crate) top: i64,
+    pub(crate) limit: i64,
+}
+
+impl<'a> std::marker::Model for Table<'a> {
+    ghost use Rattle.std.specs.Prelude.{◌≡◌, ◌^◌, pos};
+    ghost use Rattle.rounded_iter.specs.Rising.{TableData};
+
+    ghost Value = { TableData };
+
+    ghost view = { λ t. record { case = t.case.now; links = t.links.now; weights = t.weights.now; extreme = t.extreme; limit = t.limit } };
+
+    ghost invariant = { λ t. t.top ≡ pos (2 ^ t.case.now.w) };
+}

@@ -1,0 +1,197 @@
+//! An iteration that looks at a state again only where one that it leads to rose. Each position in the
+//! order of states has a flag, which says that its state may have to rise.
+
+ghost use Rattle.std.specs.Prelude.{◌≡◌, ◌≢◌, ◌+◌, ◌<◌, ◌≤ℤ◌, ◌<ℤ◌, ℕ, pos, length, IsTrue, IsFalse};
+ghost use Rattle.lift_grid.specs.Rectangle.{Spans};
+ghost use Rattle.corner_lift.specs.Case.{number};
+ghost use Rattle.rounded_iter.specs.Rising.{IsBelow, IsLeastBound};
+ghost use Rattle.rounded_iter.specs.Watching.{CanRaise, CanRaiseBy, IsRaised, IsRaisedState, CanMark, IsMarked, CanVisit, IsVisited, CanTurn, IsTurned, CanPass, IsPassed, IsSettled, CanGoOn, IsKept, CanClimb, IsClimbed, flag};
+
+use crate::table::Table;
+use corner_lift::{corners_bound_weights, rows_at_corners};
+
+/// Flags a position that lies before the frontier, but for one.
+fn set_flag(work: &mut [u32], position: u32, but: u32, frontier: u32)
+    requires { position < length work.old }
+    ensures kept { (j : ℕ) → flag work.new j ≡ 0 → flag work.old j ≡ 0 }
+    ensures flagged { position < frontier → position ≢ but → flag work.new position ≢ 0 }
+{
+    if position < frontier && position != but {
+        work[position as usize] = 1;
+    }
+}
+
+/// Takes away the flag of a position, and tells whether there was one.
+fn take_flag(work: &mut [u32], position: u32) -> bool
+    requires { position < length work.old }
+    ensures clear { flag work.new position ≡ 0 }
+    ensures other { (j : ℕ) → j ≢ position → flag work.new j ≡ flag work.old j }
+    ensures none { IsFalse result → work.new ≡ work.old }
+{
+    let place = position as usize;
+    if work[place] == 0 {
+        return false;
+    }
+    work[place] = 0;
+    true
+}
+
+impl Table<'_> {
+    /// Raises the number of a state to what is enough for one of its choices, and tells whether it rose.
+    fn raise_choice(&self, lane: &mut [i64], s: u32, a: u32) -> bool
+        ghost spans: { Spans }
+        requires { CanRaiseBy self.now spans lane.old s a }
+        ensures { IsRaised self.now spans lane.old lane.new s a result }
+    {
+        rows_at_corners();
+        corners_bound_weights();
+        let number = self.enough(lane, s, a);
+        if number == lane[s as usize] {
+            return false;
+        }
+        lane[s as usize] = number;
+        true
+    }
+
+    /// Raises the number of a state to what is enough for all its choices, and tells whether it rose.
+    fn raise(&self, lane: &mut [i64], s: u32) -> bool
+        ghost spans: { Spans }
+        requires { CanRaise self.now spans lane.old s }
+        ensures { IsRaisedState self.now spans lane.old lane.new s result }
+    {
+        rows_at_corners();
+        corners_bound_weights();
+        let mut rose = false;
+        for a in 0..self.case.model().choices(s) {
+            if self.raise_choice(lane, s, a) {
+                rose = true;
+            }
+        }
+        rose
+    }
+
+    /// Flags the states that lead to the one at a position, as far as they stand before the frontier.
+    /// The state itself needs no flag: what was raised is enough, with its self loops.
+    fn mark(&self, work: &mut [u32], s: u32, position: u32, frontier: u32)
+        requires { CanMark self.now work.old s position }
+        ensures { IsMarked self.now work.old work.new s frontier }
+    {
+        for p in self.links.positions_before(s) {
+            set_flag(work, *p, position, frontier);
+        }
+    }
+
+    /// Raises the state at a position, and where it rose, flags the states that lead to it.
+    fn visit(
+        &self,
+        lane: &mut [i64],
+        work: &mut [u32],
+        s: u32,
+        position: u32,
+        frontier: u32,
+    ) -> bool
+        ghost spans: { Spans }
+        requires { CanVisit self.now spans lane.old work.old s position frontier }
+        ensures { IsVisited self.now spans lane.old lane.new work.old work.new frontier result }
+    {
+        let rose = self.raise(lane, s);
+        if rose {
+            self.mark(work, s, position, frontier);
+        }
+        rose
+    }
+
+    /// Visits the state at a position, where it is flagged, and tells whether it rose.
+    fn turn(&self, lane: &mut [i64], work: &mut [u32], position: u32, frontier: u32) -> bool
+        ghost spans: { Spans }
+        requires { CanTurn self.now spans lane.old work.old position frontier }
+        ensures { IsTurned self.now spans lane.old lane.new work.old work.new frontier position result }
+    {
+        if !take_flag(work, position) {
+            return false;
+        }
+        let s = self.links.order()[position as usize];
+        if s >= self.case.model().states() {
+            return false;
+        }
+        self.visit(lane, work, s, position, frontier)
+    }
+
+    /// Visits the flagged states of some positions, and tells whether one rose.
+    fn pass(&self, lane: &mut [i64], work: &mut [u32], low: u32, high: u32) -> bool
+        ghost spans: { Spans }
+        requires { CanPass self.now spans lane.old work.old high }
+        ensures { IsPassed self.now spans lane.old lane.new work.new low high high result }
+    {
+        let mut rose = false;
+        for position in low..high {
+            if self.turn(lane, work, position, high) {
+                rose = true;
+            }
+        }
+        rose
+    }
+
+    /// Whether the initial state's number is above the limit.
+    fn is_past(&self, lane: &[i64]) -> bool
+        requires { self.now.case.model.init < length lane.now }
+        ensures past { IsTrue result → self.now.limit <ℤ number lane.now self.now.case.model.init }
+        ensures within { IsFalse result → number lane.now self.now.case.model.init ≤ℤ self.now.limit }
+    {
+        lane[self.case.model().init() as usize] > self.limit
+    }
+
+    /// Visits flagged states of some positions until none is flagged. False: the initial state's number
+    /// passed the limit.
+    fn settle(&self, lane: &mut [i64], work: &mut [u32], low: u32, high: u32) -> bool
+        ghost spans: { Spans }
+        requires { CanPass self.now spans lane.old work.old high }
+        ensures { IsSettled self.now spans lane.new work.new low high result }
+    {
+        while self.pass(lane, work, low, high) {
+            if self.is_past(lane) {
+                return false;
+            }
+        }
+        true
+    }
+
+    /// Visits the state at a position, the first of those that weren't visited.
+    fn visit_first(&self, lane: &mut [i64], work: &mut [u32], position: u32)
+        ghost spans: { Spans }
+        requires { CanGoOn self.now spans lane.old work.old position }
+        ensures { IsKept self.now spans lane.new work.new (position + 1) }
+    {
+        let s = self.links.order()[position as usize];
+        if s < self.case.model().states() {
+            self.visit(lane, work, s, position, position + 1);
+        }
+    }
+
+    /// Whether a component ends before this position.
+    fn is_end(&self, position: u32) -> bool {
+        let before = position.saturating_sub(1) as usize;
+        self.links.component_ends().get(before).copied() == Some(position)
+    }
+
+    /// Raises a vector to the least bound, component by component from those below. False: the initial
+    /// state's number passed the limit.
+    pub(crate) fn climb(&self, lane: &mut [i64], work: &mut [u32]) -> bool
+        ghost spans: { Spans }
+        requires { CanClimb self.now spans lane.old work.old }
+        ensures { IsClimbed self.now spans lane.new result }
+    {
+        let states = self.case.model().states();
+        let mut low = 0;
+        for position in 0..states {
+            self.visit_first(lane, work, position);
+            if self.is_end(position + 1) {
+                if !self.settle(lane, work, low, position + 1) {
+                    return false;
+                }
+                low = position + 1;
+            }
+        }
+        self.settle(lane, work, 0, states) && !self.is_past(lane)
+    }
+}
