@@ -1,3 +1,4 @@
 pub mod Means
 pub mod Frontier
-pub mod Attract
+pub mod Stages
+pub mod Doubling

@@ -10,14 +10,8 @@ use Rattle.lift_model.specs.Model.{ModelData, support, is_goal, choices, row_at,
 use Rattle.corner_lift.specs.Corner.{parameter_count, corner, corner_sum, whole}
 use Rattle.corner_lift.specs.Case.{CaseData, IsCase, IsInside, number}
 use Rattle.corner_lift.specs.Certificate.{mark, unmarked, ranked_below, picked_row, IsLower, IsHeld}
-use Rattle.corner_lift.specs.Laws.{HasRow, NumbersAreInRange, ParametersAreTheRoots, SumsRise, WeightsSumToWhole}
-
--- the laws of rows at corners that all of this rests on
-pub record Premises : Type 0 where
-  pub numbers : NumbersAreInRange
-  pub rise : SumsRise
-  pub sums : WeightsSumToWhole
-  pub parameters : ParametersAreTheRoots
+use Rattle.corner_lift.specs.Laws.{HasRow}
+pub use Rattle.robust_rank.specs.Premises.{Premises}
 
 -- a rectangle inside a case's root, with these laws
 pub record Place (k : CaseData) (spans : Spans) : Type 0 where

@@ -18,9 +18,18 @@ abbrev pub IsFast : CaseData → Spans → List ℕ → ℕ → ℕ → ℕ → 
 IsFast k spans ranks s a e = let row = row_at k.model s a in
     AtCorners spans row (λ c. whole k.model k.d spans row ≤ℤ (corner_sum k.d spans row c (ranked_below (mark ranks) (mark ranks s)) *ℤ pos (2 ^ e)))
 
+-- so it is at the row's first corners, so many
+abbrev pub IsFastBefore : CaseData → Spans → List ℕ → ℕ → ℕ → ℕ → ℕ → Type 0
+IsFastBefore k spans ranks s a count e = let row = row_at k.model s a in
+    (c : ℕ) → c < count → whole k.model k.d spans row ≤ℤ (corner_sum k.d spans row c (ranked_below (mark ranks) (mark ranks s)) *ℤ pos (2 ^ e))
+
+-- so it is for the pick of the state, if it has one
+abbrev pub IsFastState : CaseData → Spans → List ℕ → List ℕ → ℕ → ℕ → Type 0
+IsFastState k spans ranks picks s e = mark picks s < unmarked → IsFast k spans ranks s (mark picks s) e
+
 -- so it is for the picks of the first states, so many
 abbrev pub AreFast : CaseData → Spans → List ℕ → List ℕ → ℕ → ℕ → Type 0
-AreFast k spans ranks picks count e = (s : ℕ) → s < count → mark picks s < unmarked → IsFast k spans ranks s (mark picks s) e
+AreFast k spans ranks picks count e = (s : ℕ) → s < count → IsFastState k spans ranks picks s e
 
 -- the least number at or above a first one with the property
 pub record IsLeastFrom (P : ℕ → Type 0) (first n : ℕ) : Type 0 where

@@ -1,6 +1,7 @@
-//! Laws of ranking stage by stage, for who reasons about it. The function does nothing.
+//! Laws of ranking stage by stage, for who reasons about it. The functions do nothing.
 
 ghost use Rattle.robust_rank.specs.Attracting.{StartIsStaged, NextIsStaged, EmptyStageEnds, StagesOfTest, FrontierLeads, GapLeads};
+ghost use Rattle.robust_rank.specs.Premises.{Premises};
 
 use corner_lift::{corners_bound_weights, rows_at_corners};
 
@@ -13,6 +14,13 @@ pub fn ranks_go_by_stages()
     ensures test { StagesOfTest }
     ensures frontier { FrontierLeads }
     ensures gap { GapLeads }
+{
+    premises();
+}
+
+/// Holds the laws of the crates below that the proofs here rest on. It does nothing.
+pub(crate) fn premises()
+    ensures { Premises }
 {
     corners_bound_weights();
     rows_at_corners();

@@ -1,9 +1,11 @@
 //! Ranks by stages, and the rate of picks.
 #![tactic(auto)]
 
+mod attract;
 mod corners;
 mod laws;
-mod rate;
+mod marks;
+mod rates;
 
 pub use laws::ranks_go_by_stages;
-pub use rate::rate;
+pub use rates::rate;

@@ -5,14 +5,13 @@ ghost use Rattle.corner_lift.specs.Case.{engine_limit};
 ghost use Rattle.corner_lift.specs.Certificate.{mark};
 ghost use Rattle.corner_lift.specs.Stages.{LeadsBelow};
 ghost use Rattle.corner_lift.specs.Table.{IsTable};
-ghost use Rattle.robust_rank.specs.Rate.{ArePicks, IsFast, IsLeastFrom, IsLeastRate, most_rate};
+ghost use Rattle.robust_rank.specs.Rate.{ArePicks, IsFast, IsFastState, IsLeastFrom, IsLeastRate, most_rate};
 
 use crate::corners::corners_of;
+use crate::laws::premises;
+use crate::marks::{NONE, mark_of};
 use corner_lift::{Case, table_into, table_whole};
 use lift_model::Links;
-
-/// In place of a rank or of a pick where a state has none.
-pub(crate) const NONE: u32 = u32::MAX;
 
 /// The greatest rate that there is need of.
 const MOST_RATE: u32 = 126;
@@ -65,14 +64,41 @@ fn rate_of_row(
     ensures least { IsLeastFrom (IsFast case.now spans ranks.now s a) first result }
     ensures most { result ≤ most_rate }
 {
+    premises();
     let whole = table_whole(case, links, weights, s, a);
-    let rank = ranks[s as usize];
+    let rank = mark_of(ranks, s);
     let mut e = first;
     for corner in 0..corners_of(case, links, s, a) {
         let weight = table_into(case, links, weights, s, a, corner, ranks, rank);
         e = doublings(weight, whole, e);
     }
     e
+}
+
+/// The least rate of the state's pick, but at least `first`, which it is where the state has no pick.
+fn rate_of_state(
+    case: &Case,
+    links: &Links,
+    weights: &[i128],
+    ranks: &[u32],
+    picks: &[u32],
+    s: u32,
+    first: u32,
+) -> u32
+    ghost spans: { Spans }
+    requires links { AreLinks case.now.model links.now }
+    requires table { IsTable case.now links.now spans weights.now }
+    requires picks { ArePicks case.now spans ranks.now picks.now }
+    requires state { s < length case.now.model.states }
+    requires first { first ≤ most_rate }
+    ensures least { IsLeastFrom (IsFastState case.now spans ranks.now picks.now s) first result }
+    ensures most { result ≤ most_rate }
+{
+    let pick = mark_of(picks, s);
+    if pick == NONE {
+        return first;
+    }
+    rate_of_row(case, links, weights, ranks, s, pick, first)
 }
 
 /// The least e at which, at each corner of the row that a state picks, the weight into states of lower
@@ -89,12 +115,11 @@ pub fn rate(case: &Case, links: &Links, weights: &[i128], ranks: &[u32], picks: 
     ensures least { IsLeastRate case.now spans ranks.now picks.now result }
     ensures most { result ≤ most_rate }
 {
+    premises();
+    let _ = case.w();
     let mut e = 0;
     for s in 0..case.model().states() {
-        let pick = picks[s as usize];
-        if pick != NONE {
-            e = rate_of_row(case, links, weights, ranks, s, pick, e);
-        }
+        e = rate_of_state(case, links, weights, ranks, picks, s, e);
     }
     e
 }
