@@ -1,5 +1,5 @@
 -- Weighted sums as means, and what a row of a case gives at the corners of a rectangle.
-use Rattle.std.proofs.Common.{◌≡◌, ℕ, zero, suc, ◌^◌, ◌<◌, ◌≤◌, ◌⊎◌, Bool, true, false, List, [], ◌∷◌, length, get_or, ℤ, pos, ◌+ℤ◌, ◌*ℤ◌, ◌≤ℤ◌, ◌<ℤ◌, refl, sym, ap, ◌∙◌, arith, nat_lt, ltb-true, ltb-false}
+use Rattle.std.proofs.Common.{◌≡◌, ℕ, zero, suc, ◌^◌, ◌<◌, ◌≤◌, ◌⊎◌, ⊎_elim, ◌+◌, Bool, true, false, List, [], ◌∷◌, length, get_or, ℤ, pos, ◌+ℤ◌, ◌*ℤ◌, ◌≤ℤ◌, ◌<ℤ◌, refl, sym, ap, ◌∙◌, arith, nat_lt, ltb-true, ltb-false}
 use Rattle.std.proofs.lemmas.Int.{by_lt_z}
 use Rattle.lift_poly.proofs.Ring.{linear, mul-comm, mul-assoc, mul-add, add-mul, mul-zero, zero-mul, one-mul, mul-le, mul-lt}
 use Rattle.lift_grid.specs.Rectangle.{Spans}
@@ -94,3 +94,7 @@ module _ (k : CaseData) (spans : Spans) (place : Place k spans) (s a : ℕ) (cho
 
   pub scaled : (c : ℕ) (q : ℤ) (f : ℕ → ℤ) → corner_sum k.d spans (row_at k.model s a) c (λ t. f t *ℤ q) ≡ corner_sum k.d spans (row_at k.model s a) c f *ℤ q
   scaled c q f = sum-times q f (moves_at (corner k.d spans (support (row_at k.model s a)) c) (row_at k.model s a))
+
+-- one place more
+pub one_more : (P : ℕ → Type 0) (i : ℕ) → ((j : ℕ) → j < i → P j) → P i → (j : ℕ) → j < i + 1 → P j
+one_more P i before here j lt = ⊎_elim (λ (l : j < i). before j l) (λ (past : i ≤ j). let same : j ≡ i = omega (arith, past, lt) in rw same here) (in_or_past j i)

@@ -1,5 +1,5 @@
 -- Ranks and picks as they are found: by a queue of states in the order of their ranks, whose last part holds the last stage.
-use Rattle.std.specs.Prelude.{◌≡◌, ℕ, suc, ◌<◌, ◌≤◌, ◌⊎◌, Bool, true, List, ℤ, length, sum_by, count_by, slice_index_or, nat_lt}
+use Rattle.std.specs.Prelude.{◌≡◌, ℕ, suc, ◌<◌, ◌≤◌, ◌⊎◌, Bool, true, false, List, ℤ, length, sum_by, count_by, slice_index_or, nat_lt}
 use Rattle.lift_grid.specs.Rectangle.{Spans}
 use Rattle.lift_model.specs.Model.{ModelData, is_goal, choices}
 use Rattle.lift_model.specs.Links.{LinksData, AreLinks, row_number}
@@ -37,6 +37,16 @@ pub record IsLeastLeading (k : CaseData) (spans : Spans) (allowed : List ℕ) (r
 abbrev pub HasNoLeading : CaseData → Spans → List ℕ → (ℕ → ℕ) → ℕ → ℕ → Type 0
 HasNoLeading k spans allowed rank r s = (a : ℕ) → a < length (choices k.model s) → IsLeading k spans allowed rank r s a → ⊥
 
+-- where the state has a rank, and is no goal state, one of its choices is and does, below that rank
+abbrev pub IsReached : CaseData → Spans → List ℕ → List ℕ → ℕ → Type 0
+IsReached k spans allowed ranks s = is_goal k.model s ≡ false → mark ranks s < unmarked
+    → (a : ℕ) × ((a < length (choices k.model s)) × IsLeading k spans allowed (mark ranks) (mark ranks s) s a)
+
+-- the state's pick: the least that is and does where the state has a rank and is no goal state, and else none
+pub record IsPickOf (k : CaseData) (spans : Spans) (allowed ranks : List ℕ) (s pick : ℕ) : Type 0 where
+  pub picked : is_goal k.model s ≡ false → mark ranks s < unmarked → IsLeastLeading k spans allowed (mark ranks) (mark ranks s) s pick
+  pub none : (is_goal k.model s ≡ true) ⊎ (unmarked ≤ mark ranks s) → pick ≡ unmarked
+
 -- goal states and those without rank have no pick
 abbrev pub OthersHaveNoPick : CaseData → List ℕ → List ℕ → Type 0
 OthersHaveNoPick k picks ranks = (s : ℕ) → (is_goal k.model s ≡ true) ⊎ (unmarked ≤ mark ranks s) → mark picks s ≡ unmarked
@@ -59,6 +69,14 @@ pub record IsComplete (k : CaseData) (spans : Spans) (allowed ranks queue : List
   pub part : (r ≤ from) × (from ≤ to)
   pub states : (i : ℕ) → i < to → mark queue i < length k.model.states
   pub last : (s : ℕ) → mark ranks s ≡ r → IsQueuedIn queue from to s
+
+-- the first states, so many, have rank 0 and are in the queue if they are goal states, and no other has a rank
+pub record IsStarting (k : CaseData) (ranks queue : List ℕ) (first found : ℕ) : Type 0 where
+  pub sizes : (length ranks ≡ length k.model.states) × (length queue ≡ length k.model.states)
+  pub count : found ≡ count_by is_rank ranks
+  pub goals : (s : ℕ) → s < first → is_goal k.model s ≡ true → (mark ranks s ≡ 0) × IsQueuedIn queue 0 found s
+  pub others : (s : ℕ) → (s < first → is_goal k.model s ≡ false) → mark ranks s ≡ unmarked
+  pub states : (i : ℕ) → i < found → mark queue i < length k.model.states
 
 -- what the search for stage r + 1 began with
 pub record StageData : Type 0 where

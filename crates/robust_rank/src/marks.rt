@@ -5,9 +5,9 @@ ghost use Rattle.corner_lift.specs.Certificate.{mark};
 pub(crate) const NONE: u32 = u32::MAX;
 
 /// The rank or the pick of a state.
-pub(crate) fn mark_of(marks: &[u32], s: u32) -> u32
+pub(crate) fn mark_of(marks: &[u32], s: usize) -> u32
     requires { s < length marks.now }
     ensures { result ≡ mark marks.now s }
 {
-    marks[s as usize]
+    marks[s]
 }

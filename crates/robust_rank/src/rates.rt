@@ -66,7 +66,7 @@ fn rate_of_row(
 {
     premises();
     let whole = table_whole(case, links, weights, s, a);
-    let rank = mark_of(ranks, s);
+    let rank = mark_of(ranks, s as usize);
     let mut e = first;
     for corner in 0..corners_of(case, links, s, a) {
         let weight = table_into(case, links, weights, s, a, corner, ranks, rank);
@@ -94,7 +94,7 @@ fn rate_of_state(
     ensures least { IsLeastFrom (IsFastState case.now spans ranks.now picks.now s) first result }
     ensures most { result ≤ most_rate }
 {
-    let pick = mark_of(picks, s);
+    let pick = mark_of(picks, s as usize);
     if pick == NONE {
         return first;
     }

@@ -2,7 +2,7 @@ use Rattle.std.proofs.Common.{ℕ, ◌<◌, pos, ◌<ℤ◌}
 use Rattle.lift_model.specs.Model.{row_at}
 use Rattle.corner_lift.specs.Corner.{corner_sum}
 use Rattle.corner_lift.specs.Certificate.{mark, ranked_below}
-use Rattle.robust_rank.proofs.attract.leads_below.Given as goal
+use Rattle.robust_rank.proofs.ranking.leads_below.Given as goal
 
 abbrev pub ghost-table_into : goal.ghost-table_into
 ghost-table_into g a = g.spans

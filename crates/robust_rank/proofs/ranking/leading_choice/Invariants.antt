@@ -1,7 +1,7 @@
 use Rattle.std.proofs.Common.{ℕ, ◌<◌}
 use Rattle.corner_lift.specs.Certificate.{mark}
 use Rattle.robust_rank.specs.Staging.{IsLeading}
-use Rattle.robust_rank.proofs.attract.leading_choice.Given as goal
+use Rattle.robust_rank.proofs.ranking.leading_choice.Given as goal
 
 abbrev pub ghost-is_leading : goal.ghost-is_leading
 ghost-is_leading g a = g.spans
