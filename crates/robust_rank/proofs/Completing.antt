@@ -36,7 +36,7 @@ module _ (k : CaseData) (ranks queue : List ℕ) (s found : ℕ) (h : IsStarting
     goals = λ t lt goal.
         same_or_not t s
         (λ e. rw e (rank_here, (found, (omega arith, omega (arith, one), queue_here))))
-        (λ ne. let was = h.goals t (less t lt ne) goal in (rank_there t ne ∙ was.0, (was.1.0, (was.1.1, omega (arith, was.1.2, one), queue_there was.1.0 was.1.2 ∙ was.1.3))));
+        (λ ne. let was = h.goals t (less t lt ne) goal in (rank_there t ne ∙ was.0, (was.1.0, (was.1.1.0, omega (arith, was.1.1.1, one), queue_there was.1.0 was.1.1.1 ∙ was.1.1.2))));
     others = λ t not. same_or_not t s
         (λ e. let isnt : is_goal k.model s ≡ false = subst (λ n. is_goal k.model n ≡ false) e (not (omega (arith, e))) in let wrong : true ≡ false = cc (is, isnt) in absurd (cc wrong))
         (λ ne. rank_there t ne ∙ h.others t (λ lt. not (omega (arith, lt))));
@@ -87,6 +87,11 @@ small_stage k spans allowed ranks queue r from to is some h =
     let most = count_by-le-length is_rank ranks in
     omega (arith, most, h.count, h.sizes.0, is.asked.model.count.1, h.part.0, some)
 
+pub small_rank : (k : CaseData) (spans : Spans) (allowed ranks queue : List ℕ) (r from to : ℕ) → IsCase k → IsComplete k spans allowed ranks queue r from to → r < unmarked
+small_rank k spans allowed ranks queue r from to is h =
+    let most = count_by-le-length is_rank ranks in
+    omega (arith, most, h.count, h.sizes.0, is.asked.model.count.1, h.part.0, h.part.1)
+
 module _ (k : CaseData) (l : LinksData) (allowed : List ℕ) (start : StageData) (r from : ℕ) (links : AreLinks k.model l) (h : IsComplete k start.spans allowed start.ranks start.queue r from start.to) (small : suc r < unmarked) where
   pub gathering_begins : IsGathering k allowed start r start.to start.ranks start.queue
   gathering_begins = record {
@@ -111,9 +116,9 @@ module _ (k : CaseData) (l : LinksData) (allowed : List ℕ) (start : StageData)
       complete = λ s isnt far a choice is_allowed there leads.
           let t = (get_or (row_at k.model s a) there.0 no_entry).target in
           let at = h.last t there.1.1 in
-          let state : t < length k.model.states = subst (λ n. n < length k.model.states) at.3 (h.states at.0 at.2) in
+          let state : t < length k.model.states = subst (λ n. n < length k.model.states) at.1.2 (h.states at.0 at.1.1) in
           let before : Contains (states_before l t) s = stands_before k.model l s a there.0 links choice there.1.0 state in
-          let all = subst (λ n. All (IsLooked k allowed start r ranks) (states_before l n)) at.3 (looked at.0 at.1 at.2) in
+          let all = subst (λ n. All (IsLooked k allowed start r ranks) (states_before l n)) at.1.2 (looked at.0 at.1.0 at.1.1) in
           All-contains (IsLooked k allowed start r ranks) (states_before l t) s all before far a choice (is_allowed, leads);
     }
 
@@ -129,20 +134,14 @@ module _ (k : CaseData) (l : LinksData) (allowed : List ℕ) (start : StageData)
 
 -- ---- the end
 
-pub reached : (k : CaseData) (spans : Spans) (allowed ranks queue : List ℕ) (r from to : ℕ) → IsComplete k spans allowed ranks queue r from to → (s : ℕ) → IsReached k spans allowed ranks s
-reached k spans allowed ranks queue r from to h s isnt lt = let at = h.staged.reached s isnt lt in (at.0, (at.1.0, (at.1.1.0, at.1.1.1)))
-
 module _ (k : CaseData) (spans : Spans) (allowed ranks picks : List ℕ) (sizes : (length ranks ≡ length k.model.states) × (length picks ≡ length k.model.states)) (all : (s : ℕ) → s < length k.model.states → IsPickOf k spans allowed ranks s (mark picks s)) where
   pub stages : Premises → (queue : List ℕ) (r from to : ℕ) → IsCase k → IsInside k.root spans → r < unmarked → to ≤ from → IsComplete k spans allowed ranks queue r from to → AreStages k spans (Pass (allows k.model allowed)) (mark picks) (mark ranks)
   stages laws queue r from to is within small empty h =
       empty_stage_ends laws k spans (allows k.model allowed) (mark picks) (mark ranks) r is within small h.staged
-      (λ s is_r. let at = h.last s is_r in omega (arith, at.1, at.2, empty))
+      (λ s is_r. let at = h.last s is_r in omega (arith, at.1.0, at.1.1, empty))
       (λ s isnt lt. let state : s < length k.model.states = ranked_in s lt in
       let pick = (all s state).picked isnt lt in
       record { later = h.staged.later s isnt; in_range = pick.in_range; is_allowed = pick.holds.0; leads = pick.holds.1; least = λ a less is_allowed leads. pick.least a less (is_allowed, leads) })
     where
       ranked_in : (s : ℕ) → mark ranks s < unmarked → s < length k.model.states
       ranked_in s lt = ⊎_elim (λ (l : s < length k.model.states). l) (λ (past : length k.model.states ≤ s). absurd (omega (arith, lt, get_or_past ranks s unmarked (omega (arith, past, sizes.0))))) (in_or_past s (length k.model.states))
-
-  pub others : OthersHaveNoPick k picks ranks
-  others s none = ⊎_elim (λ (l : s < length k.model.states). (all s l).none none) (λ (past : length k.model.states ≤ s). get_or_past picks s unmarked (omega (arith, past, sizes.1))) (in_or_past s (length k.model.states))

@@ -194,7 +194,7 @@ fn add_stage(
     ghost start: { StageData }
     requires rows { CanRank case.now links.now start.spans weights.now allowed.now }
     requires start { (start.ranks ≡ ranks.old) × ((start.queue ≡ queue.old) × (start.to ≡ to)) }
-    requires complete { IsComplete case.now start.spans allowed.now start.ranks start.queue rank from to }
+    requires complete { IsComplete case.now start.spans allowed.now start.ranks start.queue rank from start.to }
     requires some { from < to }
     ensures complete { IsComplete case.now start.spans allowed.now ranks.new queue.new (suc rank) to result }
 {

@@ -8,8 +8,8 @@ ghost-add_stage g a = record { spans = g.spans; ranks = a.ranks.now; queue = a.q
 abbrev pub ghost-pick_all : goal.ghost-pick_all
 ghost-pick_all g a = g.spans
 
-abbrev pub invariant-loop : goal.invariant-loop
-invariant-loop g l = IsComplete l.case g.spans l.allowed l.ranks l.picks l.rank l.from l.to
+abbrev pub invariant-loop-from : goal.invariant-loop-from
+invariant-loop-from g l = IsComplete l.case g.spans l.allowed l.ranks l.picks l.rank l.from l.to
 
-abbrev pub decreases-loop : goal.decreases-loop
-decreases-loop g l = length l.case.model.states - l.from
+abbrev pub decreases-loop-from : goal.decreases-loop-from
+decreases-loop-from g l = length l.case.model.states - l.from
