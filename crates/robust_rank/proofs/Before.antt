@@ -1,11 +1,11 @@
 -- The states before a state.
-use Rattle.std.proofs.Common.{◌≡◌, ℕ, zero, suc, ◌<◌, ◌≤◌, ◌⊎◌, ⊎_elim, List, [], ◌∷◌, ◌++◌, length, get_or, map, Contains, ap, refl, subst, arith}
+use Rattle.std.proofs.Common.{ℕ, zero, suc, ◌<◌, ◌≤◌, ⊎_elim, List, [], ◌∷◌, length, get_or, map, Contains, refl, subst, arith}
 use Rattle.std.specs.List.{concat}
 use Rattle.std.proofs.lemmas.List.{get_or_past}
 use Rattle.std.proofs.lemmas.List.Elements.{Contains-get_or, Contains-append_left, Contains-append_right}
 use Rattle.lift_model.specs.declared.entry.Entry.{Entry}
 use Rattle.lift_model.specs.Model.{ModelData, choices, row_at}
-use Rattle.lift_model.specs.Links.{LinksData, AreLinks, Leads, all_targets, targets_of, states_before}
+use Rattle.lift_model.specs.Links.{LinksData, AreLinks, Leads, targets_of, states_before}
 use Rattle.corner_lift.specs.Corner.{no_entry}
 use Rattle.robust_rank.proofs.Means.{in_or_past}
 

@@ -1,17 +1,17 @@
 -- A stage begins with the states before it complete, and ends so.
-use Rattle.std.proofs.Common.{◌≡◌, ℕ, suc, ◌+◌, ◌<◌, ◌≤◌, ◌⊎◌, inl, inr, ⊎_elim, Bool, true, false, List, [], length, get_or, set, count_by, refl, sym, subst, ◌∙◌, arith, All, Contains}
+use Rattle.std.proofs.Common.{◌≡◌, ℕ, suc, ◌+◌, ◌<◌, ◌≤◌, inl, inr, ⊎_elim, Bool, true, false, List, length, get_or, set, count_by, refl, subst, ◌∙◌, arith, All, Contains}
 use Rattle.std.proofs.lemmas.List.{length-set, get_or_past}
 use Rattle.std.proofs.lemmas.List.Sums.{count_by-le-length}
 use Rattle.std.proofs.lemmas.List.Elements.{All-contains}
 use Rattle.lift_grid.specs.Rectangle.{Spans}
-use Rattle.lift_model.specs.Model.{is_goal, choices, row_at}
+use Rattle.lift_model.specs.Model.{is_goal, row_at}
 use Rattle.lift_model.specs.Links.{LinksData, AreLinks, states_before}
 use Rattle.corner_lift.specs.Corner.{no_entry}
 use Rattle.corner_lift.specs.Case.{CaseData, IsCase, IsInside}
 use Rattle.corner_lift.specs.Certificate.{unmarked, mark}
-use Rattle.corner_lift.specs.Stages.{LeadsBelow, IsPicked, AreStages}
-use Rattle.robust_rank.specs.Attracting.{Pass, IsStaged, IsNextStage}
-use Rattle.robust_rank.specs.Staging.{allows, is_rank, IsLeading, IsLeastLeading, IsQueuedIn, StageData, IsAdded, IsGathering, IsLooked, IsComplete, IsStarting, IsReached, IsPickOf, OthersHaveNoPick}
+use Rattle.corner_lift.specs.Stages.{AreStages}
+use Rattle.robust_rank.specs.Attracting.{Pass, IsNextStage}
+use Rattle.robust_rank.specs.Staging.{allows, is_rank, IsQueuedIn, StageData, IsAdded, IsGathering, IsLooked, IsComplete, IsStarting, IsPickOf}
 use Rattle.robust_rank.proofs.Means.{Premises, in_or_past}
 use Rattle.robust_rank.proofs.Stages.{start_is_staged, next_is_staged, empty_stage_ends}
 use Rattle.robust_rank.proofs.Gathering.{mark_same, mark_other, same_or_not}
@@ -48,12 +48,16 @@ module _ (k : CaseData) (ranks queue : List ℕ) (s found : ℕ) (h : IsStarting
     where
       rank_here : mark new s ≡ 0
       rank_here = rw new_is (mark_same ranks s 0 (omega (arith, state, h.sizes.0)))
+
       rank_there : (t : ℕ) → (t ≡ s → ⊥) → mark new t ≡ mark ranks t
       rank_there t ne = rw new_is (mark_other ranks s t 0 ne)
+
       queue_there : (i : ℕ) → i < found → mark later i ≡ mark queue i
       queue_there i lt = rw later_is (mark_other queue found i s (λ same. omega (arith, same, lt)))
+
       queue_here : mark later found ≡ s
       queue_here = rw later_is (mark_same queue found s room)
+
       less : (t : ℕ) → t < s + 1 → (t ≡ s → ⊥) → t < s
       less t lt ne = ⊎_elim (λ (l : t < s). l) (λ (past : s ≤ t). absurd (ne (omega (arith, past, lt)))) (in_or_past t s)
 
@@ -73,6 +77,7 @@ begin laws k spans allowed ranks queue to is within h = record {
     goal_in s goal = ⊎_elim (λ (l : s < length k.model.states). l)
         (λ (past : length k.model.states ≤ s). let none = get_or_past k.model.goal s false (omega (arith, past, is.asked.model.goals)) in let wrong : true ≡ false = cc (goal, none) in absurd (cc wrong))
         (in_or_past s (length k.model.states))
+
     is_queued : (s : ℕ) → mark ranks s ≡ 0 → IsQueuedIn queue 0 to s
     is_queued s zero = elim_goal (is_goal k.model s) refl
       where

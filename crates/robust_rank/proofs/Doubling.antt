@@ -1,5 +1,5 @@
 -- Rates: how often a weight is doubled to be enough, at all corners of a row and for all picks.
-use Rattle.std.proofs.Common.{◌≡◌, ◌+◌, ◌-◌, ◌/◌, ◌*◌, ◌^◌, ◌<◌, ◌≤◌, ℕ, Bool, true, false, List, length, ℤ, pos, ◌-ℤ◌, ◌*ℤ◌, ◌≤ℤ◌, ◌<ℤ◌, unsigned_abs, nat_lt, ltb-true, ltb-false, ap, arith, ◌⊎◌, ⊎_elim, IsTrue, All}
+use Rattle.std.proofs.Common.{◌≡◌, ◌+◌, ◌-◌, ◌/◌, ◌*◌, ◌^◌, ◌<◌, ◌≤◌, ℕ, List, length, ℤ, pos, ◌-ℤ◌, ◌*ℤ◌, ◌≤ℤ◌, ◌<ℤ◌, unsigned_abs, nat_lt, ltb-true, ltb-false, ap, arith, ⊎_elim, IsTrue}
 use Rattle.std.specs.Prelude.{◌↔◌}
 use Rattle.std.proofs.lemmas.Int.{ints}
 use Rattle.std.proofs.lemmas.Nat.{div_below, le-div, pow_pos, pow-add}
@@ -10,7 +10,7 @@ use Rattle.lift_model.specs.Model.{choices, row_at}
 use Rattle.corner_lift.specs.Corner.{corner_sum, whole}
 use Rattle.corner_lift.specs.Case.{CaseData, IsCase, IsInside, row_whole}
 use Rattle.corner_lift.specs.Certificate.{mark, unmarked, ranked_below}
-use Rattle.robust_rank.specs.Rate.{IsFast, IsFastBefore, IsFastState, AreFast, IsLeastFrom}
+use Rattle.robust_rank.specs.Rate.{IsFastBefore, IsFastState, AreFast, IsLeastFrom}
 use Rattle.robust_rank.proofs.Means.{Premises, stand, either_way, in_or_past, positive, positive_part}
 
 -- a number is below a product exactly where its quotient is below the other factor

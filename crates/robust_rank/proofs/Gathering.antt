@@ -1,16 +1,14 @@
 -- What a stage gathers: states join the queue, and nothing below the stage changes.
-use Rattle.std.proofs.Common.{◌≡◌, ◌≢◌, ℕ, zero, suc, ◌+◌, ◌^◌, ◌<◌, ◌≤◌, ◌⊎◌, inl, inr, ⊎_elim, Bool, true, false, cond, List, [], ◌∷◌, length, get_or, set, count_by, pos, ◌<ℤ◌, refl, sym, ap, subst, ◌∙◌, arith, nat_lt, nat_eq, eqb-true, le-ltb, ltb-true, ltb-false, All, take}
+use Rattle.std.proofs.Common.{◌≡◌, ℕ, suc, ◌+◌, ◌<◌, ◌≤◌, ◌⊎◌, inl, inr, ⊎_elim, false, cond, List, length, set, count_by, refl, sym, subst, ◌∙◌, arith, nat_lt, nat_eq, eqb-true, le-ltb, All}
 use Rattle.std.proofs.lemmas.List.{length-set, get_or-set_same, get_or-set_other}
 use Rattle.std.proofs.lemmas.List.Sums.{count_by-le-length, sum_by-set, sum_by-le}
 use Rattle.std.proofs.lemmas.List.Elements.{All-from_get_or}
 use Rattle.lift_poly.proofs.Ring.{linear}
-use Rattle.lift_grid.specs.Rectangle.{Spans}
-use Rattle.lift_model.specs.Model.{is_goal, choices, row_at, support, moves_at}
+use Rattle.lift_model.specs.Model.{row_at, support, moves_at}
 use Rattle.corner_lift.specs.Corner.{corner}
 use Rattle.corner_lift.specs.Case.{CaseData}
 use Rattle.corner_lift.specs.Certificate.{unmarked, mark, ranked_below}
-use Rattle.corner_lift.specs.Stages.{LeadsBelow}
-use Rattle.robust_rank.specs.Staging.{allows, is_rank, IsLeading, IsLeastLeading, HasNoLeading, IsQueuedIn, StageData, IsAdded, IsGathering, IsLooked, AreKept}
+use Rattle.robust_rank.specs.Staging.{is_rank, IsLeading, IsLeastLeading, HasNoLeading, IsQueuedIn, StageData, IsAdded, IsGathering, IsLooked, AreKept}
 use Rattle.robust_rank.proofs.Means.{either_way, in_or_past, sum-same}
 
 -- where a state has no rank, fewer have one than there are
@@ -43,16 +41,22 @@ module _ (k : CaseData) (allowed : List ℕ) (start : StageData) (r found : ℕ)
       (h.grown t)
 
   pub to_start : (s a : ℕ) → IsLeading k start.spans allowed (mark ranks) (suc r) s a → IsLeading k start.spans allowed (mark start.ranks) (suc r) s a
-  to_start s a leading = (leading.0, λ c lt.
-      let row = row_at k.model s a in
-      let here = leading.1 c lt in
-      omega (arith, linear, here, sum-same (ranked_below (mark ranks) (suc r)) (ranked_below (mark start.ranks) (suc r)) (moves_at (corner k.d start.spans (support row) c) row) same_lower))
+  to_start s a leading = (
+    leading.0,
+    λ c lt.
+        let row = row_at k.model s a in
+        let here = leading.1 c lt in
+        omega (arith, linear, here, sum-same (ranked_below (mark ranks) (suc r)) (ranked_below (mark start.ranks) (suc r)) (moves_at (corner k.d start.spans (support row) c) row) same_lower),
+  )
 
   pub from_start : (s a : ℕ) → IsLeading k start.spans allowed (mark start.ranks) (suc r) s a → IsLeading k start.spans allowed (mark ranks) (suc r) s a
-  from_start s a leading = (leading.0, λ c lt.
-      let row = row_at k.model s a in
-      let here = leading.1 c lt in
-      omega (arith, linear, here, sum-same (ranked_below (mark ranks) (suc r)) (ranked_below (mark start.ranks) (suc r)) (moves_at (corner k.d start.spans (support row) c) row) same_lower))
+  from_start s a leading = (
+    leading.0,
+    λ c lt.
+        let row = row_at k.model s a in
+        let here = leading.1 c lt in
+        omega (arith, linear, here, sum-same (ranked_below (mark ranks) (suc r)) (ranked_below (mark start.ranks) (suc r)) (moves_at (corner k.d start.spans (support row) c) row) same_lower),
+  )
 
   pub none_looked : (next s : ℕ) → next ≡ suc r → HasNoLeading k start.spans allowed (mark ranks) next s → IsLooked k allowed start r ranks s
   none_looked next s e none unranked a lt leading = none a lt (subst (λ n. IsLeading k start.spans allowed (mark ranks) n s a) (sym e) (from_start s a leading))

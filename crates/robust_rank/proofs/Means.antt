@@ -3,13 +3,11 @@ use Rattle.std.proofs.Common.{◌≡◌, ℕ, zero, suc, ◌^◌, ◌<◌, ◌�
 use Rattle.std.proofs.lemmas.Int.{by_lt_z}
 use Rattle.lift_poly.proofs.Ring.{linear, mul-comm, mul-assoc, mul-add, add-mul, mul-zero, zero-mul, one-mul, mul-le, mul-lt}
 use Rattle.lift_grid.specs.Rectangle.{Spans}
-use Rattle.lift_grid.specs.Tree.{RejectData}
 use Rattle.lift_model.specs.declared.entry.Entry.{Entry}
 use Rattle.lift_model.specs.Process.{Move, power, weighted_sum}
-use Rattle.lift_model.specs.Model.{ModelData, support, is_goal, choices, row_at, moves_at}
+use Rattle.lift_model.specs.Model.{ModelData, support, choices, row_at, moves_at}
 use Rattle.corner_lift.specs.Corner.{parameter_count, corner, corner_sum, whole}
-use Rattle.corner_lift.specs.Case.{CaseData, IsCase, IsInside, number}
-use Rattle.corner_lift.specs.Certificate.{mark, unmarked, ranked_below, picked_row, IsLower, IsHeld}
+use Rattle.corner_lift.specs.Case.{CaseData, IsCase, IsInside}
 use Rattle.corner_lift.specs.Laws.{HasRow}
 pub use Rattle.robust_rank.specs.Premises.{Premises}
 

@@ -75,8 +75,7 @@ fn is_leading(
     requires ranks { length ranks.now ≡ length case.now.model.states }
     ensures { IsTrue result ↔ IsLeading case.now spans allowed.now (mark ranks.now) below s a }
 {
-    is_allowed(case, links, allowed, s, a)
-        && leads_below(case, links, weights, s, a, ranks, below)
+    is_allowed(case, links, allowed, s, a) && leads_below(case, links, weights, s, a, ranks, below)
 }
 
 /// The least allowed choice of the state that leads below.

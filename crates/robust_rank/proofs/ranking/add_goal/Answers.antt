@@ -1,6 +1,6 @@
-use Rattle.std.proofs.Common.{◌≡◌, true, false}
+use Rattle.std.proofs.Common.{◌≡◌, true}
 use Rattle.lift_model.specs.Model.{is_goal}
-use Rattle.robust_rank.proofs.Completing.{goal as goal_added, no_goal}
+use Rattle.robust_rank.proofs.Completing.{goal as goal_added}
 use Rattle.robust_rank.proofs.ranking.add_goal.Goals as goal
 
 pub returns : goal.returns

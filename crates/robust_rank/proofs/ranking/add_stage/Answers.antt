@@ -1,4 +1,4 @@
-use Rattle.std.proofs.Common.{◌≡◌, ℕ, suc, ◌+◌, ◌<◌, ◌≤◌, get_or, All, subst, ◌∙◌, arith}
+use Rattle.std.proofs.Common.{suc, ◌<◌, ◌≤◌, get_or, All, subst, ◌∙◌, arith}
 use Rattle.lift_model.specs.Links.{states_before}
 use Rattle.corner_lift.specs.Certificate.{mark}
 use Rattle.robust_rank.specs.Staging.{IsLooked, IsComplete}

@@ -1,4 +1,4 @@
-use Rattle.std.proofs.Common.{ℕ, ◌-◌, length}
+use Rattle.std.proofs.Common.{◌-◌, length}
 use Rattle.robust_rank.specs.Staging.{IsComplete}
 use Rattle.robust_rank.proofs.ranking.attract.Given as goal
 

@@ -1,4 +1,4 @@
-use Rattle.std.proofs.Common.{◌<◌, length, arith}
+use Rattle.std.proofs.Common.{arith}
 use Rattle.robust_rank.proofs.Gathering.{none_counted}
 use Rattle.robust_rank.proofs.ranking.clear.Goals as goal
 

@@ -1,4 +1,4 @@
-use Rattle.std.proofs.Common.{◌≡◌, ◌<◌, length, true, false, ap, subst, arith}
+use Rattle.std.proofs.Common.{◌≡◌, length, true, false, ap, arith}
 use Rattle.lift_model.specs.Model.{ModelData, choices}
 use Rattle.corner_lift.specs.Certificate.{mark}
 use Rattle.robust_rank.specs.Staging.{IsLeading}

@@ -1,4 +1,4 @@
-use Rattle.std.proofs.Common.{rules, ℕ, ◌≡◌, ◌<◌, ◌^◌, true, false, refl, pos, ◌<ℤ◌, to_z-of_z, SFits, arith}
+use Rattle.std.proofs.Common.{rules, ◌≡◌, ◌<◌, ◌^◌, true, false, refl, pos, ◌<ℤ◌, to_z-of_z, SFits, arith}
 use mir.Syntax.{w128}
 use Rattle.lift_model.specs.Model.{row_at, support}
 use Rattle.corner_lift.specs.Corner.{corner_sum, parameter_count}
@@ -21,6 +21,7 @@ returns g c = (
 pub returns-then-not-is_positive : goal.returns-then-not-is_positive
 returns-then-not-is_positive g c =
     let fits : SFits w128 c.table_into.result = search rules in
-    let small : c.loop-corner.corner < 2 ^ parameter_count g.spans (support (row_at c.args.case.now.model c.args.s c.args.a)) = omega (arith, c.corners_of-corner-end.ensures.inside g.spans c.requires.1.0.inside, c.loop-corner-test.true) in
-    (λ e. let wrong : false ≡ true = e in absurd (cc wrong),
-    λ leads. let is = (rw (to_z-of_z fits, c.table_into.ensures) at c.is_positive.ensures.1) (leads c.loop-corner.corner small) in let isnt = c.if-not-is_positive.true in let wrong : true ≡ false = cc (is, isnt) in absurd (cc wrong))
+    let small : c.loop-corner.corner < 2 ^ parameter_count g.spans (support (row_at c.args.case.now.model c.args.s c.args.a)) = omega (arith, c.corners_of-corner-end.ensures.inside g.spans c.requires.1.0.inside, c.loop-corner-test.true) in (
+      λ e. let wrong : false ≡ true = e in absurd (cc wrong),
+      λ leads. let is = (rw (to_z-of_z fits, c.table_into.ensures) at c.is_positive.ensures.1) (leads c.loop-corner.corner small) in let isnt = c.if-not-is_positive.true in let wrong : true ≡ false = cc (is, isnt) in absurd (cc wrong),
+    )

@@ -1,4 +1,4 @@
-use Rattle.std.proofs.Common.{◌<◌, length, ap, arith}
+use Rattle.std.proofs.Common.{length, ap, arith}
 use Rattle.lift_model.specs.Model.{ModelData}
 use Rattle.robust_rank.specs.Staging.{IsPickOf}
 use Rattle.robust_rank.proofs.Gathering.{written}

@@ -1,6 +1,6 @@
-use Rattle.std.proofs.Common.{◌≡◌, ℕ, ◌+◌, ◌<◌, ◌≤◌, length, get_or, take, All, subst, sym, arith}
+use Rattle.std.proofs.Common.{◌≡◌, get_or, take, All, subst}
 use Rattle.std.proofs.lemmas.List.{take_all}
-use Rattle.std.proofs.lemmas.List.Elements.{All-more, All-get_or, All-from_get_or}
+use Rattle.std.proofs.lemmas.List.Elements.{All-more}
 use Rattle.lift_model.specs.Links.{states_before}
 use Rattle.robust_rank.specs.Staging.{IsLooked}
 use Rattle.robust_rank.proofs.Gathering.{still_looked, kept_on}

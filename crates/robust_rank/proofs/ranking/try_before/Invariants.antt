@@ -1,4 +1,4 @@
-use Rattle.std.proofs.Common.{ℕ, take, All}
+use Rattle.std.proofs.Common.{take, All}
 use Rattle.lift_model.specs.Links.{states_before}
 use Rattle.robust_rank.specs.Staging.{IsGathering, AreKept, IsLooked}
 use Rattle.robust_rank.proofs.ranking.try_before.Given as goal

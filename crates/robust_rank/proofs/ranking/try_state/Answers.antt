@@ -1,6 +1,5 @@
-use Rattle.std.proofs.Common.{◌≡◌, ℕ, ◌+◌, ◌≤◌, refl, arith}
+use Rattle.std.proofs.Common.{◌+◌, ◌≤◌, refl, arith}
 use Rattle.corner_lift.specs.Certificate.{mark, unmarked}
-use Rattle.robust_rank.specs.Staging.{IsGathering, IsLooked}
 use Rattle.robust_rank.proofs.Gathering.{gathered, none_looked}
 use Rattle.robust_rank.proofs.ranking.try_state.Goals as goal
 

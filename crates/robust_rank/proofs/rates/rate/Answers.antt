@@ -1,4 +1,4 @@
-use Rattle.std.proofs.Common.{◌≡◌, length, ap, subst, arith}
+use Rattle.std.proofs.Common.{length, ap, subst, arith}
 use Rattle.lift_model.specs.Model.{ModelData}
 use Rattle.robust_rank.specs.Rate.{AreFast, IsLeastFrom}
 use Rattle.robust_rank.proofs.Doubling.{next_state}

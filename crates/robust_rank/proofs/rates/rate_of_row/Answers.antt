@@ -1,4 +1,4 @@
-use Rattle.std.proofs.Common.{rules, ◌<◌, ◌≤◌, subst, sym, pos, ◌≤ℤ◌, to_z-of_z, SFits, arith}
+use Rattle.std.proofs.Common.{rules, ◌<◌, subst, sym, to_z-of_z, SFits, arith}
 use mir.Syntax.{w128}
 use Rattle.lift_poly.proofs.Ring.{linear}
 use Rattle.robust_rank.proofs.Doubling.{next_corner}

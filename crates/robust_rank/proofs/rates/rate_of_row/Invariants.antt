@@ -1,5 +1,4 @@
-use Rattle.std.proofs.Common.{ℕ, ◌≤◌}
-use Rattle.lift_grid.specs.Rectangle.{Spans}
+use Rattle.std.proofs.Common.{◌≤◌}
 use Rattle.robust_rank.specs.Rate.{IsFastBefore, IsLeastFrom, most_rate}
 use Rattle.robust_rank.proofs.rates.rate_of_row.Given as goal
 

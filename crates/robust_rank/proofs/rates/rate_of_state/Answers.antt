@@ -1,8 +1,8 @@
-use Rattle.std.proofs.Common.{rules, ◌<◌, subst, sym, arith}
+use Rattle.std.proofs.Common.{◌<◌, subst, sym, arith}
 use Rattle.lift_model.specs.Links.{HasChoice}
-use Rattle.corner_lift.specs.Certificate.{unmarked, mark, ranked_below}
+use Rattle.corner_lift.specs.Certificate.{unmarked, mark}
 use Rattle.corner_lift.specs.Stages.{LeadsBelow}
-use Rattle.robust_rank.specs.Rate.{IsFast, IsLeastFrom}
+use Rattle.robust_rank.specs.Rate.{IsFast}
 use Rattle.robust_rank.proofs.rates.rate_of_state.Goals as goal
 
 pub rate_of_row-requires : goal.rate_of_row-requires
