@@ -3,8 +3,6 @@ pub mod Capped
 pub mod Closed
 pub mod Stuck
 pub mod Guess
-pub mod Frontier
-pub mod Attract
 pub mod Heights
 pub mod Renumbering
 mod Samples

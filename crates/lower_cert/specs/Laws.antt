@@ -112,13 +112,3 @@ LevelCaps = (k : CaseData) (spans : Spans) (inside : ℕ → Bool) (z : ℕ → 
     → let row = row_at k.model s a in
     ((corner_sum k.d spans row c z -ℤ corner_sum k.d spans row c (into inside) *ℤ m) <ℤ (v *ℤ (whole k.model k.d spans row -ℤ corner_sum k.d spans row c (into inside))))
     → CapsAt k spans inside z v row c
-
--- A choice that leads below r + 1 has an entry into rank r, or leads below r already: so a stage need only look at the states before those that the last stage added.
-abbrev pub FrontierLeads : Type 0
-FrontierLeads = (k : CaseData) (spans : Spans) (rank : ℕ → ℕ) (r s a : ℕ) → LeadsBelow k spans rank (suc r) s a
-    → ((i : ℕ) × ((i < length (row_at k.model s a)) × (rank (slice_index_or (row_at k.model s a) i no_entry).target ≡ r))) ⊎ LeadsBelow k spans rank r s a
-
--- where no rank is from r to q, what leads below q leads below r: so an empty stage is the last
-abbrev pub GapLeads : Type 0
-GapLeads = (k : CaseData) (spans : Spans) (rank : ℕ → ℕ) (r q s a : ℕ) → ((t : ℕ) → rank t < q → rank t < r) → IsCase k → IsInside k.root spans → a < length (choices k.model s)
-    → LeadsBelow k spans rank q s a → LeadsBelow k spans rank r s a

@@ -1,4 +1,3 @@
 pub mod Capping
 pub mod Laws
-pub mod Attracting
 pub mod AnyRanks

@@ -14,11 +14,8 @@ ghost use Rattle.lower_cert.specs.Laws.{
   CappingKeepsUnder,
   GuessIsAbove,
   SmallRefutes,
-  FrontierLeads,
-  GapLeads,
 };
 ghost use Rattle.lower_cert.specs.AnyRanks.{RanksFit, HeightFits};
-ghost use Rattle.lower_cert.specs.Attracting.{StartIsStaged, NextIsStaged, EmptyStageEnds, StagesOfTest};
 
 use corner_lift::{corners_bound_weights, rows_at_corners};
 
@@ -39,20 +36,6 @@ pub fn vectors_are_lowered()
     ensures under { CappingKeepsUnder }
     ensures guess { GuessIsAbove }
     ensures refutes { SmallRefutes }
-{
-    corners_bound_weights();
-    rows_at_corners();
-}
-
-/// Ranking stage by stage: where the stages begin and end, what the next one has to find, and that it
-/// need only look at what leads into the last one.
-pub fn ranks_go_by_stages()
-    ensures start { StartIsStaged }
-    ensures next { NextIsStaged }
-    ensures end { EmptyStageEnds }
-    ensures test { StagesOfTest }
-    ensures frontier { FrontierLeads }
-    ensures gap { GapLeads }
 {
     corners_bound_weights();
     rows_at_corners();

@@ -3,4 +3,4 @@
 
 mod laws;
 
-pub use laws::{ranks_fit, ranks_go_by_stages, vectors_are_lowered};
+pub use laws::{ranks_fit, vectors_are_lowered};

@@ -7,8 +7,8 @@ use Rattle.lift_model.specs.Process.{weighted_sum}
 use Rattle.lift_model.specs.Model.{row_at, support, moves_at}
 use Rattle.corner_lift.specs.Corner.{corner, no_entry}
 use Rattle.corner_lift.specs.Certificate.{ranked_below}
-use Rattle.lower_cert.specs.Laws.{FrontierLeads, GapLeads}
-use Rattle.lower_cert.proofs.Means.{Premises, stand, either_way, mono}
+use Rattle.robust_rank.specs.Attracting.{FrontierLeads, GapLeads}
+use Rattle.robust_rank.proofs.Means.{Premises, stand, either_way, mono}
 
 -- but for rank r itself, below r + 1 is below r
 apart_from : (rank : ℕ → ℕ) (r t : ℕ) → nat_eq (rank t) r ≡ false → ranked_below rank (suc r) t ≡ ranked_below rank r t

@@ -8,9 +8,9 @@ use Rattle.corner_lift.specs.Corner.{corner, whole, parameter_count, no_entry}
 use Rattle.corner_lift.specs.Case.{CaseData}
 use Rattle.corner_lift.specs.Certificate.{unmarked, ranked_below}
 use Rattle.corner_lift.specs.Stages.{LeadsBelow}
-use Rattle.lower_cert.specs.Attracting.{IsStaged, IsNextStage, Pass, StartIsStaged, NextIsStaged, EmptyStageEnds, StagesOfTest}
-use Rattle.lower_cert.proofs.Means.{Premises, stand, either_way, sum-same, mono, level}
-use Rattle.lower_cert.proofs.Frontier.{frontier_leads, gap_leads}
+use Rattle.robust_rank.specs.Attracting.{IsStaged, IsNextStage, Pass, StartIsStaged, NextIsStaged, EmptyStageEnds, StagesOfTest}
+use Rattle.robust_rank.proofs.Means.{Premises, stand, either_way, sum-same, mono, level}
+use Rattle.robust_rank.proofs.Frontier.{frontier_leads, gap_leads}
 
 up_or_past : (q r : ℕ) → (q ≤ r) ⊎ (suc r ≤ q)
 up_or_past q r = grind arith

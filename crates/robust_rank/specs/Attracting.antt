@@ -49,3 +49,13 @@ abbrev pub StagesOfTest : Type 0
 StagesOfTest = (k : CaseData) (spans : Spans) (test : ℕ → ℕ → Bool) (y : ℕ → ℤ) (pick rank : ℕ → ℕ)
     → ((s : ℕ) → is_goal k.model s ≡ false → (a : ℕ) → a < length (choices k.model s) → (Pass test s a → IsAllowed k spans y s a) × (IsAllowed k spans y s a → Pass test s a))
     → AreStages k spans (Pass test) pick rank → AreStages k spans (IsAllowed k spans y) pick rank
+
+-- A choice that leads below r + 1 has an entry into rank r, or leads below r already: so a stage need only look at the states before those that the last stage added.
+abbrev pub FrontierLeads : Type 0
+FrontierLeads = (k : CaseData) (spans : Spans) (rank : ℕ → ℕ) (r s a : ℕ) → LeadsBelow k spans rank (suc r) s a
+    → ((i : ℕ) × ((i < length (row_at k.model s a)) × (rank (slice_index_or (row_at k.model s a) i no_entry).target ≡ r))) ⊎ LeadsBelow k spans rank r s a
+
+-- where no rank is from r to q, what leads below q leads below r: so an empty stage is the last
+abbrev pub GapLeads : Type 0
+GapLeads = (k : CaseData) (spans : Spans) (rank : ℕ → ℕ) (r q s a : ℕ) → ((t : ℕ) → rank t < q → rank t < r) → IsCase k → IsInside k.root spans → a < length (choices k.model s)
+    → LeadsBelow k spans rank q s a → LeadsBelow k spans rank r s a

@@ -1,0 +1,25 @@
+use Rattle.std.proofs.Common.{◌<◌, subst, sym, arith}
+use Rattle.lift_model.specs.Links.{HasChoice}
+use Rattle.corner_lift.specs.Certificate.{unmarked, mark}
+use Rattle.corner_lift.specs.Stages.{LeadsBelow}
+use Rattle.robust_rank.specs.Rate.{IsFast}
+use Rattle.robust_rank.proofs.rates.rate_of_state.Goals as goal
+
+pub rate_of_row-requires : goal.rate_of_row-requires
+rate_of_row-requires g c =
+    let picked : c.mark_of-pick.result < unmarked = omega arith in
+    let there : mark c.args.picks.now c.args.s < unmarked = omega (arith, c.mark_of-pick.ensures) in
+    let row : HasChoice c.args.case.now.model c.args.s c.mark_of-pick.result = record { state = c.requires.1.1.1.0; choice = rw c.mark_of-pick.ensures (c.requires.1.1.0.in_range c.args.s there) } in
+    let leads = subst (λ a. LeadsBelow c.args.case.now g.spans (mark c.args.ranks.now) (mark c.args.ranks.now c.args.s) c.args.s a) (sym c.mark_of-pick.ensures) (c.requires.1.1.0.leads c.args.s there) in
+    (c.requires.0, (c.requires.1.0, (row, (c.requires.1.1.0.sizes.0, (leads, c.requires.1.1.1.1)))))
+
+pub returns-clause-least : goal.returns-clause-least
+returns-clause-least g c =
+    let there : mark c.args.picks.now c.args.s < unmarked = omega (arith, c.mark_of-pick.ensures) in
+    let found = c.rate_of_row.ensures.least in
+    let same = c.mark_of-pick.ensures in
+    record {
+      from = found.from;
+      holds = λ picked. subst (λ a. IsFast c.args.case.now g.spans c.args.ranks.now c.args.s a c.rate_of_row.result) same found.holds;
+      least = λ m le fast. found.least m le (subst (λ a. IsFast c.args.case.now g.spans c.args.ranks.now c.args.s a m) (sym same) (fast there));
+    }

@@ -1,0 +1,4 @@
+use Rattle.robust_rank.proofs.rates.rate_of_state.Given as goal
+
+abbrev pub ghost-rate_of_row : goal.ghost-rate_of_row
+ghost-rate_of_row g a = g.spans

@@ -1,0 +1,4 @@
+pub mod Attracting
+pub mod Rate
+pub mod Premises
+pub mod Staging

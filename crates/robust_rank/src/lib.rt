@@ -1,0 +1,12 @@
+//! Ranks by stages, and the rate of picks.
+#![tactic(auto)]
+
+mod corners;
+mod laws;
+mod marks;
+mod ranking;
+mod rates;
+
+pub use laws::ranks_go_by_stages;
+pub use ranking::attract;
+pub use rates::rate;

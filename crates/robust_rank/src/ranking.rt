@@ -1,0 +1,327 @@
+ghost use Rattle.std.specs.Prelude.{◌≡◌, ◌+◌, List, ◌≤◌, ◌<◌, ◌↔◌, ◌<ℤ◌, pos, ℕ, suc, length, false, IsTrue, IfSome, IsNone, All, count_by, slice_set};
+ghost use Rattle.lift_grid.specs.Rectangle.{Spans};
+ghost use Rattle.lift_model.specs.Model.{is_goal};
+ghost use Rattle.lift_model.specs.Links.{AreLinks, HasChoice, states_before};
+ghost use Rattle.corner_lift.specs.Case.{IsInside};
+ghost use Rattle.corner_lift.specs.Certificate.{mark, unmarked};
+ghost use Rattle.corner_lift.specs.Stages.{LeadsBelow, AreStages};
+ghost use Rattle.corner_lift.specs.Table.{IsTable};
+ghost use Rattle.robust_rank.specs.Attracting.{Pass};
+ghost use Rattle.robust_rank.specs.Staging.{allows, CanRank, IsLeading, IsLeastLeading, HasNoLeading, row_count, OthersHaveNoPick, is_rank, IsReached, IsPickOf, IsStarting, IsComplete, StageData, IsGathering, AreKept, IsLooked};
+
+use crate::corners::corners_of;
+use crate::laws::premises;
+use crate::marks::{NONE, mark_of};
+use corner_lift::{Case, table_into};
+use lift_model::Links;
+
+/// Whether the weight is above 0.
+fn is_positive(weight: i128) -> bool
+    ensures { IsTrue result ↔ pos 0 <ℤ weight }
+{
+    weight > 0
+}
+
+/// Whether at each of its corners the state's choice has positive weight into states whose rank is less
+/// than `below`.
+fn leads_below(
+    case: &Case,
+    links: &Links,
+    weights: &[i128],
+    s: u32,
+    a: u32,
+    ranks: &[u32],
+    below: u32,
+) -> bool
+    ghost spans: { Spans }
+    requires links { AreLinks case.now.model links.now }
+    requires table { IsTable case.now links.now spans weights.now }
+    requires row { HasChoice case.now.model s a }
+    requires ranks { length ranks.now ≡ length case.now.model.states }
+    ensures { IsTrue result ↔ LeadsBelow case.now spans (mark ranks.now) below s a }
+{
+    for corner in 0..corners_of(case, links, s, a) {
+        if !is_positive(table_into(case, links, weights, s, a, corner, ranks, below)) {
+            return false;
+        }
+    }
+    true
+}
+
+/// Whether the state's choice is allowed.
+fn is_allowed(case: &Case, links: &Links, allowed: &[u32], s: u32, a: u32) -> bool
+    requires links { AreLinks case.now.model links.now }
+    requires rows { length allowed.now ≡ row_count case.now.model }
+    requires row { HasChoice case.now.model s a }
+    ensures { IsTrue result ↔ Pass (allows case.now.model allowed.now) s a }
+{
+    allowed[links.row_place(s, a)] != 0
+}
+
+/// Whether the state's choice is allowed and leads below.
+fn is_leading(
+    case: &Case,
+    links: &Links,
+    weights: &[i128],
+    allowed: &[u32],
+    s: u32,
+    a: u32,
+    ranks: &[u32],
+    below: u32,
+) -> bool
+    ghost spans: { Spans }
+    requires rows { CanRank case.now links.now spans weights.now allowed.now }
+    requires row { HasChoice case.now.model s a }
+    requires ranks { length ranks.now ≡ length case.now.model.states }
+    ensures { IsTrue result ↔ IsLeading case.now spans allowed.now (mark ranks.now) below s a }
+{
+    is_allowed(case, links, allowed, s, a) && leads_below(case, links, weights, s, a, ranks, below)
+}
+
+/// The least allowed choice of the state that leads below.
+fn leading_choice(
+    case: &Case,
+    links: &Links,
+    weights: &[i128],
+    allowed: &[u32],
+    s: u32,
+    ranks: &[u32],
+    below: u32,
+) -> Option<u32>
+    ghost spans: { Spans }
+    requires rows { CanRank case.now links.now spans weights.now allowed.now }
+    requires state { s < length case.now.model.states }
+    requires ranks { length ranks.now ≡ length case.now.model.states }
+    ensures some { IfSome result (IsLeastLeading case.now spans allowed.now (mark ranks.now) below s) }
+    ensures none { IsNone result → HasNoLeading case.now spans allowed.now (mark ranks.now) below s }
+{
+    for a in 0..case.model().choices(s) {
+        if is_leading(case, links, weights, allowed, s, a, ranks, below) {
+            return Some(a);
+        }
+    }
+    None
+}
+
+/// Gives a state without rank the rank, and puts it at the end of the queue.
+fn add(ranks: &mut [u32], queue: &mut [u32], s: u32, rank: u32, found: usize) -> usize
+    requires state { s < length ranks.old }
+    requires sizes { length queue.old ≡ length ranks.old }
+    requires none { unmarked ≤ mark ranks.old s }
+    requires rank { rank < unmarked }
+    requires count { found ≡ count_by is_rank ranks.old }
+    ensures ranks { ranks.new ≡ slice_set ranks.old s rank }
+    ensures queue { queue.new ≡ slice_set queue.old found s }
+    ensures found { result ≡ found + 1 }
+    ensures room { found < length queue.old }
+    ensures count { result ≡ count_by is_rank ranks.new }
+{
+    ranks[s as usize] = rank;
+    queue[found] = s;
+    found + 1
+}
+
+/// Gives a state the rank after `rank` if it has none and a choice that leads below that.
+fn try_state(
+    case: &Case,
+    links: &Links,
+    weights: &[i128],
+    allowed: &[u32],
+    s: u32,
+    rank: u32,
+    found: usize,
+    ranks: &mut [u32],
+    queue: &mut [u32],
+) -> usize
+    ghost start: { StageData }
+    requires rows { CanRank case.now links.now start.spans weights.now allowed.now }
+    requires state { s < length case.now.model.states }
+    requires gathering { IsGathering case.now allowed.now start rank found ranks.old queue.old }
+    ensures gathering { IsGathering case.now allowed.now start rank result ranks.new queue.new }
+    ensures kept { AreKept ranks.old ranks.new }
+    ensures looked { IsLooked case.now allowed.now start rank ranks.new s }
+{
+    if mark_of(ranks, s as usize) != NONE {
+        return found;
+    }
+    match leading_choice(case, links, weights, allowed, s, ranks, rank + 1) {
+        Some(_) => add(ranks, queue, s, rank + 1, found),
+        None => found,
+    }
+}
+
+/// Tries the states before `t`.
+fn try_before(
+    case: &Case,
+    links: &Links,
+    weights: &[i128],
+    allowed: &[u32],
+    t: u32,
+    rank: u32,
+    found: usize,
+    ranks: &mut [u32],
+    queue: &mut [u32],
+) -> usize
+    ghost start: { StageData }
+    requires rows { CanRank case.now links.now start.spans weights.now allowed.now }
+    requires state { t < length case.now.model.states }
+    requires gathering { IsGathering case.now allowed.now start rank found ranks.old queue.old }
+    ensures gathering { IsGathering case.now allowed.now start rank result ranks.new queue.new }
+    ensures kept { AreKept ranks.old ranks.new }
+    ensures looked { All (IsLooked case.now allowed.now start rank ranks.new) (states_before links.now t) }
+{
+    let mut found = found;
+    for s in links.before(t) {
+        found = try_state(case, links, weights, allowed, *s, rank, found, ranks, queue);
+    }
+    found
+}
+
+/// Gives the rank after `rank` to each state that gets it, and puts these behind the queue's part from
+/// `from` to `to`, which holds the states of that rank.
+fn add_stage(
+    case: &Case,
+    links: &Links,
+    weights: &[i128],
+    allowed: &[u32],
+    rank: u32,
+    from: usize,
+    to: usize,
+    ranks: &mut [u32],
+    queue: &mut [u32],
+) -> usize
+    ghost start: { StageData }
+    requires rows { CanRank case.now links.now start.spans weights.now allowed.now }
+    requires start { (start.ranks ≡ ranks.old) × ((start.queue ≡ queue.old) × (start.to ≡ to)) }
+    requires complete { IsComplete case.now start.spans allowed.now start.ranks start.queue rank from start.to }
+    requires some { from < to }
+    ensures complete { IsComplete case.now start.spans allowed.now ranks.new queue.new (suc rank) to result }
+{
+    let _ = case.w();
+    let mut found = to;
+    for i in from..to {
+        let t = mark_of(queue, i);
+        found = try_before(case, links, weights, allowed, t, rank, found, ranks, queue);
+    }
+    found
+}
+
+/// Takes all ranks away.
+fn clear(ranks: &mut [u32])
+    ensures none { (s : ℕ) → mark ranks.new s ≡ unmarked }
+    ensures count { count_by is_rank ranks.new ≡ 0 }
+{
+    for s in 0..ranks.len() {
+        ranks[s] = NONE;
+    }
+}
+
+/// Gives rank 0 to the state, if it is a goal state, and puts it into the queue.
+fn add_goal(case: &Case, s: u32, found: usize, ranks: &mut [u32], queue: &mut [u32]) -> usize
+    requires state { s < length case.now.model.states }
+    requires starting { IsStarting case.now ranks.old queue.old s found }
+    ensures starting { IsStarting case.now ranks.new queue.new (s + 1) result }
+{
+    if !case.model().is_goal(s) {
+        return found;
+    }
+    add(ranks, queue, s, 0, found)
+}
+
+/// Gives rank 0 to the goal states and none to the others, and puts the goal states into the queue.
+fn start(case: &Case, ranks: &mut [u32], queue: &mut [u32]) -> usize
+    requires sizes { (length ranks.old ≡ length case.now.model.states) × (length queue.old ≡ length case.now.model.states) }
+    ensures { IsStarting case.now ranks.new queue.new (length case.now.model.states) result }
+{
+    clear(ranks);
+    let mut found = 0;
+    for s in 0..case.model().states() {
+        found = add_goal(case, s, found, ranks, queue);
+    }
+    found
+}
+
+/// The pick of a state: the least allowed choice that leads below its rank. None where it has no rank,
+/// or is a goal state.
+fn pick_of(
+    case: &Case,
+    links: &Links,
+    weights: &[i128],
+    allowed: &[u32],
+    s: u32,
+    ranks: &[u32],
+) -> u32
+    ghost spans: { Spans }
+    requires rows { CanRank case.now links.now spans weights.now allowed.now }
+    requires state { s < length case.now.model.states }
+    requires ranks { length ranks.now ≡ length case.now.model.states }
+    requires reached { IsReached case.now spans allowed.now ranks.now s }
+    ensures picked { IsPickOf case.now spans allowed.now ranks.now s result }
+{
+    let rank = mark_of(ranks, s as usize);
+    if case.model().is_goal(s) || rank == NONE {
+        return NONE;
+    }
+    match leading_choice(case, links, weights, allowed, s, ranks, rank) {
+        Some(choice) => choice,
+        None => NONE,
+    }
+}
+
+/// Writes the picks of all states.
+fn pick_all(
+    case: &Case,
+    links: &Links,
+    weights: &[i128],
+    allowed: &[u32],
+    ranks: &[u32],
+    picks: &mut [u32],
+)
+    ghost spans: { Spans }
+    requires rows { CanRank case.now links.now spans weights.now allowed.now }
+    requires sizes { (length ranks.now ≡ length case.now.model.states) × (length picks.old ≡ length case.now.model.states) }
+    requires reached { (s : ℕ) → IsReached case.now spans allowed.now ranks.now s }
+    ensures { (s : ℕ) → s < length case.now.model.states → IsPickOf case.now spans allowed.now ranks.now s (mark picks.new s) }
+{
+    for s in 0..case.model().states() {
+        picks[s as usize] = pick_of(case, links, weights, allowed, s, ranks);
+    }
+}
+
+/// Leaves in `ranks` and `picks` the ranks and picks by stages. Rank 0 have the goal states. A state has
+/// rank r + 1 where it has none up to r, and an allowed choice that at each of its corners has positive
+/// weight into states of rank at most r; the least such choice is its pick. A state without rank, or
+/// without pick as goal states are, has `u32::MAX` there. What a stage adds doesn't see what else that
+/// stage adds.
+///
+/// `weights` is the table of some sides inside the root, and `links` are those of the case's model.
+/// `allowed` has a number for each row, in reading order, which is 0 where the row isn't allowed.
+/// `ranks` and `picks` have one place for each state, and what they hold at entry is free. Takes no
+/// memory. A state is looked at once for each state that it leads to.
+pub fn attract(
+    case: &Case,
+    links: &Links,
+    weights: &[i128],
+    allowed: &[u32],
+    ranks: &mut [u32],
+    picks: &mut [u32],
+)
+    ghost spans: { Spans }
+    requires rows { CanRank case.now links.now spans weights.now allowed.now }
+    requires sizes { (length ranks.old ≡ length case.now.model.states) × (length picks.old ≡ length case.now.model.states) }
+    ensures stages { AreStages case.now spans (Pass (allows case.now.model allowed.now)) (mark picks.new) (mark ranks.new) }
+    ensures others { OthersHaveNoPick case.now picks.new ranks.new }
+{
+    premises();
+    let _ = case.w();
+    let mut from = 0;
+    let mut to = start(case, ranks, picks);
+    let mut rank = 0;
+    while from < to {
+        let end = add_stage(case, links, weights, allowed, rank, from, to, ranks, picks);
+        from = to;
+        to = end;
+        rank += 1;
+    }
+    pick_all(case, links, weights, allowed, ranks, picks);
+}
