@@ -1,5 +1,5 @@
--- The form of a rejecting certificate of three states, of which the second alone is a goal state and the third has no rank
-use Rattle.std.proofs.Common.{Bool, ◌≡◌, ◌≤◌, ◌<◌, ◌^◌, ◌⊎◌, inl, inr, ℕ, zero, suc, true, false, List, [], ◌∷◌, length, All, ℤ, pos, ◌≤ℤ◌, refl, sym, subst, ◌∙◌, arith}
+-- The form of a rejecting certificate of three states, of which the second alone is a goal state and the third has no rank.
+use Rattle.std.proofs.Common.{Bool, ◌≡◌, ◌≤◌, ◌<◌, ◌^◌, ◌⊎◌, inl, ℕ, zero, suc, true, false, List, [], ◌∷◌, length, All, ℤ, pos, ◌≤ℤ◌, refl, sym, subst, ◌∙◌, arith}
 use Rattle.std.proofs.lemmas.List.{get_or_past}
 use Rattle.lift_grid.specs.Tree.{RejectData}
 use Rattle.lift_model.specs.Model.{is_goal, choices}
