@@ -14,7 +14,7 @@ use std::process::Abort;
 use std::test::Fail;
 
 /// The bound that a cell writes, in lowest terms and from 0 to 1.
-fn bound_of(rt: &impl Abort, cell: Option<&str>) -> Result<Bound, Fail> {
+pub(crate) fn bound_of(rt: &impl Abort, cell: Option<&str>) -> Result<Bound, Fail> {
     let (num, den) = cell.unwrap_or("").split_once("/").unwrap_or(("", ""));
     let (num, den): (u32, u32) = (num.parse()?, den.parse()?);
     assert!(rt; 1 <= den && num <= den && gcd(u128::from(num), u128::from(den)) == 1);
@@ -42,7 +42,7 @@ fn admits_values_up_to_the_bound(rt: HostRuntime) -> Result<(), Fail> {
 }
 
 /// A coin that shows heads, the goal, with p.
-const COIN: &str = "@type: DTMC;@parameters;p;@model;state 0 init;1 : p;2 : 1-p;\
+pub(crate) const COIN: &str = "@type: DTMC;@parameters;p;@model;state 0 init;1 : p;2 : 1-p;\
 state 1 goal;1 : 1;state 2;2 : 1";
 
 /// For p from 1/10 to 2/5 and at precision 4: the numbers, the bound, and the answer. The weights
@@ -68,7 +68,7 @@ fn number_of(rt: &impl Abort, word: Option<&str>) -> Result<i64, Fail>
 }
 
 /// The numbers of three states.
-fn numbers_of(rt: &impl Abort, cell: Option<&str>) -> Result<[i64; 3], Fail>
+pub(crate) fn numbers_of(rt: &impl Abort, cell: Option<&str>) -> Result<[i64; 3], Fail>
     ensures { IfOk result (λ x. All IsInLane x) }
 {
     let mut words = cell.unwrap_or("").split(" ");

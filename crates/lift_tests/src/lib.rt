@@ -23,6 +23,8 @@ mod pools;
 #[cfg(test)]
 mod regions;
 #[cfg(test)]
+mod rejections;
+#[cfg(test)]
 mod rows;
 #[cfg(test)]
 mod splits;
