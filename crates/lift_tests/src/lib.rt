@@ -11,6 +11,8 @@ mod example;
 #[cfg(test)]
 mod fractions;
 #[cfg(test)]
+mod links;
+#[cfg(test)]
 mod models;
 #[cfg(test)]
 mod names;

@@ -1,0 +1,63 @@
+//! Tests of links.
+
+ghost use Rattle.std.specs.Prelude.{◌≡◌, ◌<◌, length};
+ghost use Rattle.lift_model.specs.Links.{AreLinks};
+
+use crate::example::model_of;
+use lift_model::{Links, Model};
+use std::alloc::Global;
+use std::string::String;
+use std::test::Fail;
+
+/// A process with rows that have the same polynomials, one that differs in a coefficient of each entry,
+/// states with a self loop, and one that nothing leads to.
+const LINKED: &str = "@type: MDP;@parameters;p q;@model;state 0 init;action a;1 : p;2 : 1-p;\
+action b;2 : p;3 : 1-p;state 1 goal;action a;1 : 1;state 2;action a;1 : q;2 : 1-q;\
+action b;0 : p;3 : 1-p;action c;1 : 1/2*p;2 : 1-1/2*p;state 3;action a;3 : 1;\
+state 4;action a;0 : 1";
+
+/// For each state the states before it, their positions and its own, the numbers of its rows, where
+/// their weights begin, and their targets.
+const TOLD: &str = "\
+0 | [2, 4] [2, 4] 3 | 0 0 [1, 2] 1 0 [2, 3]
+1 | [0, 1, 2] [3, 0, 2] 0 | 2 4 [1]
+2 | [0, 2] [3, 2] 2 | 3 5 [1, 2] 4 0 [0, 3] 5 9 [1, 2]
+3 | [0, 2, 3] [3, 2, 1] 1 | 6 4 [3]
+4 | [] [] 4 | 7 4 [0]";
+
+/// What the links tell of a state.
+fn told(alloc: Global, model: &Model, links: &Links, s: u32) -> Result<String, Fail>
+    requires links { AreLinks model.now links.now }
+    requires state { s < length model.now.states }
+{
+    let before = links.before(s);
+    let positions = links.positions_before(s);
+    let position = links.position(s);
+    let mut told = format!(in alloc; "{s} | {before:?} {positions:?} {position} |")?;
+    for a in 0..model.choices(s) {
+        let number = links.row_place(s, a);
+        let weights = links.weight_place(s, a);
+        let targets = links.targets(links.place(s, a));
+        told.push_str(&format!(in alloc; " {number} {weights} {targets:?}")?)?;
+    }
+    Ok(told)
+}
+
+#[test]
+fn links_states_and_rows(rt: HostRuntime) -> Result<(), Fail> {
+    let alloc = rt.alloc();
+    let model = model_of(&rt, alloc, LINKED)?;
+    let links = Links::build(alloc, &model)?;
+    assert_eq!(rt; links.weights_len(), 13);
+    assert_eq!(rt; links.firsts().len(), 4);
+    assert_eq!(rt; links.order(), [1, 3, 2, 0, 4].as_slice());
+    assert_eq!(rt; links.component_ends(), [1, 2, 4, 4, 5].as_slice());
+    for line in TOLD.split('\n') {
+        let state: u32 = line.split_once(" | ").unwrap_or(("", "")).0.parse()?;
+        assert!(rt; state < model.states());
+        assert_eq!(rt; links.places(state).len(), model.choices(state) as usize);
+        let got = told(alloc, &model, &links, state)?;
+        assert_eq!(rt; got.as_str(), line);
+    }
+    Ok(())
+}
