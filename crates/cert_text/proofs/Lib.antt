@@ -20,5 +20,6 @@ mod ReportLaws
 mod ReadSamples
 mod Refusals
 mod MarkLoops
+mod NameLoop
 mod Places
 mod Remainders

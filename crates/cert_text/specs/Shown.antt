@@ -1,6 +1,12 @@
 -- What the code's functions answer.
-use Rattle.std.specs.Prelude.{ℕ, ℤ, ◌==◌, Bool, false, List, [], ◌∷◌, Option, Some, None, if◌then◌else◌}
-use Rattle.cert_text.specs.Lines.{is_value}
+use Rattle.std.specs.Prelude.{ℕ, ℤ, ◌==◌, nat_le, not, Bool, false, List, [], ◌∷◌, length, Option, Some, None, Ok, if◌then◌else◌}
+use Rattle.std.specs.List.{list_any}
+use Rattle.std.specs.Str.{bytes_eq}
+use Rattle.lift_model.specs.Valid.{most_name_bytes}
+use Rattle.line_text.specs.declared.error.TextCause.TheVariants.{Syntax, Limit}
+use Rattle.line_text.specs.Reading.{◌>>=◌}
+use Rattle.line_text.specs.Parts.{Words, Read, must}
+use Rattle.cert_text.specs.Lines.{is_value, names_in}
 
 -- the number, if it is from 0 to 2 ^ u
 abbrev pub in_values : ℕ → ℤ → Option ℤ
@@ -10,3 +16,11 @@ in_values u z = if is_value u z then Some z else None
 abbrev pub comes_first : ℕ → List ℕ → Bool
 comes_first s [] = false
 comes_first s (x ∷ xs) = x == s
+
+-- a name that differs from those before it and isn't long
+abbrev pub name_in : Words → List ℕ → Read (Unit {0})
+name_in before name = must (not (list_any (bytes_eq name) before)) Syntax >>= λ _. must (nat_le (length name) most_name_bytes) Limit
+
+-- the names, each of which differs from those before it and isn't long
+abbrev pub distinct_names : Words → Read Words
+distinct_names names = names_in [] names >>= λ _. Ok names

@@ -10,6 +10,7 @@ mod marks;
 mod model;
 mod node;
 mod node_reader;
+mod parameters;
 mod rejected;
 mod values;
 
