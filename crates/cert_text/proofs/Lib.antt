@@ -21,5 +21,6 @@ mod ReadSamples
 mod Refusals
 mod MarkLoops
 mod NameLoop
+mod BoxLoop
 mod Places
 mod Remainders

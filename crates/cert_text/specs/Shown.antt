@@ -1,12 +1,14 @@
 -- What the code's functions answer.
-use Rattle.std.specs.Prelude.{ℕ, ℤ, ◌==◌, nat_le, not, Bool, false, List, [], ◌∷◌, length, Option, Some, None, Ok, if◌then◌else◌}
+use Rattle.std.specs.Prelude.{ℕ, ℤ, ◌==◌, nat_le, nat_lt, int_lt, unsigned_abs, not, Bool, false, List, [], ◌∷◌, length, Option, Some, None, Ok, if◌then◌else◌}
 use Rattle.std.specs.List.{list_any}
 use Rattle.std.specs.Str.{bytes_eq}
 use Rattle.lift_model.specs.Valid.{most_name_bytes}
 use Rattle.line_text.specs.declared.error.TextCause.TheVariants.{Syntax, Limit}
 use Rattle.line_text.specs.Reading.{◌>>=◌}
 use Rattle.line_text.specs.Parts.{Words, Read, must}
-use Rattle.cert_text.specs.Lines.{is_value, names_in}
+use Rattle.cert_text.specs.Lines.{is_value, names_in, is_multiple, spans_in}
+use Rattle.lift_frac.specs.Limits.{size_limit}
+use Rattle.lift_grid.specs.Rectangle.{Spans, spans_of}
 
 -- the number, if it is from 0 to 2 ^ u
 abbrev pub in_values : ℕ → ℤ → Option ℤ
@@ -24,3 +26,23 @@ name_in before name = must (not (list_any (bytes_eq name) before)) Syntax >>= λ
 -- the names, each of which differs from those before it and isn't long
 abbrev pub distinct_names : Words → Read Words
 distinct_names names = names_in [] names >>= λ _. Ok names
+
+-- an end that is a multiple of n, below the limit in size
+abbrev pub end_in : ℕ → ℤ → Read ℤ
+end_in n z = must (is_multiple n z) Syntax >>= λ _. must (nat_lt (unsigned_abs z) size_limit) Limit >>= λ _. Ok z
+
+-- a span of two such ends, the low one below the high one
+abbrev pub span_in : ℕ → ℤ → ℤ → Read (ℤ × ℤ)
+span_in n low high = do
+  _ ← must (int_lt low high) Syntax
+  a ← end_in n low
+  b ← end_in n high
+  Ok (a, b)
+
+-- ends in a row that make such spans
+abbrev pub sides_in : ℕ → List ℤ → Read (List ℤ)
+sides_in n zs = spans_in n (spans_of zs) >>= λ _. Ok zs
+
+-- the spans of such ends
+abbrev pub root_in : ℕ → List ℤ → Read Spans
+root_in n zs = spans_in n (spans_of zs) >>= λ _. Ok (spans_of zs)

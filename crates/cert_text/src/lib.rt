@@ -2,6 +2,7 @@
 //! memory.
 #![tactic(auto)]
 
+mod box_line;
 mod head;
 mod head_lines;
 mod head_reader;
