@@ -1,11 +1,14 @@
 -- What the code's functions answer.
-use Rattle.std.specs.Prelude.{ℕ, ℤ, ◌==◌, nat_le, nat_lt, int_lt, unsigned_abs, not, Bool, false, List, [], ◌∷◌, length, Option, Some, None, Ok, if◌then◌else◌}
+use Rattle.std.specs.Prelude.{ℕ, ℤ, pos, ◌^◌, count_ones, bit_or, ◌==◌, nat_le, nat_lt, int_lt, unsigned_abs, not, Bool, false, List, [], ◌∷◌, length, Option, Some, None, Ok, if◌then◌else◌}
 use Rattle.std.specs.List.{list_any}
 use Rattle.std.specs.Str.{bytes_eq}
-use Rattle.lift_model.specs.Valid.{most_name_bytes}
+use Rattle.lift_model.specs.Valid.{most_name_bytes, coefficient_limit}
 use Rattle.line_text.specs.declared.error.TextCause.TheVariants.{Syntax, Limit}
 use Rattle.line_text.specs.Reading.{◌>>=◌}
-use Rattle.line_text.specs.Parts.{Words, Read, must}
+use Rattle.line_text.specs.Parts.{Words, Read, must, between, is_above}
+use Rattle.lift_poly.specs.Polynomial.{Term}
+use Rattle.std.specs.Ordering.{int_eq}
+use Rattle.corner_lift.specs.Case.{most_row_parameters}
 use Rattle.cert_text.specs.Lines.{is_value, names_in, is_multiple, spans_in}
 use Rattle.lift_frac.specs.Limits.{size_limit}
 use Rattle.lift_grid.specs.Rectangle.{Spans, spans_of}
@@ -46,3 +49,19 @@ sides_in n zs = spans_in n (spans_of zs) >>= λ _. Ok zs
 -- the spans of such ends
 abbrev pub root_in : ℕ → List ℤ → Read Spans
 root_in n zs = spans_in n (spans_of zs) >>= λ _. Ok (spans_of zs)
+
+-- the set of a term, behind terms that hold the parameters of seen and the last of which has the set before
+abbrev pub set_in : ℕ → ℕ → Option ℕ → ℤ → Read ℕ
+set_in parameters seen before z = do
+  _ ← must (is_above before z) Syntax
+  set ← between 0 (2 ^ parameters) z
+  _ ← must (nat_le (count_ones (bit_or seen set)) most_row_parameters) Limit
+  Ok set
+
+-- a coefficient that isn't 0, below the limit in size
+abbrev pub coefficient_in : ℤ → Read ℤ
+coefficient_in z = must (not (int_eq z (pos 0))) Syntax >>= λ _. must (nat_lt (unsigned_abs z) coefficient_limit) Limit >>= λ _. Ok z
+
+-- a term of these
+abbrev pub term_in : ℕ → ℕ → Option ℕ → ℤ × ℤ → Read Term
+term_in parameters seen before term = set_in parameters seen before term.0 >>= λ set. coefficient_in term.1 >>= λ c. Ok (set, c)

@@ -59,7 +59,7 @@ pub(crate) fn kind_of(words: &Words) -> Result<Kind, TextCause>
 }
 
 /// Whether the number is above the one before it.
-fn is_above(before: Option<u64>, number: &Decimal) -> bool
+pub(crate) fn is_above(before: Option<u64>, number: &Decimal) -> bool
     ensures { result ≡ is_above before number.now }
 {
     match before {

@@ -3,6 +3,7 @@
 #![tactic(auto)]
 
 mod box_line;
+mod entry_line;
 mod head;
 mod head_lines;
 mod head_reader;

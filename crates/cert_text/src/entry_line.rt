@@ -1,0 +1,114 @@
+// The terms of an entry.
+ghost use Rattle.std.specs.Prelude.{◌≡◌, ◌≤◌, ◌<◌, ◌^◌, ◌++◌, ◌∷◌, [], None, length, bit_or, Some, IfOk};
+ghost use Rattle.line_text.specs.Words.{pair_of};
+ghost use Rattle.line_text.specs.Parts.{each};
+ghost use Rattle.line_text.specs.Shown.{Says};
+ghost use Rattle.lift_model.specs.Valid.{most_parameters};
+ghost use Rattle.cert_text.specs.Lines.{terms_in};
+ghost use Rattle.cert_text.specs.Shown.{coefficient_in, set_in, term_in};
+
+use crate::head_lines::is_above;
+use crate::rejected::pair_of;
+use line_text::{Decimal, TextCause, Words, between};
+use std::alloc::Global;
+
+/// How many parameters an entry has at most.
+const MOST_ROW_PARAMETERS: u32 = 4;
+
+/// Below this size each coefficient lies.
+const COEFFICIENT_LIMIT: u128 = 1 << 100;
+
+/// The pairs of numbers that words write with this byte between the two.
+fn pairs<'t>(
+    alloc: Global,
+    words: Words<'t>,
+    byte: u8,
+) -> Result<Vec<(Decimal<'t>, Decimal<'t>)>, TextCause>
+    ensures { Says (λ v. v.items) result (each (pair_of byte) words.entry) }
+{
+    let mut pairs = Vec::new(alloc);
+    let mut rest = words;
+    while !rest.is_empty() {
+        let Ok((word, behind)) = rest.first() else {
+            return Err(TextCause::Syntax);
+        };
+        let Some(pair) = pair_of(word, byte) else {
+            return Err(TextCause::Syntax);
+        };
+        pairs.push(pair)?;
+        rest = behind;
+    }
+    Ok(pairs)
+}
+
+/// The coefficient, if it isn't 0 and below the limit in size.
+fn coefficient_in(number: &Decimal) -> Result<i128, TextCause>
+    ensures { Says (λ n. n) result (coefficient_in number.now) }
+{
+    match number.narrow() {
+        Some(0) => Err(TextCause::Syntax),
+        Some(n) if n.unsigned_abs() < COEFFICIENT_LIMIT => Ok(n),
+        _ => Err(TextCause::Limit),
+    }
+}
+
+/// The set, if it is above the one before it and few parameters are in it or were seen.
+fn set_in(
+    number: &Decimal,
+    parameters: u32,
+    seen: u16,
+    before: Option<u64>,
+) -> Result<u16, TextCause>
+    requires { parameters ≤ most_parameters }
+    ensures value { Says (λ n. n) result (set_in parameters seen before number.now) }
+{
+    if !is_above(before, number) {
+        return Err(TextCause::Syntax);
+    }
+    let set = between(number, 0, 2_u64.pow(parameters))? as u16;
+    if (seen | set).count_ones() > MOST_ROW_PARAMETERS {
+        return Err(TextCause::Limit);
+    }
+    Ok(set)
+}
+
+/// The term of a set and a coefficient.
+fn term_in(
+    set: &Decimal,
+    coefficient: &Decimal,
+    parameters: u32,
+    seen: u16,
+    before: Option<u64>,
+) -> Result<(u16, i128), TextCause>
+    requires { parameters ≤ most_parameters }
+    ensures { Says (λ t. t) result (term_in parameters seen before (set.now, coefficient.now)) }
+{
+    let set = set_in(set, parameters, seen, before)?;
+    let coefficient = coefficient_in(coefficient)?;
+    Ok((set, coefficient))
+}
+
+/// The terms of these pairs, by ascending set.
+fn terms_in(
+    alloc: Global,
+    pairs: &[(Decimal, Decimal)],
+    parameters: u32,
+) -> Result<Vec<(u16, i128)>, TextCause>
+    requires { parameters ≤ most_parameters }
+    ensures { Says (λ v. v.items) result (terms_in parameters 0 None pairs.now) }
+{
+    let mut terms = Vec::new(alloc);
+    let mut seen = 0;
+    let mut before = None;
+    for (set, coefficient) in pairs {
+        match term_in(set, coefficient, parameters, seen, before) {
+            Ok(term) => {
+                terms.push(term)?;
+                seen |= term.0;
+                before = Some(u64::from(term.0));
+            }
+            Err(cause) => return Err(cause),
+        }
+    }
+    Ok(terms)
+}
