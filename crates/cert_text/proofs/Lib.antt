@@ -21,6 +21,7 @@ mod ReadSamples
 mod Refusals
 mod MarkLoops
 mod NameLoop
+mod EntryTerms
 mod BoxLoop
 mod Places
 mod Remainders

@@ -1,15 +1,18 @@
 -- What the code's functions answer.
-use Rattle.std.specs.Prelude.{ℕ, ℤ, pos, ◌^◌, count_ones, bit_or, ◌==◌, nat_le, nat_lt, int_lt, unsigned_abs, not, Bool, false, List, [], ◌∷◌, length, Option, Some, None, Ok, if◌then◌else◌}
+use Rattle.std.specs.Prelude.{ℕ, ℤ, pos, ◌^◌, count_ones, bit_or, slice_index_or, ◌==◌, nat_le, nat_lt, int_lt, unsigned_abs, not, Bool, false, List, [], ◌∷◌, length, Option, Some, None, Ok, if◌then◌else◌}
 use Rattle.std.specs.List.{list_any}
 use Rattle.std.specs.Str.{bytes_eq}
 use Rattle.lift_model.specs.Valid.{most_name_bytes, coefficient_limit}
 use Rattle.line_text.specs.declared.error.TextCause.TheVariants.{Syntax, Limit}
 use Rattle.line_text.specs.Reading.{◌>>=◌}
-use Rattle.line_text.specs.Parts.{Words, Read, must, between, is_above}
+use Rattle.line_text.specs.Parts.{Words, Read, must, each, between, is_above}
+use Rattle.line_text.specs.Words.{pair_of}
+use Prim.Native.Char.{code}
+use Rattle.lift_model.specs.declared.entry.Entry.{Entry}
 use Rattle.lift_poly.specs.Polynomial.{Term}
 use Rattle.std.specs.Ordering.{int_eq}
 use Rattle.corner_lift.specs.Case.{most_row_parameters}
-use Rattle.cert_text.specs.Lines.{is_value, names_in, is_multiple, spans_in}
+use Rattle.cert_text.specs.Lines.{is_value, names_in, is_multiple, spans_in, terms_in, most_terms}
 use Rattle.lift_frac.specs.Limits.{size_limit}
 use Rattle.lift_grid.specs.Rectangle.{Spans, spans_of}
 
@@ -65,3 +68,17 @@ coefficient_in z = must (not (int_eq z (pos 0))) Syntax >>= λ _. must (nat_lt (
 -- a term of these
 abbrev pub term_in : ℕ → ℕ → Option ℕ → ℤ × ℤ → Read Term
 term_in parameters seen before term = set_in parameters seen before term.0 >>= λ set. coefficient_in term.1 >>= λ c. Ok (set, c)
+
+-- an entry with that target and the terms that words write, where a test tells which targets are taken
+abbrev pub entry_in : ℕ → ℕ → (ℕ → Bool) → ℤ → Words → Read Entry
+entry_in states parameters taken z words = do
+  terms ← each (pair_of (code ":")) words
+  _ ← must (nat_le (length terms) most_terms) Syntax
+  target ← between 0 states z
+  _ ← must (not (taken target)) Syntax
+  poly ← terms_in parameters 0 None terms
+  Ok (record { target = target; poly = poly })
+
+-- whether the state's mark is that one
+abbrev pub has_mark : ℕ → List ℕ → ℕ → Bool
+has_mark mark marks s = slice_index_or marks s 0 == mark

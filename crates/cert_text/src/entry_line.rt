@@ -1,19 +1,24 @@
 // The terms of an entry.
-ghost use Rattle.std.specs.Prelude.{◌≡◌, ◌≤◌, ◌<◌, ◌^◌, ◌++◌, ◌∷◌, [], None, length, bit_or, Some, IfOk};
+ghost use Rattle.std.specs.Prelude.{◌≡◌, ◌≤◌, ◌<◌, ◌^◌, ◌++◌, ◌∷◌, [], None, length, not, IfOk};
 ghost use Rattle.line_text.specs.Words.{pair_of};
 ghost use Rattle.line_text.specs.Parts.{each};
 ghost use Rattle.line_text.specs.Shown.{Says};
-ghost use Rattle.lift_model.specs.Valid.{most_parameters};
+ghost use Rattle.lift_model.specs.Valid.{most_parameters, most_states};
 ghost use Rattle.cert_text.specs.Lines.{terms_in};
-ghost use Rattle.cert_text.specs.Shown.{coefficient_in, set_in, term_in};
+ghost use Rattle.cert_text.specs.Shown.{coefficient_in, entry_in, has_mark, set_in, term_in};
 
 use crate::head_lines::is_above;
 use crate::rejected::pair_of;
+use lift_model::Entry;
+use lift_poly::MultiAffine;
 use line_text::{Decimal, TextCause, Words, between};
 use std::alloc::Global;
 
 /// How many parameters an entry has at most.
 const MOST_ROW_PARAMETERS: u32 = 4;
+
+/// How many terms an entry has at most.
+const MOST_TERMS: usize = 16;
 
 /// Below this size each coefficient lies.
 const COEFFICIENT_LIMIT: u128 = 1 << 100;
@@ -111,4 +116,56 @@ fn terms_in(
         }
     }
     Ok(terms)
+}
+
+/// The polynomial of these pairs.
+#[tactic(auto, using(crate::proofs::EntryTerms::are_terms))]
+fn polynomial_in(
+    alloc: Global,
+    pairs: &[(Decimal, Decimal)],
+    parameters: u32,
+) -> Result<MultiAffine, TextCause>
+    requires { parameters ≤ most_parameters }
+    ensures { Says (λ p. p) result (terms_in parameters 0 None pairs.now) }
+{
+    let terms = terms_in(alloc, pairs, parameters)?;
+    let polynomial = MultiAffine::from_terms(alloc, &terms)?;
+    Ok(polynomial)
+}
+
+/// Whether the state's mark is another one.
+fn is_free(marks: &[u32], mark: u32, s: u64) -> bool
+    requires { s < length marks.now }
+    ensures { result ≡ not (has_mark mark marks.now s) }
+{
+    marks[s as usize] != mark
+}
+
+/// The entry with that target and the terms that words write. A state with that mark is taken.
+fn entry_in(
+    alloc: Global,
+    target: &Decimal,
+    words: Words,
+    marks: &[u32],
+    mark: u32,
+    parameters: u32,
+) -> Result<Entry, TextCause>
+    requires states { length marks.now ≤ most_states }
+    requires parameters { parameters ≤ most_parameters }
+    ensures { Says (λ e. e) result
+        (entry_in (length marks.now) parameters (has_mark mark marks.now) target.now words.entry) }
+{
+    let pairs = pairs(alloc, words, b':')?;
+    if pairs.len() > MOST_TERMS {
+        return Err(TextCause::Syntax);
+    }
+    let target = between(target, 0, marks.len() as u64)?;
+    if !is_free(marks, mark, target) {
+        return Err(TextCause::Syntax);
+    }
+    let poly = polynomial_in(alloc, &pairs, parameters)?;
+    Ok(Entry {
+        target: target as u32,
+        poly,
+    })
 }
