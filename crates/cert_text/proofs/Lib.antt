@@ -21,6 +21,7 @@ mod ReadSamples
 mod Refusals
 mod MarkLoops
 mod NameLoop
+mod EntryLoop
 mod EntryTerms
 mod BoxLoop
 mod Places

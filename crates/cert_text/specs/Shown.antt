@@ -1,11 +1,11 @@
 -- What the code's functions answer.
-use Rattle.std.specs.Prelude.{ℕ, ℤ, pos, ◌^◌, count_ones, bit_or, slice_index_or, ◌==◌, nat_le, nat_lt, int_lt, unsigned_abs, not, Bool, false, List, [], ◌∷◌, length, Option, Some, None, Ok, if◌then◌else◌}
+use Rattle.std.specs.Prelude.{ℕ, ℤ, pos, ◌^◌, count_ones, bit_or, slice_index_or, codes, reverse, map, nat_eq, ◌≡◌, ◌<◌, ◌==◌, nat_le, nat_lt, int_lt, unsigned_abs, not, Bool, false, List, [], ◌∷◌, length, Option, Some, None, Ok, if◌then◌else◌}
 use Rattle.std.specs.List.{list_any}
 use Rattle.std.specs.Str.{bytes_eq}
 use Rattle.lift_model.specs.Valid.{most_name_bytes, coefficient_limit}
 use Rattle.line_text.specs.declared.error.TextCause.TheVariants.{Syntax, Limit}
 use Rattle.line_text.specs.Reading.{◌>>=◌}
-use Rattle.line_text.specs.Parts.{Words, Read, must, each, between, is_above}
+use Rattle.line_text.specs.Parts.{Words, Read, must, each, count_of, between, is_above}
 use Rattle.line_text.specs.Words.{pair_of}
 use Prim.Native.Char.{code}
 use Rattle.lift_model.specs.declared.entry.Entry.{Entry}
@@ -82,3 +82,15 @@ entry_in states parameters taken z words = do
 -- whether the state's mark is that one
 abbrev pub has_mark : ℕ → List ℕ → ℕ → Bool
 has_mark mark marks s = slice_index_or marks s 0 == mark
+
+-- an entry by the words of its line, where a test tells which targets are taken
+abbrev pub entry_by : ℕ → ℕ → (ℕ → Bool) → Words → Read Entry
+entry_by states parameters taken words = count_of (codes "to") words >>= λ c. entry_in states parameters taken c.0 c.1
+
+-- the states with that mark are those of the list
+abbrev pub AreMarked : ℕ → List ℕ → List ℕ → Type 0
+AreMarked mark marks states = (s : ℕ) → s < length marks → has_mark mark marks s ≡ list_any (nat_eq s) states
+
+-- the targets of entries, the last one first
+abbrev pub targets_back : List Entry → List ℕ
+targets_back entries = reverse (map (λ entry. entry.target) entries)

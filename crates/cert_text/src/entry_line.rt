@@ -1,17 +1,19 @@
 // The terms of an entry.
-ghost use Rattle.std.specs.Prelude.{◌≡◌, ◌≤◌, ◌<◌, ◌^◌, ◌++◌, ◌∷◌, [], None, length, not, IfOk};
+ghost use Rattle.std.specs.Prelude.{◌≡◌, ◌≤◌, ◌<◌, ◌^◌, ◌++◌, ◌∷◌, [], None, length, not, All, IfOk};
+ghost use Rattle.line_text.specs.Reading.{line_at};
+ghost use Rattle.cert_text.specs.Head.{entries_at};
 ghost use Rattle.line_text.specs.Words.{pair_of};
 ghost use Rattle.line_text.specs.Parts.{each};
-ghost use Rattle.line_text.specs.Shown.{Says};
+ghost use Rattle.line_text.specs.Shown.{Says, Gives};
 ghost use Rattle.lift_model.specs.Valid.{most_parameters, most_states};
 ghost use Rattle.cert_text.specs.Lines.{terms_in};
-ghost use Rattle.cert_text.specs.Shown.{coefficient_in, entry_in, has_mark, set_in, term_in};
+ghost use Rattle.cert_text.specs.Shown.{AreMarked, coefficient_in, entry_by, entry_in, has_mark, targets_back, set_in, term_in};
 
-use crate::head_lines::is_above;
+use crate::head_lines::{counted, is_above};
 use crate::rejected::pair_of;
 use lift_model::Entry;
 use lift_poly::MultiAffine;
-use line_text::{Decimal, TextCause, Words, between};
+use line_text::{Cursor, Decimal, TextCause, TextError, Words, between};
 use std::alloc::Global;
 
 /// How many parameters an entry has at most.
@@ -152,8 +154,9 @@ fn entry_in(
 ) -> Result<Entry, TextCause>
     requires states { length marks.now ≤ most_states }
     requires parameters { parameters ≤ most_parameters }
-    ensures { Says (λ e. e) result
+    ensures value { Says (λ e. e) result
         (entry_in (length marks.now) parameters (has_mark mark marks.now) target.now words.entry) }
+    ensures range { IfOk result (λ e. e.target < length marks.now) }
 {
     let pairs = pairs(alloc, words, b':')?;
     if pairs.len() > MOST_TERMS {
@@ -168,4 +171,44 @@ fn entry_in(
         target: target as u32,
         poly,
     })
+}
+
+/// The entry that the words of its line tell.
+fn entry_by(
+    alloc: Global,
+    words: &Words,
+    marks: &[u32],
+    mark: u32,
+    parameters: u32,
+) -> Result<Entry, TextCause>
+    requires states { length marks.now ≤ most_states }
+    requires parameters { parameters ≤ most_parameters }
+    ensures value { Says (λ e. e) result
+        (entry_by (length marks.now) parameters (has_mark mark marks.now) words.now) }
+    ensures range { IfOk result (λ e. e.target < length marks.now) }
+{
+    let (target, rest) = counted(words, b"to")?;
+    entry_in(alloc, &target, rest, marks, mark, parameters)
+}
+
+/// The line that is due, as an entry.
+#[tactic(auto, unfolding(line_text::specs::Reading::line_at))]
+fn entry_line<'t>(
+    alloc: Global,
+    cursor: &Cursor<'t>,
+    marks: &[u32],
+    mark: u32,
+    parameters: u32,
+) -> Result<(Entry, Cursor<'t>), TextError>
+    requires states { length marks.now ≤ most_states }
+    requires parameters { parameters ≤ most_parameters }
+    ensures value { Gives (λ x. x) result
+        (line_at (entry_by (length marks.now) parameters (has_mark mark marks.now)) cursor.now) }
+    ensures range { IfOk result (λ x. x.0.target < length marks.now) }
+{
+    let (line, behind) = cursor.due()?;
+    match entry_by(alloc, &Words::of(line), marks, mark, parameters) {
+        Ok(entry) => Ok((entry, behind)),
+        Err(cause) => Err(cursor.fault(cause)),
+    }
 }
