@@ -231,7 +231,7 @@ multiple_of n (negsuc m) some e =
 of_multiple : (n : ℕ) (z : ℤ) → 0 < n → IsMultiple n z → is_multiple n z ≡ true
 of_multiple n z some h = eq-eqb (unsigned_abs z % n) 0 (ap (λ x. unsigned_abs x % n) h.1 ∙ ap (λ x. x % n) (unsigned_abs-mul h.0 (pos n)) ∙ mul-mod_left (unsigned_abs h.0) n)
 
-boxed_spans : (n : ℕ) (ss : Spans) → AreBoxed n ss → AreSpans ss
+pub boxed_spans : (n : ℕ) (ss : Spans) → AreBoxed n ss → AreSpans ss
 boxed_spans n [] h = tt
 boxed_spans n (s ∷ ss) h = (record { rising = is_below s.0 s.1 h.0; low = h.2; high = h.4 }, boxed_spans n ss h.5)
 

@@ -134,7 +134,7 @@ abbrev pub AreBoxed : ℕ → Spans → Type 0
 AreBoxed n [] = Unit {0}
 AreBoxed n (s ∷ ss) = (int_lt s.0 s.1 ≡ true) × (is_multiple n s.0 ≡ true) × (unsigned_abs s.0 < 2 ^ 62) × (is_multiple n s.1 ≡ true) × (unsigned_abs s.1 < 2 ^ 62) × AreBoxed n ss
 
-reads_spans : (n : ℕ) (ss : Spans) → Reads (λ _. AreBoxed n ss) (spans_in n ss)
+pub reads_spans : (n : ℕ) (ss : Spans) → Reads (λ _. AreBoxed n ss) (spans_in n ss)
 reads_spans n [] = record { takes = λ _ _. tt; again = λ u _. refl }
 reads_spans n (s ∷ ss) =
     reads_so (reads_test (int_lt s.0 s.1 && is_multiple n s.0) Syntax (Decides-and (int_lt s.0 s.1) (is_multiple n s.0) (λ e. e, λ e. e) (λ e. e, λ e. e)) (λ _.
@@ -149,7 +149,7 @@ boxed_small : (n : ℕ) (ss : Spans) → AreBoxed n ss → AllByRecursion IsSmal
 boxed_small n [] h = tt
 boxed_small n (s ∷ ss) h = (omega (arith, h.2), (omega (arith, h.4), boxed_small n ss h.5))
 
-paired : (zs : List ℤ) (k : ℕ) → length zs ≡ 2 * k → (sides_of (spans_of zs) ≡ zs) × (length (spans_of zs) ≡ k)
+pub paired : (zs : List ℤ) (k : ℕ) → length zs ≡ 2 * k → (sides_of (spans_of zs) ≡ zs) × (length (spans_of zs) ≡ k)
 paired [] k e = (refl, omega (arith, e))
 paired (z ∷ []) k e = absurd (omega (arith, e))
 paired (z ∷ y ∷ zs) zero e = absurd (omega (arith, e))

@@ -20,5 +20,9 @@ mod ReportLaws
 mod ReadSamples
 mod Refusals
 mod MarkLoops
+mod NameLoop
+mod EntryLoop
+mod EntryTerms
+mod BoxLoop
 mod Places
 mod Remainders

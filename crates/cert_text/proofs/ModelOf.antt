@@ -42,11 +42,11 @@ targets_apart : (states parameters : ℕ) (before : List ℕ) (es : List Entry) 
 targets_apart states parameters before [] h = no_pairs (λ (a : Entry) (b : Entry). a.target ≢ b.target)
 targets_apart states parameters before (e ∷ es) (low, fresh, few, terms, more) = AllPairs-cons (λ a b. a.target ≢ b.target) e es (All-from_recursion (λ x. e.target ≢ x.target) es (later_targets states parameters [] before es e.target more)) (targets_apart states parameters (e.target ∷ before) es more)
 
-all_low : (parameters seen least : ℕ) (terms : List Term) → AreTerms parameters seen least terms → AllByRecursion (λ term. term.0 < 2 ^ parameters) terms
+pub all_low : (parameters seen least : ℕ) (terms : List Term) → AreTerms parameters seen least terms → AllByRecursion (λ term. term.0 < 2 ^ parameters) terms
 all_low parameters seen least [] h = tt
 all_low parameters seen least (t ∷ terms) h = (h.1, all_low parameters (bit_or seen t.0) (t.0 + 1) terms h.5)
 
-all_small : (parameters seen least : ℕ) (terms : List Term) → AreTerms parameters seen least terms → AllByRecursion (λ term. unsigned_abs term.1 < 2 ^ 100) terms
+pub all_small : (parameters seen least : ℕ) (terms : List Term) → AreTerms parameters seen least terms → AllByRecursion (λ term. unsigned_abs term.1 < 2 ^ 100) terms
 all_small parameters seen least [] h = tt
 all_small parameters seen least (t ∷ terms) h = (h.4, all_small parameters (bit_or seen t.0) (t.0 + 1) terms h.5)
 
@@ -87,7 +87,7 @@ increasing parameters seen least (t ∷ u ∷ terms) h (suc k) lt =
     let next : suc k + 1 ≡ suc (k + 1) = omega arith in
     rw next (increasing parameters (bit_or seen t.0) (t.0 + 1) (u ∷ terms) h.5 k (omega (arith, lt)))
 
-polynomial_of : (parameters : ℕ) (terms : List Term) → AreTerms parameters 0 0 terms → IsPolynomial terms
+pub polynomial_of : (parameters : ℕ) (terms : List Term) → AreTerms parameters 0 0 terms → IsPolynomial terms
 polynomial_of parameters terms h = record { ascending = increasing parameters 0 0 terms h; coefficients = All-from_recursion (λ term. term.1 ≢ pos 0) terms (none_zero parameters 0 0 terms h) }
 
 entries_of : (states parameters : ℕ) (before : List ℕ) (es : List Entry) → AreEntries states parameters before es → AllByRecursion (IsEntry states parameters) es

@@ -59,7 +59,7 @@ pub(crate) fn kind_of(words: &Words) -> Result<Kind, TextCause>
 }
 
 /// Whether the number is above the one before it.
-fn is_above(before: Option<u64>, number: &Decimal) -> bool
+pub(crate) fn is_above(before: Option<u64>, number: &Decimal) -> bool
     ensures { result ≡ is_above before number.now }
 {
     match before {
@@ -119,7 +119,7 @@ fn flags(alloc: Global, states: u32, goals: &[u64]) -> Result<Vec<bool>, AllocEr
 }
 
 /// The first of the words behind a word, as the number of those that follow it, and these.
-fn counted<'t>(words: &Words<'t>, key: &[u8]) -> Result<(Decimal<'t>, Words<'t>), TextCause>
+pub(crate) fn counted<'t>(words: &Words<'t>, key: &[u8]) -> Result<(Decimal<'t>, Words<'t>), TextCause>
     ensures { Says (λ x. x) result (count_of key.now words.now) }
 {
     let rest = words.keyed(key)?;
@@ -244,7 +244,7 @@ fn is_name(word: &[u8]) -> bool
 }
 
 /// The names that words write.
-fn names<'t>(alloc: Global, words: Words<'t>) -> Result<Vec<&'t [u8]>, TextCause>
+pub(crate) fn names<'t>(alloc: Global, words: Words<'t>) -> Result<Vec<&'t [u8]>, TextCause>
     ensures { Says (λ v. map (λ w. w.now) v.items) result (each name_of words.entry) }
 {
     let mut names = Vec::new(alloc);

@@ -2,6 +2,8 @@
 //! memory.
 #![tactic(auto)]
 
+mod box_line;
+mod entry_line;
 mod head;
 mod head_lines;
 mod head_reader;
@@ -10,6 +12,7 @@ mod marks;
 mod model;
 mod node;
 mod node_reader;
+mod parameters;
 mod rejected;
 mod values;
 

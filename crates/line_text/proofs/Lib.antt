@@ -1,3 +1,4 @@
 mod Digits
 mod WordsLeft
 mod LongNumbers
+mod Comparing

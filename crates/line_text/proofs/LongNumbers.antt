@@ -52,12 +52,12 @@ one_digit_more n v p q most e h =
     let b : n * (10 * p) ≡ n * 10 * p = grind arith in
     omega (arith, a, b, h, ap (λ x. n * x) e)
 
-least_after : (n : ℕ) (ds : List ℕ) → n * 10 ^ length ds ≤ digits_value_after 10 n ds
+pub least_after : (n : ℕ) (ds : List ℕ) → n * 10 ^ length ds ≤ digits_value_after 10 n ds
 least_after n [] = omega arith
 least_after n (c ∷ cs) = one_digit_more n (digit_value c) (10 ^ length cs) (10 ^ suc (length cs)) (digits_value_after 10 (n * 10 + digit_value c) cs) (omega (arith, pow-suc 10 (length cs))) (least_after (n * 10 + digit_value c) cs)
 
 -- the first digit of several isn't 0
-first_some : (d c : ℕ) (cs : List ℕ) → are_digits (d ∷ c ∷ cs) ≡ true → 0 < digit_value d
+pub first_some : (d c : ℕ) (cs : List ℕ) → are_digits (d ∷ c ∷ cs) ≡ true → 0 < digit_value d
 first_some d c cs e =
     let a : is_ascii_digit d && list_all is_ascii_digit (c ∷ cs) ≡ true = and_right (not (d == 48)) (is_ascii_digit d && list_all is_ascii_digit (c ∷ cs)) e in
     let k = digit_value_digit d (digit_in d (and_left (is_ascii_digit d) (list_all is_ascii_digit (c ∷ cs)) a)) in

@@ -1,10 +1,13 @@
 // Numbers that words write.
-ghost use Rattle.std.specs.Prelude.{◌≡◌, ◌%◌, ◌≤◌, ◌<◌, ◌^◌, length, pos, true, unsigned_abs, int_lt, IfSome, IfNone};
+ghost use Rattle.std.specs.Prelude.{◌≡◌, ◌%◌, ◌≤◌, ◌<◌, ◌^◌, length, pos, true, unsigned_abs, int_lt, nat_lt, IfSome, IfNone};
 ghost use Rattle.std.specs.List.{list_all};
 ghost use Rattle.std.specs.Option.{option_map};
 ghost use Rattle.std.specs.Char.{is_ascii_digit};
+ghost use Rattle.std.specs.Ordering.{nat_cmp};
 ghost use Rattle.std.specs.Str.Parse.{digits_value};
 ghost use Rattle.line_text.specs.Words.{are_digits, natural_of, below_zero, number_of};
+
+use std::cmp::Ordering;
 
 /// How many digits a number has at most that isn't wide.
 const MOST_DIGITS: usize = 31;
@@ -73,6 +76,36 @@ fn digits_remainder(digits: &[u8], by: u32) -> u32
     rest as u32
 }
 
+/// How the numbers compare that two texts of as many digits write.
+#[tactic(auto, using(crate::proofs::Comparing::order_next))]
+fn digits_cmp(digits: &[u8], others: &[u8]) -> Ordering
+    requires digits { list_all is_ascii_digit digits.now ≡ true }
+    requires others { list_all is_ascii_digit others.now ≡ true }
+    requires lengths { length digits.now ≡ length others.now }
+    ensures { result ≡ nat_cmp (digits_value 10 digits.now) (digits_value 10 others.now) }
+{
+    let mut order = Ordering::Equal;
+    for i in 0..digits.len() {
+        order = order.then(digits[i].cmp(&others[i]));
+    }
+    order
+}
+
+/// Whether the number that digits write is below the one that others write, both without leading
+/// zeros.
+#[tactic(auto, using(crate::proofs::Comparing::length_tells, crate::proofs::Comparing::below_by_order, crate::proofs::LongNumbers::all_digits))]
+fn is_less(digits: &[u8], others: &[u8]) -> bool
+    requires digits { are_digits digits.now ≡ true }
+    requires others { are_digits others.now ≡ true }
+    ensures { result ≡ nat_lt (digits_value 10 digits.now) (digits_value 10 others.now) }
+{
+    if digits.len() == others.len() {
+        digits_cmp(digits, others).is_lt()
+    } else {
+        digits.len() < others.len()
+    }
+}
+
 impl<'t> Decimal<'t> {
     /// The number from 0 on that digits write; none where they write none.
     fn natural(digits: &'t [u8]) -> Option<Self>
@@ -123,6 +156,19 @@ impl<'t> Decimal<'t> {
         match self.narrow() {
             Some(n) => n < 0,
             None => self.negative,
+        }
+    }
+
+    /// Whether it is below the other one.
+    #[tactic(auto, using(crate::proofs::Comparing::both_below, crate::proofs::Comparing::neither_below, crate::proofs::Comparing::apart, crate::proofs::Comparing::apart_above))]
+    pub fn is_below(&self, other: &Decimal) -> bool
+        ensures { result ≡ int_lt self.now other.now }
+    {
+        match (self.is_below_zero(), other.is_below_zero()) {
+            (true, true) => is_less(other.digits, self.digits),
+            (true, false) => true,
+            (false, true) => false,
+            (false, false) => is_less(self.digits, other.digits),
         }
     }
 

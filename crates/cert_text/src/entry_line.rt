@@ -1,0 +1,214 @@
+// The terms of an entry.
+ghost use Rattle.std.specs.Prelude.{◌≡◌, ◌≤◌, ◌<◌, ◌^◌, ◌++◌, ◌∷◌, [], None, length, not, All, IfOk};
+ghost use Rattle.line_text.specs.Reading.{line_at};
+ghost use Rattle.cert_text.specs.Head.{entries_at};
+ghost use Rattle.line_text.specs.Words.{pair_of};
+ghost use Rattle.line_text.specs.Parts.{each};
+ghost use Rattle.line_text.specs.Shown.{Says, Gives};
+ghost use Rattle.lift_model.specs.Valid.{most_parameters, most_states};
+ghost use Rattle.cert_text.specs.Lines.{terms_in};
+ghost use Rattle.cert_text.specs.Shown.{AreMarked, coefficient_in, entry_by, entry_in, has_mark, targets_back, set_in, term_in};
+
+use crate::head_lines::{counted, is_above};
+use crate::rejected::pair_of;
+use lift_model::Entry;
+use lift_poly::MultiAffine;
+use line_text::{Cursor, Decimal, TextCause, TextError, Words, between};
+use std::alloc::Global;
+
+/// How many parameters an entry has at most.
+const MOST_ROW_PARAMETERS: u32 = 4;
+
+/// How many terms an entry has at most.
+const MOST_TERMS: usize = 16;
+
+/// Below this size each coefficient lies.
+const COEFFICIENT_LIMIT: u128 = 1 << 100;
+
+/// The pairs of numbers that words write with this byte between the two.
+fn pairs<'t>(
+    alloc: Global,
+    words: Words<'t>,
+    byte: u8,
+) -> Result<Vec<(Decimal<'t>, Decimal<'t>)>, TextCause>
+    ensures { Says (λ v. v.items) result (each (pair_of byte) words.entry) }
+{
+    let mut pairs = Vec::new(alloc);
+    let mut rest = words;
+    while !rest.is_empty() {
+        let Ok((word, behind)) = rest.first() else {
+            return Err(TextCause::Syntax);
+        };
+        let Some(pair) = pair_of(word, byte) else {
+            return Err(TextCause::Syntax);
+        };
+        pairs.push(pair)?;
+        rest = behind;
+    }
+    Ok(pairs)
+}
+
+/// The coefficient, if it isn't 0 and below the limit in size.
+fn coefficient_in(number: &Decimal) -> Result<i128, TextCause>
+    ensures { Says (λ n. n) result (coefficient_in number.now) }
+{
+    match number.narrow() {
+        Some(0) => Err(TextCause::Syntax),
+        Some(n) if n.unsigned_abs() < COEFFICIENT_LIMIT => Ok(n),
+        _ => Err(TextCause::Limit),
+    }
+}
+
+/// The set, if it is above the one before it and few parameters are in it or were seen.
+fn set_in(
+    number: &Decimal,
+    parameters: u32,
+    seen: u16,
+    before: Option<u64>,
+) -> Result<u16, TextCause>
+    requires { parameters ≤ most_parameters }
+    ensures value { Says (λ n. n) result (set_in parameters seen before number.now) }
+{
+    if !is_above(before, number) {
+        return Err(TextCause::Syntax);
+    }
+    let set = between(number, 0, 2_u64.pow(parameters))? as u16;
+    if (seen | set).count_ones() > MOST_ROW_PARAMETERS {
+        return Err(TextCause::Limit);
+    }
+    Ok(set)
+}
+
+/// The term of a set and a coefficient.
+fn term_in(
+    set: &Decimal,
+    coefficient: &Decimal,
+    parameters: u32,
+    seen: u16,
+    before: Option<u64>,
+) -> Result<(u16, i128), TextCause>
+    requires { parameters ≤ most_parameters }
+    ensures { Says (λ t. t) result (term_in parameters seen before (set.now, coefficient.now)) }
+{
+    let set = set_in(set, parameters, seen, before)?;
+    let coefficient = coefficient_in(coefficient)?;
+    Ok((set, coefficient))
+}
+
+/// The terms of these pairs, by ascending set.
+fn terms_in(
+    alloc: Global,
+    pairs: &[(Decimal, Decimal)],
+    parameters: u32,
+) -> Result<Vec<(u16, i128)>, TextCause>
+    requires { parameters ≤ most_parameters }
+    ensures { Says (λ v. v.items) result (terms_in parameters 0 None pairs.now) }
+{
+    let mut terms = Vec::new(alloc);
+    let mut seen = 0;
+    let mut before = None;
+    for (set, coefficient) in pairs {
+        match term_in(set, coefficient, parameters, seen, before) {
+            Ok(term) => {
+                terms.push(term)?;
+                seen |= term.0;
+                before = Some(u64::from(term.0));
+            }
+            Err(cause) => return Err(cause),
+        }
+    }
+    Ok(terms)
+}
+
+/// The polynomial of these pairs.
+#[tactic(auto, using(crate::proofs::EntryTerms::are_terms))]
+fn polynomial_in(
+    alloc: Global,
+    pairs: &[(Decimal, Decimal)],
+    parameters: u32,
+) -> Result<MultiAffine, TextCause>
+    requires { parameters ≤ most_parameters }
+    ensures { Says (λ p. p) result (terms_in parameters 0 None pairs.now) }
+{
+    let terms = terms_in(alloc, pairs, parameters)?;
+    let polynomial = MultiAffine::from_terms(alloc, &terms)?;
+    Ok(polynomial)
+}
+
+/// Whether the state's mark is another one.
+fn is_free(marks: &[u32], mark: u32, s: u64) -> bool
+    requires { s < length marks.now }
+    ensures { result ≡ not (has_mark mark marks.now s) }
+{
+    marks[s as usize] != mark
+}
+
+/// The entry with that target and the terms that words write. A state with that mark is taken.
+fn entry_in(
+    alloc: Global,
+    target: &Decimal,
+    words: Words,
+    marks: &[u32],
+    mark: u32,
+    parameters: u32,
+) -> Result<Entry, TextCause>
+    requires states { length marks.now ≤ most_states }
+    requires parameters { parameters ≤ most_parameters }
+    ensures value { Says (λ e. e) result
+        (entry_in (length marks.now) parameters (has_mark mark marks.now) target.now words.entry) }
+    ensures range { IfOk result (λ e. e.target < length marks.now) }
+{
+    let pairs = pairs(alloc, words, b':')?;
+    if pairs.len() > MOST_TERMS {
+        return Err(TextCause::Syntax);
+    }
+    let target = between(target, 0, marks.len() as u64)?;
+    if !is_free(marks, mark, target) {
+        return Err(TextCause::Syntax);
+    }
+    let poly = polynomial_in(alloc, &pairs, parameters)?;
+    Ok(Entry {
+        target: target as u32,
+        poly,
+    })
+}
+
+/// The entry that the words of its line tell.
+fn entry_by(
+    alloc: Global,
+    words: &Words,
+    marks: &[u32],
+    mark: u32,
+    parameters: u32,
+) -> Result<Entry, TextCause>
+    requires states { length marks.now ≤ most_states }
+    requires parameters { parameters ≤ most_parameters }
+    ensures value { Says (λ e. e) result
+        (entry_by (length marks.now) parameters (has_mark mark marks.now) words.now) }
+    ensures range { IfOk result (λ e. e.target < length marks.now) }
+{
+    let (target, rest) = counted(words, b"to")?;
+    entry_in(alloc, &target, rest, marks, mark, parameters)
+}
+
+/// The line that is due, as an entry.
+#[tactic(auto, unfolding(line_text::specs::Reading::line_at))]
+fn entry_line<'t>(
+    alloc: Global,
+    cursor: &Cursor<'t>,
+    marks: &[u32],
+    mark: u32,
+    parameters: u32,
+) -> Result<(Entry, Cursor<'t>), TextError>
+    requires states { length marks.now ≤ most_states }
+    requires parameters { parameters ≤ most_parameters }
+    ensures value { Gives (λ x. x) result
+        (line_at (entry_by (length marks.now) parameters (has_mark mark marks.now)) cursor.now) }
+    ensures range { IfOk result (λ x. x.0.target < length marks.now) }
+{
+    let (line, behind) = cursor.due()?;
+    match entry_by(alloc, &Words::of(line), marks, mark, parameters) {
+        Ok(entry) => Ok((entry, behind)),
+        Err(cause) => Err(cursor.fault(cause)),
+    }
+}
