@@ -29,4 +29,6 @@ mod rows;
 #[cfg(test)]
 mod splits;
 #[cfg(test)]
+mod tables;
+#[cfg(test)]
 mod vectors;
