@@ -31,4 +31,6 @@ mod rows;
 #[cfg(test)]
 mod splits;
 #[cfg(test)]
+mod tables;
+#[cfg(test)]
 mod vectors;

@@ -1,0 +1,90 @@
+//! Tests of tables of corner weights.
+
+ghost use Rattle.std.specs.Prelude.{◌≡◌, length};
+ghost use Rattle.lift_grid.specs.Rectangle.{spans_of, sides_of};
+ghost use Rattle.lift_model.specs.Links.{AreLinks};
+ghost use Rattle.lift_model.specs.Model.{choices};
+ghost use Rattle.corner_lift.specs.Case.{corner_count};
+ghost use Rattle.corner_lift.specs.Certificate.{AreNumbers};
+ghost use Rattle.corner_lift.specs.Table.{IsTable};
+
+use crate::example::model_of;
+use corner_lift::{
+    Case, fill, rows_at_corners, table_into, table_max, table_min, table_value, table_whole,
+};
+use lift_grid::read_region;
+use lift_model::Links;
+use lift_rows::admit;
+use std::alloc::Global;
+use std::string::String;
+use std::test::Fail;
+
+/// What stands around the row of state 0 in the text of a chain with the goal state 1 and the state 2.
+const HEAD: &str = "@type: DTMC;@parameters;p q;@model;state 0 init;";
+
+const TAIL: &str = ";state 1 goal;1 : 1;state 2;2 : 1";
+
+/// A row of state 0 with both parameters; how many weights the table has; and of that row the whole,
+/// what the numbers 0, 16 and 0 sum to at the first and at the last corner, the least and the greatest
+/// over the corners, and at the last corner the weight into the goal state.
+const READ: &str = "\
+0 : p*q;1 : p-p*q;2 : 1-p | 13 25 32 32 16 64 2
+0 : p;1 : q-p;2 : 1-q | 13 25 160 160 80 240 10
+1 : 1/2*p+1/2*q;2 : 1-1/2*p-1/2*q | 9 50 320 480 320 480 30";
+
+/// What the table tells of the row of state 0.
+fn told(
+    alloc: Global,
+    case: &Case,
+    links: &Links,
+    weights: &[i128],
+    vec: &[i64],
+) -> Result<String, Fail>
+    requires links { AreLinks case.now.model links.now }
+    requires table { IsTable case.now links.now (spans_of (sides_of case.now.root)) weights.now }
+    requires numbers { AreNumbers case.now vec.now }
+    requires states { length case.now.model.states ≡ 3 }
+    requires choice { length (choices case.now.model 0) ≡ 1 }
+    requires corners { corner_count case.now 0 0 ≡ 4 }
+{
+    let whole = table_whole(case, links, weights, 0, 0);
+    let first = table_value(case, links, weights, 0, 0, 0, vec);
+    let last = table_value(case, links, weights, 0, 0, 3, vec);
+    let least = table_min(case, links, weights, 0, 0, vec);
+    let greatest = table_max(case, links, weights, 0, 0, vec);
+    let goal = table_into(case, links, weights, 0, 0, 3, &[1, 0, u32::MAX], 1);
+    let size = weights.len();
+    Ok(format!(in alloc; "{size} {whole} {first} {last} {least} {greatest} {goal}")?)
+}
+
+/// Makes the table of the case's root, and tells what it tells.
+fn tabled(alloc: Global, case: &Case, vec: &[i64]) -> Result<String, Fail>
+    requires numbers { AreNumbers case.now vec.now }
+    requires states { length case.now.model.states ≡ 3 }
+    requires choice { length (choices case.now.model 0) ≡ 1 }
+    requires corners { corner_count case.now 0 0 ≡ 4 }
+{
+    let links = Links::build(alloc, case.model())?;
+    let mut weights = vec![in alloc; 0i128; links.weights_len()]?;
+    fill(case, &links, case.root().sides(), &mut weights);
+    told(alloc, case, &links, &weights, vec)
+}
+
+#[test]
+fn reads_a_row_from_its_table(rt: HostRuntime) -> Result<(), Fail> {
+    let alloc = rt.alloc();
+    for line in READ.split('\n') {
+        let (row, want) = line.split_once(" | ").unwrap_or(("", ""));
+        let text = format!(in alloc; "{HEAD}{row}{TAIL}")?;
+        let model = model_of(&rt, alloc, &text)?;
+        let (grid, root) = read_region(alloc, b"1/5<=p<=2/5,3/5<=q<=4/5", model.names(), 0)?;
+        let case = admit(&model, &root, grid, 4)?;
+        rows_at_corners();
+        assert_eq!(rt; case.model().states(), 3);
+        assert_eq!(rt; case.model().choices(0), 1);
+        assert_eq!(rt; case.model().row(0, 0).support().count_ones(), 2);
+        let got = tabled(alloc, &case, &[0, 16, 0])?;
+        assert_eq!(rt; got.as_str(), want, "{line}");
+    }
+    Ok(())
+}
