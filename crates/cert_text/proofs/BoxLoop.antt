@@ -36,8 +36,7 @@ pub sides_go : (n i : ℕ) (zs done : List ℤ) (low high : ℤ) (s : ℤ × ℤ
     → (done ++ s.0 ∷ s.1 ∷ [] ≡ take (2 * (i + 1)) zs) × (spans_in n (spans_of zs) ≡ spans_in n (spans_of (drop (2 * (i + 1)) zs)))
 sides_go n i zs done low high s h first second e kept same =
     let on : 2 * i + 1 + 1 ≡ 2 * (i + 1) = omega arith in
-    let r = span_read n low high s (drop (2 * i + 1 + 1) zs) e in
-    (
+    let r = span_read n low high s (drop (2 * i + 1 + 1) zs) e in (
       ap₂ (λ t p. t ++ p.0 ∷ p.1 ∷ []) kept r.0 ∙ sym (two_taken zs (2 * i) low high h first second) ∙ ap (λ k. take k zs) on,
       same ∙ ap (λ t. spans_in n (spans_of t)) (two_left zs (2 * i) low high h first second) ∙ r.1 ∙ ap (λ k. spans_in n (spans_of (drop k zs))) on,
     )

@@ -1,7 +1,9 @@
 -- Reading entries one after the other, with a mark for each target.
 use Rattle.std.proofs.Common.{◌≡◌, ◌≢◌, ℕ, zero, suc, ◌+◌, ◌-◌, ◌<◌, ◌≤◌, Bool, true, false, List, [], ◌∷◌, ◌++◌, length, map, reverse, set, get_or, Result, Ok, Err, Option, Some, None, codes, refl, sym, ap, ◌∙◌, append_assoc, append-nil, arith}
 use Rattle.std.specs.Prelude.{ℤ, pos, negsuc, not, nat_eq, nat_le, nat_lt, ◌&&◌, ◌==◌, ◌||◌}
+use Rattle.std.specs.Prelude.{All}
 use Rattle.std.specs.List.{list_any}
+use Rattle.std.proofs.lemmas.List.{get_or-set_same, get_or-set_other, length-set, map-append, reverse-append}
 use Rattle.std.proofs.lemmas.Bool.{ltb-true, eqb-true, eqb-false}
 use Rattle.lift_model.specs.declared.entry.Entry.{Entry}
 use Rattle.line_text.specs.declared.error.TextError.{TextError}
@@ -11,7 +13,7 @@ use Rattle.line_text.specs.Words.{words, number_of, pair_of}
 use Rattle.line_text.specs.Parts.{Words, Read, must, first, spelled, keyed, each, between, count_of}
 use Rattle.cert_text.specs.Lines.{entry_of, most_terms, terms_in}
 use Rattle.cert_text.specs.Head.{entries_at}
-use Rattle.cert_text.specs.Shown.{entry_in, entry_by, has_mark, AreMarked}
+use Rattle.cert_text.specs.Shown.{entry_in, entry_by, has_mark, AreMarked, targets_back}
 
 and_right : (a b : Bool) → (a && b) ≡ true → b ≡ true
 and_right true b e = e
@@ -26,23 +28,33 @@ same_target states parameters f g (pos n) terms same = by_test (nat_le 0 n && na
     by_test false e = refl
     by_test true e = ap (λ b. must (not b) Syntax >>= λ _. terms_in parameters 0 None terms >>= λ poly. Ok (record { target = n; poly = poly })) (same n (ltb-true n states (and_right (nat_le 0 n) (nat_lt n states) e)))
 
+from_terms : ℕ → ℕ → (ℕ → Bool) → ℤ → List (ℤ × ℤ) → Read Entry
+from_terms states parameters taken z terms = must (nat_le (length terms) most_terms) Syntax >>= λ _. between 0 states z >>= λ target. must (not (taken target)) Syntax >>= λ _. terms_in parameters 0 None terms >>= λ poly. Ok (record { target = target; poly = poly })
+
 same_entry : (states parameters : ℕ) (f g : ℕ → Bool) (z : ℤ) (ws : Words) → ((s : ℕ) → s < states → f s ≡ g s) → entry_in states parameters f z ws ≡ entry_in states parameters g z ws
+unfolding from_terms
 same_entry states parameters f g z ws same = by_terms (each (pair_of 58) ws)
   where
-    by_terms : (r : Read (List (ℤ × ℤ))) → (r >>= λ terms. must (nat_le (length terms) most_terms) Syntax >>= λ _. between 0 states z >>= λ target. must (not (f target)) Syntax >>= λ _. terms_in parameters 0 None terms >>= λ poly. Ok (record { target = target; poly = poly }))
-        ≡ (r >>= λ terms. must (nat_le (length terms) most_terms) Syntax >>= λ _. between 0 states z >>= λ target. must (not (g target)) Syntax >>= λ _. terms_in parameters 0 None terms >>= λ poly. Ok (record { target = target; poly = poly }))
+    by_terms : (r : Read (List (ℤ × ℤ))) → (r >>= from_terms states parameters f z) ≡ (r >>= from_terms states parameters g z)
     by_terms (Err e) = refl
     by_terms (Ok terms) = ap (λ r. must (nat_le (length terms) most_terms) Syntax >>= λ _. r) (same_target states parameters f g z terms same)
 
 -- the words of an entry's line, by its first number and the rest
+with_rest : Words → ℤ → Read (ℤ × Words)
+with_rest rest z = Ok (z, rest)
+
+parts_of : Words → Read (ℤ × Words)
+parts_of rest = first rest >>= λ parts. spelled (number_of parts.0) >>= with_rest parts.1
+
 entry_parts : (states parameters : ℕ) (before : List ℕ) (ws : Words) → entry_of states parameters before ws ≡ entry_by states parameters (λ s. list_any (nat_eq s) before) ws
+unfolding with_rest parts_of
 entry_parts states parameters before ws = by_keyed (keyed (codes "to") ws)
   where
-    by_spelled : (o : Option ℤ) (rest : Words) → (spelled o >>= λ z. entry_in states parameters (λ s. list_any (nat_eq s) before) z rest) ≡ ((spelled o >>= λ z. Ok (z, rest)) >>= λ c. entry_in states parameters (λ s. list_any (nat_eq s) before) c.0 c.1)
+    by_spelled : (o : Option ℤ) (rest : Words) → (spelled o >>= λ z. entry_in states parameters (λ s. list_any (nat_eq s) before) z rest) ≡ ((spelled o >>= with_rest rest) >>= λ c. entry_in states parameters (λ s. list_any (nat_eq s) before) c.0 c.1)
     by_spelled None rest = refl
     by_spelled (Some z) rest = refl
 
-    by_keyed : (k : Read Words) → (k >>= λ rest. first rest >>= λ parts. spelled (number_of parts.0) >>= λ z. entry_in states parameters (λ s. list_any (nat_eq s) before) z parts.1) ≡ ((k >>= λ rest. first rest >>= λ parts. spelled (number_of parts.0) >>= λ z. Ok (z, parts.1)) >>= λ c. entry_in states parameters (λ s. list_any (nat_eq s) before) c.0 c.1)
+    by_keyed : (k : Read Words) → (k >>= λ rest. first rest >>= λ parts. spelled (number_of parts.0) >>= λ z. entry_in states parameters (λ s. list_any (nat_eq s) before) z parts.1) ≡ ((k >>= parts_of) >>= λ c. entry_in states parameters (λ s. list_any (nat_eq s) before) c.0 c.1)
     by_keyed (Err e) = refl
     by_keyed (Ok []) = refl
     by_keyed (Ok (w ∷ rest)) = by_spelled (number_of w) rest
@@ -54,10 +66,82 @@ entry_is states parameters mark marks before ws size marked = by_count (count_of
     by_count (Err e) = refl
     by_count (Ok c) = same_entry states parameters (has_mark mark marks) (λ s. list_any (nat_eq s) before) c.0 c.1 (λ s h. marked s (omega (arith, h, size)))
 
+behind : Cursor → Entry → Result (Entry × Cursor) TextError
+behind c entry = Ok (entry, c)
+
 pub line_is : (states parameters mark : ℕ) (marks before : List ℕ) (c : Cursor) → states ≡ length marks → AreMarked mark marks before → line_at (entry_by states parameters (has_mark mark marks)) c ≡ line_at (entry_of states parameters before) c
-unfolding line_at
+unfolding line_at behind
 line_is states parameters mark marks before c size marked = by_due (due c)
   where
-    by_due : (r : Result (List ℕ × Cursor) TextError) → (r >>= λ l. at c.0 (entry_by states parameters (has_mark mark marks) (words l.0)) >>= λ x. Ok (x, l.1)) ≡ (r >>= λ l. at c.0 (entry_of states parameters before (words l.0)) >>= λ x. Ok (x, l.1))
+    by_due : (r : Result (List ℕ × Cursor) TextError) → (r >>= λ l. at c.0 (entry_by states parameters (has_mark mark marks) (words l.0)) >>= behind l.1) ≡ (r >>= λ l. at c.0 (entry_of states parameters before (words l.0)) >>= behind l.1)
     by_due (Err e) = refl
-    by_due (Ok l) = ap (λ r. at c.0 r >>= λ x. Ok (x, l.1)) (entry_is states parameters mark marks before (words l.0) size marked)
+    by_due (Ok l) = ap (λ r. at c.0 r >>= behind l.1) (entry_is states parameters mark marks before (words l.0) size marked)
+
+-- ---- marks
+
+same_mark : (m : ℕ) → (m == m) ≡ true
+same_mark m = by_test (m == m) refl
+  where
+    by_test : (t : Bool) → (m == m) ≡ t → t ≡ true
+    by_test true e = refl
+    by_test false e = absurd (eqb-false m m e refl)
+
+other_mark : (m n : ℕ) → m < n → (m == n) ≡ false
+other_mark m n h = by_test (m == n) refl
+  where
+    by_test : (t : Bool) → (m == n) ≡ t → t ≡ false
+    by_test true e = absurd (omega (arith, h, eqb-true m n e))
+    by_test false e = refl
+
+pub marked_none : (mark : ℕ) (marks : List ℕ) → All (λ m. m < mark) marks → AreMarked mark marks []
+marked_none mark marks h = λ s lt. other_mark (get_or marks s 0) mark (h s 0 lt)
+
+pub marked_more : (mark : ℕ) (marks before : List ℕ) (t : ℕ) → t < length marks → AreMarked mark marks before → AreMarked mark (set marks t mark) (t ∷ before)
+marked_more mark marks before t lt h = λ s k. by_test s (omega (arith, k, length-set marks t mark)) (nat_eq s t) refl
+  where
+    by_test : (s : ℕ) → s < length marks → (b : Bool) → nat_eq s t ≡ b → has_mark mark (set marks t mark) s ≡ (b || list_any (nat_eq s) before)
+    by_test s k true e = ap (λ i. get_or (set marks t mark) i 0 == mark) (eqb-true s t e) ∙ ap (λ m. m == mark) (get_or-set_same marks t mark 0 lt) ∙ same_mark mark
+    by_test s k false e = ap (λ m. m == mark) (get_or-set_other marks t s mark 0 (eqb-false s t e)) ∙ h s k
+
+-- ---- entries in turn
+
+-- what was read before, and what is still read
+abbrev pub with_front : {A : Type 0} → List A → Result (List A × Cursor) TextError → Result (List A × Cursor) TextError
+with_front front read = read >>= λ x. Ok (front ++ x.0, x.1)
+
+regroup : {A : Type 0} (front : List A) (n : A) (read : Result (List A × Cursor) TextError) → with_front front (read >>= λ x. Ok (n ∷ x.0, x.1)) ≡ with_front (front ++ n ∷ []) read
+regroup front n (Ok x) = ap (λ ns. Ok (ns, x.1)) (sym (append_assoc front (n ∷ []) x.0))
+regroup front n (Err f) = refl
+
+abbrev pub Entries : Type 0
+Entries = Result (List Entry × Cursor) TextError
+
+pub entries_start : (read : Entries) → with_front [] read ≡ read
+entries_start (Ok x) = refl
+entries_start (Err f) = refl
+
+pub entries_go : (states parameters : ℕ) (before : List ℕ) (front : List Entry) (count i : ℕ) (c after : Cursor) (e : Entry) (total : Entries) → i < count → line_at (entry_of states parameters before) c ≡ Ok (e, after)
+    → with_front front (entries_at states parameters before (count - i) c) ≡ total → with_front (front ++ e ∷ []) (entries_at states parameters (e.target ∷ before) (count - (i + 1)) after) ≡ total
+unfolding entries_at
+entries_go states parameters before front count i c after e total lt h so_far =
+    let k : count - i ≡ suc (count - (i + 1)) = omega (arith, lt) in
+    let one : with_front front (entries_at states parameters before (count - i) c) ≡ with_front (front ++ e ∷ []) (entries_at states parameters (e.target ∷ before) (count - (i + 1)) after) = rw (k, h) (regroup front e (entries_at states parameters (e.target ∷ before) (count - (i + 1)) after)) in
+    sym one ∙ so_far
+
+pub entries_fail : (states parameters : ℕ) (before : List ℕ) (front : List Entry) (count i : ℕ) (c : Cursor) (fault : TextError) (total : Entries) → i < count → line_at (entry_of states parameters before) c ≡ Err fault
+    → with_front front (entries_at states parameters before (count - i) c) ≡ total → total ≡ Err fault
+unfolding entries_at
+entries_fail states parameters before front count i c fault total lt h so_far =
+    let k : count - i ≡ suc (count - (i + 1)) = omega (arith, lt) in
+    let one : with_front front (entries_at states parameters before (count - i) c) ≡ Err fault = rw (k, h) refl in
+    sym so_far ∙ one
+
+pub entries_done : (states parameters : ℕ) (before : List ℕ) (front : List Entry) (count i : ℕ) (c : Cursor) (total : Entries) → count ≤ i → with_front front (entries_at states parameters before (count - i) c) ≡ total → total ≡ Ok (front, c)
+unfolding entries_at
+entries_done states parameters before front count i c total le so_far =
+    let k : count - i ≡ 0 = omega (arith, le) in
+    let one : with_front front (entries_at states parameters before (count - i) c) ≡ Ok (front, c) = rw k (ap (λ (ns : List Entry). Ok (ns, c)) (append-nil front)) in
+    sym so_far ∙ one
+
+pub targets_more : (front : List Entry) (e : Entry) → targets_back (front ++ e ∷ []) ≡ e.target ∷ targets_back front
+targets_more front e = ap reverse (map-append (λ (x : Entry). x.target) front (e ∷ [])) ∙ reverse-append (map (λ (x : Entry). x.target) front) (e.target ∷ [])

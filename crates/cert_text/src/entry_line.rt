@@ -212,3 +212,37 @@ fn entry_line<'t>(
         Err(cause) => Err(cursor.fault(cause)),
     }
 }
+
+/// So many entries, whose targets differ. Their marks are set, where no mark was so great.
+pub(crate) fn entries<'t>(
+    alloc: Global,
+    cursor: Cursor<'t>,
+    marks: &mut [u32],
+    mark: u32,
+    parameters: u32,
+    count: u32,
+) -> Result<(Vec<Entry>, Cursor<'t>), TextError>
+    requires states { length marks.old ≤ most_states }
+    requires parameters { parameters ≤ most_parameters }
+    requires free { All (λ m. m < mark) marks.old }
+    ensures value { Gives (λ x. (x.0.items, x.1)) result
+        (entries_at (length marks.old) parameters [] count cursor.entry) }
+    ensures size { length marks.new ≡ length marks.old }
+    ensures marks { All (λ m. m ≤ mark) marks.new }
+{
+    let mut entries = Vec::new(alloc);
+    let mut rest = cursor;
+    for _ in 0..count {
+        match entry_line(alloc, &rest, marks, mark, parameters) {
+            Ok((entry, behind)) => {
+                marks[entry.target as usize] = mark;
+                match entries.push(entry) {
+                    Ok(()) => rest = behind,
+                    Err(_) => return Err(rest.fault(TextCause::Memory)),
+                }
+            }
+            Err(fault) => return Err(fault),
+        }
+    }
+    Ok((entries, rest))
+}

@@ -119,7 +119,10 @@ fn flags(alloc: Global, states: u32, goals: &[u64]) -> Result<Vec<bool>, AllocEr
 }
 
 /// The first of the words behind a word, as the number of those that follow it, and these.
-pub(crate) fn counted<'t>(words: &Words<'t>, key: &[u8]) -> Result<(Decimal<'t>, Words<'t>), TextCause>
+pub(crate) fn counted<'t>(
+    words: &Words<'t>,
+    key: &[u8],
+) -> Result<(Decimal<'t>, Words<'t>), TextCause>
     ensures { Says (λ x. x) result (count_of key.now words.now) }
 {
     let rest = words.keyed(key)?;

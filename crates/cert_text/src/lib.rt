@@ -14,6 +14,7 @@ mod node;
 mod node_reader;
 mod parameters;
 mod rejected;
+mod rows;
 mod values;
 
 pub use head::write_head;
