@@ -1,11 +1,13 @@
 //! Tests of least vectors.
 
 use crate::example::model_of;
-use corner_lift::fill;
+use corner_lift::{Case, fill};
 use lift_grid::read_region;
 use lift_model::Links;
 use lift_rows::admit;
 use rounded_iter::{least_upper, least_value};
+use std::alloc::Global;
+use std::string::String;
 use std::test::Fail;
 
 /// What stands around the choices of state 0 in the text of a process with the goal state 1 and the
@@ -33,6 +35,21 @@ action a;1 : p*(1-q);2 : 1-p*(1-q) | [8, 16, 0] | [4, 16, 0]
 action a;3 : 1/2;2 : 1/2 / action a;0 : 1/2;1 : 1/2 | [6, 16, 0, 11] | [6, 16, 0, 11]
 action a;1 : p;2 : 1-p / action a;0 : 1/2;3 : 1/2 | [10, 16, 0, 10] | [7, 16, 0, 7]";
 
+/// The least upper vector and the least value vector of the case on its root.
+fn least_of(alloc: Global, case: &Case) -> Result<String, Fail> {
+    let count = case.model().states() as usize;
+    let links = Links::build(alloc, case.model())?;
+    let mut weights = vec![in alloc; 0; links.weights_len()]?;
+    let mut upper = vec![in alloc; 8; count]?;
+    let mut value = vec![in alloc; 8; count]?;
+    let mut work = vec![in alloc; 0; 2 * count]?;
+    fill(case, &links, case.root().sides(), &mut weights);
+    least_upper(case, &links, &weights, &mut upper, &mut work);
+    least_value(case, &links, &weights, &mut value, &mut work);
+    let (upper, value) = (upper.as_slice(), value.as_slice());
+    Ok(format!(in alloc; "{upper:?} | {value:?}")?)
+}
+
 #[test]
 fn finds_the_least_vectors(rt: HostRuntime) -> Result<(), Fail> {
     let alloc = rt.alloc();
@@ -45,17 +62,7 @@ fn finds_the_least_vectors(rt: HostRuntime) -> Result<(), Fail> {
         let model = model_of(&rt, alloc, &text)?;
         let (grid, root) = read_region(alloc, b"2/5<=p<=3/5,1/5<=q<=2/5", model.names(), 0)?;
         let case = admit(&model, &root, grid, 4)?;
-        let links = Links::build(alloc, &model)?;
-        let mut weights = vec![in alloc; 0; links.weights_len()]?;
-        let count = model.states() as usize;
-        let mut upper = vec![in alloc; 8; count]?;
-        let mut value = vec![in alloc; 8; count]?;
-        let mut work = vec![in alloc; 0; 2 * count]?;
-        fill(&case, &links, case.root().sides(), &mut weights);
-        least_upper(&case, &links, &weights, &mut upper, &mut work);
-        least_value(&case, &links, &weights, &mut value, &mut work);
-        let (upper, value) = (upper.as_slice(), value.as_slice());
-        let shown = format!(in alloc; "{upper:?} | {value:?}")?;
+        let shown = least_of(alloc, &case)?;
         assert_eq!(rt; shown.as_str(), want, "{line}");
     }
     Ok(())
