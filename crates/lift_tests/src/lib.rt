@@ -23,6 +23,8 @@ mod polynomials;
 #[cfg(test)]
 mod pools;
 #[cfg(test)]
+mod ranks;
+#[cfg(test)]
 mod regions;
 #[cfg(test)]
 mod rejections;

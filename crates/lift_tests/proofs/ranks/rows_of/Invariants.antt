@@ -1,0 +1,7 @@
+use Rattle.std.proofs.Common.{◌≡◌, ◌≤◌, length, take, sum_by}
+use Rattle.robust_rank.specs.Staging.{row_count}
+use Rattle.lift_tests.proofs.ranks.rows_of.Given as goal
+
+-- the rows of the states before this one
+abbrev pub invariant-loop-s : goal.invariant-loop-s
+invariant-loop-s l = l.rows ≡ sum_by length (take l.s l.model.states)

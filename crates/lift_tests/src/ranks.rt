@@ -1,0 +1,62 @@
+//! Tests of ranks by stages and of their rate.
+
+ghost use Rattle.std.specs.Prelude.{◌≡◌};
+ghost use Rattle.robust_rank.specs.Staging.{row_count};
+
+use crate::example::model_of;
+use corner_lift::fill;
+use lift_grid::read_region;
+use lift_model::{Links, Model};
+use lift_rows::admit;
+use robust_rank::{attract, rate};
+use std::test::Fail;
+
+/// What stands before the choices of states 2 and 3: state 0 has two choices that lead to the goal
+/// state 1, and a third that stays.
+const HEAD: &str = "@type: MDP;@parameters;p;@model;\
+state 0 init;action a;0 : 1;action b;1 : p;0 : 1-p;action c;1 : 1;state 1 goal;action a;1 : 1";
+
+/// For p from 1/4 to 3/4, all choices allowed: the choices of states 2 and 3, the ranks, the picks, and
+/// the rate. A state that only stays has no rank. One stage doesn't see what else it adds: state 3 leads
+/// to state 2, which leads to state 0 in turn. A choice that leads to lower ranks at p = 1/4 alone ranks
+/// nothing. The rate of state 0 is that of 1/4.
+const STAGES: &str = "\
+action a;2 : 1;state 3;action a;0 : 1/2;2 : 1/2 | [1, 0, 4294967295, 2] | [1, 4294967295, 4294967295, 0] | 2
+action a;0 : 1;state 3;action a;2 : 1/9;3 : 8/9 | [1, 0, 2, 3] | [1, 4294967295, 0, 0] | 4
+action a;2 : 1;action b;1 : 3/4-p;2 : 1/4+p;state 3;action a;3 : 1 | [1, 0, 4294967295, 4294967295] | [1, 4294967295, 4294967295, 4294967295] | 2";
+
+/// How many rows the model has.
+fn rows_of(model: &Model) -> usize
+    ensures { result ≡ row_count model.now }
+{
+    let mut rows = 0;
+    for s in 0..model.states() {
+        rows += model.choices(s) as usize;
+    }
+    rows
+}
+
+#[test]
+fn ranks_by_stages(rt: HostRuntime) -> Result<(), Fail> {
+    let alloc = rt.alloc();
+    for line in STAGES.split('\n') {
+        let (choices, want) = line.split_once(" | ").unwrap_or(("", ""));
+        let text = format!(in alloc; "{HEAD};state 2;{choices}")?;
+        let model = model_of(&rt, alloc, &text)?;
+        let (grid, root) = read_region(alloc, b"1/4<=p<=3/4", model.names(), 0)?;
+        let case = admit(&model, &root, grid, 4)?;
+        let links = Links::build(alloc, &model)?;
+        let mut weights = vec![in alloc; 0; links.weights_len()]?;
+        fill(&case, &links, case.root().sides(), &mut weights);
+        let count = model.states() as usize;
+        let allowed = vec![in alloc; 1; rows_of(&model)]?;
+        let mut ranks = vec![in alloc; 7; count]?;
+        let mut picks = vec![in alloc; 7; count]?;
+        attract(&case, &links, &weights, &allowed, &mut ranks, &mut picks);
+        let e = rate(&case, &links, &weights, &ranks, &picks);
+        let (ranks, picks) = (ranks.as_slice(), picks.as_slice());
+        let shown = format!(in alloc; "{ranks:?} | {picks:?} | {e}")?;
+            assert_eq!(rt; shown.as_str(), want, "{line}");
+    }
+    Ok(())
+}
