@@ -1,14 +1,16 @@
-//! Tests of ranks by stages and of their rate.
+//! Tests of ranks by stages.
 
 ghost use Rattle.std.specs.Prelude.{◌≡◌};
 ghost use Rattle.robust_rank.specs.Staging.{row_count};
 
 use crate::example::model_of;
-use corner_lift::fill;
+use corner_lift::{Case, fill};
 use lift_grid::read_region;
 use lift_model::{Links, Model};
 use lift_rows::admit;
-use robust_rank::{attract, rate};
+use robust_rank::attract;
+use std::alloc::Global;
+use std::string::String;
 use std::test::Fail;
 
 /// What stands before the choices of states 2 and 3: state 0 has two choices that lead to the goal
@@ -16,14 +18,13 @@ use std::test::Fail;
 const HEAD: &str = "@type: MDP;@parameters;p;@model;\
 state 0 init;action a;0 : 1;action b;1 : p;0 : 1-p;action c;1 : 1;state 1 goal;action a;1 : 1";
 
-/// For p from 1/4 to 3/4, all choices allowed: the choices of states 2 and 3, the ranks, the picks, and
-/// the rate. A state that only stays has no rank. One stage doesn't see what else it adds: state 3 leads
-/// to state 2, which leads to state 0 in turn. A choice that leads to lower ranks at p = 1/4 alone ranks
-/// nothing. The rate of state 0 is that of 1/4.
+/// For p from 1/4 to 3/4, all choices allowed: the choices of states 2 and 3, the ranks and the picks. A
+/// state that only stays has no rank. One stage doesn't see what else it adds: state 3 leads to state 2,
+/// which leads to state 0 in turn. A choice that leads to lower ranks at p = 1/4 alone ranks nothing.
 const STAGES: &str = "\
-action a;2 : 1;state 3;action a;0 : 1/2;2 : 1/2 | [1, 0, 4294967295, 2] | [1, 4294967295, 4294967295, 0] | 2
-action a;0 : 1;state 3;action a;2 : 1/9;3 : 8/9 | [1, 0, 2, 3] | [1, 4294967295, 0, 0] | 4
-action a;2 : 1;action b;1 : 3/4-p;2 : 1/4+p;state 3;action a;3 : 1 | [1, 0, 4294967295, 4294967295] | [1, 4294967295, 4294967295, 4294967295] | 2";
+action a;2 : 1;state 3;action a;0 : 1/2;2 : 1/2 | [1, 0, 4294967295, 2] | [1, 4294967295, 4294967295, 0]
+action a;0 : 1;state 3;action a;2 : 1/9;3 : 8/9 | [1, 0, 2, 3] | [1, 4294967295, 0, 0]
+action a;2 : 1;action b;1 : 3/4-p;2 : 1/4+p;state 3;action a;3 : 1 | [1, 0, 4294967295, 4294967295] | [1, 4294967295, 4294967295, 4294967295]";
 
 /// How many rows the model has.
 fn rows_of(model: &Model) -> usize
@@ -36,6 +37,20 @@ fn rows_of(model: &Model) -> usize
     rows
 }
 
+/// The ranks and picks by stages on the case's root, all choices allowed.
+fn ranked(alloc: Global, case: &Case) -> Result<String, Fail> {
+    let count = case.model().states() as usize;
+    let links = Links::build(alloc, case.model())?;
+    let mut weights = vec![in alloc; 0; links.weights_len()]?;
+    let allowed = vec![in alloc; 1; rows_of(case.model())]?;
+    let mut ranks = vec![in alloc; 7; count]?;
+    let mut picks = vec![in alloc; 7; count]?;
+    fill(case, &links, case.root().sides(), &mut weights);
+    attract(case, &links, &weights, &allowed, &mut ranks, &mut picks);
+    let (ranks, picks) = (ranks.as_slice(), picks.as_slice());
+    Ok(format!(in alloc; "{ranks:?} | {picks:?}")?)
+}
+
 #[test]
 fn ranks_by_stages(rt: HostRuntime) -> Result<(), Fail> {
     let alloc = rt.alloc();
@@ -45,18 +60,8 @@ fn ranks_by_stages(rt: HostRuntime) -> Result<(), Fail> {
         let model = model_of(&rt, alloc, &text)?;
         let (grid, root) = read_region(alloc, b"1/4<=p<=3/4", model.names(), 0)?;
         let case = admit(&model, &root, grid, 4)?;
-        let links = Links::build(alloc, &model)?;
-        let mut weights = vec![in alloc; 0; links.weights_len()]?;
-        fill(&case, &links, case.root().sides(), &mut weights);
-        let count = model.states() as usize;
-        let allowed = vec![in alloc; 1; rows_of(&model)]?;
-        let mut ranks = vec![in alloc; 7; count]?;
-        let mut picks = vec![in alloc; 7; count]?;
-        attract(&case, &links, &weights, &allowed, &mut ranks, &mut picks);
-        let e = rate(&case, &links, &weights, &ranks, &picks);
-        let (ranks, picks) = (ranks.as_slice(), picks.as_slice());
-        let shown = format!(in alloc; "{ranks:?} | {picks:?} | {e}")?;
-            assert_eq!(rt; shown.as_str(), want, "{line}");
+        let shown = ranked(alloc, &case)?;
+        assert_eq!(rt; shown.as_str(), want, "{line}");
     }
     Ok(())
 }
