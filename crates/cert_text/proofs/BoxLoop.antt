@@ -1,6 +1,6 @@
 -- The spans of the root, one after the other.
-use Rattle.std.proofs.Common.{◌≡◌, ℕ, zero, suc, ◌+◌, ◌*◌, ◌<◌, ◌≤◌, Bool, true, false, List, [], ◌∷◌, ◌++◌, length, take, drop, get_or, Ok, Err, refl, sym, ap, ap₂, subst, ◌∙◌, append_assoc, arith}
-use Rattle.std.specs.Prelude.{ℤ, pos, int_lt, nat_lt, unsigned_abs, ◌&&◌}
+use Rattle.std.proofs.Common.{◌≡◌, ℕ, ◌+◌, ◌*◌, ◌<◌, Bool, true, false, List, [], ◌∷◌, ◌++◌, length, take, drop, get_or, Ok, Err, refl, sym, ap, ap₂, subst, ◌∙◌, append_assoc, arith}
+use Rattle.std.specs.Prelude.{ℤ, int_lt, nat_lt, unsigned_abs, ◌&&◌}
 use Rattle.std.proofs.lemmas.List.{drop_more, take_more}
 use Rattle.lift_frac.specs.Limits.{size_limit}
 use Rattle.lift_grid.specs.Rectangle.{spans_of, AreSides}
@@ -9,7 +9,7 @@ use Rattle.line_text.specs.declared.error.TextCause.TheVariants.{Syntax, Limit}
 use Rattle.line_text.specs.Reading.{◌>>=◌}
 use Rattle.line_text.specs.Parts.{Read, must}
 use Rattle.cert_text.specs.Lines.{spans_in, is_multiple}
-use Rattle.cert_text.specs.Shown.{end_in, span_in, sides_in, root_in}
+use Rattle.cert_text.specs.Shown.{span_in, sides_in, root_in}
 use Rattle.cert_text.proofs.LaterLines.{paired, reads_spans}
 use Rattle.cert_text.proofs.HeadForms.{boxed_spans}
 

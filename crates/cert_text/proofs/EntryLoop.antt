@@ -1,5 +1,5 @@
 -- Reading entries one after the other, with a mark for each target.
-use Rattle.std.proofs.Common.{◌≡◌, ◌≢◌, ℕ, zero, suc, ◌+◌, ◌-◌, ◌<◌, ◌≤◌, Bool, true, false, List, [], ◌∷◌, ◌++◌, length, map, reverse, set, get_or, Result, Ok, Err, Option, Some, None, codes, refl, sym, ap, ◌∙◌, append_assoc, append-nil, arith}
+use Rattle.std.proofs.Common.{◌≡◌, ℕ, suc, ◌+◌, ◌-◌, ◌<◌, ◌≤◌, Bool, true, false, List, [], ◌∷◌, ◌++◌, length, map, reverse, set, get_or, Result, Ok, Err, Option, Some, None, codes, refl, sym, ap, ◌∙◌, append_assoc, append-nil, arith}
 use Rattle.std.specs.Prelude.{ℤ, pos, negsuc, not, nat_eq, nat_le, nat_lt, ◌&&◌, ◌==◌, ◌||◌}
 use Rattle.std.specs.Prelude.{All}
 use Rattle.std.specs.List.{list_any}
@@ -7,7 +7,7 @@ use Rattle.std.proofs.lemmas.List.{get_or-set_same, get_or-set_other, length-set
 use Rattle.std.proofs.lemmas.Bool.{ltb-true, eqb-true, eqb-false}
 use Rattle.lift_model.specs.declared.entry.Entry.{Entry}
 use Rattle.line_text.specs.declared.error.TextError.{TextError}
-use Rattle.line_text.specs.declared.error.TextCause.TheVariants.{Memory, Syntax, Limit}
+use Rattle.line_text.specs.declared.error.TextCause.TheVariants.{Syntax, Limit}
 use Rattle.line_text.specs.Reading.{◌>>=◌, Cursor, line_at, at, due}
 use Rattle.line_text.specs.Words.{words, number_of, pair_of}
 use Rattle.line_text.specs.Parts.{Words, Read, must, first, spelled, keyed, each, between, count_of}

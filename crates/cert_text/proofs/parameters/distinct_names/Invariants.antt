@@ -1,5 +1,4 @@
-use Rattle.std.proofs.Common.{◌≡◌, map, drop, take, reverse, [], Ok}
-use Rattle.line_text.specs.Reading.{◌>>=◌}
+use Rattle.std.proofs.Common.{◌≡◌, map, drop, take, reverse, []}
 use Rattle.cert_text.specs.Lines.{names_in}
 use Rattle.cert_text.proofs.parameters.distinct_names.Given as goal
 
