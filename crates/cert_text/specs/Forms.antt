@@ -10,7 +10,8 @@ use Rattle.corner_lift.specs.Certificate.{AreNumbers, unmarked}
 use Rattle.lift_cert.specs.Bound.{IsBound}
 use Rattle.lift_cert.specs.declared.bound.Bound.{Bound}
 use Rattle.line_text.specs.Words.{is_name}
-use Rattle.cert_text.specs.Lines.{most_terms, most_e, most_k}
+use Rattle.lift_cert.specs.RejectMiss.{most_rate, most_height}
+use Rattle.cert_text.specs.Lines.{most_terms}
 use Rattle.cert_text.specs.Head.{HeadData}
 use Rattle.cert_text.specs.Nodes.{Node, split, accept, reject, unknown, fit_states}
 
@@ -51,7 +52,7 @@ pub record IsReject (k : CaseData) (r : RejectData) : Type 0 where
   pub numbers : AreNumbers k r.numbers
   pub picks : AreMarks (map length k.model.states) r.picks
   pub ranks : AreMarks (map (λ _. r.k + 1) k.model.states) r.ranks
-  pub rate : (r.e ≤ most_e) × (1 ≤ r.k) × (r.k ≤ most_k)
+  pub rate : (r.e ≤ most_rate) × (1 ≤ r.k) × (r.k ≤ most_height)
   pub places : fit_states k.model.goal r.picks r.ranks ≡ true
 
 -- a node of a report about that case

@@ -16,6 +16,7 @@ use Rattle.lift_model.specs.Valid.{most_parameters, most_name_bytes, coefficient
 use Rattle.corner_lift.specs.Case.{most_row_parameters}
 use Rattle.corner_lift.specs.Certificate.{unmarked}
 use Rattle.lift_cert.specs.declared.bound.Bound.{Bound}
+use Rattle.lift_cert.specs.RejectMiss.{most_rate, most_height}
 use Rattle.line_text.specs.declared.error.TextCause.TheVariants.{Syntax, Version, Limit}
 use Rattle.line_text.specs.Words.{number_of, pair_of, is_name}
 use Rattle.line_text.specs.Reading.{◌>>=◌}
@@ -195,14 +196,6 @@ marks_of key ends words = do
   _ ← must (length ms == length ends) Syntax
   marks_in ends ms
 
--- what a rejecting leaf's e is at most, by our own profile
-abbrev pub most_e : ℕ
-most_e = 126
-
--- what its k is at most, by our own profile
-abbrev pub most_k : ℕ
-most_k = 65536
-
 -- what a rejecting leaf's first line says; m, y and z are tested with the leaf
 pub record Rejected : Type 0 where
   pub e : ℕ
@@ -213,8 +206,8 @@ pub record Rejected : Type 0 where
 
 abbrev pub rejected : ℤ → ℤ → ℤ → ℤ × ℤ → Read Rejected
 rejected ze zk zm b = do
-  e ← between 0 (most_e + 1) ze
-  k ← between 1 (most_k + 1) zk
+  e ← between 0 (most_rate + 1) ze
+  k ← between 1 (most_height + 1) zk
   Ok (record { e = e; k = k; m = zm; y = b.0; z = b.1 })
 
 -- a word that has to stand next, and the one behind it

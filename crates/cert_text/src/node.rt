@@ -3,7 +3,7 @@ ghost use Rattle.std.specs.Prelude.{◌≡◌, ◌≤◌, ◌^◌, ◌∷◌, ma
 ghost use Rattle.std.specs.List.{concat, flat_map};
 ghost use Rattle.lift_base.specs.Outside.{Wrote};
 ghost use Rattle.corner_lift.specs.Case.{number};
-ghost use Rattle.cert_text.specs.Lines.{most_e, most_k};
+ghost use Rattle.lift_cert.specs.RejectMiss.{most_rate, most_height};
 ghost use Rattle.cert_text.specs.Report.{line, spaced, numbers_words, split_line, accept_line};
 ghost use Rattle.cert_text.specs.Report.{mark_word, reject_words, reject_lines, unknown_line};
 
@@ -83,8 +83,8 @@ fn write_rate<K: Sink>(
     k: u32,
     y: &[i64],
 ) -> Result<(), WriteFault>
-    requires e { e ≤ most_e }
-    requires k { k ≤ most_k }
+    requires e { e ≤ most_rate }
+    requires k { k ≤ most_height }
     requires numbers { length y.now ≡ length case.now.model.states }
     ensures { Wrote K.taken K.faults out.old out.new result
         (line (reject_words e k (number y.now case.now.model.init) (2 ^ case.now.w))) }
@@ -130,8 +130,8 @@ pub fn write_reject<K: Sink>(
     picks: &[u32],
     ranks: &[u32],
 ) -> Result<(), WriteFault>
-    requires e { e ≤ most_e }
-    requires k { (1 ≤ k) × (k ≤ most_k) }
+    requires e { e ≤ most_rate }
+    requires k { (1 ≤ k) × (k ≤ most_height) }
     requires numbers { length y.now ≡ length case.now.model.states }
     requires picks { length picks.now ≡ length case.now.model.states }
     requires ranks { length ranks.now ≡ length case.now.model.states }

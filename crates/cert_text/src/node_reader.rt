@@ -1,7 +1,8 @@
 // Reads a node of a report.
 ghost use Rattle.std.specs.Prelude.{◌≡◌, ◌≤◌, ◌<◌, ◌+◌, ◌^◌, ℕ, drop, length, map, codes, IfOk};
 ghost use Rattle.line_text.specs.Reading.{line_at};
-ghost use Rattle.cert_text.specs.Lines.{values_of, marks_of, reject_of, most_e, most_k};
+ghost use Rattle.lift_cert.specs.RejectMiss.{most_rate, most_height};
+ghost use Rattle.cert_text.specs.Lines.{values_of, marks_of, reject_of};
 ghost use Rattle.cert_text.specs.Nodes.{begins, fits_leaf, reject};
 ghost use Rattle.cert_text.specs.Nodes.{split_at, accept_at, rejecting_at, reject_at, unknown_at, node_by, node_at};
 ghost use Rattle.line_text.specs.Shown.{Gives};
@@ -98,8 +99,8 @@ fn marks_line<'t>(
 #[tactic(auto, unfolding(line_text::specs::Reading::line_at))]
 fn rejected_line<'t>(cursor: &Cursor<'t>) -> Result<(Rejected<'t>, Cursor<'t>), TextError>
     ensures value { Gives (λ x. (rejected_of x.0, x.1)) result (line_at reject_of cursor.now) }
-    ensures e { IfOk result (λ x. x.0.e ≤ most_e) }
-    ensures k { IfOk result (λ x. x.0.k ≤ most_k) }
+    ensures e { IfOk result (λ x. x.0.e ≤ most_rate) }
+    ensures k { IfOk result (λ x. x.0.k ≤ most_height) }
 {
     let (line, behind) = cursor.due()?;
     match reject_of(&Words::of(line)) {
@@ -143,8 +144,8 @@ fn fits_leaf(head: &Head, rejected: &Rejected, y: &[i64], picks: &[u32], ranks: 
     requires numbers { length y.now ≡ length head.now.asked.model.states }
     requires picks { length picks.now ≡ length head.now.asked.model.states }
     requires ranks { length ranks.now ≡ length head.now.asked.model.states }
-    requires e { rejected.now.e ≤ most_e }
-    requires k { rejected.now.k ≤ most_k }
+    requires e { rejected.now.e ≤ most_rate }
+    requires k { rejected.now.k ≤ most_height }
     ensures { result ≡ fits_leaf head.now (rejected_of rejected.now) y.now picks.now ranks.now }
 {
     let model = head.model();
@@ -196,7 +197,7 @@ fn ranks_line<'t>(
     head: &Head,
     k: u32,
 ) -> Result<(Vec<u32>, Cursor<'t>), TextError>
-    requires { k ≤ most_k }
+    requires { k ≤ most_height }
     ensures value { Gives (λ x. (x.0.items, x.1)) result
         (line_at (marks_of (codes "rank") (map (λ _. k + 1) head.now.asked.model.states)) cursor.now) }
     ensures size { IfOk result (λ x. length x.0.items ≡ length head.now.asked.model.states) }
@@ -215,8 +216,8 @@ fn rejecting<'t>(
     head: &Head,
     rejected: &Rejected,
 ) -> Result<(Node, Cursor<'t>), TextError>
-    requires e { rejected.now.e ≤ most_e }
-    requires k { rejected.now.k ≤ most_k }
+    requires e { rejected.now.e ≤ most_rate }
+    requires k { rejected.now.k ≤ most_height }
     ensures { Gives (λ x. (node_of head.now.asked.w x.0, x.1)) result
         (rejecting_at head.now (rejected_of rejected.now) cursor.now) }
 {

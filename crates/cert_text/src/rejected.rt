@@ -1,7 +1,8 @@
 // The first line of a rejecting leaf.
 ghost use Rattle.std.specs.Prelude.{◌≡◌, ◌≤◌, IfOk};
 ghost use Rattle.line_text.specs.Words.{pair_of};
-ghost use Rattle.cert_text.specs.Lines.{named, reject_of, most_e, most_k};
+ghost use Rattle.lift_cert.specs.RejectMiss.{most_rate, most_height};
+ghost use Rattle.cert_text.specs.Lines.{named, reject_of};
 ghost use Rattle.line_text.specs.Shown.{Says};
 ghost use Rattle.cert_text.specs.Leaf.{rejected_of};
 
@@ -42,8 +43,8 @@ fn named<'t>(words: &Words<'t>, key: &[u8]) -> Result<(&'t [u8], Words<'t>), Tex
 /// What the first line of a rejecting leaf tells.
 pub(crate) fn reject_of<'t>(words: &Words<'t>) -> Result<Rejected<'t>, TextCause>
     ensures value { Says rejected_of result (reject_of words.now) }
-    ensures e { IfOk result (λ r. r.e ≤ most_e) }
-    ensures k { IfOk result (λ r. r.k ≤ most_k) }
+    ensures e { IfOk result (λ r. r.e ≤ most_rate) }
+    ensures k { IfOk result (λ r. r.k ≤ most_height) }
 {
     let rest = words.keyed(b"reject")?;
     let (e, rest) = named(&rest, b"e")?;
