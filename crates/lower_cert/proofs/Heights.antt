@@ -115,7 +115,7 @@ module _ (case : CaseData) (ss : Spans) (allowed : ℕ → ℕ → Type 0) (pick
       (λ e. let h = grows (rank s) small (count-rank rank (rank s) n s (ltb-true s n e) refl) in omega (arith, h, count-le rank (suc (rank s)) n))
       (λ e. absurd (omega (arith, beyond s (ltb-false s n e), small)))
 
-mark-beyond : (marks : List ℕ) (t : ℕ) → length marks ≤ t → unmarked ≤ mark marks t
+pub mark-beyond : (marks : List ℕ) (t : ℕ) → length marks ≤ t → unmarked ≤ mark marks t
 mark-beyond [] t h = omega arith
 mark-beyond (x ∷ marks) zero h = absurd (omega (arith, h))
 mark-beyond (x ∷ marks) (suc t) h = mark-beyond marks t (omega (arith, h))

@@ -6,3 +6,5 @@ pub mod Guess
 pub mod Heights
 pub mod Renumbering
 mod Samples
+pub mod Lowering
+pub mod Settling

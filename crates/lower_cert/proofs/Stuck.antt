@@ -24,7 +24,7 @@ all_or_one (suc n) f g =
     (λ (one : (c : ℕ) × ((c < n) × (g c ≤ℤ f c))). inr (one.0, (omega (arith, one.1.0), one.1.1)))
     (all_or_one n f g)
 
-stuck_parts : (g : Bool) (r : ℕ) → (not g && not (nat_lt r unmarked)) ≡ true → (g ≡ false) × (unmarked ≤ r)
+pub stuck_parts : (g : Bool) (r : ℕ) → (not g && not (nat_lt r unmarked)) ≡ true → (g ≡ false) × (unmarked ≤ r)
 stuck_parts true r e = cc
 stuck_parts false r e = (refl, ltb-false r unmarked (either_way (nat_lt r unmarked) (λ k. absurd (true_not k)) (λ k. k)))
   where

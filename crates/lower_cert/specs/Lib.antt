@@ -1,3 +1,4 @@
 pub mod Capping
 pub mod Laws
 pub mod AnyRanks
+pub mod Lowering

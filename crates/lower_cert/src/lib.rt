@@ -1,6 +1,9 @@
 //! Greatest lower vectors of rectangles: the laws of finding one.
 #![tactic(auto)]
 
+mod greatest;
 mod laws;
+mod lower;
 
+pub use greatest::{Rate, greatest_reject};
 pub use laws::{ranks_fit, vectors_are_lowered};

@@ -1,0 +1,7 @@
+use Rattle.lower_cert.proofs.greatest.lower_once.Given as goal
+
+abbrev pub ghost-rank_states : goal.ghost-rank_states
+ghost-rank_states g a = g.spans
+
+abbrev pub ghost-lower_level : goal.ghost-lower_level
+ghost-lower_level g a = g.spans

@@ -1,0 +1,9 @@
+use Rattle.lower_cert.specs.Lowering.{AreToldBefore}
+use Rattle.lower_cert.proofs.lower.allow.Given as goal
+
+abbrev pub ghost-allow_state : goal.ghost-allow_state
+ghost-allow_state g a = g.spans
+
+-- the rows of the states before this one are told
+abbrev pub invariant-loop-s : goal.invariant-loop-s
+invariant-loop-s g l = AreToldBefore l.case g.spans l.lane l.allowed l.s 0

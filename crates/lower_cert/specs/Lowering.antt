@@ -1,0 +1,72 @@
+-- Lowering a vector that is at or above every lower vector, until it is the greatest lower vector.
+use Rattle.std.specs.Prelude.{◌≡◌, ℕ, ◌+◌, ◌*◌, ◌^◌, ◌<◌, ◌≤◌, ◌⊎◌, true, false, List, [], ◌∷◌, ℤ, pos, ◌-ℤ◌, ◌≤ℤ◌, ◌<ℤ◌, nat_abs, length}
+use Rattle.lift_grid.specs.Rectangle.{Spans}
+use Rattle.lift_model.specs.Model.{is_goal, choices}
+use Rattle.lift_model.specs.Links.{LinksData, AreLinks, HasChoice}
+use Rattle.corner_lift.specs.Case.{CaseData, number}
+use Rattle.corner_lift.specs.Certificate.{unmarked, mark, AreNumbers}
+use Rattle.corner_lift.specs.Stages.{IsAllowed, AreStages, IsAboveLower}
+use Rattle.corner_lift.specs.Table.{IsTable}
+use Rattle.robust_rank.specs.Attracting.{Pass}
+use Rattle.robust_rank.specs.Staging.{row_count, allows, OthersHaveNoPick}
+
+-- the links are those of the case's model, the weights are the table of a rectangle, and there is one number for each state
+pub record IsRead (k : CaseData) (l : LinksData) (spans : Spans) (weights lane : List ℤ) : Type 0 where
+  pub links : AreLinks k.model l
+  pub table : IsTable k l spans weights
+  pub size : length lane ≡ length k.model.states
+
+-- there is a place for each row, and a rank and a pick for each state
+pub record HasPlaces (k : CaseData) (rows ranks_at picks_at : List ℕ) : Type 0 where
+  pub allowed : length rows ≡ row_count k.model
+  pub ranks : length ranks_at ≡ length k.model.states
+  pub picks : length picks_at ≡ length k.model.states
+
+-- one number from 0 to 2 ^ w for each state, 2 ^ w on goal states, and at or above every lower vector
+pub record IsHigh (k : CaseData) (spans : Spans) (x : List ℤ) : Type 0 where
+  pub numbers : AreNumbers k x
+  pub goal : (s : ℕ) → is_goal k.model s ≡ true → number x s ≡ pos (2 ^ k.w)
+  pub above : IsAboveLower k spans (number x)
+
+-- the ranks and picks are those of the vector's stages
+pub record IsRanked (k : CaseData) (spans : Spans) (x : List ℤ) (picks ranks : List ℕ) : Type 0 where
+  pub sizes : (length picks ≡ length k.model.states) × (length ranks ≡ length k.model.states)
+  pub stages : AreStages k spans (IsAllowed k spans (number x)) (mark picks) (mark ranks)
+  pub others : OthersHaveNoPick k picks ranks
+
+-- the row's place tells whether its choice is allowed
+abbrev pub IsTold : CaseData → Spans → List ℤ → List ℕ → ℕ → ℕ → Type 0
+IsTold k spans x allowed s a = (Pass (allows k.model allowed) s a → IsAllowed k spans (number x) s a) × (IsAllowed k spans (number x) s a → Pass (allows k.model allowed) s a)
+
+-- so it is for all rows before the state's choice, in reading order
+abbrev pub AreToldBefore : CaseData → Spans → List ℤ → List ℕ → ℕ → ℕ → Type 0
+AreToldBefore k spans x allowed s a = (t b : ℕ) → HasChoice k.model t b → (t < s) ⊎ ((t ≡ s) × (b < a)) → IsTold k spans x allowed t b
+
+-- the greatest number above 0 of the first states, so many, without rank, or 0
+pub record IsStuckLevel (x : List ℤ) (ranks : List ℕ) (count : ℕ) (v : ℤ) : Type 0 where
+  pub least : pos 0 ≤ℤ v
+  pub most : (s : ℕ) → s < count → unmarked ≤ mark ranks s → number x s ≤ℤ v
+  pub attained : pos 0 <ℤ v → (s : ℕ) × ((s < count) × (unmarked ≤ mark ranks s) × (number x s ≡ v))
+
+-- of the first states, so many, those without rank whose number was v have v - 1, and all else is as it was
+pub record IsLoweredAt (old new : List ℤ) (ranks : List ℕ) (v : ℤ) (count : ℕ) : Type 0 where
+  pub size : length new ≡ length old
+  pub each : (s : ℕ) → (number new s ≡ number old s) ⊎ ((unmarked ≤ mark ranks s) × ((number old s ≡ v) × (number new s ≡ v -ℤ pos 1)))
+  pub done : (s : ℕ) → s < count → unmarked ≤ mark ranks s → number old s ≡ v → number new s ≡ v -ℤ pos 1
+
+-- the sum of a vector's numbers: the measure of the lowering
+abbrev pub total : List ℤ → ℕ
+total [] = 0
+total (n ∷ x) = nat_abs n + total x
+
+-- a high vector with its ranks and picks, of whose states without rank none has a number above 0
+pub record IsSettled (k : CaseData) (spans : Spans) (x : List ℤ) (picks ranks : List ℕ) : Type 0 where
+  pub ranked : IsRanked k spans x picks ranks
+  pub none : (s : ℕ) → unmarked ≤ mark ranks s → number x s ≤ℤ pos 0
+
+-- the greatest rank of the first states, so many, or 1 where none is greater
+pub record IsHeight (ranks : List ℕ) (count height : ℕ) : Type 0 where
+  pub positive : 1 ≤ height
+  pub small : height < unmarked
+  pub most : (s : ℕ) → s < count → mark ranks s < unmarked → mark ranks s ≤ height
+  pub least : (j : ℕ) → 1 ≤ j → ((s : ℕ) → mark ranks s < unmarked → mark ranks s ≤ j) → height ≤ j

@@ -1,0 +1,189 @@
+//! Steps that lower a vector, and keep it at or above every lower vector.
+
+ghost use Rattle.std.specs.Prelude.{◌≡◌, ◌*◌, ◌+◌, ◌^◌, ◌<◌, ◌≤◌, ◌≤ℤ◌, ◌<ℤ◌, ◌*ℤ◌, ◌↔◌, pos, length, unsigned_abs, IsTrue, nat_lt, true, ◌-ℤ◌, ◌⊎◌};
+ghost use Rattle.lift_grid.specs.Rectangle.{Spans};
+ghost use Rattle.lift_model.specs.Links.{HasChoice};
+ghost use Rattle.corner_lift.specs.Case.{IsInside, engine_limit, number};
+ghost use Rattle.corner_lift.specs.Certificate.{AreNumbers, mark, unmarked};
+ghost use Rattle.corner_lift.specs.Stages.{IsAllowed};
+ghost use Rattle.robust_rank.specs.Staging.{row_count};
+ghost use Rattle.lower_cert.specs.Lowering.{IsRead, HasPlaces, IsHigh, IsRanked, AreToldBefore, IsStuckLevel, IsLoweredAt, total};
+
+use crate::laws::vectors_are_lowered;
+use corner_lift::{Case, one_at, rows_at_corners, table_min, table_whole};
+use lift_model::Links;
+use robust_rank::{attract, ranks_go_by_stages};
+
+/// In place of a rank or of a pick where a state has none.
+pub(crate) const NONE: u32 = u32::MAX;
+
+/// Writes 1 for each state.
+pub(crate) fn start(case: &Case, lane: &mut [i64])
+    ghost spans: { Spans }
+    requires { length lane.old ≡ length case.now.model.states }
+    ensures { IsHigh case.now spans lane.new }
+{
+    rows_at_corners();
+    let top = one_at(case.w());
+    let _ = case.model();
+    for s in 0..lane.len() {
+        lane[s] = top;
+    }
+}
+
+/// A number times a weight.
+fn times(number: i64, weight: i128) -> i128
+    requires room { unsigned_abs number * unsigned_abs weight < engine_limit }
+    ensures { result ≡ number *ℤ weight }
+{
+    i128::from(number) * weight
+}
+
+/// Whether the one is at most the other.
+fn is_at_most(a: i128, b: i128) -> bool
+    ensures { IsTrue result ↔ a ≤ℤ b }
+{
+    a <= b
+}
+
+/// Whether the state's choice holds its number at each corner.
+fn is_allowed(case: &Case, links: &Links, weights: &[i128], lane: &[i64], s: u32, a: u32) -> bool
+    ghost spans: { Spans }
+    requires read { IsRead case.now links.now spans weights.now lane.now }
+    requires numbers { AreNumbers case.now lane.now }
+    requires row { HasChoice case.now.model s a }
+    ensures { IsTrue result ↔ IsAllowed case.now spans (number lane.now) s a }
+{
+    rows_at_corners();
+    let _ = case.w();
+    let whole = table_whole(case, links, weights, s, a);
+    let least = table_min(case, links, weights, s, a, lane);
+    is_at_most(times(lane[s as usize], whole), least)
+}
+
+/// 1 for what is so, and 0 for what isn't.
+fn flag(is: bool) -> u32
+    ensures yes { IsTrue is → nat_lt 0 result ≡ true }
+    ensures no { nat_lt 0 result ≡ true → IsTrue is }
+{
+    u32::from(is)
+}
+
+/// Tells for each row of a state whether its choice is allowed.
+fn allow_state(
+    case: &Case,
+    links: &Links,
+    weights: &[i128],
+    lane: &[i64],
+    s: u32,
+    allowed: &mut [u32],
+)
+    ghost spans: { Spans }
+    requires read { IsRead case.now links.now spans weights.now lane.now }
+    requires numbers { AreNumbers case.now lane.now }
+    requires state { s < length case.now.model.states }
+    requires rows { length allowed.old ≡ row_count case.now.model }
+    requires told { AreToldBefore case.now spans lane.now allowed.old s 0 }
+    ensures told { AreToldBefore case.now spans lane.now allowed.new (s + 1) 0 }
+{
+    for a in 0..case.model().choices(s) {
+        let row = links.row_place(s, a);
+        allowed[row] = flag(is_allowed(case, links, weights, lane, s, a));
+    }
+}
+
+/// Tells for each row whether its choice is allowed.
+fn allow(case: &Case, links: &Links, weights: &[i128], lane: &[i64], allowed: &mut [u32])
+    ghost spans: { Spans }
+    requires read { IsRead case.now links.now spans weights.now lane.now }
+    requires numbers { AreNumbers case.now lane.now }
+    requires rows { length allowed.old ≡ row_count case.now.model }
+    ensures told { AreToldBefore case.now spans lane.now allowed.new (length case.now.model.states) 0 }
+{
+    for s in 0..case.model().states() {
+        allow_state(case, links, weights, lane, s, allowed);
+    }
+}
+
+/// Ranks the states by the stages of the allowed choices.
+pub(crate) fn rank_states(
+    case: &Case,
+    links: &Links,
+    weights: &[i128],
+    lane: &[i64],
+    allowed: &mut [u32],
+    ranks: &mut [u32],
+    picks: &mut [u32],
+)
+    ghost spans: { Spans }
+    requires read { IsRead case.now links.now spans weights.now lane.now }
+    requires numbers { AreNumbers case.now lane.now }
+    requires places { HasPlaces case.now allowed.old ranks.old picks.old }
+    ensures { IsRanked case.now spans lane.now picks.new ranks.new }
+{
+    ranks_go_by_stages();
+    allow(case, links, weights, lane, allowed);
+    attract(case, links, weights, allowed, ranks, picks);
+}
+
+/// The greatest number of a state without rank.
+pub(crate) fn stuck_level(lane: &[i64], ranks: &[u32]) -> i64
+    requires { length ranks.now ≡ length lane.now }
+    ensures { IsStuckLevel lane.now ranks.now (length lane.now) result }
+{
+    let mut level = 0;
+    for s in 0..lane.len() {
+        if ranks[s] == NONE && lane[s] > level {
+            level = lane[s];
+        }
+    }
+    level
+}
+
+/// The rank of a state.
+fn rank_of(ranks: &[u32], s: usize) -> u32
+    requires { s < length ranks.now }
+    ensures { result ≡ mark ranks.now s }
+{
+    ranks[s]
+}
+
+/// The number of a state, less 1 if it has no rank and its number is the level.
+fn lowered(number: i64, rank: u32, level: i64) -> i64
+    requires { pos 0 <ℤ level }
+    ensures { ((unmarked ≤ rank) × (number ≡ level) × (result ≡ level -ℤ pos 1)) ⊎ ((result ≡ number) × (unmarked ≤ rank → number ≡ level → ⊥)) }
+{
+    if rank == NONE && number == level {
+        level - 1
+    } else {
+        number
+    }
+}
+
+/// Takes 1 from the states without rank that have this number.
+fn lower_stuck(lane: &mut [i64], ranks: &[u32], level: i64)
+    requires sizes { length ranks.now ≡ length lane.old }
+    requires positive { pos 0 <ℤ level }
+    ensures { IsLoweredAt lane.old lane.new ranks.now level (length lane.old) }
+{
+    for s in 0..lane.len() {
+        lane[s] = lowered(lane[s], rank_of(ranks, s), level);
+    }
+}
+
+/// Lowers a vector where its stages give no rank, if the greatest number there is above 0.
+pub(crate) fn lower_level(case: &Case, lane: &mut [i64], ranks: &[u32], picks: &[u32], level: i64)
+    ghost spans: { Spans }
+    requires inside { IsInside case.now.root spans }
+    requires high { IsHigh case.now spans lane.old }
+    requires ranked { IsRanked case.now spans lane.old picks.now ranks.now }
+    requires level { IsStuckLevel lane.old ranks.now (length lane.old) level }
+    requires positive { pos 0 <ℤ level }
+    ensures high { IsHigh case.now spans lane.new }
+    ensures lower { total lane.new < total lane.old }
+{
+    vectors_are_lowered();
+    rows_at_corners();
+    let _ = case.w();
+    lower_stuck(lane, ranks, level);
+}
