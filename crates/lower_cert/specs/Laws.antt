@@ -1,13 +1,13 @@
 -- What keeps a vector at or above every lower vector of a rectangle, and when it is the greatest.
-use Rattle.std.specs.Prelude.{◌≡◌, ℕ, suc, ◌^◌, ◌<◌, ◌≤◌, ◌⊎◌, ◌&&◌, not, nat_lt, Bool, true, false, ℤ, pos, ◌-ℤ◌, ◌*ℤ◌, ◌≤ℤ◌, ◌<ℤ◌, length, All, slice_index_or}
+use Rattle.std.specs.Prelude.{◌≡◌, ℕ, suc, ◌^◌, ◌<◌, ◌≤◌, ◌⊎◌, ◌&&◌, not, nat_lt, Bool, true, false, ℤ, pos, ◌-ℤ◌, ◌*ℤ◌, ◌≤ℤ◌, ◌<ℤ◌, length, All}
 use Rattle.lift_grid.specs.Tree.{RejectData}
 use Rattle.lift_grid.specs.Rectangle.{Spans}
 use Rattle.lift_model.specs.Model.{support, is_goal, choices, row_at}
-use Rattle.corner_lift.specs.Corner.{parameter_count, corner_sum, whole, no_entry}
+use Rattle.corner_lift.specs.Corner.{parameter_count, corner_sum, whole}
 use Rattle.corner_lift.specs.Case.{CaseData, IsCase, IsInside}
 use Rattle.corner_lift.specs.Case.{number}
 use Rattle.corner_lift.specs.Certificate.{unmarked, mark, AreNumbers, IsLower, IsRate}
-use Rattle.corner_lift.specs.Stages.{IsAllowed, LeadsBelow, AreStages, IsAboveLower, IsGreatestLower}
+use Rattle.corner_lift.specs.Stages.{IsAllowed, AreStages, IsAboveLower, IsGreatestLower}
 use Rattle.lift_cert.specs.Certificate.{IsWithin, IsRejecting}
 use Rattle.lift_cert.specs.declared.bound.Bound.{Bound}
 use Rattle.lower_cert.specs.Capping.{into, beyond, CapsAt, IsCapped, IsClosed, HasNoGoal, IsAboveLowerOn, IsAboveLowerUnder}
