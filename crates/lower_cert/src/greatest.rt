@@ -14,6 +14,7 @@ use lift_model::Links;
 use robust_rank::rate;
 
 /// The rate of the picks, and the greatest rank.
+#[derive(Clone, Copy)]
 pub struct Rate {
     pub e: u32,
     pub k: u32,
