@@ -8,3 +8,4 @@ pub mod Renumbering
 mod Samples
 pub mod Lowering
 pub mod Settling
+pub mod Sweeping

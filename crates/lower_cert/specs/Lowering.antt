@@ -1,12 +1,14 @@
 -- Lowering a vector that is at or above every lower vector, until it is the greatest lower vector.
-use Rattle.std.specs.Prelude.{◌≡◌, ℕ, ◌+◌, ◌*◌, ◌^◌, ◌<◌, ◌≤◌, ◌⊎◌, true, false, List, [], ◌∷◌, ℤ, pos, ◌-ℤ◌, ◌≤ℤ◌, ◌<ℤ◌, nat_abs, length}
+use Rattle.std.specs.Prelude.{◌≡◌, ℕ, ◌+◌, ◌^◌, ◌<◌, ◌≤◌, ◌⊎◌, Bool, true, false, List, [], ◌∷◌, ℤ, pos, ◌+ℤ◌, ◌-ℤ◌, ◌*ℤ◌, ◌≤ℤ◌, ◌<ℤ◌, nat_abs, length, slice_set}
 use Rattle.lift_grid.specs.Rectangle.{Spans}
-use Rattle.lift_model.specs.Model.{is_goal, choices}
+use Rattle.lift_model.specs.Model.{is_goal, choices, row_at}
 use Rattle.lift_model.specs.Links.{LinksData, AreLinks, HasChoice}
+use Rattle.corner_lift.specs.Corner.{corner_sum, whole}
 use Rattle.corner_lift.specs.Case.{CaseData, number}
 use Rattle.corner_lift.specs.Certificate.{unmarked, mark, AreNumbers}
 use Rattle.corner_lift.specs.Stages.{IsAllowed, AreStages, IsAboveLower}
 use Rattle.corner_lift.specs.Table.{IsTable}
+use Rattle.lower_cert.specs.Capping.{AtSomeCorner}
 use Rattle.robust_rank.specs.Attracting.{Pass}
 use Rattle.robust_rank.specs.Staging.{row_count, allows, OthersHaveNoPick}
 
@@ -70,3 +72,28 @@ pub record IsHeight (ranks : List ℕ) (count height : ℕ) : Type 0 where
   pub small : height < unmarked
   pub most : (s : ℕ) → s < count → mark ranks s < unmarked → mark ranks s ≤ height
   pub least : (j : ℕ) → 1 ≤ j → ((s : ℕ) → mark ranks s < unmarked → mark ranks s ≤ j) → height ≤ j
+
+-- at some corner the choice's weighted sum is below that of r + 1 everywhere
+abbrev pub HoldsNoMore : CaseData → Spans → List ℤ → ℕ → ℕ → ℤ → Type 0
+HoldsNoMore k spans x s a r = AtSomeCorner k spans s a (λ c. corner_sum k.d spans (row_at k.model s a) c (number x) <ℤ ((r +ℤ pos 1) *ℤ whole k.model k.d spans (row_at k.model s a)))
+
+-- the first choices of a state, so many, hold no more than r
+pub record HoldNoMore (k : CaseData) (spans : Spans) (x : List ℤ) (s count : ℕ) (r : ℤ) : Type 0 where
+  pub least : pos 0 ≤ℤ r
+  pub each : (a : ℕ) → a < count → a < length (choices k.model s) → HoldsNoMore k spans x s a r
+
+-- a high vector whose sum is at most the old one's, and less where it was lowered
+pub record IsLowered (k : CaseData) (spans : Spans) (old new : List ℤ) (lower : Bool) : Type 0 where
+  pub high : IsHigh k spans new
+  pub most : total new ≤ total old
+  pub less : lower ≡ true → total new < total old
+
+-- what a state's number is lowered by
+pub record CanLower (k : CaseData) (l : LinksData) (spans : Spans) (weights x : List ℤ) : Type 0 where
+  pub read : IsRead k l spans weights x
+  pub high : IsHigh k spans x
+
+-- the state's number is v if that is lower, and else all is as it was
+pub record IsWrittenLower (old new : List ℤ) (s : ℕ) (v : ℤ) (lower : Bool) : Type 0 where
+  pub yes : lower ≡ true → (new ≡ slice_set old s v) × (v <ℤ number old s)
+  pub no : lower ≡ false → new ≡ old

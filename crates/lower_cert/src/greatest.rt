@@ -8,17 +8,19 @@ ghost use Rattle.lower_cert.specs.Lowering.{IsRead, HasPlaces, IsHigh, IsRanked,
 
 use crate::laws::{ranks_fit, vectors_are_lowered};
 use crate::lower::{NONE, lower_level, rank_states, start, stuck_level};
+use crate::sweep::settle;
 use corner_lift::{Case, rows_at_corners};
 use lift_model::Links;
 use robust_rank::rate;
 
 /// The rate of the picks, and the greatest rank.
+#[derive(Clone, Copy)]
 pub struct Rate {
     pub e: u32,
     pub k: u32,
 }
 
-/// Ranks the states, and lowers those without rank that have the greatest number above 0, if there are
+/// Lowers states until each is held by a choice, ranks them, and lowers those without rank that have the greatest number above 0, if there are
 /// any. Tells whether there are.
 fn lower_once(
     case: &Case,
@@ -37,6 +39,7 @@ fn lower_once(
     ensures lower { IsTrue result → total lane.new < total lane.old }
     ensures settled { IsFalse result → IsSettled case.now spans lane.new picks.new ranks.new }
 {
+    settle(case, links, weights, lane);
     rank_states(case, links, weights, lane, allowed, ranks, picks);
     let level = stuck_level(lane, ranks);
     if level <= 0 {

@@ -4,6 +4,7 @@
 mod greatest;
 mod laws;
 mod lower;
+mod sweep;
 
 pub use greatest::{Rate, greatest_reject};
 pub use laws::{ranks_fit, vectors_are_lowered};

@@ -1,4 +1,4 @@
-use Rattle.lower_cert.specs.Lowering.{IsHigh, HasPlaces, total}
+use Rattle.lower_cert.specs.Lowering.{IsHigh, total}
 use Rattle.lower_cert.proofs.greatest.greatest_reject.Given as goal
 
 abbrev pub ghost-start : goal.ghost-start

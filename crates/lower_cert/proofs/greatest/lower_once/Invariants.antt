@@ -5,3 +5,6 @@ ghost-rank_states g a = g.spans
 
 abbrev pub ghost-lower_level : goal.ghost-lower_level
 ghost-lower_level g a = g.spans
+
+abbrev pub ghost-settle : goal.ghost-settle
+ghost-settle g a = g.spans

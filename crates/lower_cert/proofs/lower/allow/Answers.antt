@@ -1,4 +1,4 @@
-use Rattle.std.proofs.Common.{◌<◌, length, inl, arith, ap}
+use Rattle.std.proofs.Common.{length, inl, arith, ap}
 use Rattle.lift_model.specs.Model.{ModelData}
 use Rattle.lower_cert.proofs.lower.allow.Goals as goal
 

@@ -1,8 +1,6 @@
-use Rattle.std.proofs.Common.{◌≡◌, ◌<◌, ◌≤◌, ◌∙◌, length, arith, subst, sym, ap}
+use Rattle.std.proofs.Common.{◌≡◌, ◌<◌, ◌≤◌, length, arith, ap}
 use Rattle.lift_model.specs.Model.{ModelData, choices}
 use Rattle.lift_model.specs.Links.{row_number}
-use Rattle.corner_lift.specs.Stages.{IsAllowed}
-use Rattle.lower_cert.specs.Lowering.{AreToldBefore}
 use Rattle.lower_cert.proofs.Lowering.{told_next, told_state, row_inside}
 use Rattle.lower_cert.proofs.lower.allow_state.Goals as goal
 

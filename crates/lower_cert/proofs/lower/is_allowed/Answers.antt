@@ -1,4 +1,4 @@
-use Rattle.std.proofs.Common.{arith, rules, SFits, w64, to_z, of_z, to_z-of_z, ◌∙◌, ◌*ℤ◌, ap₂}
+use Rattle.std.proofs.Common.{rules, SFits, w64, to_z-of_z, ◌∙◌, ◌*ℤ◌, ap₂}
 use mir.Syntax.{w128}
 use Rattle.corner_lift.specs.Case.{number}
 use Rattle.lower_cert.proofs.Lowering.{allowed_is}

@@ -1,4 +1,4 @@
-use Rattle.std.proofs.Common.{length, inl, arith}
+use Rattle.std.proofs.Common.{inl, arith}
 use Rattle.corner_lift.specs.Case.{number}
 use Rattle.corner_lift.specs.Certificate.{mark}
 use Rattle.robust_rank.specs.Staging.{allows}

@@ -1,0 +1,150 @@
+-- What a choice holds, and how far a state is lowered to it.
+use Rattle.std.proofs.Common.{◌≡◌, ◌≢◌, ◌==◌, ℕ, zero, suc, ◌+◌, ◌*◌, ◌/◌, ◌^◌, ◌<◌, ◌≤◌, ◌⊎◌, inl, inr, ⊎_elim, Bool, true, false, List, [], ◌∷◌, length, set, ℤ, pos, negsuc, ◌+ℤ◌, ◌-ℤ◌, ◌*ℤ◌, ◌≤ℤ◌, ◌<ℤ◌, unsigned_abs, SFits, w64, to_z, of_z, to_z-of_z, refl, sym, ap, subst, ◌∙◌, arith, pow_mono, true≢false, length-set, get_or-set_same, get_or-set_other}
+use mir.Syntax.{w128}
+use Rattle.std.proofs.Math.Nat.{lt-div-mul-add, div-lt_iff_lt-mul}
+use Rattle.std.proofs.lemmas.Int.{ints, to_z_pos}
+use Rattle.std.proofs.lemmas.List.Elements.{All-set}
+use Rattle.lift_poly.proofs.Ring.{linear, add-mul, one-mul, mul-comm, mul-le}
+use Rattle.lift_grid.specs.Rectangle.{Spans}
+use Rattle.lift_model.specs.Process.{power}
+use Rattle.lift_model.specs.Model.{is_goal, choices, row_at, support}
+use Rattle.lift_model.specs.Links.{HasChoice}
+use Rattle.corner_lift.specs.Corner.{whole, parameter_count}
+use Rattle.corner_lift.specs.Case.{CaseData, IsCase, IsInside, IsLeast, number, row_value, row_whole, corner_count}
+use Rattle.corner_lift.specs.Certificate.{AreNumbers}
+use Rattle.corner_lift.specs.Laws.{ParametersAreTheRoots, NumbersAreInRange, SumsAreInRange}
+use Rattle.lower_cert.specs.Lowering.{IsHigh, HoldsNoMore, HoldNoMore, IsLowered, IsWrittenLower, total}
+use Rattle.lower_cert.specs.Capping.{CapsAt}
+use Rattle.lower_cert.specs.Laws.{CappingKeeps}
+use Rattle.lower_cert.proofs.Means.{Place, positive}
+
+-- ---- quotients
+
+-- q is the quotient, rounded down
+pub record IsFloor (sum whole : ℤ) (q : ℕ) : Type 0 where
+  pub fits : q < 2 ^ 41
+  pub less : sum <ℤ ((pos q +ℤ pos 1) *ℤ whole)
+
+is_floor : (sum whole : ℤ) → pos 0 ≤ℤ sum → pos 1 ≤ℤ whole → sum <ℤ (pos (2 ^ 41) *ℤ whole) → IsFloor sum whole (unsigned_abs sum / unsigned_abs whole)
+is_floor (pos o) (pos l) least some most =
+    let l_some : 0 < l = omega (arith, linear) in
+    let o_most : o < 2 ^ 41 * l = omega (arith, linear, most) in
+    record {
+      fits = (div-lt_iff_lt-mul {k = l} {x = o} {y = 2 ^ 41} l_some).1 o_most;
+      less = omega (arith, linear, lt-div-mul-add {a = o} {b = l} l_some, add-mul (pos (o / l)) (pos 1) (pos l), one-mul (pos l));
+    }
+is_floor (negsuc o) whole least some most = absurd (omega (arith, linear))
+is_floor (pos o) (negsuc l) least some most = absurd (omega (arith, linear))
+
+pub floor_of : (sum whole : ℤ) → SFits w128 sum → SFits w128 whole → pos 0 ≤ℤ sum → pos 1 ≤ℤ whole → sum <ℤ (pos (2 ^ 41) *ℤ whole) → IsFloor sum whole (unsigned_abs (to_z w128 (of_z w128 sum)) / unsigned_abs (to_z w128 (of_z w128 whole)))
+floor_of sum whole sum_fits whole_fits least some most = rw (to_z-of_z sum_fits, to_z-of_z whole_fits) (is_floor sum whole least some most)
+
+pub floor_fits : (q : ℕ) → q < 2 ^ 41 → SFits w64 (pos q)
+floor_fits q lt = record { sfits = omega (arith, linear) }
+
+pub floor_is : (q : ℕ) → q < 2 ^ 41 → to_z w64 q ≡ pos q
+floor_is q lt = to_z_pos w64 q (omega arith)
+
+-- ---- what a choice holds
+
+pub holds_no_more : ParametersAreTheRoots → (k : CaseData) (spans : Spans) (x : List ℤ) (s a : ℕ) (m r : ℤ) → IsInside k.root spans → IsLeast (row_value k spans s a x) (corner_count k s a) m → m <ℤ ((r +ℤ pos 1) *ℤ row_whole k s a) → HoldsNoMore k spans x s a r
+holds_no_more parameters k spans x s a m r within least less =
+    let row = row_at k.model s a in
+    let same : parameter_count spans (support row) ≡ parameter_count k.root (support row) = parameters k spans row within.within in
+    let wholes : (r +ℤ pos 1) *ℤ whole k.model k.d spans row ≡ (r +ℤ pos 1) *ℤ row_whole k s a = ap (λ n. (r +ℤ pos 1) *ℤ (k.model.common *ℤ power k.d n)) same in
+    (least.attained.0, (subst (λ n. least.attained.0 < 2 ^ n) (sym same) least.attained.1.0, omega (arith, linear, less, least.attained.1.1, wholes)))
+
+same_or_less : (b a : ℕ) → b < a + 1 → (b < a) ⊎ (b ≡ a)
+same_or_less b a lt = grind arith
+
+module _ (k : CaseData) (spans : Spans) (place : Place k spans) (x : List ℤ) (s : ℕ) where
+  more : (a : ℕ) (r q : ℤ) → a < length (choices k.model s) → r ≤ℤ q → HoldsNoMore k spans x s a r → HoldsNoMore k spans x s a q
+  more a r q choice le h =
+      let w = whole k.model k.d spans (row_at k.model s a) in
+      let rise = mul-le w (r +ℤ pos 1) (q +ℤ pos 1) (omega (arith, linear, positive k spans place s a choice)) (omega (arith, linear, le)) in
+      (h.0, (h.1.0, omega (arith, linear, h.1.1, rise, mul-comm w (r +ℤ pos 1), mul-comm w (q +ℤ pos 1))))
+
+  pub hold_next : (a : ℕ) (r h q : ℤ) → HoldNoMore k spans x s a r → HoldsNoMore k spans x s a h → r ≤ℤ q → h ≤ℤ q → HoldNoMore k spans x s (a + 1) q
+  hold_next a r h q old one r_le h_le =
+      record {
+        least = omega (arith, linear, old.least, r_le);
+        each = λ b lt choice.
+            ⊎_elim
+            (λ (l : b < a). more b r q choice r_le (old.each b l choice))
+            (λ (e : b ≡ a). more b h q choice h_le (subst (λ i. HoldsNoMore k spans x s i h) (sym e) one))
+            (same_or_less b a lt);
+      }
+
+-- ---- one state
+
+total_set : (x : List ℤ) (s : ℕ) (v : ℤ) → s < length x → pos 0 ≤ℤ v → v <ℤ number x s → total (set x s v) < total x
+total_set [] s v lt least less = absurd (omega arith)
+total_set (n ∷ x) zero v lt least less = omega (arith, ints, least, less)
+total_set (n ∷ x) (suc s) v lt least less = omega (arith, total_set x s v (omega (arith, lt)) least less)
+
+same_or_not : (i j : ℕ) → (i ≡ j) ⊎ (i ≢ j)
+same_or_not i j = grind arith
+
+is_same : (t s : ℕ) → (t == s) ≡ true → t ≡ s
+is_same t s e = grind (arith, e)
+
+same_is : (t s : ℕ) → t ≡ s → (t == s) ≡ true
+same_is t s e = grind (arith, e)
+
+module _ (keeps : CappingKeeps) (ranges : NumbersAreInRange) (k : CaseData) (spans : Spans) (x : List ℤ) (s : ℕ) (r : ℤ) (is : IsCase k) (within : IsInside k.root spans) (high : IsHigh k spans x) (state : s < length k.model.states) (goal : is_goal k.model s ≡ false) (most : HoldNoMore k spans x s (length (choices k.model s)) r) where
+  in_lane : s < length x
+  in_lane = omega (arith, state, high.numbers.size)
+
+  set_high : r <ℤ number x s → IsHigh k spans (set x s r)
+  set_high less =
+      record {
+        numbers = record { size = length-set x s r ∙ high.numbers.size; range = All-set (λ n. (pos 0 ≤ℤ n) × (n ≤ℤ pos (2 ^ k.w))) x s r (most.least, omega (arith, linear, less, (ranges k x s high.numbers).1)) high.numbers.range };
+        goal = λ t g. ⊎_elim
+            (λ (e : t ≡ s). absurd (no_goal (subst (λ i. is_goal k.model i ≡ true) e g)))
+            (λ (ne : t ≢ s). other t ne ∙ high.goal t g)
+            (same_or_not t s);
+        above = keeps k spans (λ t. t == s) (number x) (r +ℤ pos 1) (number (set x s r)) is within
+            (λ t e. subst (λ i. is_goal k.model i ≡ false) (sym (is_same t s e)) goal)
+            (omega (arith, linear, most.least))
+            high.above
+            (λ t a e choice. subst (λ i. (c : ℕ) × ((c < 2 ^ parameter_count spans (support (row_at k.model i a))) × Caps i a c)) (sym (is_same t s e)) (capped a (subst (λ i. a < length (choices k.model i)) (is_same t s e) choice)))
+            (λ t. ⊎_elim
+            (λ (e : t ≡ s). inr (same_is t s e, subst (λ i. ((r +ℤ pos 1) -ℤ pos 1) ≤ℤ number (set x s r) i) (sym e) (omega (arith, linear, here))))
+            (λ (ne : t ≢ s). inl (omega (arith, linear, other t ne)))
+            (same_or_not t s));
+      }
+    where
+      Caps : ℕ → ℕ → ℕ → Type 0
+      Caps t a c = CapsAt k spans (λ i. i == s) (number x) (r +ℤ pos 1) (row_at k.model t a) c
+
+      no_goal : is_goal k.model s ≡ true → ⊥
+      no_goal g = true≢false (sym g ∙ goal)
+
+      other : (t : ℕ) → t ≢ s → number (set x s r) t ≡ number x t
+      other t ne = rw get_or-set_other refl
+
+      here : number (set x s r) s ≡ r
+      here = let lt = in_lane in rw get_or-set_same refl
+
+      capped : (a : ℕ) → a < length (choices k.model s) → (c : ℕ) × ((c < 2 ^ parameter_count spans (support (row_at k.model s a))) × Caps s a c)
+      capped a choice = let one = most.each a choice choice in (one.0, (one.1.0, inr (inr one.1.1)))
+
+  pub lowered_state : (new : List ℤ) (lower : Bool) → IsWrittenLower x new s r lower → IsLowered k spans x new lower
+  lowered_state new true w =
+      let y = w.yes refl in
+      subst (λ l. IsLowered k spans x l true) (sym y.0)
+      (record { high = set_high y.1; most = let lt = total_set x s r in_lane most.least y.1 in omega (arith, lt); less = λ b. total_set x s r in_lane most.least y.1 })
+  lowered_state new false w = subst (λ l. IsLowered k spans x l false) (sym (w.no refl)) (record { high = high; most = omega arith; less = λ b. absurd (true≢false (sym b)) })
+
+-- ---- room
+
+pub sum_room : SumsAreInRange → (k : CaseData) (spans : Spans) (x : List ℤ) (s a : ℕ) (m : ℤ) → IsCase k → IsInside k.root spans → HasChoice k.model s a → AreNumbers k x → IsLeast (row_value k spans s a x) (corner_count k s a) m
+    → (w : ℤ) → w ≡ row_whole k s a → pos 1 ≤ℤ w → (pos 0 ≤ℤ m) × (m <ℤ (pos (2 ^ 41) *ℤ w))
+sum_room ranges k spans x s a m is within has numbers least w same some =
+    let range = ranges k spans s a least.attained.0 x is within (record { state = has.state; choice = has.choice }) numbers in
+    let small : 2 ^ k.w ≤ 2 ^ 40 = pow_mono is.asked.precision.1 in
+    let up = mul-le w (pos (2 ^ k.w)) (pos (2 ^ 40)) (omega (arith, linear, some)) (omega (arith, linear, small)) in
+    let wholes : pos (2 ^ k.w) *ℤ row_whole k s a ≡ pos (2 ^ k.w) *ℤ w = ap (λ n. pos (2 ^ k.w) *ℤ n) (sym same) in
+    let double : pos (2 ^ 41) *ℤ w ≡ pos (2 ^ 40) *ℤ w +ℤ pos (2 ^ 40) *ℤ w = add-mul (pos (2 ^ 40)) (pos (2 ^ 40)) w in
+    let one = mul-le w (pos 1) (pos (2 ^ 40)) (omega (arith, linear, some)) (omega (arith, linear)) in
+    (omega (arith, linear, range.0, least.attained.1.1), omega (arith, linear, range.1, least.attained.1.1, up, wholes, mul-comm w (pos (2 ^ k.w)), mul-comm w (pos (2 ^ 40)), some, double, one, mul-comm w (pos 1), one-mul w))
