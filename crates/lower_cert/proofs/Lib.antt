@@ -9,3 +9,4 @@ mod Samples
 pub mod Lowering
 pub mod Settling
 pub mod Sweeping
+pub mod Exits

@@ -16,7 +16,8 @@ use Rattle.corner_lift.specs.Laws.{ParametersAreTheRoots, NumbersAreInRange, Sum
 use Rattle.lower_cert.specs.Lowering.{IsHigh, HoldsNoMore, HoldNoMore, IsLowered, IsWrittenLower, total}
 use Rattle.lower_cert.specs.Capping.{CapsAt}
 use Rattle.lower_cert.specs.Laws.{CappingKeeps}
-use Rattle.lower_cert.proofs.Means.{Place, positive}
+use Rattle.lower_cert.proofs.Means.{Place}
+use Rattle.lower_cert.proofs.Capped.{caps_more}
 
 -- ---- quotients
 
@@ -52,7 +53,7 @@ holds_no_more parameters k spans x s a m r within least less =
     let row = row_at k.model s a in
     let same : parameter_count spans (support row) ≡ parameter_count k.root (support row) = parameters k spans row within.within in
     let wholes : (r +ℤ pos 1) *ℤ whole k.model k.d spans row ≡ (r +ℤ pos 1) *ℤ row_whole k s a = ap (λ n. (r +ℤ pos 1) *ℤ (k.model.common *ℤ power k.d n)) same in
-    (least.attained.0, (subst (λ n. least.attained.0 < 2 ^ n) (sym same) least.attained.1.0, omega (arith, linear, less, least.attained.1.1, wholes)))
+    λ low. (least.attained.0, (subst (λ n. least.attained.0 < 2 ^ n) (sym same) least.attained.1.0, inr (inr (omega (arith, linear, less, least.attained.1.1, wholes)))))
 
 same_or_less : (b a : ℕ) → b < a + 1 → (b < a) ⊎ (b ≡ a)
 same_or_less b a lt = grind arith
@@ -60,9 +61,8 @@ same_or_less b a lt = grind arith
 module _ (k : CaseData) (spans : Spans) (place : Place k spans) (x : List ℤ) (s : ℕ) where
   more : (a : ℕ) (r q : ℤ) → a < length (choices k.model s) → r ≤ℤ q → HoldsNoMore k spans x s a r → HoldsNoMore k spans x s a q
   more a r q choice le h =
-      let w = whole k.model k.d spans (row_at k.model s a) in
-      let rise = mul-le w (r +ℤ pos 1) (q +ℤ pos 1) (omega (arith, linear, positive k spans place s a choice)) (omega (arith, linear, le)) in
-      (h.0, (h.1.0, omega (arith, linear, h.1.1, rise, mul-comm w (r +ℤ pos 1), mul-comm w (q +ℤ pos 1))))
+      λ low. let one = h (omega (arith, linear, le, low)) in
+      (one.0, (one.1.0, caps_more place.laws k spans (λ t. t == s) (number x) (r +ℤ pos 1) (q +ℤ pos 1) s a one.0 place.case place.within choice one.1.0 (omega (arith, linear, le)) one.1.1))
 
   pub hold_next : (a : ℕ) (r h q : ℤ) → HoldNoMore k spans x s a r → HoldsNoMore k spans x s a h → r ≤ℤ q → h ≤ℤ q → HoldNoMore k spans x s (a + 1) q
   hold_next a r h q old one r_le h_le =
@@ -85,7 +85,7 @@ total_set (n ∷ x) (suc s) v lt least less = omega (arith, total_set x s v (ome
 same_or_not : (i j : ℕ) → (i ≡ j) ⊎ (i ≢ j)
 same_or_not i j = grind arith
 
-is_same : (t s : ℕ) → (t == s) ≡ true → t ≡ s
+pub is_same : (t s : ℕ) → (t == s) ≡ true → t ≡ s
 is_same t s e = grind (arith, e)
 
 same_is : (t s : ℕ) → t ≡ s → (t == s) ≡ true
@@ -96,9 +96,9 @@ module _ (keeps : CappingKeeps) (ranges : NumbersAreInRange) (k : CaseData) (spa
   in_lane = omega (arith, state, high.numbers.size)
 
   set_high : r <ℤ number x s → IsHigh k spans (set x s r)
-  set_high less =
+  set_high low =
       record {
-        numbers = record { size = length-set x s r ∙ high.numbers.size; range = All-set (λ n. (pos 0 ≤ℤ n) × (n ≤ℤ pos (2 ^ k.w))) x s r (most.least, omega (arith, linear, less, (ranges k x s high.numbers).1)) high.numbers.range };
+        numbers = record { size = length-set x s r ∙ high.numbers.size; range = All-set (λ n. (pos 0 ≤ℤ n) × (n ≤ℤ pos (2 ^ k.w))) x s r (most.least, omega (arith, linear, low, (ranges k x s high.numbers).1)) high.numbers.range };
         goal = λ t g. ⊎_elim
             (λ (e : t ≡ s). absurd (no_goal (subst (λ i. is_goal k.model i ≡ true) e g)))
             (λ (ne : t ≢ s). other t ne ∙ high.goal t g)
@@ -127,7 +127,7 @@ module _ (keeps : CappingKeeps) (ranges : NumbersAreInRange) (k : CaseData) (spa
       here = let lt = in_lane in rw get_or-set_same refl
 
       capped : (a : ℕ) → a < length (choices k.model s) → (c : ℕ) × ((c < 2 ^ parameter_count spans (support (row_at k.model s a))) × Caps s a c)
-      capped a choice = let one = most.each a choice choice in (one.0, (one.1.0, inr (inr one.1.1)))
+      capped a choice = most.each a choice choice low
 
   pub lowered_state : (new : List ℤ) (lower : Bool) → IsWrittenLower x new s r lower → IsLowered k spans x new lower
   lowered_state new true w =

@@ -1,14 +1,13 @@
 -- Lowering a vector that is at or above every lower vector, until it is the greatest lower vector.
-use Rattle.std.specs.Prelude.{◌≡◌, ℕ, ◌+◌, ◌^◌, ◌<◌, ◌≤◌, ◌⊎◌, Bool, true, false, List, [], ◌∷◌, ℤ, pos, ◌+ℤ◌, ◌-ℤ◌, ◌*ℤ◌, ◌≤ℤ◌, ◌<ℤ◌, nat_abs, length, slice_set}
+use Rattle.std.specs.Prelude.{◌≡◌, ◌==◌, ℕ, ◌+◌, ◌^◌, ◌<◌, ◌≤◌, ◌⊎◌, Bool, true, false, List, [], ◌∷◌, ℤ, pos, ◌+ℤ◌, ◌-ℤ◌, ◌*ℤ◌, ◌≤ℤ◌, ◌<ℤ◌, nat_abs, length, slice_set}
 use Rattle.lift_grid.specs.Rectangle.{Spans}
 use Rattle.lift_model.specs.Model.{is_goal, choices, row_at}
 use Rattle.lift_model.specs.Links.{LinksData, AreLinks, HasChoice}
-use Rattle.corner_lift.specs.Corner.{corner_sum, whole}
 use Rattle.corner_lift.specs.Case.{CaseData, number}
 use Rattle.corner_lift.specs.Certificate.{unmarked, mark, AreNumbers}
 use Rattle.corner_lift.specs.Stages.{IsAllowed, AreStages, IsAboveLower}
 use Rattle.corner_lift.specs.Table.{IsTable}
-use Rattle.lower_cert.specs.Capping.{AtSomeCorner}
+use Rattle.lower_cert.specs.Capping.{AtSomeCorner, CapsAt}
 use Rattle.robust_rank.specs.Attracting.{Pass}
 use Rattle.robust_rank.specs.Staging.{row_count, allows, OthersHaveNoPick}
 
@@ -73,9 +72,13 @@ pub record IsHeight (ranks : List ℕ) (count height : ℕ) : Type 0 where
   pub most : (s : ℕ) → s < count → mark ranks s < unmarked → mark ranks s ≤ height
   pub least : (j : ℕ) → 1 ≤ j → ((s : ℕ) → mark ranks s < unmarked → mark ranks s ≤ j) → height ≤ j
 
--- at some corner the choice's weighted sum is below that of r + 1 everywhere
+-- r is an exit of a set of states that have the number m, at a corner at which a choice has this sum and this weight into the set: nothing leaves the set, or what comes from beyond it is less than r + 1 times what leaves it
+abbrev pub IsExit : ℤ → ℤ → ℤ → ℤ → ℤ → Type 0
+IsExit m sum weight total r = (total ≤ℤ weight) ⊎ ((sum -ℤ weight *ℤ m) <ℤ ((r +ℤ pos 1) *ℤ (total -ℤ weight)))
+
+-- where r is below the state's number, the choice holds no number above r there, at some corner
 abbrev pub HoldsNoMore : CaseData → Spans → List ℤ → ℕ → ℕ → ℤ → Type 0
-HoldsNoMore k spans x s a r = AtSomeCorner k spans s a (λ c. corner_sum k.d spans (row_at k.model s a) c (number x) <ℤ ((r +ℤ pos 1) *ℤ whole k.model k.d spans (row_at k.model s a)))
+HoldsNoMore k spans x s a r = r <ℤ number x s → AtSomeCorner k spans s a (CapsAt k spans (λ t. t == s) (number x) (r +ℤ pos 1) (row_at k.model s a))
 
 -- the first choices of a state, so many, hold no more than r
 pub record HoldNoMore (k : CaseData) (spans : Spans) (x : List ℤ) (s count : ℕ) (r : ℤ) : Type 0 where

@@ -32,7 +32,7 @@ pub(crate) fn start(case: &Case, lane: &mut [i64])
 }
 
 /// A number times a weight.
-fn times(number: i64, weight: i128) -> i128
+pub(crate) fn times(number: i64, weight: i128) -> i128
     requires room { unsigned_abs number * unsigned_abs weight < engine_limit }
     ensures { result ≡ number *ℤ weight }
 {

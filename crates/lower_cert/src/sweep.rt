@@ -1,14 +1,17 @@
 //! Lowering states one by one to what their choices hold.
 
-ghost use Rattle.std.specs.Prelude.{◌≡◌, ◌^◌, ◌<◌, ◌≤◌, ◌⊎◌, ◌≤ℤ◌, ◌<ℤ◌, ◌+ℤ◌, ◌*ℤ◌, pos, length, true, false};
+ghost use Rattle.std.specs.Prelude.{◌≡◌, ◌^◌, ◌*◌, ◌<◌, ◌≤◌, ◌⊎◌, ◌≤ℤ◌, ◌<ℤ◌, ◌+ℤ◌, ◌-ℤ◌, ◌*ℤ◌, pos, length, unsigned_abs, Contains, IsFalse, true, false};
 ghost use Rattle.lift_grid.specs.Rectangle.{Spans};
-ghost use Rattle.lift_model.specs.Model.{is_goal, choices};
-ghost use Rattle.lift_model.specs.Links.{HasChoice};
-ghost use Rattle.corner_lift.specs.Case.{number};
-ghost use Rattle.lower_cert.specs.Lowering.{CanLower, HoldsNoMore, HoldNoMore, IsLowered, IsWrittenLower};
+ghost use Rattle.lift_model.specs.Model.{is_goal, choices, row_at};
+ghost use Rattle.lift_model.specs.Links.{AreLinks, HasChoice, targets_of};
+ghost use Rattle.corner_lift.specs.Case.{number, corner_count, engine_limit};
+ghost use Rattle.lower_cert.specs.Lowering.{CanLower, IsExit, HoldsNoMore, HoldNoMore, IsLowered, IsWrittenLower};
 
 use crate::laws::vectors_are_lowered;
-use corner_lift::{Case, corners_bound_weights, rows_at_corners, table_min, table_whole};
+use crate::lower::times;
+use corner_lift::{
+    Case, corners_bound_weights, rows_at_corners, table_loop, table_min, table_value, table_whole,
+};
 use lift_model::Links;
 
 /// The quotient, rounded down.
@@ -22,8 +25,113 @@ fn rounded_down(sum: i128, whole: i128) -> i64
     ((sum as u128) / (whole as u128)) as i64
 }
 
-/// The greatest number that a choice holds: its least weighted mean over the corners, rounded down.
-fn held(case: &Case, links: &Links, weights: &[i128], lane: &[i64], s: u32, a: u32) -> i64
+/// What is left of a number without a part of it.
+fn without(all: i128, part: i128) -> i128
+    requires { (pos 0 ≤ℤ part) × (part ≤ℤ all) }
+    ensures { result ≡ all -ℤ part }
+{
+    all - part
+}
+
+/// How high a choice holds a set of states that have this number, at a corner at which it has this
+/// sum and this weight into the set: what comes from beyond the set over what leaves it, rounded down,
+/// but at most the number. Where nothing leaves the set, it is 0.
+pub(crate) fn exit(number: i64, sum: i128, into: i128, whole: i128) -> i64
+    requires number { (pos 0 ≤ℤ number) × (number ≤ℤ pos (2 ^ 40)) }
+    requires into { (pos 0 ≤ℤ into) × (into ≤ℤ whole) }
+    requires room { unsigned_abs number * unsigned_abs whole < engine_limit }
+    requires part { unsigned_abs number * unsigned_abs into < engine_limit }
+    requires sum { (number *ℤ into) ≤ℤ sum }
+    ensures least { pos 0 ≤ℤ result }
+    ensures exit { result <ℤ number → IsExit number sum into whole result }
+{
+    if whole <= into {
+        return 0;
+    }
+    if times(number, whole) <= sum {
+        return number;
+    }
+    rounded_down(without(sum, times(number, into)), without(whole, into))
+}
+
+/// How high a state is held by a choice at a corner. The weight of a self loop is taken out of the
+/// whole, so that one division finds it.
+fn exit_at(
+    case: &Case,
+    links: &Links,
+    weights: &[i128],
+    lane: &[i64],
+    s: u32,
+    a: u32,
+    corner: u32,
+) -> i64
+    ghost spans: { Spans }
+    requires can { CanLower case.now links.now spans weights.now lane.now }
+    requires row { HasChoice case.now.model s a }
+    requires corner { corner < corner_count case.now s a }
+    ensures least { pos 0 ≤ℤ result }
+    ensures most { HoldsNoMore case.now spans lane.now s a result }
+{
+    rows_at_corners();
+    corners_bound_weights();
+    let _ = case.w();
+    let whole = table_whole(case, links, weights, s, a);
+    let own = table_loop(case, links, weights, s, a, corner);
+    let sum = table_value(case, links, weights, s, a, corner, lane);
+    exit(lane[s as usize], sum, own, whole)
+}
+
+/// The lesser of two numbers.
+fn lesser(a: i64, b: i64) -> i64
+    ensures { (result ≡ a) ⊎ (result ≡ b) }
+{
+    if a < b { a } else { b }
+}
+
+/// How high a state is held by a choice: the least of its corners.
+fn held_at_corners(
+    case: &Case,
+    links: &Links,
+    weights: &[i128],
+    lane: &[i64],
+    s: u32,
+    a: u32,
+) -> i64
+    ghost spans: { Spans }
+    requires can { CanLower case.now links.now spans weights.now lane.now }
+    requires row { HasChoice case.now.model s a }
+    ensures least { pos 0 ≤ℤ result }
+    ensures most { HoldsNoMore case.now spans lane.now s a result }
+{
+    rows_at_corners();
+    let _ = case.w();
+    let corners = links.place(s, a).corners as u32;
+    let mut least = exit_at(case, links, weights, lane, s, a, 0);
+    for corner in 1..corners {
+        let other = exit_at(case, links, weights, lane, s, a, corner);
+        least = lesser(least, other);
+    }
+    least
+}
+
+/// Whether a row has an entry into its own state.
+fn has_loop(case: &Case, links: &Links, s: u32, a: u32) -> bool
+    requires links { AreLinks case.now.model links.now }
+    requires row { HasChoice case.now.model s a }
+    ensures { IsFalse result → Contains (targets_of (row_at case.now.model s a)) s → ⊥ }
+{
+    let _ = case.model();
+    for target in links.targets(links.place(s, a)) {
+        if *target == s {
+            return true;
+        }
+    }
+    false
+}
+
+/// How high a state is held by a choice without a self loop: its least weighted mean over the corners,
+/// rounded down.
+fn held_by_least(case: &Case, links: &Links, weights: &[i128], lane: &[i64], s: u32, a: u32) -> i64
     ghost spans: { Spans }
     requires can { CanLower case.now links.now spans weights.now lane.now }
     requires row { HasChoice case.now.model s a }
@@ -34,6 +142,21 @@ fn held(case: &Case, links: &Links, weights: &[i128], lane: &[i64], s: u32, a: u
     let _ = case.w();
     let sum = table_min(case, links, weights, s, a, lane);
     rounded_down(sum, table_whole(case, links, weights, s, a))
+}
+
+/// How high a state is held by a choice: no number above it can be kept there.
+fn held(case: &Case, links: &Links, weights: &[i128], lane: &[i64], s: u32, a: u32) -> i64
+    ghost spans: { Spans }
+    requires can { CanLower case.now links.now spans weights.now lane.now }
+    requires row { HasChoice case.now.model s a }
+    ensures least { pos 0 ≤ℤ result }
+    ensures most { HoldsNoMore case.now spans lane.now s a result }
+{
+    if has_loop(case, links, s, a) {
+        held_at_corners(case, links, weights, lane, s, a)
+    } else {
+        held_by_least(case, links, weights, lane, s, a)
+    }
 }
 
 /// The greater of two numbers.

@@ -1,7 +1,7 @@
 use Rattle.std.proofs.Common.{rules, SFits, w64, to_z-of_z}
 use mir.Syntax.{w128}
 use Rattle.lower_cert.proofs.Sweeping.{holds_no_more, sum_room}
-use Rattle.lower_cert.proofs.sweep.held.Goals as goal
+use Rattle.lower_cert.proofs.sweep.held_by_least.Goals as goal
 
 pub rounded_down-requires-clause-sum : goal.rounded_down-requires-clause-sum
 rounded_down-requires-clause-sum g c =
