@@ -3,4 +3,5 @@ pub mod Reading
 pub mod Refusals
 pub mod Acts
 pub mod Bounds
+pub mod Leaves
 mod Samples

@@ -46,7 +46,7 @@ IsRefusedAt job (Ok m) why = IsRefusedOver job m (region m.names job.depth job.r
 abbrev pub IsRefused : VerifyData → Refusal → List ℕ → Type 0
 IsRefused job why text = IsRefusedAt job (drn text job.goal) why
 
--- What was written is the report of a case and of the right leaf, which bounds every scheduler where it accepts. At each valuation inside the root each row of the case is a distribution.
+-- What was written is the report of a case and of the right leaf, which bounds every scheduler where it accepts, and from below those that make the printed choices where it rejects. At each valuation inside the root each row of the case is a distribution.
 pub record IsReportOf (written : List ℕ → Type 0) (k : CaseData) (bound : Bound) : Type 0 where
   pub leaf : Tree
   pub case : IsCase k
