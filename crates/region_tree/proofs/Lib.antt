@@ -4,4 +4,5 @@ pub mod Tiling
 pub mod Lanes
 pub mod Stepping
 pub mod Steps
+pub mod Verdicts
 mod Samples

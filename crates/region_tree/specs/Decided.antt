@@ -1,26 +1,42 @@
 -- What a verdict says of a rectangle, with the certificate that stands in the room.
-use Rattle.std.specs.Prelude.{ℕ, List, [], slice_index_or, ◌≤◌}
+use Rattle.std.specs.Prelude.{ℕ, List, [], ℤ, length, slice_index_or, ◌<◌, ◌≤◌}
 use Rattle.lift_pool.specs.Lanes.{PoolData}
 use Rattle.lift_grid.specs.Rectangle.{Spans}
 use Rattle.lift_grid.specs.Tree.{RejectData}
+use Rattle.lift_model.specs.Links.{LinksData, AreLinks}
 use Rattle.lift_model.specs.Valid.{most_states}
 use Rattle.lift_cert.specs.declared.bound.Bound.{Bound}
-use Rattle.corner_lift.specs.Case.{CaseData}
+use Rattle.corner_lift.specs.Case.{CaseData, AreSidesInside}
 use Rattle.region_tree.specs.Right.{IsAccepted, IsRejected, IsOpen}
-use Rattle.region_tree.specs.Rooms.{RoomData}
+use Rattle.region_tree.specs.Rooms.{RoomData, HasLanes, last_sides}
 use Rattle.region_tree.specs.declared.verdict.Verdict.{Verdict}
 use Rattle.region_tree.specs.declared.verdict.Verdict.TheVariants.{Accept, Reject, Unknown}
+
+-- The last rectangle of a room can be decided: the links are those of the case's model, the other lanes are those of a room made for the case, and the rectangle lies inside the root.
+pub record CanDecide (k : CaseData) (l : LinksData) (room : RoomData) : Type 0 where
+  pub links : AreLinks k.model l
+  pub lanes : HasLanes k.model l room
+  pub some : 0 < length room.sides.lanes
+  pub sides : AreSidesInside k.root (last_sides room)
 
 -- the one lane of a pool
 abbrev pub lane : {T : Type 0} → PoolData T → List T
 lane p = slice_index_or p.lanes 0 []
 
+-- the rejecting certificate with these numbers, picks and ranks
+abbrev pub reject_of : List ℤ → List ℕ → List ℕ → ℕ → ℕ → RejectData
+reject_of numbers picks ranks e k = record { numbers = numbers; picks = picks; ranks = ranks; e = e; k = k }
+
 -- the rejecting certificate that stands in the room, with e and k
 abbrev pub reject_in : RoomData → ℕ → ℕ → RejectData
-reject_in room e k = record { numbers = lane room.values; picks = lane room.picks; ranks = lane room.ranks; e = e; k = k }
+reject_in room e k = reject_of (lane room.values) (lane room.picks) (lane room.ranks) e k
 
--- The verdict is right of the rectangle, and its certificate stands in the room. The k of a rejecting one is at most the number of states that a model can have.
+-- The verdict is right of the rectangle, and its certificate has these numbers, picks and ranks. The k of a rejecting one is at most the number of states that a model can have.
+abbrev pub IsDecidedBy : CaseData → Spans → Bound → List ℤ → List ℕ → List ℕ → Verdict → Type 0
+IsDecidedBy k spans bound numbers picks ranks Accept = IsAccepted k spans bound numbers
+IsDecidedBy k spans bound numbers picks ranks (Reject e height) = IsRejected k spans bound (reject_of numbers picks ranks e height) × (height ≤ most_states)
+IsDecidedBy k spans bound numbers picks ranks Unknown = IsOpen k spans bound
+
+-- the verdict is right of the rectangle, and its certificate stands in the room
 abbrev pub IsDecided : CaseData → Spans → Bound → RoomData → Verdict → Type 0
-IsDecided k spans bound room Accept = IsAccepted k spans bound (lane room.values)
-IsDecided k spans bound room (Reject e height) = IsRejected k spans bound (reject_in room e height) × (height ≤ most_states)
-IsDecided k spans bound room Unknown = IsOpen k spans bound
+IsDecided k spans bound room verdict = IsDecidedBy k spans bound (lane room.values) (lane room.picks) (lane room.ranks) verdict

@@ -2,6 +2,7 @@
 //! over it.
 #![tactic(auto)]
 
+mod decision;
 mod halves;
 mod laws;
 mod leaf;
@@ -9,6 +10,7 @@ mod room;
 mod verdict;
 mod visitor;
 
+pub use decision::decide;
 pub use laws::{
     certificates_are_one, rectangles_at_depths, right_trees_are_one, right_trees_tile,
     walks_are_placed,

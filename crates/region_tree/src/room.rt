@@ -22,12 +22,12 @@ use std::alloc::{AllocError, Global};
 #[derive(Drop)]
 pub struct Room {
     pub(crate) sides: Pool<i64>,
-    weights: Pool<i128>,
-    values: Pool<i64>,
-    allowed: Pool<u32>,
-    ranks: Pool<u32>,
-    picks: Pool<u32>,
-    work: Pool<u32>,
+    pub(crate) weights: Pool<i128>,
+    pub(crate) values: Pool<i64>,
+    pub(crate) allowed: Pool<u32>,
+    pub(crate) ranks: Pool<u32>,
+    pub(crate) picks: Pool<u32>,
+    pub(crate) work: Pool<u32>,
 }
 
 impl std::marker::Model for Room {

@@ -1,0 +1,211 @@
+// What decides a rectangle.
+ghost use Rattle.std.specs.Prelude.{◌≡◌, ◌*◌, ◌<◌, ◌≤◌, ◌+ℤ◌, ◌↔◌, pos, length, IsTrue, IsFalse};
+ghost use Rattle.lift_grid.specs.Rectangle.{Spans, spans_of};
+ghost use Rattle.lift_model.specs.Links.{AreLinks};
+ghost use Rattle.lift_model.specs.Valid.{most_states};
+ghost use Rattle.lift_cert.specs.Certificate.{IsBeyond, IsWithin, NoneAccepts};
+ghost use Rattle.corner_lift.specs.Case.{AreSidesInside, most_precision, number};
+ghost use Rattle.corner_lift.specs.Stages.{IsGreatestLower};
+ghost use Rattle.corner_lift.specs.Table.{IsTable};
+ghost use Rattle.region_tree.specs.Decided.{CanDecide, IsDecided, IsDecidedBy, lane};
+ghost use Rattle.region_tree.specs.Right.{IsAccepted};
+ghost use Rattle.region_tree.specs.Rooms.{HasLane, IsSameShape, KeepsShape, last_sides, row_count};
+
+use crate::room::Room;
+use crate::verdict::Verdict;
+use corner_lift::{Case, fill};
+use lift_cert::Bound;
+use lift_model::Links;
+use lift_pool::{Pool, lanes_stand_alone};
+use lower_cert::{Rate, greatest_reject};
+use rounded_iter::least_upper_within;
+
+/// Makes the table of a rectangle in the pool's one lane.
+fn make_table(case: &Case, links: &Links, sides: &[i64], weights: &mut Pool<i128>)
+    requires links { AreLinks case.now.model links.now }
+    requires sides { AreSidesInside case.now.root sides.now }
+    requires weights { HasLane weights.old links.now.weights }
+    ensures shape { IsSameShape weights.old weights.new }
+    ensures table { IsTable case.now links.now (spans_of sides.now) (lane weights.new) }
+{
+    lanes_stand_alone::<i128>();
+    fill(case, links, sides, weights.lane_mut(0));
+}
+
+/// The greatest number over 2 to the precision `w` that is within the bound.
+fn greatest_within(bound: Bound, w: u32) -> i64
+    requires { w ≤ most_precision }
+    ensures within { IsWithin bound w result }
+    ensures beyond { IsBeyond bound w (result +ℤ pos 1) }
+{
+    let scaled = u128::from(bound.num) << w;
+    (scaled / u128::from(bound.den)) as i64
+}
+
+/// Whether an accepting certificate exists. Then the least upper vector is in the pool's one lane.
+fn find_accepting(
+    case: &Case,
+    links: &Links,
+    bound: Bound,
+    weights: &[i128],
+    values: &mut Pool<i64>,
+    work: &mut Pool<u32>,
+) -> bool
+    ghost spans: { Spans }
+    requires links { AreLinks case.now.model links.now }
+    requires table { IsTable case.now links.now spans weights.now }
+    requires values { HasLane values.old (length case.now.model.states) }
+    requires work { HasLane work.old (2 * length case.now.model.states) }
+    ensures values { IsSameShape values.old values.new }
+    ensures work { IsSameShape work.old work.new }
+    ensures accepted { IsTrue result → IsAccepted case.now spans bound (lane values.new) }
+    ensures none { IsFalse result → NoneAccepts case.now spans bound }
+{
+    lanes_stand_alone::<i64>();
+    lanes_stand_alone::<u32>();
+    let limit = greatest_within(bound, case.w());
+    least_upper_within(
+        case,
+        links,
+        weights,
+        limit,
+        values.lane_mut(0),
+        work.lane_mut(0),
+    )
+}
+
+/// Leaves the greatest lower vector, its ranks and its picks in the pools' one lane each.
+fn find_greatest_lower(
+    case: &Case,
+    links: &Links,
+    weights: &[i128],
+    values: &mut Pool<i64>,
+    allowed: &mut Pool<u32>,
+    ranks: &mut Pool<u32>,
+    picks: &mut Pool<u32>,
+    work: &mut Pool<u32>,
+) -> Rate
+    ghost spans: { Spans }
+    requires links { AreLinks case.now.model links.now }
+    requires table { IsTable case.now links.now spans weights.now }
+    requires values { HasLane values.old (length case.now.model.states) }
+    requires allowed { HasLane allowed.old (row_count case.now.model) }
+    requires ranks { HasLane ranks.old (length case.now.model.states) }
+    requires picks { HasLane picks.old (length case.now.model.states) }
+    requires work { HasLane work.old (2 * length case.now.model.states) }
+    ensures values { IsSameShape values.old values.new }
+    ensures allowed { IsSameShape allowed.old allowed.new }
+    ensures ranks { IsSameShape ranks.old ranks.new }
+    ensures picks { IsSameShape picks.old picks.new }
+    ensures work { IsSameShape work.old work.new }
+    ensures greatest { IsGreatestLower case.now spans (record {
+      numbers = lane values.new;
+      picks = lane picks.new;
+      ranks = lane ranks.new;
+      e = result.e;
+      k = result.k;
+    }) }
+    ensures height { result.k ≤ length case.now.model.states }
+{
+    lanes_stand_alone::<i64>();
+    lanes_stand_alone::<u32>();
+    greatest_reject(
+        case,
+        links,
+        weights,
+        values.lane_mut(0),
+        allowed.lane_mut(0),
+        ranks.lane_mut(0),
+        picks.lane_mut(0),
+        work.lane_mut(0),
+    )
+}
+
+/// Whether the number of the initial state is within the bound.
+fn is_within(case: &Case, bound: Bound, values: &[i64]) -> bool
+    requires { length values.now ≡ length case.now.model.states }
+    ensures within { IsTrue result ↔ IsWithin bound case.now.w (number values.now case.now.model.init) }
+    ensures states { length case.now.model.states ≤ most_states }
+{
+    bound.admits(values[case.model().init() as usize], case.w())
+}
+
+/// Decides the rectangle with these sides, in the pools of a room.
+fn decide_in(
+    case: &Case,
+    links: &Links,
+    bound: Bound,
+    sides: &[i64],
+    weights: &mut Pool<i128>,
+    values: &mut Pool<i64>,
+    allowed: &mut Pool<u32>,
+    ranks: &mut Pool<u32>,
+    picks: &mut Pool<u32>,
+    work: &mut Pool<u32>,
+) -> Verdict
+    ghost spans: { Spans }
+    requires spans { spans_of sides.now ≡ spans }
+    requires links { AreLinks case.now.model links.now }
+    requires sides { AreSidesInside case.now.root sides.now }
+    requires weights { HasLane weights.old links.now.weights }
+    requires values { HasLane values.old (length case.now.model.states) }
+    requires allowed { HasLane allowed.old (row_count case.now.model) }
+    requires ranks { HasLane ranks.old (length case.now.model.states) }
+    requires picks { HasLane picks.old (length case.now.model.states) }
+    requires work { HasLane work.old (2 * length case.now.model.states) }
+    ensures weights { IsSameShape weights.old weights.new }
+    ensures values { IsSameShape values.old values.new }
+    ensures allowed { IsSameShape allowed.old allowed.new }
+    ensures ranks { IsSameShape ranks.old ranks.new }
+    ensures picks { IsSameShape picks.old picks.new }
+    ensures work { IsSameShape work.old work.new }
+    ensures table { IsTable case.now links.now spans (lane weights.new) }
+    ensures decided { IsDecidedBy case.now spans bound
+        (lane values.new) (lane picks.new) (lane ranks.new) result }
+{
+    make_table(case, links, sides, weights);
+    if find_accepting(case, links, bound, weights.lane(0), values, work) {
+        return Verdict::Accept;
+    }
+    let Rate { e, k } = find_greatest_lower(
+        case,
+        links,
+        weights.lane(0),
+        values,
+        allowed,
+        ranks,
+        picks,
+        work,
+    );
+    if is_within(case, bound, values.lane(0)) {
+        return Verdict::Unknown;
+    }
+    Verdict::Reject { e, k }
+}
+
+/// Decides the rectangle that the room's last lane of sides holds. The room was made for the case, and
+/// further lanes of sides may have been taken since.
+///
+/// The room's weights are then the table of that rectangle. With `Accept` its values are the least upper
+/// vector, and with `Reject` its values, picks and ranks are those of the greatest lower vector. Takes no
+/// memory.
+pub fn decide(case: &Case, links: &Links, bound: Bound, room: &mut Room) -> Verdict
+    requires { CanDecide case.now links.now room.old }
+    ensures sides { room.new.sides ≡ room.old.sides }
+    ensures shape { KeepsShape room.old room.new }
+    ensures table { IsTable case.now links.now (spans_of (last_sides room.old)) (lane room.new.weights) }
+    ensures decided { IsDecided case.now (spans_of (last_sides room.old)) bound room.new result }
+{
+    decide_in(
+        case,
+        links,
+        bound,
+        room.sides.lane(room.sides.lanes() - 1),
+        &mut room.weights,
+        &mut room.values,
+        &mut room.allowed,
+        &mut room.ranks,
+        &mut room.picks,
+        &mut room.work,
+    )
+}
