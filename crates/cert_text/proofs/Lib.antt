@@ -26,3 +26,5 @@ mod EntryTerms
 mod BoxLoop
 mod Places
 mod Remainders
+mod RowWords
+mod RowLoops
