@@ -28,3 +28,4 @@ mod Places
 mod Remainders
 mod RowWords
 mod RowLoops
+mod HeadSteps

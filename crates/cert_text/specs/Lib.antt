@@ -8,3 +8,4 @@ pub mod Laws
 pub mod Shown
 pub mod Leaf
 pub mod Rows
+pub mod HeadParts
