@@ -109,7 +109,7 @@ marked_more mark marks before t lt h = λ s k. by_test s (omega (arith, k, lengt
 abbrev pub with_front : {A : Type 0} → List A → Result (List A × Cursor) TextError → Result (List A × Cursor) TextError
 with_front front read = read >>= λ x. Ok (front ++ x.0, x.1)
 
-regroup : {A : Type 0} (front : List A) (n : A) (read : Result (List A × Cursor) TextError) → with_front front (read >>= λ x. Ok (n ∷ x.0, x.1)) ≡ with_front (front ++ n ∷ []) read
+pub regroup : {A : Type 0} (front : List A) (n : A) (read : Result (List A × Cursor) TextError) → with_front front (read >>= λ x. Ok (n ∷ x.0, x.1)) ≡ with_front (front ++ n ∷ []) read
 regroup front n (Ok x) = ap (λ ns. Ok (ns, x.1)) (sym (append_assoc front (n ∷ []) x.0))
 regroup front n (Err f) = refl
 

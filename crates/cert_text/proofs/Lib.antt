@@ -26,3 +26,6 @@ mod EntryTerms
 mod BoxLoop
 mod Places
 mod Remainders
+mod RowWords
+mod RowLoops
+mod HeadSteps

@@ -7,3 +7,5 @@ pub mod Whole
 pub mod Laws
 pub mod Shown
 pub mod Leaf
+pub mod Rows
+pub mod HeadParts

@@ -152,7 +152,8 @@ pub(crate) fn goal_of(alloc: Global, states: u32, words: &Words) -> Result<Vec<b
 
 /// How many entries a row has, where so many transitions are left and a choice is.
 fn count_in(number: &Decimal, choices: u32, transitions: u32) -> Result<u32, TextCause>
-    ensures { Says (λ n. n) result (count_in choices transitions number.now) }
+    ensures value { Says (λ n. n) result (count_in choices transitions number.now) }
+    ensures some { IfOk result (λ _. 0 < choices) }
 {
     if number.is_below_zero() {
         return Err(TextCause::Syntax);
@@ -173,7 +174,8 @@ pub(crate) fn row_of(
     choices: u32,
     transitions: u32,
 ) -> Result<u32, TextCause>
-    ensures { Says (λ n. n) result (row_of s a choices transitions words.now) }
+    ensures value { Says (λ n. n) result (row_of s a choices transitions words.now) }
+    ensures some { IfOk result (λ _. 0 < choices) }
 {
     let numbers = numbers_of(alloc, words, b"row")?;
     match numbers.as_slice() {

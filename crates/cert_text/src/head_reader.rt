@@ -1,10 +1,15 @@
 // What a report says before its nodes, as it is read.
-ghost use Rattle.std.specs.Prelude.{◌≡◌};
+ghost use Rattle.std.specs.Prelude.{◌≡◌, ◌≤◌, ◌<◌, ◌+◌, ◌^◌, drop, length, IfOk};
+ghost use Rattle.line_text.specs.Shown.{Gives};
 ghost use Rattle.cert_text.specs.Forms.{IsHead};
+ghost use Rattle.cert_text.specs.Head.{head_at};
 
+use crate::head_parts::parts_at;
 use lift_cert::Bound;
 use lift_grid::{Grid, Rect};
 use lift_model::Model;
+use line_text::{Cursor, Place, TextError};
+use std::alloc::Global;
 
 /// The head of a report: its model, root, grid, precision and bound.
 #[derive(Drop)]
@@ -34,6 +39,26 @@ impl std::marker::Model for Head {
 }
 
 impl Head {
+    /// The head of these parts.
+    pub(crate) fn new(model: Model, root: Rect, grid: Grid, w: u32, bound: Bound) -> Self
+        requires { IsHead (record {
+          asked = record { model = model; root = root; d = grid.d; depth = grid.depth; w = w };
+          bound = bound;
+        }) }
+        ensures { result ≡ record {
+          asked = record { model = model; root = root; d = grid.d; depth = grid.depth; w = w };
+          bound = bound;
+        } }
+    {
+        Head {
+            model,
+            root,
+            grid,
+            w,
+            bound,
+        }
+    }
+
     /// The model.
     pub fn model(&self) -> &Model
         ensures { result.now ≡ self.now.asked.model }
@@ -70,4 +95,19 @@ impl Head {
     {
         self.bound
     }
+}
+
+/// Reads the head with which a text begins, and gives the place behind it.
+#[tactic(auto, using(crate::proofs::Places::head_left))]
+pub fn read_head(alloc: Global, text: &[u8]) -> Result<(Head, Place), TextError>
+    requires { length text.now < 2 ^ 31 }
+    ensures value { Gives (λ x. (x.0, (x.1.number, drop x.1.at text.now))) result
+        (head_at (1, text.now)) }
+    ensures at { IfOk result (λ x. x.1.at ≤ length text.now) }
+    ensures number { IfOk result (λ x. x.1.number ≤ x.1.at + 1) }
+{
+    let cursor = Cursor::start(text);
+    let (parts, behind) = parts_at(alloc, &cursor)?;
+    let place = behind.place_in(text);
+    Ok((parts.into_head(), place))
 }

@@ -6,6 +6,7 @@ mod box_line;
 mod entry_line;
 mod head;
 mod head_lines;
+mod head_parts;
 mod head_reader;
 mod laws;
 mod marks;
@@ -18,7 +19,7 @@ mod rows;
 mod values;
 
 pub use head::write_head;
-pub use head_reader::Head;
+pub use head_reader::{Head, read_head};
 pub use laws::{
     heads_are_read, nodes_are_read, prefixes_are_truncated, reports_are_read, texts_tell_one_report,
 };

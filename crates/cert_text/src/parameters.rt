@@ -1,6 +1,7 @@
 // The parameters' names.
 ghost use Rattle.std.specs.Prelude.{◌≡◌, ◌≤◌, ◌<◌, ◌+◌, ◌++◌, ◌∷◌, [], length, map, reverse, codes, IfOk};
 ghost use Rattle.lift_names.specs.Names.{names_limit};
+ghost use Rattle.lift_model.specs.Valid.{most_parameters};
 ghost use Rattle.line_text.specs.Shown.{Says};
 ghost use Rattle.cert_text.specs.Lines.{name_of, parameters_of};
 ghost use Rattle.line_text.specs.Parts.{counted};
@@ -63,8 +64,10 @@ fn announced<'t>(alloc: Global, words: &Words<'t>) -> Result<Vec<&'t [u8]>, Text
 }
 
 /// The parameters' names.
+#[tactic(auto, using(crate::proofs::HeadSteps::few_names))]
 pub(crate) fn parameters_of(alloc: Global, words: &Words) -> Result<Names, TextCause>
-    ensures { Says (λ n. n) result (parameters_of words.now) }
+    ensures value { Says (λ n. n) result (parameters_of words.now) }
+    ensures few { IfOk result (λ n. length n ≤ most_parameters) }
 {
     let names = announced(alloc, words)?;
     if names.len() > MOST_PARAMETERS {

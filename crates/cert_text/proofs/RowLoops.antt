@@ -1,0 +1,132 @@
+-- Reading the rows of a state one after the other, and those of all states.
+use Rattle.std.proofs.Common.{◌≡◌, ◌≢◌, ℕ, zero, suc, ◌-◌, ◌+◌, ◌≤◌, ◌<◌, ◌^◌, Bool, true, false, List, [], ◌∷◌, ◌++◌, length, replicate, Result, Ok, Err, refl, sym, ap, ◌∙◌, append_assoc, append-nil, arith}
+use Rattle.std.specs.Prelude.{All}
+use Rattle.std.specs.List.{sum_by}
+use Rattle.std.proofs.lemmas.List.{length-append}
+use Rattle.std.proofs.lemmas.List.Sums.{sum_by_push}
+use Rattle.std.proofs.lemmas.List.Elements.{All-weaker, All-replicate, All-same}
+use Rattle.lift_model.specs.declared.entry.Entry.{Entry}
+use Rattle.lift_model.specs.declared.kind.Kind.{Kind}
+use Rattle.lift_model.specs.Valid.{most_choices}
+use Rattle.line_text.specs.declared.error.TextError.{TextError}
+use Rattle.line_text.specs.declared.error.TextCause.TheVariants.{Memory}
+use Rattle.line_text.specs.Reading.{◌>>=◌, Cursor, line_at, at, due}
+use Rattle.line_text.specs.Words.{words}
+use Rattle.cert_text.specs.Lines.{row_of}
+use Rattle.cert_text.specs.Head.{entries_at, row_at, further_at, is_row_of, state_at, states_at}
+use Rattle.cert_text.specs.Rows.{row_due, row_mark, Leaves}
+use Rattle.cert_text.specs.declared.rows.Left.{Left}
+use Rattle.cert_text.proofs.Inverting.{bind_is, at_is}
+use Rattle.cert_text.proofs.FirstLines.{reads_row}
+use Rattle.cert_text.proofs.EntryLoop.{with_front, regroup}
+
+-- ---- marks
+
+-- a row's mark is below that of the next row
+pub marks_below : (choices : ℕ) (marks : List ℕ) → choices ≤ most_choices → 0 < choices → All (λ m. m ≤ row_mark choices) marks → All (λ m. m < row_mark (choices - 1)) marks
+marks_below choices marks most some h = All-weaker (λ m. m ≤ row_mark choices) (λ m. m < row_mark (choices - 1)) (λ m low. omega (arith, low, most, some)) marks h
+
+-- no mark is one of a row
+pub marks_none : (n : ℕ) (marks : List ℕ) → marks ≡ replicate n 0 → All (λ m. m < row_mark most_choices) marks
+marks_none n marks e = All-same (λ m. m < row_mark most_choices) marks (replicate n 0) e (All-replicate (λ m. m < row_mark most_choices) n 0 (omega arith))
+
+-- ---- the rows of a state
+
+abbrev pub Rows : Type 0
+Rows = Result (List (List Entry) × Cursor) TextError
+
+peeked : {A : Type 0} (s : ℕ) (c : Cursor) (b : Bool) (here other : Result (A × Cursor) TextError) → row_due s c ≡ Ok b → (due c >>= λ l. elim (is_row_of s (words l.0)) [ true ↦ here | false ↦ other ]) ≡ elim b [ true ↦ here | false ↦ other ]
+peeked s c b here other e = by_due (due c) e
+  where
+    ok : (x y : Bool) → ◌≡◌ {A = Result Bool TextError} (Ok x) (Ok y) → x ≡ y
+    ok x y e = cc
+
+    by_due : (r : Result (List ℕ × Cursor) TextError) → (r >>= λ l. Ok (is_row_of s (words l.0))) ≡ Ok b → (r >>= λ l. elim (is_row_of s (words l.0)) [ true ↦ here | false ↦ other ]) ≡ elim b [ true ↦ here | false ↦ other ]
+    by_due (Ok l) e = ap (λ t. elim t [ true ↦ here | false ↦ other ]) (ok (is_row_of s (words l.0)) b e)
+    by_due (Err f) e = absurd cc
+
+peek_fails : {A : Type 0} (s : ℕ) (c : Cursor) (fault : TextError) (here other : Result (A × Cursor) TextError) → row_due s c ≡ Err fault → (due c >>= λ l. elim (is_row_of s (words l.0)) [ true ↦ here | false ↦ other ]) ≡ Err fault
+peek_fails s c fault here other e = by_due (due c) e
+  where
+    by_due : (r : Result (List ℕ × Cursor) TextError) → (r >>= λ l. Ok (is_row_of s (words l.0))) ≡ Err fault → (r >>= λ l. elim (is_row_of s (words l.0)) [ true ↦ here | false ↦ other ]) ≡ Err fault
+    by_due (Ok l) e = absurd cc
+    by_due (Err f) e = cc
+
+-- another line than one of a row of state s ends the rows
+pub no_more : (states parameters choices transitions s a : ℕ) (front : List (List Entry)) (c : Cursor) (total : Rows) → row_due s c ≡ Ok false → with_front front (further_at states parameters choices transitions s a c) ≡ total → total ≡ Ok (front, c)
+unfolding further_at
+no_more states parameters zero transitions s a front c total d so_far =
+    sym so_far ∙ ap (with_front front) (peeked s c false (line_at (row_of s a 0 transitions) c >>= λ x. Ok ([], x.1)) (Ok ([], c)) d) ∙ ap (λ (ns : List (List Entry)). Ok (ns, c)) (append-nil front)
+no_more states parameters (suc choices) transitions s a front c total d so_far =
+    sym so_far ∙ ap (with_front front) (peeked s c false (row_at states parameters (suc choices) transitions s a c >>= λ row. further_at states parameters choices (transitions - length row.0) s (a + 1) row.1 >>= λ rows. Ok (row.0 ∷ rows.0, rows.1)) (Ok ([], c)) d) ∙ ap (λ (ns : List (List Entry)). Ok (ns, c)) (append-nil front)
+
+pub due_fails : (states parameters choices transitions s a : ℕ) (front : List (List Entry)) (c : Cursor) (fault : TextError) (total : Rows) → (fault.cause ≢ Memory → row_due s c ≡ Err fault) → with_front front (further_at states parameters choices transitions s a c) ≡ total → fault.cause ≢ Memory → total ≡ Err fault
+unfolding further_at
+due_fails states parameters zero transitions s a front c fault total d so_far other =
+    sym so_far ∙ ap (with_front front) (peek_fails s c fault (line_at (row_of s a 0 transitions) c >>= λ x. Ok ([], x.1)) (Ok ([], c)) (d other))
+due_fails states parameters (suc choices) transitions s a front c fault total d so_far other =
+    sym so_far ∙ ap (with_front front) (peek_fails s c fault (row_at states parameters (suc choices) transitions s a c >>= λ row. further_at states parameters choices (transitions - length row.0) s (a + 1) row.1 >>= λ rows. Ok (row.0 ∷ rows.0, rows.1)) (Ok ([], c)) (d other))
+
+-- with no choice left no row's line is read
+none_left : (s a transitions : ℕ) (c : Cursor) (x : ℕ × Cursor) → s < 2 ^ 32 → a < 2 ^ 32 → transitions < 2 ^ 32 → line_at (row_of s a 0 transitions) c ≡ Ok x → ⊥
+unfolding line_at
+none_left s a transitions c x hs ha ht e =
+    let l = bind_is (due c) (λ l. at c.0 (row_of s a 0 transitions (words l.0)) >>= λ x. Ok (x, l.1)) x e in
+    let r = bind_is (at c.0 (row_of s a 0 transitions (words l.0.0))) (λ x. Ok (x, l.0.1)) x l.2 in
+    omega (arith, ((reads_row s a 0 transitions (words l.0.0) (omega (arith, hs)) (omega (arith, ha)) (omega (arith, ht))).takes r.0 (at_is c.0 (row_of s a 0 transitions (words l.0.0)) r.0 r.1)).1)
+
+pub row_fails : (states parameters choices transitions s a : ℕ) (front : List (List Entry)) (c : Cursor) (fault : TextError) (total : Rows) → s < 2 ^ 32 → a < 2 ^ 32 → transitions < 2 ^ 32 → row_due s c ≡ Ok true → (fault.cause ≢ Memory → row_at states parameters choices transitions s a c ≡ Err fault) → with_front front (further_at states parameters choices transitions s a c) ≡ total → fault.cause ≢ Memory → total ≡ Err fault
+unfolding further_at row_at
+row_fails states parameters zero transitions s a front c fault total hs ha ht d r so_far other =
+    sym so_far ∙ ap (with_front front) (peeked s c true (line_at (row_of s a 0 transitions) c >>= λ x. Ok ([], x.1)) (Ok ([], c)) d) ∙ by_line (line_at (row_of s a 0 transitions) c) refl (r other)
+  where
+    by_line : (q : Result (ℕ × Cursor) TextError) → line_at (row_of s a 0 transitions) c ≡ q → (q >>= λ count. entries_at states parameters [] count.0 count.1) ≡ Err fault → with_front front (q >>= λ x. Ok ([], x.1)) ≡ Err fault
+    by_line (Ok x) e f = absurd (none_left s a transitions c x hs ha ht e)
+    by_line (Err g) e f = cc
+row_fails states parameters (suc choices) transitions s a front c fault total hs ha ht d r so_far other =
+    sym so_far ∙ ap (with_front front) (peeked s c true (row_at states parameters (suc choices) transitions s a c >>= λ row. further_at states parameters choices (transitions - length row.0) s (a + 1) row.1 >>= λ rows. Ok (row.0 ∷ rows.0, rows.1)) (Ok ([], c)) d)
+    ∙ ap (λ (q : Result (List Entry × Cursor) TextError). with_front front (q >>= λ row. further_at states parameters choices (transitions - length row.0) s (a + 1) row.1 >>= λ rows. Ok (row.0 ∷ rows.0, rows.1))) (r other)
+
+pub one_row : (states parameters choices transitions s a : ℕ) (front : List (List Entry)) (c after : Cursor) (row : List Entry) (total : Rows) → 0 < choices → row_due s c ≡ Ok true → row_at states parameters choices transitions s a c ≡ Ok (row, after) → with_front front (further_at states parameters choices transitions s a c) ≡ total → with_front (front ++ row ∷ []) (further_at states parameters (choices - 1) (transitions - length row) s (a + 1) after) ≡ total
+unfolding further_at
+one_row states parameters zero transitions s a front c after row total some d r so_far = absurd (omega (arith, some))
+one_row states parameters (suc choices) transitions s a front c after row total some d r so_far =
+    let k : suc choices - 1 ≡ choices = omega arith in
+    ap (λ n. with_front (front ++ row ∷ []) (further_at states parameters n (transitions - length row) s (a + 1) after)) k
+    ∙ sym (regroup front row (further_at states parameters choices (transitions - length row) s (a + 1) after))
+    ∙ sym (ap (λ (q : Result (List Entry × Cursor) TextError). with_front front (q >>= λ row. further_at states parameters choices (transitions - length row.0) s (a + 1) row.1 >>= λ rows. Ok (row.0 ∷ rows.0, rows.1))) r)
+    ∙ sym (ap (with_front front) (peeked s c true (row_at states parameters (suc choices) transitions s a c >>= λ row. further_at states parameters choices (transitions - length row.0) s (a + 1) row.1 >>= λ rows. Ok (row.0 ∷ rows.0, rows.1)) (Ok ([], c)) d))
+    ∙ so_far
+
+pub leaves_more : (before left next : Left) (rows more : List (List Entry)) (row : List Entry) → Leaves before left (length rows) (sum_by length rows) → next.choices ≡ left.choices - 1 → next.transitions ≡ left.transitions - length row → more ≡ rows ++ row ∷ [] → Leaves before next (length more) (sum_by length more)
+leaves_more before left next rows more row l c t m =
+    let len : length more ≡ length rows + 1 = omega (arith, ap length m, length-append rows (row ∷ [])) in
+    let sum : sum_by length more ≡ sum_by length rows + length row = ap (sum_by length) m ∙ sum_by_push length rows row in
+    record { choices = omega (arith, c, l.choices, len); transitions = omega (arith, t, l.transitions, sum) }
+
+-- ---- all states
+
+abbrev pub States : Type 0
+States = Result (List (List (List Entry)) × Cursor) TextError
+
+pub state_goes : (kind : Kind) (states parameters left choices transitions s : ℕ) (front : List (List (List Entry))) (c after : Cursor) (rows : List (List Entry)) (n choices₂ transitions₂ : ℕ) (total : States) → left ≡ suc n → state_at kind states parameters choices transitions s c ≡ Ok (rows, after) → choices₂ ≡ choices - length rows → transitions₂ ≡ transitions - sum_by length rows
+    → with_front front (states_at kind states parameters left choices transitions s c) ≡ total → with_front (front ++ rows ∷ []) (states_at kind states parameters n choices₂ transitions₂ (s + 1) after) ≡ total
+unfolding states_at
+state_goes kind states parameters left choices transitions s front c after rows n choices₂ transitions₂ total k h e f so_far =
+    ap (λ p. with_front (front ++ rows ∷ []) (states_at kind states parameters n p transitions₂ (s + 1) after)) e
+    ∙ ap (λ p. with_front (front ++ rows ∷ []) (states_at kind states parameters n (choices - length rows) p (s + 1) after)) f
+    ∙ sym (regroup front rows (states_at kind states parameters n (choices - length rows) (transitions - sum_by length rows) (s + 1) after))
+    ∙ sym (ap (λ (r : Result (List (List Entry) × Cursor) TextError). with_front front (r >>= λ rows. states_at kind states parameters n (choices - length rows.0) (transitions - sum_by length rows.0) (s + 1) rows.1 >>= λ others. Ok (rows.0 ∷ others.0, others.1))) h)
+    ∙ sym (ap (λ l. with_front front (states_at kind states parameters l choices transitions s c)) k)
+    ∙ so_far
+
+pub state_fails : (kind : Kind) (states parameters left choices transitions s : ℕ) (front : List (List (List Entry))) (c : Cursor) (n : ℕ) (fault : TextError) (total : States) → left ≡ suc n → (fault.cause ≢ Memory → state_at kind states parameters choices transitions s c ≡ Err fault) → with_front front (states_at kind states parameters left choices transitions s c) ≡ total → fault.cause ≢ Memory → total ≡ Err fault
+unfolding states_at
+state_fails kind states parameters left choices transitions s front c n fault total k h so_far other =
+    sym so_far ∙ ap (λ l. with_front front (states_at kind states parameters l choices transitions s c)) k
+    ∙ ap (λ (r : Result (List (List Entry) × Cursor) TextError). with_front front (r >>= λ rows. states_at kind states parameters n (choices - length rows.0) (transitions - sum_by length rows.0) (s + 1) rows.1 >>= λ others. Ok (rows.0 ∷ others.0, others.1))) (h other)
+
+pub states_done : (kind : Kind) (states parameters left choices transitions s : ℕ) (front : List (List (List Entry))) (c : Cursor) (total : States) → left ≡ 0 → with_front front (states_at kind states parameters left choices transitions s c) ≡ total → total ≡ Ok (front, c)
+unfolding states_at
+states_done kind states parameters left choices transitions s front c total k so_far =
+    sym so_far ∙ ap (λ l. with_front front (states_at kind states parameters l choices transitions s c)) k ∙ ap (λ (ns : List (List (List Entry))). Ok (ns, c)) (append-nil front)

@@ -1,0 +1,21 @@
+-- What the code's functions on rows answer.
+use Rattle.std.specs.Prelude.{◌≡◌, ℕ, ◌+◌, ◌-◌, Bool, Result, Ok}
+use Rattle.lift_model.specs.Valid.{most_choices}
+use Rattle.line_text.specs.declared.error.TextError.{TextError}
+use Rattle.line_text.specs.Words.{words}
+use Rattle.line_text.specs.Reading.{◌>>=◌, Cursor, due}
+use Rattle.cert_text.specs.Head.{is_row_of}
+use Rattle.cert_text.specs.declared.rows.Left.{Left}
+
+-- whether the line that is due is one of a row of state s
+abbrev pub row_due : ℕ → Cursor → Result Bool TextError
+row_due s c = due c >>= λ l. Ok (is_row_of s (words l.0))
+
+-- the mark of a row where so many choices are left: 1 for the first of all rows
+abbrev pub row_mark : ℕ → ℕ
+row_mark choices = most_choices + 1 - choices
+
+-- what is left behind so many rows of so many entries
+pub record Leaves (before after : Left) (rows entries : ℕ) : Type 0 where
+  pub choices : after.choices ≡ before.choices - rows
+  pub transitions : after.transitions ≡ before.transitions - entries
