@@ -1,5 +1,5 @@
 -- What follows from a right leaf.
-use Rattle.std.proofs.Common.{ℕ, ◌≤◌, arith}
+use Rattle.std.proofs.Common.{arith}
 use Rattle.lift_grid.specs.Tree.{Tree}
 use Rattle.lift_grid.specs.Tree.Tree.{accept, reject, unknown, split}
 use Rattle.corner_lift.specs.Case.{CaseData, IsCase, IsInside}

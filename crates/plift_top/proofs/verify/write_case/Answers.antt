@@ -1,4 +1,3 @@
-use Rattle.std.proofs.Common.{ℕ}
 use Rattle.plift_top.specs.Decided.{leaf_of, tree_of}
 use Rattle.plift_top.specs.Leaf.{BoundsSchedulers}
 use Rattle.plift_top.proofs.Leaves.{bounds, writable}
