@@ -5,4 +5,5 @@ pub mod Lanes
 pub mod Stepping
 pub mod Steps
 pub mod Verdicts
+pub mod Goings
 mod Samples

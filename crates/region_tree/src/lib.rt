@@ -9,6 +9,7 @@ mod leaf;
 mod room;
 mod verdict;
 mod visitor;
+mod walking;
 
 pub use decision::decide;
 pub use laws::{
@@ -18,3 +19,4 @@ pub use laws::{
 pub use room::Room;
 pub use verdict::Verdict;
 pub use visitor::{Seen, Visitor};
+pub use walking::walk;

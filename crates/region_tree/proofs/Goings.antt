@@ -1,0 +1,75 @@
+-- How a walk goes on: what stays of a room, and how it goes down to the halves.
+use Rattle.std.proofs.Common.{◌≡◌, ℕ, Bool, [], ◌∷◌, length, map, refl, sym, ap, ◌∙◌, subst}
+use Rattle.lift_pool.specs.Lanes.{PoolData, pool_without_last}
+use Rattle.lift_model.specs.Links.{LinksData, AreLinks}
+use Rattle.lift_model.specs.Model.{ModelData}
+use Rattle.corner_lift.specs.Case.{CaseData, IsCase}
+use Rattle.region_tree.specs.Decided.{CanDecide}
+use Rattle.region_tree.specs.Rooms.{RoomData, HasLanes, IsSameShape, KeepsShape, IsPlaced, IsMadeFor, IsAsMade, StepsDown, room_at_root, room_with_half, room_without_last}
+use Rattle.region_tree.proofs.Lanes.{root_ends}
+
+module _ {T : Type 0} where
+  pub same_pool : (p : PoolData T) → IsSameShape p p
+  same_pool p = record { lanes = refl; spare = refl; spare_lanes = refl }
+
+  pub pool_then : (p q r : PoolData T) → IsSameShape p q → IsSameShape q r → IsSameShape p r
+  pool_then p q r a b = record { lanes = b.lanes ∙ a.lanes; spare = b.spare ∙ a.spare; spare_lanes = b.spare_lanes ∙ a.spare_lanes }
+
+pub same_room : (a : RoomData) → KeepsShape a a
+same_room a = record { weights = same_pool a.weights; values = same_pool a.values; allowed = same_pool a.allowed; ranks = same_pool a.ranks; picks = same_pool a.picks; work = same_pool a.work }
+
+pub room_then : (a b c : RoomData) → KeepsShape a b → KeepsShape b c → KeepsShape a c
+room_then a b c h g = record {
+  weights = pool_then a.weights b.weights c.weights h.weights g.weights;
+  values = pool_then a.values b.values c.values h.values g.values;
+  allowed = pool_then a.allowed b.allowed c.allowed h.allowed g.allowed;
+  ranks = pool_then a.ranks b.ranks c.ranks h.ranks g.ranks;
+  picks = pool_then a.picks b.picks c.picks h.picks g.picks;
+  work = pool_then a.work b.work c.work h.work g.work;
+}
+
+pub lanes_kept : (m : ModelData) (l : LinksData) (a b : RoomData) → KeepsShape a b → HasLanes m l a → HasLanes m l b
+lanes_kept m l a b h g = record {
+  weights = h.weights.lanes ∙ g.weights;
+  values = h.values.lanes ∙ g.values;
+  allowed = h.allowed.lanes ∙ g.allowed;
+  ranks = h.ranks.lanes ∙ g.ranks;
+  picks = h.picks.lanes ∙ g.picks;
+  work = h.work.lanes ∙ g.work;
+}
+
+-- where a walk stands hangs on the sides alone
+pub placed_as : (k : CaseData) (depth : ℕ) (a b : RoomData) → b.sides ≡ a.sides → IsPlaced k depth a → IsPlaced k depth b
+placed_as k depth a b same h = rw same (record { some = h.some; sides = h.sides; at_depth = h.at_depth; words = h.words; depths = h.depths })
+
+pub can_decide : (k : CaseData) (l : LinksData) (depth : ℕ) (room : RoomData) → AreLinks k.model l → HasLanes k.model l room → IsPlaced k depth room → CanDecide k l room
+can_decide k l depth room links lanes h = record {
+  links = links;
+  lanes = lanes;
+  some = h.some;
+  sides = record { rectangle = h.sides; within = h.at_depth.inside.within };
+}
+
+-- giving back the half that a walk went down to
+pub gone_back : (k : CaseData) (depth axis : ℕ) (lower : Bool) (room down up : RoomData) → StepsDown k depth axis lower room → down.sides ≡ (room_with_half lower axis room).sides → up ≡ room_without_last down → up.sides ≡ room.sides
+gone_back k depth axis lower room down up h same e =
+    ap (λ r. r.sides) e ∙ ap (λ p. pool_without_last p) same ∙ ap (λ r. r.sides) h.back
+
+-- the other lanes stay where a lane of sides is taken or given back
+pub half_lanes : (m : ModelData) (l : LinksData) (lower : Bool) (axis : ℕ) (room half : RoomData) → half ≡ room_with_half lower axis room → HasLanes m l room → HasLanes m l half
+half_lanes m l lower axis room half e h = rw e (record { weights = h.weights; values = h.values; allowed = h.allowed; ranks = h.ranks; picks = h.picks; work = h.work })
+
+pub back_lanes : (m : ModelData) (l : LinksData) (room up : RoomData) → up ≡ room_without_last room → HasLanes m l room → HasLanes m l up
+back_lanes m l room up e h = rw e (record { weights = h.weights; values = h.values; allowed = h.allowed; ranks = h.ranks; picks = h.picks; work = h.work })
+
+-- after a walk the room is as made
+root_kept : (k : CaseData) (room : RoomData) → KeepsShape room (room_at_root k room)
+root_kept k room = record { weights = same_pool room.weights; values = same_pool room.values; allowed = same_pool room.allowed; ranks = same_pool room.ranks; picks = same_pool room.picks; work = same_pool room.work }
+
+pub as_made : (k : CaseData) (l : LinksData) (room begun new : RoomData) → IsCase k → IsMadeFor k l room → begun ≡ room_at_root k room → new.sides ≡ begun.sides → KeepsShape begun new → IsAsMade room new
+as_made k l room begun new is made e sides shape =
+    let at : new.sides ≡ (room_at_root k room).sides = sides ∙ ap (λ r. r.sides) e in
+    record {
+      sides = record { lanes = ap (λ p. map length p.lanes) at ∙ ap (λ n. n ∷ []) (root_ends k is) ∙ sym made.sides; spare = ap (λ p. p.spare) at; spare_lanes = ap (λ p. p.spare_lanes) at };
+      rest = room_then room begun new (subst (λ r. KeepsShape room r) (sym e) (root_kept k room)) shape;
+    }

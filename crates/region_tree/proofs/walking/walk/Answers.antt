@@ -1,0 +1,10 @@
+use Rattle.region_tree.proofs.Goings.{as_made}
+use Rattle.region_tree.proofs.walking.walk.Goals as goal
+
+pub walk_at-requires-clause-placed : goal.walk_at-requires-clause-placed
+walk_at-requires-clause-placed g c =
+    rw c.begin.ensures (c.walks_are_placed.ensures.root c.args.case.now c.args.links.now c.args.room.now c.w.ensures.case c.requires.made)
+
+pub returns-clause-room : goal.returns-clause-room
+returns-clause-room g c =
+    as_made c.args.case.now c.args.links.now c.args.room.now c.begin.new.self c.walk_at.new.room c.w.ensures.case c.requires.made c.begin.ensures c.walk_at.ensures.sides c.walk_at.ensures.shape

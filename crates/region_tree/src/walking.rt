@@ -1,0 +1,137 @@
+// The walk over the tree of a case.
+ghost use Rattle.std.specs.Prelude.{◌≡◌, ◌<◌, ◌≤◌, length, IsTrue, IsFalse};
+ghost use Rattle.lift_grid.specs.Rectangle.{spans_of};
+ghost use Rattle.lift_grid.specs.Splitting.{IsSplitAxis};
+ghost use Rattle.lift_model.specs.Links.{AreLinks};
+ghost use Rattle.lift_model.specs.Model.{live};
+ghost use Rattle.corner_lift.specs.Case.{IsCase, greatest_depth};
+ghost use Rattle.region_tree.specs.Rooms.{
+  HasLanes,
+  IsAsMade,
+  IsMadeFor,
+  IsPlaced,
+  KeepsShape,
+  StepsDown,
+  last_sides,
+};
+ghost use Rattle.region_tree.specs.Visits.{Walks};
+ghost use Rattle.region_tree.specs.declared.verdict.Verdict.TheVariants.{Unknown};
+ghost use Rattle.region_tree.specs.declared.visitor.Seen.TheVariants.{Failed, Kept};
+
+use crate::decision::decide;
+use crate::laws::{certificates_are_one, walks_are_placed};
+use crate::leaf::show_leaf;
+use crate::room::Room;
+use crate::verdict::Verdict;
+use crate::visitor::{Seen, Visitor};
+use corner_lift::{Case, live_parameters_have_spans};
+use lift_cert::Bound;
+use lift_grid::{rows_are_rectangles, split_axis};
+use lift_model::Links;
+
+/// Whether there is a certificate.
+fn is_decided(verdict: Verdict) -> bool
+    ensures open { IsFalse result → verdict ≡ Unknown }
+    ensures decided { verdict ≡ Unknown → IsFalse result }
+{
+    !matches!(verdict, Verdict::Unknown)
+}
+
+/// Whether the visitor failed.
+fn is_failed(seen: Seen) -> bool
+    ensures failed { IsTrue result → seen ≡ Failed }
+    ensures kept { IsFalse result → seen ≡ Kept }
+{
+    matches!(seen, Seen::Failed)
+}
+
+/// The axis on which the last rectangle of a room is halved.
+fn axis_of(case: &Case, depth: u32, room: &Room) -> u32
+    requires case { IsCase case.now }
+    requires placed { IsPlaced case.now depth room.now }
+    requires left { depth < greatest_depth case.now }
+    ensures axis { IsSplitAxis (live case.now.model) (spans_of (last_sides room.now)) result }
+{
+    live_parameters_have_spans();
+    match split_axis(room.sides(), case.model().live()) {
+        Some(axis) => axis,
+        None => unreachable!(),
+    }
+}
+
+/// Walks over the tree of the rectangle that the room's last lane of sides holds.
+fn walk_at<V: Visitor>(
+    case: &Case,
+    links: &Links,
+    bound: Bound,
+    greatest: u32,
+    depth: u32,
+    room: &mut Room,
+    visitor: &mut V,
+) -> Seen
+    requires case { IsCase case.now }
+    requires links { AreLinks case.now.model links.now }
+    requires greatest { greatest ≡ greatest_depth case.now }
+    requires depth { depth ≤ greatest }
+    requires lanes { HasLanes case.now.model links.now room.old }
+    requires placed { IsPlaced case.now depth room.old }
+    requires states { V.states visitor.old ≡ length case.now.model.states }
+    ensures walks { Walks case.now (spans_of (last_sides room.old)) bound depth
+        V.taken V.faults (V.entry visitor.old) visitor.old visitor.new result }
+    ensures sides { room.new.sides ≡ room.old.sides }
+    ensures shape { KeepsShape room.old room.new }
+    ensures states { V.states visitor.new ≡ V.states visitor.old }
+    ensures entry { V.entry visitor.new ≡ V.entry visitor.old }
+    ensures same { V.reference visitor.new ≡ V.reference visitor.old }
+{
+    certificates_are_one();
+    walks_are_placed();
+    let verdict = decide(case, links, bound, room);
+    if depth == greatest || is_decided(verdict) {
+        return show_leaf(case, links, bound, depth, room, verdict, visitor);
+    }
+    let axis = axis_of(case, depth, room);
+    if is_failed(visitor.split(axis)) {
+        return Seen::Failed;
+    }
+    room.take_half(axis, true);
+    let first = walk_at::<V>(case, links, bound, greatest, depth + 1, room, visitor);
+    room.give_half();
+    if is_failed(first) {
+        return Seen::Failed;
+    }
+    room.take_half(axis, false);
+    let second = walk_at::<V>(case, links, bound, greatest, depth + 1, room, visitor);
+    room.give_half();
+    second
+}
+
+/// Shows the visitor the nodes of the case's right tree in preorder, and ends at the first failure. The
+/// room was made for the case, and after it is as made. Takes no memory.
+///
+/// Where all was kept there is a right tree. Whichever tree is right, the entries of all its nodes were
+/// taken, or after a failure a part of them, from the front.
+pub fn walk<V: Visitor>(
+    case: &Case,
+    links: &Links,
+    bound: Bound,
+    room: &mut Room,
+    visitor: &mut V,
+) -> Seen
+    requires links { AreLinks case.now.model links.now }
+    requires made { IsMadeFor case.now links.now room.old }
+    requires states { V.states visitor.old ≡ length case.now.model.states }
+    ensures walks { Walks case.now case.now.root bound 0
+        V.taken V.faults (V.entry visitor.old) visitor.old visitor.new result }
+    ensures room { IsAsMade room.old room.new }
+    ensures states { V.states visitor.new ≡ V.states visitor.old }
+    ensures entry { V.entry visitor.new ≡ V.entry visitor.old }
+    ensures same { V.reference visitor.new ≡ V.reference visitor.old }
+{
+    walks_are_placed();
+    rows_are_rectangles();
+    let _ = case.w();
+    room.begin(case);
+    let greatest = case.greatest_depth();
+    walk_at::<V>(case, links, bound, greatest, 0, room, visitor)
+}
