@@ -1,5 +1,5 @@
 -- How a set of states with the same number is lowered to its best exit.
-use Rattle.std.proofs.Common.{◌≡◌, ◌≢◌, ◌==◌, ℕ, ◌+◌, ◌^◌, ◌<◌, ◌≤◌, ◌⊎◌, inl, inr, ⊎_elim, true, false, List, length, set, get_or, ℤ, pos, ◌+ℤ◌, ◌-ℤ◌, ◌≤ℤ◌, ◌<ℤ◌, refl, sym, ap, subst, ◌∙◌, arith, nat_lt, true≢false, ltb-true, ltb-false, length-set, get_or-set_same, get_or-set_other}
+use Rattle.std.proofs.Common.{◌≡◌, ℕ, ◌+◌, ◌^◌, ◌<◌, ◌≤◌, inl, inr, ⊎_elim, true, false, List, length, ℤ, pos, ◌+ℤ◌, ◌≤ℤ◌, ◌<ℤ◌, sym, subst, ◌∙◌, arith, nat_lt, true≢false, ltb-true, ltb-false}
 use Rattle.lift_poly.proofs.Ring.{linear}
 use Rattle.lift_grid.specs.Rectangle.{Spans}
 use Rattle.lift_model.specs.Model.{is_goal, choices}
@@ -7,7 +7,7 @@ use Rattle.corner_lift.specs.Case.{CaseData, IsCase, IsInside, number}
 use Rattle.corner_lift.specs.Certificate.{unmarked, mark}
 use Rattle.corner_lift.specs.Laws.{NumbersAreInRange}
 use Rattle.lower_cert.specs.Capping.{marked}
-use Rattle.lower_cert.specs.Lowering.{IsHigh, IsLowered, total}
+use Rattle.lower_cert.specs.Lowering.{IsHigh, IsLowered}
 use Rattle.lower_cert.specs.Exits.{AreLevel, ExitsAtMost, ChoicesExitAtMost, StatesExitAtMost, AreLoweredTo}
 use Rattle.lower_cert.specs.Laws.{CappingKeeps}
 use Rattle.lower_cert.proofs.Means.{Place, either_way}
