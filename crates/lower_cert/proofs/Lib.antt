@@ -10,3 +10,4 @@ pub mod Lowering
 pub mod Settling
 pub mod Sweeping
 pub mod Exits
+pub mod BestExit

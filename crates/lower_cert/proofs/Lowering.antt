@@ -22,7 +22,7 @@ use Rattle.lower_cert.proofs.Heights.{rank-fits, below-no, mark-beyond}
 
 -- ---- vectors
 
-all_from : (P : ℤ → Type 0) (x : List ℤ) → ((t : ℕ) → t < length x → P (number x t)) → All P x
+pub all_from : (P : ℤ → Type 0) (x : List ℤ) → ((t : ℕ) → t < length x → P (number x t)) → All P x
 all_from P [] h = All-nil P
 all_from P (n ∷ x) h = All-cons P n x (h 0 (omega arith)) (all_from P x (λ t lt. h (suc t) (omega (arith, lt))))
 
@@ -183,7 +183,7 @@ lower_step old new ranks v r s room (low, rest) is = (
     past : (t : ℕ) → s + 1 ≤ t → t ≢ s
     past t le = grind (arith, le)
 
-total_most : (old new : List ℤ) → length new ≡ length old → ((t : ℕ) → (pos 0 ≤ℤ number new t) × (number new t ≤ℤ number old t)) → total new ≤ total old
+pub total_most : (old new : List ℤ) → length new ≡ length old → ((t : ℕ) → (pos 0 ≤ℤ number new t) × (number new t ≤ℤ number old t)) → total new ≤ total old
 total_most [] [] size le = omega arith
 total_most (n ∷ old) [] size le = omega arith
 total_most [] (m ∷ new) size le = absurd (omega (arith, size))

@@ -1,5 +1,5 @@
 -- A loop worked by hand: from state 0 to the goal with p / 2, back to itself with 1 / 2, and else to a sink.
-use Rattle.std.proofs.Common.{◌≡◌, ℕ, true, false, Bool, List, [], ◌∷◌, ℤ, pos, negsuc, refl, inl, ◌==◌, if◌then◌else◌}
+use Rattle.std.proofs.Common.{◌≡◌, ℕ, true, false, Bool, List, [], ◌∷◌, ℤ, pos, negsuc, refl, inl, inr, ◌==◌, if◌then◌else◌}
 use Rattle.lift_grid.specs.Rectangle.{Spans}
 use Rattle.lift_model.specs.declared.kind.Kind.TheVariants.{Dtmc}
 use Rattle.lift_model.specs.declared.entry.Entry.{Entry}
@@ -7,6 +7,7 @@ use Rattle.lift_model.specs.Model.{ModelData}
 use Rattle.corner_lift.specs.Corner.{corner_sum, whole}
 use Rattle.corner_lift.specs.Case.{CaseData}
 use Rattle.lower_cert.specs.Capping.{into, out, beyond, filled, CapsAt}
+use Rattle.lower_cert.specs.Lowering.{IsExit}
 
 abbrev loop_row : List Entry
 loop_row = record { target = 0; poly = (0, pos 1) ∷ [] } ∷ record { target = 1; poly = (1, pos 1) ∷ [] } ∷ record { target = 2; poly = (0, pos 1) ∷ (1, negsuc 0) ∷ [] } ∷ []
@@ -58,3 +59,14 @@ loop_stays = refl
 
 loop_beyond : corner_sum (pos 5) sides loop_row 0 (beyond self start) ≡ pos 16
 loop_beyond = refl
+
+-- the sum with 16 in state 0 is 5 * 16 + 1 * 16; less the loop's 5 * 16 it is 16, which is less than 4 * 5, and not less than 3 * 5: the exit is 3
+loop_all : corner_sum (pos 5) sides loop_row 0 start ≡ pos 96
+loop_all = refl
+
+loop_exit : IsExit (pos 16) (pos 96) (pos 5) (pos 10) (pos 3)
+loop_exit = inr (record { lt = tt })
+
+-- where all weight stays in the set, the exit is 0
+stays_exit : IsExit (pos 16) (pos 160) (pos 10) (pos 10) (pos 0)
+stays_exit = inl (record { le = tt })

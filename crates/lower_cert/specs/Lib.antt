@@ -2,3 +2,4 @@ pub mod Capping
 pub mod Laws
 pub mod AnyRanks
 pub mod Lowering
+pub mod Exits

@@ -6,6 +6,7 @@ ghost use Rattle.corner_lift.specs.Certificate.{unmarked};
 ghost use Rattle.corner_lift.specs.Stages.{IsGreatestLower};
 ghost use Rattle.lower_cert.specs.Lowering.{IsRead, HasPlaces, IsHigh, IsRanked, IsSettled, IsHeight, total};
 
+use crate::exit::lower_to_exit;
 use crate::laws::{ranks_fit, vectors_are_lowered};
 use crate::lower::{NONE, lower_level, rank_states, start, stuck_level};
 use crate::sweep::settle;
@@ -20,8 +21,8 @@ pub struct Rate {
     pub k: u32,
 }
 
-/// Lowers states until each is held by a choice, ranks them, and lowers those without rank that have the greatest number above 0, if there are
-/// any. Tells whether there are.
+/// Lowers states until each is held by a choice, ranks them, and lowers those without rank that have the
+/// greatest number above 0, if there are any: by 1, and then to their best exit. Tells whether there are.
 fn lower_once(
     case: &Case,
     links: &Links,
@@ -39,6 +40,8 @@ fn lower_once(
     ensures lower { IsTrue result → total lane.new < total lane.old }
     ensures settled { IsFalse result → IsSettled case.now spans lane.new picks.new ranks.new }
 {
+    rows_at_corners();
+    let _ = case.w();
     settle(case, links, weights, lane);
     rank_states(case, links, weights, lane, allowed, ranks, picks);
     let level = stuck_level(lane, ranks);
@@ -46,6 +49,7 @@ fn lower_once(
         return false;
     }
     lower_level(case, lane, ranks, picks, level);
+    lower_to_exit(case, links, weights, lane, ranks, picks, level - 1);
     true
 }
 

@@ -141,7 +141,7 @@ pub(crate) fn stuck_level(lane: &[i64], ranks: &[u32]) -> i64
 }
 
 /// The rank of a state.
-fn rank_of(ranks: &[u32], s: usize) -> u32
+pub(crate) fn rank_of(ranks: &[u32], s: usize) -> u32
     requires { s < length ranks.now }
     ensures { result ≡ mark ranks.now s }
 {

@@ -82,7 +82,7 @@ fn exit_at(
 }
 
 /// The lesser of two numbers.
-fn lesser(a: i64, b: i64) -> i64
+pub(crate) fn lesser(a: i64, b: i64) -> i64
     ensures { (result ≡ a) ⊎ (result ≡ b) }
 {
     if a < b { a } else { b }
@@ -160,7 +160,7 @@ fn held(case: &Case, links: &Links, weights: &[i128], lane: &[i64], s: u32, a: u
 }
 
 /// The greater of two numbers.
-fn greater(a: i64, b: i64) -> i64
+pub(crate) fn greater(a: i64, b: i64) -> i64
     ensures { (a ≤ℤ result) × ((b ≤ℤ result) × ((result ≡ a) ⊎ (result ≡ b))) }
 {
     if a < b { b } else { a }

@@ -8,3 +8,6 @@ ghost-lower_level g a = g.spans
 
 abbrev pub ghost-settle : goal.ghost-settle
 ghost-settle g a = g.spans
+
+abbrev pub ghost-lower_to_exit : goal.ghost-lower_to_exit
+ghost-lower_to_exit g a = g.spans

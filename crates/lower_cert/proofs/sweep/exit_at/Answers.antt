@@ -1,4 +1,4 @@
-use Rattle.std.proofs.Common.{rules, ◌≡◌, ◌==◌, ◌∙◌, ◌^◌, ◌≤◌, ap, to_z-of_z, SFits, w64, unsigned_abs, arith, pow_mono}
+use Rattle.std.proofs.Common.{rules, ◌==◌, ◌∙◌, ◌^◌, ◌≤◌, ap, to_z-of_z, SFits, w64, unsigned_abs, arith, pow_mono}
 use mir.Syntax.{w128}
 use Rattle.std.proofs.lemmas.Int.{ints}
 use Rattle.lift_poly.proofs.Ring.{linear}
