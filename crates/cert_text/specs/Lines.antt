@@ -24,6 +24,7 @@ use Rattle.line_text.specs.Parts.{Words, Read, must, spelled, keyed, first, ende
 
 -- ---- the head's lines
 
+-- the first line, `plift 1`; with another number it is of another version
 abbrev pub version_of : Words → Read (Unit {0})
 version_of words = numbers_of (codes "plift") words >>= single >>= λ version. must (int_eq version (pos 1)) Version
 
@@ -31,6 +32,7 @@ version_of words = numbers_of (codes "plift") words >>= single >>= λ version. m
 abbrev pub kind_named : List ℕ → Read Kind
 kind_named word = if bytes_eq word (codes "dtmc") then Ok Dtmc else if bytes_eq word (codes "mdp") then Ok Mdp else Err Syntax
 
+-- the line `kind`, with a kind's name
 abbrev pub kind_of : Words → Read Kind
 kind_of words = keyed (codes "kind") words >>= single >>= kind_named
 
@@ -46,6 +48,7 @@ names_in before (name ∷ names) = do
   _ ← must (nat_le (length name) most_name_bytes) Limit
   names_in (name ∷ before) names
 
+-- the line `parameters`: how many there are, and their names
 abbrev pub parameters_of : Words → Read Words
 parameters_of words = do
   names ← counted (codes "parameters") name_of words
@@ -68,6 +71,7 @@ flags zero s goals = []
 flags (suc left) s [] = false ∷ flags left (s + 1) []
 flags (suc left) s (goal ∷ goals) = if goal == s then true ∷ flags left (s + 1) goals else false ∷ flags left (s + 1) (goal ∷ goals)
 
+-- the line `goal`: how many goal states there are, at least one, and these, ascending; for each state whether it is one
 abbrev pub goal_of : ℕ → Words → Read (List Bool)
 goal_of states words = do
   zs ← counted (codes "goal") number_of words
@@ -132,6 +136,7 @@ bound_in parts = do
   _ ← must (nat_lt den (2 ^ 32) && nat_le num den) Limit
   Ok (record { num = num; den = den })
 
+-- the line `bound`, with a fraction
 abbrev pub bound_of : Words → Read Bound
 bound_of words = keyed (codes "bound") words >>= single >>= λ word. spelled (pair_of (code "/") word) >>= bound_in
 
@@ -149,6 +154,7 @@ spans_in n (s ∷ ss) = do
   _ ← must (nat_lt (unsigned_abs s.1) size_limit) Limit
   spans_in n ss
 
+-- the line `box`: the low and the high end of each parameter, which are multiples of 2 ^ depth
 abbrev pub box_of : ℕ → ℕ → Words → Read Spans
 box_of parameters depth words = do
   zs ← numbers_of (codes "box") words
@@ -190,6 +196,7 @@ marks_in [] (m ∷ ms) = Err Syntax
 marks_in (end ∷ ends) [] = Err Syntax
 marks_in (end ∷ ends) (m ∷ ms) = mark_in end m >>= λ mark. marks_in ends ms >>= λ marks. Ok (mark ∷ marks)
 
+-- so many marks behind a word, each below its end, or none
 abbrev pub marks_of : List ℕ → List ℕ → Words → Read (List ℕ)
 marks_of key ends words = do
   ms ← keyed key words >>= each mark_of
@@ -204,6 +211,7 @@ pub record Rejected : Type 0 where
   pub y : ℤ
   pub z : ℤ
 
+-- the numbers of a rejecting leaf's first line, where e and k are in their ranges
 abbrev pub rejected : ℤ → ℤ → ℤ → ℤ × ℤ → Read Rejected
 rejected ze zk zm b = do
   e ← between 0 (most_rate + 1) ze
