@@ -6,7 +6,7 @@ use Rattle.std.specs.declared.option.Option.{Option}
 use Rattle.std.specs.Io.KnownBytes.{Appends, Keeps, append_known}
 use Rattle.lift_base.specs.Begins.{BeginsWith}
 use Rattle.std.proofs.KnownBytes.{append_known-moved, Appends-kept}
-use Rattle.lift_base.specs.Outside.{AppendsFront, Rose, Wrote}
+use Rattle.lift_base.specs.Outside.{AppendsFront, Rose, Wrote, WroteSome}
 
 -- a list that begins with as many elements as it has left
 at_least : (xs ys : List ℕ) → take (length xs) ys ≡ xs → length xs ≤ length ys
@@ -86,6 +86,45 @@ gathered_in_part taken faults old new empty held bytes (Err e) bad none begins p
   whole = tt;
   calm = tt;
   part = front_handed (taken old) (taken new) held p.0 bytes p.1 begins (subst (λ (l : List ℕ). Appends (append_known (taken old) l) (append_known (taken new) held) p.0) none p.3) p.2;
+  cause = cause;
+  later = later;
+}
+
+-- a text was made and written to an empty buffer, and what the buffer held then was handed on
+pub gathered_some : {K T F : Type 0} (is_text : List ℕ → Type 0) (taken : K → Option (List ℕ)) (faults : K → ℕ) (old mid new : K) (empty held : List ℕ) (result : Result T F)
+    → empty ≡ [] → BeginsWith (taken old) (taken new) → ((bytes : List ℕ) × is_text bytes) → ((bytes : List ℕ) → is_text bytes → Appends (append_known (taken old) empty) (append_known (taken mid) held) bytes)
+    → faults old ≤ faults mid → Wrote taken faults mid new result held → WroteSome is_text taken faults old new result
+gathered_some is_text taken faults old mid new empty held (Ok y) none begins some p later q = record {
+  some = some;
+  whole = λ bytes is. all_handed (taken old) (taken mid) (taken new) held bytes (subst (λ (l : List ℕ). Appends (append_known (taken old) l) (append_known (taken mid) held) bytes) none (p bytes is)) q.whole;
+  part = tt;
+  cause = tt;
+  later = omega (arith, later, q.later);
+}
+gathered_some is_text taken faults old mid new empty held (Err e) none begins some p later q = record {
+  some = tt;
+  whole = tt;
+  part = λ bytes is.
+      front_handed (taken old) (taken new) q.part.1 bytes bytes [] begins
+      (Appends-kept (append_known (taken old) []) (append_known (taken mid) held) (append_known (taken new) q.part.1) bytes
+      (subst (λ (l : List ℕ). Appends (append_known (taken old) l) (append_known (taken mid) held) bytes) none (p bytes is))
+      (append_known-moved (taken mid) (taken new) q.part.0 q.part.1 held q.part.3 q.part.2))
+      (sym (append-nil bytes));
+  cause = let rose = q.cause in omega (arith, rose, later);
+  later = omega (arith, later, q.later);
+}
+
+-- a fault came while a text was made and written to an empty buffer
+pub gathered_some_in_part : {K T F : Type 0} (is_text : List ℕ → Type 0) (taken : K → Option (List ℕ)) (faults : K → ℕ) (old new : K) (empty held : List ℕ) (result : Result T F) → IsErr result
+    → empty ≡ [] → BeginsWith (taken old) (taken new) → ((bytes : List ℕ) → is_text bytes → AppendsFront (append_known (taken old) empty) (append_known (taken new) held) bytes)
+    → Rose (faults old) (faults new) → faults old ≤ faults new → WroteSome is_text taken faults old new result
+gathered_some_in_part is_text taken faults old new empty held (Ok x) bad none begins p cause later = absurd (cc)
+gathered_some_in_part is_text taken faults old new empty held (Err e) bad none begins p cause later = record {
+  some = tt;
+  whole = tt;
+  part = λ bytes is.
+      let f = p bytes is in
+      front_handed (taken old) (taken new) held f.0 bytes f.1 begins (subst (λ (l : List ℕ). Appends (append_known (taken old) l) (append_known (taken new) held) f.0) none f.3) f.2;
   cause = cause;
   later = later;
 }

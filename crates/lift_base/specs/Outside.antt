@@ -43,3 +43,11 @@ pub record Wrote {K T E : Type 0} (taken : K → Option (List ℕ)) (faults : K 
   pub part : OnErr result (AppendsFront (taken old) (taken new) bytes)
   pub cause : OnErr result (Rose (faults old) (faults new))
   pub later : faults old ≤ faults new
+
+-- What a writing call leaves whose text is known by what is said of it. At Ok there is such a text. Whichever bytes are such a text, they were appended, or after an error a part of them, from their front. An error comes only with a fault, and no count falls.
+pub record WroteSome {K T E : Type 0} (is_text : List ℕ → Type 0) (taken : K → Option (List ℕ)) (faults : K → ℕ) (old new : K) (result : Result T E) : Type 0 where
+  pub some : OnOk result ((bytes : List ℕ) × is_text bytes)
+  pub whole : OnOk result ((bytes : List ℕ) → is_text bytes → Appends (taken old) (taken new) bytes)
+  pub part : OnErr result ((bytes : List ℕ) → is_text bytes → AppendsFront (taken old) (taken new) bytes)
+  pub cause : OnErr result (Rose (faults old) (faults new))
+  pub later : faults old ≤ faults new

@@ -3,7 +3,7 @@ ghost use Rattle.std.specs.Prelude.{◌≡◌, [], List, ℕ, Option, None, OnOk
 ghost use Rattle.std.specs.Borrow.{GName};
 ghost use Rattle.std.specs.Io.KnownBytes.{Keeps, append_known};
 ghost use Rattle.lift_base.specs.Begins.{BeginsWith};
-ghost use Rattle.lift_base.specs.Outside.{Wrote};
+ghost use Rattle.lift_base.specs.Outside.{Wrote, WroteSome};
 
 use crate::held::{CAPACITY, Held};
 use crate::output::write_most;
@@ -76,6 +76,17 @@ impl<K: Sink, O: Origin> BufferedSink<K, O> {
         self.flush()
     }
 
+    // Writes a text to an empty buffer while it is made, and hands all of it on.
+    fn tell_text<T: Telling>(&mut self, text: &mut T) -> Result<(), WriteFault>
+        requires origin { O.taken ≡ K.taken self.old.inner }
+        requires empty { self.old.held ≡ [] }
+        ensures { WroteSome (T.is_text text.old)
+            K.taken K.faults self.old.inner self.new.inner result }
+    {
+        text.tell_to(self)?;
+        self.flush()
+    }
+
     /// The sink. What is still held is dropped.
     pub fn into_inner(self) -> K
         ensures { result ≡ self.inner }
@@ -133,4 +144,34 @@ pub fn write_buffered<K: Sink, T: Text>(out: &mut K, text: &T) -> Result<(), Wri
     ensures { Wrote K.taken K.faults out.old out.new result (T.text text.now) }
 {
     write_from::<&mut K, T, Brand>(out, text).1
+}
+
+/// A text that is made while it is written, as by a walk. What is known of it is a property of its
+/// bytes.
+pub trait Telling {
+    /// What the bytes have to be.
+    ghost is_text: { Self → List ℕ → Type 0 };
+
+    /// Makes the text and writes it.
+    fn tell_to<K: Sink>(&mut self, out: &mut K) -> Result<(), WriteFault>
+        ensures { WroteSome (is_text self.old) K.taken K.faults out.old out.new result };
+}
+
+fn tell_from<K: Sink, T: Telling, O: Origin>(out: K, text: &mut T) -> (K, Result<(), WriteFault>)
+    requires taken { O.taken ≡ K.taken out }
+    requires same { K.reference out ≡ O.reference }
+    ensures wrote { WroteSome (T.is_text text.old) K.taken K.faults out result.0 result.1 }
+    ensures same { K.reference result.0 ≡ K.reference out }
+{
+    let mut buffered = BufferedSink::<K, O>::new(out);
+    let result = buffered.tell_text(text);
+    (buffered.into_inner(), result)
+}
+
+/// Writes a text while it is made, by way of a buffer, as `write_buffered` does. Takes no memory from
+/// an allocator.
+pub fn tell_buffered<K: Sink, T: Telling>(out: &mut K, text: &mut T) -> Result<(), WriteFault>
+    ensures { WroteSome (T.is_text text.old) K.taken K.faults out.old out.new result }
+{
+    tell_from::<&mut K, T, Brand>(out, text).1
 }

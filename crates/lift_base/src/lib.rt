@@ -9,7 +9,7 @@ mod memory;
 mod output;
 mod standard;
 
-pub use buffered::{BufferedSink, Origin, Text, write_buffered};
+pub use buffered::{BufferedSink, Origin, Telling, Text, tell_buffered, write_buffered};
 pub use input::{Got, ReadError, Source, read_all};
 pub use laws::writes_in_turn;
 pub use memory::{MemSink, MemSource, SureSink, SureSource};
