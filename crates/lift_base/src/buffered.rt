@@ -78,6 +78,7 @@ impl<K: Sink, O: Origin> BufferedSink<K, O> {
 
     // Writes a text to an empty buffer while it is made, and hands all of it on.
     fn tell_text<T: Telling>(&mut self, text: &mut T) -> Result<(), WriteFault>
+        requires ready { T.is_ready text.old }
         requires origin { O.taken ≡ K.taken self.old.inner }
         requires empty { self.old.held ≡ [] }
         ensures { WroteSome (T.is_text text.old)
@@ -149,15 +150,20 @@ pub fn write_buffered<K: Sink, T: Text>(out: &mut K, text: &T) -> Result<(), Wri
 /// A text that is made while it is written, as by a walk. What is known of it is a property of its
 /// bytes.
 pub trait Telling {
+    /// What has to hold for the text to be made.
+    ghost is_ready: { Self → Type 0 };
+
     /// What the bytes have to be.
     ghost is_text: { Self → List ℕ → Type 0 };
 
     /// Makes the text and writes it.
     fn tell_to<K: Sink>(&mut self, out: &mut K) -> Result<(), WriteFault>
+        requires { is_ready self.old }
         ensures { WroteSome (is_text self.old) K.taken K.faults out.old out.new result };
 }
 
 fn tell_from<K: Sink, T: Telling, O: Origin>(out: K, text: &mut T) -> (K, Result<(), WriteFault>)
+    requires ready { T.is_ready text.old }
     requires taken { O.taken ≡ K.taken out }
     requires same { K.reference out ≡ O.reference }
     ensures wrote { WroteSome (T.is_text text.old) K.taken K.faults out result.0 result.1 }
@@ -171,6 +177,7 @@ fn tell_from<K: Sink, T: Telling, O: Origin>(out: K, text: &mut T) -> (K, Result
 /// Writes a text while it is made, by way of a buffer, as `write_buffered` does. Takes no memory from
 /// an allocator.
 pub fn tell_buffered<K: Sink, T: Telling>(out: &mut K, text: &mut T) -> Result<(), WriteFault>
+    requires { T.is_ready text.old }
     ensures { WroteSome (T.is_text text.old) K.taken K.faults out.old out.new result }
 {
     tell_from::<&mut K, T, Brand>(out, text).1

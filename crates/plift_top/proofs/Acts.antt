@@ -2,11 +2,15 @@
 use Rattle.std.proofs.Common.{◌≡◌, ◌≢◌, ◌≤◌, ◌<◌, ◌⊎◌, inl, inr, ℕ, List, [], ◌++◌, length, length-append, append-nil, None, Some, Ok, Err, refl, sym, ap, ◌∙◌, subst, arith, Result, IsErr, IsErrAnd}
 use Rattle.std.specs.declared.option.Option.{Option}
 use Rattle.std.specs.Io.KnownBytes.{Appends}
-use Rattle.lift_base.specs.Outside.{Rose, AppendsFront, TakenHas, Wrote}
+use Rattle.lift_base.specs.Outside.{Rose, TakenHas, Wrote}
 use Rattle.lift_grid.specs.Region.{Region, region}
+use Rattle.lift_grid.specs.Tree.{Tree}
 use Rattle.lift_model.specs.Model.{ModelData}
-use Rattle.corner_lift.specs.Case.{IsAdmitted, case_of}
+use Rattle.corner_lift.specs.Case.{CaseData, IsCase, IsAdmitted, case_of}
+use Rattle.lift_cert.specs.declared.bound.Bound.{Bound}
 use Rattle.lift_rows.specs.Laws.{AdmittedHasNoFault}
+use Rattle.region_tree.specs.Right.{IsRightTree}
+use Rattle.cert_text.specs.Report.{report_text}
 use Rattle.drn_read.specs.Reading.{drn}
 use Rattle.plift_words.specs.Job.{JobData, VerifyData}
 use Rattle.plift_words.specs.Job.JobData.{verify}
@@ -15,7 +19,7 @@ use Rattle.plift_words.specs.declared.job.Field.TheVariants as field
 use Rattle.plift_words.specs.declared.error.WordsError.{WordsError}
 use Rattle.plift_words.specs.declared.error.WordsError.TheVariants as words
 use Rattle.plift_top.specs.Refused.{words_refusal}
-use Rattle.plift_top.specs.Verify.{WasRead, Reports, IsRefused, KeepsLimit, text_limit}
+use Rattle.plift_top.specs.Verify.{WasRead, Reports, ReportsFront, IsRefused, KeepsLimit, text_limit}
 use Rattle.plift_top.specs.Answers.{Acts, AsksToVerify, NoFault, WroteNote, IsNoted, HasNote, status_of, answered, note_of}
 use Rattle.plift_top.specs.declared.status.Status.{Status}
 use Rattle.plift_top.specs.declared.status.Status.TheVariants as status
@@ -31,10 +35,16 @@ never_done _ e = absurd (cc)
 
 module _ {S K : Type 0} (left : S → Option (List ℕ)) (faults : S → ℕ) (taken : K → Option (List ℕ)) (counts : K → ℕ) (source source' : S) (out out' : K) where
   pub done : (asked : Result JobData Field) (answer : Result (Unit {0}) Refusal) → Acts left faults taken counts asked source source' out out' answer → answered answer ≡ status.Done
-      → (j : VerifyData) × AsksToVerify asked j × WasRead (Reports (Appends (taken out) (taken out')) j) (left source) (left source')
+      → (j : VerifyData) × AsksToVerify asked j × WasRead (Reports (taken out) (taken out') j) (left source) (left source')
   done (Ok (verify j)) (Ok x) a e = (j, refl, a)
   done (Err f) (Ok x) a e = absurd a.0
   done asked (Err r) a e = absurd (never_done r e)
+
+  pub reported : (asked : Result JobData Field) (answer : Result (Unit {0}) Refusal) → Acts left faults taken counts asked source source' out out' answer → answered answer ≡ status.Done
+      → (k : CaseData) × (bound : Bound) × (tree : Tree) × IsCase k × IsRightTree k bound tree × Appends (taken out) (taken out') (report_text k bound tree)
+  reported (Ok (verify j)) (Ok x) a e = (let h = a.has.has in (case_of a.has.model a.has.root j.precision, j.bound, h.tree, h.case, h.right, h.report))
+  reported (Err f) (Ok x) a e = absurd a.0
+  reported asked (Err r) a e = absurd (never_done r e)
 
   noted : (asked : Result JobData Field) (r : Refusal) → Acts {T = Unit {0}} left faults taken counts asked source source' out out' (Err r) → HasNote (status_of r) asked (left source) (left source') (note_of r)
   noted (Ok (verify j)) (refusal.Usage f) a = absurd a.0
@@ -88,7 +98,7 @@ module _ {S K : Type 0} (left : S → Option (List ℕ)) (faults : S → ℕ) (t
   write_fault (Err f) (Err _) a e = absurd (cc)
 
   pub part : (asked : Result JobData Field) (answer : Result (Unit {0}) Refusal) → Acts left faults taken counts asked source source' out out' answer → answered answer ≡ status.WriteFault
-      → (j : VerifyData) × AsksToVerify asked j × WasRead (Reports (AppendsFront (taken out) (taken out')) j) (left source) (left source')
+      → (j : VerifyData) × AsksToVerify asked j × WasRead (ReportsFront (taken out) (taken out') j) (left source) (left source')
   part asked (Ok x) a e = absurd (cc)
   part (Ok (verify j)) (Err refusal.WriteFault) a e = (j, refl, a.0)
   part (Ok (verify j)) (Err _) a e = absurd (cc)
@@ -137,12 +147,12 @@ given P text (Some ys) h = subst P (sym (h.consumed ∙ ap (λ (r : List ℕ). h
 module _ {S K : Type 0} (left : S → Option (List ℕ)) (faults : S → ℕ) (taken : K → Option (List ℕ)) (counts : K → ℕ) (source source' : S) (out out' : K) (j : VerifyData) (text : List ℕ) (told : left source ≡ Some text)
     (len : length text ≤ text_limit) (sure1 : NoFault (faults source) (faults source')) (sure2 : NoFault (counts out) (counts out')) where
   -- an answer is one to the report of the job, or to what refuses it at its text, or for want of memory
-  by_answer : (Q : Status → Type 0) → (Reports (Appends (taken out) (taken out')) j text → Q status.Done) → ((why : Refusal) → IsRefused j why text → Q (status_of why)) → Q status.Memory
+  by_answer : (Q : Status → Type 0) → (Reports (taken out) (taken out') j text → Q status.Done) → ((why : Refusal) → IsRefused j why text → Q (status_of why)) → Q status.Memory
       → (asked : Result JobData Field) (answer : Result (Unit {0}) Refusal) → Acts left faults taken counts asked source source' out out' answer → AsksToVerify asked j → Q (answered answer)
   by_answer Q done refused memory (Ok (verify k)) answer a is = by answer (subst (λ (i : VerifyData). Acts left faults taken counts (Ok (verify i)) source source' out out' answer) (cc) a)
     where
       by : (answer : Result (Unit {0}) Refusal) → Acts left faults taken counts (Ok (verify j)) source source' out out' answer → Q (answered answer)
-      by (Ok x) a = done (given (Reports (Appends (taken out) (taken out')) j) text (left source') (rw told at a))
+      by (Ok x) a = done (given (Reports (taken out) (taken out') j) text (left source') (rw told at a))
       by (Err refusal.ReadFault) a = absurd (sure1 a.0)
       by (Err refusal.WriteFault) a = absurd (sure2 a.1)
       by (Err refusal.TooLong) a = absurd (short text (left source') len (rw told at a.0))
@@ -164,7 +174,7 @@ module _ {S K : Type 0} (left : S → Option (List ℕ)) (faults : S → ℕ) (t
         → (answered answer ≡ status_of why) ⊎ (answered answer ≡ status.Memory)
     refused asked answer a is why bad =
         by_answer (λ (s : Status). (s ≡ status_of why) ⊎ (s ≡ status.Memory))
-        (λ h. absurd (never_refused none j (drn text j.goal) h.model h.root h.read h.named h.report.case.admitted why bad))
+        (λ h. absurd (never_refused none j (drn text j.goal) h.model h.root h.read h.named h.has.case.admitted why bad))
         (λ other h. inl (one_status j (drn text j.goal) other why h bad)) (inr refl) asked answer a is
 
   -- a job whose rows aren't admitted is refused by them, but for want of memory
@@ -175,8 +185,8 @@ module _ {S K : Type 0} (left : S → Option (List ℕ)) (faults : S → ℕ) (t
       by_answer (λ (s : Status). (s ≡ status.RowsRefused) ⊎ (s ≡ status.Memory))
       (λ h. absurd (bad (same_case h))) (λ why h. inl (rows_status j (drn text j.goal) m root read named why h)) (inr refl) asked answer a is
     where
-      same_case : Reports (Appends (taken out) (taken out')) j text → IsAdmitted (case_of m root j.precision)
-      same_case h = admitted_by h.model h.root h.read h.named h.report.case.admitted
+      same_case : Reports (taken out) (taken out') j text → IsAdmitted (case_of m root j.precision)
+      same_case h = admitted_by h.model h.root h.read h.named h.has.case.admitted
         where
           admitted_by : (n : ModelData) (r : Region) → drn text j.goal ≡ Ok n → region n.names j.depth j.region ≡ Ok r → IsAdmitted (case_of n r j.precision) → IsAdmitted (case_of m root j.precision)
           admitted_by n r e f h =

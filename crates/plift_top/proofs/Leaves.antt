@@ -1,28 +1,49 @@
--- What follows from a right leaf.
-use Rattle.std.proofs.Common.{arith}
-use Rattle.lift_grid.specs.Tree.{Tree}
+-- What the leaves of a right tree say, and the lines of its nodes.
+use Rattle.std.proofs.Common.{◌≡◌, ℕ, ◌+◌, zero, suc, List, [], ◌∷◌, ◌++◌, refl, sym, ap, ◌∙◌, append-nil, arith}
+use Rattle.std.specs.Prelude.{All}
+use Rattle.std.specs.List.{concat, flat_map}
+use Rattle.std.proofs.lemmas.List.Elements.{All-append}
+use Rattle.std.proofs.lemmas.List.Folds.{concat-append}
+use Rattle.std.proofs.lemmas.Grind.{flat_map-append}
+use Rattle.lift_grid.specs.Rectangle.{Spans}
+use Rattle.lift_grid.specs.Tree.{Tree, Leaf, leaves, lower_half, upper_half}
 use Rattle.lift_grid.specs.Tree.Tree.{accept, reject, unknown, split}
-use Rattle.corner_lift.specs.Case.{CaseData, IsCase, IsInside}
+use Rattle.corner_lift.specs.Case.{CaseData, IsCase}
 use Rattle.lift_cert.specs.Laws.{AcceptingBounds, RejectingReaches}
 use Rattle.lift_cert.specs.declared.bound.Bound.{Bound}
-use Rattle.lower_cert.specs.AnyRanks.{HeightFits}
-use Rattle.plift_top.specs.Decided.{Leaf, CanBeWritten, tree_of}
-use Rattle.plift_top.specs.Decided.Leaf.{accept as accept-leaf, reject as reject-leaf, unknown as unknown-leaf}
-use Rattle.plift_top.specs.Leaf.{IsRightLeaf, BoundsSchedulers}
+use Rattle.region_tree.specs.Laws.{HalvesAreDeeper}
+use Rattle.region_tree.specs.Nodes.{nodes}
+use Rattle.region_tree.specs.Right.{IsRight, IsAtDepth}
+use Rattle.region_tree.specs.Visits.{entries}
+use Rattle.cert_text.specs.Report.{tree_lines, reject_lines, split_line}
+use Rattle.plift_top.specs.Leaf.{BoundsSchedulers}
+use Rattle.plift_top.specs.Told.{node_text}
 
--- it bounds the schedulers
-pub bounds : AcceptingBounds → RejectingReaches → (k : CaseData) (bound : Bound) (leaf : Tree) → IsCase k → IsInside k.root k.root → IsRightLeaf k bound leaf → BoundsSchedulers k bound leaf
-bounds accepting reached k bound (accept u x) case inside h = accepting k k.root bound x case inside h.1.accepting
-bounds accepting reached k bound (reject u r) case inside h = reached k k.root bound r case inside h.1.rejecting
-bounds accepting reached k bound unknown case inside h = tt
-bounds accepting reached k bound (split axis lower upper) case inside h = absurd h
+only : {X : Type 0} (P : X → Type 0) (a : X) → P a → All P (a ∷ [])
+only P a p zero d h = p
+only P a p (suc i) d h = absurd (omega arith)
 
--- it can be written
-pub writable : HeightFits → (k : CaseData) (bound : Bound) (leaf : Leaf) → IsCase k → IsRightLeaf k bound (tree_of k.w leaf) → CanBeWritten k leaf
-writable height k bound (accept-leaf x) case h = tt
-writable height k bound (reject-leaf r) case h =
-    let low = h.1.greatest.holds in
-    let most = height k k.root r case h.1.greatest in
-    let states = case.asked.model.count.1 in
-    record { rate = low.bounds.0; height = (low.bounds.1, omega (arith, most, states)); numbers = low.numbers.size; picks = low.sizes.0; ranks = low.sizes.1 }
-writable height k bound unknown-leaf case h = tt
+-- each leaf bounds the schedulers
+module _ (accepting : AcceptingBounds) (reached : RejectingReaches) (deeper : HalvesAreDeeper) (k : CaseData) (bound : Bound) (case : IsCase k) where
+  pub leaves_bound : (spans : Spans) (depth : ℕ) (tree : Tree) → IsAtDepth k depth spans → IsRight k spans bound depth tree → All (BoundsSchedulers k bound) (leaves spans depth tree)
+  leaves_bound spans depth (accept u x) at h = only (BoundsSchedulers k bound) _ (accepting k spans bound x case at.inside h.1.accepting)
+  leaves_bound spans depth (reject u r) at h = only (BoundsSchedulers k bound) _ (reached k spans bound r case at.inside h.1.rejecting, h.1.rejecting.limit)
+  leaves_bound spans depth unknown at h = only (BoundsSchedulers k bound) _ tt
+  leaves_bound spans depth (split axis lower upper) at h =
+      let halves = deeper k spans depth axis case at h.0.left h.0.axis_is in
+      All-append (BoundsSchedulers k bound) (leaves (lower_half axis spans) (depth + 1) lower) (leaves (upper_half axis spans) (depth + 1) upper)
+      (leaves_bound (lower_half axis spans) (depth + 1) lower halves.0 h.1) (leaves_bound (upper_half axis spans) (depth + 1) upper halves.1 h.2)
+
+-- the entries of a right tree's nodes are its lines
+pub entries_are : (k : CaseData) (bound : Bound) (spans : Spans) (depth : ℕ) (tree : Tree) → IsRight k spans bound depth tree → entries (node_text k) tree ≡ concat (tree_lines k.model.init tree)
+entries_are k bound spans depth (accept u x) h = refl
+entries_are k bound spans depth (reject u r) h = append-nil (concat (reject_lines k.model.init k.w r)) ∙ ap (λ w. concat (reject_lines k.model.init w r)) (sym h.0)
+entries_are k bound spans depth unknown h = refl
+entries_are k bound spans depth (split axis lower upper) h =
+    let first = entries_are k bound (lower_half axis spans) (depth + 1) lower h.1 in
+    let second = entries_are k bound (upper_half axis spans) (depth + 1) upper h.2 in
+    ap (λ r. split_line axis ++ r)
+    (flat_map-append (node_text k) (nodes lower) (nodes upper)
+    ∙ ap (λ r. r ++ entries (node_text k) upper) first
+    ∙ ap (λ r. concat (tree_lines k.model.init lower) ++ r) second
+    ∙ sym (concat-append (tree_lines k.model.init lower) (tree_lines k.model.init upper)))

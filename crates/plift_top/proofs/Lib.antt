@@ -2,6 +2,6 @@ pub mod Rows
 pub mod Reading
 pub mod Refusals
 pub mod Acts
-pub mod Bounds
 pub mod Leaves
+pub mod Telling
 mod Samples

@@ -2,14 +2,13 @@
 use Rattle.std.proofs.Common.{◌≡◌, ◌≢◌, ℕ, List, Ok, Err, refl, sym, subst, Result, IsErrAnd}
 use Rattle.std.specs.declared.option.Option.{Option}
 use Rattle.std.specs.Io.KnownBytes.{Consumes, IsAtEnd}
-use Rattle.lift_base.specs.Outside.{Rose, AppendsFront}
+use Rattle.lift_base.specs.Outside.{Rose}
 use Rattle.lift_grid.specs.Region.{Region, region, Fails}
 use Rattle.lift_grid.specs.Rectangle.{Spans}
 use Rattle.lift_grid.specs.declared.rect.Grid.{Grid}
 use Rattle.lift_grid.specs.declared.error.RegionError.{RegionError}
 use Rattle.lift_grid.specs.declared.error.RegionError.TheVariants as fault
 use Rattle.lift_model.specs.Model.{ModelData}
-use Rattle.lift_grid.specs.Tree.{Tree}
 use Rattle.corner_lift.specs.Case.{CaseData, case_of}
 use Rattle.lift_cert.specs.declared.bound.Bound.{Bound}
 use Rattle.drn_read.specs.Reading.{drn}
@@ -17,11 +16,9 @@ use Rattle.drn_read.specs.declared.error.DrnCause.{DrnCause}
 use Rattle.drn_read.specs.declared.error.DrnCause.TheVariants as cause
 use Rattle.drn_read.specs.declared.error.DrnError.{DrnError}
 use Rattle.plift_words.specs.Job.{VerifyData}
-use Rattle.cert_text.specs.Report.{report_text}
-use Rattle.plift_top.specs.Leaf.{IsRightLeaf, BoundsSchedulers}
 use Rattle.plift_top.specs.Refused.{model_refusal, region_refusal}
-use Rattle.plift_top.specs.Verify.{WasRead, Reports, IsReportOf, IsRefused, IsRefusedAt, IsRefusedOver, Stops, Verifies}
-use Rattle.plift_top.specs.Steps.{IsTestedCase, ReadsModel, NamesRoot, AdmitsCase, WritesCase, WritesOver}
+use Rattle.plift_top.specs.Verify.{WasRead, Makes, IsReported, IsCutOff, IsRefused, IsRefusedAt, IsRefusedOver, Stops, Verifies}
+use Rattle.plift_top.specs.Steps.{ReadsModel, NamesRoot, AdmitsCase, WritesOver}
 use Rattle.plift_top.specs.declared.refusal.Refusal.{Refusal}
 use Rattle.plift_top.specs.declared.refusal.Refusal.TheVariants as refusal
 
@@ -81,19 +78,21 @@ stopped {T = T} left faults taken counts job source source' out why (Err e) is h
     by refusal.WriteFault h = absurd h
     by _ h = (h, refl)
 
--- a case was decided, and its report written
-pub case_reported : {written : List ℕ → Type 0} (k : CaseData) (bound : Bound) (leaf : Tree) → IsTestedCase k → IsRightLeaf k bound leaf → BoundsSchedulers k bound leaf → written (report_text k bound leaf) → IsReportOf written k bound
-case_reported k bound leaf case right bounds report =
-    record { leaf = leaf; case = case.case; weights = case.weights; sums = case.sums; right = right; schedulers = bounds; report = report }
+-- the report of the case of a model over a region was written, or a front of it
+pub over_written : {K T : Type 0} (taken : K → Option (List ℕ)) (counts : K → ℕ) (job : VerifyData) (m : ModelData) (r : Region) (k : CaseData) (out out' : K) (x : T) → AdmitsCase job m r (Ok k)
+    → IsReported (taken out) (taken out') job.bound k → WritesOver taken counts job m r out out' (Ok x)
+over_written taken counts job m r k out out' x admits h = subst (λ (c : CaseData). IsReported (taken out) (taken out') job.bound c) admits.0 h
 
-pub case_cut_off : {K T : Type 0} (taken : K → Option (List ℕ)) (counts : K → ℕ) (k : CaseData) (bound : Bound) (out out' : K) (result : Result T Refusal) → IsErrAnd result (λ e. e ≡ refusal.WriteFault)
-    → IsReportOf (AppendsFront (taken out) (taken out')) k bound → Rose (counts out) (counts out') → WritesCase taken counts k bound out out' result
-case_cut_off taken counts k bound out out' (Ok x) is h rose = absurd is
-case_cut_off {T = T} taken counts k bound out out' (Err e) is h rose = subst (λ (f : Refusal). WritesCase {T = T} taken counts k bound out out' (Err f)) (sym is) (h, rose)
+pub over_cut_off : {K T : Type 0} (taken : K → Option (List ℕ)) (counts : K → ℕ) (job : VerifyData) (m : ModelData) (r : Region) (k : CaseData) (out out' : K) (result : Result T Refusal) → IsErrAnd result (λ e. e ≡ refusal.WriteFault) → AdmitsCase job m r (Ok k)
+    → IsCutOff (taken out) (taken out') job.bound k × Rose (counts out) (counts out') → WritesOver taken counts job m r out out' result
+over_cut_off taken counts job m r k out out' (Ok x) is admits h = absurd is
+over_cut_off {T = T} taken counts job m r k out out' (Err e) is admits h =
+    subst (λ (f : Refusal). WritesOver {T = T} taken counts job m r out out' (Err f)) (sym is) (subst (λ (c : CaseData). IsCutOff (taken out) (taken out') job.bound c) admits.0 h.0, h.1)
 
-pub case_short : {K T : Type 0} (taken : K → Option (List ℕ)) (counts : K → ℕ) (k : CaseData) (bound : Bound) (out : K) (result : Result T Refusal) → IsErrAnd result (λ e. e ≡ refusal.Memory) → WritesCase taken counts k bound out out result
-case_short taken counts k bound out (Ok x) is = absurd is
-case_short {T = T} taken counts k bound out (Err e) is = subst (λ (f : Refusal). WritesCase {T = T} taken counts k bound out out (Err f)) (sym is) refl
+-- memory ran out before anything was written
+pub over_short : {K T : Type 0} (taken : K → Option (List ℕ)) (counts : K → ℕ) (job : VerifyData) (m : ModelData) (r : Region) (out : K) (result : Result T Refusal) → IsErrAnd result (λ e. e ≡ refusal.Memory) → WritesOver taken counts job m r out out result
+over_short taken counts job m r out (Ok x) is = absurd is
+over_short {T = T} taken counts job m r out (Err e) is = subst (λ (f : Refusal). WritesOver {T = T} taken counts job m r out out (Err f)) (sym is) refl
 
 -- the rows weren't admitted
 pub over_refused : {K T : Type 0} (taken : K → Option (List ℕ)) (counts : K → ℕ) (job : VerifyData) (m : ModelData) (r : Region) (out : K) (why : Refusal) (result : Result T Refusal) → IsErrAnd result (λ e. e ≡ why)
@@ -105,28 +104,17 @@ over_refused {T = T} taken counts job m r out why (Err e) is h = subst (λ (f : 
     by (refusal.Rows error) h = (h, refl)
     by _ h = absurd h
 
--- the report of the case of a model over a region
-pub over_written : {K T : Type 0} (taken : K → Option (List ℕ)) (counts : K → ℕ) (job : VerifyData) (m : ModelData) (r : Region) (k : CaseData) (out out' : K) (result : Result T Refusal) → AdmitsCase job m r (Ok k)
-    → WritesCase taken counts k job.bound out out' result → WritesOver taken counts job m r out out' result
-over_written {T = T} taken counts job m r k out out' result admits h = by result (subst (λ (c : CaseData). WritesCase {T = T} taken counts c job.bound out out' result) admits.0 h)
-  where
-    by : (result : Result T Refusal) → WritesCase taken counts (case_of m r job.precision) job.bound out out' result → WritesOver taken counts job m r out out' result
-    by (Ok x) h = h
-    by (Err refusal.WriteFault) h = h
-    by (Err refusal.Memory) h = h
-    by (Err _) h = absurd h
-
 -- a whole job, by what was written over the root
 module _ {S : Type 0} (left : S → Option (List ℕ)) (faults : S → ℕ) (job : VerifyData) (source source' : S) (m : ModelData) (r : Region) (read : ReadsModel left faults job.goal source source' (Ok m)) (named : region m.names job.depth job.region ≡ Ok r) where
-  reports : {written : List ℕ → Type 0} → IsReportOf written (case_of m r job.precision) job.bound → WasRead (Reports written job) (left source) (left source')
-  reports h = read_as (λ text is. record { model = m; root = r; read = is; named = named; report = h }) read
+  makes : (P : CaseData → Type 0) → P (case_of m r job.precision) → WasRead (Makes P job) (left source) (left source')
+  makes P h = read_as (λ text is. record { model = m; root = r; read = is; named = named; has = h }) read
 
   over : (why : Refusal) → IsRefusedOver job m (Ok r) why → WasRead (IsRefused job why) (left source) (left source')
   over why h = refused_over left faults job source source' m read why (subst (λ (q : Result Region RegionError). IsRefusedOver job m q why) (sym named) h)
 
   pub verified : {K T : Type 0} (taken : K → Option (List ℕ)) (counts : K → ℕ) (out out' : K) (result : Result T Refusal) → WritesOver taken counts job m r out out' result → Verifies left faults taken counts job source source' out out' result
-  verified taken counts out out' (Ok x) h = reports h
-  verified taken counts out out' (Err refusal.WriteFault) h = (reports h.0, h.1)
+  verified taken counts out out' (Ok x) h = makes (IsReported (taken out) (taken out') job.bound) h
+  verified taken counts out out' (Err refusal.WriteFault) h = (makes (IsCutOff (taken out) (taken out') job.bound) h.0, h.1)
   verified taken counts out out' (Err refusal.Memory) h = (tt, h)
   verified taken counts out out' (Err (refusal.Rows error)) h = (over (refusal.Rows error) h.0, h.1)
   verified taken counts out out' (Err _) h = absurd h.0

@@ -1,5 +1,5 @@
 pub mod Leaf
-pub mod Decided
+pub mod Told
 pub mod Verify
 pub mod Steps
 pub mod Refused

@@ -1,8 +1,8 @@
 -- What the steps of a job answer, one behind another.
 use Rattle.std.specs.Prelude.{◌≡◌, ◌<◌, ℕ, List, length, Ok, Err, Result, ⊤}
 use Rattle.std.specs.declared.option.Option.{Option}
-use Rattle.std.specs.Io.KnownBytes.{Appends}
-use Rattle.lift_base.specs.Outside.{Rose, TakenHas, AppendsFront}
+use Rattle.lift_base.specs.Outside.{Rose, TakenHas}
+use Rattle.lift_base.specs.Laws.{Written}
 use Rattle.lift_grid.specs.Region.{Region, region}
 use Rattle.lift_grid.specs.Rectangle.{Spans}
 use Rattle.lift_grid.specs.Parts.{region_of}
@@ -13,7 +13,7 @@ use Rattle.lift_cert.specs.declared.bound.Bound.{Bound}
 use Rattle.lift_rows.specs.Admitted.{HasWeightsFromZero, HasSumsOfTotal}
 use Rattle.drn_read.specs.Reading.{drn}
 use Rattle.plift_words.specs.Job.{VerifyData}
-use Rattle.plift_top.specs.Verify.{WasRead, IsRefusedOver, IsReportOf, text_limit}
+use Rattle.plift_top.specs.Verify.{WasRead, IsRefusedOver, IsReported, IsCutOff, text_limit}
 use Rattle.plift_top.specs.declared.refusal.Refusal.{Refusal}
 use Rattle.plift_top.specs.declared.refusal.Refusal.TheVariants as refusal
 
@@ -44,16 +44,14 @@ abbrev pub AdmitsCase : VerifyData → ModelData → Region → Result CaseData 
 AdmitsCase job m r (Ok k) = (k ≡ case_of m r job.precision) × IsTestedCase k
 AdmitsCase job m r (Err why) = IsRefusedOver job m (Ok r) why
 
--- a case is decided and its report written, or there is a cause
-abbrev pub WritesCase : {K T : Type 0} → (K → Option (List ℕ)) → (K → ℕ) → CaseData → Bound → K → K → Result T Refusal → Type 0
-WritesCase taken counts k bound out out' (Ok _) = IsReportOf (Appends (taken out) (taken out')) k bound
-WritesCase taken counts k bound out out' (Err refusal.WriteFault) = IsReportOf (AppendsFront (taken out) (taken out')) k bound × Rose (counts out) (counts out')
-WritesCase taken counts k bound out out' (Err refusal.Memory) = out' ≡ out
-WritesCase taken counts k bound out out' (Err _) = ⊥
+-- the report of a case was written, or a fault came and a front of it was
+abbrev pub WritesCase : {K : Type 0} → (K → Option (List ℕ)) → (K → ℕ) → CaseData → Bound → K → K → Written → Type 0
+WritesCase taken counts k bound out out' (Ok _) = IsReported (taken out) (taken out') bound k
+WritesCase taken counts k bound out out' (Err _) = IsCutOff (taken out) (taken out') bound k × Rose (counts out) (counts out')
 
--- the same of a model over a region, whose rows are tested first
+-- the rows of a model over a region are tested, and the report of that case is written, or there is a cause
 abbrev pub WritesOver : {K T : Type 0} → (K → Option (List ℕ)) → (K → ℕ) → VerifyData → ModelData → Region → K → K → Result T Refusal → Type 0
-WritesOver taken counts job m r out out' (Ok _) = IsReportOf (Appends (taken out) (taken out')) (case_of m r job.precision) job.bound
-WritesOver taken counts job m r out out' (Err refusal.WriteFault) = IsReportOf (AppendsFront (taken out) (taken out')) (case_of m r job.precision) job.bound × Rose (counts out) (counts out')
+WritesOver taken counts job m r out out' (Ok _) = IsReported (taken out) (taken out') job.bound (case_of m r job.precision)
+WritesOver taken counts job m r out out' (Err refusal.WriteFault) = IsCutOff (taken out) (taken out') job.bound (case_of m r job.precision) × Rose (counts out) (counts out')
 WritesOver taken counts job m r out out' (Err refusal.Memory) = out' ≡ out
 WritesOver taken counts job m r out out' (Err why) = IsRefusedOver job m (Ok r) why × (out' ≡ out)

@@ -1,21 +1,22 @@
 -- What `verify` answers, and what stands after it.
-use Rattle.std.specs.Prelude.{◌≡◌, ◌^◌, ◌<◌, ◌≤◌, ℕ, List, length, Ok, Err, Result, ⊤}
+use Rattle.std.specs.Prelude.{◌≡◌, ◌^◌, ◌<◌, ◌≤◌, ℕ, List, All, length, map, Ok, Err, Result, ⊤}
 use Rattle.std.specs.declared.option.Option.{Option}
 use Rattle.std.specs.Io.KnownBytes.{Appends, Consumes, IsAtEnd}
 use Rattle.lift_base.specs.Outside.{Rose, TakenHas, AppendsFront}
 use Rattle.lift_model.specs.Model.{ModelData}
 use Rattle.lift_grid.specs.Region.{Region, region}
 use Rattle.lift_grid.specs.declared.error.RegionError.{RegionError}
-use Rattle.lift_grid.specs.Tree.{Tree}
+use Rattle.lift_grid.specs.Tree.{Tree, Tiles, leaves}
 use Rattle.corner_lift.specs.Case.{CaseData, IsCase, case_of}
 use Rattle.lift_cert.specs.declared.bound.Bound.{Bound}
 use Rattle.lift_rows.specs.Admitted.{HasWeightsFromZero, HasSumsOfTotal}
 use Rattle.lift_rows.specs.Fault.{IsFirstFault}
 use Rattle.drn_read.specs.Reading.{drn}
 use Rattle.drn_read.specs.declared.error.DrnError.{DrnError}
+use Rattle.region_tree.specs.Right.{IsRightTree}
 use Rattle.cert_text.specs.Report.{report_text}
 use Rattle.plift_words.specs.Job.{VerifyData}
-use Rattle.plift_top.specs.Leaf.{IsRightLeaf, BoundsSchedulers}
+use Rattle.plift_top.specs.Leaf.{BoundsSchedulers}
 use Rattle.plift_top.specs.declared.refusal.Refusal.{Refusal}
 use Rattle.plift_top.specs.declared.refusal.Refusal.TheVariants as refusal
 
@@ -46,23 +47,39 @@ IsRefusedAt job (Ok m) why = IsRefusedOver job m (region m.names job.depth job.r
 abbrev pub IsRefused : VerifyData → Refusal → List ℕ → Type 0
 IsRefused job why text = IsRefusedAt job (drn text job.goal) why
 
--- What was written is the report of a case and of the right leaf, which bounds every scheduler where it accepts, and from below those that make the printed choices where it rejects. At each valuation inside the root each row of the case is a distribution.
-pub record IsReportOf (written : List ℕ → Type 0) (k : CaseData) (bound : Bound) : Type 0 where
-  pub leaf : Tree
+-- The report of a case was appended, whole: that of its right tree. The tree's leaves tile the root, and each bounds the schedulers inside its rectangle. At each valuation inside the root each row of the case is a distribution.
+pub record IsReported (old new : Option (List ℕ)) (bound : Bound) (k : CaseData) : Type 0 where
+  pub tree : Tree
   pub case : IsCase k
   pub weights : HasWeightsFromZero k
   pub sums : HasSumsOfTotal k
-  pub right : IsRightLeaf k bound leaf
-  pub schedulers : BoundsSchedulers k bound leaf
-  pub report : written (report_text k bound leaf)
+  pub right : IsRightTree k bound tree
+  pub tiles : Tiles k.d k.root (map (λ leaf. leaf.spans) (leaves k.root 0 tree))
+  pub schedulers : All (BoundsSchedulers k bound) (leaves k.root 0 tree)
+  pub report : Appends old new (report_text k bound tree)
 
--- The text stands for a model, the job's region names a rectangle of its parameters, and what was written is the report of that case.
-pub record Reports (written : List ℕ → Type 0) (job : VerifyData) (text : List ℕ) : Type 0 where
+-- A front of the report of a case was appended: whichever tree is right, a front of its report.
+pub record IsCutOff (old new : Option (List ℕ)) (bound : Bound) (k : CaseData) : Type 0 where
+  pub case : IsCase k
+  pub weights : HasWeightsFromZero k
+  pub sums : HasSumsOfTotal k
+  pub front : (tree : Tree) → IsRightTree k bound tree → AppendsFront old new (report_text k bound tree)
+
+-- The text stands for a model, the job's region names a rectangle of its parameters, and P holds of the case that the two make at the job's precision.
+pub record Makes (P : CaseData → Type 0) (job : VerifyData) (text : List ℕ) : Type 0 where
   pub model : ModelData
   pub root : Region
   pub read : drn text job.goal ≡ Ok model
   pub named : region model.names job.depth job.region ≡ Ok root
-  pub report : IsReportOf written (case_of model root job.precision) job.bound
+  pub has : P (case_of model root job.precision)
+
+-- what was appended is the report of the case that the text and the job make
+abbrev pub Reports : Option (List ℕ) → Option (List ℕ) → VerifyData → List ℕ → Type 0
+Reports old new job text = Makes (IsReported old new job.bound) job text
+
+-- what was appended is a front of that report
+abbrev pub ReportsFront : Option (List ℕ) → Option (List ℕ) → VerifyData → List ℕ → Type 0
+ReportsFront old new job text = Makes (IsCutOff old new job.bound) job text
 
 -- why a job stopped before anything was written
 abbrev pub Stops : {S : Type 0} → (S → Option (List ℕ)) → (S → ℕ) → VerifyData → S → S → Refusal → Type 0
@@ -76,9 +93,9 @@ Stops left faults job source source' why = WasRead (IsRefused job why) (left sou
 -- What a job comes to: the report is written, or there is a cause. The sink is as it was but for a report or the front of one.
 abbrev pub Verifies : {S K T : Type 0} → (S → Option (List ℕ)) → (S → ℕ) → (K → Option (List ℕ)) → (K → ℕ) → VerifyData → S → S → K → K → Result T Refusal → Type 0
 Verifies left faults taken counts job source source' out out' (Ok _) =
-    WasRead (Reports (Appends (taken out) (taken out')) job) (left source) (left source')
+    WasRead (Reports (taken out) (taken out') job) (left source) (left source')
 Verifies left faults taken counts job source source' out out' (Err refusal.WriteFault) =
-    WasRead (Reports (AppendsFront (taken out) (taken out')) job) (left source) (left source') × Rose (counts out) (counts out')
+    WasRead (ReportsFront (taken out) (taken out') job) (left source) (left source') × Rose (counts out) (counts out')
 Verifies left faults taken counts job source source' out out' (Err why) = Stops left faults job source source' why × (out' ≡ out)
 
 -- more bytes than the limit were taken at TooLong, and only there

@@ -11,4 +11,5 @@ mod verify;
 
 pub use edge::launch;
 pub use program::run;
+pub use report::write_report;
 pub use status::{Status, exit_code};

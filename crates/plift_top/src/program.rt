@@ -2,15 +2,20 @@
 ghost use Rattle.std.specs.Prelude.{◌≡◌, ◌≢◌, ◌≤◌, ◌<◌, ◌⊎◌, length, List, ℕ};
 ghost use Rattle.std.specs.Prelude.{Some, Ok, Err, IsErr};
 ghost use Rattle.std.specs.Io.KnownBytes.{Appends};
-ghost use Rattle.lift_base.specs.Outside.{Rose, AppendsFront, TakenHas};
+ghost use Rattle.lift_base.specs.Outside.{Rose, TakenHas};
 ghost use Rattle.lift_grid.specs.Region.{Region, region};
+ghost use Rattle.lift_grid.specs.Tree.{Tree};
 ghost use Rattle.lift_model.specs.Model.{ModelData};
-ghost use Rattle.corner_lift.specs.Case.{IsAdmitted, case_of};
+ghost use Rattle.corner_lift.specs.Case.{CaseData, IsCase, IsAdmitted, case_of};
+ghost use Rattle.lift_cert.specs.declared.bound.Bound.{Bound};
+ghost use Rattle.region_tree.specs.Right.{IsRightTree};
+ghost use Rattle.cert_text.specs.Report.{report_text};
 ghost use Rattle.drn_read.specs.Reading.{drn};
 ghost use Rattle.plift_words.specs.Job.{VerifyData};
 ghost use Rattle.plift_words.specs.Given.{asked};
 ghost use Rattle.plift_words.specs.declared.job.Field.TheVariants.{Words};
-ghost use Rattle.plift_top.specs.Verify.{WasRead, Reports, IsRefused, KeepsLimit, text_limit};
+ghost use Rattle.plift_top.specs.Verify.{WasRead, Reports, ReportsFront};
+ghost use Rattle.plift_top.specs.Verify.{IsRefused, KeepsLimit, text_limit};
 ghost use Rattle.plift_top.specs.Answers.{status_of, AsksToVerify, NoFault};
 ghost use Rattle.plift_top.specs.Answers.{HasNote, WroteNote, Acts};
 
@@ -49,11 +54,17 @@ pub fn run<S: Source, K: Sink, E: Sink>(
     out: &mut K,
     notes: &mut E,
 ) -> Status
-    // Done: the source gave a text that stands for a model, which with the job's region makes a
-    // case, and out took its report and nothing else.
+    // Done: out took the report of a case, whole, and that of its right tree.
+    ensures report { result ≡ Status.Done
+        → (k : CaseData) × (bound : Bound) × (tree : Tree)
+        × IsCase k × IsRightTree k bound tree
+        × Appends (K.taken out.old) (K.taken out.new) (report_text k bound tree) }
+
+    // The source gave a text that stands for a model, which with the job's region makes that case.
+    // The tree's leaves tile the root, and each bounds the schedulers inside its rectangle.
     ensures done { result ≡ Status.Done
         → (j : VerifyData) × AsksToVerify (asked words.now.items) j
-        × WasRead (Reports (Appends (K.taken out.old) (K.taken out.new)) j)
+        × WasRead (Reports (K.taken out.old) (K.taken out.new) j)
         (S.left source.old) (S.left source.new) }
 
     // Each refusal has its cause. What `told` says of its note has the causes of the others.
@@ -100,7 +111,7 @@ pub fn run<S: Source, K: Sink, E: Sink>(
     // What stands after a refusal: the front of the report after a write fault, else out as it was.
     ensures part { result ≡ Status.WriteFault
         → (j : VerifyData) × AsksToVerify (asked words.now.items) j
-        × WasRead (Reports (AppendsFront (K.taken out.old) (K.taken out.new)) j)
+        × WasRead (ReportsFront (K.taken out.old) (K.taken out.new) j)
         (S.left source.old) (S.left source.new) }
     ensures kept { result ≢ Status.Done → result ≢ Status.WriteFault → out.new ≡ out.old }
     ensures unread { IsErr (asked words.now.items) → source.new ≡ source.old }

@@ -1,89 +1,145 @@
-// A report whose tree is one leaf.
-ghost use Rattle.std.specs.List.{concat};
-ghost use Rattle.lift_base.specs.Outside.{Wrote};
-ghost use Rattle.cert_text.specs.Report.{tree_lines};
-ghost use Rattle.plift_top.specs.Decided.{CanBeWritten, leaf_of, text_of, tree_of};
+// The report of a case, which is written while the tree is walked over.
+ghost use Rattle.std.specs.Prelude.{◌≡◌, List, ℕ, MatchResult, length};
+ghost use Rattle.lift_base.specs.Outside.{WroteSome};
+ghost use Rattle.lift_model.specs.Links.{AreLinks};
+ghost use Rattle.region_tree.specs.Rooms.{IsAsMade, IsMadeFor};
+ghost use Rattle.region_tree.specs.Visits.{Walks};
+ghost use Rattle.region_tree.specs.declared.visitor.Seen.TheVariants.{Failed, Kept};
+ghost use Rattle.plift_top.specs.Told.{IsRightReport, node_text};
 
-use cert_text::{write_accept, write_head, write_reject, write_unknown};
+use cert_text::{write_accept, write_head, write_reject, write_split, write_unknown};
 use corner_lift::Case;
-use lift_base::{Sink, Text, WriteFault, writes_in_turn};
+use lift_base::{Sink, Telling, WriteFault, tell_buffered, writes_in_turn};
 use lift_cert::Bound;
-use std::marker::Model;
+use lift_model::Links;
+use region_tree::{Room, Seen, Visitor, walk};
 
-/// A rejecting certificate: its rate, and the number, the pick and the rank of each state, `u32::MAX`
-/// standing for none.
+/// Writes the lines of each node of a case's tree.
 #[derive(Drop)]
-pub struct Rejection {
-    pub e: u32,
-    pub k: u32,
-    pub numbers: Vec<i64>,
-    pub picks: Vec<u32>,
-    pub ranks: Vec<u32>,
+struct Reporter<'r, 'c, 'm, K: Sink> {
+    out: &'r mut K,
+    case: &'c Case<'m>,
 }
 
-impl Model for Rejection {
-    ghost use Rattle.lift_grid.specs.Tree.{RejectData};
-
-    ghost Value = { RejectData };
-
-    ghost view = { λ r. record {
-      numbers = r.numbers.items;
-      picks = r.picks.items;
-      ranks = r.ranks.items;
-      e = r.e;
-      k = r.k;
-    } };
-}
-
-/// What is decided of the whole root.
-#[derive(Drop)]
-pub enum Verdict {
-    /// An accepting certificate, with one number for each state.
-    Accept(Vec<i64>),
-    Reject(Rejection),
-    Unknown,
-}
-
-/// A report of a case whose tree is one leaf, which can be written.
-#[derive(Drop)]
-pub struct Report<'c, 'm> {
-    pub case: &'c Case<'m>,
-    pub bound: Bound,
-    pub verdict: Verdict,
-}
-
-impl<'c, 'm> Model for Report<'c, 'm> {
-    ghost use Rattle.plift_top.specs.Decided.{CanBeWritten, ReportData, leaf_of};
-
-    ghost Value = { ReportData };
-
-    ghost view = { λ r. record {
-      case = r.case.now;
-      bound = r.bound;
-      leaf = leaf_of r.verdict;
-    } };
-
-    ghost invariant = { λ r. CanBeWritten r.case.now (leaf_of r.verdict) };
-}
-
-fn write_leaf<K: Sink>(out: &mut K, case: &Case, verdict: &Verdict) -> Result<(), WriteFault>
-    requires { CanBeWritten case.now (leaf_of verdict.now) }
-    ensures { Wrote K.taken K.faults out.old out.new result
-        (concat (tree_lines case.now.model.init (tree_of case.now.w (leaf_of verdict.now)))) }
+// What a visitor answers, by what was written.
+fn seen(written: Result<(), WriteFault>) -> Seen
+    ensures { MatchResult written (λ _. result ≡ Kept) (λ _. result ≡ Failed) }
 {
-    match verdict {
-        Verdict::Accept(x) => write_accept(out, x),
-        Verdict::Reject(r) => { write_reject(out, case, r.e, r.k, &r.numbers, &r.picks, &r.ranks) }
-        Verdict::Unknown => write_unknown(out),
+    match written {
+        Ok(()) => Seen::Kept,
+        Err(WriteFault) => Seen::Failed,
     }
 }
 
-impl<'c, 'm> Text for Report<'c, 'm> {
-    ghost text = { text_of };
+impl<'r, 'c, 'm, K: Sink> Visitor for Reporter<'r, 'c, 'm, K> {
+    ghost states = { λ r. length r.case.now.model.states };
 
-    fn write_to<K: Sink>(&self, out: &mut K) -> Result<(), WriteFault> {
-        writes_in_turn::<K>();
-        write_head(out, self.case, self.bound)?;
-        write_leaf(out, self.case, &self.verdict)
+    ghost entry = { λ r. node_text r.case.now };
+
+    ghost taken = { λ r. K.taken r.out.now };
+
+    ghost faults = { λ r. K.faults r.out.now };
+
+    ghost reference = { λ r. r.out.ghost_name };
+
+    fn split(&mut self, axis: u32) -> Seen {
+        seen(write_split(self.out, axis))
     }
+
+    fn accept(&mut self, x: &[i64]) -> Seen {
+        seen(write_accept(self.out, x))
+    }
+
+    fn reject(&mut self, e: u32, k: u32, y: &[i64], picks: &[u32], ranks: &[u32]) -> Seen {
+        seen(write_reject(self.out, self.case, e, k, y, picks, ranks))
+    }
+
+    fn unknown(&mut self) -> Seen {
+        seen(write_unknown(self.out))
+    }
+}
+
+// Walks over the tree of a case and writes the lines of its nodes.
+fn write_tree<K: Sink>(
+    case: &Case,
+    links: &Links,
+    bound: Bound,
+    room: &mut Room,
+    out: &mut K,
+) -> Seen
+    requires links { AreLinks case.now.model links.now }
+    requires made { IsMadeFor case.now links.now room.old }
+    ensures walks { Walks case.now case.now.root bound 0
+        K.taken K.faults (node_text case.now) out.old out.new result }
+    ensures room { IsAsMade room.old room.new }
+{
+    let mut reporter = Reporter { out, case };
+    walk(case, links, bound, room, &mut reporter)
+}
+
+/// Writes the report of a case: its head, and then each node of its right tree, in preorder, as soon
+/// as it is decided. The room was made for the case, and after it is as made. Takes no memory.
+///
+/// Where all was written there is a right tree. Whichever tree is right, its report was written, or
+/// after a fault a front of it.
+pub fn write_report<K: Sink>(
+    case: &Case,
+    links: &Links,
+    bound: Bound,
+    room: &mut Room,
+    out: &mut K,
+) -> Result<(), WriteFault>
+    requires links { AreLinks case.now.model links.now }
+    requires made { IsMadeFor case.now links.now room.old }
+    ensures wrote { WroteSome (IsRightReport case.now bound)
+        K.taken K.faults out.old out.new result }
+    ensures room { IsAsMade room.old room.new }
+{
+    writes_in_turn::<K>();
+    write_head(out, case, bound)?;
+    match write_tree(case, links, bound, room, out) {
+        Seen::Kept => Ok(()),
+        Seen::Failed => Err(WriteFault),
+    }
+}
+
+// A case, with what a walk over its tree needs.
+#[derive(Drop)]
+struct Report<'c, 'm, 'l, 'r> {
+    case: &'c Case<'m>,
+    links: &'l Links,
+    bound: Bound,
+    room: &'r mut Room,
+}
+
+impl<'c, 'm, 'l, 'r> Telling for Report<'c, 'm, 'l, 'r> {
+    ghost is_ready = { λ r. AreLinks r.case.now.model r.links.now
+        × IsMadeFor r.case.now r.links.now r.room.now };
+
+    ghost is_text = { λ r bytes. IsRightReport r.case.now r.bound bytes };
+
+    fn tell_to<K: Sink>(&mut self, out: &mut K) -> Result<(), WriteFault> {
+        write_report(self.case, self.links, self.bound, self.room, out)
+    }
+}
+
+/// Writes the report of a case by way of a buffer. Takes no memory.
+pub(crate) fn write_report_buffered<K: Sink>(
+    case: &Case,
+    links: &Links,
+    bound: Bound,
+    room: &mut Room,
+    out: &mut K,
+) -> Result<(), WriteFault>
+    requires links { AreLinks case.now.model links.now }
+    requires made { IsMadeFor case.now links.now room.old }
+    ensures { WroteSome (IsRightReport case.now bound) K.taken K.faults out.old out.new result }
+{
+    let mut report = Report {
+        case,
+        links,
+        bound,
+        room,
+    };
+    tell_buffered(out, &mut report)
 }
