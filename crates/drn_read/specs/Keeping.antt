@@ -1,4 +1,4 @@
--- How what the lines of a text say grows with one more line. It is what a reader keeps from line to line, and no public clause rests on it.
+-- How what the lines of a text say grows with one more line. It is what a reader keeps from line to line, and a law says that it is what the text says.
 use Rattle.std.specs.Prelude.{ℕ, List, [], ◌∷◌, ◌++◌, map, Some, None, if◌then◌else◌}
 use Rattle.std.specs.Str.Parse.{digits_value}
 use Rattle.drn_lexer.specs.Lines.{TextLine, content, is_blank_line}

@@ -1,11 +1,19 @@
--- What holds of every model that a text stands for.
-use Rattle.std.specs.Prelude.{◌≡◌, ◌≤◌, ◌^◌, ℕ, true, List, length, count_ones, All, Ok}
+-- How what a text says grows line by line, and what holds of every model that a text stands for.
+use Rattle.std.specs.Prelude.{◌≡◌, ◌≤◌, ◌^◌, ℕ, true, false, List, [], ◌∷◌, ◌++◌, length, count_ones, All, None, Ok}
 use Rattle.lift_poly.specs.Arithmetic.{support}
 use Rattle.lift_model.specs.declared.entry.Entry.{Entry}
 use Rattle.lift_model.specs.Model.{ModelData}
 use Rattle.lift_model.specs.Valid.{most_name_bytes, IsModel}
+use Rattle.drn_lexer.specs.Lines.{TextLine, is_comment}
 use Rattle.drn_read.specs.Text.{most_value_parameters, is_name}
-use Rattle.drn_read.specs.Reading.{drn}
+use Rattle.drn_read.specs.Judging.{line_fault}
+use Rattle.drn_read.specs.Keeping.{with_line}
+use Rattle.drn_read.specs.Reading.{said, drn}
+
+-- behind a line without fault that is no comment, what is said has grown by that line
+abbrev pub SaysMore : Type 0
+SaysMore = (label : List ℕ) (before : List TextLine) (line : TextLine) → is_comment line ≡ false → line_fault (said label before) line ≡ None
+    → said label (before ++ line ∷ []) ≡ with_line label (said label before) line
 
 -- a name that isn't too long
 pub record IsShortName (name : List ℕ) : Type 0 where

@@ -1,8 +1,14 @@
-ghost use Rattle.drn_read.specs.Laws.{TextsAreValid};
+ghost use Rattle.drn_read.specs.Laws.{SaysMore, TextsAreValid};
 
 use drn_expr::readings_follow;
 use lift_frac::divisors_and_multiples;
 use lift_poly::coefficients_determine;
+
+/// Holds the law that behind a line without fault that is no comment, what a text says has grown by
+/// that line, for who reasons about a text of many lines. It does nothing.
+pub fn lines_say_more()
+    ensures { SaysMore }
+{}
 
 /// Holds the law that a text which stands for a model stands for a valid one, with short names of
 /// parameters and small entries. It does nothing.

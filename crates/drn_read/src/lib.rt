@@ -36,9 +36,11 @@ use cursor::Cursor;
 use drn_lexer::{Line, Place, next_line};
 use end::finish;
 pub use error::{DrnCause, DrnError};
-pub use laws::texts_are_valid;
+pub use laws::{lines_say_more, texts_are_valid};
 use lift_model::Model;
 use reader::Reader;
+pub use section::{Phase, Section};
+pub use state::Transition;
 use std::alloc::Global;
 
 /// The next line that is no comment.

@@ -3,7 +3,7 @@ use std::marker::Model;
 
 /// A transition of a choice: its line, its target and its value.
 #[derive(Drop)]
-pub(crate) struct Transition {
+pub struct Transition {
     pub line: u32,
     pub target: u128,
     pub value: RatPoly,

@@ -1,0 +1,13 @@
+pub mod Lists
+pub mod Numbers
+pub mod Plain
+pub mod Words
+pub mod Leads
+pub mod Steps
+pub mod Pieces
+pub mod States
+pub mod Blocks
+pub mod Texts
+pub mod Whole
+pub mod Admission
+pub mod Written
