@@ -1,6 +1,6 @@
 -- A plain line has no fault of the whole line.
-use Rattle.std.proofs.Common.{◌≡◌, ℕ, List, [], ◌∷◌, true, None, Some, Ok, Err, Result, codes, drop, refl}
-use Rattle.std.specs.Prelude.{option_and_then}
+use Rattle.std.proofs.Common.{◌≡◌, ◌||◌, ℕ, List, [], ◌∷◌, Bool, true, false, None, Some, Ok, Err, Result, codes, drop, refl}
+use Rattle.std.specs.Prelude.{option_and_then, is_some, if◌then◌else◌}
 use Rattle.std.specs.Option.{ok_or, unwrap_or}
 use Rattle.std.specs.declared.option.Option.{Option}
 use Rattle.clap.specs.Words.{first_value}
@@ -9,9 +9,9 @@ use Rattle.lift_grid.specs.Rectangle.{most_halvings}
 use Rattle.lift_grid.specs.Region.{◌>>=◌}
 use Rattle.corner_lift.specs.Case.{most_precision}
 use Rattle.lift_cert.specs.declared.bound.Bound.{Bound}
-use Rattle.plift_words.specs.Line.{is_plain, options, value_of}
-use Rattle.plift_words.specs.Values.{goal_of, bound_of, number_within}
-use Rattle.plift_words.specs.Job.{JobData, job_of, job}
+use Rattle.plift_words.specs.Line.{is_verify, is_check, word_behind, is_plain, options, value_of}
+use Rattle.plift_words.specs.Values.{goal_of, bound_of, option_number, blocks_of}
+use Rattle.plift_words.specs.Job.{JobData, verify_job, blocks_job, job}
 use Rattle.plift_words.specs.Parser.{HasValues}
 use Rattle.plift_words.specs.declared.job.Field.{Field}
 use Rattle.plift_words.specs.declared.job.Field.TheVariants as field
@@ -33,14 +33,56 @@ never_words (Some g) None r d p e = absurd (cc)
 never_words (Some g) (Some b) r None p e = absurd (cc)
 never_words (Some g) (Some b) r (Some d) None e = absurd (cc)
 
-pub plain_job : (words : List (List ℕ)) → is_plain words ≡ true → job words ≡ Err field.Words → ⊥
+pub plain_job : (words : List (List ℕ)) → is_verify words ≡ true → job words ≡ Err field.Words → ⊥
 plain_job [] e is = absurd (cc)
 plain_job (command ∷ words) e is =
     let value = λ (name : List ℕ). value_of name (options words) in
     never_words (option_and_then goal_of (value (codes "--goal"))) (option_and_then bound_of (value (codes "--bound"))) (unwrap_or (value (codes "--region")) [])
-    (number_within 0 most_halvings (unwrap_or (value (codes "--depth")) (codes "0"))) (number_within 1 most_precision (unwrap_or (value (codes "--precision")) (codes "24"))) (rw e at is)
+    (option_number 0 most_halvings (unwrap_or (value (codes "--depth")) (codes "0"))) (option_number 1 most_precision (unwrap_or (value (codes "--precision")) (codes "24"))) (rw e at is)
 
 -- the values that the parser found on a plain line make its job
-pub found_job : (words : List (List ℕ)) (found : Found) → is_plain words ≡ true → HasValues found (options (drop 1 words)) → job words ≡ job_of (λ name. first_value found (drop 2 name))
+pub found_job : (words : List (List ℕ)) (found : Found) → is_verify words ≡ true → HasValues found (options (drop 1 words)) → job words ≡ verify_job (λ name. first_value found (drop 2 name))
 found_job [] found e h = absurd (cc)
 found_job (command ∷ words) found e h = rw (e, h.goal, h.bound, h.region, h.depth, h.precision) refl
+
+-- ---- lines of the other commands
+
+-- the job of a line, by its tests
+abbrev job_of : Result JobData Field → Bool → Bool → Option (List ℕ) → Option (List ℕ) → Result JobData Field
+job_of verified verifies checks generates tests = if verifies then verified else (if checks then Ok JobData.check else (elim generates [
+  | Some word ↦ blocks_job JobData.generate word
+  | None ↦ elim tests [ Some word ↦ blocks_job JobData.selftest word | None ↦ Err field.Words ]
+]))
+
+-- a number of blocks is never at fault as a whole line
+blocks_never : (make : ℕ → JobData) (blocks : Option ℕ) → (ok_or blocks field.Blocks >>= λ n. Ok (make n)) ≡ Err field.Words → ⊥
+blocks_never make None e = absurd (cc)
+blocks_never make (Some n) e = absurd (cc)
+
+others_by : (verified : Result JobData Field) (verifies checks : Bool) (generates tests : Option (List ℕ))
+    → (verifies || checks || is_some generates || is_some tests) ≡ false → job_of verified verifies checks generates tests ≡ Err field.Words
+others_by v true c g t e = absurd (cc)
+others_by v false true g t e = absurd (cc)
+others_by v false false (Some w) t e = absurd (cc)
+others_by v false false None (Some w) e = absurd (cc)
+others_by v false false None None e = refl
+
+plain_by : (verified : Result JobData Field) (verifies checks : Bool) (generates tests : Option (List ℕ))
+    → (verifies ≡ true → verified ≡ Err field.Words → ⊥) → job_of verified verifies checks generates tests ≡ Err field.Words → (verifies || checks || is_some generates || is_some tests) ≡ false
+plain_by v true c g t never e = absurd (never refl e)
+plain_by v false true g t never e = absurd (cc)
+plain_by v false false (Some w) t never e = absurd (blocks_never JobData.generate (blocks_of w) e)
+plain_by v false false None (Some w) never e = absurd (blocks_never JobData.selftest (blocks_of w) e)
+plain_by v false false None None never e = refl
+
+-- the job of the words as a line of `verify`
+abbrev verified : List (List ℕ) → Result JobData Field
+verified words = verify_job (λ name. value_of name (options (drop 1 words)))
+
+pub others_at_fault : (words : List (List ℕ)) → is_plain words ≡ false → job words ≡ Err field.Words
+others_at_fault words e = others_by (verified words) (is_verify words) (is_check words) (word_behind (codes "generate") words) (word_behind (codes "selftest") words) e
+
+pub plain_never : (words : List (List ℕ)) → job words ≡ Err field.Words → is_plain words ≡ false
+plain_never words e =
+    plain_by (verified words) (is_verify words) (is_check words) (word_behind (codes "generate") words) (word_behind (codes "selftest") words)
+    (λ is at. plain_job words is (rw is at)) e

@@ -5,10 +5,12 @@
 mod command;
 mod error;
 mod job;
+mod laws;
 mod line;
 mod parser;
 mod values;
 
 pub use command::job_of;
 pub use error::WordsError;
-pub use job::{Field, Job, VerifyJob};
+pub use job::{Blocks, Field, Job, VerifyJob};
+pub use laws::plain_lines_ask;
