@@ -1,8 +1,8 @@
 //! Texts of ladders.
 ghost use Rattle.std.specs.Prelude.{◌≤◌};
 
-use lift_base::{MemSink, SureSink};
-use model_gen::generate;
+use lift_base::{MemSink, SureSink, write_buffered};
+use model_gen::{Ladder, generate};
 use std::alloc::{AllocError, Global};
 use std::test::Fail;
 
@@ -80,7 +80,7 @@ fn length_of(blocks: u32) -> Option<u64> {
         return None;
     }
     let mut out = SureSink::new();
-    generate(&mut out, blocks).ok()?;
+    write_buffered(&mut out, &Ladder { blocks }).ok()?;
     Some(out.count())
 }
 

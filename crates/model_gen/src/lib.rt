@@ -6,8 +6,10 @@ ghost use Rattle.lift_base.specs.Outside.{Wrote};
 ghost use Rattle.model_gen.specs.Ladder.{most_blocks, first_label, block, blocks, head_lines};
 ghost use Rattle.model_gen.specs.Ladder.{last_lines, joined, ladder_text};
 
+mod ladder;
 mod laws;
 
+pub use ladder::Ladder;
 pub use laws::ladders_are_cases;
 use lift_base::{Sink, Word, WriteFault, write_all, write_words, writes_in_turn};
 
