@@ -28,8 +28,8 @@ verify_data j = record { goal = j.goal.now; bound = j.bound; region = j.region.n
 abbrev pub job_data : Job → JobData
 job_data (code.Verify j) = JobData.verify (verify_data j)
 job_data code.Check = JobData.check
-job_data (code.Generate blocks) = JobData.generate blocks.count
-job_data (code.Selftest blocks) = JobData.selftest blocks.count
+job_data (code.Generate ladder) = JobData.generate ladder.blocks
+job_data (code.Selftest ladder) = JobData.selftest ladder.blocks
 
 -- the job of some values, or the one at fault
 abbrev pub answer_data : Result Job Field → Result JobData Field

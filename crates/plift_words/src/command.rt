@@ -12,7 +12,7 @@ use crate::error::WordsError;
 use crate::job::{Field, Job, VerifyJob};
 use crate::line::{is_check, is_verify, word_behind};
 use crate::parser::parse;
-use crate::values::{blocks_of, bound_of, goal_of, option_number};
+use crate::values::{bound_of, goal_of, ladder_of, option_number};
 use clap::ArgMatches;
 use lift_cert::Bound;
 use std::alloc::Global;
@@ -104,10 +104,10 @@ fn other_job(words: &[String]) -> Result<Job<'static>, Field>
         return Ok(Job::Check);
     }
     if let Some(word) = word_behind("generate", words) {
-        return Ok(Job::Generate(blocks_of(word).ok_or(Field::Blocks)?));
+        return Ok(Job::Generate(ladder_of(word).ok_or(Field::Blocks)?));
     }
     if let Some(word) = word_behind("selftest", words) {
-        return Ok(Job::Selftest(blocks_of(word).ok_or(Field::Blocks)?));
+        return Ok(Job::Selftest(ladder_of(word).ok_or(Field::Blocks)?));
     }
     Err(Field::Words)
 }

@@ -2,9 +2,9 @@
 ghost use Rattle.std.specs.Prelude.{◌≤◌};
 ghost use Rattle.lift_grid.specs.Rectangle.{most_halvings};
 ghost use Rattle.corner_lift.specs.Case.{most_precision};
-ghost use Rattle.model_gen.specs.Ladder.{most_blocks};
 
 use lift_cert::Bound;
+use model_gen::Ladder;
 
 /// A part of the command line that can be at fault.
 #[derive(Clone, Copy)]
@@ -33,13 +33,6 @@ pub struct VerifyJob<'a> {
     ghost in_range: { (depth ≤ most_halvings) × (1 ≤ precision) × (precision ≤ most_precision) },
 }
 
-/// How many blocks a ladder has.
-#[derive(Clone, Copy)]
-pub struct Blocks {
-    pub count: u32,
-    ghost in_range: { (1 ≤ count) × (count ≤ most_blocks) },
-}
-
 /// What the words ask for: a command, with what it is asked.
 #[derive(Clone, Copy)]
 pub enum Job<'a> {
@@ -47,7 +40,7 @@ pub enum Job<'a> {
     /// Checks a report.
     Check,
     /// Writes a ladder.
-    Generate(Blocks),
+    Generate(Ladder),
     /// Verifies a ladder and checks the report.
-    Selftest(Blocks),
+    Selftest(Ladder),
 }

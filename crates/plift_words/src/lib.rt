@@ -12,5 +12,5 @@ mod values;
 
 pub use command::job_of;
 pub use error::WordsError;
-pub use job::{Blocks, Field, Job, VerifyJob};
+pub use job::{Field, Job, VerifyJob};
 pub use laws::plain_lines_ask;

@@ -8,10 +8,10 @@ ghost use Rattle.plift_words.specs.Values.{is_label_byte, goal_of, number_of, nu
 ghost use Rattle.plift_words.specs.Values.{option_number, blocks_of};
 ghost use Rattle.plift_words.specs.Values.{quotient, ratio_of, bound_by, bound_of};
 
-use crate::job::Blocks;
 use crate::line::cut_at;
 use lift_cert::Bound;
 use lift_frac::{Frac, FracError, read_literal};
+use model_gen::Ladder;
 
 /// How many digits the number of an option has at most.
 const MOST_OPTION_DIGITS: usize = 3;
@@ -81,12 +81,12 @@ pub fn option_number(word: &str, low: u32, high: u32) -> Option<u32>
     number_within(word, MOST_OPTION_DIGITS, low, high)
 }
 
-/// A number of blocks, of one to five digits, from 1 to 32,767.
-pub fn blocks_of(word: &str) -> Option<Blocks>
-    ensures { option_map (λ blocks. blocks.count) result ≡ blocks_of word.now }
+/// The ladder of so many blocks, a number of one to five digits, from 1 to 32,767.
+pub fn ladder_of(word: &str) -> Option<Ladder>
+    ensures { option_map (λ ladder. ladder.blocks) result ≡ blocks_of word.now }
 {
-    let count = number_within(word, MOST_BLOCK_DIGITS, 1, MOST_BLOCKS)?;
-    Some(Blocks { count })
+    let blocks = number_within(word, MOST_BLOCK_DIGITS, 1, MOST_BLOCKS)?;
+    Some(Ladder { blocks })
 }
 
 fn quotient(above: Result<Frac, FracError>, below: Result<Frac, FracError>) -> Option<Frac>
