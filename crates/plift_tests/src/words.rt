@@ -15,7 +15,14 @@ verify|--depth|0|--bound=1/2|--goal|heads | read fault;
 verify | usage: words;
 check | usage: words;
 check|x | usage: words;
-generate|5 | usage: words;
+generate | usage: words;
+generate|5|5 | usage: words;
+generate|-5 | usage: words;
+generate|0 | usage: N;
+generate|32768 | usage: N;
+generate|000005 | usage: N;
+generate| | usage: N;
+selftest|5 | usage: words;
 help | usage: words;
 --help | usage: words;
 -h | usage: words;
@@ -116,5 +123,34 @@ fn words_are_read(rt: HostRuntime) -> Result<(), Fail> {
         };
         assert!(rt; is_told(rt.alloc(), line, told)?, "{row}");
     }
+    Ok(())
+}
+
+// The ladder of one block.
+const LADDER: &str = "\
+@type: DTMC
+@parameters
+p q
+@model
+state 0 init
+2 : p
+1 : 1-p
+state 1
+0 : q
+3 : 1-q
+state 2 done
+2 : 1
+state 3
+3 : 1
+";
+
+#[test]
+fn a_ladder_is_written_and_nothing_read(rt: HostRuntime) -> Result<(), Fail> {
+    let mut out = MemSink::new(rt.alloc(), 1000, 7, Vec::new(rt.alloc()))?;
+    let mut notes = MemSink::new(rt.alloc(), 100, 3, Vec::new(rt.alloc()))?;
+    let got = status_on(rt.alloc(), "generate|1", &mut out, &mut notes)?;
+    assert_eq!(rt; status_name(got), "Done");
+    assert_eq!(rt; out.taken(), LADDER.as_bytes());
+    assert!(rt; notes.taken().is_empty());
     Ok(())
 }

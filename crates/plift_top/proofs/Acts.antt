@@ -2,7 +2,7 @@
 use Rattle.std.proofs.Common.{◌≡◌, ◌≢◌, ◌≤◌, ◌<◌, ◌⊎◌, inl, inr, ℕ, List, [], ◌++◌, length, length-append, append-nil, None, Some, Ok, Err, refl, sym, ap, ◌∙◌, subst, arith, Result, IsErr, IsErrAnd}
 use Rattle.std.specs.declared.option.Option.{Option}
 use Rattle.std.specs.Io.KnownBytes.{Appends}
-use Rattle.lift_base.specs.Outside.{Rose, TakenHas, Wrote}
+use Rattle.lift_base.specs.Outside.{Rose, AppendsFront, TakenHas, Wrote}
 use Rattle.lift_grid.specs.Region.{Region, region}
 use Rattle.lift_grid.specs.Tree.{Tree}
 use Rattle.lift_model.specs.Model.{ModelData}
@@ -13,14 +13,18 @@ use Rattle.region_tree.specs.Right.{IsRightTree}
 use Rattle.cert_text.specs.Report.{report_text}
 use Rattle.drn_read.specs.Reading.{drn}
 use Rattle.plift_words.specs.Job.{JobData, VerifyData}
-use Rattle.plift_words.specs.Job.JobData.{verify}
+use Rattle.plift_words.specs.Given.{asked, Asks}
+use Rattle.std.specs.declared.alloc.Global.{Global}
+use Rattle.std.specs.Prelude.{String}
+use Rattle.plift_words.specs.Job.JobData.{verify, check, generate, selftest}
+use Rattle.model_gen.specs.Ladder.{ladder_text}
 use Rattle.plift_words.specs.declared.job.Field.{Field}
 use Rattle.plift_words.specs.declared.job.Field.TheVariants as field
 use Rattle.plift_words.specs.declared.error.WordsError.{WordsError}
 use Rattle.plift_words.specs.declared.error.WordsError.TheVariants as words
 use Rattle.plift_top.specs.Refused.{words_refusal}
 use Rattle.plift_top.specs.Verify.{WasRead, Reports, ReportsFront, IsRefused, KeepsLimit, text_limit}
-use Rattle.plift_top.specs.Answers.{Acts, AsksToVerify, NoFault, WroteNote, IsNoted, HasNote, status_of, answered, note_of}
+use Rattle.plift_top.specs.Answers.{Acts, Generates, built, wanted, AsksToVerify, AsksToGenerate, NoFault, WroteNote, IsNoted, HasNote, status_of, answered, note_of}
 use Rattle.plift_top.specs.declared.status.Status.{Status}
 use Rattle.plift_top.specs.declared.status.Status.TheVariants as status
 use Rattle.plift_top.specs.declared.refusal.Refusal.{Refusal}
@@ -35,16 +39,48 @@ never_done _ e = absurd (cc)
 
 module _ {S K : Type 0} (left : S → Option (List ℕ)) (faults : S → ℕ) (taken : K → Option (List ℕ)) (counts : K → ℕ) (source source' : S) (out out' : K) where
   pub done : (asked : Result JobData Field) (answer : Result (Unit {0}) Refusal) → Acts left faults taken counts asked source source' out out' answer → answered answer ≡ status.Done
-      → (j : VerifyData) × AsksToVerify asked j × WasRead (Reports (taken out) (taken out') j) (left source) (left source')
-  done (Ok (verify j)) (Ok x) a e = (j, refl, a)
-  done (Err f) (Ok x) a e = absurd a.0
-  done asked (Err r) a e = absurd (never_done r e)
+      → (j : VerifyData) → AsksToVerify asked j → WasRead (Reports (taken out) (taken out') j) (left source) (left source')
+  done (Ok (verify k)) (Ok x) a e j is = let same : k ≡ j = cc in subst (λ (i : VerifyData). WasRead (Reports (taken out) (taken out') i) (left source) (left source')) same a
+  done (Ok (generate n)) (Ok x) a e j is = absurd (cc)
+  done (Ok check) (Ok x) a e j is = absurd a
+  done (Ok (selftest n)) (Ok x) a e j is = absurd a
+  done (Err f) (Ok x) a e j is = absurd a.0
+  done asked (Err r) a e j is = absurd (never_done r e)
+
+  pub generated : (asked : Result JobData Field) (answer : Result (Unit {0}) Refusal) → Acts left faults taken counts asked source source' out out' answer → answered answer ≡ status.Done
+      → (n : ℕ) → AsksToGenerate asked n → Appends (taken out) (taken out') (ladder_text n)
+  generated (Ok (generate m)) (Ok x) a e n is = let same : m ≡ n = cc in subst (λ (i : ℕ). Appends (taken out) (taken out') (ladder_text i)) same a.0
+  generated (Ok (verify k)) (Ok x) a e n is = absurd (cc)
+  generated (Ok check) (Ok x) a e n is = absurd a
+  generated (Ok (selftest m)) (Ok x) a e n is = absurd a
+  generated (Err f) (Ok x) a e n is = absurd a.0
+  generated asked (Err r) a e n is = absurd (never_done r e)
+
+  pub generates : (asked : Result JobData Field) (answer : Result (Unit {0}) Refusal) → Acts left faults taken counts asked source source' out out' answer → (n : ℕ) → AsksToGenerate asked n
+      → (answered answer ≡ status.Done) ⊎ (answered answer ≡ status.WriteFault)
+  generates (Ok (generate m)) (Ok x) a n is = inl refl
+  generates (Ok (generate m)) (Err refusal.WriteFault) a n is = inr refl
+  generates (Ok (generate m)) (Err _) a n is = absurd a.0
+  generates (Ok (verify k)) answer a n is = absurd (cc)
+  generates (Ok check) answer a n is = absurd a
+  generates (Ok (selftest m)) answer a n is = absurd a
+  generates (Err f) answer a n is = absurd (cc)
+
+  pub reads_nothing : (asked : Result JobData Field) (answer : Result (Unit {0}) Refusal) → Acts left faults taken counts asked source source' out out' answer → (n : ℕ) → AsksToGenerate asked n → source' ≡ source
+  reads_nothing (Ok (generate m)) answer a n is = a.1
+  reads_nothing (Ok (verify k)) answer a n is = absurd (cc)
+  reads_nothing (Ok check) answer a n is = absurd a
+  reads_nothing (Ok (selftest m)) answer a n is = absurd a
+  reads_nothing (Err f) answer a n is = absurd (cc)
 
   pub reported : (asked : Result JobData Field) (answer : Result (Unit {0}) Refusal) → Acts left faults taken counts asked source source' out out' answer → answered answer ≡ status.Done
-      → (k : CaseData) × (bound : Bound) × (tree : Tree) × IsCase k × IsRightTree k bound tree × Appends (taken out) (taken out') (report_text k bound tree)
-  reported (Ok (verify j)) (Ok x) a e = (let h = a.has.has in (case_of a.has.model a.has.root j.precision, j.bound, h.tree, h.case, h.right, h.report))
-  reported (Err f) (Ok x) a e = absurd a.0
-  reported asked (Err r) a e = absurd (never_done r e)
+      → (j : VerifyData) → AsksToVerify asked j → (k : CaseData) × (bound : Bound) × (tree : Tree) × IsCase k × IsRightTree k bound tree × Appends (taken out) (taken out') (report_text k bound tree)
+  reported (Ok (verify i)) (Ok x) a e j is = (let h = a.has.has in (case_of a.has.model a.has.root i.precision, i.bound, h.tree, h.case, h.right, h.report))
+  reported (Ok (generate n)) (Ok x) a e j is = absurd (cc)
+  reported (Ok check) (Ok x) a e j is = absurd a
+  reported (Ok (selftest n)) (Ok x) a e j is = absurd a
+  reported (Err f) (Ok x) a e j is = absurd a.0
+  reported asked (Err r) a e j is = absurd (never_done r e)
 
   noted : (asked : Result JobData Field) (r : Refusal) → Acts {T = Unit {0}} left faults taken counts asked source source' out out' (Err r) → HasNote (status_of r) asked (left source) (left source') (note_of r)
   noted (Ok (verify j)) (refusal.Usage f) a = absurd a.0
@@ -55,6 +91,10 @@ module _ {S K : Type 0} (left : S → Option (List ℕ)) (faults : S → ℕ) (t
   noted (Ok (verify j)) (refusal.Region error) a = (refusal.Region error, refl, refl, (j, refl, a.0))
   noted (Ok (verify j)) (refusal.Model error) a = (refusal.Model error, refl, refl, (j, refl, a.0))
   noted (Ok (verify j)) (refusal.Rows error) a = (refusal.Rows error, refl, refl, (j, refl, a.0))
+  noted (Ok (generate n)) refusal.WriteFault a = (refusal.WriteFault, refl, refl, tt)
+  noted (Ok (generate n)) _ a = absurd a.0
+  noted (Ok check) _ a = absurd a
+  noted (Ok (selftest n)) _ a = absurd a
   noted (Err f) (refusal.Usage g) a = (refusal.Usage g, refl, refl, ap (λ f. Err f) (sym a.0))
   noted (Err f) refusal.Memory a = (refusal.Memory, refl, refl, tt)
   noted (Err f) _ a = absurd a.0
@@ -86,6 +126,10 @@ module _ {S K : Type 0} (left : S → Option (List ℕ)) (faults : S → ℕ) (t
   read_fault asked (Ok x) a e = absurd (cc)
   read_fault (Ok (verify j)) (Err refusal.ReadFault) a e = a.0
   read_fault (Ok (verify j)) (Err _) a e = absurd (cc)
+  read_fault (Ok (generate n)) (Err refusal.ReadFault) a e = absurd a.0
+  read_fault (Ok (generate n)) (Err _) a e = absurd (cc)
+  read_fault (Ok check) (Err _) a e = absurd a
+  read_fault (Ok (selftest n)) (Err _) a e = absurd a
   read_fault (Err f) (Err refusal.ReadFault) a e = absurd a.0
   read_fault (Err f) (Err _) a e = absurd (cc)
 
@@ -94,22 +138,42 @@ module _ {S K : Type 0} (left : S → Option (List ℕ)) (faults : S → ℕ) (t
   write_fault asked (Ok x) a e = absurd (cc)
   write_fault (Ok (verify j)) (Err refusal.WriteFault) a e = a.1
   write_fault (Ok (verify j)) (Err _) a e = absurd (cc)
+  write_fault (Ok (generate n)) (Err refusal.WriteFault) a e = a.0.1
+  write_fault (Ok (generate n)) (Err _) a e = absurd (cc)
+  write_fault (Ok check) (Err _) a e = absurd a
+  write_fault (Ok (selftest n)) (Err _) a e = absurd a
   write_fault (Err f) (Err refusal.WriteFault) a e = absurd a.0
   write_fault (Err f) (Err _) a e = absurd (cc)
 
   pub part : (asked : Result JobData Field) (answer : Result (Unit {0}) Refusal) → Acts left faults taken counts asked source source' out out' answer → answered answer ≡ status.WriteFault
-      → (j : VerifyData) × AsksToVerify asked j × WasRead (ReportsFront (taken out) (taken out') j) (left source) (left source')
-  part asked (Ok x) a e = absurd (cc)
-  part (Ok (verify j)) (Err refusal.WriteFault) a e = (j, refl, a.0)
-  part (Ok (verify j)) (Err _) a e = absurd (cc)
-  part (Err f) (Err refusal.WriteFault) a e = absurd a.0
-  part (Err f) (Err _) a e = absurd (cc)
+      → (j : VerifyData) → AsksToVerify asked j → WasRead (ReportsFront (taken out) (taken out') j) (left source) (left source')
+  part asked (Ok x) a e j is = absurd (cc)
+  part (Ok (verify k)) (Err refusal.WriteFault) a e j is = let same : k ≡ j = cc in subst (λ (i : VerifyData). WasRead (ReportsFront (taken out) (taken out') i) (left source) (left source')) same a.0
+  part (Ok (verify k)) (Err _) a e j is = absurd (cc)
+  part (Ok (generate n)) (Err _) a e j is = absurd (cc)
+  part (Ok check) (Err _) a e j is = absurd a
+  part (Ok (selftest n)) (Err _) a e j is = absurd a
+  part (Err f) (Err _) a e j is = absurd (cc)
+
+  pub ladder_part : (asked : Result JobData Field) (answer : Result (Unit {0}) Refusal) → Acts left faults taken counts asked source source' out out' answer → answered answer ≡ status.WriteFault
+      → (n : ℕ) → AsksToGenerate asked n → AppendsFront (taken out) (taken out') (ladder_text n)
+  ladder_part asked (Ok x) a e n is = absurd (cc)
+  ladder_part (Ok (generate m)) (Err refusal.WriteFault) a e n is = let same : m ≡ n = cc in subst (λ (i : ℕ). AppendsFront (taken out) (taken out') (ladder_text i)) same a.0.0
+  ladder_part (Ok (generate m)) (Err _) a e n is = absurd (cc)
+  ladder_part (Ok (verify k)) (Err _) a e n is = absurd (cc)
+  ladder_part (Ok check) (Err _) a e n is = absurd a
+  ladder_part (Ok (selftest m)) (Err _) a e n is = absurd a
+  ladder_part (Err f) (Err _) a e n is = absurd (cc)
 
   pub kept : (asked : Result JobData Field) (answer : Result (Unit {0}) Refusal) → Acts left faults taken counts asked source source' out out' answer → answered answer ≢ status.Done → answered answer ≢ status.WriteFault
       → out' ≡ out
   kept asked (Ok x) a d e = absurd (d refl)
   kept (Ok (verify j)) (Err refusal.WriteFault) a d e = absurd (e refl)
   kept (Ok (verify j)) (Err _) a d e = a.1
+  kept (Ok (generate n)) (Err refusal.WriteFault) a d e = absurd (e refl)
+  kept (Ok (generate n)) (Err _) a d e = absurd a.0
+  kept (Ok check) (Err r) a d e = absurd a
+  kept (Ok (selftest n)) (Err r) a d e = absurd a
   kept (Err f) (Err r) a d e = a.2
 
   pub unread : (asked : Result JobData Field) (answer : Result (Unit {0}) Refusal) → Acts left faults taken counts asked source source' out out' answer → IsErr asked
@@ -159,6 +223,9 @@ module _ {S K : Type 0} (left : S → Option (List ℕ)) (faults : S → ℕ) (t
       by (Err refusal.Memory) a = memory
       by (Err (refusal.Usage field)) a = absurd a.0
       by (Err r) a = refused r (given (IsRefused j r) text (left source') (rw told at a.0))
+  by_answer Q done refused memory (Ok (generate n)) answer a is = absurd (cc)
+  by_answer Q done refused memory (Ok check) answer a is = absurd (cc)
+  by_answer Q done refused memory (Ok (selftest n)) answer a is = absurd (cc)
   by_answer Q done refused memory (Err e) answer a is = absurd (cc)
 
   module _ (none : AdmittedHasNoFault) where
@@ -214,3 +281,33 @@ pub line_limit : (error : WordsError) (result : Result (Unit {0}) Refusal) (left
 line_limit error (Ok x) left is = absurd is
 line_limit (words.Usage f) (Err e) left is = subst (λ (r : Refusal). KeepsLimit {T = Unit {0}} (Err r) left left) (sym is) (untouched left)
 line_limit words.Memory (Err e) left is = subst (λ (r : Refusal). KeepsLimit {T = Unit {0}} (Err r) left left) (sym is) (untouched left)
+
+-- a ladder is written before any byte is taken
+pub ladder_limit : {K : Type 0} (taken : K → Option (List ℕ)) (counts : K → ℕ) (blocks : ℕ) (out out' : K) (result : Result (Unit {0}) Refusal) (left : Option (List ℕ)) → Generates taken counts blocks out out' result → KeepsLimit result left left
+ladder_limit taken counts blocks out out' (Ok x) left a = untouched left
+ladder_limit taken counts blocks out out' (Err refusal.WriteFault) left a = untouched left
+ladder_limit taken counts blocks out out' (Err _) left a = absurd a
+
+module _ {S K : Type 0} (left : S → Option (List ℕ)) (faults : S → ℕ) (taken : K → Option (List ℕ)) (counts : K → ℕ) (source : S) (out out' : K) (line : List (String Global)) where
+  -- the words ask for a ladder, and it is written
+  pub writes_ladder : (blocks : ℕ) (result : Result (Unit {0}) Refusal) → Generates taken counts blocks out out' result → asked line ≡ Ok (generate blocks) → Acts left faults taken counts (wanted line) source source out out' result
+  unfolding wanted
+  writes_ladder blocks result a is = subst (λ (job : Result JobData Field). Acts left faults taken counts (built job) source source out out' result) (sym is) (a, refl)
+
+  refused_by : (job : Result JobData Field) (error : WordsError) → Asks job (Err error) → Acts {T = Unit {0}} left faults taken counts (built job) source source out out (Err (words_refusal error))
+  refused_by job (words.Usage f) is = subst (λ (job : Result JobData Field). Acts {T = Unit {0}} left faults taken counts (built job) source source out out (Err (refusal.Usage f))) (sym is) (refl, refl, refl)
+  refused_by (Ok (verify j)) words.Memory is = (tt, refl)
+  refused_by (Ok (generate n)) words.Memory is = absurd is
+  refused_by (Ok check) words.Memory is = absurd is
+  refused_by (Ok (selftest n)) words.Memory is = absurd is
+  refused_by (Err field.Goal) words.Memory is = (λ e. absurd (cc), refl, refl)
+  refused_by (Err field.Bound) words.Memory is = (λ e. absurd (cc), refl, refl)
+  refused_by (Err field.Depth) words.Memory is = (λ e. absurd (cc), refl, refl)
+  refused_by (Err field.Precision) words.Memory is = (λ e. absurd (cc), refl, refl)
+  refused_by (Err field.Words) words.Memory is = absurd is
+  refused_by (Err field.Blocks) words.Memory is = absurd is
+
+  -- the words ask for no job, or there is no memory to read them
+  pub refuses_line : (error : WordsError) (why : Refusal) → Asks (asked line) (Err error) → why ≡ words_refusal error → Acts {T = Unit {0}} left faults taken counts (wanted line) source source out out (Err why)
+  unfolding wanted
+  refuses_line error why asks is = subst (λ (r : Refusal). Acts {T = Unit {0}} left faults taken counts (built (asked line)) source source out out (Err r)) (sym is) (refused_by (asked line) error asks)

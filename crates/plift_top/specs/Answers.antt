@@ -1,5 +1,6 @@
 -- The answers of the program, and the notes that tell them.
-use Rattle.std.specs.Prelude.{◌≡◌, ◌≢◌, ◌≤◌, ⊤, ℕ, List, ◌++◌, codes, Ok, Err, Result}
+use Rattle.std.specs.Prelude.{◌≡◌, ◌≢◌, ◌≤◌, ⊤, ℕ, List, String, ◌++◌, codes, Ok, Err, Result}
+use Rattle.std.specs.declared.alloc.Global.{Global}
 use Rattle.std.specs.Fmt.{decimal, signed_decimal}
 use Rattle.std.specs.declared.option.Option.{Option}
 use Rattle.std.specs.Io.KnownBytes.{Appends}
@@ -12,7 +13,9 @@ use Rattle.lift_rows.specs.declared.error.RowError.TheVariants.{RowSum, Negative
 use Rattle.drn_read.specs.Faults.{cause_name}
 use Rattle.drn_read.specs.declared.error.DrnError.{DrnError}
 use Rattle.plift_words.specs.Job.{JobData, VerifyData}
-use Rattle.plift_words.specs.Job.JobData.{verify}
+use Rattle.plift_words.specs.Job.JobData.{verify, check, generate, selftest}
+use Rattle.plift_words.specs.Given.{asked}
+use Rattle.model_gen.specs.Ladder.{ladder_text}
 use Rattle.plift_words.specs.declared.job.Field.{Field}
 use Rattle.plift_words.specs.declared.job.Field.TheVariants as field
 use Rattle.plift_top.specs.Verify.{Verifies, WasRead, IsRefused}
@@ -39,6 +42,7 @@ usage_note field.Goal = codes "usage: --goal\n"
 usage_note field.Bound = codes "usage: --bound\n"
 usage_note field.Depth = codes "usage: --depth\n"
 usage_note field.Precision = codes "usage: --precision\n"
+usage_note field.Blocks = codes "usage: N\n"
 
 -- the note of a region at fault: the cause
 abbrev pub region_note : RegionError → List ℕ
@@ -91,9 +95,23 @@ status_number status.WriteFault = 6
 status_number status.TooLong = 7
 status_number status.Memory = 8
 
+-- the commands `check` and `selftest` aren't built yet: their lines are at fault as a whole
+abbrev pub built : Result JobData Field → Result JobData Field
+built (Ok check) = Err field.Words
+built (Ok (selftest blocks)) = Err field.Words
+built job = job
+
+-- the job that some words ask for, or their part at fault
+unfoldable pub wanted : List (String Global) → Result JobData Field
+wanted words = built (asked words)
+
 -- the words ask to verify that
 abbrev pub AsksToVerify : Result JobData Field → VerifyData → Type 0
 AsksToVerify asked j = asked ≡ Ok (verify j)
+
+-- the words ask to write the ladder of so many blocks
+abbrev pub AsksToGenerate : Result JobData Field → ℕ → Type 0
+AsksToGenerate asked blocks = asked ≡ Ok (generate blocks)
 
 -- no fault was counted
 abbrev pub NoFault : ℕ → ℕ → Type 0
@@ -129,7 +147,16 @@ RefusesLine f (Err (refusal.Usage g)) = g ≡ f
 RefusesLine f (Err refusal.Memory) = f ≢ field.Words
 RefusesLine f _ = ⊥
 
--- the words ask for a job and it was done or refused, or they ask for none and nothing was touched
+-- writing a ladder: its text was appended, or a front of it and a fault was counted
+abbrev pub Generates : {K T : Type 0} → (K → Option (List ℕ)) → (K → ℕ) → ℕ → K → K → Result T Refusal → Type 0
+Generates taken counts blocks out out' (Ok _) = Appends (taken out) (taken out') (ladder_text blocks)
+Generates taken counts blocks out out' (Err refusal.WriteFault) = AppendsFront (taken out) (taken out') (ladder_text blocks) × Rose (counts out) (counts out')
+Generates taken counts blocks out out' (Err _) = ⊥
+
+-- the words ask for a job that is built and it was done or refused, or they ask for none and nothing was touched
 abbrev pub Acts : {S K T : Type 0} → (S → Option (List ℕ)) → (S → ℕ) → (K → Option (List ℕ)) → (K → ℕ) → Result JobData Field → S → S → K → K → Result T Refusal → Type 0
 Acts left faults taken counts (Ok (verify job)) source source' out out' result = Verifies left faults taken counts job source source' out out' result
+Acts left faults taken counts (Ok (generate blocks)) source source' out out' result = Generates taken counts blocks out out' result × (source' ≡ source)
+Acts left faults taken counts (Ok check) source source' out out' result = ⊥
+Acts left faults taken counts (Ok (selftest blocks)) source source' out out' result = ⊥
 Acts left faults taken counts (Err f) source source' out out' result = RefusesLine f result × (source' ≡ source) × (out' ≡ out)

@@ -37,6 +37,7 @@ fn usage_note(field: Field) -> &'static [u8]
         Field::Bound => b"usage: --bound\n",
         Field::Depth => b"usage: --depth\n",
         Field::Precision => b"usage: --precision\n",
+        Field::Blocks => b"usage: N\n",
     }
 }
 

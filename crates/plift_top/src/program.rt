@@ -2,7 +2,7 @@
 ghost use Rattle.std.specs.Prelude.{◌≡◌, ◌≢◌, ◌≤◌, ◌<◌, ◌⊎◌, length, List, ℕ};
 ghost use Rattle.std.specs.Prelude.{Some, Ok, Err, IsErr};
 ghost use Rattle.std.specs.Io.KnownBytes.{Appends};
-ghost use Rattle.lift_base.specs.Outside.{Rose, TakenHas};
+ghost use Rattle.lift_base.specs.Outside.{Rose, AppendsFront, TakenHas};
 ghost use Rattle.lift_grid.specs.Region.{Region, region};
 ghost use Rattle.lift_grid.specs.Tree.{Tree};
 ghost use Rattle.lift_model.specs.Model.{ModelData};
@@ -12,35 +12,49 @@ ghost use Rattle.region_tree.specs.Right.{IsRightTree};
 ghost use Rattle.cert_text.specs.Report.{report_text};
 ghost use Rattle.drn_read.specs.Reading.{drn};
 ghost use Rattle.plift_words.specs.Job.{VerifyData};
-ghost use Rattle.plift_words.specs.Given.{asked};
 ghost use Rattle.plift_words.specs.declared.job.Field.TheVariants.{Words};
 ghost use Rattle.plift_top.specs.Verify.{WasRead, Reports, ReportsFront};
 ghost use Rattle.plift_top.specs.Verify.{IsRefused, KeepsLimit, text_limit};
-ghost use Rattle.plift_top.specs.Answers.{status_of, AsksToVerify, NoFault};
+ghost use Rattle.model_gen.specs.Ladder.{ladder_text};
+ghost use Rattle.plift_top.specs.Answers.{status_of, wanted, AsksToVerify, AsksToGenerate};
+ghost use Rattle.plift_top.specs.Answers.{NoFault, Generates};
 ghost use Rattle.plift_top.specs.Answers.{HasNote, WroteNote, Acts};
 
 use crate::notes::end;
 use crate::refusal::Refusal;
 use crate::status::Status;
 use crate::verify::verify;
-use lift_base::{Sink, Source};
+use lift_base::{Sink, Source, write_buffered};
 use lift_rows::first_fault_is_one;
-use plift_words::{Job, job_of};
+use model_gen::Ladder;
+use plift_words::{Field, Job, job_of};
 use std::alloc::Global;
 
+// Writes a ladder.
+fn write_ladder<K: Sink>(ladder: &Ladder, out: &mut K) -> Result<(), Refusal>
+    ensures { Generates K.taken K.faults ladder.now.blocks out.old out.new result }
+{
+    write_buffered(out, ladder)?;
+    Ok(())
+}
+
 // Does what the words ask for.
+#[tactic(auto, unfolding(crate::specs::Answers::wanted))]
 fn act<S: Source, K: Sink>(
     alloc: Global,
     words: &[String],
     source: &mut S,
     out: &mut K,
 ) -> Result<(), Refusal>
-    ensures answer { Acts S.left S.faults K.taken K.faults (asked words.now)
+    ensures answer { Acts S.left S.faults K.taken K.faults (wanted words.now)
         source.old source.new out.old out.new result }
     ensures limit { KeepsLimit result (S.left source.old) (S.left source.new) }
 {
     match job_of(alloc, words) {
         Ok(Job::Verify(job)) => verify(alloc, &job, source, out),
+        Ok(Job::Generate(ladder)) => write_ladder(&ladder, out),
+        // These aren't built yet.
+        Ok(Job::Check) | Ok(Job::Selftest(_)) => Err(Refusal::Usage(Field::Words)),
         Err(cause) => Err(Refusal::from(cause)),
     }
 }
@@ -54,8 +68,9 @@ pub fn run<S: Source, K: Sink, E: Sink>(
     out: &mut K,
     notes: &mut E,
 ) -> Status
-    // Done: out took the report of a case, whole, and that of its right tree.
+    // Done of `verify`: out took the report of a case, whole, and that of its right tree.
     ensures report { result ≡ Status.Done
+        → (j : VerifyData) → AsksToVerify (wanted words.now.items) j
         → (k : CaseData) × (bound : Bound) × (tree : Tree)
         × IsCase k × IsRightTree k bound tree
         × Appends (K.taken out.old) (K.taken out.new) (report_text k bound tree) }
@@ -63,14 +78,19 @@ pub fn run<S: Source, K: Sink, E: Sink>(
     // The source gave a text that stands for a model, which with the job's region makes that case.
     // The tree's leaves tile the root, and each bounds the schedulers inside its rectangle.
     ensures done { result ≡ Status.Done
-        → (j : VerifyData) × AsksToVerify (asked words.now.items) j
-        × WasRead (Reports (K.taken out.old) (K.taken out.new) j)
+        → (j : VerifyData) → AsksToVerify (wanted words.now.items) j
+        → WasRead (Reports (K.taken out.old) (K.taken out.new) j)
         (S.left source.old) (S.left source.new) }
 
+    // Done of `generate`: out took the text of the ladder that is asked for, and nothing else.
+    ensures generated { result ≡ Status.Done
+        → (n : ℕ) → AsksToGenerate (wanted words.now.items) n
+        → Appends (K.taken out.old) (K.taken out.new) (ladder_text n) }
+
     // Each refusal has its cause. What `told` says of its note has the causes of the others.
-    ensures at_fault { IsErr (asked words.now.items)
+    ensures at_fault { IsErr (wanted words.now.items)
         → (result ≡ Status.Usage) ⊎ (result ≡ Status.Memory) }
-    ensures not_plain { asked words.now.items ≡ Err Words → result ≡ Status.Usage }
+    ensures not_plain { wanted words.now.items ≡ Err Words → result ≡ Status.Usage }
     ensures read_fault { result ≡ Status.ReadFault
         → Rose (S.faults source.old) (S.faults source.new) }
     ensures write_fault { result ≡ Status.WriteFault → Rose (K.faults out.old) (K.faults out.new) }
@@ -82,7 +102,7 @@ pub fn run<S: Source, K: Sink, E: Sink>(
     // A job, a text that stands for a model, and a region over which its rows are admitted give
     // Done or Memory, where no fault is counted.
     ensures complete { (j : VerifyData) (text : List ℕ) (m : ModelData) (root : Region)
-        → AsksToVerify (asked words.now.items) j → S.left source.old ≡ Some text
+        → AsksToVerify (wanted words.now.items) j → S.left source.old ≡ Some text
         → drn text j.goal ≡ Ok m → region m.names j.depth j.region ≡ Ok root
         → IsAdmitted (case_of m root j.precision) → length text ≤ text_limit
         → NoFault (S.faults source.old) (S.faults source.new)
@@ -92,7 +112,7 @@ pub fn run<S: Source, K: Sink, E: Sink>(
     // A job that is refused at its text gives that refusal's status or Memory, where no fault is
     // counted.
     ensures refused { (j : VerifyData) (text : List ℕ) (why : Refusal)
-        → AsksToVerify (asked words.now.items) j → S.left source.old ≡ Some text
+        → AsksToVerify (wanted words.now.items) j → S.left source.old ≡ Some text
         → IsRefused j why text → length text ≤ text_limit
         → NoFault (S.faults source.old) (S.faults source.new)
         → NoFault (K.faults out.old) (K.faults out.new)
@@ -101,25 +121,35 @@ pub fn run<S: Source, K: Sink, E: Sink>(
     // Rows that aren't admitted over the job's region give RowsRefused or Memory, where no fault is
     // counted.
     ensures unadmitted { (j : VerifyData) (text : List ℕ) (m : ModelData) (root : Region)
-        → AsksToVerify (asked words.now.items) j → S.left source.old ≡ Some text
+        → AsksToVerify (wanted words.now.items) j → S.left source.old ≡ Some text
         → drn text j.goal ≡ Ok m → region m.names j.depth j.region ≡ Ok root
         → (IsAdmitted (case_of m root j.precision) → ⊥) → length text ≤ text_limit
         → NoFault (S.faults source.old) (S.faults source.new)
         → NoFault (K.faults out.old) (K.faults out.new)
         → (result ≡ Status.RowsRefused) ⊎ (result ≡ Status.Memory) }
 
-    // What stands after a refusal: the front of the report after a write fault, else out as it was.
+    // A ladder is written whole, or a write fails; and nothing is read.
+    ensures generates { (n : ℕ) → AsksToGenerate (wanted words.now.items) n
+        → (result ≡ Status.Done) ⊎ (result ≡ Status.WriteFault) }
+    ensures reads_nothing { (n : ℕ) → AsksToGenerate (wanted words.now.items) n
+        → source.new ≡ source.old }
+
+    // What stands after a refusal: a front of what was asked for after a write fault, else out as it
+    // was.
     ensures part { result ≡ Status.WriteFault
-        → (j : VerifyData) × AsksToVerify (asked words.now.items) j
-        × WasRead (ReportsFront (K.taken out.old) (K.taken out.new) j)
+        → (j : VerifyData) → AsksToVerify (wanted words.now.items) j
+        → WasRead (ReportsFront (K.taken out.old) (K.taken out.new) j)
         (S.left source.old) (S.left source.new) }
+    ensures ladder_part { result ≡ Status.WriteFault
+        → (n : ℕ) → AsksToGenerate (wanted words.now.items) n
+        → AppendsFront (K.taken out.old) (K.taken out.new) (ladder_text n) }
     ensures kept { result ≢ Status.Done → result ≢ Status.WriteFault → out.new ≡ out.old }
-    ensures unread { IsErr (asked words.now.items) → source.new ≡ source.old }
+    ensures unread { IsErr (wanted words.now.items) → source.new ≡ source.old }
 
     // A refusal is told by its note, and nothing else is.
     ensures silent { result ≡ Status.Done → notes.new ≡ notes.old }
     ensures told { result ≢ Status.Done → (note : List ℕ)
-        × HasNote result (asked words.now.items) (S.left source.old) (S.left source.new) note
+        × HasNote result (wanted words.now.items) (S.left source.old) (S.left source.new) note
         × WroteNote E.taken E.faults notes.old notes.new note }
 {
     first_fault_is_one();

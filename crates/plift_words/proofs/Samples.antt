@@ -3,7 +3,7 @@ use Rattle.std.proofs.Common.{◌≡◌, [], ◌∷◌, codes, Ok, Err, Some, No
 use Rattle.lift_frac.specs.Gcd.{gcd}
 use Rattle.plift_words.specs.Line.{options}
 use Rattle.plift_words.specs.Job.{VerifyData, job}
-use Rattle.plift_words.specs.Job.JobData.{verify}
+use Rattle.plift_words.specs.Job.JobData.{verify, check, generate, selftest}
 use Rattle.plift_words.specs.declared.job.Field.TheVariants as field
 
 at_most_half : VerifyData
@@ -52,3 +52,36 @@ dash = refl
 first_fault : job (codes "verify" ∷ codes "--goal" ∷ codes "heads" ∷ codes "--bound" ∷ codes "3/2" ∷ codes "--depth" ∷ codes "21" ∷ []) ≡ Err field.Bound
 unfolding gcd
 first_fault = refl
+
+-- the other commands
+checks : job (codes "check" ∷ []) ≡ Ok check
+checks = refl
+
+checks_nothing_more : job (codes "check" ∷ codes "x" ∷ []) ≡ Err field.Words
+checks_nothing_more = refl
+
+generates : job (codes "generate" ∷ codes "00005" ∷ []) ≡ Ok (generate 5)
+generates = refl
+
+tests_the_greatest : job (codes "selftest" ∷ codes "32767" ∷ []) ≡ Ok (selftest 32767)
+tests_the_greatest = refl
+
+-- a number of blocks out of its range, of too many digits, or none
+too_many_blocks : job (codes "generate" ∷ codes "32768" ∷ []) ≡ Err field.Blocks
+too_many_blocks = refl
+
+no_blocks : job (codes "generate" ∷ codes "0" ∷ []) ≡ Err field.Blocks
+no_blocks = refl
+
+six_digits : job (codes "selftest" ∷ codes "000005" ∷ []) ≡ Err field.Blocks
+six_digits = refl
+
+no_number : job (codes "selftest" ∷ [] ∷ []) ≡ Err field.Blocks
+no_number = refl
+
+-- one word alone, which doesn't begin with `-`
+dash_blocks : job (codes "generate" ∷ codes "-5" ∷ []) ≡ Err field.Words
+dash_blocks = refl
+
+two_numbers : job (codes "generate" ∷ codes "5" ∷ codes "5" ∷ []) ≡ Err field.Words
+two_numbers = refl

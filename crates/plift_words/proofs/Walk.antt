@@ -20,7 +20,7 @@ use Rattle.clap.specs.declared.builder.value_parser.Reading.TheVariants.{AsWritt
 use Rattle.clap.proofs.TakesLemmas.{leaf_takes}
 use Rattle.clap.proofs.WalkLemmas.{both, first_value-rows}
 use Rattle.clap.proofs.SimpleLemmas.{is_false, is_nil}
-use Rattle.plift_words.specs.Line.{Setting, cut_at, attached, options, stands, value_of, is_option, is_value, are_options, is_plain}
+use Rattle.plift_words.specs.Line.{Setting, cut_at, attached, options, stands, value_of, is_option, is_value, are_options, is_verify}
 use Rattle.plift_words.proofs.Cuts.{neither, cut_parts, options_one, options_two, options_lone}
 use Rattle.plift_words.specs.Parser.{HasValues, verify_app}
 
@@ -450,7 +450,7 @@ record PlainLine (words : List Text) : Type 0 where
   has_goal : stands (codes "--goal") (options words) ≡ true
   has_bound : stands (codes "--bound") (options words) ≡ true
 
-plain_line : (command : Text) (words : List Text) → is_plain (command ∷ words) ≡ true → PlainLine words
+plain_line : (command : Text) (words : List Text) → is_verify (command ∷ words) ≡ true → PlainLine words
 plain_line command words e =
     let a = both (bytes_eq command (codes "verify") && are_options (options words) && stands (codes "--goal") (options words)) _ e in
     let b = both (bytes_eq command (codes "verify") && are_options (options words)) _ a.0 in
@@ -465,13 +465,13 @@ unfoldable line_rows : List Text → List Row
 line_rows words = matches_of verify_app words
 
 -- the parser takes a plain line
-taken : (words : List Text) → is_plain words ≡ true → takes_line words ≡ true
+taken : (words : List Text) → is_verify words ≡ true → takes_line words ≡ true
 unfolding takes_line verify_app shape
 taken [] e = absurd (cc)
 taken (command ∷ words) e = let p = plain_line command words e in leaf_takes (built verify_app) nothing_held words refl (level words p.all p.has_goal p.has_bound)
 
 -- and finds the values that stand there
-found : (words : List Text) → is_plain words ≡ true → (name id : Text) → Known name id → first_of id (line_rows words) ≡ value_of name (options (drop 1 words))
+found : (words : List Text) → is_verify words ≡ true → (name id : Text) → Known name id → first_of id (line_rows words) ≡ value_of name (options (drop 1 words))
 unfolding line_rows verify_app shape
 found [] e name id k = absurd (cc)
 found (command ∷ words) e name id k =
@@ -479,7 +479,7 @@ found (command ∷ words) e name id k =
     ap (first_of id) (rows_are words p.all) ∙ first_is name id k (options words) p.all
 
 -- what the parser promises of its rules, said of `verify`
-pub passes_line : {T : Type 0} (a : App) (words : List Text) (r : Result T Error) → a ≡ verify_app → is_plain words ≡ true
+pub passes_line : {T : Type 0} (a : App) (words : List Text) (r : Result T Error) → a ≡ verify_app → is_verify words ≡ true
     → IfErr r (λ e. takes a words ≡ true → kind_of e ≡ kind.OutOfMemory) → IfErr r (λ e. kind_of e ≡ kind.OutOfMemory)
 unfolding takes_line
 passes_line a words (Ok x) is plain h = tt
@@ -489,13 +489,13 @@ simple : is_simple verify_app ≡ true
 unfolding verify_app
 simple = refl
 
-value_found : (a : App) (words : List Text) (m : ArgMatches) → a ≡ verify_app → is_plain words ≡ true → HasMatchesOf a words m → (name id : Text) → Known name id
+value_found : (a : App) (words : List Text) (m : ArgMatches) → a ≡ verify_app → is_verify words ≡ true → HasMatchesOf a words m → (name id : Text) → Known name id
     → first_value (found_of m) id ≡ value_of name (options (drop 1 words))
 unfolding line_rows
 value_found a words m is plain h name id k =
     first_value-rows (found_of m) id ∙ ap (first_of id) ((h (ap is_simple is ∙ simple)).0 ∙ ap (λ (b : App). matches_of b words) is) ∙ found words plain name id k
 
-pub values_found : (a : App) (words : List Text) (r : Result ArgMatches Error) → a ≡ verify_app → is_plain words ≡ true → IfOk r (HasMatchesOf a words)
+pub values_found : (a : App) (words : List Text) (r : Result ArgMatches Error) → a ≡ verify_app → is_verify words ≡ true → IfOk r (HasMatchesOf a words)
     → IfOk r (λ m. HasValues (found_of m) (options (drop 1 words)))
 values_found a words (Err e) is plain h = tt
 values_found a words (Ok m) is plain h = record {

@@ -1,6 +1,6 @@
--- A plain line has no fault of the whole line.
-use Rattle.std.proofs.Common.{◌≡◌, ℕ, List, [], ◌∷◌, true, None, Some, Ok, Err, Result, codes, drop, refl}
-use Rattle.std.specs.Prelude.{option_and_then}
+-- What plain lines ask for.
+use Rattle.std.proofs.Common.{◌≡◌, ◌||◌, ℕ, List, [], ◌∷◌, Bool, true, false, None, Some, Ok, Err, Result, codes, drop, refl, subst}
+use Rattle.std.specs.Prelude.{option_and_then, is_some, if◌then◌else◌}
 use Rattle.std.specs.Option.{ok_or, unwrap_or}
 use Rattle.std.specs.declared.option.Option.{Option}
 use Rattle.clap.specs.Words.{first_value}
@@ -9,9 +9,10 @@ use Rattle.lift_grid.specs.Rectangle.{most_halvings}
 use Rattle.lift_grid.specs.Region.{◌>>=◌}
 use Rattle.corner_lift.specs.Case.{most_precision}
 use Rattle.lift_cert.specs.declared.bound.Bound.{Bound}
-use Rattle.plift_words.specs.Line.{is_plain, options, value_of}
-use Rattle.plift_words.specs.Values.{goal_of, bound_of, number_within}
-use Rattle.plift_words.specs.Job.{JobData, job_of, job}
+use Rattle.plift_words.specs.Line.{is_verify, is_check, word_behind, is_plain, options, value_of}
+use Rattle.plift_words.specs.Values.{goal_of, bound_of, option_number, blocks_of}
+use Rattle.plift_words.specs.Job.{JobData, verify_job, blocks_job, other_job, job}
+use Rattle.plift_words.specs.Given.{IsOfVerify}
 use Rattle.plift_words.specs.Parser.{HasValues}
 use Rattle.plift_words.specs.declared.job.Field.{Field}
 use Rattle.plift_words.specs.declared.job.Field.TheVariants as field
@@ -25,22 +26,71 @@ job_by goal bound region depth precision = do
   precision ← ok_or precision field.Precision
   Ok (JobData.verify (record { goal = goal; bound = bound; region = region; depth = depth; precision = precision }))
 
--- the job of a plain line has no fault of the whole line
-never_words : (goal : Option (List ℕ)) (bound : Option Bound) (region : List ℕ) (depth precision : Option ℕ) → job_by goal bound region depth precision ≡ Err field.Words → ⊥
-never_words (Some g) (Some b) r (Some d) (Some p) e = absurd (cc)
-never_words None b r d p e = absurd (cc)
-never_words (Some g) None r d p e = absurd (cc)
-never_words (Some g) (Some b) r None p e = absurd (cc)
-never_words (Some g) (Some b) r (Some d) None e = absurd (cc)
+-- it is that of a line of `verify`
+of_verify : (goal : Option (List ℕ)) (bound : Option Bound) (region : List ℕ) (depth precision : Option ℕ) → IsOfVerify (job_by goal bound region depth precision)
+of_verify (Some g) (Some b) r (Some d) (Some p) = tt
+of_verify None b r d p = tt
+of_verify (Some g) None r d p = tt
+of_verify (Some g) (Some b) r None p = tt
+of_verify (Some g) (Some b) r (Some d) None = tt
 
-pub plain_job : (words : List (List ℕ)) → is_plain words ≡ true → job words ≡ Err field.Words → ⊥
-plain_job [] e is = absurd (cc)
-plain_job (command ∷ words) e is =
-    let value = λ (name : List ℕ). value_of name (options words) in
-    never_words (option_and_then goal_of (value (codes "--goal"))) (option_and_then bound_of (value (codes "--bound"))) (unwrap_or (value (codes "--region")) [])
-    (number_within 0 most_halvings (unwrap_or (value (codes "--depth")) (codes "0"))) (number_within 1 most_precision (unwrap_or (value (codes "--precision")) (codes "24"))) (rw e at is)
+-- the job of the words as a line of `verify`
+abbrev verified : List (List ℕ) → Result JobData Field
+verified words = verify_job (λ name. value_of name (options (drop 1 words)))
+
+of_verified : (words : List (List ℕ)) → IsOfVerify (verified words)
+of_verified words =
+    let value = λ (name : List ℕ). value_of name (options (drop 1 words)) in
+    of_verify (option_and_then goal_of (value (codes "--goal"))) (option_and_then bound_of (value (codes "--bound"))) (unwrap_or (value (codes "--region")) [])
+    (option_number 0 most_halvings (unwrap_or (value (codes "--depth")) (codes "0"))) (option_number 1 most_precision (unwrap_or (value (codes "--precision")) (codes "24")))
+
+of_first : (b : Bool) (x y : Result JobData Field) → b ≡ true → IsOfVerify x → IsOfVerify (if b then x else y)
+of_first true x y e h = h
+of_first false x y e h = absurd (cc)
+
+-- the job of a plain line of `verify`
+pub verify_lines : (words : List (List ℕ)) → is_verify words ≡ true → IsOfVerify (job words)
+verify_lines words e = of_first (is_verify words) (verified words) (other_job words) e (of_verified words)
 
 -- the values that the parser found on a plain line make its job
-pub found_job : (words : List (List ℕ)) (found : Found) → is_plain words ≡ true → HasValues found (options (drop 1 words)) → job words ≡ job_of (λ name. first_value found (drop 2 name))
+pub found_job : (words : List (List ℕ)) (found : Found) → is_verify words ≡ true → HasValues found (options (drop 1 words)) → job words ≡ verify_job (λ name. first_value found (drop 2 name))
 found_job [] found e h = absurd (cc)
 found_job (command ∷ words) found e h = rw (e, h.goal, h.bound, h.region, h.depth, h.precision) refl
+
+-- ---- lines of the other commands
+
+-- the job of a line, by its tests
+abbrev job_of : Result JobData Field → Bool → Bool → Option (List ℕ) → Option (List ℕ) → Result JobData Field
+job_of verified verifies checks generates tests = if verifies then verified else (if checks then Ok JobData.check else (elim generates [
+  | Some word ↦ blocks_job JobData.generate word
+  | None ↦ elim tests [ Some word ↦ blocks_job JobData.selftest word | None ↦ Err field.Words ]
+]))
+
+-- a number of blocks is never at fault as a whole line
+blocks_never : (make : ℕ → JobData) (blocks : Option ℕ) → (ok_or blocks field.Blocks >>= λ n. Ok (make n)) ≡ Err field.Words → ⊥
+blocks_never make None e = absurd (cc)
+blocks_never make (Some n) e = absurd (cc)
+
+others_by : (verified : Result JobData Field) (verifies checks : Bool) (generates tests : Option (List ℕ))
+    → (verifies || checks || is_some generates || is_some tests) ≡ false → job_of verified verifies checks generates tests ≡ Err field.Words
+others_by v true c g t e = absurd (cc)
+others_by v false true g t e = absurd (cc)
+others_by v false false (Some w) t e = absurd (cc)
+others_by v false false None (Some w) e = absurd (cc)
+others_by v false false None None e = refl
+
+plain_by : (verified : Result JobData Field) (verifies checks : Bool) (generates tests : Option (List ℕ))
+    → (verified ≡ Err field.Words → ⊥) → job_of verified verifies checks generates tests ≡ Err field.Words → (verifies || checks || is_some generates || is_some tests) ≡ false
+plain_by v true c g t never e = absurd (never e)
+plain_by v false true g t never e = absurd (cc)
+plain_by v false false (Some w) t never e = absurd (blocks_never JobData.generate (blocks_of w) e)
+plain_by v false false None (Some w) never e = absurd (blocks_never JobData.selftest (blocks_of w) e)
+plain_by v false false None None never e = refl
+
+pub others_at_fault : (words : List (List ℕ)) → is_plain words ≡ false → job words ≡ Err field.Words
+others_at_fault words e = others_by (verified words) (is_verify words) (is_check words) (word_behind (codes "generate") words) (word_behind (codes "selftest") words) e
+
+pub plain_never : (words : List (List ℕ)) → job words ≡ Err field.Words → is_plain words ≡ false
+plain_never words e =
+    plain_by (verified words) (is_verify words) (is_check words) (word_behind (codes "generate") words) (word_behind (codes "selftest") words)
+    (λ is. subst IsOfVerify is (of_verified words)) e

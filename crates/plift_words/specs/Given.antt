@@ -1,5 +1,5 @@
 -- What reading the command line gives, without where it lies in memory.
-use Rattle.std.specs.Prelude.{◌≡◌, ◌≢◌, List, String, string_bytes, map, Ok, Err, Result, option_map}
+use Rattle.std.specs.Prelude.{◌≡◌, ⊤, List, String, string_bytes, map, Ok, Err, Result, option_map}
 use Rattle.std.specs.declared.alloc.Global.{Global}
 use Rattle.plift_words.specs.Line as line
 use Rattle.plift_words.specs.Job.{JobData, VerifyData, job}
@@ -27,14 +27,26 @@ verify_data j = record { goal = j.goal.now; bound = j.bound; region = j.region.n
 -- a job
 abbrev pub job_data : Job → JobData
 job_data (code.Verify j) = JobData.verify (verify_data j)
+job_data code.Check = JobData.check
+job_data (code.Generate ladder) = JobData.generate ladder.blocks
+job_data (code.Selftest ladder) = JobData.selftest ladder.blocks
 
 -- the job of some values, or the one at fault
 abbrev pub answer_data : Result Job Field → Result JobData Field
 answer_data (Ok j) = Ok (job_data j)
 answer_data (Err f) = Err f
 
--- The answer to a line: the job that it asks for, or its part at fault. Want of memory comes only where the line is plain.
+-- a line of `verify`: it asks to verify, or a value of it is at fault
+abbrev pub IsOfVerify : Result JobData Field → Type 0
+IsOfVerify (Ok (JobData.verify j)) = ⊤
+IsOfVerify (Err field.Goal) = ⊤
+IsOfVerify (Err field.Bound) = ⊤
+IsOfVerify (Err field.Depth) = ⊤
+IsOfVerify (Err field.Precision) = ⊤
+IsOfVerify _ = ⊥
+
+-- The answer to a line: the job that it asks for, or its part at fault. Want of memory comes only where it is a plain line of `verify`.
 abbrev pub Asks : Result JobData Field → Result Job WordsError → Type 0
 Asks asked (Ok j) = asked ≡ Ok (job_data j)
 Asks asked (Err (error.Usage f)) = asked ≡ Err f
-Asks asked (Err error.Memory) = asked ≢ Err field.Words
+Asks asked (Err error.Memory) = IsOfVerify asked

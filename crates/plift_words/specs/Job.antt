@@ -1,12 +1,12 @@
 -- What a command line asks for.
-use Rattle.std.specs.Prelude.{ℕ, List, [], ◌∷◌, codes, Option, Result, Ok, Err, if◌then◌else◌, option_and_then}
+use Rattle.std.specs.Prelude.{ℕ, List, [], codes, drop, Option, Some, None, Result, Ok, Err, if◌then◌else◌, option_and_then}
 use Rattle.std.specs.Option.{ok_or, unwrap_or}
 use Rattle.lift_grid.specs.Rectangle.{most_halvings}
 use Rattle.lift_grid.specs.Region.{◌>>=◌}
 use Rattle.corner_lift.specs.Case.{most_precision}
 use Rattle.lift_cert.specs.declared.bound.Bound.{Bound}
-use Rattle.plift_words.specs.Line.{is_plain, options, value_of}
-use Rattle.plift_words.specs.Values.{goal_of, bound_of, number_within}
+use Rattle.plift_words.specs.Line.{is_verify, is_check, word_behind, options, value_of}
+use Rattle.plift_words.specs.Values.{goal_of, bound_of, option_number, blocks_of}
 use Rattle.plift_words.specs.declared.job.Field.{Field}
 use Rattle.plift_words.specs.declared.job.Field.TheVariants as field
 
@@ -22,17 +22,33 @@ pub record VerifyData : Type 0 where
 -- what a line asks for: a command, with what it is asked
 pub data JobData : Type 0 where
   verify : VerifyData → JobData
+  -- a report is to be checked
+  check : JobData
+  -- the ladder of so many blocks is to be written
+  generate : ℕ → JobData
+  -- the ladder of so many blocks is to be verified, and its report checked
+  selftest : ℕ → JobData
 
--- The job of the words behind the options, or the first of goal, bound, depth and precision that is out of its grammar or range. Without its option the region's text is empty, the depth is 0, and the precision is 24. No text of a region is at fault here.
-abbrev pub job_of : (List ℕ → Option (List ℕ)) → Result JobData Field
-job_of word_behind = do
-  goal ← ok_or (option_and_then goal_of (word_behind (codes "--goal"))) field.Goal
-  bound ← ok_or (option_and_then bound_of (word_behind (codes "--bound"))) field.Bound
-  depth ← ok_or (number_within 0 most_halvings (unwrap_or (word_behind (codes "--depth")) (codes "0"))) field.Depth
-  precision ← ok_or (number_within 1 most_precision (unwrap_or (word_behind (codes "--precision")) (codes "24"))) field.Precision
-  Ok (JobData.verify (record { goal = goal; bound = bound; region = unwrap_or (word_behind (codes "--region")) []; depth = depth; precision = precision }))
+-- The job of a line of `verify`, by the words behind its options, or the first of goal, bound, depth and precision that is out of its grammar or range. Without its option the region's text is empty, the depth is 0, and the precision is 24. No text of a region is at fault here.
+abbrev pub verify_job : (List ℕ → Option (List ℕ)) → Result JobData Field
+verify_job given = do
+  goal ← ok_or (option_and_then goal_of (given (codes "--goal"))) field.Goal
+  bound ← ok_or (option_and_then bound_of (given (codes "--bound"))) field.Bound
+  depth ← ok_or (option_number 0 most_halvings (unwrap_or (given (codes "--depth")) (codes "0"))) field.Depth
+  precision ← ok_or (option_number 1 most_precision (unwrap_or (given (codes "--precision")) (codes "24"))) field.Precision
+  Ok (JobData.verify (record { goal = goal; bound = bound; region = unwrap_or (given (codes "--region")) []; depth = depth; precision = precision }))
 
--- the job that a line asks for, or the part of the line at fault: the whole of it where it isn't plain
+-- the job of a number of blocks, or that it is at fault
+abbrev pub blocks_job : (ℕ → JobData) → List ℕ → Result JobData Field
+blocks_job make word = ok_or (blocks_of word) field.Blocks >>= λ blocks. Ok (make blocks)
+
+-- the job of a line of another command
+abbrev pub other_job : List (List ℕ) → Result JobData Field
+other_job words = if is_check words then Ok JobData.check else (elim (word_behind (codes "generate") words) [
+  | Some word ↦ blocks_job JobData.generate word
+  | None ↦ elim (word_behind (codes "selftest") words) [ Some word ↦ blocks_job JobData.selftest word | None ↦ Err field.Words ]
+])
+
+-- the job that a line asks for, or the part of the line at fault: the whole of it exactly where it isn't plain
 abbrev pub job : List (List ℕ) → Result JobData Field
-job [] = Err field.Words
-job (command ∷ words) = if is_plain (command ∷ words) then job_of (λ name. value_of name (options words)) else Err field.Words
+job words = if is_verify words then verify_job (λ name. value_of name (options (drop 1 words))) else other_job words

@@ -1,6 +1,6 @@
 -- The words of the command line, and which lines are plain.
 use Prim.Native.Char.{code}
-use Rattle.std.specs.Prelude.{◌==◌, ◌&&◌, ℕ, List, [], ◌∷◌, codes, Option, Some, None, Bool, true, false, not, option_and_then, if◌then◌else◌, nat_eq}
+use Rattle.std.specs.Prelude.{◌==◌, ◌&&◌, ◌||◌, is_some, ℕ, List, [], ◌∷◌, codes, Option, Some, None, Bool, true, false, not, option_and_then, if◌then◌else◌, nat_eq}
 use Rattle.std.specs.List.{starts_with, list_any, find, before_first, after_first}
 use Rattle.std.specs.Str.{bytes_eq}
 
@@ -53,8 +53,24 @@ abbrev pub are_options : List Setting → Bool
 are_options [] = true
 are_options (s ∷ more) = is_option s.name && is_value s.value && not (stands s.name more) && are_options more
 
--- a plain line: the command `verify`, and behind it its options in any order, the goal and the bound among them
-abbrev pub is_plain : List (List ℕ) → Bool
-is_plain [] = false
-is_plain (command ∷ words) =
+-- ---- plain lines, by their commands
+
+-- the command `verify`, and behind it its options in any order, the goal and the bound among them
+abbrev pub is_verify : List (List ℕ) → Bool
+is_verify [] = false
+is_verify (command ∷ words) =
     bytes_eq command (codes "verify") && are_options (options words) && stands (codes "--goal") (options words) && stands (codes "--bound") (options words)
+
+-- the command `check`, and nothing behind it
+abbrev pub is_check : List (List ℕ) → Bool
+is_check (command ∷ []) = bytes_eq command (codes "check")
+is_check _ = false
+
+-- the one word behind this command, where it doesn't begin with `-`
+abbrev pub word_behind : List ℕ → List (List ℕ) → Option (List ℕ)
+word_behind name (command ∷ word ∷ []) = if bytes_eq command name && is_value (Some word) then Some word else None
+word_behind name _ = None
+
+-- a plain line: one of the four commands, and what stands behind it
+abbrev pub is_plain : List (List ℕ) → Bool
+is_plain words = is_verify words || is_check words || is_some (word_behind (codes "generate") words) || is_some (word_behind (codes "selftest") words)

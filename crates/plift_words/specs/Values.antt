@@ -9,6 +9,7 @@ use Rattle.lift_frac.specs.Literal.{reading}
 use Rattle.lift_frac.specs.Ratio.{Ratio, fraction}
 use Rattle.lift_frac.specs.declared.error.FracError.{FracError}
 use Rattle.lift_cert.specs.declared.bound.Bound.{Bound}
+use Rattle.model_gen.specs.Ladder.{most_blocks}
 use Rattle.plift_words.specs.Line.{cut_at}
 
 -- a byte of a label: a visible one, or the space
@@ -19,17 +20,29 @@ is_label_byte b = nat_le (code " ") b && nat_le b (code "~")
 abbrev pub goal_of : List ℕ → Option (List ℕ)
 goal_of word = if list_all is_label_byte word && not (length word == 0) then Some word else None
 
--- how many digits a number has at most
-abbrev pub most_digits : ℕ
-most_digits = 3
-
--- a number of one digit or more, up to that many
-abbrev pub number_of : List ℕ → Option ℕ
-number_of word = if list_all is_ascii_digit word && not (length word == 0) && nat_le (length word) most_digits then Some (digits_value 10 word) else None
+-- a number of one digit or more, up to so many
+abbrev pub number_of : ℕ → List ℕ → Option ℕ
+number_of most word = if list_all is_ascii_digit word && not (length word == 0) && nat_le (length word) most then Some (digits_value 10 word) else None
 
 -- such a number within a range
-abbrev pub number_within : ℕ → ℕ → List ℕ → Option ℕ
-number_within low high word = option_and_then (λ n. if nat_le low n && nat_le n high then Some n else None) (number_of word)
+abbrev pub number_within : ℕ → ℕ → ℕ → List ℕ → Option ℕ
+number_within most low high word = option_and_then (λ n. if nat_le low n && nat_le n high then Some n else None) (number_of most word)
+
+-- how many digits the number of an option has at most
+abbrev pub most_option_digits : ℕ
+most_option_digits = 3
+
+-- the number of an option, within a range
+abbrev pub option_number : ℕ → ℕ → List ℕ → Option ℕ
+option_number low high word = number_within most_option_digits low high word
+
+-- how many digits a number of blocks has at most
+abbrev pub most_block_digits : ℕ
+most_block_digits = 5
+
+-- a number of blocks: at least one, and at most as many as a ladder has
+abbrev pub blocks_of : List ℕ → Option ℕ
+blocks_of word = number_within most_block_digits 1 most_blocks word
 
 -- One number over another, in lowest terms. None where one of them is no literal or too wide, where the divisor is 0, or where the result is too wide.
 abbrev pub quotient : Result Ratio FracError → Result Ratio FracError → Option Ratio

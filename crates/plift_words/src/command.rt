@@ -1,16 +1,18 @@
 // Reads the command line.
-ghost use Rattle.std.specs.Prelude.{◌≡◌, ◌≤◌, codes, drop, [], option_and_then, IfSome};
+ghost use Rattle.std.specs.Prelude.{◌≡◌, ◌≤◌, codes, drop, [], map, true, option_and_then};
+ghost use Rattle.std.specs.Prelude.{string_bytes, IfSome};
 ghost use Rattle.std.specs.Option.{option_map, unwrap_or};
 ghost use Rattle.clap.specs.Words.{found_of, first_value};
-ghost use Rattle.plift_words.specs.Values.{goal_of, bound_of, number_within};
-ghost use Rattle.plift_words.specs.Job.{job_of};
+ghost use Rattle.plift_words.specs.Line.{is_verify};
+ghost use Rattle.plift_words.specs.Values.{goal_of, bound_of, option_number, blocks_of};
+ghost use Rattle.plift_words.specs.Job.{verify_job, other_job};
 ghost use Rattle.plift_words.specs.Given.{answer_data, asked, Asks};
 
 use crate::error::WordsError;
 use crate::job::{Field, Job, VerifyJob};
-use crate::line::is_plain;
+use crate::line::{is_check, is_verify, word_behind};
 use crate::parser::parse;
-use crate::values::{bound_of, goal_of, number_within};
+use crate::values::{bound_of, goal_of, ladder_of, option_number};
 use clap::ArgMatches;
 use lift_cert::Bound;
 use std::alloc::Global;
@@ -53,15 +55,15 @@ fn region_in<'a>(matches: &ArgMatches<'a>) -> &'a [u8]
 // The number of an option that may be left out.
 fn number_in(matches: &ArgMatches<'_>, id: &str, default: &str, low: u32, high: u32) -> Option<u32>
     ensures value { result
-        ≡ number_within low high (unwrap_or (first_value (found_of matches.now) id.now) default.now) }
+        ≡ option_number low high (unwrap_or (first_value (found_of matches.now) id.now) default.now) }
     ensures range { IfSome result (λ n. (low ≤ n) × (n ≤ high)) }
 {
-    number_within(matches.get_str(id).unwrap_or(default), low, high)
+    option_number(matches.get_str(id).unwrap_or(default), low, high)
 }
 
 // The parser finds a value by its option's name without the dashes.
 fn job_in<'a>(matches: &ArgMatches<'a>) -> Result<Job<'a>, Field>
-    ensures { answer_data result ≡ job_of (λ name. first_value (found_of matches.now) (drop 2 name)) }
+    ensures { answer_data result ≡ verify_job (λ name. first_value (found_of matches.now) (drop 2 name)) }
 {
     let goal = goal_in(matches).ok_or(Field::Goal)?;
     let bound = bound_in(matches).ok_or(Field::Bound)?;
@@ -79,19 +81,46 @@ fn job_in<'a>(matches: &ArgMatches<'a>) -> Result<Job<'a>, Field>
     }))
 }
 
-/// What the words after the program's name ask for. `Usage` with the part of them that is at fault,
-/// or `Memory`, which comes only where the line is plain.
-pub fn job_of(alloc: Global, words: &[String]) -> Result<Job<'_>, WordsError>
+// What a plain line of `verify` asks for.
+fn verify_job(alloc: Global, words: &[String]) -> Result<Job<'_>, WordsError>
+    requires { is_verify (map string_bytes words.now) ≡ true }
     ensures { Asks (asked words.entry.now) result }
 {
-    if !is_plain(words) {
-        return Err(WordsError::Usage(Field::Words));
-    }
     // On a plain line nothing but want of memory fails.
     let Ok(matches) = parse(alloc, words) else {
         return Err(WordsError::Memory);
     };
     match job_in(&matches) {
+        Ok(job) => Ok(job),
+        Err(field) => Err(WordsError::Usage(field)),
+    }
+}
+
+// What a line of another command asks for.
+fn other_job(words: &[String]) -> Result<Job<'static>, Field>
+    ensures { answer_data result ≡ other_job (map string_bytes words.now) }
+{
+    if is_check(words) {
+        return Ok(Job::Check);
+    }
+    if let Some(word) = word_behind("generate", words) {
+        return Ok(Job::Generate(ladder_of(word).ok_or(Field::Blocks)?));
+    }
+    if let Some(word) = word_behind("selftest", words) {
+        return Ok(Job::Selftest(ladder_of(word).ok_or(Field::Blocks)?));
+    }
+    Err(Field::Words)
+}
+
+/// What the words after the program's name ask for. `Usage` with the part of them that is at fault,
+/// or `Memory`, which comes only where the line is a plain one of `verify`.
+pub fn job_of(alloc: Global, words: &[String]) -> Result<Job<'_>, WordsError>
+    ensures { Asks (asked words.entry.now) result }
+{
+    if is_verify(words) {
+        return verify_job(alloc, words);
+    }
+    match other_job(words) {
         Ok(job) => Ok(job),
         Err(field) => Err(WordsError::Usage(field)),
     }

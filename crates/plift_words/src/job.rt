@@ -4,6 +4,7 @@ ghost use Rattle.lift_grid.specs.Rectangle.{most_halvings};
 ghost use Rattle.corner_lift.specs.Case.{most_precision};
 
 use lift_cert::Bound;
+use model_gen::Ladder;
 
 /// A part of the command line that can be at fault.
 #[derive(Clone, Copy)]
@@ -14,6 +15,8 @@ pub enum Field {
     Bound,
     Depth,
     Precision,
+    /// The number of blocks.
+    Blocks,
 }
 
 /// What is to be verified.
@@ -34,4 +37,10 @@ pub struct VerifyJob<'a> {
 #[derive(Clone, Copy)]
 pub enum Job<'a> {
     Verify(VerifyJob<'a>),
+    /// Checks a report.
+    Check,
+    /// Writes a ladder.
+    Generate(Ladder),
+    /// Verifies a ladder and checks the report.
+    Selftest(Ladder),
 }

@@ -5,6 +5,7 @@
 mod command;
 mod error;
 mod job;
+mod laws;
 mod line;
 mod parser;
 mod values;
@@ -12,3 +13,4 @@ mod values;
 pub use command::job_of;
 pub use error::WordsError;
 pub use job::{Field, Job, VerifyJob};
+pub use laws::plain_lines_ask;

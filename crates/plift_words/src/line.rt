@@ -4,7 +4,8 @@ ghost use Rattle.std.specs.Prelude.{string_bytes, IfSome, MatchOption};
 ghost use Rattle.std.specs.Option.{option_map};
 ghost use Rattle.lift_bytes.specs.Bytes.{code};
 ghost use Rattle.plift_words.specs.Line.{cut_at, attached, options, stands};
-ghost use Rattle.plift_words.specs.Line.{is_option, is_value, are_options, is_plain};
+ghost use Rattle.plift_words.specs.Line.{is_option, is_value, are_options};
+ghost use Rattle.plift_words.specs.Line.{is_verify, is_check, word_behind};
 ghost use Rattle.plift_words.specs.Given.{setting_of};
 
 /// An option as it stands in a line.
@@ -125,10 +126,10 @@ fn are_options(words: &[String]) -> bool
     true
 }
 
-/// Whether the line is plain: the command `verify`, and behind it its options with their values, in
-/// any order and each at most once. Takes no memory.
-pub fn is_plain(words: &[String]) -> bool
-    ensures { result ≡ is_plain (map string_bytes words.now) }
+/// Whether the line is the command `verify`, and behind it its options with their values, in any
+/// order and each at most once. Takes no memory.
+pub fn is_verify(words: &[String]) -> bool
+    ensures { result ≡ is_verify (map string_bytes words.now) }
 {
     let [command, options @ ..] = words else {
         return false;
@@ -137,4 +138,29 @@ pub fn is_plain(words: &[String]) -> bool
         && are_options(options)
         && stands("--goal", options)
         && stands("--bound", options)
+}
+
+/// Whether the line is the command `check`, and nothing behind it.
+pub fn is_check(words: &[String]) -> bool
+    ensures { result ≡ is_check (map string_bytes words.now) }
+{
+    match words {
+        [command] => command.as_str() == "check",
+        _ => false,
+    }
+}
+
+/// The one word behind this command, where it doesn't begin with `-`.
+pub fn word_behind<'a>(name: &str, words: &'a [String]) -> Option<&'a str>
+    ensures { option_map (λ word. word.now) result
+        ≡ word_behind name.now (map string_bytes words.entry.now) }
+{
+    let [command, word] = words else {
+        return None;
+    };
+    if command.as_str() == name && is_value(Some(word.as_str())) {
+        Some(word.as_str())
+    } else {
+        None
+    }
 }

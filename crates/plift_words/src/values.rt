@@ -5,14 +5,22 @@ ghost use Rattle.std.specs.List.{list_all};
 ghost use Rattle.std.specs.Char.{is_ascii_digit};
 ghost use Rattle.lift_frac.specs.Frac.{answer_of, ratio_of as ratio};
 ghost use Rattle.plift_words.specs.Values.{is_label_byte, goal_of, number_of, number_within};
+ghost use Rattle.plift_words.specs.Values.{option_number, blocks_of};
 ghost use Rattle.plift_words.specs.Values.{quotient, ratio_of, bound_by, bound_of};
 
 use crate::line::cut_at;
 use lift_cert::Bound;
 use lift_frac::{Frac, FracError, read_literal};
+use model_gen::Ladder;
 
-/// How many digits a number has at most.
-const MOST_DIGITS: usize = 3;
+/// How many digits the number of an option has at most.
+const MOST_OPTION_DIGITS: usize = 3;
+
+/// How many digits a number of blocks has at most.
+const MOST_BLOCK_DIGITS: usize = 5;
+
+/// How many blocks a ladder has at most.
+const MOST_BLOCKS: u32 = 32_767;
 
 /// A bound's denominator in lowest terms is below this.
 const DENOMINATOR_LIMIT: i128 = 1 << 32;
@@ -40,27 +48,45 @@ fn are_digits(word: &[u8]) -> bool
     word.iter().all(|b| b.is_ascii_digit())
 }
 
-// A number of one to three digits.
-fn number_of(word: &str) -> Option<u32>
-    ensures { result ≡ number_of word.now }
+// A number of one digit or more, up to `most`.
+fn number_of(word: &str, most: usize) -> Option<u32>
+    requires { most ≤ 9 }
+    ensures { result ≡ number_of most word.now }
 {
-    if !are_digits(word.as_bytes()) || word.is_empty() || word.len() > MOST_DIGITS {
+    if !are_digits(word.as_bytes()) || word.is_empty() || word.len() > most {
         return None;
     }
     word.parse().ok()
 }
 
-/// A number of one to three digits, from `low` to `high`.
-pub fn number_within(word: &str, low: u32, high: u32) -> Option<u32>
-    ensures value { result ≡ number_within low high word.now }
+// Such a number, from `low` to `high`.
+fn number_within(word: &str, most: usize, low: u32, high: u32) -> Option<u32>
+    requires { most ≤ 9 }
+    ensures value { result ≡ number_within most low high word.now }
     ensures range { IfSome result (λ n. (low ≤ n) × (n ≤ high)) }
 {
-    let number = number_of(word)?;
+    let number = number_of(word, most)?;
     if low <= number && number <= high {
         Some(number)
     } else {
         None
     }
+}
+
+/// The number of an option, of one to three digits, from `low` to `high`.
+pub fn option_number(word: &str, low: u32, high: u32) -> Option<u32>
+    ensures value { result ≡ option_number low high word.now }
+    ensures range { IfSome result (λ n. (low ≤ n) × (n ≤ high)) }
+{
+    number_within(word, MOST_OPTION_DIGITS, low, high)
+}
+
+/// The ladder of so many blocks, a number of one to five digits, from 1 to 32,767.
+pub fn ladder_of(word: &str) -> Option<Ladder>
+    ensures { option_map (λ ladder. ladder.blocks) result ≡ blocks_of word.now }
+{
+    let blocks = number_within(word, MOST_BLOCK_DIGITS, 1, MOST_BLOCKS)?;
+    Some(Ladder { blocks })
 }
 
 fn quotient(above: Result<Frac, FracError>, below: Result<Frac, FracError>) -> Option<Frac>

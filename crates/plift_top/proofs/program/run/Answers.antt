@@ -52,3 +52,15 @@ returns-clause-silent g c e = acts.silent g.E.Sink.taken g.E.Sink.faults _ _ _ c
 
 pub returns-clause-told : goal.returns-clause-told
 returns-clause-told g c d = rw c.end.ensures.status (acts.told g.S.Source.left g.S.Source.faults g.K.Sink.taken g.K.Sink.faults _ _ _ _ g.E.Sink.taken g.E.Sink.faults _ _ _ _ (rw c.deref.ensures.value at c.act-answer.ensures.answer) c.end.ensures.noted (λ f. d (c.end.ensures.status ∙ f)))
+
+pub returns-clause-generated : goal.returns-clause-generated
+returns-clause-generated g c e = acts.generated g.S.Source.left g.S.Source.faults g.K.Sink.taken g.K.Sink.faults _ _ _ _ _ _ (rw c.deref.ensures.value at c.act-answer.ensures.answer) (sym c.end.ensures.status ∙ e)
+
+pub returns-clause-generates : goal.returns-clause-generates
+returns-clause-generates g c n is = rw c.end.ensures.status (acts.generates g.S.Source.left g.S.Source.faults g.K.Sink.taken g.K.Sink.faults _ _ _ _ _ _ (rw c.deref.ensures.value at c.act-answer.ensures.answer) n is)
+
+pub returns-clause-reads_nothing : goal.returns-clause-reads_nothing
+returns-clause-reads_nothing g c n is = acts.reads_nothing g.S.Source.left g.S.Source.faults g.K.Sink.taken g.K.Sink.faults _ _ _ _ _ _ (rw c.deref.ensures.value at c.act-answer.ensures.answer) n is
+
+pub returns-clause-ladder_part : goal.returns-clause-ladder_part
+returns-clause-ladder_part g c e = acts.ladder_part g.S.Source.left g.S.Source.faults g.K.Sink.taken g.K.Sink.faults _ _ _ _ _ _ (rw c.deref.ensures.value at c.act-answer.ensures.answer) (sym c.end.ensures.status ∙ e)

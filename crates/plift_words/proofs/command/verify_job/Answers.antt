@@ -1,10 +1,10 @@
 use Rattle.std.proofs.Common.{rules, map, string_bytes, sym, ◌∙◌}
 use Rattle.clap.specs.Words.{found_of}
-use Rattle.plift_words.proofs.Words.{plain_job, found_job}
-use Rattle.plift_words.proofs.command.job_of.Goals as goal
+use Rattle.plift_words.proofs.Words.{verify_lines, found_job}
+use Rattle.plift_words.proofs.command.verify_job.Goals as goal
 
 pub returns-in_default : goal.returns-in_default
-returns-in_default c = plain_job (map string_bytes c.args.words.now) (search rules)
+returns-in_default c = verify_lines (map string_bytes c.args.words.now) (search rules)
 
 pub returns-in-Ok-job_in : goal.returns-in-Ok-job_in
 returns-in-Ok-job_in c = found_job (map string_bytes c.args.words.now) (found_of c.in-Ok.matches) (search rules) c.in-Ok.ensures.values ∙ sym c.in-Ok-job_in.ensures
