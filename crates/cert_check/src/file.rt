@@ -8,7 +8,7 @@ use crate::error::CheckError;
 use crate::laws::rectangles_are_placed;
 use crate::nodes::check_tree;
 use crate::summary::Summary;
-use cert_text::{Head, Place, heads_are_read, read_head};
+use cert_text::{Head, Place, read_head};
 use lift_rows::admit;
 use std::alloc::Global;
 
