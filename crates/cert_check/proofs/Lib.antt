@@ -1,0 +1,7 @@
+mod Placed
+mod Unique
+mod Following
+mod Passing
+mod Holding
+mod Forms
+mod Steps

@@ -1,0 +1,66 @@
+-- Sound files: texts of reports whose rows are admitted and whose certificates hold.
+use Rattle.std.specs.Prelude.{◌≡◌, ℕ, ◌+◌, ◌<◌, List}
+use Rattle.lift_grid.specs.Rectangle.{Spans}
+use Rattle.lift_grid.specs.Splitting.{IsSplitAxis}
+use Rattle.lift_grid.specs.Tree.{Tree, lower_half, upper_half}
+use Rattle.lift_grid.specs.Tree.Tree.{split, accept, reject, unknown}
+use Rattle.lift_model.specs.Model.{live}
+use Rattle.corner_lift.specs.Case.{CaseData, IsAdmitted, greatest_depth}
+use Rattle.lift_cert.specs.Certificate.{IsAccepting, IsRejecting}
+use Rattle.lift_cert.specs.declared.bound.Bound.{Bound}
+use Rattle.cert_text.specs.Head.{HeadData}
+use Rattle.cert_text.specs.Forms.{IsReport}
+use Rattle.cert_text.specs.Laws.{text_of}
+use Rattle.cert_check.specs.declared.summary.Summary.{Summary}
+
+-- a rectangle at this depth may be halved on that axis: a halving is left, and the split rule chooses the axis
+pub record IsSoundSplit (k : CaseData) (spans : Spans) (depth axis : ℕ) : Type 0 where
+  pub left : depth < greatest_depth k
+  pub axis_is : IsSplitAxis (live k.model) spans axis
+
+-- A sound tree over a rectangle at a depth: an accepting or a rejecting leaf holds such a certificate of its rectangle for the bound, a split stands where one may, and an unknown leaf stands at the greatest depth.
+abbrev pub IsSoundTree : CaseData → Bound → Spans → ℕ → Tree → Type 0
+IsSoundTree k bound spans depth (accept u x) = IsAccepting k spans bound x
+IsSoundTree k bound spans depth (reject u r) = IsRejecting k spans bound r
+IsSoundTree k bound spans depth (split axis lower upper) =
+    IsSoundSplit k spans depth axis × IsSoundTree k bound (lower_half axis spans) (depth + 1) lower × IsSoundTree k bound (upper_half axis spans) (depth + 1) upper
+IsSoundTree k bound spans depth unknown = depth ≡ greatest_depth k
+
+-- a sound report: its head's case is admitted, and its tree is sound over the root
+pub record IsSound (h : HeadData) (t : Tree) : Type 0 where
+  pub report : IsReport h t
+  pub admitted : IsAdmitted h.asked
+  pub tree : IsSoundTree h.asked h.bound h.asked.root 0 t
+
+-- how many accepting leaves a tree has
+abbrev pub accept_count : Tree → ℕ
+accept_count (split axis lower upper) = accept_count lower + accept_count upper
+accept_count (accept u x) = 1
+accept_count (reject u r) = 0
+accept_count unknown = 0
+
+-- how many rejecting leaves
+abbrev pub reject_count : Tree → ℕ
+reject_count (split axis lower upper) = reject_count lower + reject_count upper
+reject_count (accept u x) = 0
+reject_count (reject u r) = 1
+reject_count unknown = 0
+
+-- how many unknown leaves
+abbrev pub unknown_count : Tree → ℕ
+unknown_count (split axis lower upper) = unknown_count lower + unknown_count upper
+unknown_count (accept u x) = 0
+unknown_count (reject u r) = 0
+unknown_count unknown = 1
+
+-- the numbers of a tree's leaves, by kind
+abbrev pub leaf_counts : Tree → Summary
+leaf_counts t = record { accept = accept_count t; reject = reject_count t; unknown = unknown_count t }
+
+-- a sound file with so many leaves: the text of a sound report whose tree has them
+pub record IsSoundFile (bytes : List ℕ) (leaves : Summary) : Type 0 where
+  pub head : HeadData
+  pub tree : Tree
+  pub sound : IsSound head tree
+  pub text : bytes ≡ text_of head tree
+  pub counts : leaves ≡ leaf_counts tree

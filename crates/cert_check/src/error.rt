@@ -1,0 +1,73 @@
+// Why a file isn't sound, or wasn't checked.
+ghost use Rattle.std.specs.Prelude.{◌≡◌};
+ghost use Rattle.cert_check.specs.Shown.{told, told_read};
+ghost use Rattle.cert_check.specs.declared.error.CheckError.TheVariants.{Memory, Rows};
+
+use cert_text::{TextCause, TextError};
+use lift_base::ReadError;
+use lift_cert::Miss;
+use lift_rows::RowError;
+use std::alloc::AllocError;
+
+/// Why a file isn't sound, or wasn't checked. Nodes are numbered from 0 in preorder.
+#[derive(Clone, Copy, Debug)]
+pub enum CheckError {
+    /// The text isn't that of a report, or has no whole line where one is due. The cause is never want
+    /// of memory.
+    Text(TextError),
+    /// A row of the model isn't admitted over the region.
+    Rows(RowError),
+    /// The certificate of a leaf doesn't hold, and this is the first test that it fails.
+    Missed { node: u32, miss: Miss },
+    /// A split stands at the greatest depth, or an unknown leaf above it.
+    Depth { node: u32 },
+    /// A split stands on another axis than that of the split rule.
+    Axis { node: u32 },
+    /// Something follows the last node.
+    Rest,
+    /// Reading the source failed.
+    Fault,
+    /// The source gives more than 2^26 bytes.
+    TooLong,
+    /// Want of memory.
+    Memory,
+}
+
+impl From<TextError> for CheckError {
+    ghost from_gives = { λ x e. e ≡ told x };
+
+    fn from(error: TextError) -> Self {
+        match error.cause {
+            TextCause::Memory => CheckError::Memory,
+            _ => CheckError::Text(error),
+        }
+    }
+}
+
+impl From<RowError> for CheckError {
+    ghost from_gives = { λ x e. e ≡ Rows x };
+
+    fn from(error: RowError) -> Self {
+        CheckError::Rows(error)
+    }
+}
+
+impl From<AllocError> for CheckError {
+    ghost from_gives = { λ _ e. e ≡ Memory };
+
+    fn from(_: AllocError) -> Self {
+        CheckError::Memory
+    }
+}
+
+impl From<ReadError> for CheckError {
+    ghost from_gives = { λ x e. e ≡ told_read x };
+
+    fn from(error: ReadError) -> Self {
+        match error {
+            ReadError::Fault => CheckError::Fault,
+            ReadError::TooLong => CheckError::TooLong,
+            ReadError::Memory => CheckError::Memory,
+        }
+    }
+}

@@ -1,0 +1,19 @@
+//! Checks a report by itself: whether its rows are admitted over its region, and its certificates hold.
+#![tactic(auto)]
+
+mod came;
+mod checking;
+mod error;
+mod file;
+mod laws;
+mod leaf;
+mod nodes;
+mod summary;
+
+pub use checking::check;
+pub use error::CheckError;
+pub use laws::{
+    answers_are_one, prefixes_are_refused, sound_files_pass, sound_reports_hold,
+    sound_trees_are_reports,
+};
+pub use summary::Summary;

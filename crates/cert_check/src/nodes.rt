@@ -1,0 +1,95 @@
+// The nodes of a report.
+ghost use Rattle.std.specs.Prelude.{◌≡◌, ◌<◌, ◌≤◌, ◌^◌, ℕ, drop, length, IfOk, IfErr};
+ghost use Rattle.lift_grid.specs.Rectangle.{sides_of, spans_of};
+ghost use Rattle.lift_grid.specs.Splitting.{IsHalvable};
+ghost use Rattle.lift_grid.specs.Tree.{lower_half};
+ghost use Rattle.corner_lift.specs.Case.{IsCase};
+ghost use Rattle.cert_check.specs.Answer.{TreeEnds};
+ghost use Rattle.cert_check.specs.Shown.{IsIn, IsPlaced, Says, IsToldOfFile, came_of, file_limit};
+
+use crate::came::Came;
+use crate::error::CheckError;
+use crate::laws::rectangles_are_placed;
+use crate::leaf::{test_accept, test_reject, test_split, test_unknown};
+use cert_text::{Head, Node, nodes_are_read, read_node};
+use corner_lift::Case;
+use lift_grid::narrow;
+use std::alloc::{AllocError, Global};
+
+/// A copy of the lower half.
+fn lower_half(alloc: Global, sides: &[i64], axis: u32) -> Result<Vec<i64>, AllocError>
+    requires halvable { IsHalvable axis (spans_of sides.now) }
+    requires paired { sides_of (spans_of sides.now) ≡ sides.now }
+    ensures half { IfOk result (λ v. spans_of v.items ≡ lower_half axis (spans_of sides.now)) }
+    ensures paired { IfOk result (λ v. sides_of (spans_of v.items) ≡ v.items) }
+{
+    let mut lower = Vec::from_slice(alloc, sides)?;
+    narrow(&mut lower, axis, true);
+    Ok(lower)
+}
+
+/// Checks the nodes of the rectangle with these sides, which may be halved `levels` times, and gives
+/// where they end. On the way down it keeps a rectangle for each level. The sides are free afterwards.
+pub(crate) fn check_tree(
+    alloc: Global,
+    text: &[u8],
+    head: &Head,
+    case: &Case,
+    levels: u32,
+    sides: &mut [i64],
+    came: Came,
+) -> Result<Came, CheckError>
+    requires text { length text.now ≤ file_limit }
+    requires asked { case.now ≡ head.now.asked }
+    requires placed { IsPlaced case.now levels (spans_of sides.old) }
+    requires paired { sides_of (spans_of sides.old) ≡ sides.old }
+    requires came { IsIn text.now came }
+    ensures end { Says (came_of text.now)
+        (TreeEnds head.now levels (spans_of sides.old) (came_of text.now came)) result }
+    ensures came { IfOk result (IsIn text.now) }
+    ensures told { IfErr result IsToldOfFile }
+{
+    rectangles_are_placed();
+    nodes_are_read();
+    let _ = head.w();
+    let _ = case.w();
+    let (node, place) = read_node(alloc, text, came.place, head)?;
+    match node {
+        Node::Split { axis } => {
+            test_split(case, levels, sides, came.node, axis)?;
+            let mut lower = lower_half(alloc, sides, axis)?;
+            let behind = came.behind(place, came.leaves);
+            let between = check_tree(alloc, text, head, case, levels - 1, &mut lower, behind)?;
+            narrow(sides, axis, false);
+            check_tree(alloc, text, head, case, levels - 1, sides, between)
+        }
+        Node::Accept { x } => {
+            test_accept(case, head.bound(), sides, came.node, x.as_slice())?;
+            Ok(came.behind(place, came.leaves.one_accept()))
+        }
+        Node::Reject {
+            e,
+            k,
+            y,
+            picks,
+            ranks,
+        } => {
+            test_reject(
+                case,
+                head.bound(),
+                sides,
+                came.node,
+                y.as_slice(),
+                picks.as_slice(),
+                ranks.as_slice(),
+                e,
+                k,
+            )?;
+            Ok(came.behind(place, came.leaves.one_reject()))
+        }
+        Node::Unknown => {
+            test_unknown(levels, came.node)?;
+            Ok(came.behind(place, came.leaves.one_unknown()))
+        }
+    }
+}
