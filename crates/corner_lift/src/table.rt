@@ -1,15 +1,15 @@
 //! Tables of the weights of all rows at the corners of a rectangle, made once for it.
 
-ghost use Rattle.std.specs.Prelude.{◌≡◌, ℕ, ◌+◌, ◌*◌, ◌^◌, ◌<◌, ◌≤◌, ◌++◌, ◌≤ℤ◌, ◌<ℤ◌, ◌*ℤ◌, pos, length, All, map, take, count_ones, unsigned_abs, if◌then◌else◌};
+ghost use Rattle.std.specs.Prelude.{◌≡◌, ℕ, ◌+◌, ◌*◌, ◌^◌, ◌<◌, ◌≤◌, ◌++◌, ◌≤ℤ◌, ◌<ℤ◌, ◌*ℤ◌, ◌-◌, pos, length, All, map, take, count_ones, unsigned_abs, IsTrue, if◌then◌else◌};
 ghost use Rattle.lift_grid.specs.Rectangle.{Spans, spans_of};
 ghost use Rattle.lift_model.specs.Model.{row_at};
 ghost use Rattle.lift_model.specs.Links.{AreLinks, weight_count};
 ghost use Rattle.corner_lift.specs.Corner.{corner_sum};
 ghost use Rattle.corner_lift.specs.Certificate.{AreNumbers, mark, ranked_below};
-ghost use Rattle.corner_lift.specs.Case.{number, IsCase, IsRowOf, AreSidesInside, IsGreatest, IsLeast, BoundsAbove, BoundsBelow, row_value, row_whole, corner_count, abs_sum, engine_limit, most_row_parameters};
+ghost use Rattle.corner_lift.specs.Case.{number, IsCase, IsRowOf, AreSidesInside, IsGreatest, IsLeast, BoundsAbove, BoundsBelow, row_value, row_whole, corner_count, abs_sum, engine_limit, most_precision, most_row_parameters};
 ghost use Rattle.corner_lift.specs.Ends.{weight_at, greatest_end};
 ghost use Rattle.corner_lift.specs.Table.{block, IsTable, CanRead};
-ghost use Rattle.corner_lift.specs.Dot.{dot, total, corner_part, only_at, CanSum, CanCompare};
+ghost use Rattle.corner_lift.specs.Dot.{dot, total, corner_part, only_at, CanSum, CanCompare, FitsLane, FitsLaneAtCorners};
 
 use crate::case::Case;
 use crate::ends::Ends;
@@ -99,8 +99,22 @@ fn times(weight: i128, number: i64) -> i128
     weight * i128::from(number)
 }
 
+/// The sum of the weights, each times its target's number, in numbers of 64 bits.
+fn sum_in_lane(weights: &[i128], targets: &[u32], vec: &[i64]) -> i64
+    requires targets { All (λ t. t < length vec.now) targets.now }
+    requires room { CanSum (number vec.now) weights.now targets.now }
+    requires lane { FitsLane (number vec.now) weights.now targets.now }
+    ensures { result ≡ dot (number vec.now) weights.now targets.now }
+{
+    let mut sum = 0;
+    for j in 0..targets.len() {
+        sum += weights[j] as i64 * vec[targets[j] as usize];
+    }
+    sum
+}
+
 /// The sum of the weights, each times its target's number.
-fn sum_of(weights: &[i128], targets: &[u32], vec: &[i64]) -> i128
+fn wide_sum(weights: &[i128], targets: &[u32], vec: &[i64]) -> i128
     requires targets { All (λ t. t < length vec.now) targets.now }
     requires room { CanSum (number vec.now) weights.now targets.now }
     ensures { result ≡ dot (number vec.now) weights.now targets.now }
@@ -110,6 +124,20 @@ fn sum_of(weights: &[i128], targets: &[u32], vec: &[i64]) -> i128
         sum += times(weights[j], vec[targets[j] as usize]);
     }
     sum
+}
+
+/// The sum of the weights, each times its target's number; in numbers of 64 bits where they hold it.
+fn sum_of(weights: &[i128], targets: &[u32], vec: &[i64], narrow: bool) -> i128
+    requires targets { All (λ t. t < length vec.now) targets.now }
+    requires room { CanSum (number vec.now) weights.now targets.now }
+    requires lane { IsTrue narrow → FitsLane (number vec.now) weights.now targets.now }
+    ensures { result ≡ dot (number vec.now) weights.now targets.now }
+{
+    if narrow {
+        i128::from(sum_in_lane(weights, targets, vec))
+    } else {
+        wide_sum(weights, targets, vec)
+    }
 }
 
 /// The weight where it counts, else 0.
@@ -157,29 +185,54 @@ fn total_of(weights: &[i128]) -> i128
     sum
 }
 
+/// Whether weights that sum to as much as these can be summed in numbers of 64 bits, each times a
+/// number of at most 2 to the `w`.
+fn is_narrow(weights: &[i128], w: u32) -> bool
+    requires weights { All (λ weight. pos 0 ≤ℤ weight) weights.now }
+    requires room { total weights.now <ℤ pos engine_limit }
+    requires precision { w ≤ most_precision }
+    ensures { IsTrue result → total weights.now <ℤ pos (2 ^ (63 - w)) }
+{
+    total_of(weights) < 1 << (63 - w)
+}
+
 /// The greatest sum over the corners of the row that stands at that place.
-fn greatest_of(weights: &[i128], place: RowPlace, targets: &[u32], vec: &[i64]) -> i128
+fn greatest_of(
+    weights: &[i128],
+    place: RowPlace,
+    targets: &[u32],
+    vec: &[i64],
+    narrow: bool,
+) -> i128
     requires targets { All (λ t. t < length vec.now) targets.now }
     requires room { CanCompare (number vec.now) weights.now targets.now place }
+    requires lane { IsTrue narrow → FitsLaneAtCorners (number vec.now) weights.now targets.now place }
     ensures { IsGreatest (λ c. dot (number vec.now) (corner_part weights.now place c) targets.now) place.corners result }
 {
-    let mut greatest = sum_of(corner_of(weights, place, 0), targets, vec);
+    let mut greatest = sum_of(corner_of(weights, place, 0), targets, vec, narrow);
     for corner in 1..place.corners {
-        let sum = sum_of(corner_of(weights, place, corner), targets, vec);
+        let sum = sum_of(corner_of(weights, place, corner), targets, vec, narrow);
         greatest = greater(greatest, sum);
     }
     greatest
 }
 
 /// The least sum over the corners of the row that stands at that place.
-fn least_of(weights: &[i128], place: RowPlace, targets: &[u32], vec: &[i64]) -> i128
+fn least_of(
+    weights: &[i128],
+    place: RowPlace,
+    targets: &[u32],
+    vec: &[i64],
+    narrow: bool,
+) -> i128
     requires targets { All (λ t. t < length vec.now) targets.now }
     requires room { CanCompare (number vec.now) weights.now targets.now place }
+    requires lane { IsTrue narrow → FitsLaneAtCorners (number vec.now) weights.now targets.now place }
     ensures { IsLeast (λ c. dot (number vec.now) (corner_part weights.now place c) targets.now) place.corners result }
 {
-    let mut least = sum_of(corner_of(weights, place, 0), targets, vec);
+    let mut least = sum_of(corner_of(weights, place, 0), targets, vec, narrow);
     for corner in 1..place.corners {
-        let sum = sum_of(corner_of(weights, place, corner), targets, vec);
+        let sum = sum_of(corner_of(weights, place, corner), targets, vec, narrow);
         least = lesser(least, sum);
     }
     least
@@ -200,12 +253,14 @@ pub fn table_value(
     ensures { result ≡ row_value case.now spans s a vec.now corner }
 {
     premises();
-    let _ = case.w();
+    let w = case.w();
     let place = links.place(s, a);
+    let narrow = is_narrow(corner_of(weights, place, 0), w);
     sum_of(
         corner_of(weights, place, corner as usize),
         links.targets(place),
         vec,
+        narrow,
     )
 }
 
@@ -218,9 +273,10 @@ pub fn table_max(case: &Case, links: &Links, weights: &[i128], s: u32, a: u32, v
     ensures bound { BoundsAbove case.now spans s a vec.now result }
 {
     premises();
-    let _ = case.w();
+    let w = case.w();
     let place = links.place(s, a);
-    greatest_of(weights, place, links.targets(place), vec)
+    let narrow = is_narrow(corner_of(weights, place, 0), w);
+    greatest_of(weights, place, links.targets(place), vec, narrow)
 }
 
 /// `row_min` of the rectangle whose table `weights` is. One multiplication for each entry and corner.
@@ -231,9 +287,10 @@ pub fn table_min(case: &Case, links: &Links, weights: &[i128], s: u32, a: u32, v
     ensures bound { BoundsBelow case.now spans s a vec.now result }
 {
     premises();
-    let _ = case.w();
+    let w = case.w();
     let place = links.place(s, a);
-    least_of(weights, place, links.targets(place), vec)
+    let narrow = is_narrow(corner_of(weights, place, 0), w);
+    least_of(weights, place, links.targets(place), vec, narrow)
 }
 
 /// `weight_into` of the rectangle whose table `weights` is. No multiplication.
