@@ -1,13 +1,13 @@
 //! Tables of the weights of all rows at the corners of a rectangle, made once for it.
 
-ghost use Rattle.std.specs.Prelude.{◌≡◌, ℕ, ◌+◌, ◌*◌, ◌^◌, ◌<◌, ◌≤◌, ◌++◌, ◌≤ℤ◌, ◌<ℤ◌, ◌*ℤ◌, ◌-◌, pos, length, All, map, take, count_ones, unsigned_abs, IsTrue, if◌then◌else◌};
+ghost use Rattle.std.specs.Prelude.{◌≡◌, ℕ, ◌+◌, ◌*◌, ◌^◌, ◌<◌, ◌≤◌, ◌++◌, ◌≤ℤ◌, ◌<ℤ◌, ◌+ℤ◌, ◌*ℤ◌, ◌-◌, pos, length, All, map, take, count_ones, unsigned_abs, IsTrue, if◌then◌else◌};
 ghost use Rattle.lift_grid.specs.Rectangle.{Spans, spans_of};
-ghost use Rattle.lift_model.specs.Model.{row_at};
+ghost use Rattle.lift_model.specs.Model.{row_at, support};
 ghost use Rattle.lift_model.specs.Links.{AreLinks, weight_count};
 ghost use Rattle.corner_lift.specs.Corner.{corner_sum};
 ghost use Rattle.corner_lift.specs.Certificate.{AreNumbers, mark, ranked_below};
 ghost use Rattle.corner_lift.specs.Case.{number, IsCase, IsRowOf, AreSidesInside, IsGreatest, IsLeast, BoundsAbove, BoundsBelow, row_value, row_whole, corner_count, abs_sum, engine_limit, most_precision, most_row_parameters};
-ghost use Rattle.corner_lift.specs.Ends.{weight_at, greatest_end};
+ghost use Rattle.corner_lift.specs.Ends.{weight_at, greatest_end, IsPair};
 ghost use Rattle.corner_lift.specs.Table.{block, IsTable, CanRead};
 ghost use Rattle.corner_lift.specs.Dot.{dot, total, corner_part, only_at, CanSum, CanCompare, FitsLane, FitsLaneAtCorners};
 
@@ -40,6 +40,104 @@ fn corners(support: u16) -> u32
     1 << support.count_ones()
 }
 
+/// What two parts weigh together: the one over the end of their parameter, the other over `d`.
+fn joined(present: i128, absent: i128, end: i64, d: i64) -> i128
+    requires present { unsigned_abs present * unsigned_abs end < engine_limit }
+    requires absent { unsigned_abs absent * unsigned_abs d < engine_limit }
+    ensures { result ≡ present *ℤ end +ℤ absent *ℤ d }
+{
+    times(present, end) + times(absent, d)
+}
+
+/// Writes the weights of a row at two corners that differ in one parameter: what the other parameters
+/// give is calculated once for both.
+fn fill_pair(
+    case: &Case,
+    row: &Row,
+    low: &Ends,
+    high: &Ends,
+    low_weights: &mut [i128],
+    high_weights: &mut [i128],
+)
+    requires pair { IsPair low.now high.now }
+    requires low_room { abs_sum row.now * (greatest_end case.now.d low.now ^ length low.now * 2 ^ case.now.w) < engine_limit }
+    requires high_room { abs_sum row.now * (greatest_end case.now.d high.now ^ length high.now * 2 ^ case.now.w) < engine_limit }
+    requires low_space { length low_weights.old ≡ length row.now }
+    requires high_space { length high_weights.old ≡ length row.now }
+    ensures low { low_weights.new ≡ map (λ entry. weight_at case.now.d low.now entry.poly) row.now }
+    ensures high { high_weights.new ≡ map (λ entry. weight_at case.now.d high.now entry.poly) row.now }
+{
+    let d = case.grid().d;
+    let (parameter, low_end) = low.first();
+    let (_, high_end) = high.first();
+    let rest = low.rest();
+    let mut at = 0;
+    for entry in row.entries() {
+        let (present, absent) = rest.parts(parameter, d, &entry.poly);
+        low_weights[at] = joined(present, absent, low_end, d);
+        high_weights[at] = joined(present, absent, high_end, d);
+        at += 1;
+    }
+}
+
+/// Writes the weights of a row at two corners that differ in one parameter, the one behind the other.
+fn fill_both(case: &Case, row: &Row, low: &Ends, high: &Ends, weights: &mut [i128])
+    requires pair { IsPair low.now high.now }
+    requires low_room { abs_sum row.now * (greatest_end case.now.d low.now ^ length low.now * 2 ^ case.now.w) < engine_limit }
+    requires high_room { abs_sum row.now * (greatest_end case.now.d high.now ^ length high.now * 2 ^ case.now.w) < engine_limit }
+    requires space { length weights.old ≡ 2 * length row.now }
+    ensures { weights.new ≡ map (λ entry. weight_at case.now.d low.now entry.poly) row.now
+        ++ map (λ entry. weight_at case.now.d high.now entry.poly) row.now }
+{
+    let count = row.entries().len();
+    let (low_weights, high_weights) = weights.split_at_mut(count);
+    fill_pair(case, row, low, high, low_weights, high_weights);
+}
+
+/// Writes them at a place.
+fn fill_pair_at(
+    case: &Case,
+    row: &Row,
+    low: &Ends,
+    high: &Ends,
+    place: usize,
+    weights: &mut [i128],
+)
+    requires pair { IsPair low.now high.now }
+    requires low_room { abs_sum row.now * (greatest_end case.now.d low.now ^ length low.now * 2 ^ case.now.w) < engine_limit }
+    requires high_room { abs_sum row.now * (greatest_end case.now.d high.now ^ length high.now * 2 ^ case.now.w) < engine_limit }
+    requires space { place + 2 * length row.now ≤ length weights.old }
+    ensures { take (place + 2 * length row.now) weights.new
+        ≡ take place weights.old ++ (map (λ entry. weight_at case.now.d low.now entry.poly) row.now
+        ++ map (λ entry. weight_at case.now.d high.now entry.poly) row.now) }
+{
+    let end = place + 2 * row.entries().len();
+    fill_both(case, row, low, high, &mut weights[place..end]);
+}
+
+/// Writes the weights of a row with parameters at all its corners, and tells where they end.
+fn fill_pairs(case: &Case, sides: &[i64], row: &Row, place: usize, weights: &mut [i128]) -> usize
+    requires case { IsCase case.now }
+    requires sides { AreSidesInside case.now.root sides.now }
+    requires row { IsRowOf case.now row.now }
+    requires some { 1 ≤ count_ones (support row.now) }
+    requires space { place + weight_count row.now ≤ length weights.old }
+    ensures end { result ≡ place + weight_count row.now }
+    ensures filled { take result weights.new
+        ≡ take place weights.old ++ block case.now.d (spans_of sides.now) row.now }
+{
+    let support = row.support();
+    let count = row.entries().len();
+    let mut at = place;
+    for pair in 0..corners(support) / 2 {
+        let low = Ends::at(sides, support, 2 * pair);
+        let high = Ends::at(sides, support, 2 * pair + 1);
+        fill_pair_at(case, row, &low, &high, at, weights);
+        at += 2 * count;
+    }
+    at
+}
+
 /// Writes the weights of a row at all its corners, and tells where they end.
 fn fill_row(case: &Case, sides: &[i64], row: &Row, place: usize, weights: &mut [i128]) -> usize
     requires case { IsCase case.now }
@@ -51,14 +149,12 @@ fn fill_row(case: &Case, sides: &[i64], row: &Row, place: usize, weights: &mut [
         ≡ take place weights.old ++ block case.now.d (spans_of sides.now) row.now }
 {
     let support = row.support();
-    let count = row.entries().len();
-    let mut at = place;
-    for corner in 0..corners(support) {
-        let ends = Ends::at(sides, support, corner);
-        fill_corner(case, row, &ends, at, weights);
-        at += count;
+    if support.count_ones() > 0 {
+        return fill_pairs(case, sides, row, place, weights);
     }
-    at
+    let ends = Ends::at(sides, support, 0);
+    fill_corner(case, row, &ends, place, weights);
+    place + row.entries().len()
 }
 
 /// Makes the table of a rectangle inside the root. What the weights are before is of no account. Rows
