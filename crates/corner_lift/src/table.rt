@@ -95,14 +95,7 @@ fn fill_both(case: &Case, row: &Row, low: &Ends, high: &Ends, weights: &mut [i12
 }
 
 /// Writes them at a place.
-fn fill_pair_at(
-    case: &Case,
-    row: &Row,
-    low: &Ends,
-    high: &Ends,
-    place: usize,
-    weights: &mut [i128],
-)
+fn fill_pair_at(case: &Case, row: &Row, low: &Ends, high: &Ends, place: usize, weights: &mut [i128])
     requires pair { IsPair low.now high.now }
     requires low_room { abs_sum row.now * (greatest_end case.now.d low.now ^ length low.now * 2 ^ case.now.w) < engine_limit }
     requires high_room { abs_sum row.now * (greatest_end case.now.d high.now ^ length high.now * 2 ^ case.now.w) < engine_limit }
@@ -314,13 +307,7 @@ fn greatest_of(
 }
 
 /// The least sum over the corners of the row that stands at that place.
-fn least_of(
-    weights: &[i128],
-    place: RowPlace,
-    targets: &[u32],
-    vec: &[i64],
-    narrow: bool,
-) -> i128
+fn least_of(weights: &[i128], place: RowPlace, targets: &[u32], vec: &[i64], narrow: bool) -> i128
     requires targets { All (λ t. t < length vec.now) targets.now }
     requires room { CanCompare (number vec.now) weights.now targets.now place }
     requires lane { IsTrue narrow → FitsLaneAtCorners (number vec.now) weights.now targets.now place }

@@ -1,4 +1,4 @@
-use Rattle.std.proofs.Common.{rules, ◌≡◌, ◌+◌, ◌*◌, ◌^◌, ◌<◌, ◌+ℤ◌, ◌*ℤ◌, ℕ, ℤ, pos, List, length, drop, slice_index_or, to_z, of_z, to_z-of_z, SFits, w64, sym, ap, ap₂, ◌∙◌, arith}
+use Rattle.std.proofs.Common.{rules, ◌≡◌, ◌*◌, ◌^◌, ◌<◌, ◌+ℤ◌, ◌*ℤ◌, ℕ, ℤ, pos, List, length, drop, slice_index_or, to_z, of_z, to_z-of_z, SFits, w64, sym, ap, ap₂, ◌∙◌, arith}
 use mir.Syntax.{w128}
 use Rattle.lift_poly.specs.Arithmetic as polynomial
 use Rattle.lift_model.specs.declared.entry.Entry.{Entry}

@@ -1,4 +1,4 @@
-use Rattle.std.proofs.Common.{◌≡◌, map, take, length}
+use Rattle.std.proofs.Common.{◌≡◌, map, take}
 use Rattle.lift_model.specs.declared.entry.Entry.{Entry}
 use Rattle.corner_lift.specs.Ends.{weight_at}
 use Rattle.corner_lift.proofs.table.fill_pair.Given as goal

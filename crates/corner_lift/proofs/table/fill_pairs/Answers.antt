@@ -3,7 +3,7 @@ use Rattle.lift_grid.specs.Rectangle.{spans_of}
 use Rattle.lift_model.specs.declared.entry.Entry.{Entry}
 use Rattle.lift_model.specs.Model.{support}
 use Rattle.corner_lift.specs.Corner.{corner, parameter_count}
-use Rattle.corner_lift.specs.Ends.{StandFor, IsPair}
+use Rattle.corner_lift.specs.Ends.{StandFor}
 use Rattle.corner_lift.specs.Table.{first_corners}
 use Rattle.corner_lift.proofs.Cases.{pairs_of, few_of, room_of, ones_of, parameters_of}
 use Rattle.corner_lift.proofs.Gathering.{pair_from}

@@ -33,4 +33,4 @@ pub is_narrow-narrow-requires-clause-room : goal.is_narrow-narrow-requires-claus
 is_narrow-narrow-requires-clause-room g c = rw (c.corner_of.ensures, first_total c.premises.ensures c.args.case.now c.args.links.now g.spans c.args.weights.now c.args.s c.args.a c.w-w.ensures.case c.requires.0 c.place-place.result (row_placed c.args.case.now c.args.links.now g.spans c.args.weights.now c.args.s c.args.a c.place-place.result c.requires.0 c.place-place.ensures)) (whole_below c.premises.ensures c.args.case.now c.args.links.now g.spans c.args.weights.now c.args.s c.args.a c.w-w.ensures.case c.requires.0 c.place-place.result (row_placed c.args.case.now c.args.links.now g.spans c.args.weights.now c.args.s c.args.a c.place-place.result c.requires.0 c.place-place.ensures))
 
 pub sum_of-requires-clause-lane : goal.sum_of-requires-clause-lane
-sum_of-requires-clause-lane g c small = rw (c.targets.ensures, (row_placed c.args.case.now c.args.links.now g.spans c.args.weights.now c.args.s c.args.a c.place-place.result c.requires.0 c.place-place.ensures).entries, c.corner_of-2.ensures) (lane_at c.premises.ensures c.args.case.now c.args.links.now g.spans c.args.weights.now c.args.s c.args.a c.w-w.ensures.case c.requires.0 c.place-place.result (row_placed c.args.case.now c.args.links.now g.spans c.args.weights.now c.args.s c.args.a c.place-place.result c.requires.0 c.place-place.ensures) c.args.vec.now c.requires.1 (rw (c.corner_of.ensures, c.w-w.ensures.value) at (c.is_narrow-narrow.ensures small))  c.args.corner c.requires.2)
+sum_of-requires-clause-lane g c small = rw (c.targets.ensures, (row_placed c.args.case.now c.args.links.now g.spans c.args.weights.now c.args.s c.args.a c.place-place.result c.requires.0 c.place-place.ensures).entries, c.corner_of-2.ensures) (lane_at c.premises.ensures c.args.case.now c.args.links.now g.spans c.args.weights.now c.args.s c.args.a c.w-w.ensures.case c.requires.0 c.place-place.result (row_placed c.args.case.now c.args.links.now g.spans c.args.weights.now c.args.s c.args.a c.place-place.result c.requires.0 c.place-place.ensures) c.args.vec.now c.requires.1 (rw (c.corner_of.ensures, c.w-w.ensures.value) at (c.is_narrow-narrow.ensures small)) c.args.corner c.requires.2)

@@ -1,4 +1,4 @@
-use Rattle.std.proofs.Common.{rules, ◌≡◌, ◌==◌, ◌<◌, ◌+◌, ◌/◌, ◌%◌, ◌^◌, ◌*ℤ◌, ℕ, List, Some, slice_get, ◌∙◌, ◌+ℤ◌, Bool, cond, ℤ, pos, length, take, arith, to_z, of_z, to_z-of_z, SFits, w64, refl, sym, ap₂}
+use Rattle.std.proofs.Common.{rules, ◌≡◌, ◌==◌, ◌<◌, ◌+◌, ◌/◌, ◌%◌, ◌^◌, ◌*ℤ◌, ℕ, List, Some, slice_get, ◌∙◌, ◌+ℤ◌, Bool, cond, ℤ, pos, length, take, arith, to_z, to_z-of_z, SFits, w64, refl, sym, ap₂}
 use Rattle.std.proofs.lemmas.Option.{get_or_from_slice_get}
 use mir.Syntax.{w128}
 use Rattle.lift_poly.specs.Polynomial.{Term}
