@@ -1,7 +1,8 @@
 -- Filling a table block by block.
-use Rattle.std.proofs.Common.{◌≡◌, ℕ, suc, ◌+◌, ◌*◌, ◌<◌, ◌≤◌, List, [], ◌∷◌, ◌++◌, length, map, take, get_or, ℤ, sum_by, refl, sym, ap, ap₂, ◌∙◌, arith, append_assoc, mul-le-mul_left, add-one}
+use Rattle.std.proofs.Common.{◌≡◌, ℕ, zero, suc, ◌+◌, ◌*◌, ◌/◌, ◌^◌, ◌<◌, ◌≤◌, List, [], ◌∷◌, ◌++◌, length, map, take, get_or, ℤ, sum_by, refl, sym, ap, ap₂, ◌∙◌, arith, append_assoc, mul-le-mul_left, add-one, length-append, length-take-le}
 use Rattle.std.proofs.lemmas.List.{take_more, take_all, append-nil}
 use Rattle.std.proofs.lemmas.List.Sums.{sum_by_more, sum_by-take-le}
+use Rattle.std.proofs.Math.Seq.{take-append_seam}
 use lib.Bits.{or_self}
 use Rattle.lift_poly.specs.Polynomial.{Valuation, weight}
 use Rattle.lift_poly.specs.Arithmetic as polynomial
@@ -37,6 +38,23 @@ corners_more d spans row ends old before after at next c size stand h g =
     ap (λ k. take k after) size ∙ g ∙ ap₂ (λ xs ys. xs ++ ys) h (row_stand d ends spans row c stand) ∙ append_assoc old (first_corners d spans row c) (corner_weights d spans row c)
     ∙ ap (λ k. old ++ first_corners d spans row k) (sym (add-one c))
 
+-- two corners
+pub two_more : (d : ℤ) (spans : Spans) (row : List Entry) (low high : List End) (old before after : List ℤ) (at next c : ℕ) → next ≡ at + 2 * length row → StandFor d low (corner d spans (support row) (2 * c)) (support row) → StandFor d high (corner d spans (support row) (2 * c + 1)) (support row) → take at before ≡ old ++ first_corners d spans row (2 * c) → take (at + 2 * length row) after ≡ take at before ++ (map (λ (entry : Entry). weight_at d low entry.poly) row ++ map (λ (entry : Entry). weight_at d high entry.poly) row) → take next after ≡ old ++ first_corners d spans row (2 * (c + 1))
+two_more d spans row low high old before after at next c size low_stand high_stand h g =
+    let first = corner_weights d spans row (2 * c) in
+    let second = corner_weights d spans row (2 * c + 1) in
+    ap (λ k. take k after) size ∙ g
+    ∙ ap₂ (λ xs ys. xs ++ ys) h (ap₂ (λ xs ys. xs ++ ys) (row_stand d low spans row (2 * c) low_stand) (row_stand d high spans row (2 * c + 1) high_stand))
+    ∙ append_assoc old (first_corners d spans row (2 * c)) (first ++ second)
+    ∙ ap (λ xs. old ++ xs) (sym (append_assoc (first_corners d spans row (2 * c)) first second) ∙ ap (λ k. first_corners d spans row (suc (2 * c)) ++ corner_weights d spans row k) (let e : 2 * c + 1 ≡ suc (2 * c) = omega arith in e))
+    ∙ ap (λ k. old ++ first_corners d spans row k) (let e : suc (suc (2 * c)) ≡ 2 * (c + 1) = omega arith in e)
+
+-- a part that was written behind what stood there
+pub part_written : (p m : ℕ) (old part rest : List ℤ) → p ≤ length old → length part ≡ m → take (p + m) (take p old ++ (part ++ rest)) ≡ take p old ++ part
+part_written p m old part rest le is =
+    let size : length (take p old ++ part) ≡ p + m = length-append (take p old) part ∙ omega (arith, is, length-take-le p old le) in
+    ap (take (p + m)) (sym (append_assoc (take p old) part rest)) ∙ ap (λ n. take n ((take p old ++ part) ++ rest)) (sym size) ∙ take-append_seam (take p old ++ part) rest
+
 -- room for one corner more
 pub corner_space : (at place n c corners size : ℕ) → at ≡ place + n * c → c < corners → place + n * corners ≤ size → at + n ≤ size
 corner_space at place n c corners size is lt le =
@@ -46,6 +64,21 @@ corner_space at place n c corners size is lt le =
 
 pub next_corner : (at place n c : ℕ) → at ≡ place + n * c → at + n ≡ place + n * (c + 1)
 next_corner at place n c is = let e : n * (c + 1) ≡ n * c + n = omega arith in omega (arith, is, e)
+
+-- room for two corners more
+pub pair_space : (at place n c corners size : ℕ) → at ≡ place + n * (2 * c) → c < corners / 2 → place + n * corners ≤ size → at + 2 * n ≤ size
+pair_space at place n c corners size is lt le =
+    let most : n * (2 * c + 2) ≤ n * corners = mul-le-mul_left n (let e : 2 * c + 2 ≤ corners = omega (arith, lt) in e) in
+    let next : n * (2 * c + 2) ≡ n * (2 * c) + 2 * n = omega arith in
+    omega (arith, is, most, next, le)
+
+pub next_pair : (at place n c : ℕ) → at ≡ place + n * (2 * c) → at + 2 * n ≡ place + n * (2 * (c + 1))
+next_pair at place n c is = let e : n * (2 * (c + 1)) ≡ n * (2 * c) + 2 * n = omega arith in omega (arith, is, e)
+
+-- the pairs are all corners, where there is a parameter
+pub pairs_all : (pair ones : ℕ) → 1 ≤ ones → pair ≡ 2 ^ ones / 2 → 2 * pair ≡ 2 ^ ones
+pairs_all pair zero some is = absurd (omega (arith, some))
+pairs_all pair (suc n) some is = let power : 2 ^ suc n ≡ 2 * 2 ^ n = omega arith in omega (arith, is, power)
 
 -- ---- all blocks
 

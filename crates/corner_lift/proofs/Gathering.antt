@@ -1,5 +1,5 @@
 -- The ends that a corner chooses, parameter by parameter, and the products that they make.
-use Rattle.std.proofs.Common.{◌≡◌, ◌==◌, cond, ℕ, zero, suc, ◌+◌, ◌-◌, ◌*◌, ◌/◌, ◌%◌, ◌^◌, ◌<◌, ◌≤◌, max, List, [], ◌∷◌, ◌++◌, length, drop, get_or, ℤ, pos, ◌*ℤ◌, ◌<ℤ◌, unsigned_abs, FitsSigned, refl, sym, ap, subst, ◌∙◌, arith, ◌⊎◌, ⊎_elim, bit_or, add-one, pow-suc, drop-cons, append_assoc, length-append, length-drop, mul-le-mul_left, mul-le-mul_right, mul-le-mul, mul_assoc, mul_comm, le_trans}
+use Rattle.std.proofs.Common.{◌≡◌, ◌==◌, cond, ℕ, zero, suc, ◌+◌, ◌-◌, ◌*◌, ◌/◌, ◌%◌, ◌^◌, ◌<◌, ◌≤◌, max, List, [], ◌∷◌, ◌++◌, length, drop, get_or, ℤ, pos, ◌*ℤ◌, ◌<ℤ◌, unsigned_abs, FitsSigned, refl, sym, ap, ap₂, subst, ◌∙◌, arith, ◌⊎◌, ⊎_elim, bit_or, add-one, pow-suc, drop-cons, append_assoc, length-append, length-drop, mul-le-mul_left, mul-le-mul_right, mul-le-mul, mul_assoc, mul_comm, le_trans}
 use Rattle.std.proofs.Math.Nat.{div-div-eq-div-mul, one-le-pow, pow-zero}
 use Rattle.std.proofs.Math.Pow.{pow_mono}
 use Rattle.std.proofs.lemmas.Int.{fits_signed_from_abs, unsigned_abs-mul, ints}
@@ -10,24 +10,16 @@ use Rattle.lift_poly.proofs.Ring.{mul-assoc, mul-comm, one-mul}
 use Rattle.lift_grid.specs.Rectangle.{Spans, spans_of, end_of}
 use Rattle.corner_lift.specs.Corner.{corner, parameter_count}
 use Rattle.corner_lift.specs.Case.{greatest_size}
-use Rattle.corner_lift.specs.Ends.{End, product_at, StandFor, greatest_end}
+use Rattle.corner_lift.specs.Ends.{End, product_at, StandFor, IsPair, greatest_end, ends_from}
 use Rattle.corner_lift.proofs.CornerBound.{parity, corner-in, corner-out, halved, even_part}
 
--- the ends that corner c of the set chooses, where the first span is that of parameter k
-unfoldable pub ends_from : ℕ → Spans → ℕ → ℕ → List End
-ends_from k [] set c = []
-ends_from k (s ∷ ss) set c = cond (set % 2 == 0) (ends_from (k + 1) ss (set / 2) c) ((k, end_of (c % 2) s) ∷ ends_from (k + 1) ss (set / 2) (c / 2))
-
 ends-out : (k : ℕ) (s : ℤ × ℤ) (ss : Spans) (set c : ℕ) → set % 2 ≡ 0 → ends_from k (s ∷ ss) set c ≡ ends_from (k + 1) ss (set / 2) c
-unfolding ends_from
 ends-out k s ss set c e = ap (λ b. cond (b == 0) (ends_from (k + 1) ss (set / 2) c) ((k, end_of (c % 2) s) ∷ ends_from (k + 1) ss (set / 2) (c / 2))) e
 
 ends-in : (k : ℕ) (s : ℤ × ℤ) (ss : Spans) (set c : ℕ) → set % 2 ≡ 1 → ends_from k (s ∷ ss) set c ≡ (k, end_of (c % 2) s) ∷ ends_from (k + 1) ss (set / 2) (c / 2)
-unfolding ends_from
 ends-in k s ss set c e = ap (λ b. cond (b == 0) (ends_from (k + 1) ss (set / 2) c) ((k, end_of (c % 2) s) ∷ ends_from (k + 1) ss (set / 2) (c / 2))) e
 
 ends-none : (k : ℕ) (ss : Spans) (set c : ℕ) → set ≡ 0 → ends_from k ss set c ≡ []
-unfolding ends_from
 ends-none k [] set c e = refl
 ends-none k (s ∷ ss) set c e = ends-out k s ss set c (omega arith) ∙ ends-none (k + 1) ss (set / 2) c (omega arith)
 
@@ -35,7 +27,6 @@ next_half : (t k : ℕ) → t / 2 ^ k / 2 ≡ t / 2 ^ (k + 1)
 next_half t k = div-div-eq-div-mul t (2 ^ k) 2 ∙ ap (λ n. t / n) (let e : 2 ^ k * 2 ≡ 2 ^ (k + 1) = rw (add-one) (omega arith) in e)
 
 product_ends : (d : ℤ) (k : ℕ) (ss : Spans) (set c t : ℕ) → bit_or (t / 2 ^ k) set ≡ set → product_at d (ends_from k ss set c) t ≡ monomial (corner d ss set c) (t / 2 ^ k)
-unfolding ends_from
 product_ends d k [] set c t part = refl
 product_ends d k (s ∷ ss) set c t part =
     let later : bit_or (t / 2 ^ (k + 1)) (set / 2) ≡ set / 2 = rw (← next_half t k) (halved (t / 2 ^ k) set part) in
@@ -66,7 +57,6 @@ end_size zero s = omega arith
 end_size (suc b) s = omega arith
 
 pub ends_sizes : (d : ℤ) (k : ℕ) (ss : Spans) (set c : ℕ) → greatest_end d (ends_from k ss set c) ≤ greatest_size d ss
-unfolding ends_from
 ends_sizes d k [] set c = omega arith
 ends_sizes d k (s ∷ ss) set c =
     ⊎_elim
@@ -75,7 +65,6 @@ ends_sizes d k (s ∷ ss) set c =
     (parity set)
 
 pub ends_count : (k : ℕ) (ss : Spans) (set c : ℕ) → length (ends_from k ss set c) ≡ parameter_count ss set
-unfolding ends_from
 ends_count k [] set c = refl
 ends_count k (s ∷ ss) set c =
     ⊎_elim
@@ -182,7 +171,7 @@ factor_size : (b : ℕ) (end d : ℤ) (size : ℕ) → unsigned_abs end ≤ size
 factor_size zero end d size h g = g
 factor_size (suc b) end d size h g = h
 
-grid_size : (d : ℤ) (ends : List End) → unsigned_abs d ≤ greatest_end d ends
+pub grid_size : (d : ℤ) (ends : List End) → unsigned_abs d ≤ greatest_end d ends
 grid_size d [] = omega arith
 grid_size d (end ∷ ends) = omega (arith, grid_size d ends)
 
@@ -249,3 +238,24 @@ product_size d ends set = up_to (greatest_end d ends) ends (omega arith) (grid_s
         let f = factor (set / 2 ^ end.0 % 2) (end.1, d) in
         let power : size ^ suc (length ends) ≡ size * size ^ length ends = pow-suc size (length ends) ∙ mul_comm (size ^ length ends) size in
         rw (unsigned_abs-mul f (product_at d ends set), power) (mul-le-mul (factor_size (set / 2 ^ end.0 % 2) end.1 d size (omega arith) g) (up_to size ends (omega arith) g))
+
+-- ---- two corners that differ in the first parameter
+
+pub pair_from : (k : ℕ) (ss : Spans) (set c : ℕ) → 1 ≤ parameter_count ss set → IsPair (ends_from k ss set (2 * c)) (ends_from k ss set (2 * c + 1))
+pair_from k [] set c some = absurd (omega (arith, some))
+pair_from k (s ∷ ss) set c some =
+    ⊎_elim
+    (λ (e : set % 2 ≡ 0). rw (ends-out k s ss set (2 * c) e, ends-out k s ss set (2 * c + 1) e) (pair_from (k + 1) ss (set / 2) c (omega (arith, some, e))))
+    (λ (e : set % 2 ≡ 1).
+    let low : 2 * c % 2 ≡ 0 = omega arith in
+    let low_half : 2 * c / 2 ≡ c = omega arith in
+    let high : (2 * c + 1) % 2 ≡ 1 = omega arith in
+    let high_half : (2 * c + 1) / 2 ≡ c = omega arith in
+    record {
+      parameter = k;
+      ends = s;
+      rest = ends_from (k + 1) ss (set / 2) c;
+      low_is = ends-in k s ss set (2 * c) e ∙ ap₂ (λ (b n : ℕ). (k, end_of b s) ∷ ends_from (k + 1) ss (set / 2) n) low low_half;
+      high_is = ends-in k s ss set (2 * c + 1) e ∙ ap₂ (λ (b n : ℕ). (k, end_of b s) ∷ ends_from (k + 1) ss (set / 2) n) high high_half;
+    })
+    (parity set)

@@ -12,3 +12,4 @@ pub mod Sums
 pub mod Filling
 pub mod Reading
 pub mod LiveSpans
+pub mod Parting

@@ -1,16 +1,18 @@
 -- Sums over weights as a table has them.
-use Rattle.std.proofs.Common.{◌≡◌, ℕ, zero, suc, ◌+◌, ◌*◌, ◌<◌, List, [], ◌∷◌, length, map, take, get_or, ℤ, pos, ◌+ℤ◌, ◌*ℤ◌, ◌≤ℤ◌, ◌<ℤ◌, unsigned_abs, FitsSigned, refl, sym, ap, ap₂, ◌∙◌, arith, All, add-one}
+use Rattle.std.proofs.Common.{◌≡◌, ℕ, zero, suc, ◌+◌, ◌-◌, ◌*◌, ◌^◌, ◌<◌, ◌≤◌, List, [], ◌∷◌, length, map, take, get_or, ℤ, pos, ◌+ℤ◌, ◌*ℤ◌, ◌≤ℤ◌, ◌<ℤ◌, unsigned_abs, FitsSigned, refl, sym, ap, ap₂, ◌∙◌, arith, All, add-one, mul-le-mul_right}
 use Rattle.std.proofs.lemmas.List.Elements.{All-head, All-tail}
 use Rattle.std.proofs.lemmas.Int.{fits_signed_from_abs, unsigned_abs-mul, ints}
-use mir.Syntax.{w128}
+use Rattle.std.proofs.lemmas.Nat.{pow_pos, pow-add}
+use borrow.Author.Differences.{product_is}
+use mir.Syntax.{w128, w64}
 use Rattle.lift_poly.specs.Polynomial.{Valuation, weight}
-use Rattle.lift_poly.proofs.Ring.{linear, mul-nonneg, mul-comm, one-mul}
+use Rattle.lift_poly.proofs.Ring.{linear, mul-nonneg, mul-comm, one-mul, mul-lt}
 use Rattle.lift_model.specs.declared.entry.Entry.{Entry}
 use Rattle.lift_model.specs.Process.{weighted_sum}
 use Rattle.lift_model.specs.Model.{moves_at}
 use Rattle.lift_model.specs.Links.{targets_of}
 use Rattle.corner_lift.specs.Case.{IsGreatest, IsLeast, engine_limit}
-use Rattle.corner_lift.specs.Dot.{dot, total, CanSum}
+use Rattle.corner_lift.specs.Dot.{dot, total, CanSum, FitsLane, lane_limit}
 
 abbrev pub Least : ℤ → Type 0
 Least w = pos 0 ≤ℤ w
@@ -89,6 +91,40 @@ total_fits ws j h room = let part = total_part ws j h in fits_signed_from_abs w1
 pub total_row : (v : Valuation) (row : List Entry) → total (map (λ (entry : Entry). weight v entry.poly) row) ≡ weighted_sum (λ t. pos 1) (moves_at v row)
 total_row v [] = refl
 total_row v (e ∷ row) = ap₂ (λ a b. a +ℤ b) (sym (mul-comm (weight v e.poly) (pos 1) ∙ one-mul (weight v e.poly))) (total_row v row)
+
+-- ---- numbers of 64 bits
+
+module _ (z : ℕ → ℤ) (ws : List ℤ) (ts : List ℕ) (can : CanSum z ws ts) (lane : FitsLane z ws ts) where
+  -- a weight fits
+  pub lane_weight : (j : ℕ) (d : ℤ) → j < length ws → FitsSigned w64 (get_or ws j d)
+  lane_weight j d lt =
+      let w : pos 0 ≤ℤ get_or ws j d = can.weights_least j d lt in
+      fits_signed_from_abs w64 (get_or ws j d) (omega (arith, ints, w, total_more ws j d lt, (total_part ws j can.weights_least).0, (total_part ws (j + 1) can.weights_least).1, lane.weights_fit))
+
+  -- so does a sum so far
+  pub lane_sum : (j : ℕ) → FitsSigned w64 (dot z (take j ws) (take j ts))
+  lane_sum j = fits_signed_from_abs w64 (dot z (take j ws) (take j ts)) (omega (arith, ints, dot_part z ws ts j can.weights_least can.numbers_least, dot_taken_least z ws ts j can.weights_least can.numbers_least, lane.sum_fits))
+
+  -- and a product
+  pub lane_product : (j : ℕ) (d : ℤ) (e : ℕ) → j < length ts → FitsSigned w64 (get_or ws j d *ℤ z (get_or ts j e))
+  lane_product j d e inside =
+      let lt : j < length ws = omega (arith, inside, can.sizes) in
+      let more = dot_more z ws ts j d e lt inside in
+      let w : pos 0 ≤ℤ get_or ws j d = can.weights_least j d lt in
+      let least = mul-nonneg (get_or ws j d) (z (get_or ts j e)) w (can.numbers_least (get_or ts j e)) in
+      let before = dot_taken_least z ws ts j can.weights_least can.numbers_least in
+      let after = dot_part z ws ts (j + 1) can.weights_least can.numbers_least in
+      fits_signed_from_abs w64 (get_or ws j d *ℤ z (get_or ts j e)) (omega (arith, ints, more, before, after, least, lane.sum_fits))
+
+-- a total that leaves w of 63 bits free leaves room for its product with 2 ^ w
+pub lane_room : (w : ℕ) (all sum : ℤ) → w ≤ 63 → all <ℤ pos (2 ^ (63 - w)) → sum ≤ℤ (pos (2 ^ w) *ℤ all) → (all <ℤ pos lane_limit) × (sum <ℤ pos lane_limit)
+lane_room w all sum le small most =
+    let power : 2 ^ w * 2 ^ (63 - w) ≡ 2 ^ 63 = sym (pow-add 2 w (63 - w)) ∙ ap (λ n. 2 ^ n) (let e : w + (63 - w) ≡ 63 = omega (arith, le) in e) in
+    let some : 1 ≤ 2 ^ w = pow_pos w in
+    let first : 1 * 2 ^ (63 - w) ≤ 2 ^ w * 2 ^ (63 - w) = mul-le-mul_right (2 ^ (63 - w)) some in
+    let more : (pos (2 ^ w) *ℤ all) <ℤ (pos (2 ^ w) *ℤ pos (2 ^ (63 - w))) = mul-lt (pos (2 ^ w)) all (pos (2 ^ (63 - w))) (omega (arith, linear, some)) small in
+    let product : pos (2 ^ w) *ℤ pos (2 ^ (63 - w)) ≡ pos (2 ^ w * 2 ^ (63 - w)) = omega (arith, linear, product_is) in
+    (omega (arith, linear, small, first, power), omega (arith, linear, most, more, product, power))
 
 -- ---- the same values
 

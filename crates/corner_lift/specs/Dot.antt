@@ -1,5 +1,5 @@
 -- Sums over weights as a table has them, and what keeps them within 128 bits.
-use Rattle.std.specs.Prelude.{◌≡◌, ◌==◌, if◌then◌else◌, ℕ, ◌+◌, ◌*◌, ◌<◌, ◌≤◌, List, [], ◌∷◌, length, take, drop, All, ℤ, pos, ◌+ℤ◌, ◌*ℤ◌, ◌≤ℤ◌, ◌<ℤ◌}
+use Rattle.std.specs.Prelude.{◌≡◌, ◌==◌, if◌then◌else◌, ℕ, ◌+◌, ◌*◌, ◌<◌, ◌≤◌, ◌^◌, List, [], ◌∷◌, length, take, drop, All, ℤ, pos, ◌+ℤ◌, ◌*ℤ◌, ◌≤ℤ◌, ◌<ℤ◌}
 use Rattle.lift_model.specs.declared.layout.RowPlace.{RowPlace}
 use Rattle.corner_lift.specs.Case.{engine_limit}
 
@@ -34,3 +34,16 @@ pub record CanCompare (number : ℕ → ℤ) (weights : List ℤ) (targets : Lis
   pub some : 1 ≤ place.corners
   pub ends : place.weights + place.count * place.corners ≤ length weights
   pub sums : (c : ℕ) → c < place.corners → CanSum number (corner_part weights place c) targets
+
+-- the limit of a signed number of 64 bits
+abbrev pub lane_limit : ℕ
+lane_limit = 2 ^ 63
+
+-- numbers of 64 bits hold the weights and the sum, and so each part of it
+pub record FitsLane (number : ℕ → ℤ) (weights : List ℤ) (targets : List ℕ) : Type 0 where
+  pub weights_fit : total weights <ℤ pos lane_limit
+  pub sum_fits : dot number weights targets <ℤ pos lane_limit
+
+-- they do at each corner of the row that stands at that place
+abbrev pub FitsLaneAtCorners : (ℕ → ℤ) → List ℤ → List ℕ → RowPlace → Type 0
+FitsLaneAtCorners number weights targets place = (c : ℕ) → c < place.corners → FitsLane number (corner_part weights place c) targets

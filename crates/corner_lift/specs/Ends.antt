@@ -1,6 +1,7 @@
 -- A corner as the code holds it: the parameters of a row, each with the end that the corner chooses for it.
-use Rattle.std.specs.Prelude.{◌≡◌, ℕ, ◌/◌, ◌%◌, ◌^◌, max, List, [], ◌∷◌, ℤ, pos, ◌+ℤ◌, ◌*ℤ◌, map, unsigned_abs, bit_or}
+use Rattle.std.specs.Prelude.{◌≡◌, ◌==◌, if◌then◌else◌, ℕ, ◌+◌, ◌/◌, ◌%◌, ◌^◌, max, List, [], ◌∷◌, ℤ, pos, ◌+ℤ◌, ◌*ℤ◌, map, unsigned_abs, bit_or}
 use Rattle.lift_poly.specs.Polynomial.{Term, Valuation, factor, monomial}
+use Rattle.lift_grid.specs.Rectangle.{Spans, end_of}
 use Rattle.lift_model.specs.declared.entry.Entry.{Entry}
 use Rattle.lift_model.specs.Process.{Move}
 
@@ -30,3 +31,25 @@ StandFor d ends v all = (set : ℕ) → bit_or set all ≡ all → product_at d 
 abbrev pub greatest_end : ℤ → List End → ℕ
 greatest_end d [] = unsigned_abs d
 greatest_end d (end ∷ ends) = max (unsigned_abs end.1) (greatest_end d ends)
+
+-- the ends that corner c of the set chooses, where the first span is that of parameter k
+abbrev pub ends_from : ℕ → Spans → ℕ → ℕ → List End
+ends_from k [] set c = []
+ends_from k (span ∷ spans) set c = if set % 2 == 0 then ends_from (k + 1) spans (set / 2) c else (k, end_of (c % 2) span) ∷ ends_from (k + 1) spans (set / 2) (c / 2)
+
+-- the ends differ at most in what they choose for their first parameter
+pub record IsPair (low high : List End) : Type 0 where
+  pub parameter : ℕ
+  pub ends : ℤ × ℤ
+  pub rest : List End
+  pub low_is : low ≡ (parameter, ends.0) ∷ rest
+  pub high_is : high ≡ (parameter, ends.1) ∷ rest
+
+-- what the terms weigh that have the parameter, over its end, and over d what the others weigh
+abbrev pub present_part : ℤ → ℕ → List End → List Term → ℤ
+present_part d parameter rest [] = pos 0
+present_part d parameter rest (term ∷ terms) = (if term.0 / 2 ^ parameter % 2 == 1 then term.1 *ℤ product_at d rest term.0 else pos 0) +ℤ present_part d parameter rest terms
+
+abbrev pub absent_part : ℤ → ℕ → List End → List Term → ℤ
+absent_part d parameter rest [] = pos 0
+absent_part d parameter rest (term ∷ terms) = (if term.0 / 2 ^ parameter % 2 == 1 then pos 0 else term.1 *ℤ product_at d rest term.0) +ℤ absent_part d parameter rest terms

@@ -1,11 +1,11 @@
-ghost use Rattle.std.specs.Prelude.{◌≡◌, ◌≤◌, ◌<◌, ◌*◌, ◌^◌, ◌++◌, ◌∷◌, [], ◌/◌, ◌%◌, ◌*ℤ◌, ◌<ℤ◌, ℤ, pos, length, unsigned_abs};
+ghost use Rattle.std.specs.Prelude.{◌≡◌, ◌==◌, drop, slice_index_or, if◌then◌else◌, ◌≤◌, ◌<◌, ◌*◌, ◌^◌, ◌++◌, ◌∷◌, [], ◌/◌, ◌%◌, ◌*ℤ◌, ◌<ℤ◌, ℤ, pos, length, unsigned_abs};
 ghost use Rattle.lift_poly.specs.Polynomial.{factor};
 ghost use Rattle.lift_poly.specs.Arithmetic.{abs_sum};
 ghost use Rattle.lift_grid.specs.Rectangle.{spans_of};
 ghost use Rattle.lift_model.specs.Valid.{most_parameters};
 ghost use Rattle.corner_lift.specs.Corner.{parameter_count, corner as corner_point};
 ghost use Rattle.corner_lift.specs.Case.{greatest_size, engine_limit, most_row_parameters};
-ghost use Rattle.corner_lift.specs.Ends.{product_at, weight_at, StandFor, greatest_end};
+ghost use Rattle.corner_lift.specs.Ends.{product_at, weight_at, StandFor, IsPair, greatest_end, ends_from, present_part, absent_part};
 
 use lift_grid::rows_are_rectangles;
 use lift_poly::MultiAffine;
@@ -38,6 +38,22 @@ fn factor_of(set: u16, parameter: u32, end: i64, d: i64) -> i64
     if (set >> parameter) % 2 == 1 { end } else { d }
 }
 
+/// Whether the parameter is in the set.
+fn has(set: u16, parameter: u32) -> bool
+    requires { parameter < most_parameters }
+    ensures { result ≡ (set / 2 ^ parameter % 2 == 1) }
+{
+    (set >> parameter) % 2 == 1
+}
+
+/// A weight and 0: first what has a parameter, then what doesn't have it.
+fn sorted(weight: i128, has: bool) -> (i128, i128)
+    ensures present { result.0 ≡ (if has then weight else pos 0) }
+    ensures absent { result.1 ≡ (if has then pos 0 else weight) }
+{
+    if has { (weight, 0) } else { (0, weight) }
+}
+
 impl Ends {
     /// No parameter.
     fn none() -> Ends
@@ -64,6 +80,7 @@ impl Ends {
     pub(crate) fn at(sides: &[i64], support: u16, corner: u32) -> Ends
         requires pairs { support < 2 ^ length (spans_of sides.now) }
         requires few { parameter_count (spans_of sides.now) support ≤ most_row_parameters }
+        ensures chosen { result ≡ ends_from 0 (spans_of sides.now) support corner }
         ensures stand { (d : ℤ) → StandFor d result (corner_point d (spans_of sides.now) support corner) support }
         ensures count { length result ≡ parameter_count (spans_of sides.now) support }
         ensures sizes { (d : ℤ) → greatest_end d result ≤ greatest_size d (spans_of sides.now) }
@@ -111,5 +128,46 @@ impl Ends {
             sum += self.product(d, set, coefficient);
         }
         sum
+    }
+
+    /// The first parameter with its end.
+    pub(crate) fn first(&self) -> (u32, i64)
+        requires { 1 ≤ length self.now }
+        ensures value { result ≡ slice_index_or self.now 0 (0, pos 0) }
+        ensures parameter { result.0 < most_parameters }
+    {
+        self.chosen[0]
+    }
+
+    /// The ends of the other parameters.
+    pub(crate) fn rest(&self) -> Ends
+        requires { 1 ≤ length self.now }
+        ensures { result ≡ drop 1 self.now }
+    {
+        let [_, second, third, fourth] = self.chosen;
+        Ends {
+            chosen: [second, third, fourth, (0, 0)],
+            count: self.count - 1,
+        }
+    }
+
+    /// What the terms weigh that have one parameter more, over its end, and over `d` what the others
+    /// weigh.
+    pub(crate) fn parts(&self, parameter: u32, d: i64, poly: &MultiAffine) -> (i128, i128)
+        requires parameter { parameter < most_parameters }
+        requires positive { pos 0 <ℤ d }
+        requires room { abs_sum poly.now * greatest_end d self.now ^ length self.now < engine_limit }
+        ensures present { result.0 ≡ present_part d parameter self.now poly.now }
+        ensures absent { result.1 ≡ absent_part d parameter self.now poly.now }
+    {
+        let (mut present, mut absent) = (0, 0);
+        for index in 0..poly.len() {
+            let (set, coefficient) = poly.term(index);
+            let weight = self.product(d, set, coefficient);
+            let (more, other) = sorted(weight, has(set, parameter));
+            present += more;
+            absent += other;
+        }
+        (present, absent)
     }
 }

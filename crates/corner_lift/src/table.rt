@@ -1,15 +1,15 @@
 //! Tables of the weights of all rows at the corners of a rectangle, made once for it.
 
-ghost use Rattle.std.specs.Prelude.{◌≡◌, ℕ, ◌+◌, ◌*◌, ◌^◌, ◌<◌, ◌≤◌, ◌++◌, ◌≤ℤ◌, ◌<ℤ◌, ◌*ℤ◌, pos, length, All, map, take, count_ones, unsigned_abs, if◌then◌else◌};
+ghost use Rattle.std.specs.Prelude.{◌≡◌, ℕ, ◌+◌, ◌*◌, ◌^◌, ◌<◌, ◌≤◌, ◌++◌, ◌≤ℤ◌, ◌<ℤ◌, ◌+ℤ◌, ◌*ℤ◌, ◌-◌, pos, length, All, map, take, count_ones, unsigned_abs, IsTrue, if◌then◌else◌};
 ghost use Rattle.lift_grid.specs.Rectangle.{Spans, spans_of};
-ghost use Rattle.lift_model.specs.Model.{row_at};
+ghost use Rattle.lift_model.specs.Model.{row_at, support};
 ghost use Rattle.lift_model.specs.Links.{AreLinks, weight_count};
 ghost use Rattle.corner_lift.specs.Corner.{corner_sum};
 ghost use Rattle.corner_lift.specs.Certificate.{AreNumbers, mark, ranked_below};
-ghost use Rattle.corner_lift.specs.Case.{number, IsCase, IsRowOf, AreSidesInside, IsGreatest, IsLeast, BoundsAbove, BoundsBelow, row_value, row_whole, corner_count, abs_sum, engine_limit, most_row_parameters};
-ghost use Rattle.corner_lift.specs.Ends.{weight_at, greatest_end};
+ghost use Rattle.corner_lift.specs.Case.{number, IsCase, IsRowOf, AreSidesInside, IsGreatest, IsLeast, BoundsAbove, BoundsBelow, row_value, row_whole, corner_count, abs_sum, engine_limit, most_precision, most_row_parameters};
+ghost use Rattle.corner_lift.specs.Ends.{weight_at, greatest_end, IsPair};
 ghost use Rattle.corner_lift.specs.Table.{block, IsTable, CanRead};
-ghost use Rattle.corner_lift.specs.Dot.{dot, total, corner_part, only_at, CanSum, CanCompare};
+ghost use Rattle.corner_lift.specs.Dot.{dot, total, corner_part, only_at, CanSum, CanCompare, FitsLane, FitsLaneAtCorners};
 
 use crate::case::Case;
 use crate::ends::Ends;
@@ -40,6 +40,97 @@ fn corners(support: u16) -> u32
     1 << support.count_ones()
 }
 
+/// What two parts weigh together: the one over the end of their parameter, the other over `d`.
+fn joined(present: i128, absent: i128, end: i64, d: i64) -> i128
+    requires present { unsigned_abs present * unsigned_abs end < engine_limit }
+    requires absent { unsigned_abs absent * unsigned_abs d < engine_limit }
+    ensures { result ≡ present *ℤ end +ℤ absent *ℤ d }
+{
+    times(present, end) + times(absent, d)
+}
+
+/// Writes the weights of a row at two corners that differ in one parameter: what the other parameters
+/// give is calculated once for both.
+fn fill_pair(
+    case: &Case,
+    row: &Row,
+    low: &Ends,
+    high: &Ends,
+    low_weights: &mut [i128],
+    high_weights: &mut [i128],
+)
+    requires pair { IsPair low.now high.now }
+    requires low_room { abs_sum row.now * (greatest_end case.now.d low.now ^ length low.now * 2 ^ case.now.w) < engine_limit }
+    requires high_room { abs_sum row.now * (greatest_end case.now.d high.now ^ length high.now * 2 ^ case.now.w) < engine_limit }
+    requires low_space { length low_weights.old ≡ length row.now }
+    requires high_space { length high_weights.old ≡ length row.now }
+    ensures low { low_weights.new ≡ map (λ entry. weight_at case.now.d low.now entry.poly) row.now }
+    ensures high { high_weights.new ≡ map (λ entry. weight_at case.now.d high.now entry.poly) row.now }
+{
+    let d = case.grid().d;
+    let (parameter, low_end) = low.first();
+    let (_, high_end) = high.first();
+    let rest = low.rest();
+    let mut at = 0;
+    for entry in row.entries() {
+        let (present, absent) = rest.parts(parameter, d, &entry.poly);
+        low_weights[at] = joined(present, absent, low_end, d);
+        high_weights[at] = joined(present, absent, high_end, d);
+        at += 1;
+    }
+}
+
+/// Writes the weights of a row at two corners that differ in one parameter, the one behind the other.
+fn fill_both(case: &Case, row: &Row, low: &Ends, high: &Ends, weights: &mut [i128])
+    requires pair { IsPair low.now high.now }
+    requires low_room { abs_sum row.now * (greatest_end case.now.d low.now ^ length low.now * 2 ^ case.now.w) < engine_limit }
+    requires high_room { abs_sum row.now * (greatest_end case.now.d high.now ^ length high.now * 2 ^ case.now.w) < engine_limit }
+    requires space { length weights.old ≡ 2 * length row.now }
+    ensures { weights.new ≡ map (λ entry. weight_at case.now.d low.now entry.poly) row.now
+        ++ map (λ entry. weight_at case.now.d high.now entry.poly) row.now }
+{
+    let count = row.entries().len();
+    let (low_weights, high_weights) = weights.split_at_mut(count);
+    fill_pair(case, row, low, high, low_weights, high_weights);
+}
+
+/// Writes them at a place.
+fn fill_pair_at(case: &Case, row: &Row, low: &Ends, high: &Ends, place: usize, weights: &mut [i128])
+    requires pair { IsPair low.now high.now }
+    requires low_room { abs_sum row.now * (greatest_end case.now.d low.now ^ length low.now * 2 ^ case.now.w) < engine_limit }
+    requires high_room { abs_sum row.now * (greatest_end case.now.d high.now ^ length high.now * 2 ^ case.now.w) < engine_limit }
+    requires space { place + 2 * length row.now ≤ length weights.old }
+    ensures { take (place + 2 * length row.now) weights.new
+        ≡ take place weights.old ++ (map (λ entry. weight_at case.now.d low.now entry.poly) row.now
+        ++ map (λ entry. weight_at case.now.d high.now entry.poly) row.now) }
+{
+    let end = place + 2 * row.entries().len();
+    fill_both(case, row, low, high, &mut weights[place..end]);
+}
+
+/// Writes the weights of a row with parameters at all its corners, and tells where they end.
+fn fill_pairs(case: &Case, sides: &[i64], row: &Row, place: usize, weights: &mut [i128]) -> usize
+    requires case { IsCase case.now }
+    requires sides { AreSidesInside case.now.root sides.now }
+    requires row { IsRowOf case.now row.now }
+    requires some { 1 ≤ count_ones (support row.now) }
+    requires space { place + weight_count row.now ≤ length weights.old }
+    ensures end { result ≡ place + weight_count row.now }
+    ensures filled { take result weights.new
+        ≡ take place weights.old ++ block case.now.d (spans_of sides.now) row.now }
+{
+    let support = row.support();
+    let count = row.entries().len();
+    let mut at = place;
+    for pair in 0..corners(support) / 2 {
+        let low = Ends::at(sides, support, 2 * pair);
+        let high = Ends::at(sides, support, 2 * pair + 1);
+        fill_pair_at(case, row, &low, &high, at, weights);
+        at += 2 * count;
+    }
+    at
+}
+
 /// Writes the weights of a row at all its corners, and tells where they end.
 fn fill_row(case: &Case, sides: &[i64], row: &Row, place: usize, weights: &mut [i128]) -> usize
     requires case { IsCase case.now }
@@ -51,14 +142,12 @@ fn fill_row(case: &Case, sides: &[i64], row: &Row, place: usize, weights: &mut [
         ≡ take place weights.old ++ block case.now.d (spans_of sides.now) row.now }
 {
     let support = row.support();
-    let count = row.entries().len();
-    let mut at = place;
-    for corner in 0..corners(support) {
-        let ends = Ends::at(sides, support, corner);
-        fill_corner(case, row, &ends, at, weights);
-        at += count;
+    if support.count_ones() > 0 {
+        return fill_pairs(case, sides, row, place, weights);
     }
-    at
+    let ends = Ends::at(sides, support, 0);
+    fill_corner(case, row, &ends, place, weights);
+    place + row.entries().len()
 }
 
 /// Makes the table of a rectangle inside the root. What the weights are before is of no account. Rows
@@ -99,8 +188,22 @@ fn times(weight: i128, number: i64) -> i128
     weight * i128::from(number)
 }
 
+/// The sum of the weights, each times its target's number, in numbers of 64 bits.
+fn sum_in_lane(weights: &[i128], targets: &[u32], vec: &[i64]) -> i64
+    requires targets { All (λ t. t < length vec.now) targets.now }
+    requires room { CanSum (number vec.now) weights.now targets.now }
+    requires lane { FitsLane (number vec.now) weights.now targets.now }
+    ensures { result ≡ dot (number vec.now) weights.now targets.now }
+{
+    let mut sum = 0;
+    for j in 0..targets.len() {
+        sum += weights[j] as i64 * vec[targets[j] as usize];
+    }
+    sum
+}
+
 /// The sum of the weights, each times its target's number.
-fn sum_of(weights: &[i128], targets: &[u32], vec: &[i64]) -> i128
+fn wide_sum(weights: &[i128], targets: &[u32], vec: &[i64]) -> i128
     requires targets { All (λ t. t < length vec.now) targets.now }
     requires room { CanSum (number vec.now) weights.now targets.now }
     ensures { result ≡ dot (number vec.now) weights.now targets.now }
@@ -110,6 +213,20 @@ fn sum_of(weights: &[i128], targets: &[u32], vec: &[i64]) -> i128
         sum += times(weights[j], vec[targets[j] as usize]);
     }
     sum
+}
+
+/// The sum of the weights, each times its target's number; in numbers of 64 bits where they hold it.
+fn sum_of(weights: &[i128], targets: &[u32], vec: &[i64], narrow: bool) -> i128
+    requires targets { All (λ t. t < length vec.now) targets.now }
+    requires room { CanSum (number vec.now) weights.now targets.now }
+    requires lane { IsTrue narrow → FitsLane (number vec.now) weights.now targets.now }
+    ensures { result ≡ dot (number vec.now) weights.now targets.now }
+{
+    if narrow {
+        i128::from(sum_in_lane(weights, targets, vec))
+    } else {
+        wide_sum(weights, targets, vec)
+    }
 }
 
 /// The weight where it counts, else 0.
@@ -157,29 +274,48 @@ fn total_of(weights: &[i128]) -> i128
     sum
 }
 
+/// Whether weights that sum to as much as these can be summed in numbers of 64 bits, each times a
+/// number of at most 2 to the `w`.
+fn is_narrow(weights: &[i128], w: u32) -> bool
+    requires weights { All (λ weight. pos 0 ≤ℤ weight) weights.now }
+    requires room { total weights.now <ℤ pos engine_limit }
+    requires precision { w ≤ most_precision }
+    ensures { IsTrue result → total weights.now <ℤ pos (2 ^ (63 - w)) }
+{
+    total_of(weights) < 1 << (63 - w)
+}
+
 /// The greatest sum over the corners of the row that stands at that place.
-fn greatest_of(weights: &[i128], place: RowPlace, targets: &[u32], vec: &[i64]) -> i128
+fn greatest_of(
+    weights: &[i128],
+    place: RowPlace,
+    targets: &[u32],
+    vec: &[i64],
+    narrow: bool,
+) -> i128
     requires targets { All (λ t. t < length vec.now) targets.now }
     requires room { CanCompare (number vec.now) weights.now targets.now place }
+    requires lane { IsTrue narrow → FitsLaneAtCorners (number vec.now) weights.now targets.now place }
     ensures { IsGreatest (λ c. dot (number vec.now) (corner_part weights.now place c) targets.now) place.corners result }
 {
-    let mut greatest = sum_of(corner_of(weights, place, 0), targets, vec);
+    let mut greatest = sum_of(corner_of(weights, place, 0), targets, vec, narrow);
     for corner in 1..place.corners {
-        let sum = sum_of(corner_of(weights, place, corner), targets, vec);
+        let sum = sum_of(corner_of(weights, place, corner), targets, vec, narrow);
         greatest = greater(greatest, sum);
     }
     greatest
 }
 
 /// The least sum over the corners of the row that stands at that place.
-fn least_of(weights: &[i128], place: RowPlace, targets: &[u32], vec: &[i64]) -> i128
+fn least_of(weights: &[i128], place: RowPlace, targets: &[u32], vec: &[i64], narrow: bool) -> i128
     requires targets { All (λ t. t < length vec.now) targets.now }
     requires room { CanCompare (number vec.now) weights.now targets.now place }
+    requires lane { IsTrue narrow → FitsLaneAtCorners (number vec.now) weights.now targets.now place }
     ensures { IsLeast (λ c. dot (number vec.now) (corner_part weights.now place c) targets.now) place.corners result }
 {
-    let mut least = sum_of(corner_of(weights, place, 0), targets, vec);
+    let mut least = sum_of(corner_of(weights, place, 0), targets, vec, narrow);
     for corner in 1..place.corners {
-        let sum = sum_of(corner_of(weights, place, corner), targets, vec);
+        let sum = sum_of(corner_of(weights, place, corner), targets, vec, narrow);
         least = lesser(least, sum);
     }
     least
@@ -200,12 +336,14 @@ pub fn table_value(
     ensures { result ≡ row_value case.now spans s a vec.now corner }
 {
     premises();
-    let _ = case.w();
+    let w = case.w();
     let place = links.place(s, a);
+    let narrow = is_narrow(corner_of(weights, place, 0), w);
     sum_of(
         corner_of(weights, place, corner as usize),
         links.targets(place),
         vec,
+        narrow,
     )
 }
 
@@ -218,9 +356,10 @@ pub fn table_max(case: &Case, links: &Links, weights: &[i128], s: u32, a: u32, v
     ensures bound { BoundsAbove case.now spans s a vec.now result }
 {
     premises();
-    let _ = case.w();
+    let w = case.w();
     let place = links.place(s, a);
-    greatest_of(weights, place, links.targets(place), vec)
+    let narrow = is_narrow(corner_of(weights, place, 0), w);
+    greatest_of(weights, place, links.targets(place), vec, narrow)
 }
 
 /// `row_min` of the rectangle whose table `weights` is. One multiplication for each entry and corner.
@@ -231,9 +370,10 @@ pub fn table_min(case: &Case, links: &Links, weights: &[i128], s: u32, a: u32, v
     ensures bound { BoundsBelow case.now spans s a vec.now result }
 {
     premises();
-    let _ = case.w();
+    let w = case.w();
     let place = links.place(s, a);
-    least_of(weights, place, links.targets(place), vec)
+    let narrow = is_narrow(corner_of(weights, place, 0), w);
+    least_of(weights, place, links.targets(place), vec, narrow)
 }
 
 /// `weight_into` of the rectangle whose table `weights` is. No multiplication.

@@ -24,13 +24,15 @@ const HEAD: &str = "@type: DTMC;@parameters;p q;@model;state 0 init;";
 
 const TAIL: &str = ";state 1 goal;1 : 1;state 2;2 : 1";
 
-/// A row of state 0 with both parameters; how many weights the table has; and of that row the whole,
-/// what the numbers 0, 16 and 0 sum to at the first and at the last corner, the least and the greatest
-/// over the corners, and at the last corner the weight into the goal state.
+/// A row of state 0 with both parameters, and a region; how many weights the table has; and of that row
+/// the whole, what the numbers 0, 16 and 0 sum to at the first and at the last corner, the least and the
+/// greatest over the corners, and at the last corner the weight into the goal state. The last row's sums
+/// need more than 64 bits.
 const READ: &str = "\
-0 : p*q;1 : p-p*q;2 : 1-p | 13 25 32 32 16 64 2
-0 : p;1 : q-p;2 : 1-q | 13 25 160 160 80 240 10
-1 : 1/2*p+1/2*q;2 : 1-1/2*p-1/2*q | 9 50 320 480 320 480 30";
+0 : p*q;1 : p-p*q;2 : 1-p | 1/5<=p<=2/5,3/5<=q<=4/5 | 13 25 32 32 16 64 2
+0 : p;1 : q-p;2 : 1-q | 1/5<=p<=2/5,3/5<=q<=4/5 | 13 25 160 160 80 240 10
+1 : 1/2*p+1/2*q;2 : 1-1/2*p-1/2*q | 1/5<=p<=2/5,3/5<=q<=4/5 | 9 50 320 480 320 480 30
+0 : p*q;1 : p-p*q;2 : 1-p | 1/576460752303423488<=p<=2/576460752303423488,1/576460752303423488<=q<=2/576460752303423488 | 13 332306998946228968225951765070086144 9223372036854775792 18446744073709551552 9223372036854775776 18446744073709551584 1152921504606846972";
 
 /// What the table tells of the row of state 0.
 fn told(
@@ -74,17 +76,19 @@ fn tabled(alloc: Global, case: &Case, vec: &[i64]) -> Result<String, Fail>
 fn reads_a_row_from_its_table(rt: HostRuntime) -> Result<(), Fail> {
     let alloc = rt.alloc();
     for line in READ.split('\n') {
-        let (row, want) = line.split_once(" | ").unwrap_or(("", ""));
+        let mut cells = line.split(" | ");
+        let row = cells.next().unwrap_or("");
+        let region = cells.next().unwrap_or("");
         let text = format!(in alloc; "{HEAD}{row}{TAIL}")?;
         let model = model_of(&rt, alloc, &text)?;
-        let (grid, root) = read_region(alloc, b"1/5<=p<=2/5,3/5<=q<=4/5", model.names(), 0)?;
+        let (grid, root) = read_region(alloc, region.as_bytes(), model.names(), 0)?;
         let case = admit(&model, &root, grid, 4)?;
         rows_at_corners();
         assert_eq!(rt; case.model().states(), 3);
         assert_eq!(rt; case.model().choices(0), 1);
         assert_eq!(rt; case.model().row(0, 0).support().count_ones(), 2);
         let got = tabled(alloc, &case, &[0, 16, 0])?;
-        assert_eq!(rt; got.as_str(), want, "{line}");
+        assert_eq!(rt; got.as_str(), cells.next().unwrap_or(""), "{line}");
     }
     Ok(())
 }

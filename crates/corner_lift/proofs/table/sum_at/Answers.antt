@@ -1,4 +1,4 @@
-use Rattle.std.proofs.Common.{rules, ◌≡◌, ◌==◌, ◌+◌, ◌<◌, ◌+ℤ◌, ◌*ℤ◌, ℕ, pos, cond, take, slice_index_or, to_z, of_z, to_z-of_z, SFits, sym, ap, ap₂, ◌∙◌, arith}
+use Rattle.std.proofs.Common.{rules, ◌≡◌, ◌+◌, ◌+ℤ◌, ◌*ℤ◌, pos, take, slice_index_or, to_z, of_z, to_z-of_z, SFits, sym, ap, ap₂, ◌∙◌, arith}
 use mir.Syntax.{w128}
 use Rattle.corner_lift.specs.Dot.{dot, only_at}
 use Rattle.corner_lift.proofs.Sums.{dot_more, sum_fits}

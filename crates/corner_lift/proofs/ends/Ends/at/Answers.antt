@@ -48,6 +48,9 @@ loop-left-preserved c =
           rw (w.ends-is, w.bits-is) (gathered_out (spans_of sides) c.args.support c.args.corner c.loop-left.ends c.loop-left.left bits parameter invariant c.loop-left-test.true even)
     ]
 
+pub returns-clause-chosen : goal.returns-clause-chosen
+returns-clause-chosen c = gathered_all (spans_of c.args.sides.now) c.args.support c.args.corner c.loop-left.ends c.loop-left.left c.loop-left.bits c.loop-left.parameter c.loop-left-test.false c.loop-left.invariant
+
 pub returns-clause-stand : goal.returns-clause-stand
 returns-clause-stand c =
     λ d. rw (gathered_all (spans_of c.args.sides.now) c.args.support c.args.corner c.loop-left.ends c.loop-left.left c.loop-left.bits c.loop-left.parameter c.loop-left-test.false c.loop-left.invariant) (ends_stand d (spans_of c.args.sides.now) c.args.support c.args.corner)

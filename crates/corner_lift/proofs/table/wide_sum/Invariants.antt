@@ -1,7 +1,7 @@
 use Rattle.std.proofs.Common.{◌≡◌, take}
 use Rattle.corner_lift.specs.Case.{number}
 use Rattle.corner_lift.specs.Dot.{dot}
-use Rattle.corner_lift.proofs.table.sum_of.Given as goal
+use Rattle.corner_lift.proofs.table.wide_sum.Given as goal
 
 -- the targets so far were summed
 abbrev pub invariant-loop-j : goal.invariant-loop-j

@@ -3,8 +3,8 @@ use mir.Syntax.{w128}
 use Rattle.corner_lift.specs.Case.{number}
 use Rattle.corner_lift.specs.Dot.{dot}
 use Rattle.corner_lift.proofs.Sums.{dot_more, sum_fits, product_room}
-use Rattle.corner_lift.proofs.table.sum_of.Goals as goal
-use Rattle.corner_lift.proofs.table.sum_of.Goals.{After-times-sum}
+use Rattle.corner_lift.proofs.table.wide_sum.Goals as goal
+use Rattle.corner_lift.proofs.table.wide_sum.Goals.{After-times-sum}
 
 pub times-sum-requires : goal.times-sum-requires
 times-sum-requires c =
