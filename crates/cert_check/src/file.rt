@@ -13,6 +13,7 @@ use lift_rows::admit;
 use std::alloc::Global;
 
 /// Tests that nothing follows the last node.
+#[tactic(auto, using(crate::proofs::Steps::more_follows))]
 fn check_rest(text: &[u8], came: Came) -> Result<Summary, CheckError>
     requires { IsIn text.now came }
     ensures end { Says (λ s. s) (RestEnds (came_of text.now came)) result }
