@@ -7,3 +7,4 @@ pub mod Steps
 pub mod Verdicts
 pub mod Goings
 mod Samples
+pub mod Joining

@@ -1,5 +1,8 @@
 -- What holds of right trees, for who reasons about them.
 use Rattle.std.specs.Prelude.{◌≡◌, ℕ, ◌+◌, ◌<◌, Bool, List, ℤ, map}
+use Rattle.std.specs.declared.option.Option.{Option}
+use Rattle.std.specs.Io.KnownBytes.{Appends}
+use Rattle.lift_base.specs.Outside.{Rose}
 use Rattle.lift_grid.specs.Rectangle.{Spans, spans_of}
 use Rattle.lift_grid.specs.Splitting.{IsSplitAxis}
 use Rattle.lift_grid.specs.Tree.{Tree, RejectData, Tiles, leaves, lower_half, upper_half}
@@ -9,8 +12,11 @@ use Rattle.corner_lift.specs.Certificate.{IsLeastUpper}
 use Rattle.corner_lift.specs.Stages.{IsGreatestLower}
 use Rattle.lift_cert.specs.declared.bound.Bound.{Bound}
 use Rattle.lift_model.specs.Links.{LinksData}
+use Rattle.region_tree.specs.Nodes.{Node}
 use Rattle.region_tree.specs.Right.{IsRightTree, IsAtDepth}
 use Rattle.region_tree.specs.Rooms.{RoomData, IsMadeFor, IsPlaced, StepsDown, last_sides, room_at_root}
+use Rattle.region_tree.specs.Visits.{Walks, entries}
+use Rattle.region_tree.specs.declared.visitor.Seen.{Seen}
 
 -- a case has at most one right tree for a bound
 abbrev pub RightTreesAreOne : Type 0
@@ -51,3 +57,10 @@ WalksBeginAtRoot = (k : CaseData) (l : LinksData) (room : RoomData) → IsCase k
 abbrev pub WalksStepDown : Type 0
 WalksStepDown = (k : CaseData) (room : RoomData) (depth axis : ℕ) (lower : Bool) → IsCase k → IsPlaced k depth room → depth < greatest_depth k → IsSplitAxis (live k.model) (spans_of (last_sides room)) axis
     → StepsDown k depth axis lower room
+
+-- ---- walks
+
+-- a walk over a visitor that counts no fault offers the nodes of the right tree, whole and in preorder
+abbrev pub CalmWalksShowAll : {V : Type 0} → (V → Option (List ℕ)) → (V → ℕ) → Type 0
+CalmWalksShowAll {V} taken faults = (k : CaseData) (bound : Bound) (tree : Tree) (entry : Node → List ℕ) (old new : V) (seen : Seen) → IsRightTree k bound tree
+    → Walks k k.root bound 0 taken faults entry old new seen → (Rose (faults old) (faults new) → ⊥) → Appends (taken old) (taken new) (entries entry tree)

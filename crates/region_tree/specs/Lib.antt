@@ -4,3 +4,4 @@ pub mod Nodes
 pub mod Visits
 pub mod Rooms
 pub mod Decided
+pub mod Built

@@ -1,6 +1,7 @@
 //! Laws of right trees, for who reasons about them. The functions do nothing.
 
 ghost use Rattle.region_tree.specs.Laws.{
+  CalmWalksShowAll,
   GreatestLowersAreOne,
   HalvesAreDeeper,
   LeastUppersAreOne,
@@ -12,6 +13,7 @@ ghost use Rattle.region_tree.specs.Laws.{
   WalksStepDown,
 };
 
+use crate::visitor::Visitor;
 use corner_lift::{halves_are_inside, live_parameters_have_spans, rows_at_corners, rows_inside};
 use lift_grid::{halves_stay_on_grid, halves_tile, rows_are_rectangles};
 use lift_pool::lanes_stand_alone;
@@ -68,3 +70,9 @@ pub fn walks_are_placed()
     rows_are_rectangles();
     lanes_stand_alone::<i64>();
 }
+
+/// A walk over a visitor that counts no fault offers the nodes of the right tree, which `build` gives,
+/// whole and in preorder.
+pub fn calm_walks_show_all<V: Visitor>()
+    ensures { CalmWalksShowAll V.taken V.faults }
+{}

@@ -7,16 +7,18 @@ mod halves;
 mod laws;
 mod leaf;
 mod room;
+mod tree;
 mod verdict;
 mod visitor;
 mod walking;
 
 pub use decision::decide;
 pub use laws::{
-    certificates_are_one, rectangles_at_depths, right_trees_are_one, right_trees_tile,
-    walks_are_placed,
+    calm_walks_show_all, certificates_are_one, rectangles_at_depths, right_trees_are_one,
+    right_trees_tile, walks_are_placed,
 };
 pub use room::Room;
+pub use tree::{Branch, Tree, build};
 pub use verdict::Verdict;
 pub use visitor::{Seen, Visitor};
 pub use walking::walk;

@@ -30,7 +30,7 @@ use lift_grid::{rows_are_rectangles, split_axis};
 use lift_model::Links;
 
 /// Whether there is a certificate.
-fn is_decided(verdict: Verdict) -> bool
+pub(crate) fn is_decided(verdict: Verdict) -> bool
     ensures open { IsFalse result → verdict ≡ Unknown }
     ensures decided { verdict ≡ Unknown → IsFalse result }
 {
@@ -46,7 +46,7 @@ fn is_failed(seen: Seen) -> bool
 }
 
 /// The axis on which the last rectangle of a room is halved.
-fn axis_of(case: &Case, depth: u32, room: &Room) -> u32
+pub(crate) fn axis_of(case: &Case, depth: u32, room: &Room) -> u32
     requires case { IsCase case.now }
     requires placed { IsPlaced case.now depth room.now }
     requires left { depth < greatest_depth case.now }
