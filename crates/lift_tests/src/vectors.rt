@@ -1,5 +1,7 @@
 //! Tests of least vectors.
 
+ghost use Rattle.std.specs.Prelude.{◌≤◌};
+
 use crate::example::model_of;
 use corner_lift::{Case, fill};
 use lift_grid::read_region;
@@ -50,20 +52,39 @@ fn least_of(alloc: Global, case: &Case) -> Result<String, Fail> {
     Ok(format!(in alloc; "{upper:?} | {value:?}")?)
 }
 
-#[test]
-fn finds_the_least_vectors(rt: HostRuntime) -> Result<(), Fail> {
-    let alloc = rt.alloc();
-    for line in LEAST.split('\n') {
+/// The choices of state 0 and of a state 3, which lead to each other and leave that cycle with 1/4096, and
+/// the least upper vector and the least value vector at precision 20. State 0 asks for state 3's number
+/// less a 4096th of it, and state 3 for state 0's number less a 4096th of it and 256 more. Both hold first
+/// where state 0 has 128 * 4096 and state 3 has 128 more. From 0 on that takes 22,430 rounds.
+const SLOW: &str = "\
+action a;3 : 4095/4096;2 : 1/4096 / action a;0 : 4095/4096;1 : 1/4096 | [524288, 1048576, 0, 524416] | [524288, 1048576, 0, 524416]";
+
+/// Compares the least vectors with those of each line.
+fn compare(rt: &HostRuntime, alloc: Global, lines: &str, w: u32) -> Result<(), Fail>
+    requires low { 1 ≤ w }
+    requires high { w ≤ 40 }
+{
+    for line in lines.split('\n') {
         let (choices, want) = line.split_once(" | ").unwrap_or(("", ""));
         let text = match choices.split_once(" / ") {
             Some((first, last)) => format!(in alloc; "{HEAD}{first}{TAIL};state 3;{last}")?,
             None => format!(in alloc; "{HEAD}{choices}{TAIL}")?,
         };
-        let model = model_of(&rt, alloc, &text)?;
+        let model = model_of(rt, alloc, &text)?;
         let (grid, root) = read_region(alloc, b"2/5<=p<=3/5,1/5<=q<=2/5", model.names(), 0)?;
-        let case = admit(&model, &root, grid, 4)?;
+        let case = admit(&model, &root, grid, w)?;
         let shown = least_of(alloc, &case)?;
         assert_eq!(rt; shown.as_str(), want, "{line}");
     }
     Ok(())
+}
+
+#[test]
+fn finds_the_least_vectors(rt: HostRuntime) -> Result<(), Fail> {
+    compare(&rt, rt.alloc(), LEAST, 4)
+}
+
+#[test]
+fn finds_the_least_vectors_of_slow_cycles(rt: HostRuntime) -> Result<(), Fail> {
+    compare(&rt, rt.alloc(), SLOW, 20)
 }

@@ -2,3 +2,4 @@ mod Ceilings
 pub mod Solving
 pub mod Raising
 pub mod Watching
+pub mod Guessing

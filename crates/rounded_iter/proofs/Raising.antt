@@ -1,5 +1,5 @@
 -- What a raise of a state keeps.
-use Rattle.std.proofs.Common.{◌≡◌, ◌≢◌, ℕ, zero, suc, ◌+◌, ◌^◌, ◌<◌, ◌≤◌, Bool, true, false, List, [], ◌∷◌, length, map, set, get_or, ℤ, pos, ◌+ℤ◌, ◌-ℤ◌, ◌*ℤ◌, ◌≤ℤ◌, ◌<ℤ◌, refl, sym, ap, subst, ◌∙◌, arith, ◌⊎◌, ⊎_elim, All, Contains, get_or-set_same, get_or-set_other, cond}
+use Rattle.std.proofs.Common.{◌≡◌, ◌≢◌, ℕ, zero, suc, ◌+◌, ◌^◌, ◌<◌, ◌≤◌, Bool, true, false, List, [], ◌∷◌, length, map, set, get_or, ℤ, pos, ◌+ℤ◌, ◌-ℤ◌, ◌*ℤ◌, ◌≤ℤ◌, ◌<ℤ◌, refl, sym, ap, subst, ◌∙◌, arith, ◌⊎◌, ⊎_elim, inl, inr, All, Contains, get_or-set_same, get_or-set_other, cond}
 use Rattle.std.specs.List.{concat}
 use Rattle.std.proofs.lemmas.Bool.{both_ways}
 use Rattle.std.proofs.lemmas.Int.{ints, by_lt_z}
@@ -18,8 +18,8 @@ use Rattle.corner_lift.specs.Laws.{NumbersAreInRange}
 use Rattle.rounded_iter.specs.declared.table.Extreme.{Extreme}
 use Rattle.rounded_iter.specs.declared.table.Extreme.TheVariants.{Greatest, Least}
 use Rattle.rounded_iter.specs.Value.{IsValue, IsLeastValue, SomeMeanAtMost}
-use Rattle.rounded_iter.specs.Rising.{TableData, IsRead, IsBelow, IsBound, IsLeastBound, IsEnough, IsEnoughFor, IsEnoughAt, IsSolved, Across, room}
-use Rattle.rounded_iter.specs.Watching.{count, CanRaise, IsRaised, IsRaisedBy, IsRaisedState, IsBelowUppers}
+use Rattle.rounded_iter.specs.Rising.{TableData, IsRead, Run, IsBelow, IsBound, IsLeastBound, IsEnough, IsEnoughFor, IsEnoughAt, IsSolved, Across, room}
+use Rattle.rounded_iter.specs.Watching.{count, from_zero, HasGoals, CanRaise, IsRaised, IsRaisedBy, IsRaisedState, IsBelowUppers}
 use Rattle.rounded_iter.proofs.Solving.{RowLaws, across_map, same_or_not, sum_moved, only_same, only_other, own_none, same_whole, at_root, at_spans, enough_shifted, in_lane, set_numbers, value_set, n_least}
 
 abbrev Range : ℕ → ℤ → Type 0
@@ -39,7 +39,7 @@ one_more b a lt = grind arith
 
 -- ---- one choice
 
-module _ (laws : RowLaws) (t : TableData) (spans : Spans) (x : List ℤ) (s a : ℕ) (can : CanRaise t spans x s) (choice : a < length (choices t.case.model s)) where
+module _ (laws : RowLaws) (t : TableData) (run : Run) (x : List ℤ) (s a : ℕ) (can : CanRaise t run x s) (choice : a < length (choices t.case.model s)) where
   abbrev k : CaseData
   k = t.case
 
@@ -50,23 +50,23 @@ module _ (laws : RowLaws) (t : TableData) (spans : Spans) (x : List ℤ) (s a : 
   has = record { state = can.state; choice = choice }
 
   -- the number is enough already
-  pub raised_none : (v : ℤ) → IsSolved e k spans x s a (corner_count k s a) v → v ≡ number x s → IsRaised t spans x x s a false
+  pub raised_none : (v : ℤ) → IsSolved e k run.spans x s a (corner_count k s a) v → v ≡ number x s → IsRaised t run x x s a false
   raised_none v h same = record {
     below = can.below;
     kept = λ b. refl;
     less = λ b. cc;
     other = λ i ne. refl;
     grown = omega (arith, linear);
-    enough = across_map e (corner_count k s a) (IsEnoughAt k spans (set x s v) s a v) (IsEnoughAt k spans x s a (number x s))
-        (λ c lt at. omega (arith, linear, at, value_set laws k spans can.read.case can.read.table.inside s a has x can.below.numbers v c, ap (λ m. m *ℤ corner_sum k.d spans (row_at k.model s a) c (only_at s)) same, ap (λ m. m *ℤ row_whole k s a) same)) h.enough;
+    enough = across_map e (corner_count k s a) (IsEnoughAt k run.spans (set x s v) s a v) (IsEnoughAt k run.spans x s a (number x s))
+        (λ c lt at. omega (arith, linear, at, value_set laws k run.spans can.read.case can.read.table.inside s a has x can.below.numbers v c, ap (λ m. m *ℤ corner_sum k.d run.spans (row_at k.model s a) c (only_at s)) same, ap (λ m. m *ℤ row_whole k s a) same)) h.enough;
   }
 
-  module _ (v : ℤ) (h : IsSolved e k spans x s a (corner_count k s a) v) (ne : v ≢ number x s) where
+  module _ (v : ℤ) (h : IsSolved e k run.spans x s a (corner_count k s a) v) (ne : v ≢ number x s) where
     rises : number x s <ℤ v
     rises = by_lt_z (number x s) v (λ lt. lt) (λ le. absurd (ne (omega (arith, linear, le, h.grown))))
 
     lane : s < length x
-    lane = in_lane laws k spans can.read.case can.read.table.inside s a has x can.below.numbers
+    lane = in_lane laws k run.spans can.read.case can.read.table.inside s a has x can.below.numbers
 
     at_s : number (set x s v) s ≡ v
     at_s = let lt = lane in rw get_or-set_same refl
@@ -81,31 +81,35 @@ module _ (laws : RowLaws) (t : TableData) (spans : Spans) (x : List ℤ) (s a : 
     open_state true is = absurd (free (can.below.goal s is))
     open_state false is = is
 
-    pub raised_up : IsRaised t spans x (set x s v) s a true
+    pub raised_up : IsRaised t run x (set x s v) s a true
     raised_up = record {
       below = record {
-        numbers = set_numbers laws k spans can.read.case can.read.table.inside s a has x can.below.numbers v (omega (arith, linear, rises, n_least laws k spans can.read.case can.read.table.inside s a has x can.below.numbers)) h.most;
+        numbers = set_numbers laws k run.spans can.read.case can.read.table.inside s a has x can.below.numbers v (omega (arith, linear, rises, n_least laws k run.spans can.read.case can.read.table.inside s a has x can.below.numbers)) h.most;
         goal = λ i is. ⊎_elim
             (λ (same : i ≡ s). absurd (free (sym (ap (number x) same) ∙ can.below.goal i is)))
             (λ (differs : i ≢ s). others i differs ∙ can.below.goal i is)
             (same_or_not i s);
-        least = λ y bound i. ⊎_elim
+        above = λ i. ⊎_elim
+            (λ (same : i ≡ s). subst (λ j. number run.from j ≤ℤ number (set x s v) j) (sym same) (omega (arith, linear, at_s, rises, can.below.above s)))
+            (λ (differs : i ≢ s). omega (arith, linear, others i differs, can.below.above i))
+            (same_or_not i s);
+        least = λ y bound over i. ⊎_elim
             (λ (same : i ≡ s). subst (λ j. number (set x s v) j ≤ℤ number y j) (sym same)
-            (omega (arith, linear, at_s, h.least y (can.below.least y bound) (bound.enough s can.state (open_state (is_goal k.model s) refl) a choice))))
-            (λ (differs : i ≢ s). omega (arith, linear, others i differs, can.below.least y bound i))
+            (omega (arith, linear, at_s, h.least y (can.below.least y bound over) (bound.enough s can.state (open_state (is_goal k.model s) refl) a choice))))
+            (λ (differs : i ≢ s). omega (arith, linear, others i differs, can.below.least y bound over i))
             (same_or_not i s);
       };
       kept = λ b. cc;
       less = λ b. room-set k.w x s v lane rises h.most;
       other = others;
       grown = omega (arith, linear, at_s, rises);
-      enough = subst (λ m. Across e (corner_count k s a) (IsEnoughAt k spans (set x s v) s a m)) (sym at_s) h.enough;
+      enough = subst (λ m. Across e (corner_count k s a) (IsEnoughAt k run.spans (set x s v) s a m)) (sym at_s) h.enough;
     }
 
 -- ---- the choices of a state
 
-pub raised_by_none : (t : TableData) (spans : Spans) (x : List ℤ) (s : ℕ) → CanRaise t spans x s → IsRaisedBy t spans x x s 0 false
-raised_by_none t spans x s can = record {
+pub raised_by_none : (t : TableData) (run : Run) (x : List ℤ) (s : ℕ) → CanRaise t run x s → IsRaisedBy t run x x s 0 false
+raised_by_none t run x s can = record {
   below = can.below;
   kept = λ b. refl;
   less = λ b. cc;
@@ -113,18 +117,18 @@ raised_by_none t spans x s can = record {
   enough = λ b lt. absurd (omega (arith, lt));
 }
 
-module _ (laws : RowLaws) (t : TableData) (spans : Spans) (old x y : List ℤ) (s a : ℕ) (read : IsRead t spans) (state : s < count t) (choice : a < length (choices t.case.model s)) where
+module _ (laws : RowLaws) (t : TableData) (run : Run) (old x y : List ℤ) (s a : ℕ) (read : IsRead t run.spans) (state : s < count t) (choice : a < length (choices t.case.model s)) where
   -- a choice by which it rose
-  pub raised_by_risen : (rose : Bool) → IsRaisedBy t spans old x s a rose → IsRaised t spans x y s a true → IsRaisedBy t spans old y s (a + 1) true
+  pub raised_by_risen : (rose : Bool) → IsRaisedBy t run old x s a rose → IsRaised t run x y s a true → IsRaisedBy t run old y s (a + 1) true
   raised_by_risen rose h g = record {
     below = g.below;
     kept = λ b. cc;
     less = λ b. lower rose refl;
     other = λ i ne. g.other i ne ∙ h.other i ne;
     enough = λ b lt. ⊎_elim
-        (λ (before : b < a). across_map t.extreme (corner_count t.case s b) (IsEnoughAt t.case spans x s b (number x s)) (IsEnoughAt t.case spans y s b (number y s))
-        (λ c at. enough_shifted laws t.case spans read.case read.table.inside s b (record { state = state; choice = omega (arith, before, choice) }) x y (number y s -ℤ number x s) shifted (omega (arith, linear)) c at) (h.enough b before))
-        (λ (here : b ≡ a). subst (λ i. IsEnoughFor t.extreme t.case spans y s i) (sym here) g.enough)
+        (λ (before : b < a). across_map t.extreme (corner_count t.case s b) (IsEnoughAt t.case run.spans x s b (number x s)) (IsEnoughAt t.case run.spans y s b (number y s))
+        (λ c at. enough_shifted laws t.case run.spans read.case read.table.inside s b (record { state = state; choice = omega (arith, before, choice) }) x y (number y s -ℤ number x s) shifted (omega (arith, linear)) c at) (h.enough b before))
+        (λ (here : b ≡ a). subst (λ i. IsEnoughFor t.extreme t.case run.spans y s i) (sym here) g.enough)
         (one_more b a lt);
   }
     where
@@ -139,7 +143,7 @@ module _ (laws : RowLaws) (t : TableData) (spans : Spans) (old x y : List ℤ) (
           (same_or_not i s)
 
   -- one by which it didn't
-  pub raised_by_kept : (rose : Bool) → IsRaisedBy t spans old x s a rose → IsRaised t spans x y s a false → IsRaisedBy t spans old y s (a + 1) rose
+  pub raised_by_kept : (rose : Bool) → IsRaisedBy t run old x s a rose → IsRaised t run x y s a false → IsRaisedBy t run old y s (a + 1) rose
   raised_by_kept rose h g =
       let same : y ≡ x = g.kept refl in
       record {
@@ -148,13 +152,13 @@ module _ (laws : RowLaws) (t : TableData) (spans : Spans) (old x y : List ℤ) (
         less = λ b. subst (λ l. room t.case.w l < room t.case.w old) (sym same) (h.less b);
         other = λ i ne. ap (λ l. number l i) same ∙ h.other i ne;
         enough = λ b lt. ⊎_elim
-            (λ (before : b < a). subst (λ l. IsEnoughFor t.extreme t.case spans l s b) (sym same) (h.enough b before))
-            (λ (here : b ≡ a). subst (λ i. IsEnoughFor t.extreme t.case spans y s i) (sym here) g.enough)
+            (λ (before : b < a). subst (λ l. IsEnoughFor t.extreme t.case run.spans l s b) (sym same) (h.enough b before))
+            (λ (here : b ≡ a). subst (λ i. IsEnoughFor t.extreme t.case run.spans y s i) (sym here) g.enough)
             (one_more b a lt);
       }
 
-pub raised_by_all : (t : TableData) (spans : Spans) (old x : List ℤ) (s a : ℕ) (rose : Bool) → length (choices t.case.model s) ≤ a → IsRaisedBy t spans old x s a rose → IsRaisedState t spans old x s rose
-raised_by_all t spans old x s a rose all h = record {
+pub raised_by_all : (t : TableData) (run : Run) (old x : List ℤ) (s a : ℕ) (rose : Bool) → length (choices t.case.model s) ≤ a → IsRaisedBy t run old x s a rose → IsRaisedState t run old x s rose
+raised_by_all t run old x s a rose all h = record {
   below = h.below;
   kept = h.kept;
   less = h.less;
@@ -201,15 +205,27 @@ enough_kept t spans x y q s differs none other h b lt =
 
 -- ---- the start
 
+-- a goal state is one of so many
+pub goal_inside : (k : CaseData) → length k.model.goal ≡ length k.model.states → (s : ℕ) → is_goal k.model s ≡ true → s < length k.model.states
+goal_inside k goals s is = ⊎_elim (λ (lt : s < length k.model.states). lt) (λ (past : length k.model.states ≤ s). absurd (both_ways (is_goal k.model s) (get_or_past k.model.goal s false (omega (arith, past, goals))) is)) (in_or_past s (length k.model.states))
+
+true_or_false : (b : Bool) → (b ≡ true) ⊎ (b ≡ false)
+true_or_false true = inl refl
+true_or_false false = inr refl
+
 -- 2 ^ w on goal states and 0 elsewhere
-pub start_below : NumbersAreInRange → (e : Extreme) (k : CaseData) (spans : Spans) (x : List ℤ) → length k.model.goal ≡ length k.model.states → length x ≡ length k.model.states → ((i : ℕ) → i < length k.model.states → number x i ≡ cond (is_goal k.model i) (pos (2 ^ k.w)) (pos 0)) → IsBelow e k spans x
+pub start_below : NumbersAreInRange → (e : Extreme) (k : CaseData) (spans : Spans) (x : List ℤ) → length k.model.goal ≡ length k.model.states → length x ≡ length k.model.states → ((i : ℕ) → i < length k.model.states → number x i ≡ cond (is_goal k.model i) (pos (2 ^ k.w)) (pos 0)) → IsBelow e k (from_zero spans) x
 start_below numbers e k spans x goals size written = record {
   numbers = record {
     size = size;
     range = λ i d lt. subst (Range k.w) (sym (get_or_default x i d (pos 0) lt ∙ written i (omega (arith, lt, size)))) (either (is_goal k.model i));
   };
-  goal = λ s is. written s (goal_in s is) ∙ ap (λ g. cond g (pos (2 ^ k.w)) (pos 0)) is;
-  least = λ y bound s. ⊎_elim
+  goal = λ s is. written s (goal_inside k goals s is) ∙ ap (λ g. cond g (pos (2 ^ k.w)) (pos 0)) is;
+  above = λ s. ⊎_elim
+      (λ (lt : s < length k.model.states). rw (written s lt) (either (is_goal k.model s)).0)
+      (λ (past : length k.model.states ≤ s). rw (get_or_past x s (pos 0) (omega (arith, past, size))) (omega (arith, linear)))
+      (in_or_past s (length k.model.states));
+  least = λ y bound over s. ⊎_elim
       (λ (lt : s < length k.model.states). rw (written s lt) (under y bound s (is_goal k.model s) refl))
       (λ (past : length k.model.states ≤ s). rw (get_or_past x s (pos 0) (omega (arith, past, size))) ((numbers k y s bound.numbers).0))
       (in_or_past s (length k.model.states));
@@ -218,9 +234,6 @@ start_below numbers e k spans x goals size written = record {
     either : (b : Bool) → Range k.w (cond b (pos (2 ^ k.w)) (pos 0))
     either true = (omega (arith, linear), omega (arith, linear))
     either false = (omega (arith, linear), omega (arith, linear))
-
-    goal_in : (s : ℕ) → is_goal k.model s ≡ true → s < length k.model.states
-    goal_in s is = ⊎_elim (λ (lt : s < length k.model.states). lt) (λ (past : length k.model.states ≤ s). absurd (both_ways (is_goal k.model s) (get_or_past k.model.goal s false (omega (arith, past, goals))) is)) (in_or_past s (length k.model.states))
 
     under : (y : List ℤ) → IsBound e k spans y → (s : ℕ) (b : Bool) → is_goal k.model s ≡ b → cond b (pos (2 ^ k.w)) (pos 0) ≤ℤ number y s
     under y bound s true is = rw (bound.goal s is) (omega (arith, linear))
@@ -257,11 +270,26 @@ module _ (laws : RowLaws) (k : CaseData) (spans : Spans) (is : IsCase k) (within
   pub least_upper_of : (x : List ℤ) → IsLeastBound Greatest k spans x → IsLeastUpper k spans x
   least_upper_of x h = record { upper = upper_of x h.bound; least = λ y upper. h.least y (bound_of y upper) }
 
-  pub below_of : (x : List ℤ) → IsBelowUppers k spans x → IsBelow Greatest k spans x
-  below_of x h = record { numbers = h.numbers; goal = h.goal; least = λ y bound. h.least y (upper_of y bound) }
+  -- a vector at or below each upper one, with 2 ^ w on goal states
+  pub below_of : (old x : List ℤ) → length k.model.goal ≡ length k.model.states → length x ≡ length old → IsBelowUppers k spans old → HasGoals k old x → IsBelow Greatest k (from_zero spans) x
+  below_of old x goals size h new = record {
+    numbers = record { size = size ∙ h.numbers.size; range = λ i d lt. subst (Range k.w) (sym (get_or_default x i d (pos 0) lt)) (range i) };
+    goal = λ s g. new.goal s (goal_inside k goals s g) g;
+    above = λ s. (range s).0;
+    least = λ y bound over s. ⊎_elim
+        (λ (g : is_goal k.model s ≡ true). omega (arith, linear, new.goal s (goal_inside k goals s g) g, bound.goal s g))
+        (λ (g : is_goal k.model s ≡ false). omega (arith, linear, new.other s g, h.least y (upper_of y bound) s))
+        (true_or_false (is_goal k.model s));
+  }
+    where
+      range : (i : ℕ) → Range k.w (number x i)
+      range i = ⊎_elim
+          (λ (g : is_goal k.model i ≡ true). subst (Range k.w) (sym (new.goal i (goal_inside k goals i g) g)) (omega (arith, linear), omega (arith, linear)))
+          (λ (g : is_goal k.model i ≡ false). subst (Range k.w) (sym (new.other i g)) (laws.numbers k old i h.numbers))
+          (true_or_false (is_goal k.model i))
 
-  pub past_of : (x : List ℤ) (limit : ℤ) → IsBelow Greatest k spans x → limit <ℤ number x k.model.init → (y : List ℤ) → IsUpper k spans y → limit <ℤ number y k.model.init
-  past_of x limit h past y upper = omega (arith, linear, past, h.least y (bound_of y upper) k.model.init)
+  pub past_of : (x : List ℤ) (limit : ℤ) → IsBelow Greatest k (from_zero spans) x → limit <ℤ number x k.model.init → (y : List ℤ) → IsUpper k spans y → limit <ℤ number y k.model.init
+  past_of x limit h past y upper = omega (arith, linear, past, h.least y (bound_of y upper) (λ s. (laws.numbers k y s upper.numbers).0) k.model.init)
 
   value_of : (x : List ℤ) → IsBound Least k spans x → IsValue k spans x
   value_of x h = record {
@@ -284,3 +312,15 @@ module _ (laws : RowLaws) (k : CaseData) (spans : Spans) (is : IsCase k) (within
 
   pub least_value_of : (x : List ℤ) → IsLeastBound Least k spans x → IsLeastValue k spans x
   least_value_of x h = record { value = value_of x h.bound; least = λ y value. h.least y (value_bound y value) }
+
+-- what holds of each number so far, where one more is written
+pub set_more : (P : ℕ → ℤ → Type 0) (x : List ℤ) (s : ℕ) (v : ℤ) → s < length x → P s v → ((i : ℕ) → i < s → P i (number x i)) → (i : ℕ) → i < s + 1 → P i (number (set x s v) i)
+set_more P x s v lt here before i less = ⊎_elim
+    (λ (earlier : i < s).
+    let ne : i ≢ s = λ e. absurd (omega (arith, e, earlier)) in
+    let at : number (set x s v) i ≡ number x i = rw get_or-set_other refl in
+    subst (P i) (sym at) (before i earlier))
+    (λ (same : i ≡ s).
+    let at : number (set x s v) s ≡ v = rw get_or-set_same refl in
+    subst (λ j. P j (number (set x s v) j)) (sym same) (subst (P s) (sym at) here))
+    (one_more i s less)

@@ -6,8 +6,8 @@ use Rattle.lift_poly.proofs.Ring.{linear}
 use Rattle.lift_grid.specs.Rectangle.{Spans}
 use Rattle.lift_model.specs.Links.{LinksData, Leads, position, states_before, positions_before}
 use Rattle.corner_lift.specs.Laws.{NumbersAreInRange}
-use Rattle.rounded_iter.specs.Rising.{TableData, IsRead, IsBelow, IsLeastBound, IsEnough, room}
-use Rattle.rounded_iter.specs.Watching.{count, flag, IsRaisedState, IsWatched, IsWatchedBut, CanMark, IsMarked, IsKept, CanVisit, IsVisited, IsTurned, IsPassed, IsClimbed}
+use Rattle.rounded_iter.specs.Rising.{TableData, IsRead, Run, IsBelow, IsLeastBound, IsEnough, room}
+use Rattle.rounded_iter.specs.Watching.{count, flag, IsRaisedState, IsWatched, IsWatchedBut, CanMark, IsMarked, IsKept, CanVisit, IsVisited, IsTurned, IsPassed, IsLeastFrom, IsFound}
 use Rattle.rounded_iter.proofs.Solving.{same_or_not}
 use Rattle.rounded_iter.proofs.Raising.{one_more, leads_inside, enough_kept}
 
@@ -57,17 +57,17 @@ module _ (t : TableData) (work : List ℕ) (s i : ℕ) (can : CanMark t work s i
 
 -- ---- a visit
 
-module _ (t : TableData) (spans : Spans) (old new : List ℤ) (before work : List ℕ) (s i frontier : ℕ) (can : CanVisit t spans old before s i frontier) where
+module _ (t : TableData) (run : Run) (old new : List ℤ) (before work : List ℕ) (s i frontier : ℕ) (can : CanVisit t run old before s i frontier) where
   -- it rose
-  pub visited_risen : length work ≡ length before → IsRaisedState t spans old new s true → IsMarked t before work s frontier → IsVisited t spans old new before work frontier true
+  pub visited_risen : length work ≡ length before → IsRaisedState t run old new s true → IsMarked t before work s frontier → IsVisited t run old new before work frontier true
   visited_risen places g marks = record {
     step = record {
       keeps = record {
         below = g.below;
         places = omega (arith, places, can.places);
         watched = λ q inside ahead clear. ⊎_elim
-            (λ (same : q ≡ s). subst (λ u. IsEnough t.extreme t.case spans new u) (sym same) g.enough)
-            (λ (ne : q ≢ s). enough_kept t spans old new q s ne (λ leads. marks.marked q leads inside ne ahead clear) g.other (can.watched q inside ahead (marks.kept (position t.links q) clear) ne))
+            (λ (same : q ≡ s). subst (λ u. IsEnough t.extreme t.case run.spans new u) (sym same) g.enough)
+            (λ (ne : q ≢ s). enough_kept t run.spans old new q s ne (λ leads. marks.marked q leads inside ne ahead clear) g.other (can.watched q inside ahead (marks.kept (position t.links q) clear) ne))
             (same_or_not q s);
       };
       less = λ e. g.less refl;
@@ -77,15 +77,15 @@ module _ (t : TableData) (spans : Spans) (old new : List ℤ) (before work : Lis
   }
 
   -- it didn't
-  pub visited_kept : work ≡ before → IsRaisedState t spans old new s false → IsVisited t spans old new before work frontier false
+  pub visited_kept : work ≡ before → IsRaisedState t run old new s false → IsVisited t run old new before work frontier false
   visited_kept same g = record {
     step = record {
       keeps = record {
         below = g.below;
         places = ap (length {A = ℕ}) same ∙ can.places;
         watched = λ q inside ahead clear. ⊎_elim
-            (λ (e : q ≡ s). subst (λ u. IsEnough t.extreme t.case spans new u) (sym e) g.enough)
-            (λ (ne : q ≢ s). subst (λ x. IsEnough t.extreme t.case spans x q) (sym (g.kept refl)) (can.watched q inside ahead (subst (λ w. flag w (position t.links q) ≡ 0) same clear) ne))
+            (λ (e : q ≡ s). subst (λ u. IsEnough t.extreme t.case run.spans new u) (sym e) g.enough)
+            (λ (ne : q ≢ s). subst (λ x. IsEnough t.extreme t.case run.spans x q) (sym (g.kept refl)) (can.watched q inside ahead (subst (λ w. flag w (position t.links q) ≡ 0) same clear) ne))
             (same_or_not q s);
       };
       less = λ e. cc;
@@ -96,7 +96,7 @@ module _ (t : TableData) (spans : Spans) (old new : List ℤ) (before work : Lis
 
 -- ---- a turn
 
-module _ (t : TableData) (spans : Spans) (read : IsRead t spans) where
+module _ (t : TableData) (run : Run) (read : IsRead t run.spans) where
   abbrev n : ℕ
   n = count t
 
@@ -105,22 +105,22 @@ module _ (t : TableData) (spans : Spans) (read : IsRead t spans) where
   found q i s inside e at = sym (read.links.order.found q inside) ∙ ap (λ u. get_or t.links.order u 0) e ∙ at
 
   -- the flag of a position was taken
-  pub watched_taken : (x : List ℤ) (work new : List ℕ) (i frontier s : ℕ) → get_or t.links.order i 0 ≡ s → ((j : ℕ) → j ≢ i → flag new j ≡ flag work j) → IsWatched t spans x work frontier → IsWatchedBut t spans x new frontier s
+  pub watched_taken : (x : List ℤ) (work new : List ℕ) (i frontier s : ℕ) → get_or t.links.order i 0 ≡ s → ((j : ℕ) → j ≢ i → flag new j ≡ flag work j) → IsWatched t run x work frontier → IsWatchedBut t run x new frontier s
   watched_taken x work new i frontier s at other w q inside ahead clear ne = w q inside ahead (sym (other (position t.links q) (λ e. ne (found q i s inside e at))) ∙ clear)
 
-  pub watched_past : (x : List ℤ) (work : List ℕ) (frontier s : ℕ) → n ≤ s → IsWatchedBut t spans x work frontier s → IsWatched t spans x work frontier
+  pub watched_past : (x : List ℤ) (work : List ℕ) (frontier s : ℕ) → n ≤ s → IsWatchedBut t run x work frontier s → IsWatched t run x work frontier
   watched_past x work frontier s past w q inside ahead clear = w q inside ahead clear (λ e. absurd (omega (arith, e, inside, past)))
 
   -- one position more
-  pub watched_next : (x : List ℤ) (work : List ℕ) (i s : ℕ) → get_or t.links.order i 0 ≡ s → IsWatched t spans x work i → IsWatchedBut t spans x work (i + 1) s
+  pub watched_next : (x : List ℤ) (work : List ℕ) (i s : ℕ) → get_or t.links.order i 0 ≡ s → IsWatched t run x work i → IsWatchedBut t run x work (i + 1) s
   watched_next x work i s at w q inside ahead clear ne = ⊎_elim
       (λ (lt : position t.links q < i). w q inside lt clear)
       (λ (e : position t.links q ≡ i). absurd (ne (found q i s inside e at)))
       (one_more (position t.links q) i ahead)
 
-  pub turned_none : (x : List ℤ) (work new : List ℕ) (frontier i : ℕ) → new ≡ work → flag new i ≡ 0 → IsKept t spans x work frontier → IsTurned t spans x x work new frontier i false
+  pub turned_none : (x : List ℤ) (work new : List ℕ) (frontier i : ℕ) → new ≡ work → flag new i ≡ 0 → IsKept t run x work frontier → IsTurned t run x x work new frontier i false
   turned_none x work new frontier i same clear h = record {
-    step = record { keeps = subst (λ w. IsKept t spans x w frontier) (sym same) h; less = λ e. cc; same = λ e. refl };
+    step = record { keeps = subst (λ w. IsKept t run x w frontier) (sym same) h; less = λ e. cc; same = λ e. refl };
     clear = λ e. clear;
     still = λ e j g. ap (λ w. flag w j) same ∙ g;
   }
@@ -132,7 +132,7 @@ module _ (t : TableData) (spans : Spans) (read : IsRead t spans) where
       (λ (ne : j ≢ i). other j ne ∙ g)
       (same_or_not j i)
 
-  pub turned_past : (x : List ℤ) (work new : List ℕ) (frontier i s : ℕ) → length new ≡ length work → flag new i ≡ 0 → ((j : ℕ) → j ≢ i → flag new j ≡ flag work j) → get_or t.links.order i 0 ≡ s → n ≤ s → IsKept t spans x work frontier → IsTurned t spans x x work new frontier i false
+  pub turned_past : (x : List ℤ) (work new : List ℕ) (frontier i s : ℕ) → length new ≡ length work → flag new i ≡ 0 → ((j : ℕ) → j ≢ i → flag new j ≡ flag work j) → get_or t.links.order i 0 ≡ s → n ≤ s → IsKept t run x work frontier → IsTurned t run x x work new frontier i false
   turned_past x work new frontier i s size clear other at past h = record {
     step = record {
       keeps = record {
@@ -147,7 +147,7 @@ module _ (t : TableData) (spans : Spans) (read : IsRead t spans) where
     still = λ e j g. still_taken work new i j clear other g;
   }
 
-  pub turned_visit : (x y : List ℤ) (work taken new : List ℕ) (frontier i : ℕ) (rose : Bool) → flag taken i ≡ 0 → ((j : ℕ) → j ≢ i → flag taken j ≡ flag work j) → IsVisited t spans x y taken new frontier rose → IsTurned t spans x y work new frontier i rose
+  pub turned_visit : (x y : List ℤ) (work taken new : List ℕ) (frontier i : ℕ) (rose : Bool) → flag taken i ≡ 0 → ((j : ℕ) → j ≢ i → flag taken j ≡ flag work j) → IsVisited t run x y taken new frontier rose → IsTurned t run x y work new frontier i rose
   turned_visit x y work taken new frontier i rose clear other h = record {
     step = h.step;
     clear = λ e. ap (λ w. flag w i) (h.still e) ∙ clear;
@@ -156,14 +156,14 @@ module _ (t : TableData) (spans : Spans) (read : IsRead t spans) where
 
   -- ---- a pass
 
-  pub passed_none : (x : List ℤ) (work : List ℕ) (low high : ℕ) → IsKept t spans x work high → IsPassed t spans x x work low low high false
+  pub passed_none : (x : List ℤ) (work : List ℕ) (low high : ℕ) → IsKept t run x work high → IsPassed t run x x work low low high false
   passed_none x work low high h = record {
     step = record { keeps = h; less = λ e. cc; same = λ e. refl };
     clear = λ e j le lt. absurd (omega (arith, le, lt));
   }
 
-  module _ (old x y : List ℤ) (before work : List ℕ) (low i high : ℕ) (rose : Bool) (h : IsPassed t spans old x before low i high rose) where
-    pub passed_risen : IsTurned t spans x y before work high i true → IsPassed t spans old y work low (i + 1) high true
+  module _ (old x y : List ℤ) (before work : List ℕ) (low i high : ℕ) (rose : Bool) (h : IsPassed t run old x before low i high rose) where
+    pub passed_risen : IsTurned t run x y before work high i true → IsPassed t run old y work low (i + 1) high true
     passed_risen g = record {
       step = record { keeps = g.step.keeps; less = λ e. lower rose refl; same = λ e. cc };
       clear = λ e. cc;
@@ -173,7 +173,7 @@ module _ (t : TableData) (spans : Spans) (read : IsRead t spans) where
         lower true e = omega (arith, g.step.less refl, h.step.less e)
         lower false e = subst (λ l. room t.case.w y < room t.case.w l) (h.step.same e) (g.step.less refl)
 
-    pub passed_kept : IsTurned t spans x y before work high i false → IsPassed t spans old y work low (i + 1) high rose
+    pub passed_kept : IsTurned t run x y before work high i false → IsPassed t run old y work low (i + 1) high rose
     passed_kept g = record {
       step = record {
         keeps = g.step.keeps;
@@ -188,10 +188,10 @@ module _ (t : TableData) (spans : Spans) (read : IsRead t spans) where
 
   -- ---- the iteration
 
-  pub kept_none : (x : List ℤ) (work : List ℕ) → IsBelow t.extreme t.case spans x → length work ≡ 2 * n → IsKept t spans x work 0
+  pub kept_none : (x : List ℤ) (work : List ℕ) → IsBelow t.extreme t.case run x → length work ≡ n → IsKept t run x work 0
   kept_none x work below places = record { below = below; places = places; watched = λ q inside ahead clear. absurd (omega (arith, ahead)) }
 
-  pub kept_next : (x : List ℤ) (work : List ℕ) (i s : ℕ) → get_or t.links.order i 0 ≡ s → n ≤ s → IsKept t spans x work i → IsKept t spans x work (i + 1)
+  pub kept_next : (x : List ℤ) (work : List ℕ) (i s : ℕ) → get_or t.links.order i 0 ≡ s → n ≤ s → IsKept t run x work i → IsKept t run x work (i + 1)
   kept_next x work i s at past h = record {
     below = h.below;
     places = h.places;
@@ -199,7 +199,7 @@ module _ (t : TableData) (spans : Spans) (read : IsRead t spans) where
   }
 
   -- no flag is left
-  pub kept_all : (x : List ℤ) (work : List ℕ) → IsKept t spans x work n → ((j : ℕ) → 0 ≤ j → j < n → flag work j ≡ 0) → IsLeastBound t.extreme t.case spans x
+  pub kept_all : (x : List ℤ) (work : List ℕ) → IsKept t run x work n → ((j : ℕ) → 0 ≤ j → j < n → flag work j ≡ 0) → IsLeastFrom t run x
   kept_all x work h clear = record {
     bound = record {
       numbers = h.below.numbers;
@@ -208,10 +208,11 @@ module _ (t : TableData) (spans : Spans) (read : IsRead t spans) where
           let ahead : position t.links s < n = read.links.order.inside s state in
           h.watched s state ahead (clear (position t.links s) (omega arith) ahead);
     };
+    above = h.below.above;
     least = h.below.least;
   }
 
--- where no number can pass the limit, the iteration ends with the least bound
-pub climbed_least : NumbersAreInRange → (t : TableData) (spans : Spans) (x : List ℤ) (done : Bool) → t.limit ≡ pos (2 ^ t.case.w) → IsClimbed t spans x done → IsLeastBound t.extreme t.case spans x
-climbed_least numbers t spans x true limit h = h.least refl
-climbed_least numbers t spans x false limit h = absurd (omega (arith, linear, limit, h.past refl, (numbers t.case x t.case.model.init h.below.numbers).1))
+-- where no number can pass the limit, the least bound is found
+pub found_least : NumbersAreInRange → (t : TableData) (spans : Spans) (x : List ℤ) (found : Bool) → t.limit ≡ pos (2 ^ t.case.w) → IsFound t spans x found → IsLeastBound t.extreme t.case spans x
+found_least numbers t spans x true limit h = h.least refl
+found_least numbers t spans x false limit h = absurd (omega (arith, linear, limit, h.past refl, (numbers t.case x t.case.model.init h.below.numbers).1))

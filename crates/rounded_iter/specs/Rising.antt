@@ -58,11 +58,17 @@ pub record IsBound (e : Extreme) (k : CaseData) (spans : Spans) (x : List ℤ) :
   pub goal : (s : ℕ) → is_goal k.model s ≡ true → number x s ≡ pos (2 ^ k.w)
   pub enough : (s : ℕ) → s < length k.model.states → is_goal k.model s ≡ false → IsEnough e k spans x s
 
--- one number from 0 to 2 ^ w for each state, 2 ^ w on goal states, and at most every bound
-pub record IsBelow (e : Extreme) (k : CaseData) (spans : Spans) (x : List ℤ) : Type 0 where
+-- where an iteration runs: on which rectangle, and from which vector on
+pub record Run : Type 0 where
+  pub spans : Spans
+  pub from : List ℤ
+
+-- one number from 0 to 2 ^ w for each state, 2 ^ w on goal states, at least the vector from which the iteration rises, and at most every bound that is
+pub record IsBelow (e : Extreme) (k : CaseData) (run : Run) (x : List ℤ) : Type 0 where
   pub numbers : AreNumbers k x
   pub goal : (s : ℕ) → is_goal k.model s ≡ true → number x s ≡ pos (2 ^ k.w)
-  pub least : (y : List ℤ) → IsBound e k spans y → AtMost x y
+  pub above : AtMost run.from x
+  pub least : (y : List ℤ) → IsBound e k run.spans y → AtMost run.from y → AtMost x y
 
 -- the bound that is least at each state
 pub record IsLeastBound (e : Extreme) (k : CaseData) (spans : Spans) (x : List ℤ) : Type 0 where

@@ -4,27 +4,11 @@ ghost use Rattle.lift_model.specs.Links.{AreLinks};
 ghost use Rattle.corner_lift.specs.Certificate.{IsLeastUpper};
 ghost use Rattle.corner_lift.specs.Table.{IsTable};
 ghost use Rattle.rounded_iter.specs.Value.{IsLeastValue};
-ghost use Rattle.rounded_iter.specs.Rising.{IsBelow};
-ghost use Rattle.rounded_iter.specs.Watching.{CanStart, CanIterate, CanContinue, IsLeastWithin};
+ghost use Rattle.rounded_iter.specs.Watching.{CanIterate, CanContinue, IsLeastWithin};
 
 use crate::table::{Extreme, Table};
 use corner_lift::{Case, corners_bound_weights, one_at, rows_at_corners};
 use lift_model::Links;
-
-impl Table<'_> {
-    /// Writes `top` for each goal state, and 0 for each other.
-    fn start(&self, lane: &mut [i64])
-        ghost spans: { Spans }
-        requires { CanStart self.now lane.old }
-        ensures { IsBelow self.now.extreme self.now.case spans lane.new }
-    {
-        rows_at_corners();
-        let model = self.case.model();
-        for s in 0..model.states() {
-            lane[s as usize] = if model.is_goal(s) { self.top } else { 0 };
-        }
-    }
-}
 
 /// Leaves in `lane` the least upper vector of the case on the rectangle whose table `weights` is: of the
 /// vectors of numbers from 0 to 2 to the `w` that have 2 to the `w` on goal states, and elsewhere at
@@ -47,7 +31,7 @@ pub fn least_upper(case: &Case, links: &Links, weights: &[i128], lane: &mut [i64
         limit: top,
     };
     table.start(lane);
-    table.climb(lane, work);
+    table.find(lane, work);
 }
 
 /// Leaves in `lane` the least value vector of the case on the rectangle whose table `weights` is: of the
@@ -71,7 +55,7 @@ pub fn least_value(case: &Case, links: &Links, weights: &[i128], lane: &mut [i64
         limit: top,
     };
     table.start(lane);
-    table.climb(lane, work);
+    table.find(lane, work);
 }
 
 /// As `least_upper`, but stops where the initial state's number passes the limit. True: `lane` is the least
@@ -99,10 +83,11 @@ pub fn least_upper_within(
         limit,
     };
     table.start(lane);
-    table.climb(lane, work)
+    table.find(lane, work)
 }
 
-/// As `least_upper`, but starts from the vector in `lane`, which lies at or below each upper vector.
+/// As `least_upper`, but starts from the vector in `lane`, of numbers from 0 to 2 to the `w`, which lies at
+/// or below each upper vector. What it has on goal states is of no account.
 pub fn least_upper_from(
     case: &Case,
     links: &Links,
@@ -125,5 +110,6 @@ pub fn least_upper_from(
         top,
         limit: top,
     };
-    table.climb(lane, work);
+    table.set_goals(lane);
+    table.find(lane, work);
 }

@@ -1,6 +1,8 @@
 //! Least vectors over a table of corner weights, by an iteration from below that rounds up.
 #![tactic(auto)]
 
+mod find;
+mod guess;
 mod least;
 mod solve;
 mod table;

@@ -10,6 +10,17 @@ pub(crate) enum Extreme {
     Least,
 }
 
+/// How an iteration ended.
+#[derive(Clone, Copy)]
+pub(crate) enum Ended {
+    /// No state has to rise.
+    Settled,
+    /// The initial state's number is above the limit.
+    Past,
+    /// It took more passes than it was to make.
+    Slow,
+}
+
 /// The rows of a case, with their weights at the corners of a rectangle, on which vectors are raised.
 /// `top` stands for 1. An iteration may stop where the initial state's number is above `limit`.
 #[derive(Drop)]

@@ -1,13 +1,12 @@
 //! An iteration that looks at a state again only where one that it leads to rose. Each position in the
 //! order of states has a flag, which says that its state may have to rise.
 
-ghost use Rattle.std.specs.Prelude.{◌≡◌, ◌≢◌, ◌+◌, ◌<◌, ◌≤ℤ◌, ◌<ℤ◌, ℕ, pos, length, IsTrue, IsFalse};
-ghost use Rattle.lift_grid.specs.Rectangle.{Spans};
+ghost use Rattle.std.specs.Prelude.{◌≡◌, ◌≢◌, ◌+◌, ◌<◌, ◌≤ℤ◌, ◌<ℤ◌, ℕ, pos, length, IsTrue, IsFalse, IsSome};
 ghost use Rattle.corner_lift.specs.Case.{number};
-ghost use Rattle.rounded_iter.specs.Rising.{IsBelow, IsLeastBound};
+ghost use Rattle.rounded_iter.specs.Rising.{Run};
 ghost use Rattle.rounded_iter.specs.Watching.{CanRaise, CanRaiseBy, IsRaised, IsRaisedState, CanMark, IsMarked, CanVisit, IsVisited, CanTurn, IsTurned, CanPass, IsPassed, IsSettled, CanGoOn, IsKept, CanClimb, IsClimbed, flag};
 
-use crate::table::Table;
+use crate::table::{Ended, Table};
 use corner_lift::{corners_bound_weights, rows_at_corners};
 
 /// Flags a position that lies before the frontier, but for one.
@@ -36,12 +35,22 @@ fn take_flag(work: &mut [u32], position: u32) -> bool
     true
 }
 
+/// Whether more passes were made than there is patience for.
+fn is_over(passes: u32, patience: Option<u32>) -> bool
+    ensures { IsTrue result → IsSome patience }
+{
+    match patience {
+        Some(most) => passes >= most,
+        None => false,
+    }
+}
+
 impl Table<'_> {
     /// Raises the number of a state to what is enough for one of its choices, and tells whether it rose.
     fn raise_choice(&self, lane: &mut [i64], s: u32, a: u32) -> bool
-        ghost spans: { Spans }
-        requires { CanRaiseBy self.now spans lane.old s a }
-        ensures { IsRaised self.now spans lane.old lane.new s a result }
+        ghost run: { Run }
+        requires { CanRaiseBy self.now run lane.old s a }
+        ensures { IsRaised self.now run lane.old lane.new s a result }
     {
         rows_at_corners();
         corners_bound_weights();
@@ -55,9 +64,9 @@ impl Table<'_> {
 
     /// Raises the number of a state to what is enough for all its choices, and tells whether it rose.
     fn raise(&self, lane: &mut [i64], s: u32) -> bool
-        ghost spans: { Spans }
-        requires { CanRaise self.now spans lane.old s }
-        ensures { IsRaisedState self.now spans lane.old lane.new s result }
+        ghost run: { Run }
+        requires { CanRaise self.now run lane.old s }
+        ensures { IsRaisedState self.now run lane.old lane.new s result }
     {
         rows_at_corners();
         corners_bound_weights();
@@ -90,9 +99,9 @@ impl Table<'_> {
         position: u32,
         frontier: u32,
     ) -> bool
-        ghost spans: { Spans }
-        requires { CanVisit self.now spans lane.old work.old s position frontier }
-        ensures { IsVisited self.now spans lane.old lane.new work.old work.new frontier result }
+        ghost run: { Run }
+        requires { CanVisit self.now run lane.old work.old s position frontier }
+        ensures { IsVisited self.now run lane.old lane.new work.old work.new frontier result }
     {
         let rose = self.raise(lane, s);
         if rose {
@@ -103,9 +112,9 @@ impl Table<'_> {
 
     /// Visits the state at a position, where it is flagged, and tells whether it rose.
     fn turn(&self, lane: &mut [i64], work: &mut [u32], position: u32, frontier: u32) -> bool
-        ghost spans: { Spans }
-        requires { CanTurn self.now spans lane.old work.old position frontier }
-        ensures { IsTurned self.now spans lane.old lane.new work.old work.new frontier position result }
+        ghost run: { Run }
+        requires { CanTurn self.now run lane.old work.old position frontier }
+        ensures { IsTurned self.now run lane.old lane.new work.old work.new frontier position result }
     {
         if !take_flag(work, position) {
             return false;
@@ -119,9 +128,9 @@ impl Table<'_> {
 
     /// Visits the flagged states of some positions, and tells whether one rose.
     fn pass(&self, lane: &mut [i64], work: &mut [u32], low: u32, high: u32) -> bool
-        ghost spans: { Spans }
-        requires { CanPass self.now spans lane.old work.old high }
-        ensures { IsPassed self.now spans lane.old lane.new work.new low high high result }
+        ghost run: { Run }
+        requires { CanPass self.now run lane.old work.old high }
+        ensures { IsPassed self.now run lane.old lane.new work.new low high high result }
     {
         let mut rose = false;
         for position in low..high {
@@ -133,7 +142,7 @@ impl Table<'_> {
     }
 
     /// Whether the initial state's number is above the limit.
-    fn is_past(&self, lane: &[i64]) -> bool
+    pub(crate) fn is_past(&self, lane: &[i64]) -> bool
         requires { self.now.case.model.init < length lane.now }
         ensures past { IsTrue result → self.now.limit <ℤ number lane.now self.now.case.model.init }
         ensures within { IsFalse result → number lane.now self.now.case.model.init ≤ℤ self.now.limit }
@@ -141,26 +150,38 @@ impl Table<'_> {
         lane[self.case.model().init() as usize] > self.limit
     }
 
-    /// Visits flagged states of some positions until none is flagged. False: the initial state's number
-    /// passed the limit.
-    fn settle(&self, lane: &mut [i64], work: &mut [u32], low: u32, high: u32) -> bool
-        ghost spans: { Spans }
-        requires { CanPass self.now spans lane.old work.old high }
-        ensures { IsSettled self.now spans lane.new work.new low high result }
+    /// Visits flagged states of some positions, in passes, until none is flagged. Stops where the initial
+    /// state's number passed the limit, and where `patience` passes didn't do.
+    fn settle(
+        &self,
+        lane: &mut [i64],
+        work: &mut [u32],
+        low: u32,
+        high: u32,
+        patience: Option<u32>,
+    ) -> Ended
+        ghost run: { Run }
+        requires { CanPass self.now run lane.old work.old high }
+        ensures { IsSettled self.now run lane.new work.new low high patience result }
     {
+        let mut passes: u32 = 0;
         while self.pass(lane, work, low, high) {
             if self.is_past(lane) {
-                return false;
+                return Ended::Past;
             }
+            if is_over(passes, patience) {
+                return Ended::Slow;
+            }
+            passes = passes.saturating_add(1);
         }
-        true
+        Ended::Settled
     }
 
     /// Visits the state at a position, the first of those that weren't visited.
     fn visit_first(&self, lane: &mut [i64], work: &mut [u32], position: u32)
-        ghost spans: { Spans }
-        requires { CanGoOn self.now spans lane.old work.old position }
-        ensures { IsKept self.now spans lane.new work.new (position + 1) }
+        ghost run: { Run }
+        requires { CanGoOn self.now run lane.old work.old position }
+        ensures { IsKept self.now run lane.new work.new (position + 1) }
     {
         let s = self.links.order()[position as usize];
         if s < self.case.model().states() {
@@ -169,29 +190,30 @@ impl Table<'_> {
     }
 
     /// Whether a component ends before this position.
-    fn is_end(&self, position: u32) -> bool {
+    pub(crate) fn is_end(&self, position: u32) -> bool {
         let before = position.saturating_sub(1) as usize;
         self.links.component_ends().get(before).copied() == Some(position)
     }
 
-    /// Raises a vector to the least bound, component by component from those below. False: the initial
-    /// state's number passed the limit.
-    pub(crate) fn climb(&self, lane: &mut [i64], work: &mut [u32]) -> bool
-        ghost spans: { Spans }
-        requires { CanClimb self.now spans lane.old work.old }
-        ensures { IsClimbed self.now spans lane.new result }
+    /// Raises a vector to the least bound, component by component from those below. Stops where the
+    /// initial state's number passed the limit, and where `patience` passes over a component didn't do.
+    pub(crate) fn climb(&self, lane: &mut [i64], work: &mut [u32], patience: Option<u32>) -> Ended
+        ghost run: { Run }
+        requires { CanClimb self.now run lane.old work.old }
+        ensures { IsClimbed self.now run lane.new patience result }
     {
         let states = self.case.model().states();
         let mut low = 0;
         for position in 0..states {
             self.visit_first(lane, work, position);
             if self.is_end(position + 1) {
-                if !self.settle(lane, work, low, position + 1) {
-                    return false;
+                match self.settle(lane, work, low, position + 1, patience) {
+                    Ended::Settled => low = position + 1,
+                    Ended::Past => return Ended::Past,
+                    Ended::Slow => return Ended::Slow,
                 }
-                low = position + 1;
             }
         }
-        self.settle(lane, work, 0, states) && !self.is_past(lane)
+        self.settle(lane, work, 0, states, patience)
     }
 }

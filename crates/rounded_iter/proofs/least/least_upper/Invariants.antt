@@ -3,5 +3,5 @@ use Rattle.rounded_iter.proofs.least.least_upper.Given as goal
 abbrev pub ghost-start : goal.ghost-start
 ghost-start g a = g.spans
 
-abbrev pub ghost-climb : goal.ghost-climb
-ghost-climb g a = g.spans
+abbrev pub ghost-find : goal.ghost-find
+ghost-find g a = g.spans

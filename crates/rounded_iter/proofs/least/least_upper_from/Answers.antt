@@ -1,18 +1,18 @@
 use Rattle.std.proofs.Common.{rules, SFits, w64, to_z-of_z, ap, ◌∙◌, pos, ◌^◌}
 use Rattle.rounded_iter.proofs.Solving.{laws_of}
 use Rattle.rounded_iter.proofs.Raising.{least_upper_of, below_of}
-use Rattle.rounded_iter.proofs.Watching.{climbed_least}
+use Rattle.rounded_iter.proofs.Watching.{found_least}
 use Rattle.rounded_iter.proofs.least.least_upper_from.Goals as goal
 
 pub returns : goal.returns
 returns g c =
     let fits : SFits w64 c.one_at-top.result = search rules in
-    least_upper_of (laws_of c.rows_at_corners.ensures.parameters c.rows_at_corners.ensures.numbers c.rows_at_corners.ensures.range c.rows_at_corners.ensures.rise c.corners_bound_weights.ensures.sum) c.args.case.now g.spans c.w.ensures.case c.requires.can.table.inside c.climb.new.lane
-    (climbed_least c.rows_at_corners.ensures.numbers _ g.spans c.climb.new.lane c.climb.result (to_z-of_z fits ∙ c.one_at-top.ensures ∙ ap (λ w. pos (2 ^ w)) c.w.ensures.value) c.climb.ensures)
+    least_upper_of (laws_of c.rows_at_corners.ensures.parameters c.rows_at_corners.ensures.numbers c.rows_at_corners.ensures.range c.rows_at_corners.ensures.rise c.corners_bound_weights.ensures.sum) c.args.case.now g.spans c.w.ensures.case c.requires.can.table.inside c.find.new.lane
+    (found_least c.rows_at_corners.ensures.numbers _ g.spans c.find.new.lane c.find.result (to_z-of_z fits ∙ c.one_at-top.ensures ∙ ap (λ w. pos (2 ^ w)) c.w.ensures.value) c.find.ensures)
 
-pub climb-requires : goal.climb-requires
-climb-requires g c = record {
+pub find-requires : goal.find-requires
+find-requires g c = record {
   read = record { case = c.w.ensures.case; links = c.requires.can.links; table = c.requires.can.table };
-  below = below_of (laws_of c.rows_at_corners.ensures.parameters c.rows_at_corners.ensures.numbers c.rows_at_corners.ensures.range c.rows_at_corners.ensures.rise c.corners_bound_weights.ensures.sum) c.args.case.now g.spans c.w.ensures.case c.requires.can.table.inside c.args.lane.now c.requires.below;
+  below = below_of (laws_of c.rows_at_corners.ensures.parameters c.rows_at_corners.ensures.numbers c.rows_at_corners.ensures.range c.rows_at_corners.ensures.rise c.corners_bound_weights.ensures.sum) c.args.case.now g.spans c.w.ensures.case c.requires.can.table.inside c.args.lane.now c.set_goals.new.lane c.w.ensures.case.asked.model.goals c.set_goals.auto.lane c.requires.below c.set_goals.ensures;
   places = c.requires.can.places;
 }

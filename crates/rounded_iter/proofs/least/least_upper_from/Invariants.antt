@@ -1,4 +1,4 @@
 use Rattle.rounded_iter.proofs.least.least_upper_from.Given as goal
 
-abbrev pub ghost-climb : goal.ghost-climb
-ghost-climb g a = g.spans
+abbrev pub ghost-find : goal.ghost-find
+ghost-find g a = g.spans

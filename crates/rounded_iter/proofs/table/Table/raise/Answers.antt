@@ -13,11 +13,11 @@ loop-a-preserved g c =
     let choice : c.loop-a.a < length (choices t.case.model c.args.s) = omega (arith, c.loop-a-test.true, c.choices-a-end.ensures, ap (λ (m : ModelData). length (choices m c.args.s)) c.model.ensures.value, ap (λ (d : TableData). length (choices d.case.model c.args.s)) c.self.view_is) in
     elim c.if-raise_choice.branch [
       | then-raise_choice w ↦
-          subst (λ b. IsRaisedBy t g.spans c.args.lane.now c.raise_choice.new.lane c.args.s (c.loop-a.a + 1) b) (sym w.rose-is)
-          (raised_by_risen (laws_of c.rows_at_corners.ensures.parameters c.rows_at_corners.ensures.numbers c.rows_at_corners.ensures.range c.rows_at_corners.ensures.rise c.corners_bound_weights.ensures.sum) t g.spans c.args.lane.now c.loop-a.lane c.raise_choice.new.lane c.args.s c.loop-a.a c.requires.read c.requires.state choice c.loop-a.rose c.loop-a.invariant
-          (subst (λ b. IsRaised t g.spans c.loop-a.lane c.raise_choice.new.lane c.args.s c.loop-a.a b) w.if-raise_choice.true c.raise_choice.ensures))
+          subst (λ b. IsRaisedBy t g.run c.args.lane.now c.raise_choice.new.lane c.args.s (c.loop-a.a + 1) b) (sym w.rose-is)
+          (raised_by_risen (laws_of c.rows_at_corners.ensures.parameters c.rows_at_corners.ensures.numbers c.rows_at_corners.ensures.range c.rows_at_corners.ensures.rise c.corners_bound_weights.ensures.sum) t g.run c.args.lane.now c.loop-a.lane c.raise_choice.new.lane c.args.s c.loop-a.a c.requires.read c.requires.state choice c.loop-a.rose c.loop-a.invariant
+          (subst (λ b. IsRaised t g.run c.loop-a.lane c.raise_choice.new.lane c.args.s c.loop-a.a b) w.if-raise_choice.true c.raise_choice.ensures))
       | else-raise_choice w ↦
-          subst (λ b. IsRaisedBy t g.spans c.args.lane.now c.raise_choice.new.lane c.args.s (c.loop-a.a + 1) b) (sym w.rose-is)
-          (raised_by_kept (laws_of c.rows_at_corners.ensures.parameters c.rows_at_corners.ensures.numbers c.rows_at_corners.ensures.range c.rows_at_corners.ensures.rise c.corners_bound_weights.ensures.sum) t g.spans c.args.lane.now c.loop-a.lane c.raise_choice.new.lane c.args.s c.loop-a.a c.requires.read c.requires.state choice c.loop-a.rose c.loop-a.invariant
-          (subst (λ b. IsRaised t g.spans c.loop-a.lane c.raise_choice.new.lane c.args.s c.loop-a.a b) w.if-raise_choice.false c.raise_choice.ensures))
+          subst (λ b. IsRaisedBy t g.run c.args.lane.now c.raise_choice.new.lane c.args.s (c.loop-a.a + 1) b) (sym w.rose-is)
+          (raised_by_kept (laws_of c.rows_at_corners.ensures.parameters c.rows_at_corners.ensures.numbers c.rows_at_corners.ensures.range c.rows_at_corners.ensures.rise c.corners_bound_weights.ensures.sum) t g.run c.args.lane.now c.loop-a.lane c.raise_choice.new.lane c.args.s c.loop-a.a c.requires.read c.requires.state choice c.loop-a.rose c.loop-a.invariant
+          (subst (λ b. IsRaised t g.run c.loop-a.lane c.raise_choice.new.lane c.args.s c.loop-a.a b) w.if-raise_choice.false c.raise_choice.ensures))
     ]

@@ -8,10 +8,10 @@ pub returns-then-number-lane : goal.returns-then-number-lane
 returns-then-number-lane g c =
     let fits : SFits w64 c.enough-number.result = search rules in
     let number_fits : SFits w64 (number c.args.lane.now c.args.s) = search rules in
-    raised_none (laws_of c.rows_at_corners.ensures.parameters c.rows_at_corners.ensures.numbers c.rows_at_corners.ensures.range c.rows_at_corners.ensures.rise c.corners_bound_weights.ensures.sum) c.args.self.now g.spans c.args.lane.now c.args.s c.args.a c.requires.can c.requires.choice c.enough-number.result c.enough-number.ensures (same_number _ _ fits number_fits c.if-number-lane.true)
+    raised_none (laws_of c.rows_at_corners.ensures.parameters c.rows_at_corners.ensures.numbers c.rows_at_corners.ensures.range c.rows_at_corners.ensures.rise c.corners_bound_weights.ensures.sum) c.args.self.now g.run c.args.lane.now c.args.s c.args.a c.requires.can c.requires.choice c.enough-number.result c.enough-number.ensures (same_number _ _ fits number_fits c.if-number-lane.true)
 
 pub returns : goal.returns
 returns g c =
     let fits : SFits w64 c.enough-number.result = search rules in
     rw (to_z-of_z fits)
-    (raised_up (laws_of c.rows_at_corners.ensures.parameters c.rows_at_corners.ensures.numbers c.rows_at_corners.ensures.range c.rows_at_corners.ensures.rise c.corners_bound_weights.ensures.sum) c.args.self.now g.spans c.args.lane.now c.args.s c.args.a c.requires.can c.requires.choice c.enough-number.result c.enough-number.ensures (λ same. c.if-number-lane.false (ap (of_z w64) same)))
+    (raised_up (laws_of c.rows_at_corners.ensures.parameters c.rows_at_corners.ensures.numbers c.rows_at_corners.ensures.range c.rows_at_corners.ensures.rise c.corners_bound_weights.ensures.sum) c.args.self.now g.run c.args.lane.now c.args.s c.args.a c.requires.can c.requires.choice c.enough-number.result c.enough-number.ensures (λ same. c.if-number-lane.false (ap (of_z w64) same)))

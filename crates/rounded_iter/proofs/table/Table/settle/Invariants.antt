@@ -3,10 +3,10 @@ use Rattle.rounded_iter.specs.Watching.{IsKept}
 use Rattle.rounded_iter.proofs.table.Table.settle.Given as goal
 
 abbrev pub ghost-pass : goal.ghost-pass
-ghost-pass g a = g.spans
+ghost-pass g a = g.run
 
-abbrev pub invariant-loop-lane : goal.invariant-loop-lane
-invariant-loop-lane g l = IsKept l.self g.spans l.lane l.work l.high
+abbrev pub invariant-loop-patience : goal.invariant-loop-patience
+invariant-loop-patience g l = IsKept l.self g.run l.lane l.work l.high
 
-abbrev pub decreases-loop-lane : goal.decreases-loop-lane
-decreases-loop-lane g l = room l.self.case.w l.lane
+abbrev pub decreases-loop-patience : goal.decreases-loop-patience
+decreases-loop-patience g l = room l.self.case.w l.lane

@@ -1,0 +1,7 @@
+use Rattle.rounded_iter.proofs.table.Table.find_slow.Given as goal
+
+abbrev pub ghost-rise_from_guess : goal.ghost-rise_from_guess
+ghost-rise_from_guess g a = g.spans
+
+abbrev pub ghost-rise_from_zero : goal.ghost-rise_from_zero
+ghost-rise_from_zero g a = g.spans

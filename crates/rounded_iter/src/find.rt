@@ -1,0 +1,218 @@
+//! The least bound: by an iteration from below, which where it takes long is begun again from a guess. A
+//! guess is tested at the end, so nothing is known of how it is made.
+
+ghost use Rattle.std.specs.Prelude.{◌≡◌, ◌≤ℤ◌, ◌^◌, ◌<◌, ℕ, pos, length, IsTrue, IfSome, IsSome};
+ghost use Rattle.lift_grid.specs.Rectangle.{Spans};
+ghost use Rattle.corner_lift.specs.Case.{number};
+ghost use Rattle.rounded_iter.specs.Rising.{IsBelow, IsLeastBound};
+ghost use Rattle.rounded_iter.specs.Watching.{CanStart, HasGoals, CanClimb, CanRise, CanFind, CanFindSlow, IsFound, CanConfirm, CanTest, AreNoted, IsSure, low_word, from_zero};
+
+use crate::table::{Ended, Table};
+use corner_lift::{corners_bound_weights, rows_at_corners};
+
+/// How many passes over a component are made before the first guess. Each guess that fails makes it more.
+const FIRST_PATIENCE: u32 = 64;
+
+/// By how much that is.
+const PATIENCE_STEP: u32 = 8;
+
+/// How many guesses are made.
+const GUESSES: u32 = 3;
+
+/// The low 32 bits of a number.
+fn low_word_of(number: i64) -> u32
+    requires { pos 0 ≤ℤ number }
+    ensures { result ≡ low_word number }
+{
+    (number as u64 % 4294967296) as u32
+}
+
+/// Notes the low bits of each number.
+fn note(lane: &[i64], noted: &mut [u32])
+    requires sizes { length noted.old ≡ length lane.now }
+    requires numbers { (s : ℕ) → pos 0 ≤ℤ number lane.now s }
+    ensures { AreNoted lane.now noted.new (length lane.now) }
+{
+    for s in 0..lane.len() {
+        noted[s] = low_word_of(lane[s]);
+    }
+}
+
+impl Table<'_> {
+    /// Writes `top` for each goal state, and 0 for each other.
+    pub(crate) fn start(&self, lane: &mut [i64])
+        ghost spans: { Spans }
+        requires { CanStart self.now lane.old }
+        ensures { IsBelow self.now.extreme self.now.case (from_zero spans) lane.new }
+    {
+        rows_at_corners();
+        let model = self.case.model();
+        for s in 0..model.states() {
+            lane[s as usize] = if model.is_goal(s) { self.top } else { 0 };
+        }
+    }
+
+    /// Writes `top` for each goal state.
+    pub(crate) fn set_goals(&self, lane: &mut [i64])
+        requires { CanStart self.now lane.old }
+        ensures { HasGoals self.now.case lane.old lane.new }
+    {
+        let model = self.case.model();
+        for s in 0..model.states() {
+            if model.is_goal(s) {
+                lane[s as usize] = self.top;
+            }
+        }
+    }
+
+    /// Whether the guess at a state, of which that was noted, is no fault.
+    fn is_sure_at(&self, lane: &[i64], noted: &[u32], s: u32) -> bool
+        requires can { CanTest self.now lane.now noted.now }
+        requires state { s < length self.now.case.model.states }
+        ensures { IsTrue result → IsSure self.now.case noted.now lane.now s }
+    {
+        rows_at_corners();
+        let number = lane[s as usize];
+        if number == 0 || self.case.model().is_goal(s) {
+            return true;
+        }
+        noted[s as usize] != low_word_of(number)
+    }
+
+    /// Whether it is at all states.
+    fn is_sure(&self, lane: &[i64], noted: &[u32]) -> bool
+        requires { CanTest self.now lane.now noted.now }
+        ensures { IsTrue result → (s : ℕ) → s < length self.now.case.model.states → IsSure self.now.case noted.now lane.now s }
+    {
+        for s in 0..self.case.model().states() {
+            if !self.is_sure_at(lane, noted, s) {
+                return false;
+            }
+        }
+        true
+    }
+
+    /// Raises a guess, and tells whether the least bound came of it for certain.
+    fn confirm(
+        &self,
+        lane: &mut [i64],
+        flags: &mut [u32],
+        noted: &mut [u32],
+        passes: u32,
+    ) -> bool
+        ghost spans: { Spans }
+        requires { CanConfirm self.now spans lane.old flags.old noted.old }
+        ensures { IsTrue result → IsLeastBound self.now.extreme self.now.case spans lane.new }
+    {
+        rows_at_corners();
+        corners_bound_weights();
+        note(lane, noted);
+        match self.climb(lane, flags, Some(passes)) {
+            Ended::Settled => self.is_sure(lane, noted),
+            Ended::Past | Ended::Slow => false,
+        }
+    }
+
+    /// Raises a vector at or below the least bound to it, and tells whether the initial state's number is
+    /// within the limit. None: it took too many passes.
+    fn rise(&self, lane: &mut [i64], flags: &mut [u32], patience: Option<u32>) -> Option<bool>
+        ghost spans: { Spans }
+        requires { CanClimb self.now (from_zero spans) lane.old flags.old }
+        ensures found { IfSome result (λ found. IsFound self.now spans lane.new found) }
+        ensures slow { result ≡ None → IsSome patience }
+    {
+        rows_at_corners();
+        corners_bound_weights();
+        match self.climb(lane, flags, patience) {
+            Ended::Settled => Some(!self.is_past(lane)),
+            Ended::Past => Some(false),
+            Ended::Slow => None,
+        }
+    }
+
+    /// The same, from 0.
+    fn rise_from_zero(
+        &self,
+        lane: &mut [i64],
+        flags: &mut [u32],
+        patience: Option<u32>,
+    ) -> Option<bool>
+        ghost spans: { Spans }
+        requires { CanRise self.now spans lane.old flags.old }
+        ensures found { IfSome result (λ found. IsFound self.now spans lane.new found) }
+        ensures slow { result ≡ None → IsSome patience }
+    {
+        self.start(lane);
+        self.rise(lane, flags, patience)
+    }
+
+    /// Makes a guess and raises it. None: no least bound came of it for certain.
+    fn rise_from_guess(
+        &self,
+        lane: &mut [i64],
+        flags: &mut [u32],
+        noted: &mut [u32],
+        patience: u32,
+    ) -> Option<bool>
+        ghost spans: { Spans }
+        requires { CanFindSlow self.now spans lane.old flags.old noted.old }
+        ensures { IfSome result (λ found. IsFound self.now spans lane.new found) }
+    {
+        rows_at_corners();
+        corners_bound_weights();
+        if !self.guess(lane, noted, patience) {
+            return None;
+        }
+        let boundless = Table {
+            case: self.case,
+            links: self.links,
+            weights: self.weights,
+            extreme: self.extreme,
+            top: self.top,
+            limit: self.top,
+        };
+        let passes = patience.saturating_mul(PATIENCE_STEP);
+        if !boundless.confirm(lane, flags, noted, passes) {
+            return None;
+        }
+        Some(!self.is_past(lane))
+    }
+
+    /// Finds the least bound where that takes long, and tells whether the initial state's number in it is
+    /// within the limit. False: it is above it in every bound.
+    fn find_slow(&self, lane: &mut [i64], flags: &mut [u32], noted: &mut [u32]) -> bool
+        ghost spans: { Spans }
+        requires { CanFindSlow self.now spans lane.old flags.old noted.old }
+        ensures { IsFound self.now spans lane.new result }
+    {
+        let mut patience = FIRST_PATIENCE;
+        for _ in 0..GUESSES {
+            if let Some(found) = self.rise_from_guess(lane, flags, noted, patience) {
+                return found;
+            }
+            patience = patience.saturating_mul(PATIENCE_STEP);
+            if let Some(found) = self.rise_from_zero(lane, flags, Some(patience)) {
+                return found;
+            }
+        }
+        match self.rise_from_zero(lane, flags, None) {
+            Some(found) => found,
+            None => false,
+        }
+    }
+
+    /// Raises a vector at or below the least bound to it, and tells whether the initial state's number in
+    /// it is within the limit. False: it is above it in every bound.
+    pub(crate) fn find(&self, lane: &mut [i64], work: &mut [u32]) -> bool
+        ghost spans: { Spans }
+        requires { CanFind self.now spans lane.old work.old }
+        ensures { IsFound self.now spans lane.new result }
+    {
+        let states = self.case.model().states() as usize;
+        let (flags, noted) = work.split_at_mut(states);
+        if let Some(found) = self.rise(lane, flags, Some(FIRST_PATIENCE)) {
+            return found;
+        }
+        self.find_slow(lane, flags, noted)
+    }
+}
