@@ -21,7 +21,8 @@ use Rattle.cert_text.specs.Laws.{ReadNodesAreTold}
 use Rattle.cert_check.specs.Answer.{Came, Answer, Answers, Then, ReadEnds, HalfEnds, TreeEnds, RestEnds, HeadEnds, start, behind, no_leaves, one_accept, one_reject, rest_of}
 use Rattle.cert_check.specs.Laws.{AnswersAreOne, PassingFilesAreSound, SoundFilesPass, SoundReportsHold}
 use Rattle.cert_check.specs.Trust.{IsTrusted}
-use Rattle.cert_check.specs.Shown.{Says, IsIn, IsPlaced, HalvesArePlaced, IsToldOfFile, TellsSmallNumbers, AnswersTold, ChecksSource, KeepsLimit, WasRead, came_of, file_limit}
+use Rattle.cert_check.specs.Source.{AnswersTold, ChecksSource, KeepsLimit, WasRead, file_limit}
+use Rattle.cert_check.specs.Shown.{Says, IsIn, IsPlaced, HalvesArePlaced, IsToldOfFile, came_of}
 use Rattle.cert_check.specs.declared.came.Came.{Came as Held}
 use Rattle.cert_check.specs.declared.summary.Summary.{Summary}
 use Rattle.cert_check.specs.declared.error.CheckError.{CheckError}
@@ -161,17 +162,6 @@ module _ {S : Type 0} (left : S → Option (List ℕ)) (faults : S → ℕ) (old
 pub each_fault : (P : CheckError → Type 0) (result : Answer Summary) → IfErr result P → (e : CheckError) → result ≡ Err e → P e
 each_fault P (Ok s) h e is = absurd cc
 each_fault P (Err f) h e is = let same : f ≡ e = cc in subst P same h
-
-pub small_numbers : (e : CheckError) → IsToldOfFile e → TellsSmallNumbers e
-small_numbers (Rows e) h = h
-small_numbers (Missed node miss) h = h
-small_numbers Fault h = tt
-small_numbers TooLong h = tt
-small_numbers (Text e) h = tt
-small_numbers (Depth node) h = tt
-small_numbers (Axis node) h = tt
-small_numbers Rest h = tt
-small_numbers Memory h = tt
 
 -- what was read of bytes that are told is all of them
 all_read : (bytes text : List ℕ) (old new : Option (List ℕ)) → old ≡ Some bytes → Consumes old new text → IsAtEnd new → text ≡ bytes

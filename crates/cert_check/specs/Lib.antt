@@ -1,5 +1,6 @@
 pub mod Sound
 pub mod Trust
 pub mod Answer
-pub mod Shown
+pub mod Source
 pub mod Laws
+pub mod Shown

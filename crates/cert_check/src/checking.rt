@@ -1,6 +1,6 @@
 // Checks what a source gives.
 ghost use Rattle.std.specs.Prelude.{◌≡◌, IfErr};
-ghost use Rattle.cert_check.specs.Shown.{AnswersTold, ChecksSource, KeepsLimit, TellsSmallNumbers};
+ghost use Rattle.cert_check.specs.Source.{AnswersTold, ChecksSource, KeepsLimit, TellsSmallNumbers};
 
 use crate::error::CheckError;
 use crate::file::check_bytes;

@@ -1,7 +1,8 @@
 // The bytes of a file.
 ghost use Rattle.std.specs.Prelude.{◌≡◌, ◌≤◌, ◌+◌, drop, length, IfErr};
 ghost use Rattle.cert_check.specs.Answer.{Answers, HeadEnds, RestEnds};
-ghost use Rattle.cert_check.specs.Shown.{IsIn, Says, IsToldOfFile, came_of, file_limit};
+ghost use Rattle.cert_check.specs.Source.{file_limit};
+ghost use Rattle.cert_check.specs.Shown.{IsIn, Says, IsToldOfFile, came_of};
 
 use crate::came::Came;
 use crate::error::CheckError;

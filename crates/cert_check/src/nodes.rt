@@ -5,7 +5,8 @@ ghost use Rattle.lift_grid.specs.Splitting.{IsHalvable};
 ghost use Rattle.lift_grid.specs.Tree.{lower_half};
 ghost use Rattle.corner_lift.specs.Case.{IsCase};
 ghost use Rattle.cert_check.specs.Answer.{TreeEnds};
-ghost use Rattle.cert_check.specs.Shown.{IsIn, IsPlaced, Says, IsToldOfFile, came_of, file_limit};
+ghost use Rattle.cert_check.specs.Source.{file_limit};
+ghost use Rattle.cert_check.specs.Shown.{IsIn, IsPlaced, Says, IsToldOfFile, came_of};
 
 use crate::came::Came;
 use crate::error::CheckError;

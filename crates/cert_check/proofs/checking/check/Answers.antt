@@ -1,6 +1,7 @@
 use Rattle.std.proofs.Common.{ℕ, ◌≤◌, List, length, subst, arith}
 use Rattle.cert_check.specs.Answer.{Answers}
-use Rattle.cert_check.specs.Shown.{Says, IsToldOfFile, ChecksSource, file_limit}
+use Rattle.cert_check.specs.Source.{ChecksSource, file_limit}
+use Rattle.cert_check.specs.Shown.{Says, IsToldOfFile}
 use Rattle.cert_check.proofs.Steps.{source_checked, limit_kept, each_fault, told_answered}
 use Rattle.cert_check.proofs.checking.check.Goals as goal
 
