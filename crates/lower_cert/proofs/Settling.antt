@@ -1,6 +1,7 @@
 -- What is left when no more is lowered is the greatest lower vector.
-use Rattle.std.proofs.Common.{◌≡◌, ℕ, suc, ◌<◌, ◌≤◌, inl, inr, false, List, [], ◌∷◌, length, get_or, All, ℤ, pos, arith, nat_lt, ltb-true, ltb-false}
+use Rattle.std.proofs.Common.{◌≡◌, ℕ, zero, suc, ◌^◌, ◌<◌, ◌≤◌, ◌<ℤ◌, ◌≤ℤ◌, ◌-ℤ◌, negsuc, SFits, w64, subst, inl, inr, false, List, [], ◌∷◌, length, get_or, All, ℤ, pos, arith, nat_lt, ltb-true, ltb-false}
 use Rattle.std.proofs.lemmas.List.Elements.{All-nil, All-cons}
+use Rattle.std.proofs.lemmas.List.{get_or_past}
 use Rattle.std.proofs.lemmas.List.Sums.{get_or-le-sum_by}
 use Rattle.lift_poly.proofs.Ring.{linear}
 use Rattle.lift_grid.specs.Rectangle.{Spans}
@@ -11,10 +12,11 @@ use Rattle.corner_lift.specs.Certificate.{unmarked, mark}
 use Rattle.corner_lift.specs.Laws.{NumbersAreInRange}
 use Rattle.corner_lift.specs.Stages.{IsGreatestLower}
 use Rattle.robust_rank.specs.Rate.{ArePicks, IsLeastRate}
-use Rattle.lower_cert.specs.Lowering.{IsHigh, IsSettled, IsRanked, IsHeight}
+use Rattle.lower_cert.specs.Lowering.{IsHigh, IsSettled, IsRanked, IsHeight, IsStuckLevel}
 use Rattle.lower_cert.specs.Laws.{StagesAreGreatest}
 use Rattle.lower_cert.proofs.Means.{either_way}
 use Rattle.lower_cert.proofs.Heights.{mark-beyond}
+use Rattle.lower_cert.proofs.Sweeping.{floor_fits}
 
 module _ (k : CaseData) (spans : Spans) (x : List ℤ) (picks ranks : List ℕ) (ranked : IsRanked k spans x picks ranks) where
   -- a state with a pick is no goal state, and has a rank
@@ -65,3 +67,20 @@ module _ (greatest : StagesAreGreatest) (ranges : NumbersAreInRange) (k : CaseDa
 
       height_most : (s : ℕ) → mark ranks s < unmarked → mark ranks s ≤ h
       height_most s some = height.most s (either_way (nat_lt s (length ranks)) (λ b. ltb-true s (length ranks) b) (λ b. absurd (omega (arith, some, mark-beyond ranks s (ltb-false s (length ranks) b))))) some
+
+-- where the greatest number of a state without rank isn't above 0, none is
+pub level_none : (x : List ℤ) (ranks : List ℕ) (v : ℤ) → IsStuckLevel x ranks (length x) v → v ≤ℤ pos 0 → (s : ℕ) → unmarked ≤ mark ranks s → number x s ≤ℤ pos 0
+level_none x ranks v level low s free =
+    either_way (nat_lt s (length x))
+    (λ b. omega (arith, linear, level.most s (ltb-true s (length x) b) free, low))
+    (λ b. let past : number x s ≡ pos 0 = get_or_past x s (pos 0) (ltb-false s (length x) b) in omega (arith, linear, past))
+
+-- a state without rank is no goal state
+pub no_goals : (k : CaseData) (spans : Spans) (x : List ℤ) (picks ranks : List ℕ) → IsRanked k spans x picks ranks → (s : ℕ) → unmarked ≤ mark ranks s → is_goal k.model s ≡ false
+no_goals k spans x picks ranks ranked s free = either_way (is_goal k.model s) (λ g. absurd (omega (arith, free, ranked.stages.goal s g))) (λ g. g)
+
+-- one less than a number above 0
+pub less_fits : (v : ℤ) → pos 0 <ℤ v → v ≤ℤ pos (2 ^ 40) → SFits w64 (v -ℤ pos 1)
+less_fits (pos zero) positive most = absurd (omega (arith, linear, positive))
+less_fits (pos (suc n)) positive most = let one : pos n ≡ pos (suc n) -ℤ pos 1 = omega (arith, linear) in subst (λ i. SFits w64 i) one (floor_fits n (omega (arith, linear, most)))
+less_fits (negsuc n) positive most = absurd (omega (arith, linear, positive))

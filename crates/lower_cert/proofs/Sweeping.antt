@@ -55,6 +55,10 @@ holds_no_more parameters k spans x s a m r within least less =
     let wholes : (r +ℤ pos 1) *ℤ whole k.model k.d spans row ≡ (r +ℤ pos 1) *ℤ row_whole k s a = ap (λ n. (r +ℤ pos 1) *ℤ (k.model.common *ℤ power k.d n)) same in
     λ low. (least.attained.0, (subst (λ n. least.attained.0 < 2 ^ n) (sym same) least.attained.1.0, inr (inr (omega (arith, linear, less, least.attained.1.1, wholes)))))
 
+-- of a choice that holds the state's own number there is nothing to say
+pub holds_itself : (k : CaseData) (spans : Spans) (x : List ℤ) (s a : ℕ) → HoldsNoMore k spans x s a (number x s)
+holds_itself k spans x s a = λ low. absurd (omega (arith, linear, low))
+
 pub same_or_less : (b a : ℕ) → b < a + 1 → (b < a) ⊎ (b ≡ a)
 same_or_less b a lt = grind arith
 

@@ -3,3 +3,4 @@ pub mod Laws
 pub mod AnyRanks
 pub mod Lowering
 pub mod Exits
+pub mod Limit

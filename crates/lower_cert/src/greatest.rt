@@ -1,15 +1,17 @@
 //! The greatest lower vector of a rectangle, with its ranks and picks.
 
-ghost use Rattle.std.specs.Prelude.{◌≡◌, ◌*◌, ◌<◌, ◌≤◌, length, All, IsTrue, IsFalse};
+ghost use Rattle.std.specs.Prelude.{◌≡◌, ◌*◌, ◌<◌, ◌≤◌, ◌<ℤ◌, ◌↔◌, length, All, IsTrue, IsFalse, IsNone, IfSome};
 ghost use Rattle.lift_grid.specs.Rectangle.{Spans};
+ghost use Rattle.corner_lift.specs.Case.{number};
 ghost use Rattle.corner_lift.specs.Certificate.{unmarked};
 ghost use Rattle.corner_lift.specs.Stages.{IsGreatestLower};
-ghost use Rattle.lower_cert.specs.Lowering.{IsRead, HasPlaces, IsHigh, IsRanked, IsSettled, IsHeight, total};
+ghost use Rattle.lower_cert.specs.Lowering.{IsRead, HasPlaces, IsHigh, IsSettled, IsHeight, total};
+ghost use Rattle.lower_cert.specs.Limit.{IsGreatestAbove, NoneIsAbove};
 
 use crate::exit::lower_to_exit;
 use crate::laws::{ranks_fit, vectors_are_lowered};
 use crate::lower::{NONE, lower_level, rank_states, start, stuck_level};
-use crate::sweep::settle;
+use crate::sweep::{flag_all, flag_marked, settle};
 use corner_lift::{Case, rows_at_corners};
 use lift_model::Links;
 use robust_rank::rate;
@@ -21,28 +23,43 @@ pub struct Rate {
     pub k: u32,
 }
 
+/// Whether the initial state's number is above the limit.
+fn is_above(case: &Case, lane: &[i64], limit: i64) -> bool
+    requires { length lane.now ≡ length case.now.model.states }
+    ensures { IsTrue result ↔ limit <ℤ number lane.now case.now.model.init }
+{
+    limit < lane[case.model().init() as usize]
+}
+
 /// Lowers states until each is held by a choice, ranks them, and lowers those without rank that have the
-/// greatest number above 0, if there are any: by 1, and then to their best exit. Tells whether there are.
+/// greatest number above 0, if there are any: by 1, and then to their best exit. Tells whether it goes on:
+/// not where there are none, and not once the initial state's number isn't above the limit.
 fn lower_once(
     case: &Case,
     links: &Links,
     weights: &[i128],
+    limit: i64,
     lane: &mut [i64],
     allowed: &mut [u32],
     ranks: &mut [u32],
     picks: &mut [u32],
+    work: &mut [u32],
 ) -> bool
     ghost spans: { Spans }
     requires read { IsRead case.now links.now spans weights.now lane.old }
     requires high { IsHigh case.now spans lane.old }
     requires places { HasPlaces case.now allowed.old ranks.old picks.old }
+    requires work { length work.old ≡ 2 * length case.now.model.states }
     ensures high { IsHigh case.now spans lane.new }
     ensures lower { IsTrue result → total lane.new < total lane.old }
-    ensures settled { IsFalse result → IsSettled case.now spans lane.new picks.new ranks.new }
+    ensures settled { IsFalse result → limit <ℤ number lane.new case.now.model.init → IsSettled case.now spans lane.new picks.new ranks.new }
 {
     rows_at_corners();
     let _ = case.w();
-    settle(case, links, weights, lane);
+    settle(case, links, weights, limit, lane, work);
+    if !is_above(case, lane, limit) {
+        return false;
+    }
     rank_states(case, links, weights, lane, allowed, ranks, picks);
     let level = stuck_level(lane, ranks);
     if level <= 0 {
@@ -50,6 +67,7 @@ fn lower_once(
     }
     lower_level(case, lane, ranks, picks, level);
     lower_to_exit(case, links, weights, lane, ranks, picks, level - 1);
+    flag_marked(case, links, picks, work);
     true
 }
 
@@ -65,6 +83,59 @@ fn height(ranks: &[u32]) -> u32
         }
     }
     height
+}
+
+/// Lowers a vector from 1 until it is the greatest lower one, or until the initial state's number isn't
+/// above the limit.
+fn descend(
+    case: &Case,
+    links: &Links,
+    weights: &[i128],
+    limit: i64,
+    lane: &mut [i64],
+    allowed: &mut [u32],
+    ranks: &mut [u32],
+    picks: &mut [u32],
+    work: &mut [u32],
+)
+    ghost spans: { Spans }
+    requires read { IsRead case.now links.now spans weights.now lane.old }
+    requires places { HasPlaces case.now allowed.old ranks.old picks.old }
+    requires work { length work.old ≡ 2 * length case.now.model.states }
+    ensures high { IsHigh case.now spans lane.new }
+    ensures settled { limit <ℤ number lane.new case.now.model.init → IsSettled case.now spans lane.new picks.new ranks.new }
+{
+    start(case, lane);
+    flag_all(work);
+    while lower_once(
+        case, links, weights, limit, lane, allowed, ranks, picks, work,
+    ) {}
+}
+
+/// The least rate and height that the ranks and picks of a settled vector allow.
+fn rate_of(
+    case: &Case,
+    links: &Links,
+    weights: &[i128],
+    lane: &[i64],
+    ranks: &[u32],
+    picks: &[u32],
+) -> Rate
+    ghost spans: { Spans }
+    requires read { IsRead case.now links.now spans weights.now lane.now }
+    requires high { IsHigh case.now spans lane.now }
+    requires settled { IsSettled case.now spans lane.now picks.now ranks.now }
+    ensures greatest { IsGreatestLower case.now spans (record { numbers = lane.now; picks = picks.now; ranks = ranks.now; e = result.e; k = result.k }) }
+    ensures height { result.k ≤ length case.now.model.states }
+{
+    vectors_are_lowered();
+    ranks_fit();
+    rows_at_corners();
+    let _ = case.w();
+    Rate {
+        e: rate(case, links, weights, ranks, picks),
+        k: height(ranks),
+    }
 }
 
 /// Leaves in `lane`, `ranks` and `picks` the greatest lower vector of the case on the rectangle whose table
@@ -87,14 +158,40 @@ pub fn greatest_reject(
     ensures greatest { IsGreatestLower case.now spans (record { numbers = lane.new; picks = picks.new; ranks = ranks.new; e = result.e; k = result.k }) }
     ensures height { result.k ≤ length case.now.model.states }
 {
-    vectors_are_lowered();
-    ranks_fit();
     rows_at_corners();
-    let _ = case.w();
-    start(case, lane);
-    while lower_once(case, links, weights, lane, allowed, ranks, picks) {}
-    Rate {
-        e: rate(case, links, weights, ranks, picks),
-        k: height(ranks),
+    let limit = -1;
+    descend(
+        case, links, weights, limit, lane, allowed, ranks, picks, work,
+    );
+    rate_of(case, links, weights, lane, ranks, picks)
+}
+
+/// As `greatest_reject`, but stops as soon as the initial state's number isn't above the limit. None: in no
+/// lower vector is it above. So with the greatest number within a bound as the limit, there is no rejecting
+/// certificate for that bound, and what `lane`, `ranks` and `picks` hold is free.
+pub fn greatest_reject_above(
+    case: &Case,
+    links: &Links,
+    weights: &[i128],
+    limit: i64,
+    lane: &mut [i64],
+    allowed: &mut [u32],
+    ranks: &mut [u32],
+    picks: &mut [u32],
+    work: &mut [u32],
+) -> Option<Rate>
+    ghost spans: { Spans }
+    requires read { IsRead case.now links.now spans weights.now lane.old }
+    requires places { HasPlaces case.now allowed.old ranks.old picks.old }
+    requires work { length work.old ≡ 2 * length case.now.model.states }
+    ensures some { IfSome result (λ rate. IsGreatestAbove case.now spans limit (record { numbers = lane.new; picks = picks.new; ranks = ranks.new; e = rate.e; k = rate.k })) }
+    ensures none { IsNone result → NoneIsAbove case.now spans limit }
+{
+    descend(
+        case, links, weights, limit, lane, allowed, ranks, picks, work,
+    );
+    if is_above(case, lane, limit) {
+        return Some(rate_of(case, links, weights, lane, ranks, picks));
     }
+    None
 }

@@ -7,5 +7,5 @@ mod laws;
 mod lower;
 mod sweep;
 
-pub use greatest::{Rate, greatest_reject};
+pub use greatest::{Rate, greatest_reject, greatest_reject_above};
 pub use laws::{ranks_fit, vectors_are_lowered};

@@ -3,7 +3,7 @@
 ghost use Rattle.std.specs.Prelude.{◌≡◌, ◌^◌, ◌*◌, ◌<◌, ◌≤◌, ◌⊎◌, ◌≤ℤ◌, ◌<ℤ◌, ◌+ℤ◌, ◌-ℤ◌, ◌*ℤ◌, pos, length, unsigned_abs, Contains, IsFalse, true, false};
 ghost use Rattle.lift_grid.specs.Rectangle.{Spans};
 ghost use Rattle.lift_model.specs.Model.{is_goal, choices, row_at};
-ghost use Rattle.lift_model.specs.Links.{AreLinks, HasChoice, targets_of};
+ghost use Rattle.lift_model.specs.Links.{AreLinks, HasChoice, state_count, targets_of};
 ghost use Rattle.corner_lift.specs.Case.{number, corner_count, engine_limit};
 ghost use Rattle.lower_cert.specs.Lowering.{CanLower, IsExit, HoldsNoMore, HoldNoMore, IsLowered, IsWrittenLower};
 
@@ -140,8 +140,13 @@ fn held_by_least(case: &Case, links: &Links, weights: &[i128], lane: &[i64], s: 
 {
     rows_at_corners();
     let _ = case.w();
+    let number = lane[s as usize];
     let sum = table_min(case, links, weights, s, a, lane);
-    rounded_down(sum, table_whole(case, links, weights, s, a))
+    let whole = table_whole(case, links, weights, s, a);
+    if times(number, whole) <= sum {
+        return number;
+    }
+    rounded_down(sum, whole)
 }
 
 /// How high a state is held by a choice: no number above it can be kept there.
@@ -166,7 +171,8 @@ pub(crate) fn greater(a: i64, b: i64) -> i64
     if a < b { b } else { a }
 }
 
-/// The greatest number that a choice of the state holds.
+/// The greatest number that a choice of the state holds. Where a choice holds the state's own, it looks at
+/// no further one.
 fn most_held(case: &Case, links: &Links, weights: &[i128], lane: &[i64], s: u32) -> i64
     ghost spans: { Spans }
     requires can { CanLower case.now links.now spans weights.now lane.now }
@@ -175,9 +181,13 @@ fn most_held(case: &Case, links: &Links, weights: &[i128], lane: &[i64], s: u32)
 {
     rows_at_corners();
     corners_bound_weights();
+    let number = lane[s as usize];
     let mut most = 0;
     for a in 0..case.model().choices(s) {
         most = greater(most, held(case, links, weights, lane, s, a));
+        if number <= most {
+            return most;
+        }
     }
     most
 }
@@ -209,39 +219,163 @@ fn lower_state(case: &Case, links: &Links, weights: &[i128], lane: &mut [i64], s
     write_lower(lane, s, number)
 }
 
-/// Lowers a state, if it is one and no goal state.
+/// Lowers a state, if it is one, no goal state, and above 0.
 fn try_state(case: &Case, links: &Links, weights: &[i128], lane: &mut [i64], s: u32) -> bool
     ghost spans: { Spans }
     requires { CanLower case.now links.now spans weights.now lane.old }
     ensures { IsLowered case.now spans lane.old lane.new result }
 {
     let model = case.model();
-    if s >= model.states() || model.is_goal(s) {
+    if s >= model.states() || model.is_goal(s) || lane[s as usize] <= 0 {
         return false;
     }
     lower_state(case, links, weights, lane, s)
 }
 
-/// Lowers each state once, in the links' order, and tells whether one was lowered.
-fn sweep(case: &Case, links: &Links, weights: &[i128], lane: &mut [i64]) -> bool
+/// Flags a position, where there is one.
+fn set_flag(work: &mut [u32], position: u32) {
+    if let Some(flag) = work.get_mut(position as usize) {
+        *flag = 1;
+    }
+}
+
+/// Flags the positions of the states that lead to a state, but for its own: what it was lowered to is held,
+/// with its self loops.
+fn flag_before(links: &Links, work: &mut [u32], s: u32, position: u32)
+    requires { s < state_count links.now }
+{
+    for p in links.positions_before(s) {
+        if *p != position {
+            set_flag(work, *p);
+        }
+    }
+}
+
+/// Flags all positions.
+pub(crate) fn flag_all(work: &mut [u32]) {
+    for i in 0..work.len() {
+        work[i] = 1;
+    }
+}
+
+/// Flags the positions of the states that are marked by 0, and of those that lead to them.
+pub(crate) fn flag_marked(case: &Case, links: &Links, marks: &[u32], work: &mut [u32])
+    requires links { AreLinks case.now.model links.now }
+    requires marks { length marks.now ≡ length case.now.model.states }
+{
+    for s in 0..case.model().states() {
+        if marks[s as usize] == 0 {
+            set_flag(work, links.position(s));
+            flag_before(links, work, s, u32::MAX);
+        }
+    }
+}
+
+/// Lowers the state at a position, if it is flagged, and flags those that lead to it where it fell. Tells
+/// whether it did.
+fn turn(
+    case: &Case,
+    links: &Links,
+    weights: &[i128],
+    lane: &mut [i64],
+    work: &mut [u32],
+    position: u32,
+) -> bool
     ghost spans: { Spans }
-    requires { CanLower case.now links.now spans weights.now lane.old }
+    requires can { CanLower case.now links.now spans weights.now lane.old }
+    requires position { (position < length work.old) × (position < length links.now.order) }
+    ensures { IsLowered case.now spans lane.old lane.new result }
+{
+    let place = position as usize;
+    if work[place] == 0 {
+        return false;
+    }
+    work[place] = 0;
+    let s = links.order()[place];
+    let lower = try_state(case, links, weights, lane, s);
+    if lower && s < case.model().states() {
+        flag_before(links, work, s, position);
+    }
+    lower
+}
+
+/// Takes the turns of some positions, and tells whether a state fell.
+fn pass(
+    case: &Case,
+    links: &Links,
+    weights: &[i128],
+    lane: &mut [i64],
+    work: &mut [u32],
+    low: u32,
+    high: u32,
+) -> bool
+    ghost spans: { Spans }
+    requires can { CanLower case.now links.now spans weights.now lane.old }
+    requires high { (high ≤ length work.old) × (high ≤ length links.now.order) }
     ensures { IsLowered case.now spans lane.old lane.new result }
 {
     let mut lower = false;
-    for s in links.order() {
-        if try_state(case, links, weights, lane, *s) {
+    for position in low..high {
+        if turn(case, links, weights, lane, work, position) {
             lower = true;
         }
     }
     lower
 }
 
-/// Lowers states until each is held by a choice.
-pub(crate) fn settle(case: &Case, links: &Links, weights: &[i128], lane: &mut [i64])
+/// Lowers the states at some positions until none of them is flagged, or the initial state's number isn't
+/// above the limit.
+fn settle_part(
+    case: &Case,
+    links: &Links,
+    weights: &[i128],
+    limit: i64,
+    lane: &mut [i64],
+    work: &mut [u32],
+    low: u32,
+    high: u32,
+)
     ghost spans: { Spans }
-    requires { CanLower case.now links.now spans weights.now lane.old }
+    requires can { CanLower case.now links.now spans weights.now lane.old }
+    requires high { (high ≤ length work.old) × (high ≤ length links.now.order) }
     ensures { IsLowered case.now spans lane.old lane.new false }
 {
-    while sweep(case, links, weights, lane) {}
+    let init = case.model().init() as usize;
+    while pass(case, links, weights, lane, work, low, high) && lane[init] > limit {}
+}
+
+/// Where the component ends that begins at a position, or the last of so many positions.
+fn component_end(links: &Links, low: u32, states: u32) -> u32
+    requires { low < states }
+    ensures later { low < result }
+    ensures inside { result ≤ states }
+{
+    match links.component_ends().get(low as usize) {
+        Some(end) if *end > low && *end <= states => *end,
+        _ => states,
+    }
+}
+
+/// Lowers states until none is flagged, component by component from those below, or until the initial
+/// state's number isn't above the limit. A state is looked at again only where one that it leads to fell.
+pub(crate) fn settle(
+    case: &Case,
+    links: &Links,
+    weights: &[i128],
+    limit: i64,
+    lane: &mut [i64],
+    work: &mut [u32],
+)
+    ghost spans: { Spans }
+    requires can { CanLower case.now links.now spans weights.now lane.old }
+    requires work { length work.old ≡ 2 * length case.now.model.states }
+    ensures { IsLowered case.now spans lane.old lane.new false }
+{
+    let states = case.model().states();
+    let mut low = 0;
+    while low < states {
+        let high = component_end(links, low, states);
+        settle_part(case, links, weights, limit, lane, work, low, high);
+        low = high;
+    }
 }

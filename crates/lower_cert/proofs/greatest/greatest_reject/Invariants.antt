@@ -1,17 +1,7 @@
-use Rattle.lower_cert.specs.Lowering.{IsHigh, total}
 use Rattle.lower_cert.proofs.greatest.greatest_reject.Given as goal
 
-abbrev pub ghost-start : goal.ghost-start
-ghost-start g a = g.spans
+abbrev pub ghost-descend : goal.ghost-descend
+ghost-descend g a = g.spans
 
-abbrev pub ghost-lower_once : goal.ghost-lower_once
-ghost-lower_once g a = g.spans
-
-abbrev pub ghost-rate : goal.ghost-rate
-ghost-rate g a = g.spans
-
-abbrev pub invariant-loop : goal.invariant-loop
-invariant-loop g l = IsHigh l.case g.spans l.lane
-
-abbrev pub decreases-loop : goal.decreases-loop
-decreases-loop g l = total l.lane
+abbrev pub ghost-rate_of : goal.ghost-rate_of
+ghost-rate_of g a = g.spans

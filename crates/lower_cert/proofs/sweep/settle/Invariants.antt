@@ -1,12 +1,12 @@
-use Rattle.std.proofs.Common.{false}
-use Rattle.lower_cert.specs.Lowering.{IsLowered, total}
+use Rattle.std.proofs.Common.{◌-◌, ◌≤◌, false}
+use Rattle.lower_cert.specs.Lowering.{IsLowered}
 use Rattle.lower_cert.proofs.sweep.settle.Given as goal
 
-abbrev pub ghost-sweep : goal.ghost-sweep
-ghost-sweep g a = g.spans
+abbrev pub ghost-settle_part : goal.ghost-settle_part
+ghost-settle_part g a = g.spans
 
-abbrev pub invariant-loop : goal.invariant-loop
-invariant-loop g l = IsLowered l.case g.spans l.initial.lane l.lane false
+abbrev pub invariant-loop-low : goal.invariant-loop-low
+invariant-loop-low g l = IsLowered l.case g.spans l.initial.lane l.lane false × (l.low ≤ l.states)
 
-abbrev pub decreases-loop : goal.decreases-loop
-decreases-loop g l = total l.lane
+abbrev pub decreases-loop-low : goal.decreases-loop-low
+decreases-loop-low g l = l.states - l.low

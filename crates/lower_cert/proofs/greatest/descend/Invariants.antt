@@ -1,0 +1,14 @@
+use Rattle.lower_cert.specs.Lowering.{IsHigh, total}
+use Rattle.lower_cert.proofs.greatest.descend.Given as goal
+
+abbrev pub ghost-start : goal.ghost-start
+ghost-start g a = g.spans
+
+abbrev pub ghost-lower_once : goal.ghost-lower_once
+ghost-lower_once g a = g.spans
+
+abbrev pub invariant-loop : goal.invariant-loop
+invariant-loop g l = IsHigh l.case g.spans l.lane
+
+abbrev pub decreases-loop : goal.decreases-loop
+decreases-loop g l = total l.lane
