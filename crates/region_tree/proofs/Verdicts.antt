@@ -1,6 +1,6 @@
 -- What decides a rectangle: the greatest number within a bound, and what a vector's number of the initial state shows.
-use Rattle.std.proofs.Common.{◌≡◌, ℕ, ◌+◌, ◌*◌, ◌/◌, ◌%◌, ◌^◌, ◌<◌, ◌≤◌, List, [], ◌∷◌, length, get_or, sym, ap, ◌∙◌, ℤ, pos, ◌+ℤ◌, ◌*ℤ◌, ◌≤ℤ◌, ◌<ℤ◌, SFits, w64, to_z, arith, mul-le-mul, mod-eq_of_lt, div-add-mod', le_of_mul-le-mul_right, pow_mono, map, refl}
-use Rattle.std.proofs.lemmas.Int.{to_z_pos, by_lt_z}
+use Rattle.std.proofs.Common.{◌≡◌, ℕ, ◌+◌, ◌*◌, ◌/◌, ◌%◌, ◌^◌, ◌<◌, ◌≤◌, List, [], ◌∷◌, length, get_or, sym, ap, ◌∙◌, ℤ, pos, ◌+ℤ◌, ◌*ℤ◌, ◌≤ℤ◌, ◌<ℤ◌, SFits, w64, to_z, arith, mul-le-mul, mod-eq_of_lt, div-add-mod', le_of_mul-le-mul_right, pow_mono, map, refl, le_trans, Option, Some, None, IfSome}
+use Rattle.std.proofs.lemmas.Int.{to_z_pos}
 use Rattle.std.proofs.lemmas.Nat.{mod_below}
 use Rattle.lift_poly.proofs.Ring.{linear, mul-comm, mul-le}
 use Rattle.lift_pool.specs.Lanes.{PoolData, pool_written}
@@ -9,11 +9,12 @@ use Rattle.lift_grid.specs.Rectangle.{Spans}
 use Rattle.lift_grid.specs.Tree.{RejectData}
 use Rattle.lift_cert.specs.declared.bound.Bound.{Bound}
 use Rattle.lift_cert.specs.Certificate.{IsWithin, IsBeyond, NoneAccepts}
-use Rattle.corner_lift.specs.Case.{CaseData, number}
+use Rattle.corner_lift.specs.Case.{CaseData, IsCase, number}
 use Rattle.corner_lift.specs.Certificate.{IsUpper, IsLeastUpper}
-use Rattle.corner_lift.specs.Stages.{IsGreatestLower}
-use Rattle.region_tree.specs.Decided.{lane}
-use Rattle.region_tree.specs.Right.{IsAccepted, IsRejected, NoneRejects}
+use Rattle.lower_cert.specs.declared.greatest.Rate.{Rate}
+use Rattle.lower_cert.specs.Limit.{IsGreatestAbove, NoneIsAbove}
+use Rattle.region_tree.specs.Decided.{IsGreatestBeyond, lane, reject_of}
+use Rattle.region_tree.specs.Right.{IsAccepted, NoneRejects}
 use Rattle.region_tree.specs.Rooms.{HasLane, IsSameShape}
 use Rattle.region_tree.proofs.Lanes.{one_of, written_one}
 
@@ -86,17 +87,21 @@ module _ (k : CaseData) (ss : Spans) (bound : Bound) where
   pub none_accepts : (limit : ℤ) → IsBeyond bound k.w (limit +ℤ pos 1) → ((y : List ℤ) → IsUpper k ss y → limit <ℤ number y k.model.init) → NoneAccepts k ss bound
   none_accepts limit beyond past x h = beyond_above bound k.w limit (number x k.model.init) beyond (past x h.upper) h.limit
 
-  pub is_rejected : (r : RejectData) → NoneAccepts k ss bound → IsGreatestLower k ss r → (IsWithin bound k.w (number r.numbers k.model.init) → ⊥) → IsRejected k ss bound r
-  is_rejected r none lower above = record {
-    none = none;
-    rejecting = record {
-      holds = lower.holds;
-      limit = by_lt_z (pos bound.num *ℤ pos (2 ^ k.w)) (number r.numbers k.model.init *ℤ pos bound.den) (λ lt. lt) (λ le. absurd (above le));
-    };
-    greatest = lower;
-  }
+  pub none_rejects : (limit : ℤ) → IsWithin bound k.w limit → NoneIsAbove k ss limit → NoneRejects k ss bound
+  none_rejects limit within none q rejecting =
+      let scaled = mul-le (pos bound.den) (number q.numbers k.model.init) limit (omega (arith, linear)) (none q rejecting.holds) in
+      omega (arith, linear, scaled, within, rejecting.limit, mul-comm (pos bound.den) (number q.numbers k.model.init), mul-comm (pos bound.den) limit)
 
-  pub none_rejects : (r : RejectData) → IsGreatestLower k ss r → IsWithin bound k.w (number r.numbers k.model.init) → NoneRejects k ss bound
-  none_rejects r lower within q rejecting =
-      let scaled = mul-le (pos bound.den) (number q.numbers k.model.init) (number r.numbers k.model.init) (omega (arith, linear)) (lower.greatest q rejecting.holds k.model.init) in
-      omega (arith, linear, scaled, within, rejecting.limit, mul-comm (pos bound.den) (number q.numbers k.model.init), mul-comm (pos bound.den) (number r.numbers k.model.init))
+  beyond_at : (limit : ℤ) → IsBeyond bound k.w (limit +ℤ pos 1) → (r : RejectData) → IsCase k → IsGreatestAbove k ss limit r → IsGreatestBeyond k ss bound r
+  beyond_at limit beyond r is above =
+      let scaled = mul-le (pos bound.den) (limit +ℤ pos 1) (number r.numbers k.model.init) (omega (arith, linear)) (omega (arith, linear, above.above)) in
+      record {
+        rejecting = record { holds = above.greatest.holds; limit = omega (arith, linear, scaled, beyond, mul-comm (pos bound.den) (limit +ℤ pos 1), mul-comm (pos bound.den) (number r.numbers k.model.init)) };
+        greatest = above.greatest;
+        height = le_trans above.height is.asked.model.count.1;
+      }
+
+  pub greatest_beyond : (limit : ℤ) → IsCase k → IsBeyond bound k.w (limit +ℤ pos 1) → (x : List ℤ) (picks ranks : List ℕ) (rate : Option Rate)
+      → IfSome rate (λ r. IsGreatestAbove k ss limit (reject_of x picks ranks r.e r.k)) → IfSome rate (λ r. IsGreatestBeyond k ss bound (reject_of x picks ranks r.e r.k))
+  greatest_beyond limit is beyond x picks ranks (Some r) h = beyond_at limit beyond (reject_of x picks ranks r.e r.k) is h
+  greatest_beyond limit is beyond x picks ranks None h = h

@@ -6,7 +6,9 @@ use Rattle.lift_grid.specs.Tree.{RejectData}
 use Rattle.lift_model.specs.Links.{LinksData, AreLinks}
 use Rattle.lift_model.specs.Valid.{most_states}
 use Rattle.lift_cert.specs.declared.bound.Bound.{Bound}
+use Rattle.lift_cert.specs.Certificate.{IsRejecting}
 use Rattle.corner_lift.specs.Case.{CaseData, AreSidesInside}
+use Rattle.corner_lift.specs.Stages.{IsGreatestLower}
 use Rattle.region_tree.specs.Right.{IsAccepted, IsRejected, IsOpen}
 use Rattle.region_tree.specs.Rooms.{RoomData, HasLanes, last_sides}
 use Rattle.region_tree.specs.declared.verdict.Verdict.{Verdict}
@@ -30,6 +32,12 @@ reject_of numbers picks ranks e k = record { numbers = numbers; picks = picks; r
 -- the rejecting certificate that stands in the room, with e and k
 abbrev pub reject_in : RoomData → ℕ → ℕ → RejectData
 reject_in room e k = reject_of (lane room.values) (lane room.picks) (lane room.ranks) e k
+
+-- a rejecting certificate that is the greatest lower vector, whose k is at most the number of states that a model can have
+pub record IsGreatestBeyond (k : CaseData) (spans : Spans) (bound : Bound) (r : RejectData) : Type 0 where
+  pub rejecting : IsRejecting k spans bound r
+  pub greatest : IsGreatestLower k spans r
+  pub height : r.k ≤ most_states
 
 -- The verdict is right of the rectangle, and its certificate has these numbers, picks and ranks. The k of a rejecting one is at most the number of states that a model can have.
 abbrev pub IsDecidedBy : CaseData → Spans → Bound → List ℤ → List ℕ → List ℕ → Verdict → Type 0

@@ -1,14 +1,12 @@
 // What decides a rectangle.
-ghost use Rattle.std.specs.Prelude.{◌≡◌, ◌*◌, ◌<◌, ◌≤◌, ◌+ℤ◌, ◌↔◌, pos, length, IsTrue, IsFalse};
+ghost use Rattle.std.specs.Prelude.{◌≡◌, ◌*◌, ◌<◌, ◌≤◌, ◌+ℤ◌, pos, length, IsTrue, IsFalse, IsNone, IfSome};
 ghost use Rattle.lift_grid.specs.Rectangle.{Spans, spans_of};
 ghost use Rattle.lift_model.specs.Links.{AreLinks};
-ghost use Rattle.lift_model.specs.Valid.{most_states};
 ghost use Rattle.lift_cert.specs.Certificate.{IsBeyond, IsWithin, NoneAccepts};
-ghost use Rattle.corner_lift.specs.Case.{AreSidesInside, most_precision, number};
-ghost use Rattle.corner_lift.specs.Stages.{IsGreatestLower};
+ghost use Rattle.corner_lift.specs.Case.{AreSidesInside, most_precision};
 ghost use Rattle.corner_lift.specs.Table.{IsTable};
-ghost use Rattle.region_tree.specs.Decided.{CanDecide, IsDecided, IsDecidedBy, lane};
-ghost use Rattle.region_tree.specs.Right.{IsAccepted};
+ghost use Rattle.region_tree.specs.Decided.{CanDecide, IsDecided, IsDecidedBy, IsGreatestBeyond, lane, reject_of};
+ghost use Rattle.region_tree.specs.Right.{IsAccepted, NoneRejects};
 ghost use Rattle.region_tree.specs.Rooms.{HasLane, IsSameShape, KeepsShape, last_sides, row_count};
 
 use crate::room::Room;
@@ -17,7 +15,7 @@ use corner_lift::{Case, fill};
 use lift_cert::Bound;
 use lift_model::Links;
 use lift_pool::{Pool, lanes_stand_alone};
-use lower_cert::{Rate, greatest_reject};
+use lower_cert::{Rate, greatest_reject_above};
 use rounded_iter::least_upper_within;
 
 /// Makes the table of a rectangle in the pool's one lane.
@@ -74,17 +72,19 @@ fn find_accepting(
     )
 }
 
-/// Leaves the greatest lower vector, its ranks and its picks in the pools' one lane each.
-fn find_greatest_lower(
+/// Whether a rejecting certificate exists. Then the greatest lower vector, its ranks and its picks are in the
+/// pools' one lane each, and this is its rate.
+fn find_rejecting(
     case: &Case,
     links: &Links,
+    bound: Bound,
     weights: &[i128],
     values: &mut Pool<i64>,
     allowed: &mut Pool<u32>,
     ranks: &mut Pool<u32>,
     picks: &mut Pool<u32>,
     work: &mut Pool<u32>,
-) -> Rate
+) -> Option<Rate>
     ghost spans: { Spans }
     requires links { AreLinks case.now.model links.now }
     requires table { IsTable case.now links.now spans weights.now }
@@ -98,36 +98,24 @@ fn find_greatest_lower(
     ensures ranks { IsSameShape ranks.old ranks.new }
     ensures picks { IsSameShape picks.old picks.new }
     ensures work { IsSameShape work.old work.new }
-    ensures greatest { IsGreatestLower case.now spans (record {
-      numbers = lane values.new;
-      picks = lane picks.new;
-      ranks = lane ranks.new;
-      e = result.e;
-      k = result.k;
-    }) }
-    ensures height { result.k ≤ length case.now.model.states }
+    ensures rejecting { IfSome result (λ rate. IsGreatestBeyond case.now spans bound
+        (reject_of (lane values.new) (lane picks.new) (lane ranks.new) rate.e rate.k)) }
+    ensures none { IsNone result → NoneRejects case.now spans bound }
 {
     lanes_stand_alone::<i64>();
     lanes_stand_alone::<u32>();
-    greatest_reject(
+    let limit = greatest_within(bound, case.w());
+    greatest_reject_above(
         case,
         links,
         weights,
+        limit,
         values.lane_mut(0),
         allowed.lane_mut(0),
         ranks.lane_mut(0),
         picks.lane_mut(0),
         work.lane_mut(0),
     )
-}
-
-/// Whether the number of the initial state is within the bound.
-fn is_within(case: &Case, bound: Bound, values: &[i64]) -> bool
-    requires { length values.now ≡ length case.now.model.states }
-    ensures within { IsTrue result ↔ IsWithin bound case.now.w (number values.now case.now.model.init) }
-    ensures states { length case.now.model.states ≤ most_states }
-{
-    bound.admits(values[case.model().init() as usize], case.w())
 }
 
 /// Decides the rectangle with these sides, in the pools of a room.
@@ -167,9 +155,10 @@ fn decide_in(
     if find_accepting(case, links, bound, weights.lane(0), values, work) {
         return Verdict::Accept;
     }
-    let Rate { e, k } = find_greatest_lower(
+    let rate = find_rejecting(
         case,
         links,
+        bound,
         weights.lane(0),
         values,
         allowed,
@@ -177,10 +166,10 @@ fn decide_in(
         picks,
         work,
     );
-    if is_within(case, bound, values.lane(0)) {
-        return Verdict::Unknown;
+    match rate {
+        Some(Rate { e, k }) => Verdict::Reject { e, k },
+        None => Verdict::Unknown,
     }
-    Verdict::Reject { e, k }
 }
 
 /// Decides the rectangle that the room's last lane of sides holds. The room was made for the case, and

@@ -3,5 +3,5 @@ use Rattle.region_tree.proofs.decision.decide_in.Given as goal
 abbrev pub ghost-find_accepting : goal.ghost-find_accepting
 ghost-find_accepting g a = g.spans
 
-abbrev pub ghost-find_greatest_lower : goal.ghost-find_greatest_lower
-ghost-find_greatest_lower g a = g.spans
+abbrev pub ghost-find_rejecting : goal.ghost-find_rejecting
+ghost-find_rejecting g a = g.spans
