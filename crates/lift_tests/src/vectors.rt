@@ -9,6 +9,7 @@ use lift_model::Links;
 use lift_rows::admit;
 use rounded_iter::{least_upper, least_value};
 use std::alloc::Global;
+use std::process::Abort;
 use std::string::String;
 use std::test::Fail;
 
@@ -60,7 +61,7 @@ const SLOW: &str = "\
 action a;3 : 4095/4096;2 : 1/4096 / action a;0 : 4095/4096;1 : 1/4096 | [524288, 1048576, 0, 524416] | [524288, 1048576, 0, 524416]";
 
 /// Compares the least vectors with those of each line.
-fn compare(rt: &HostRuntime, alloc: Global, lines: &str, w: u32) -> Result<(), Fail>
+fn compare(rt: &impl Abort, alloc: Global, lines: &str, w: u32) -> Result<(), Fail>
     requires low { 1 ≤ w }
     requires high { w ≤ 40 }
 {

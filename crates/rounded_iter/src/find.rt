@@ -14,7 +14,7 @@ use corner_lift::{corners_bound_weights, rows_at_corners};
 const FIRST_PATIENCE: u32 = 64;
 
 /// By how much that is.
-const PATIENCE_STEP: u32 = 8;
+const PATIENCE_STEP: u32 = 32;
 
 /// How many guesses are made.
 const GUESSES: u32 = 3;

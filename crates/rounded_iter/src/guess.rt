@@ -14,11 +14,14 @@ const ONE: i64 = 1 << 62;
 /// A component is done where no step is more than a number's unit over this.
 const STEPS_IN_A_UNIT: i64 = 256;
 
+/// It is done as well where what further steps would add up to is at most as many of that.
+const CLOSE: f64 = 64.0;
+
 /// A guess lies below what the floats say by a unit over this, so that errors of rounding don't lift it.
 const MARGINS_IN_A_UNIT: i64 = 64;
 
 /// How many sweeps are made for each pass that there is patience for.
-const SWEEPS_A_PASS: u32 = 4;
+const SWEEPS_A_PASS: u32 = 16;
 
 /// After how many sweeps, at least, the rate is taken at which steps become less.
 const PERIOD: u32 = 12;
@@ -246,7 +249,7 @@ impl Table<'_> {
             if most <= small {
                 return true;
             }
-            if going.relaxation > 1.0 && most > 4.0 * going.before {
+            if going.relaxation > 1.0 && most > 8.0 * going.before / (2.0 - going.relaxation) {
                 return false;
             }
             last = most;
@@ -257,6 +260,9 @@ impl Table<'_> {
             if going.count >= going.period {
                 let counted = nearest_i64_to_f64(i64::from(going.count.saturating_sub(CALM)));
                 let rate = (most / going.first).powf(1.0 / counted);
+                if most * rate <= (1.0 - rate) * small * CLOSE {
+                    return true;
+                }
                 going = going.turned(rate, most);
                 if going.jumps && rate < 1.0 {
                     self.jump(lane, noted, low, high, unit * rate / (1.0 - rate));
