@@ -1,12 +1,12 @@
 -- What the leaves of a right tree say, and the lines of its nodes.
-use Rattle.std.proofs.Common.{◌≡◌, ℕ, ◌+◌, zero, suc, List, [], ◌∷◌, ◌++◌, refl, sym, ap, ◌∙◌, append-nil, arith}
+use Rattle.std.proofs.Common.{◌≡◌, ℕ, ◌+◌, zero, suc, [], ◌∷◌, ◌++◌, refl, sym, ap, ◌∙◌, append-nil, arith}
 use Rattle.std.specs.Prelude.{All}
-use Rattle.std.specs.List.{concat, flat_map}
+use Rattle.std.specs.List.{concat}
 use Rattle.std.proofs.lemmas.List.Elements.{All-append}
 use Rattle.std.proofs.lemmas.List.Folds.{concat-append}
 use Rattle.std.proofs.lemmas.Grind.{flat_map-append}
 use Rattle.lift_grid.specs.Rectangle.{Spans}
-use Rattle.lift_grid.specs.Tree.{Tree, Leaf, leaves, lower_half, upper_half}
+use Rattle.lift_grid.specs.Tree.{Tree, leaves, lower_half, upper_half}
 use Rattle.lift_grid.specs.Tree.Tree.{accept, reject, unknown, split}
 use Rattle.corner_lift.specs.Case.{CaseData, IsCase}
 use Rattle.lift_cert.specs.Laws.{AcceptingBounds, RejectingReaches}

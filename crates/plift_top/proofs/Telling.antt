@@ -1,5 +1,5 @@
 -- What calls come to that write a report while its tree is walked over.
-use Rattle.std.proofs.Common.{◌≡◌, ◌≤◌, ℕ, List, [], ◌∷◌, ◌++◌, refl, sym, ap, ◌∙◌, subst, arith, map, length, Option, Result, Ok, Err, IsErr, MatchResult, append_assoc}
+use Rattle.std.proofs.Common.{◌≡◌, ℕ, List, ◌++◌, refl, sym, ap, ◌∙◌, subst, arith, Option, Result, Ok, Err, IsErr, MatchResult, append_assoc}
 use Rattle.std.specs.List.{concat}
 use Rattle.std.specs.Io.KnownBytes.{Appends}
 use Rattle.std.proofs.KnownBytes.{Appends-trans}
@@ -14,7 +14,7 @@ use Rattle.region_tree.specs.Right.{IsRightTree}
 use Rattle.region_tree.specs.Visits.{Visits, Walks, entries}
 use Rattle.region_tree.specs.declared.visitor.Seen.{Seen}
 use Rattle.region_tree.specs.declared.visitor.Seen.TheVariants.{Kept, Failed}
-use Rattle.cert_text.specs.Report.{head_lines, tree_lines, report_text}
+use Rattle.cert_text.specs.Report.{head_lines, report_text}
 use Rattle.plift_top.specs.Told.{IsRightReport, node_text}
 use Rattle.plift_top.specs.Steps.{IsTestedCase, WritesCase}
 use Rattle.plift_top.proofs.Leaves.{entries_are, leaves_bound}

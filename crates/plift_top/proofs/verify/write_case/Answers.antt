@@ -1,5 +1,3 @@
-use Rattle.lift_base.specs.Outside.{WroteSome}
-use Rattle.plift_top.specs.Told.{IsRightReport}
 use Rattle.plift_top.proofs.Telling.{reported}
 use Rattle.plift_top.proofs.verify.write_case.Goals as goal
 
