@@ -93,13 +93,7 @@ impl Table<'_> {
     }
 
     /// Raises a guess, and tells whether the least bound came of it for certain.
-    fn confirm(
-        &self,
-        lane: &mut [i64],
-        flags: &mut [u32],
-        noted: &mut [u32],
-        passes: u32,
-    ) -> bool
+    fn confirm(&self, lane: &mut [i64], flags: &mut [u32], noted: &mut [u32], passes: u32) -> bool
         ghost spans: { Spans }
         requires { CanConfirm self.now spans lane.old flags.old noted.old }
         ensures { IsTrue result → IsLeastBound self.now.extreme self.now.case spans lane.new }
