@@ -11,8 +11,6 @@ mod example;
 #[cfg(test)]
 mod fractions;
 #[cfg(test)]
-mod links;
-#[cfg(test)]
 mod models;
 #[cfg(test)]
 mod names;
@@ -23,8 +21,6 @@ mod polynomials;
 #[cfg(test)]
 mod pools;
 #[cfg(test)]
-mod ranks;
-#[cfg(test)]
 mod regions;
 #[cfg(test)]
 mod rejections;
@@ -32,7 +28,3 @@ mod rejections;
 mod rows;
 #[cfg(test)]
 mod splits;
-#[cfg(test)]
-mod tables;
-#[cfg(test)]
-mod vectors;

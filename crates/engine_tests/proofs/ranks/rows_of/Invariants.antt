@@ -1,6 +1,6 @@
 use Rattle.std.proofs.Common.{◌≡◌, ◌≤◌, length, take, sum_by}
 use Rattle.robust_rank.specs.Staging.{row_count}
-use Rattle.lift_tests.proofs.ranks.rows_of.Given as goal
+use Rattle.engine_tests.proofs.ranks.rows_of.Given as goal
 
 -- the rows of the states before this one
 abbrev pub invariant-loop-s : goal.invariant-loop-s

@@ -27,7 +27,7 @@ action a;0 : 1;state 3;action a;2 : 1/9;3 : 8/9 | [1, 0, 2, 3] | [1, 4294967295,
 action a;2 : 1;action b;1 : 3/4-p;2 : 1/4+p;state 3;action a;3 : 1 | [1, 0, 4294967295, 4294967295] | [1, 4294967295, 4294967295, 4294967295]";
 
 /// How many rows the model has.
-fn rows_of(model: &Model) -> usize
+pub(crate) fn rows_of(model: &Model) -> usize
     ensures { result ≡ row_count model.now }
 {
     let mut rows = 0;

@@ -1,4 +1,4 @@
-use Rattle.lift_tests.proofs.vectors.least_of.Given as goal
+use Rattle.engine_tests.proofs.vectors.least_of.Given as goal
 
 abbrev pub ghost-least_upper : goal.ghost-least_upper
 ghost-least_upper a = a.case.now.root

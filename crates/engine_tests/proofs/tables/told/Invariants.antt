@@ -1,5 +1,5 @@
 use Rattle.lift_grid.specs.Rectangle.{spans_of, sides_of}
-use Rattle.lift_tests.proofs.tables.told.Given as goal
+use Rattle.engine_tests.proofs.tables.told.Given as goal
 
 abbrev pub ghost-table_whole : goal.ghost-table_whole
 ghost-table_whole a = spans_of (sides_of a.case.now.root)
