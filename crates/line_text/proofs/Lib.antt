@@ -2,3 +2,4 @@ mod Digits
 mod WordsLeft
 mod LongNumbers
 mod Comparing
+pub mod FirstFeed

@@ -44,6 +44,12 @@ value_below ds e h = let top : 10 ^ length ds ≤ 10 ^ 31 = pow-le-pow_right {n 
 pub front_below : (ds : List ℕ) (i n : ℕ) → list_all is_ascii_digit ds ≡ true → length ds ≤ 31 → n ≡ digits_value 10 (take i ds) → n < 10 ^ 31
 front_below ds i n e h is = omega (arith, is, digits_value-take-le 10 ds i (omega arith), value_below ds e h)
 
+pub value_short : (ds : List ℕ) → list_all is_ascii_digit ds ≡ true → length ds ≤ 18 → digits_value 10 ds < 10 ^ 18
+value_short ds e h = let top : 10 ^ length ds ≤ 10 ^ 18 = pow-le-pow_right {n = 10} (omega arith) h in omega (arith, digits_value-lt 10 ds (digits_in ds e), top)
+
+pub front_short : (ds : List ℕ) (i n : ℕ) → list_all is_ascii_digit ds ≡ true → length ds ≤ 18 → n ≡ digits_value 10 (take i ds) → n < 10 ^ 18
+front_short ds i n e h is = omega (arith, is, digits_value-take-le 10 ds i (omega arith), value_short ds e h)
+
 -- ---- long numbers are wide
 
 one_digit_more : (n v p q most : ℕ) → q ≡ 10 * p → (n * 10 + v) * p ≤ most → n * q ≤ most

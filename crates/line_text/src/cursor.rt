@@ -5,6 +5,7 @@ ghost use Rattle.line_text.specs.Reading.{IsIn, due, is_feed};
 ghost use Rattle.line_text.specs.Shown.{Gives};
 
 use crate::error::{TextCause, TextError};
+use memchr::memchr;
 
 /// The greatest length of a line in bytes, its line feed not counted.
 const LINE_LIMIT: usize = 1 << 20;
@@ -46,6 +47,18 @@ pub fn len_before(text: &[u8], end: u8) -> usize
         }
     }
     text.len()
+}
+
+/// How many bytes stand before the first line feed; all of them where there is none.
+#[tactic(auto, using(crate::proofs::FirstFeed::no_feed, crate::proofs::FirstFeed::first_feed))]
+fn line_len(text: &[u8]) -> usize
+    ensures within { result ≤ length text.now }
+    ensures len { result ≡ position_or_len is_feed text.now }
+{
+    match memchr(b'\n', text) {
+        Some(len) => len,
+        None => text.len(),
+    }
 }
 
 impl<'t> Cursor<'t> {
@@ -118,7 +131,7 @@ impl<'t> Cursor<'t> {
     pub fn due(&self) -> Result<(&'t [u8], Cursor<'t>), TextError>
         ensures { Gives (λ x. (x.0.now, x.1)) result (due self.now) }
     {
-        let len = len_before(self.rest, b'\n');
+        let len = line_len(self.rest);
         if len > LINE_LIMIT {
             return Err(self.fault(TextCause::Limit));
         }

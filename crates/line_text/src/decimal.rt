@@ -12,6 +12,9 @@ use std::cmp::Ordering;
 /// How many digits a number has at most that isn't wide.
 const MOST_DIGITS: usize = 31;
 
+/// How many digits at most write a number below 2 to the 64.
+const SHORT_DIGITS: usize = 18;
+
 /// A number that a word writes, of any length.
 #[derive(Drop)]
 pub struct Decimal<'t> {
@@ -49,8 +52,22 @@ fn are_digits(word: &[u8]) -> bool
     }
 }
 
+/// The number that at most 18 digits write.
+fn short_value(digits: &[u8]) -> u64
+    requires digits { list_all is_ascii_digit digits.now ≡ true }
+    requires short { length digits.now ≤ 18 }
+    ensures value { result ≡ digits_value 10 digits.now }
+    ensures small { result < 10 ^ 18 }
+{
+    let mut number: u64 = 0;
+    for digit in digits {
+        number = number * 10 + u64::from(*digit - b'0');
+    }
+    number
+}
+
 /// The number that at most 31 digits write.
-fn digits_value(digits: &[u8]) -> u128
+fn long_value(digits: &[u8]) -> u128
     requires digits { list_all is_ascii_digit digits.now ≡ true }
     requires short { length digits.now ≤ 31 }
     ensures value { result ≡ digits_value 10 digits.now }
@@ -61,6 +78,20 @@ fn digits_value(digits: &[u8]) -> u128
         number = number * 10 + u128::from(*digit - b'0');
     }
     number
+}
+
+/// The number that at most 31 digits write: few of them in half the width, which is faster.
+fn digits_value(digits: &[u8]) -> u128
+    requires digits { list_all is_ascii_digit digits.now ≡ true }
+    requires short { length digits.now ≤ 31 }
+    ensures value { result ≡ digits_value 10 digits.now }
+    ensures small { result < 10 ^ 31 }
+{
+    if digits.len() > SHORT_DIGITS {
+        long_value(digits)
+    } else {
+        u128::from(short_value(digits))
+    }
 }
 
 /// What the number that digits write leaves at a division.

@@ -1,6 +1,6 @@
 use Rattle.std.proofs.Common.{◌∙◌, ◌+◌, ◌*◌, ap, arith}
 use Rattle.line_text.proofs.LongNumbers.{front_below, value_next, digit_is}
-use Rattle.line_text.proofs.decimal.digits_value.Goals as goal
+use Rattle.line_text.proofs.decimal.long_value.Goals as goal
 
 pub overflow_mul-number : goal.overflow_mul-number
 overflow_mul-number c = omega (arith, front_below c.args.digits.now c.loop-digit.digit-index c.loop-digit.number c.requires.digits c.requires.short c.loop-digit.invariant)
