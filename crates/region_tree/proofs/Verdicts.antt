@@ -1,5 +1,5 @@
 -- What decides a rectangle: the greatest number within a bound, and what a vector's number of the initial state shows.
-use Rattle.std.proofs.Common.{◌≡◌, ℕ, ◌+◌, ◌*◌, ◌/◌, ◌%◌, ◌^◌, ◌<◌, ◌≤◌, List, [], ◌∷◌, length, get_or, sym, ap, ◌∙◌, ℤ, pos, ◌+ℤ◌, ◌*ℤ◌, ◌≤ℤ◌, ◌<ℤ◌, SFits, w64, to_z, arith, mul-le-mul, mod-eq_of_lt, div-add-mod', le_of_mul-le-mul_right, pow_mono, map, refl, le_trans, Option, Some, None, IfSome}
+use Rattle.std.proofs.Common.{◌≡◌, ℕ, ◌+◌, ◌*◌, ◌/◌, ◌%◌, ◌^◌, ◌<◌, ◌≤◌, List, [], ◌∷◌, length, get_or, sym, ap, ◌∙◌, ℤ, pos, ◌+ℤ◌, ◌≤ℤ◌, ◌<ℤ◌, SFits, w64, to_z, arith, mul-le-mul, mod-eq_of_lt, div-add-mod', le_of_mul-le-mul_right, pow_mono, map, refl, le_trans, Option, Some, None, IfSome}
 use Rattle.std.proofs.lemmas.Int.{to_z_pos}
 use Rattle.std.proofs.lemmas.Nat.{mod_below}
 use Rattle.lift_poly.proofs.Ring.{linear, mul-comm, mul-le}

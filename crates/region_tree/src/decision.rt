@@ -12,7 +12,7 @@ ghost use Rattle.region_tree.specs.Rooms.{HasLane, IsSameShape, KeepsShape, last
 use crate::room::Room;
 use crate::verdict::Verdict;
 use corner_lift::{Case, fill};
-use lift_cert::Bound;
+use lift_cert::{Bound, certificates_are_of_one_kind};
 use lift_model::Links;
 use lift_pool::{Pool, lanes_stand_alone};
 use lower_cert::{Rate, greatest_reject_above};
@@ -118,12 +118,14 @@ fn find_rejecting(
     )
 }
 
-/// Decides the rectangle with these sides, in the pools of a room.
+/// Decides the rectangle with these sides, in the pools of a room. Where a rejecting certificate is to be
+/// expected it is looked for first, since then no accepting one exists, and nothing is lost.
 fn decide_in(
     case: &Case,
     links: &Links,
     bound: Bound,
     sides: &[i64],
+    rejects_first: bool,
     weights: &mut Pool<i128>,
     values: &mut Pool<i64>,
     allowed: &mut Pool<u32>,
@@ -151,20 +153,27 @@ fn decide_in(
     ensures decided { IsDecidedBy case.now spans bound
         (lane values.new) (lane picks.new) (lane ranks.new) result }
 {
+    certificates_are_of_one_kind();
+    let _ = case.w();
     make_table(case, links, sides, weights);
-    if find_accepting(case, links, bound, weights.lane(0), values, work) {
+    let weights = weights.lane(0);
+    if rejects_first {
+        let rate = find_rejecting(
+            case, links, bound, weights, values, allowed, ranks, picks, work,
+        );
+        if let Some(Rate { e, k }) = rate {
+            return Verdict::Reject { e, k };
+        }
+        if find_accepting(case, links, bound, weights, values, work) {
+            return Verdict::Accept;
+        }
+        return Verdict::Unknown;
+    }
+    if find_accepting(case, links, bound, weights, values, work) {
         return Verdict::Accept;
     }
     let rate = find_rejecting(
-        case,
-        links,
-        bound,
-        weights.lane(0),
-        values,
-        allowed,
-        ranks,
-        picks,
-        work,
+        case, links, bound, weights, values, allowed, ranks, picks, work,
     );
     match rate {
         Some(Rate { e, k }) => Verdict::Reject { e, k },
@@ -185,16 +194,19 @@ pub fn decide(case: &Case, links: &Links, bound: Bound, room: &mut Room) -> Verd
     ensures table { IsTable case.now links.now (spans_of (last_sides room.old)) (lane room.new.weights) }
     ensures decided { IsDecided case.now (spans_of (last_sides room.old)) bound room.new result }
 {
-    decide_in(
+    let verdict = decide_in(
         case,
         links,
         bound,
         room.sides.lane(room.sides.lanes() - 1),
+        room.rejects_first,
         &mut room.weights,
         &mut room.values,
         &mut room.allowed,
         &mut room.ranks,
         &mut room.picks,
         &mut room.work,
-    )
+    );
+    room.rejects_first = verdict.is_reject();
+    verdict
 }

@@ -28,6 +28,8 @@ pub struct Room {
     pub(crate) ranks: Pool<u32>,
     pub(crate) picks: Pool<u32>,
     pub(crate) work: Pool<u32>,
+    /// Whether a rejecting certificate is looked for first. It is so where the last rectangle had one.
+    pub(crate) rejects_first: bool,
 }
 
 impl std::marker::Model for Room {
@@ -105,6 +107,7 @@ impl Room {
             ranks: lane_of(alloc, states, 0)?,
             picks: lane_of(alloc, states, 0)?,
             work: lane_of(alloc, 2 * states, 0)?,
+            rejects_first: false,
         })
     }
 
