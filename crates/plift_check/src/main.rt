@@ -1,4 +1,4 @@
-// The program plift once more, whose stored run checks the report that the stored run of plift writes.
+// The program plift once more, whose stored run checks the report that the stored run of plift_verify writes.
 #![tactic(auto)]
 
 use plift_top::launch;
