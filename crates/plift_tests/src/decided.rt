@@ -1,5 +1,5 @@
 // Models that are decided, without parameters and over a region.
-use crate::runs::is_answered;
+use crate::runs::{is_answered, is_checked};
 use std::test::Fail;
 
 // Each row: the words, the model, the status, how the output ends, and no notes.
@@ -54,6 +54,17 @@ fn models_are_decided(rt: HostRuntime) -> Result<(), Fail> {
 fn models_are_decided_over_regions(rt: HostRuntime) -> Result<(), Fail> {
     for row in OVER_REGIONS.lines() {
         assert!(rt; is_answered(rt.alloc(), row)?, "{row}");
+    }
+    Ok(())
+}
+
+#[test]
+fn what_is_written_is_sound(rt: HostRuntime) -> Result<(), Fail> {
+    for row in DECIDED.lines() {
+        assert!(rt; is_checked(rt.alloc(), row)?, "{row}");
+    }
+    for row in OVER_REGIONS.lines() {
+        assert!(rt; is_checked(rt.alloc(), row)?, "{row}");
     }
     Ok(())
 }

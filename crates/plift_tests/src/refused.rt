@@ -17,7 +17,7 @@ verify --bound 1/2 | PLAIN | Usage | - | usage: words;
 verify --goal heads --goal heads --bound 1/2 | PLAIN | Usage | - | usage: words;
 verify --goal heads --bound 1/2 --depth | PLAIN | Usage | - | usage: words;
 verify --goal -x --bound 1/2 | PLAIN | Usage | - | usage: words;
-check | PLAIN | Usage | - | usage: words;
+check | PLAIN | NotSound | - | not sound: line 1: Syntax;
  | PLAIN | Usage | - | usage: words;
 verify --goal  --bound 3/2 | PLAIN | Usage | - | usage: --goal;
 verify --goal heads --bound 3/2 --depth 21 | PLAIN | Usage | - | usage: --bound;

@@ -86,3 +86,37 @@ pub fn is_answered(alloc: Global, row: &str) -> Result<bool, Fail> {
         None => Ok(false),
     }
 }
+
+// Whether a report is found sound, and nothing else is told.
+fn is_sound(alloc: Global, report: &[u8]) -> Result<bool, Fail> {
+    let words = words_of(alloc, "check", ' ')?;
+    let mut text = Vec::new(alloc);
+    for byte in report {
+        text.push(*byte)?;
+    }
+    let mut source = SureSource::new(text);
+    let mut out = MemSink::new(alloc, 100, 100, Vec::new(alloc))?;
+    let mut notes = MemSink::new(alloc, 100, 3, Vec::new(alloc))?;
+    let got = run(alloc, &words, &mut source, &mut out, &mut notes);
+    Ok(
+        status_name(got) == "Done"
+            && out.taken().starts_with(b"sound accept ")
+            && notes.taken().is_empty(),
+    )
+}
+
+/// Whether the report of a row's words and model is found sound.
+pub fn is_checked(alloc: Global, row: &str) -> Result<bool, Fail> {
+    let Some(want) = run_of(row) else {
+        return Ok(false);
+    };
+    let Some(text) = model_text(alloc, want.model)? else {
+        return Ok(false);
+    };
+    let words = words_of(alloc, want.words, ' ')?;
+    let mut source = SureSource::new(text);
+    let mut out = MemSink::new(alloc, 1000, 1000, Vec::new(alloc))?;
+    let mut notes = MemSink::new(alloc, 100, 3, Vec::new(alloc))?;
+    let got = run(alloc, &words, &mut source, &mut out, &mut notes);
+    Ok(status_name(got) == "Done" && is_sound(alloc, out.taken())?)
+}

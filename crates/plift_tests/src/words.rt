@@ -13,7 +13,7 @@ verify|--goal=heads|--bound=1/2|--precision=4 | read fault;
 verify|--depth|0|--bound=1/2|--goal|heads | read fault;
  | usage: words;
 verify | usage: words;
-check | usage: words;
+check | read fault;
 check|x | usage: words;
 generate | usage: words;
 generate|5|5 | usage: words;

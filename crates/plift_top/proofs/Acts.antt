@@ -24,11 +24,18 @@ use Rattle.plift_words.specs.declared.error.WordsError.{WordsError}
 use Rattle.plift_words.specs.declared.error.WordsError.TheVariants as words
 use Rattle.plift_top.specs.Refused.{words_refusal}
 use Rattle.plift_top.specs.Verify.{WasRead, Reports, ReportsFront, IsRefused, KeepsLimit, text_limit}
-use Rattle.plift_top.specs.Answers.{Acts, Generates, built, wanted, AsksToVerify, AsksToGenerate, NoFault, WroteNote, IsNoted, HasNote, status_of, answered, note_of}
+use Rattle.cert_check.specs.Sound.{IsSoundFile}
+use Rattle.cert_check.specs.Answer.{Answers}
+use Rattle.cert_check.specs.Laws.{AnswersAreOne, SoundFilesPass}
+use Rattle.cert_check.specs.declared.summary.Summary.{Summary}
+use Rattle.cert_check.specs.declared.error.CheckError.{CheckError}
+use Rattle.plift_top.specs.Check.{IsFoundSound, IsFoundInPart, IsUnsound}
+use Rattle.plift_top.specs.Answers.{Acts, Generates, built, wanted, AsksToVerify, AsksToCheck, AsksToGenerate, NoFault, WroteNote, IsNoted, HasNote, status_of, answered, note_of}
 use Rattle.plift_top.specs.declared.status.Status.{Status}
 use Rattle.plift_top.specs.declared.status.Status.TheVariants as status
 use Rattle.plift_top.specs.declared.refusal.Refusal.{Refusal}
 use Rattle.plift_top.specs.declared.refusal.Refusal.TheVariants as refusal
+use Rattle.plift_top.proofs.Reading.{read_as}
 use Rattle.plift_top.proofs.Refusals.{never_refused, one_status, rows_status}
 
 -- no refusal has the status of what is done
@@ -37,12 +44,16 @@ never_done (refusal.Usage f) e = absurd (cc)
 never_done refusal.Memory e = absurd (cc)
 never_done _ e = absurd (cc)
 
+-- a sound file has no first fault
+faulty : SoundFilesPass → AnswersAreOne → (bytes : List ℕ) (leaves : Summary) (error : CheckError) → IsSoundFile bytes leaves → Answers bytes (Err error) → ⊥
+faulty pass one bytes leaves error file is = (let same = one bytes (Ok leaves) (Err error) (pass bytes leaves file) is in absurd (cc))
+
 module _ {S K : Type 0} (left : S → Option (List ℕ)) (faults : S → ℕ) (taken : K → Option (List ℕ)) (counts : K → ℕ) (source source' : S) (out out' : K) where
   pub done : (asked : Result JobData Field) (answer : Result (Unit {0}) Refusal) → Acts left faults taken counts asked source source' out out' answer → answered answer ≡ status.Done
       → (j : VerifyData) → AsksToVerify asked j → WasRead (Reports (taken out) (taken out') j) (left source) (left source')
   done (Ok (verify k)) (Ok x) a e j is = let same : k ≡ j = cc in subst (λ (i : VerifyData). WasRead (Reports (taken out) (taken out') i) (left source) (left source')) same a
   done (Ok (generate n)) (Ok x) a e j is = absurd (cc)
-  done (Ok check) (Ok x) a e j is = absurd a
+  done (Ok check) (Ok x) a e j is = absurd (cc)
   done (Ok (selftest n)) (Ok x) a e j is = absurd a
   done (Err f) (Ok x) a e j is = absurd a.0
   done asked (Err r) a e j is = absurd (never_done r e)
@@ -51,7 +62,7 @@ module _ {S K : Type 0} (left : S → Option (List ℕ)) (faults : S → ℕ) (t
       → (n : ℕ) → AsksToGenerate asked n → Appends (taken out) (taken out') (ladder_text n)
   generated (Ok (generate m)) (Ok x) a e n is = let same : m ≡ n = cc in subst (λ (i : ℕ). Appends (taken out) (taken out') (ladder_text i)) same a.0
   generated (Ok (verify k)) (Ok x) a e n is = absurd (cc)
-  generated (Ok check) (Ok x) a e n is = absurd a
+  generated (Ok check) (Ok x) a e n is = absurd (cc)
   generated (Ok (selftest m)) (Ok x) a e n is = absurd a
   generated (Err f) (Ok x) a e n is = absurd a.0
   generated asked (Err r) a e n is = absurd (never_done r e)
@@ -62,14 +73,14 @@ module _ {S K : Type 0} (left : S → Option (List ℕ)) (faults : S → ℕ) (t
   generates (Ok (generate m)) (Err refusal.WriteFault) a n is = inr refl
   generates (Ok (generate m)) (Err _) a n is = absurd a.0
   generates (Ok (verify k)) answer a n is = absurd (cc)
-  generates (Ok check) answer a n is = absurd a
+  generates (Ok check) answer a n is = absurd (cc)
   generates (Ok (selftest m)) answer a n is = absurd a
   generates (Err f) answer a n is = absurd (cc)
 
   pub reads_nothing : (asked : Result JobData Field) (answer : Result (Unit {0}) Refusal) → Acts left faults taken counts asked source source' out out' answer → (n : ℕ) → AsksToGenerate asked n → source' ≡ source
   reads_nothing (Ok (generate m)) answer a n is = a.1
   reads_nothing (Ok (verify k)) answer a n is = absurd (cc)
-  reads_nothing (Ok check) answer a n is = absurd a
+  reads_nothing (Ok check) answer a n is = absurd (cc)
   reads_nothing (Ok (selftest m)) answer a n is = absurd a
   reads_nothing (Err f) answer a n is = absurd (cc)
 
@@ -77,7 +88,7 @@ module _ {S K : Type 0} (left : S → Option (List ℕ)) (faults : S → ℕ) (t
       → (j : VerifyData) → AsksToVerify asked j → (k : CaseData) × (bound : Bound) × (tree : Tree) × IsCase k × IsRightTree k bound tree × Appends (taken out) (taken out') (report_text k bound tree)
   reported (Ok (verify i)) (Ok x) a e j is = (let h = a.has.has in (case_of a.has.model a.has.root i.precision, i.bound, h.tree, h.case, h.right, h.report))
   reported (Ok (generate n)) (Ok x) a e j is = absurd (cc)
-  reported (Ok check) (Ok x) a e j is = absurd a
+  reported (Ok check) (Ok x) a e j is = absurd (cc)
   reported (Ok (selftest n)) (Ok x) a e j is = absurd a
   reported (Err f) (Ok x) a e j is = absurd a.0
   reported asked (Err r) a e j is = absurd (never_done r e)
@@ -90,10 +101,16 @@ module _ {S K : Type 0} (left : S → Option (List ℕ)) (faults : S → ℕ) (t
   noted (Ok (verify j)) refusal.Memory a = (refusal.Memory, refl, refl, tt)
   noted (Ok (verify j)) (refusal.Region error) a = (refusal.Region error, refl, refl, (j, refl, a.0))
   noted (Ok (verify j)) (refusal.Model error) a = (refusal.Model error, refl, refl, (j, refl, a.0))
+  noted (Ok (verify j)) (refusal.Unsound error) a = absurd a.0
   noted (Ok (verify j)) (refusal.Rows error) a = (refusal.Rows error, refl, refl, (j, refl, a.0))
   noted (Ok (generate n)) refusal.WriteFault a = (refusal.WriteFault, refl, refl, tt)
   noted (Ok (generate n)) _ a = absurd a.0
-  noted (Ok check) _ a = absurd a
+  noted (Ok check) refusal.ReadFault a = (refusal.ReadFault, refl, refl, tt)
+  noted (Ok check) refusal.WriteFault a = (refusal.WriteFault, refl, refl, tt)
+  noted (Ok check) refusal.TooLong a = (refusal.TooLong, refl, refl, tt)
+  noted (Ok check) refusal.Memory a = (refusal.Memory, refl, refl, tt)
+  noted (Ok check) (refusal.Unsound error) a = (refusal.Unsound error, refl, refl, (refl, a.0))
+  noted (Ok check) _ a = absurd a.0
   noted (Ok (selftest n)) _ a = absurd a
   noted (Err f) (refusal.Usage g) a = (refusal.Usage g, refl, refl, ap (λ f. Err f) (sym a.0))
   noted (Err f) refusal.Memory a = (refusal.Memory, refl, refl, tt)
@@ -128,7 +145,8 @@ module _ {S K : Type 0} (left : S → Option (List ℕ)) (faults : S → ℕ) (t
   read_fault (Ok (verify j)) (Err _) a e = absurd (cc)
   read_fault (Ok (generate n)) (Err refusal.ReadFault) a e = absurd a.0
   read_fault (Ok (generate n)) (Err _) a e = absurd (cc)
-  read_fault (Ok check) (Err _) a e = absurd a
+  read_fault (Ok check) (Err refusal.ReadFault) a e = a.0
+  read_fault (Ok check) (Err _) a e = absurd (cc)
   read_fault (Ok (selftest n)) (Err _) a e = absurd a
   read_fault (Err f) (Err refusal.ReadFault) a e = absurd a.0
   read_fault (Err f) (Err _) a e = absurd (cc)
@@ -140,7 +158,8 @@ module _ {S K : Type 0} (left : S → Option (List ℕ)) (faults : S → ℕ) (t
   write_fault (Ok (verify j)) (Err _) a e = absurd (cc)
   write_fault (Ok (generate n)) (Err refusal.WriteFault) a e = a.0.1
   write_fault (Ok (generate n)) (Err _) a e = absurd (cc)
-  write_fault (Ok check) (Err _) a e = absurd a
+  write_fault (Ok check) (Err refusal.WriteFault) a e = a.1
+  write_fault (Ok check) (Err _) a e = absurd (cc)
   write_fault (Ok (selftest n)) (Err _) a e = absurd a
   write_fault (Err f) (Err refusal.WriteFault) a e = absurd a.0
   write_fault (Err f) (Err _) a e = absurd (cc)
@@ -151,7 +170,7 @@ module _ {S K : Type 0} (left : S → Option (List ℕ)) (faults : S → ℕ) (t
   part (Ok (verify k)) (Err refusal.WriteFault) a e j is = let same : k ≡ j = cc in subst (λ (i : VerifyData). WasRead (ReportsFront (taken out) (taken out') i) (left source) (left source')) same a.0
   part (Ok (verify k)) (Err _) a e j is = absurd (cc)
   part (Ok (generate n)) (Err _) a e j is = absurd (cc)
-  part (Ok check) (Err _) a e j is = absurd a
+  part (Ok check) (Err _) a e j is = absurd (cc)
   part (Ok (selftest n)) (Err _) a e j is = absurd a
   part (Err f) (Err _) a e j is = absurd (cc)
 
@@ -161,7 +180,7 @@ module _ {S K : Type 0} (left : S → Option (List ℕ)) (faults : S → ℕ) (t
   ladder_part (Ok (generate m)) (Err refusal.WriteFault) a e n is = let same : m ≡ n = cc in subst (λ (i : ℕ). AppendsFront (taken out) (taken out') (ladder_text i)) same a.0.0
   ladder_part (Ok (generate m)) (Err _) a e n is = absurd (cc)
   ladder_part (Ok (verify k)) (Err _) a e n is = absurd (cc)
-  ladder_part (Ok check) (Err _) a e n is = absurd a
+  ladder_part (Ok check) (Err _) a e n is = absurd (cc)
   ladder_part (Ok (selftest m)) (Err _) a e n is = absurd a
   ladder_part (Err f) (Err _) a e n is = absurd (cc)
 
@@ -172,9 +191,42 @@ module _ {S K : Type 0} (left : S → Option (List ℕ)) (faults : S → ℕ) (t
   kept (Ok (verify j)) (Err _) a d e = a.1
   kept (Ok (generate n)) (Err refusal.WriteFault) a d e = absurd (e refl)
   kept (Ok (generate n)) (Err _) a d e = absurd a.0
-  kept (Ok check) (Err r) a d e = absurd a
+  kept (Ok check) (Err refusal.WriteFault) a d e = absurd (e refl)
+  kept (Ok check) (Err _) a d e = a.1
   kept (Ok (selftest n)) (Err r) a d e = absurd a
   kept (Err f) (Err r) a d e = a.2
+
+  pub checked : (asked : Result JobData Field) (answer : Result (Unit {0}) Refusal) → Acts left faults taken counts asked source source' out out' answer → answered answer ≡ status.Done
+      → AsksToCheck asked → WasRead (IsFoundSound (taken out) (taken out')) (left source) (left source')
+  checked (Ok check) (Ok x) a e is = a
+  checked (Ok (verify j)) (Ok x) a e is = absurd (cc)
+  checked (Ok (generate n)) (Ok x) a e is = absurd (cc)
+  checked (Ok (selftest n)) (Ok x) a e is = absurd a
+  checked (Err f) (Ok x) a e is = absurd a.0
+  checked asked (Err r) a e is = absurd (never_done r e)
+
+  pub line_part : (asked : Result JobData Field) (answer : Result (Unit {0}) Refusal) → Acts left faults taken counts asked source source' out out' answer → answered answer ≡ status.WriteFault
+      → AsksToCheck asked → WasRead (IsFoundInPart (taken out) (taken out')) (left source) (left source')
+  line_part asked (Ok x) a e is = absurd (cc)
+  line_part (Ok check) (Err refusal.WriteFault) a e is = a.0
+  line_part (Ok check) (Err _) a e is = absurd (cc)
+  line_part (Ok (verify j)) (Err _) a e is = absurd (cc)
+  line_part (Ok (generate n)) (Err _) a e is = absurd (cc)
+  line_part (Ok (selftest n)) (Err _) a e is = absurd a
+  line_part (Err f) (Err _) a e is = absurd (cc)
+
+  pub not_sound : SoundFilesPass → AnswersAreOne → (asked : Result JobData Field) (answer : Result (Unit {0}) Refusal) → Acts left faults taken counts asked source source' out out' answer → answered answer ≡ status.NotSound
+      → AsksToCheck asked × WasRead IsUnsound (left source) (left source')
+  not_sound pass one asked (Ok x) a e = absurd (cc)
+  not_sound pass one (Ok check) (Err (refusal.Unsound error)) a e = (refl, read_as (λ bytes is leaves file. faulty pass one bytes leaves error file is) a.0)
+  not_sound pass one (Ok check) (Err _) a e = absurd (cc)
+  not_sound pass one (Ok (verify j)) (Err (refusal.Unsound error)) a e = absurd a.0
+  not_sound pass one (Ok (verify j)) (Err _) a e = absurd (cc)
+  not_sound pass one (Ok (generate n)) (Err (refusal.Unsound error)) a e = absurd a.0
+  not_sound pass one (Ok (generate n)) (Err _) a e = absurd (cc)
+  not_sound pass one (Ok (selftest n)) (Err _) a e = absurd a
+  not_sound pass one (Err f) (Err (refusal.Unsound error)) a e = absurd a.0
+  not_sound pass one (Err f) (Err _) a e = absurd (cc)
 
   pub unread : (asked : Result JobData Field) (answer : Result (Unit {0}) Refusal) → Acts left faults taken counts asked source source' out out' answer → IsErr asked
       → source' ≡ source
@@ -222,6 +274,7 @@ module _ {S K : Type 0} (left : S → Option (List ℕ)) (faults : S → ℕ) (t
       by (Err refusal.TooLong) a = absurd (short text (left source') len (rw told at a.0))
       by (Err refusal.Memory) a = memory
       by (Err (refusal.Usage field)) a = absurd a.0
+      by (Err (refusal.Unsound error)) a = absurd a.0
       by (Err r) a = refused r (given (IsRefused j r) text (left source') (rw told at a.0))
   by_answer Q done refused memory (Ok (generate n)) answer a is = absurd (cc)
   by_answer Q done refused memory (Ok check) answer a is = absurd (cc)
@@ -261,6 +314,36 @@ module _ {S K : Type 0} (left : S → Option (List ℕ)) (faults : S → ℕ) (t
               let there : region m.names j.depth j.region ≡ Ok r = subst (λ (n : ModelData). region n.names j.depth j.region ≡ Ok r) first f in
               let second : r ≡ root = cc in
               subst (λ (n : ModelData). IsAdmitted (case_of n root j.precision)) first (subst (λ (r : Region). IsAdmitted (case_of n r j.precision)) second h)
+
+-- where a check was asked for, bytes were given and nothing failed
+module _ {S K : Type 0} (left : S → Option (List ℕ)) (faults : S → ℕ) (taken : K → Option (List ℕ)) (counts : K → ℕ) (source source' : S) (out out' : K) (bytes : List ℕ) (told : left source ≡ Some bytes)
+    (len : length bytes ≤ text_limit) (sure1 : NoFault (faults source) (faults source')) (sure2 : NoFault (counts out) (counts out')) where
+  -- an answer is that the bytes are sound, or their first fault, or for want of memory
+  by_check : (Q : Status → Type 0) → (IsFoundSound (taken out) (taken out') bytes → Q status.Done) → ((error : CheckError) → Answers bytes (Err error) → Q status.NotSound) → Q status.Memory
+      → (asked : Result JobData Field) (answer : Result (Unit {0}) Refusal) → Acts left faults taken counts asked source source' out out' answer → AsksToCheck asked → Q (answered answer)
+  by_check Q sound faulty memory (Ok check) (Ok x) a is = sound (given (IsFoundSound (taken out) (taken out')) bytes (left source') (rw told at a))
+  by_check Q sound faulty memory (Ok check) (Err refusal.ReadFault) a is = absurd (sure1 a.0)
+  by_check Q sound faulty memory (Ok check) (Err refusal.WriteFault) a is = absurd (sure2 a.1)
+  by_check Q sound faulty memory (Ok check) (Err refusal.TooLong) a is = absurd (short bytes (left source') len (rw told at a.0))
+  by_check Q sound faulty memory (Ok check) (Err refusal.Memory) a is = memory
+  by_check Q sound faulty memory (Ok check) (Err (refusal.Unsound error)) a is = faulty error (given (λ bytes. Answers bytes (Err error)) bytes (left source') (rw told at a.0))
+  by_check Q sound faulty memory (Ok check) (Err _) a is = absurd a.0
+  by_check Q sound faulty memory (Ok (verify j)) answer a is = absurd (cc)
+  by_check Q sound faulty memory (Ok (generate n)) answer a is = absurd (cc)
+  by_check Q sound faulty memory (Ok (selftest n)) answer a is = absurd (cc)
+  by_check Q sound faulty memory (Err f) answer a is = absurd (cc)
+
+  -- a sound file is found so, but for want of memory
+  pub check_complete : SoundFilesPass → AnswersAreOne → (asked : Result JobData Field) (answer : Result (Unit {0}) Refusal) → Acts left faults taken counts asked source source' out out' answer → AsksToCheck asked
+      → (leaves : Summary) → IsSoundFile bytes leaves → (answered answer ≡ status.Done) ⊎ (answered answer ≡ status.Memory)
+  check_complete pass one asked answer a is leaves file =
+      by_check (λ (s : Status). (s ≡ status.Done) ⊎ (s ≡ status.Memory)) (λ h. inl refl) (λ error h. absurd (faulty pass one bytes leaves error file h)) (inr refl) asked answer a is
+
+  -- and so is one that isn't
+  pub check_refused : (asked : Result JobData Field) (answer : Result (Unit {0}) Refusal) → Acts left faults taken counts asked source source' out out' answer → AsksToCheck asked
+      → IsUnsound bytes → (answered answer ≡ status.NotSound) ⊎ (answered answer ≡ status.Memory)
+  check_refused asked answer a is bad =
+      by_check (λ (s : Status). (s ≡ status.NotSound) ⊎ (s ≡ status.Memory)) (λ h. absurd (bad h.leaves h.trusted.file)) (λ error h. inl refl) (inr refl) asked answer a is
 
 -- ---- notes
 

@@ -1,7 +1,7 @@
 -- The answers of the program, and the notes that tell them.
 use Rattle.std.specs.Prelude.{◌≡◌, ◌≢◌, ◌≤◌, ⊤, ℕ, List, String, ◌++◌, codes, Ok, Err, Result}
 use Rattle.std.specs.declared.alloc.Global.{Global}
-use Rattle.std.specs.Fmt.{decimal, signed_decimal}
+use Rattle.std.specs.Fmt.{decimal}
 use Rattle.std.specs.declared.option.Option.{Option}
 use Rattle.std.specs.Io.KnownBytes.{Appends}
 use Rattle.lift_base.specs.Outside.{Rose, AppendsFront}
@@ -9,7 +9,6 @@ use Rattle.lift_grid.specs.Faults.{error_name}
 use Rattle.lift_grid.specs.declared.error.RegionError.{RegionError}
 use Rattle.lift_rows.specs.Number.{error_row}
 use Rattle.lift_rows.specs.declared.error.RowError.{RowError}
-use Rattle.lift_rows.specs.declared.error.RowError.TheVariants.{RowSum, Negative, RowParameters, TooWide}
 use Rattle.drn_read.specs.Faults.{cause_name}
 use Rattle.drn_read.specs.declared.error.DrnError.{DrnError}
 use Rattle.plift_words.specs.Job.{JobData, VerifyData}
@@ -18,7 +17,11 @@ use Rattle.plift_words.specs.Given.{asked}
 use Rattle.model_gen.specs.Ladder.{ladder_text}
 use Rattle.plift_words.specs.declared.job.Field.{Field}
 use Rattle.plift_words.specs.declared.job.Field.TheVariants as field
+use Rattle.plift_top.specs.Rows.{row_place, row_fault}
+use Rattle.plift_top.specs.Unsound.{unsound_note}
 use Rattle.plift_top.specs.Verify.{Verifies, WasRead, IsRefused}
+use Rattle.plift_top.specs.Check.{Checks}
+use Rattle.cert_check.specs.Answer.{Answers}
 use Rattle.plift_top.specs.declared.status.Status.{Status}
 use Rattle.plift_top.specs.declared.status.Status.TheVariants as status
 use Rattle.plift_top.specs.declared.refusal.Refusal.{Refusal}
@@ -30,6 +33,7 @@ status_of (refusal.Usage f) = status.Usage
 status_of (refusal.Region error) = status.Usage
 status_of (refusal.Model error) = status.ModelRefused
 status_of (refusal.Rows error) = status.RowsRefused
+status_of (refusal.Unsound error) = status.NotSound
 status_of refusal.ReadFault = status.ReadFault
 status_of refusal.WriteFault = status.WriteFault
 status_of refusal.TooLong = status.TooLong
@@ -52,17 +56,6 @@ region_note error = codes "usage: --region " ++ error_name error ++ codes "\n"
 abbrev pub model_note : DrnError → List ℕ
 model_note error = codes "model: line " ++ decimal error.line ++ codes ": " ++ cause_name error.cause ++ codes "\n"
 
--- a row, by its state and choice
-abbrev pub row_place : ℕ × ℕ → List ℕ
-row_place row = codes "state " ++ decimal row.0 ++ codes " choice " ++ decimal row.1 ++ codes ": "
-
--- what is wrong with a row, with its numbers
-abbrev pub row_fault : RowError → List ℕ
-row_fault (RowSum s a set sum) = codes "set " ++ decimal set ++ codes " sums to " ++ signed_decimal sum
-row_fault (Negative s a target corner weight) = codes "target " ++ decimal target ++ codes " at corner " ++ decimal corner ++ codes " has weight " ++ signed_decimal weight
-row_fault (RowParameters s a count) = decimal count ++ codes " parameters"
-row_fault (TooWide s a) = codes "too wide"
-
 -- the note of a row that isn't admitted: which row it is, and what is wrong with it
 abbrev pub rows_note : RowError → List ℕ
 rows_note error = codes "rows: " ++ (row_place (error_row error) ++ row_fault error) ++ codes "\n"
@@ -73,6 +66,7 @@ note_of (refusal.Usage f) = usage_note f
 note_of (refusal.Region error) = region_note error
 note_of (refusal.Model error) = model_note error
 note_of (refusal.Rows error) = rows_note error
+note_of (refusal.Unsound error) = unsound_note error
 note_of refusal.ReadFault = codes "read fault\n"
 note_of refusal.WriteFault = codes "write fault\n"
 note_of refusal.TooLong = codes "too long\n"
@@ -95,9 +89,8 @@ status_number status.WriteFault = 6
 status_number status.TooLong = 7
 status_number status.Memory = 8
 
--- the commands `check` and `selftest` aren't built yet: their lines are at fault as a whole
+-- the command `selftest` isn't built yet: its lines are at fault as a whole
 abbrev pub built : Result JobData Field → Result JobData Field
-built (Ok check) = Err field.Words
 built (Ok (selftest blocks)) = Err field.Words
 built job = job
 
@@ -109,6 +102,10 @@ wanted words = built (asked words)
 abbrev pub AsksToVerify : Result JobData Field → VerifyData → Type 0
 AsksToVerify asked j = asked ≡ Ok (verify j)
 
+-- the words ask to check a report
+abbrev pub AsksToCheck : Result JobData Field → Type 0
+AsksToCheck asked = asked ≡ Ok check
+
 -- the words ask to write the ladder of so many blocks
 abbrev pub AsksToGenerate : Result JobData Field → ℕ → Type 0
 AsksToGenerate asked blocks = asked ≡ Ok (generate blocks)
@@ -117,13 +114,14 @@ AsksToGenerate asked blocks = asked ≡ Ok (generate blocks)
 abbrev pub NoFault : ℕ → ℕ → Type 0
 NoFault before now = Rose before now → ⊥
 
--- The words, and what was read of a source, give cause for a refusal: the words are at fault in this part, or they ask for a job that is refused at the text that was read. Of a fault, a text that is too long and want of memory nothing is asked here.
+-- The words, and what was read of a source, give cause for a refusal: the words are at fault in this part, or they ask to verify and the job is refused at the text that was read, or they ask to check and this is the first fault of the bytes that were read. Of a fault, a text that is too long and want of memory nothing is asked here.
 abbrev pub HasCause : Refusal → Result JobData Field → Option (List ℕ) → Option (List ℕ) → Type 0
 HasCause (refusal.Usage f) asked old new = asked ≡ Err f
 HasCause refusal.ReadFault asked old new = ⊤
 HasCause refusal.WriteFault asked old new = ⊤
 HasCause refusal.TooLong asked old new = ⊤
 HasCause refusal.Memory asked old new = ⊤
+HasCause (refusal.Unsound error) asked old new = AsksToCheck asked × WasRead (λ bytes. Answers bytes (Err error)) old new
 HasCause why asked old new = (j : VerifyData) × AsksToVerify asked j × WasRead (IsRefused j why) old new
 
 -- An answer to these words, and to what was read of a source, has this note: that of a refusal with its status, for which they give cause. A job that is done has none.
@@ -157,6 +155,6 @@ Generates taken counts blocks out out' (Err _) = ⊥
 abbrev pub Acts : {S K T : Type 0} → (S → Option (List ℕ)) → (S → ℕ) → (K → Option (List ℕ)) → (K → ℕ) → Result JobData Field → S → S → K → K → Result T Refusal → Type 0
 Acts left faults taken counts (Ok (verify job)) source source' out out' result = Verifies left faults taken counts job source source' out out' result
 Acts left faults taken counts (Ok (generate blocks)) source source' out out' result = Generates taken counts blocks out out' result × (source' ≡ source)
-Acts left faults taken counts (Ok check) source source' out out' result = ⊥
+Acts left faults taken counts (Ok check) source source' out out' result = Checks left faults taken counts source source' out out' result
 Acts left faults taken counts (Ok (selftest blocks)) source source' out out' result = ⊥
 Acts left faults taken counts (Err f) source source' out out' result = RefusesLine f result × (source' ≡ source) × (out' ≡ out)

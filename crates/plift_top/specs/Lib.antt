@@ -1,6 +1,9 @@
 pub mod Leaf
 pub mod Told
+pub mod Rows
+pub mod Unsound
 pub mod Verify
+pub mod Check
 pub mod Steps
 pub mod Refused
 pub mod Answers

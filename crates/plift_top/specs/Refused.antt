@@ -7,6 +7,8 @@ use Rattle.lift_grid.specs.declared.error.RegionError.{RegionError}
 use Rattle.lift_grid.specs.declared.error.RegionError.TheVariants as region
 use Rattle.drn_read.specs.declared.error.DrnCause.TheVariants as cause
 use Rattle.drn_read.specs.declared.error.DrnError.{DrnError}
+use Rattle.cert_check.specs.declared.error.CheckError.{CheckError}
+use Rattle.cert_check.specs.declared.error.CheckError.TheVariants as check
 use Rattle.plift_top.specs.declared.refusal.Refusal.{Refusal}
 use Rattle.plift_top.specs.declared.refusal.Refusal.TheVariants as refusal
 
@@ -29,3 +31,10 @@ model_refusal error = elim error.cause [ cause.Memory ↦ refusal.Memory | _ ↦
 abbrev pub region_refusal : RegionError → Refusal
 region_refusal region.Memory = refusal.Memory
 region_refusal error = refusal.Region error
+
+-- a file that isn't sound, where its source was read and it isn't for want of memory
+abbrev pub check_refusal : CheckError → Refusal
+check_refusal check.Fault = refusal.ReadFault
+check_refusal check.TooLong = refusal.TooLong
+check_refusal check.Memory = refusal.Memory
+check_refusal error = refusal.Unsound error

@@ -88,6 +88,7 @@ Stops left faults job source source' refusal.TooLong = TakenHas (λ bytes. text_
 Stops left faults job source source' refusal.Memory = ⊤
 Stops left faults job source source' (refusal.Usage f) = ⊥
 Stops left faults job source source' refusal.WriteFault = ⊥
+Stops left faults job source source' (refusal.Unsound error) = ⊥
 Stops left faults job source source' why = WasRead (IsRefused job why) (left source) (left source')
 
 -- What a job comes to: the report is written, or there is a cause. The sink is as it was but for a report or the front of one.

@@ -1,12 +1,14 @@
 //! The program: what its words ask for is done, and its status and its notes tell how it went.
 #![tactic(auto)]
 
+mod checking;
 mod edge;
 mod notes;
 mod program;
 mod refusal;
 mod report;
 mod status;
+mod unsound;
 mod verify;
 
 pub use edge::launch;

@@ -3,11 +3,12 @@ ghost use Rattle.std.specs.Prelude.{◌≡◌, ◌++◌};
 ghost use Rattle.lift_base.specs.Outside.{Wrote};
 ghost use Rattle.lift_rows.specs.Number.{error_row};
 ghost use Rattle.plift_top.specs.Answers.{status_of, usage_note, region_note, model_note};
-ghost use Rattle.plift_top.specs.Answers.{row_place, row_fault};
+ghost use Rattle.plift_top.specs.Rows.{row_place, row_fault};
 ghost use Rattle.plift_top.specs.Answers.{rows_note, note_of, answered, IsNoted};
 
 use crate::refusal::Refusal;
 use crate::status::Status;
+use crate::unsound::write_unsound_note;
 use drn_read::DrnError;
 use lift_base::{Sink, Word, WriteFault, write_all, write_words, writes_in_turn};
 use lift_grid::RegionError;
@@ -21,6 +22,7 @@ fn status_of(refusal: Refusal) -> Status
         Refusal::Usage(_) | Refusal::Region(_) => Status::Usage,
         Refusal::Model(_) => Status::ModelRefused,
         Refusal::Rows(_) => Status::RowsRefused,
+        Refusal::Unsound(_) => Status::NotSound,
         Refusal::ReadFault => Status::ReadFault,
         Refusal::WriteFault => Status::WriteFault,
         Refusal::TooLong => Status::TooLong,
@@ -106,7 +108,7 @@ fn write_row_fault<E: Sink>(notes: &mut E, error: RowError) -> Result<(), WriteF
     }
 }
 
-fn write_row_words<E: Sink>(notes: &mut E, error: RowError) -> Result<(), WriteFault>
+pub(crate) fn write_row_words<E: Sink>(notes: &mut E, error: RowError) -> Result<(), WriteFault>
     ensures { Wrote E.taken E.faults notes.old notes.new result
         (row_place (error_row error) ++ row_fault error) }
 {
@@ -142,6 +144,7 @@ fn write_note<E: Sink>(notes: &mut E, refusal: Refusal) -> Result<(), WriteFault
         Refusal::Region(error) => write_region_note(notes, error),
         Refusal::Model(error) => write_model_note(notes, error),
         Refusal::Rows(error) => write_rows_note(notes, error),
+        Refusal::Unsound(error) => write_unsound_note(notes, error),
         Refusal::ReadFault => write_all(notes, b"read fault\n"),
         Refusal::WriteFault => write_all(notes, b"write fault\n"),
         Refusal::TooLong => write_all(notes, b"too long\n"),

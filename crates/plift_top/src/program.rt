@@ -16,14 +16,20 @@ ghost use Rattle.plift_words.specs.declared.job.Field.TheVariants.{Words};
 ghost use Rattle.plift_top.specs.Verify.{WasRead, Reports, ReportsFront};
 ghost use Rattle.plift_top.specs.Verify.{IsRefused, KeepsLimit, text_limit};
 ghost use Rattle.model_gen.specs.Ladder.{ladder_text};
-ghost use Rattle.plift_top.specs.Answers.{status_of, wanted, AsksToVerify, AsksToGenerate};
+ghost use Rattle.plift_top.specs.Answers.{status_of, wanted, AsksToVerify, AsksToCheck};
+ghost use Rattle.plift_top.specs.Answers.{AsksToGenerate};
+ghost use Rattle.cert_check.specs.Sound.{IsSoundFile};
+ghost use Rattle.cert_check.specs.declared.summary.Summary.{Summary};
+ghost use Rattle.plift_top.specs.Check.{IsFoundSound, IsFoundInPart, IsUnsound};
 ghost use Rattle.plift_top.specs.Answers.{NoFault, Generates};
 ghost use Rattle.plift_top.specs.Answers.{HasNote, WroteNote, Acts};
 
+use crate::checking::check_report;
 use crate::notes::end;
 use crate::refusal::Refusal;
 use crate::status::Status;
 use crate::verify::verify;
+use cert_check::{answers_are_one, sound_files_pass};
 use lift_base::{Sink, Source, write_buffered};
 use lift_rows::first_fault_is_one;
 use model_gen::Ladder;
@@ -53,8 +59,9 @@ fn act<S: Source, K: Sink>(
     match job_of(alloc, words) {
         Ok(Job::Verify(job)) => verify(alloc, &job, source, out),
         Ok(Job::Generate(ladder)) => write_ladder(&ladder, out),
-        // These aren't built yet.
-        Ok(Job::Check) | Ok(Job::Selftest(_)) => Err(Refusal::Usage(Field::Words)),
+        Ok(Job::Check) => check_report(alloc, source, out),
+        // This isn't built yet.
+        Ok(Job::Selftest(_)) => Err(Refusal::Usage(Field::Words)),
         Err(cause) => Err(Refusal::from(cause)),
     }
 }
@@ -82,6 +89,12 @@ pub fn run<S: Source, K: Sink, E: Sink>(
         → WasRead (Reports (K.taken out.old) (K.taken out.new) j)
         (S.left source.old) (S.left source.new) }
 
+    // Done of `check`: the source gave a sound file, and out took its line. The leaves of its report
+    // tile its region, and each holds inside its rectangle, for the model and the bound in the file.
+    ensures checked { result ≡ Status.Done → AsksToCheck (wanted words.now.items)
+        → WasRead (IsFoundSound (K.taken out.old) (K.taken out.new))
+        (S.left source.old) (S.left source.new) }
+
     // Done of `generate`: out took the text of the ladder that is asked for, and nothing else.
     ensures generated { result ≡ Status.Done
         → (n : ℕ) → AsksToGenerate (wanted words.now.items) n
@@ -98,6 +111,25 @@ pub fn run<S: Source, K: Sink, E: Sink>(
         → TakenHas (λ bytes. text_limit < length bytes) (S.left source.old) (S.left source.new) }
     ensures within { result ≢ Status.TooLong
         → TakenHas (λ bytes. length bytes ≤ text_limit) (S.left source.old) (S.left source.new) }
+
+    // Only `check` answers NotSound, and only to bytes that are no sound file.
+    ensures not_sound { result ≡ Status.NotSound → AsksToCheck (wanted words.now.items)
+        × WasRead IsUnsound (S.left source.old) (S.left source.new) }
+
+    // `check` answers Done or Memory to a sound file, and NotSound or Memory to any other, where no
+    // fault is counted.
+    ensures check_complete { (bytes : List ℕ) (leaves : Summary)
+        → AsksToCheck (wanted words.now.items) → S.left source.old ≡ Some bytes
+        → IsSoundFile bytes leaves → length bytes ≤ text_limit
+        → NoFault (S.faults source.old) (S.faults source.new)
+        → NoFault (K.faults out.old) (K.faults out.new)
+        → (result ≡ Status.Done) ⊎ (result ≡ Status.Memory) }
+    ensures check_refused { (bytes : List ℕ)
+        → AsksToCheck (wanted words.now.items) → S.left source.old ≡ Some bytes
+        → IsUnsound bytes → length bytes ≤ text_limit
+        → NoFault (S.faults source.old) (S.faults source.new)
+        → NoFault (K.faults out.old) (K.faults out.new)
+        → (result ≡ Status.NotSound) ⊎ (result ≡ Status.Memory) }
 
     // A job, a text that stands for a model, and a region over which its rows are admitted give
     // Done or Memory, where no fault is counted.
@@ -140,6 +172,9 @@ pub fn run<S: Source, K: Sink, E: Sink>(
         → (j : VerifyData) → AsksToVerify (wanted words.now.items) j
         → WasRead (ReportsFront (K.taken out.old) (K.taken out.new) j)
         (S.left source.old) (S.left source.new) }
+    ensures line_part { result ≡ Status.WriteFault → AsksToCheck (wanted words.now.items)
+        → WasRead (IsFoundInPart (K.taken out.old) (K.taken out.new))
+        (S.left source.old) (S.left source.new) }
     ensures ladder_part { result ≡ Status.WriteFault
         → (n : ℕ) → AsksToGenerate (wanted words.now.items) n
         → AppendsFront (K.taken out.old) (K.taken out.new) (ladder_text n) }
@@ -153,6 +188,8 @@ pub fn run<S: Source, K: Sink, E: Sink>(
         × WroteNote E.taken E.faults notes.old notes.new note }
 {
     first_fault_is_one();
+    sound_files_pass();
+    answers_are_one();
     let answer = act(alloc, words, source, out);
     end(notes, answer)
 }

@@ -2,7 +2,9 @@
 ghost use Rattle.std.specs.Prelude.{◌≡◌};
 ghost use Rattle.plift_top.specs.declared.refusal.Refusal.TheVariants.{Memory, WriteFault, Rows};
 ghost use Rattle.plift_top.specs.Refused.{words_refusal, refusal_of, model_refusal, region_refusal};
+ghost use Rattle.plift_top.specs.Refused.{check_refusal};
 
+use cert_check::CheckError;
 use drn_read::{DrnCause, DrnError};
 use lift_base::ReadError;
 use lift_grid::RegionError;
@@ -21,6 +23,8 @@ pub enum Refusal {
     Region(RegionError),
     /// A row of the model isn't admitted over the region.
     Rows(RowError),
+    /// The file isn't sound. The error is a first fault of its bytes.
+    Unsound(CheckError),
     ReadFault,
     WriteFault,
     /// The source gives more bytes than a text may have.
@@ -94,5 +98,18 @@ impl From<RowError> for Refusal {
 
     fn from(error: RowError) -> Self {
         Refusal::Rows(error)
+    }
+}
+
+impl From<CheckError> for Refusal {
+    ghost from_gives = { λ error e. e ≡ check_refusal error };
+
+    fn from(error: CheckError) -> Self {
+        match error {
+            CheckError::Fault => Refusal::ReadFault,
+            CheckError::TooLong => Refusal::TooLong,
+            CheckError::Memory => Refusal::Memory,
+            _ => Refusal::Unsound(error),
+        }
     }
 }

@@ -10,7 +10,7 @@ use std::process::ExitCode;
 pub enum Status {
     /// The command did what it says.
     Done = 0,
-    /// A report isn't sound. Comes with the command `check`.
+    /// A report isn't sound.
     NotSound = 1,
     /// The command line is at fault.
     Usage = 2,

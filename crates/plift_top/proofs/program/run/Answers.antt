@@ -64,3 +64,20 @@ returns-clause-reads_nothing g c n is = acts.reads_nothing g.S.Source.left g.S.S
 
 pub returns-clause-ladder_part : goal.returns-clause-ladder_part
 returns-clause-ladder_part g c e = acts.ladder_part g.S.Source.left g.S.Source.faults g.K.Sink.taken g.K.Sink.faults _ _ _ _ _ _ (rw c.deref.ensures.value at c.act-answer.ensures.answer) (sym c.end.ensures.status ∙ e)
+
+pub returns-clause-checked : goal.returns-clause-checked
+returns-clause-checked g c e = acts.checked g.S.Source.left g.S.Source.faults g.K.Sink.taken g.K.Sink.faults _ _ _ _ _ _ (rw c.deref.ensures.value at c.act-answer.ensures.answer) (sym c.end.ensures.status ∙ e)
+
+pub returns-clause-line_part : goal.returns-clause-line_part
+returns-clause-line_part g c e = acts.line_part g.S.Source.left g.S.Source.faults g.K.Sink.taken g.K.Sink.faults _ _ _ _ _ _ (rw c.deref.ensures.value at c.act-answer.ensures.answer) (sym c.end.ensures.status ∙ e)
+
+pub returns-clause-not_sound : goal.returns-clause-not_sound
+returns-clause-not_sound g c e = acts.not_sound g.S.Source.left g.S.Source.faults g.K.Sink.taken g.K.Sink.faults _ _ _ _ c.sound_files_pass.ensures.pass c.answers_are_one.ensures _ _ (rw c.deref.ensures.value at c.act-answer.ensures.answer) (sym c.end.ensures.status ∙ e)
+
+pub returns-clause-check_complete : goal.returns-clause-check_complete
+returns-clause-check_complete g c bytes leaves is told file len sure1 sure2 =
+    rw c.end.ensures.status (acts.check_complete g.S.Source.left g.S.Source.faults g.K.Sink.taken g.K.Sink.faults _ _ _ _ bytes told len sure1 sure2 c.sound_files_pass.ensures.pass c.answers_are_one.ensures _ _ (rw c.deref.ensures.value at c.act-answer.ensures.answer) is leaves file)
+
+pub returns-clause-check_refused : goal.returns-clause-check_refused
+returns-clause-check_refused g c bytes is told bad len sure1 sure2 =
+    rw c.end.ensures.status (acts.check_refused g.S.Source.left g.S.Source.faults g.K.Sink.taken g.K.Sink.faults _ _ _ _ bytes told len sure1 sure2 _ _ (rw c.deref.ensures.value at c.act-answer.ensures.answer) is bad)

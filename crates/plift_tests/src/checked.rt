@@ -1,0 +1,114 @@
+// Reports that are checked, and what is told of them.
+use crate::models::lines_of;
+use crate::runs::{status_name, words_of};
+use lift_base::{MemSink, SureSource};
+use plift_top::run;
+use std::alloc::Global;
+use std::test::Fail;
+
+// The heads of reports, each by its name. A semicolon stands for the end of a line.
+const HEADS: &str = "\
+LOW = plift 1;kind dtmc;parameters 1 p;common 1;states 3;init 0;goal 1 1;row 0 0 2;to 1 1:1;to 2 0:1 1:-1;row 1 0 1;to 1 0:1;row 2 0 1;to 2 0:1;bound 1/2;precision 4;depth 0;grid 10;box 1 4;
+HIGH = plift 1;kind dtmc;parameters 1 p;common 1;states 3;init 0;goal 1 1;row 0 0 2;to 1 1:1;to 2 0:1 1:-1;row 1 0 1;to 1 0:1;row 2 0 1;to 2 0:1;bound 1/2;precision 4;depth 0;grid 10;box 6 9;
+ABOVE = plift 1;kind dtmc;parameters 1 p;common 1;states 3;init 0;goal 1 1;row 0 0 2;to 1 1:1;to 2 0:1 1:-1;row 1 0 1;to 1 0:1;row 2 0 1;to 2 0:1;bound 3/4;precision 4;depth 0;grid 10;box 6 9;
+WIDE = plift 1;kind dtmc;parameters 1 p;common 1;states 3;init 0;goal 1 1;row 0 0 2;to 1 1:1;to 2 0:1 1:-1;row 1 0 1;to 1 0:1;row 2 0 1;to 2 0:1;bound 1/2;precision 4;depth 2;grid 40;box 4 36;
+IDLE = plift 1;kind dtmc;parameters 2 p q;common 1;states 3;init 0;goal 1 1;row 0 0 2;to 1 1:1;to 2 0:1 1:-1;row 1 0 1;to 1 0:1;row 2 0 1;to 2 0:1;bound 1/2;precision 4;depth 1;grid 10;box 4 6 0 10;
+UNEVEN = plift 1;kind dtmc;parameters 1 p;common 1;states 3;init 0;goal 1 1;row 0 0 2;to 1 1:1;to 2 0:1 1:-2;row 1 0 1;to 1 0:1;row 2 0 1;to 2 0:1;bound 1/2;precision 4;depth 0;grid 10;box 1 4;
+NEXT = plift 2;
+FAR = plift 1;kind dtmc;parameters 1 p;common 1;states 3;init 3;
+NOTHING = -
+";
+
+// Each row: the head, what follows it, the status, what is written, and the note.
+const FILES: &str = "\
+LOW | accept 7 16 0; | Done | sound accept 1 reject 0 unknown 0; | -
+LOW | accept 8 16 0; | Done | sound accept 1 reject 0 unknown 0; | -
+HIGH | reject e 1 k 1 m 1 b 9/16;y 9 16 0;choice 0 - -;rank 1 0 -; | Done | sound accept 0 reject 1 unknown 0; | -
+WIDE | split 0;accept 8 16 0;split 0;unknown;reject e 1 k 1 m 1 b 11/16;y 11 16 0;choice 0 - -;rank 1 0 -; | Done | sound accept 1 reject 1 unknown 1; | -
+LOW | accept 6 16 0; | NotSound | - | not sound: node 0 state 0 choice 0 corner 1: 64 > 60;
+LOW | accept 7 15 0; | NotSound | - | not sound: node 0 goal state 1 value 15;
+LOW | accept 9 16 0; | NotSound | - | not sound: node 0 bound: 18 > 16;
+LOW | accept 7 16 0;x; | NotSound | - | not sound: rest;
+LOW | accept 07 16 0; | NotSound | - | not sound: line 20: Syntax;
+LOW | accept 7 17 0; | NotSound | - | not sound: line 20: Limit;
+LOW | - | NotSound | - | not sound: line 20: Truncated;
+NEXT | accept 7 16 0; | NotSound | - | not sound: line 1: Version;
+FAR | accept 7 16 0; | NotSound | - | not sound: line 6: Limit;
+NOTHING | - | NotSound | - | not sound: line 1: Truncated;
+UNEVEN | accept 7 16 0; | NotSound | - | not sound: state 0 choice 0: set 1 sums to -1;
+HIGH | reject e 1 k 1 m 1 b 10/16;y 10 16 0;choice 0 - -;rank 1 0 -; | NotSound | - | not sound: node 0 state 0 choice 0 corner 0: 100 > 96;
+HIGH | reject e 0 k 1 m 0 b 9/16;y 9 16 0;choice 0 - -;rank 1 0 -; | NotSound | - | not sound: node 0 state 0 choice 0 corner 0: weight 6 times 2^0 < 10;
+HIGH | reject e 1 k 1 m 1 b 9/16;y 9 16 0;choice - - -;rank - 0 -; | NotSound | - | not sound: node 0 unranked state 0 value 9;
+ABOVE | reject e 1 k 1 m 1 b 9/16;y 9 16 0;choice 0 - -;rank 1 0 -; | NotSound | - | not sound: node 0 bound: 36 <= 48;
+IDLE | unknown; | NotSound | - | not sound: node 0 depth;
+IDLE | split 1; | NotSound | - | not sound: node 0 axis;
+";
+
+// The head of that name; none where there is none.
+fn find_head(name: &str) -> Option<&'static str> {
+    for row in HEADS.lines() {
+        if let Some((key, head)) = row.split_once(" = ") {
+            if key == name {
+                return Some(head);
+            }
+        }
+    }
+    None
+}
+
+// A file, and what is told of it.
+#[derive(Clone, Copy)]
+struct Checked<'a> {
+    head: &'a str,
+    rest: &'a str,
+    status: &'a str,
+    written: &'a str,
+    told: &'a str,
+}
+
+// A row's cells; none where there are fewer than five, or no head of that name.
+fn checked_of(row: &str) -> Option<Checked<'_>> {
+    let mut cells = row.split(" | ");
+    Some(Checked {
+        head: find_head(cells.next()?)?,
+        rest: cells.next()?,
+        status: cells.next()?,
+        written: cells.next()?,
+        told: cells.next()?,
+    })
+}
+
+// Whether checking a text gives what the row says.
+fn is_answered_on(alloc: Global, want: Checked<'_>, text: Vec<u8>) -> Result<bool, Fail> {
+    let words = words_of(alloc, "check", ' ')?;
+    let mut source = SureSource::new(text);
+    let mut out = MemSink::new(alloc, 100, 7, Vec::new(alloc))?;
+    let mut notes = MemSink::new(alloc, 100, 3, Vec::new(alloc))?;
+    let got = run(alloc, &words, &mut source, &mut out, &mut notes);
+    let written = lines_of(alloc, want.written)?;
+    let told = lines_of(alloc, want.told)?;
+    Ok(
+        status_name(got) == want.status
+            && out.taken() == written.as_slice()
+            && notes.taken() == told.as_slice(),
+    )
+}
+
+fn is_answered(alloc: Global, row: &str) -> Result<bool, Fail> {
+    let Some(want) = checked_of(row) else {
+        return Ok(false);
+    };
+    let mut text = lines_of(alloc, want.head)?;
+    for byte in lines_of(alloc, want.rest)? {
+        text.push(byte)?;
+    }
+    is_answered_on(alloc, want, text)
+}
+
+#[test]
+fn files_are_checked(rt: HostRuntime) -> Result<(), Fail> {
+    for row in FILES.lines() {
+        assert!(rt; is_answered(rt.alloc(), row)?, "{row}");
+    }
+    Ok(())
+}
