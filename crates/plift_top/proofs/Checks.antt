@@ -2,7 +2,7 @@
 use Rattle.std.proofs.Common.{◌≡◌, ℕ, List, Ok, Err, refl, sym, subst, Result, IsErrAnd}
 use Rattle.std.specs.declared.option.Option.{Option}
 use Rattle.lift_base.specs.Outside.{Wrote}
-use Rattle.cert_check.specs.Shown.{ChecksSource, WasRead as Read, KeepsLimit as Keeps}
+use Rattle.cert_check.specs.Source.{ChecksSource, WasRead as Read, KeepsLimit as Keeps}
 use Rattle.cert_check.specs.declared.summary.Summary.{Summary}
 use Rattle.cert_check.specs.declared.error.CheckError.{CheckError}
 use Rattle.cert_check.specs.declared.error.CheckError.TheVariants as check
