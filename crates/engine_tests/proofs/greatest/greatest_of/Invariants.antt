@@ -2,6 +2,3 @@ use Rattle.engine_tests.proofs.greatest.greatest_of.Given as goal
 
 abbrev pub ghost-greatest_reject : goal.ghost-greatest_reject
 ghost-greatest_reject a = a.case.now.root
-
-abbrev pub ghost-greatest_reject_above : goal.ghost-greatest_reject_above
-ghost-greatest_reject_above a = a.case.now.root
