@@ -222,6 +222,7 @@ rejected ze zk zm b = do
 abbrev pub named : List ℕ → Words → Read (List ℕ × Words)
 named key words = keyed key words >>= first
 
+-- the first line of a rejecting leaf: each part behind its name, forms before ranges
 abbrev pub reject_of : Words → Read Rejected
 reject_of words = do
   rest ← keyed (codes "reject") words

@@ -30,6 +30,7 @@ abbrev pub fits_state : Bool → ℕ → ℕ → Bool
 fits_state true pick rank = pick == unmarked && rank == 0
 fits_state false pick rank = if rank == unmarked then pick == unmarked else not (rank == 0) && not (pick == unmarked)
 
+-- so do those of every state
 abbrev pub fit_states : List Bool → List ℕ → List ℕ → Bool
 fit_states (goal ∷ goals) (pick ∷ picks) (rank ∷ ranks) = fits_state goal pick rank && fit_states goals picks ranks
 fit_states [] [] [] = true
@@ -44,6 +45,7 @@ fits_leaf h r y picks ranks =
 unfoldable pub split_at : HeadData → Reader Node
 split_at h c = line_at (number_in (codes "split") 0 (length h.asked.model.names)) c >>= λ axis. Ok (split axis.0, axis.1)
 
+-- an accepting leaf, whose line is due
 unfoldable pub accept_at : HeadData → Reader Node
 accept_at h c = line_at (values_of (codes "accept") (length h.asked.model.states) h.asked.w) c >>= λ x. Ok (accept h.asked.w x.0, x.1)
 

@@ -50,6 +50,7 @@ abbrev pub present_part : ℤ → ℕ → List End → List Term → ℤ
 present_part d parameter rest [] = pos 0
 present_part d parameter rest (term ∷ terms) = (if term.0 / 2 ^ parameter % 2 == 1 then term.1 *ℤ product_at d rest term.0 else pos 0) +ℤ present_part d parameter rest terms
 
+-- what the terms weigh that don't have the parameter
 abbrev pub absent_part : ℤ → ℕ → List End → List Term → ℤ
 absent_part d parameter rest [] = pos 0
 absent_part d parameter rest (term ∷ terms) = (if term.0 / 2 ^ parameter % 2 == 1 then pos 0 else term.1 *ℤ product_at d rest term.0) +ℤ absent_part d parameter rest terms

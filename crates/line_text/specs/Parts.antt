@@ -11,6 +11,7 @@ use Rattle.line_text.specs.Reading.{◌>>=◌}
 abbrev pub Words : Type 0
 Words = List (List ℕ)
 
+-- what is read of words, or the cause of a refusal
 abbrev pub Read : Type 0 → Type 0
 Read A = Result A TextCause
 

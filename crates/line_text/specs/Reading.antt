@@ -7,8 +7,8 @@ use Rattle.line_text.specs.declared.error.TextCause.TheVariants.{Limit, Truncate
 use Rattle.line_text.specs.declared.error.TextError.{TextError}
 use Rattle.line_text.specs.Words.{words}
 
--- the next step, where there was no fault
 infixl 10 ◌>>=◌
+-- the next step, where there was no fault
 abbrev pub ◌>>=◌ : {A B E : Type 0} → Result A E → (A → Result B E) → Result B E
 (Ok x) >>= f = f x
 (Err e) >>= f = Err e

@@ -33,6 +33,7 @@ StartIsStaged = (k : CaseData) (spans : Spans) (test : ℕ → ℕ → Bool) (ra
     → ((s : ℕ) → is_goal k.model s ≡ true → rank s ≡ 0) → ((s : ℕ) → is_goal k.model s ≡ false → rank s ≡ unmarked)
     → IsStaged k spans (Pass test) rank 0
 
+-- after some stages, the next stage is added
 abbrev pub NextIsStaged : Type 0
 NextIsStaged = (k : CaseData) (spans : Spans) (test : ℕ → ℕ → Bool) (rank new : ℕ → ℕ) (r : ℕ) → suc r < unmarked
     → IsStaged k spans (Pass test) rank r → IsNextStage k spans (Pass test) rank new r → IsStaged k spans (Pass test) new (suc r)
