@@ -1,7 +1,7 @@
 """Checks a report of plift by itself:  python3 recheck.py < report
 
-Writes `sound accept A reject B unknown C`, or tells the first fault on standard error and ends with 1. Written from
-docs/FORMATS.md, it shares nothing with plift's code; docs/CHECKING.md tells why its tests show what they show.
+Writes `sound accept A reject B unknown C`, or tells the first fault on standard error and ends with 1. It is written
+from docs/FORMATS.md and shares nothing with plift's code; docs/CHECKING.md tells why its tests show what they show.
 """
 import re, sys
 from math import gcd, prod
@@ -12,7 +12,7 @@ MOST_BYTES, MOST_LINE = 2 ** 26, 2 ** 20  # of a report, and of one of its lines
 NUMBER, NAME = re.compile(rb'0|-?[1-9][0-9]*'), re.compile(rb'[A-Za-z_][A-Za-z0-9_]*')
 getattr(sys, 'set_int_max_str_digits', int)(0)  # a line may hold a number of any length
 
-class Fault(Exception): """What is wrong. Where it is wrong stands in the text's place."""
+class Fault(Exception): """What is wrong. Where it is wrong, the text tells: its place."""
 
 def need(holds, cause='Syntax'):
     if not holds:

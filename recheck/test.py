@@ -5,7 +5,7 @@ Examples, reports with changes whose answers were worked out by hand, every prop
 `check` of a built plift (crates/plift/out/plift) is asked the same, and about N reports with random changes (1000 if
 left out) of the examples and of the reports that are named; both have to say the same, byte for byte.
 """
-import argparse, random, subprocess, sys
+import argparse, random, re, subprocess, sys
 from pathlib import Path
 
 HERE = Path(__file__).resolve().parent
@@ -300,29 +300,30 @@ def rechecked(text):
 
 
 def mutant(text, dice):
-    """A text with a few changes of a byte, of a number or of a line."""
+    """A text with a few changes: of a byte, of a line, of a number, or of a rejecting leaf's first numbers."""
     for _ in range(dice.choice([1, 1, 1, 2, 3])):
-        at, kind = dice.randrange(len(text)), dice.randrange(6)
-        lines = text.split(b'\n')
-        line = dice.randrange(len(lines))
-        words = lines[line].split(b' ')
-        word = dice.randrange(len(words))
-        if kind == 0:
-            text = text[:at] + bytes([dice.choice(b'0123456789 -/:\nax\xff\0')]) + text[at + 1:]
-        elif kind == 1:
-            text = text[:at] + text[at + 1:]
-        elif kind == 2:
-            text = text[:at] + bytes([dice.choice(b'0123456789 -\n')]) + text[at:]
-        elif kind == 3:
-            lines[line:line + 1] = dice.choice([[], [lines[line]] * 2, [dice.choice(lines)]])
+        kind = dice.choice(['byte', 'line', 'number', 'number', 'number', 'leaf', 'leaf'])
+        if kind == 'byte' and text:
+            at = dice.randrange(len(text))
+            new = bytes([dice.choice(b'0123456789 -/:\nax\xff\0')])
+            text = text[:at] + dice.choice([new, new + text[at:at + 1], b'']) + text[at + 1:]
+        elif kind == 'line':
+            lines = text.split(b'\n')
+            at = dice.randrange(len(lines))
+            lines[at:at + 1] = dice.choice([[], [lines[at]] * 2, [dice.choice(lines)], [b'unknown'], [b'split 0']])
             text = b'\n'.join(lines)
-        else:
-            number = words[word].isdigit() and int(words[word]) + dice.choice([-2, -1, 1, 2, 16, 100])
-            words[word] = b'%d' % number if number is not False else dice.choice([b'-', b'0', b'1', b'3:1', b'2/3'])
-            lines[line] = b' '.join(words)
-            text = b'\n'.join(lines)
-        if not text:
-            return text
+        elif kind == 'number':
+            found = list(re.finditer(rb'-?[0-9]+', text))
+            at = dice.choice(found).span() if found else (0, 0)
+            number = int(text[slice(*at)] or 0) + dice.choice([-100, -2, -1, 1, 1, 2, 16])
+            text = text[:at[0]] + b'%d' % number + text[at[1]:]
+        else:  # kept consistent
+            found = list(re.finditer(rb'reject e ([0-9]+) k ([0-9]+) m [0-9]+ b ([0-9]+)/([0-9]+)\ny ([0-9]+)', text))
+            if found:
+                leaf = dice.choice(found)
+                e, k, y = [max(0, int(leaf[i]) + dice.choice([-1, 0, 0, 1])) for i in (1, 2, 3)]
+                new = b'reject e %d k %d m %d b %d/%s\ny %d' % (e, k, e * k, y, leaf[4], y)
+                text = text[:leaf.start()] + new + text[leaf.end():]
     return text
 
 
