@@ -43,6 +43,10 @@ LINES = [
     ('1 : p\n2 : 1-p', '0 : 0.3333\n1 : 0.3333\n2 : 0.3333', 'rows: state 0 choice 0: set 0 sums to 9999'),
     ('1 : p', '1 : 0.1234567890123456789', 'model: line 6: Wide'),
     ('@model', '@nr_states\n4\n@model', 'model: line 13: CountMismatch'),
+    ('1 : p\n2 : 1-p', '1 : 1/4294967291\n2 : 1/4294967279', 'model: line 11: CommonDenominator'),
+    ('p\n@model\nstate 0 init\n1 : p', 'p a b c d\n@model\nstate 0 init\n1 : p+a+b+c+d', 'model: line 6: LimitValueParameters'),
+    ('1 : p', '1 : p' + ' ' * 2 ** 20, 'model: line 6: LongLine'),
+    ('state 2\n2 : 1\n', ''.join(f'state {s}\n{s} : 1\n' for s in range(2, 65537)), 'model: line 131078: LimitStates'),
     ('state 0 init', 'state 0 !3 init', 'model: line 5: ExitRate'),
 ]
 
@@ -102,7 +106,7 @@ def lines(folder):
     """For each line that docs/STORM.md speaks of: whether it is read, or refused, as it says."""
     for old, new, want in LINES:
         text = COIN.replace(old, new)
-        yield f'{new!r}', note(folder, text) == (want or '')
+        yield f'{new[:100]!r}', note(folder, text) == (want or '')
 
 
 def commands(folder):

@@ -94,7 +94,7 @@ class Report:
         need(0 <= n < 2 ** 32 and d > 0, 'Limit')
         need(gcd(n, d) == 1)
         need(n <= d < 2 ** 32, 'Limit')
-        self.one, self.depth = 2 ** text.single(b'precision', 1, 40), text.single(b'depth', 0, 20)
+        self.one, self.depth = 2 ** text.single(b'precision', 1, 40), text.single(b'depth', 0, 20)  # one: probability 1
         self.grid, ends = text.single(b'grid', 1, 2 ** 62 - 1), numbers(text.take(b'box'), 2 * self.parameters)
         for i, end in enumerate(ends):
             need(end % 2 ** self.depth == 0 and (i % 2 == 1 or end < ends[i + 1]))
