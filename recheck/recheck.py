@@ -1,0 +1,250 @@
+"""Checks a report of plift by itself:  python3 recheck.py < report
+
+Writes `sound accept A reject B unknown C`, or tells the first fault on standard error and ends with 1. It is written
+from docs/FORMATS.md and shares nothing with plift's code; docs/CHECKING.md tells why its tests show what they show.
+"""
+import re, sys
+from math import gcd, prod
+from operator import mul
+
+NONE = 2 ** 32  # for a choice or a rank that is `-`
+MOST_BYTES, MOST_LINE = 2 ** 26, 2 ** 20  # of a report, and of one of its lines
+NUMBER, NAME = re.compile(rb'0|-?[1-9][0-9]*'), re.compile(rb'[A-Za-z_][A-Za-z0-9_]*')
+getattr(sys, 'set_int_max_str_digits', int)(0)  # a line may hold a number of any length
+
+class Fault(Exception): """What is wrong. Where it is wrong, the text tells: its place."""
+
+def need(holds, cause='Syntax'):
+    if not holds:
+        raise Fault(cause)
+
+def within(n, low, high):
+    need(low <= n <= high, 'Limit')
+    return n
+
+def numbers(words, count=None):
+    need(count in (None, len(words)) and all(map(NUMBER.fullmatch, words)))
+    return list(map(int, words))
+
+def pair(word, mark):
+    return tuple(numbers(word.split(mark, 1), 2))
+
+class Text:
+    """A report, and how far it was read: which line is due, and the byte where it begins."""
+    def __init__(self, data):
+        self.data, self.line, self.start, self.place = data, 1, 0, ''
+
+    def due(self):
+        """The words of the line that is due."""
+        self.place, self.end = f'line {self.line}: ', self.data.find(b'\n', self.start, self.start + MOST_LINE + 1)
+        need(self.end >= 0, 'Limit' if len(self.data) - self.start > MOST_LINE else 'Truncated')
+        return self.data[self.start:self.end].split(b' ')
+
+    def take(self, key):
+        """Those behind its first word, which has to be the key. Then the next line is due."""
+        words = self.due()
+        self.line, self.start = self.line + 1, self.end + 1
+        need(words[0] == key)
+        return words[1:]
+
+    def single(self, key, low, high):
+        return within(numbers(self.take(key), 1)[0], low, high)
+
+    def counted(self, key):
+        words = self.take(key)
+        need(numbers(words[:1], 1)[0] == len(words) - 1)
+        return words[1:]
+
+class Shape:
+    """A row's polynomials, each of terms (set of parameters, coefficient). Rows with the same ones share a shape."""
+    def __init__(self, polys, first):
+        self.polys, self.first, used = polys, first, {m for poly in polys for m, _ in poly}
+        self.parameters = [i for i in range(16) if any(m >> i & 1 for m in used)]
+
+    def corners(self, box, grid):
+        """For each corner in a rectangle, the weight of each transition."""
+        for corner in range(2 ** len(self.parameters)):
+            ends = [(1 << i, box[i][corner >> bit & 1]) for bit, i in enumerate(self.parameters)]
+            yield [sum(c * prod([end if m & i else grid for i, end in ends]) for m, c in poly) for poly in self.polys]
+
+class Report:
+    def __init__(self, text):
+        """Reads the head."""
+        self.text = text
+        need(numbers(text.take(b'plift'), 1) == [1], 'Version')
+        kind = text.take(b'kind')
+        need(kind in ([b'dtmc'], [b'mdp']))
+        names = text.counted(b'parameters')
+        need(all(map(NAME.fullmatch, names)))
+        need(len(names) <= 16, 'Limit')
+        for i, name in enumerate(names):
+            need(name not in names[:i])
+            need(len(name) <= 64, 'Limit')
+        self.parameters, self.common = len(names), text.single(b'common', 1, 2 ** 62 - 1)
+        self.size = text.single(b'states', 1, 2 ** 16)
+        self.init = text.single(b'init', 0, self.size - 1)
+        goals = numbers(text.counted(b'goal'))
+        need(goals)
+        for i, s in enumerate(goals):
+            need(i == 0 or goals[i - 1] < s)
+            within(s, 0, self.size - 1)
+        self.goals, self.shapes, self.states = set(goals), {}, []
+        self.read_states(kind == [b'mdp'])
+        n, d = self.bound = pair(b' '.join(text.take(b'bound')), b'/')
+        need(0 <= n < 2 ** 32 and d > 0, 'Limit')
+        need(gcd(n, d) == 1)
+        need(n <= d < 2 ** 32, 'Limit')
+        self.one, self.depth = 2 ** text.single(b'precision', 1, 40), text.single(b'depth', 0, 20)  # one: probability 1
+        self.grid, ends = text.single(b'grid', 1, 2 ** 62 - 1), numbers(text.take(b'box'), 2 * self.parameters)
+        for i, end in enumerate(ends):
+            need(end % 2 ** self.depth == 0 and (i % 2 == 1 or end < ends[i + 1]))
+            need(abs(end) < 2 ** 62, 'Limit')
+        self.box = list(zip(ends[::2], ends[1::2]))
+        self.live = [i for i in range(16) if any(i in shape.parameters for shape in self.shapes.values())]
+
+    def read_states(self, is_mdp, choices=2 ** 17, transitions=2 ** 18):
+        """For each state its choices, each with its targets and its shape. Of each at most so many are left."""
+        for s in range(self.size):
+            rows = []
+            while not rows or is_mdp and self.text.due()[:2] == [b'row', b'%d' % s]:
+                state, choice, count = numbers(self.text.take(b'row'), 3)
+                need(state == s and choice == len(rows) and count >= 0)
+                need(choices > 0 and count <= transitions, 'Limit')
+                choices, transitions, row = choices - 1, transitions - count, {}
+                for _ in range(count):
+                    self.read_transition(row)
+                polys, targets = tuple(row.values()), list(row)
+                if polys not in self.shapes:
+                    self.shapes[polys] = Shape(polys, (s, choice, targets))
+                rows.append((targets, self.shapes[polys]))
+            self.states.append(rows)
+
+    def read_transition(self, row):
+        words = self.text.take(b'to')
+        target, poly = numbers(words[:1], 1)[0], tuple([pair(word, b':') for word in words[1:]])
+        need(len(poly) <= 16)
+        need(within(target, 0, self.size - 1) not in row)
+        row[target], before, seen = poly, None, 0
+        for m, c in poly:
+            need(before is None or before < m)
+            before, seen = within(m, 0, 2 ** self.parameters - 1), seen | m
+            need(bin(seen).count('1') <= 4, 'Limit')
+            need(c != 0)
+            need(abs(c) < 2 ** 100, 'Limit')
+
+    def test_rows(self):
+        """Over the whole region each row's probabilities sum to 1 and none of them is below 0."""
+        greatest = max([self.grid] + [abs(end) for ends in self.box for end in ends])
+        for shape in self.shapes.values():  # by the first row that has it
+            s, a, targets = shape.first
+            self.text.place = f'state {s} choice {a}: '
+            sums, size, g = {0: 0}, 0, len(shape.parameters)
+            for m, c in [term for poly in shape.polys for term in poly]:
+                sums[m], size = sums.get(m, 0) + c, size + abs(c)
+            for m in sorted(sums):
+                need(sums[m] == (0 if m else self.common), f'set {m} sums to {sums[m]}')
+            need(g <= 4, f'{g} parameters')
+            need(size * greatest ** g * self.one < 2 ** 126, 'too wide')
+            for target, weights in zip(targets, zip(*shape.corners(self.box, self.grid))):
+                for corner, weight in enumerate(weights):
+                    need(weight >= 0, f'target {target} at corner {corner} has weight {weight}')
+
+    def corners_in(self, box):
+        """For each shape its corners in a rectangle."""
+        return {shape: list(shape.corners(box, self.grid)) for shape in self.shapes.values()}
+
+    def test_accept(self, box, place):
+        """No state's number is below the mean of its targets' numbers, for any choice, at any corner."""
+        x, corners, self.text.place = self.read_values(b'accept'), self.corners_in(box), place
+        for s, rows in enumerate(self.states):
+            need(s not in self.goals or x[s] == self.one, f'goal state {s} value {x[s]}')
+            for a, (targets, shape) in enumerate([] if s in self.goals else rows):
+                values, whole = [x[target] for target in targets], self.common * self.grid ** len(shape.parameters)
+                for corner, weights in enumerate(corners[shape]):
+                    mean = sum(map(mul, weights, values))
+                    if mean > x[s] * whole:
+                        raise Fault(f'state {s} choice {a} corner {corner}: {mean} > {x[s] * whole}')
+        left, right = x[self.init] * self.bound[1], self.bound[0] * self.one
+        need(left <= right, f'bound: {left} > {right}')
+
+    def test_reject(self, box, place):
+        """No number is above the mean for the printed choice, and enough weight leads to lower ranks."""
+        (e, y, picks, ranks), corners, self.text.place = self.read_reject(), self.corners_in(box), place
+        for s, (pick, rank) in enumerate(zip(picks, ranks)):
+            need(rank > 0 or y[s] == self.one, f'goal state {s} value {y[s]}')
+            need(rank < NONE or y[s] == 0, f'unranked state {s} value {y[s]}')
+            if pick < NONE:
+                targets, shape = self.states[s][pick]
+                values, whole = [y[target] for target in targets], self.common * self.grid ** len(shape.parameters)
+                lower = [ranks[target] < rank for target in targets]
+                for corner, weights in enumerate(corners[shape]):
+                    mean, down = sum(map(mul, weights, values)), sum(map(mul, weights, lower))
+                    if y[s] * whole > mean:
+                        raise Fault(f'state {s} choice {pick} corner {corner}: {y[s] * whole} > {mean}')
+                    if down * 2 ** e < whole:
+                        raise Fault(f'state {s} choice {pick} corner {corner}: weight {down} times 2^{e} < {whole}')
+        left, right = y[self.init] * self.bound[1], self.bound[0] * self.one
+        need(left > right, f'bound: {left} <= {right}')
+
+    def read_values(self, key):
+        values = numbers(self.text.take(key), self.size)
+        need(min(values) >= 0 and max(values) <= self.one, 'Limit')
+        return values
+
+    def read_marks(self, key, ends):
+        words = self.text.take(key)
+        marks = numbers([word if word != b'-' else b'%d' % NONE for word in words], self.size)
+        need(all(0 <= mark < end or word == b'-' for mark, end, word in zip(marks, ends, words)), 'Limit')
+        return marks
+
+    def read_reject(self):
+        line, words = self.text.line, self.text.take(b'reject')
+        need(len(words) == 8 and words[::2] == [b'e', b'k', b'm', b'b'])
+        (e, k, m), (b, z) = numbers(words[1:6:2], 3), pair(words[7], b'/')
+        within(e, 0, 126), within(k, 1, 65536)
+        y, picks = self.read_values(b'y'), self.read_marks(b'choice', [len(rows) for rows in self.states])
+        ranks, self.text.place = self.read_marks(b'rank', [k + 1] * self.size), f'line {line}: '
+        need(m == e * k and b == y[self.init] and z == self.one)
+        for s, (pick, rank) in enumerate(zip(picks, ranks)):
+            need((rank == 0) == (s in self.goals) and (pick == NONE) == (rank in (0, NONE)))
+        return e, y, picks, ranks
+
+def check(text):
+    """How many leaves accept, reject and are unknown."""
+    report, nodes = Report(text), []
+    report.test_rows()
+    due = [(report.box, report.depth if report.live else 0)]  # rectangles whose nodes follow, the next one last
+    while due:
+        (box, levels), word, place = due.pop(), text.due()[0], f'node {len(nodes)} '
+        nodes.append(word)
+        if word == b'accept':
+            report.test_accept(box, place)
+        elif word == b'reject':
+            report.test_reject(box, place)
+        elif word == b'split':
+            axis, text.place = text.single(word, 0, report.parameters - 1), place
+            need(levels > 0, 'depth')
+            need(axis == max(report.live, key=lambda i: box[i][1] - box[i][0]), 'axis')
+            (low, high), lower, upper = box[axis], box[:], box[:]
+            lower[axis], upper[axis] = (low, (low + high) // 2), ((low + high) // 2, high)
+            due += [(upper, levels - 1), (lower, levels - 1)]
+        else:
+            need(text.take(b'unknown') == [])
+            text.place = place
+            need(levels == 0, 'depth')
+    text.place = ''
+    need(text.start == len(text.data), 'rest')
+    return tuple(map(nodes.count, [b'accept', b'reject', b'unknown']))
+
+def main():
+    text = Text(sys.stdin.buffer.read(MOST_BYTES + 1))
+    if len(text.data) > MOST_BYTES:
+        print('too long', file=sys.stderr)
+        sys.exit(7)
+    try:
+        print('sound accept %d reject %d unknown %d' % check(text))
+    except Fault as fault:
+        sys.exit(f'not sound: {text.place}{fault}')  # on standard error, with status 1
+
+if __name__ == '__main__':
+    main()

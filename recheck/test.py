@@ -1,0 +1,374 @@
+#!/usr/bin/env python3
+"""Tests of recheck.py:  python3 recheck/test.py [--bin PROGRAM] [--changes N] [REPORT ..]
+
+Examples, reports with changes whose answers were worked out by hand, every proper prefix of a report. With --bin the
+`check` of a built plift (crates/plift/out/plift) is asked the same, and about N reports with random changes (1000 if
+left out) of the examples and of the reports that are named; both have to say the same, byte for byte.
+"""
+import argparse, random, re, subprocess, sys
+from pathlib import Path
+
+HERE = Path(__file__).resolve().parent
+sys.dont_write_bytecode = True
+sys.path.insert(0, str(HERE))
+import recheck
+
+EXAMPLES = {path.stem.upper(): path.read_bytes() for path in sorted((HERE.parent / 'examples').glob('*.report'))}
+
+# A coin that falls on heads with probability p, which is from 1/10 to 2/5: not more often than 1/2.
+LOW = b'''plift 1;kind dtmc;parameters 1 p;common 1;states 3;init 0;goal 1 1;row 0 0 2;to 1 1:1;to 2 0:1 1:-1;row 1 0 1;
+to 1 0:1;row 2 0 1;to 2 0:1;bound 1/2;precision 4;depth 0;grid 10;box 1 4;accept 7 16 0;'''.replace(b'\n', b'').replace(b';', b'\n')
+
+# One that is tossed again where it doesn't fall on heads. No number bounds it from below where p may be 0.
+BACK = b'''plift 1;kind dtmc;parameters 1 p;common 1;states 2;init 0;goal 1 1;row 0 0 2;to 1 1:1;to 0 0:1 1:-1;row 1 0 1;
+to 1 0:1;bound 1/4;precision 4;depth 0;grid 2;box 0 1;reject e 1 k 1 m 1 b 16/16;y 16 16;choice 0 -;rank 1 0;''' \
+    .replace(b'\n', b'').replace(b';', b'\n')
+
+REPORTS = {'LOW': LOW, 'BACK': BACK, **EXAMPLES}
+
+# Each row: a report; changes, each a line's number and what stands there in its place (`;` between two lines, `-`
+# for none), with ` / ` between two; and what is said, of a report that isn't sound without `not sound: `.
+TABLE = '''
+APART | | sound accept 1 reject 0 unknown 0
+COIN | | sound accept 0 reject 1 unknown 0
+PLAIN | | sound accept 1 reject 0 unknown 0
+RETRY | | sound accept 1 reject 0 unknown 0
+RETRY-TREE | | sound accept 1 reject 2 unknown 3
+LOW | | sound accept 1 reject 0 unknown 0
+LOW | 20=accept 8 16 0 | sound accept 1 reject 0 unknown 0
+LOW | 20=accept 16 16 16 / 15=bound 1/1 | sound accept 1 reject 0 unknown 0
+LOW | 20=unknown | sound accept 0 reject 0 unknown 1
+LOW | 15=bound 0/1 / 20=unknown | sound accept 0 reject 0 unknown 1
+LOW | 17=depth 20 / 19=box 0 1048576 / 18=grid 1048576 / 20=accept 16 16 0 / 15=bound 1/1 | sound accept 1 reject 0 unknown 0
+
+LOW | 1=plift 2 | line 1: Version
+LOW | 1=plift -1 | line 1: Version
+LOW | 1=plift 01 | line 1: Syntax
+LOW | 1=plift 1 1 | line 1: Syntax
+LOW | 1=plift 2 2 | line 1: Syntax
+LOW | 1=plift | line 1: Syntax
+LOW | 1= plift 1 | line 1: Syntax
+LOW | 1=plift 1  | line 1: Syntax
+LOW | 1=Plift 1 | line 1: Syntax
+LOW | 2=kind ctmc | line 2: Syntax
+LOW | 2=kind | line 2: Syntax
+LOW | 2=kind dtmc mdp | line 2: Syntax
+LOW | 2=kind mdp | sound accept 1 reject 0 unknown 0
+LOW | 3=parameters | line 3: Syntax
+LOW | 3=parameters 2 p | line 3: Syntax
+LOW | 3=parameters 1 1p | line 3: Syntax
+LOW | 3=parameters 2 p p | line 3: Syntax
+LOW | 3=parameters 1 {65} | line 3: Limit
+LOW | 3=parameters 1 {64} | sound accept 1 reject 0 unknown 0
+LOW | 3=parameters 2 {65} {65} | line 3: Limit
+LOW | 3=parameters 3 p p {65} | line 3: Syntax
+LOW | 3=parameters 17 a b c d e f g h i j k l m n o p q | line 3: Limit
+LOW | 3=parameters 17 a a c d e f g h i j k l m n o p q | line 3: Limit
+LOW | 3=parameters 17 a a c d e f g h i j k l m n o p 9 | line 3: Syntax
+LOW | 4=common 0 | line 4: Limit
+LOW | 4=common -1 | line 4: Limit
+LOW | 4=common 4611686018427387904 | line 4: Limit
+LOW | 4=common 1 1 | line 4: Syntax
+LOW | 4=common 4611686018427387903 | state 0 choice 0: set 0 sums to 1
+LOW | 5=states 0 | line 5: Limit
+LOW | 5=states 65537 | line 5: Limit
+LOW | 5=states 4 | line 15: Syntax
+LOW | 5=states 2 | line 10: Limit
+LOW | 6=init 3 | line 6: Limit
+LOW | 6=init -1 | line 6: Limit
+LOW | 6=init -0 | line 6: Syntax
+LOW | 7=goal 0 | line 7: Syntax
+LOW | 7=goal | line 7: Syntax
+LOW | 7=goal 1 1 2 | line 7: Syntax
+LOW | 7=goal 2 1 1 | line 7: Syntax
+LOW | 7=goal 2 2 1 | line 7: Syntax
+LOW | 7=goal 1 3 | line 7: Limit
+LOW | 7=goal 1 -1 | line 7: Limit
+LOW | 7=goal 2 -1 -1 | line 7: Limit
+LOW | 7=goal 2 3 3 | line 7: Limit
+LOW | 7=goal 2 1 2 | node 0 goal state 2 value 0
+LOW | 8=row 1 0 2 | line 8: Syntax
+LOW | 8=row 0 1 2 | line 8: Syntax
+LOW | 8=row 0 0 -1 | line 8: Syntax
+LOW | 8=row 0 0 | line 8: Syntax
+LOW | 8=row 0 0 2 2 | line 8: Syntax
+LOW | 8=row 0 0 262145 | line 8: Limit
+LOW | 8=row 0 0 262144 | line 11: Syntax
+LOW | 11=row 1 0 262142 | line 13: Syntax
+LOW | 11=row 1 0 262143 | line 11: Limit
+LOW | 8=row 0 0 1 | line 10: Syntax
+LOW | 8=row 0 0 3 | line 11: Syntax
+LOW | 9=to 3 1:1 | line 9: Limit
+LOW | 9=to -1 1:1 | line 9: Limit
+LOW | 9=to | line 9: Syntax
+LOW | 9=to 1 1 | line 9: Syntax
+LOW | 9=to 1 1:1: | line 9: Syntax
+LOW | 9=to 1 1:0 | line 9: Syntax
+LOW | 9=to 1 2:1 | line 9: Limit
+LOW | 9=to 1 -1:1 | line 9: Limit
+LOW | 9=to 1 0:1 -1:1 | line 9: Syntax
+LOW | 9=to 1 0:1 0:1 | line 9: Syntax
+LOW | 9=to 1 0:1 0:0 | line 9: Syntax
+LOW | 9=to 1 1:1267650600228229401496703205376 | line 9: Limit
+LOW | 9=to 1 1:-1267650600228229401496703205376 | line 9: Limit
+LOW | 9=to 1 2:1 0:1 | line 9: Limit
+LOW | 9=to 3 0:0 1:1 2:1 3:1 4:1 5:1 6:1 7:1 8:1 9:1 10:1 11:1 12:1 13:1 14:1 15:1 16:1 | line 9: Syntax
+LOW | 9=to 3 0:0 1:1 2:1 3:1 4:1 5:1 6:1 7:1 8:1 9:1 10:1 11:1 12:1 13:1 14:1 15:1 | line 9: Limit
+LOW | 10=to 1 0:1 1:-1 | line 10: Syntax
+LOW | 10=to 1 3:1 | line 10: Syntax
+LOW | 10=to 2 1:-1 0:1 | line 10: Syntax
+LOW | 10=to 2 0:1 1:-1;row 0 1 1;to 2 0:1 | line 11: Syntax
+LOW | 2=kind mdp / 10=to 2 0:1 1:-1;row 0 1 1;to 2 0:1 | sound accept 1 reject 0 unknown 0
+LOW | 2=kind mdp / 10=to 2 0:1 1:-1;row 0 2 1;to 2 0:1 | line 11: Syntax
+LOW | 2=kind mdp / 10=to 2 0:1 1:-1;row 0 1 1;to 1 0:1 | node 0 state 0 choice 1 corner 0: 16 > 7
+LOW | 3=parameters 5 a b c d e / 19=box 1 4 1 4 1 4 1 4 1 4 / 9=to 1 1:1 2:1 4:1 8:1 16:1 | line 9: Limit
+LOW | 3=parameters 5 a b c d e / 19=box 1 4 1 4 1 4 1 4 1 4 / 8=row 0 0 3;to 1 1:1 2:1 8:1 / 9=to 2 4:1 8:-1 16:1 / 10=to 0 0:1 1:-1 2:-1 4:-1 16:-1 | state 0 choice 0: 5 parameters
+LOW | 15=bound 2/4 | line 15: Syntax
+LOW | 15=bound 0/2 | line 15: Syntax
+LOW | 15=bound 1/2/3 | line 15: Syntax
+LOW | 15=bound 1 /2 | line 15: Syntax
+LOW | 15=bound 1 | line 15: Syntax
+LOW | 15=bound 1/0 | line 15: Limit
+LOW | 15=bound 1/-2 | line 15: Limit
+LOW | 15=bound -1/2 | line 15: Limit
+LOW | 15=bound -1/0 | line 15: Limit
+LOW | 15=bound 3/2 | line 15: Limit
+LOW | 15=bound 1/4294967296 | line 15: Limit
+LOW | 15=bound 2/4294967296 | line 15: Syntax
+LOW | 15=bound 4294967296/4294967296 | line 15: Limit
+LOW | 15=bound 1/4294967295 | node 0 bound: 30064771065 > 16
+LOW | 16=precision 0 | line 16: Limit
+LOW | 16=precision 41 | line 16: Limit
+LOW | 16=precision 5 | node 0 goal state 1 value 16
+LOW | 17=depth 21 | line 17: Limit
+LOW | 17=depth -1 | line 17: Limit
+LOW | 17=depth 1 | line 19: Syntax
+LOW | 15=bound 0/1 / 17=depth 2 / 19=box 0 4 | node 0 bound: 7 > 0
+LOW | 18=grid 0 | line 18: Limit
+LOW | 18=grid 4611686018427387904 | line 18: Limit
+LOW | 19=box 4 4 | line 19: Syntax
+LOW | 19=box 4 1 | line 19: Syntax
+LOW | 19=box 1 | line 19: Syntax
+LOW | 19=box 1 4 1 4 | line 19: Syntax
+LOW | 19=box 1 4611686018427387904 | line 19: Limit
+LOW | 19=box -4611686018427387904 1 | line 19: Limit
+LOW | 17=depth 1 / 19=box -4611686018427387904 1 | line 19: Limit
+LOW | 17=depth 1 / 19=box 1 4611686018427387904 | line 19: Syntax
+LOW | 20=accept 7 16 | line 20: Syntax
+LOW | 20=accept 7 16 0 0 | line 20: Syntax
+LOW | 20=accept 07 16 0 | line 20: Syntax
+LOW | 20=accept +7 16 0 | line 20: Syntax
+LOW | 20=accept 7  16 0 | line 20: Syntax
+LOW | 20=accept 7 17 0 | line 20: Limit
+LOW | 20=accept 7 16 -1 | line 20: Limit
+LOW | 20=accept 7 17 x | line 20: Syntax
+LOW | 20=unknown 1 | line 20: Syntax
+LOW | 20=- | line 20: Truncated
+LOW | 20=split | line 20: Syntax
+LOW | 20=split 1 | line 20: Limit
+LOW | 20=accept{1048571} | line 20: Limit
+LOW | 20=accept{1048570} | line 20: Syntax
+LOW | 20=accept {1048570} | line 20: Limit
+
+LOW | 10=to 2 0:1 1:-2 | state 0 choice 0: set 1 sums to -1
+LOW | 10=to 2 0:2 1:-2 | state 0 choice 0: set 0 sums to 2
+LOW | 12=to 1 | state 1 choice 0: set 0 sums to 0
+LOW | 12=to 1 1:1 | state 1 choice 0: set 0 sums to 0
+LOW | 19=box 1 12 | state 0 choice 0: target 2 at corner 1 has weight -2
+LOW | 19=box -1 12 | state 0 choice 0: target 1 at corner 0 has weight -1
+LOW | 16=precision 40 / 9=to 1 1:1237940039285380274899124224 / 10=to 2 0:1 1:-1237940039285380274899124224 | state 0 choice 0: too wide
+LOW | 10=to 2 0:1 1:-2 / 20=accept 07 16 0 | state 0 choice 0: set 1 sums to -1
+LOW | 10=to 2 0:1 1:-2 / 19=box 4 4 | line 19: Syntax
+
+LOW | 20=accept 6 16 0 | node 0 state 0 choice 0 corner 1: 64 > 60
+LOW | 20=accept 0 16 0 | node 0 state 0 choice 0 corner 0: 16 > 0
+LOW | 20=accept 7 15 0 | node 0 goal state 1 value 15
+LOW | 20=accept 0 15 0 | node 0 state 0 choice 0 corner 0: 15 > 0
+LOW | 20=accept 9 16 0 | node 0 bound: 18 > 16
+LOW | 20=accept 7 16 0;x | rest
+LOW | 20=accept 7 16 0;- | rest
+LOW | 20=split 0 | node 0 depth
+LOW | 17=depth 1 / 19=box 2 4 / 20=unknown | node 0 depth
+LOW | 17=depth 1 / 19=box 2 4 / 20=split 0;accept 5 16 0;accept 7 16 0 | sound accept 2 reject 0 unknown 0
+LOW | 17=depth 1 / 19=box 2 4 / 20=split 0;accept 4 16 0;accept 7 16 0 | node 1 state 0 choice 0 corner 1: 48 > 40
+LOW | 17=depth 1 / 19=box 2 4 / 20=split 0;accept 5 16 0;accept 6 16 0 | node 2 state 0 choice 0 corner 1: 64 > 60
+LOW | 17=depth 1 / 19=box 2 4 / 20=split 0;accept 5 16 0;split 0 | node 2 depth
+LOW | 17=depth 1 / 19=box 2 4 / 20=split 0;accept 5 16 0 | line 22: Truncated
+LOW | 17=depth 1 / 19=box 2 4 / 20=split 0;accept 5 16 0;unknown;unknown | rest
+LOW | 3=parameters 2 p q / 17=depth 1 / 19=box 2 4 0 10 / 20=split 1 | node 0 axis
+LOW | 3=parameters 2 p q / 17=depth 1 / 19=box 2 4 0 10 / 20=split 0;unknown;unknown | sound accept 0 reject 0 unknown 2
+PLAIN | 17=depth 5 / 18=grid 32 / 20=unknown | sound accept 0 reject 0 unknown 1
+PLAIN | 20=split 0 | line 20: Limit
+
+COIN | 20=reject e 1 k 1 m 2 b 9/16 | line 20: Syntax
+COIN | 20=reject e 1 k 1 m 1 b 9/15 | line 20: Syntax
+COIN | 20=reject e 1 k 1 m 1 b 8/16 | line 20: Syntax
+COIN | 20=reject e 127 k 1 m 127 b 9/16 | line 20: Limit
+COIN | 20=reject e -1 k 1 m -1 b 9/16 | line 20: Limit
+COIN | 20=reject e 1 k 0 m 0 b 9/16 | line 20: Limit
+COIN | 20=reject e 1 k 65537 m 65537 b 9/16 | line 20: Limit
+COIN | 20=reject e 127 k 1 m 127 b 9 | line 20: Syntax
+COIN | 20=reject k 1 e 1 m 1 b 9/16 | line 20: Syntax
+COIN | 20=reject e 1 k 1 m 1 b 9/16 0 | line 20: Syntax
+COIN | 20=reject e 2 k 1 m 2 b 9/16 | sound accept 0 reject 1 unknown 0
+COIN | 20=reject e 126 k 1 m 126 b 9/16 | sound accept 0 reject 1 unknown 0
+COIN | 20=reject e 1 k 65536 m 65536 b 9/16 | sound accept 0 reject 1 unknown 0
+COIN | 20=reject e 1 k 65536 m 65536 b 9/16 / 23=rank 65536 0 - | sound accept 0 reject 1 unknown 0
+COIN | 20=reject e 0 k 1 m 0 b 9/16 | node 0 state 0 choice 0 corner 0: weight 6 times 2^0 < 10
+COIN | 20=reject e 1 k 1 m 1 b 8/16 / 21=y 8 16 0 | node 0 bound: 16 <= 16
+COIN | 20=reject e 1 k 1 m 1 b 10/16 / 21=y 10 16 0 | node 0 state 0 choice 0 corner 0: 100 > 96
+COIN | 21=y 9 17 0 | line 21: Limit
+COIN | 21=y 9 16 | line 21: Syntax
+COIN | 21=y 9 14 0 | node 0 state 0 choice 0 corner 0: 90 > 84
+COIN | 21=y 9 15 0 | node 0 goal state 1 value 15
+COIN | 21=y 9 16 1 | node 0 unranked state 2 value 1
+COIN | 21=x 9 16 0 | line 21: Syntax
+COIN | 22=choice 1 - - | line 22: Limit
+COIN | 22=choice -1 - - | line 22: Limit
+COIN | 22=choice 0 - | line 22: Syntax
+COIN | 22=choice 0 - x | line 22: Syntax
+COIN | 22=choice - - - | line 20: Syntax
+COIN | 22=choice 0 0 - | line 20: Syntax
+COIN | 22=choice 0 - 0 | line 20: Syntax
+COIN | 22=choice 4294967295 - - | line 22: Limit
+COIN | 22=choice 4294967296 - - | line 22: Limit
+COIN | 23=rank 2 0 - | line 23: Limit
+COIN | 23=rank 1 1 - | line 20: Syntax
+COIN | 23=rank 1 - - | line 20: Syntax
+COIN | 23=rank 1 0 0 | line 20: Syntax
+COIN | 23=rank 0 0 - | line 20: Syntax
+COIN | 23=rank - 0 - | line 20: Syntax
+COIN | 23=rank 1 0 4294967296 | line 23: Limit
+COIN | 22=choice - - - / 23=rank - 0 - | node 0 unranked state 0 value 9
+COIN | 22=choice 0 - 0 / 23=rank 1 0 1 | node 0 state 2 choice 0 corner 0: weight 0 times 2^1 < 1
+COIN | 15=bound 3/4 | node 0 bound: 36 <= 48
+COIN | 23=rank 1 0 -;unknown | rest
+BACK | | node 0 state 0 choice 0 corner 0: weight 0 times 2^1 < 2
+BACK | 17=box 1 2 | sound accept 0 reject 1 unknown 0
+
+RETRY-TREE | 39=accept 8 41 205 0 1024 | node 4 state 0 choice 0 corner 1: 1312 > 1280
+RETRY-TREE | 39=accept 9 41 204 0 1024 | node 4 state 2 choice 0 corner 1: 32768 > 32640
+RETRY-TREE | 39=accept 26 41 205 0 1024 | node 4 bound: 1040 > 1024
+RETRY-TREE | 40=split 0 | node 5 depth
+RETRY-TREE | 41=unknown | node 6 depth
+RETRY-TREE | 36=split 0 | node 1 axis
+RETRY-TREE | 38=split 0 | node 3 axis
+RETRY-TREE | 36=split 2 | line 36: Limit
+RETRY-TREE | 47=rank 3 2 3 - 0 | node 9 state 1 choice 1 corner 0: weight 0 times 2^2 < 160
+RETRY-TREE | 45=y 27 93 307 0 1024 | node 9 state 1 choice 1 corner 0: 14880 > 14736
+RETRY-TREE | 46=choice 0 1 1 - - | node 9 state 0 choice 0 corner 0: 4320 > 1472
+RETRY-TREE | 30=bound 1/30 | node 9 bound: 810 <= 1024
+RETRY-TREE | 34=box 16 80 16 79 | line 34: Syntax
+RETRY-TREE | 34=box 16 80 16 64 | node 9 state 0 choice 1 corner 0: 4320 > 3680
+RETRY-TREE | 48=- | line 48: Syntax
+RETRY-TREE | 51=rank 3 2 1 - 0;unknown | rest
+'''
+
+
+def changed(report, changes):
+    """A report's text with changes, as a row tells them."""
+    lines = REPORTS[report].decode().splitlines()
+    for change in filter(None, changes.split(' / ')):
+        number, line = change.split('=', 1)
+        lines[int(number) - 1] = None if line == '-' else line.replace(';', '\n')
+    text = ''.join(line + '\n' for line in lines if line is not None)
+    while '{' in text:  # a word of so many letters
+        size = text[text.index('{') + 1:text.index('}')]
+        text = text.replace('{' + size + '}', 'a' * int(size))
+    return text.encode()
+
+
+def answer(said):
+    """Status, standard output and standard error of a check that says this."""
+    if said.startswith('sound '):
+        return 0, said.encode() + b'\n', b''
+    return 1, b'', b'not sound: ' + said.encode() + b'\n'
+
+
+def asked(command, text):
+    done = subprocess.run(command, input=text, capture_output=True)
+    return done.returncode, done.stdout, done.stderr
+
+
+def rechecked(text):
+    """What recheck.py answers, without starting it."""
+    text = recheck.Text(text)
+    try:
+        return answer('sound accept %d reject %d unknown %d' % recheck.check(text))
+    except recheck.Fault as fault:
+        return answer(f'{text.place}{fault}')
+
+
+def mutant(text, dice):
+    """A text with a few changes: of a byte, of a line, of a number, or of a rejecting leaf's first numbers."""
+    for _ in range(dice.choice([1, 1, 1, 2, 3])):
+        kind = dice.choice(['byte', 'line', 'number', 'number', 'number', 'leaf', 'leaf'])
+        if kind == 'byte' and text:
+            at = dice.randrange(len(text))
+            new = bytes([dice.choice(b'0123456789 -/:\nax\xff\0')])
+            text = text[:at] + dice.choice([new, new + text[at:at + 1], b'']) + text[at + 1:]
+        elif kind == 'line':
+            lines = text.split(b'\n')
+            at = dice.randrange(len(lines))
+            lines[at:at + 1] = dice.choice([[], [lines[at]] * 2, [dice.choice(lines)], [b'unknown'], [b'split 0']])
+            text = b'\n'.join(lines)
+        elif kind == 'number':
+            found = list(re.finditer(rb'-?[0-9]+', text))
+            at = dice.choice(found).span() if found else (0, 0)
+            number = int(text[slice(*at)] or 0) + dice.choice([-100, -2, -1, 1, 1, 2, 16])
+            text = text[:at[0]] + b'%d' % number + text[at[1]:]
+        else:  # kept consistent
+            found = list(re.finditer(rb'reject e ([0-9]+) k ([0-9]+) m [0-9]+ b ([0-9]+)/([0-9]+)\ny ([0-9]+)', text))
+            if found:
+                leaf = dice.choice(found)
+                e, k, y = [max(0, int(leaf[i]) + dice.choice([-1, 0, 0, 1])) for i in (1, 2, 3)]
+                new = b'reject e %d k %d m %d b %d/%s\ny %d' % (e, k, e * k, y, leaf[4], y)
+                text = text[:leaf.start()] + new + text[leaf.end():]
+    return text
+
+
+def main():
+    args = argparse.ArgumentParser()
+    args.add_argument('--bin')
+    args.add_argument('--changes', type=int, default=1000)
+    args.add_argument('reports', nargs='*')
+    args = args.parse_args()
+    wrong, count = 0, 0
+
+    def compare(name, text, want=None, started=False):
+        nonlocal wrong, count
+        said = [asked([sys.executable, str(HERE / 'recheck.py')], text) if started else rechecked(text)]
+        said += [asked([args.bin, 'check'], text)] if args.bin else []
+        count += 1
+        if any(got != (want or said[0]) for got in said):
+            wrong += 1
+            print(f'{name}: {said}' + (f', and not {want}' if want else ''))
+
+    for row in filter(None, TABLE.split('\n')):
+        report, changes, said = [cell.strip(' ') if i != 1 else cell[1:-1] for i, cell in enumerate(row.split('|'))]
+        compare(row[:100], changed(report, changes), answer(said), started=not changes)
+    print(f'{count} reports of the table')
+    for size in range(len(EXAMPLES['COIN'])):
+        text = EXAMPLES['COIN'][:size]
+        line = text.count(b'\n') + 1
+        compare(f'{size} bytes', text, answer(f'line {line}: Truncated'))
+    compare('too long', b'\n' * (2 ** 26 + 1), (7, b'', b'too long\n'), started=True)
+    print(f'{count} with prefixes of a report')
+    if args.bin:
+        dice = random.Random(1)
+        texts = list(REPORTS.values()) + [Path(path).read_bytes() for path in args.reports]
+        for path in args.reports:
+            compare(path, Path(path).read_bytes())
+        for number in range(args.changes):
+            text = mutant(dice.choice(texts), dice)
+            before = wrong
+            compare(f'change {number}', text)
+            if wrong > before:
+                Path(f'/tmp/recheck-{number}.report').write_bytes(text)
+        print(f'{count} with random changes')
+    print(f'{wrong} wrong')
+    return wrong > 0
+
+
+if __name__ == '__main__':
+    sys.exit(main())
