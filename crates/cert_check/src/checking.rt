@@ -18,8 +18,9 @@ const FILE_LIMIT: usize = 1 << 26;
 /// preorder, of which each is read before its depth is tested, and then its axis or its certificate;
 /// and last, that something follows. After a fault of the source some bytes may be lost.
 ///
-/// It reads the file into memory, at most 2^26 bytes, and keeps beside it the head, a node and a
-/// rectangle for each level. Its time is linear in the file, but for the corners of rows.
+/// It reads the file into memory, at most 2^26 bytes, and keeps beside it the head, a node, a rectangle
+/// for each level, and the weights of the head's rows at their corners. Its time is linear in the file,
+/// but for the corners of rows.
 pub fn check<S: Source>(alloc: Global, src: &mut S) -> Result<Summary, CheckError>
     ensures answer { ChecksSource S.left S.faults src.old src.new result }
     ensures limit { KeepsLimit result (S.left src.old) (S.left src.new) }

@@ -10,6 +10,7 @@ use crate::laws::rectangles_are_placed;
 use crate::nodes::check_tree;
 use crate::summary::Summary;
 use cert_text::{Head, Place, read_head};
+use lift_model::Links;
 use lift_rows::admit;
 use std::alloc::Global;
 
@@ -37,6 +38,8 @@ fn check_head(alloc: Global, text: &[u8], head: &Head, place: Place) -> Result<S
     rectangles_are_placed();
     let _ = head.w();
     let case = admit(head.model(), head.root(), head.grid(), head.w())?;
+    let links = Links::build(alloc, case.model())?;
+    let mut weights = vec![in alloc; 0i128; links.weights_len()]?;
     let mut sides = Vec::from_slice(alloc, head.root().sides())?;
     let levels = case.greatest_depth();
     let came = check_tree(
@@ -44,6 +47,8 @@ fn check_head(alloc: Global, text: &[u8], head: &Head, place: Place) -> Result<S
         text,
         head,
         &case,
+        &links,
+        &mut weights,
         levels,
         &mut sides,
         Came::start(place),

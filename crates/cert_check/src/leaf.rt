@@ -1,9 +1,10 @@
 // Tests of a single node.
-ghost use Rattle.std.specs.Prelude.{◌≡◌, ◌↔◌, ◌<◌, ℕ, IsTrue, IsOk, IfErr, MatchResult};
-ghost use Rattle.lift_grid.specs.Rectangle.{spans_of};
+ghost use Rattle.std.specs.Prelude.{◌≡◌, ◌↔◌, ◌<◌, ℕ, length, IsTrue, IsOk, IfErr, MatchResult};
+ghost use Rattle.lift_grid.specs.Rectangle.{Spans, spans_of};
 ghost use Rattle.lift_grid.specs.Splitting.{IsSplitAxis};
 ghost use Rattle.lift_grid.specs.Tree.{RejectData};
 ghost use Rattle.lift_model.specs.Model.{live};
+ghost use Rattle.lift_model.specs.Links.{AreLinks};
 ghost use Rattle.corner_lift.specs.Case.{AreSidesInside};
 ghost use Rattle.corner_lift.specs.Certificate.{AreNumbers};
 ghost use Rattle.lift_cert.specs.Certificate.{IsAccepting, IsRejecting};
@@ -12,18 +13,45 @@ ghost use Rattle.lift_cert.specs.RejectMiss.{HasRejectForm, IsFirstRejectMiss};
 ghost use Rattle.cert_check.specs.Shown.{IsSplitTold, IsToldOfFile, Misses};
 
 use crate::error::CheckError;
-use corner_lift::{Case, live_parameters_have_spans};
-use lift_cert::{Bound, meets_accept, meets_reject};
+use corner_lift::{Case, fill, live_parameters_have_spans};
+use lift_cert::{Bound, is_accepting, is_rejecting, meets_accept, meets_reject};
 use lift_grid::split_axis;
+use lift_model::Links;
 
-/// Tests the certificate of an accepting leaf.
-pub(crate) fn test_accept(
+/// Whether `x` is an accepting certificate of the rectangle with these sides. What the weights were is
+/// lost.
+fn accepts(
     case: &Case,
+    links: &Links,
     bound: Bound,
     sides: &[i64],
+    weights: &mut [i128],
+    x: &[i64],
+) -> bool
+    ghost spans: { Spans }
+    requires spans { spans ≡ spans_of sides.now }
+    requires links { AreLinks case.now.model links.now }
+    requires weights { length weights.old ≡ links.now.weights }
+    requires sides { AreSidesInside case.now.root sides.now }
+    requires numbers { AreNumbers case.now x.now }
+    ensures { IsTrue result ↔ IsAccepting case.now spans bound x.now }
+{
+    fill(case, links, sides, weights);
+    is_accepting(case, links, weights, bound, x)
+}
+
+/// Tests the certificate of an accepting leaf. What the weights were is lost.
+pub(crate) fn test_accept(
+    case: &Case,
+    links: &Links,
+    bound: Bound,
+    sides: &[i64],
+    weights: &mut [i128],
     node: u32,
     x: &[i64],
 ) -> Result<(), CheckError>
+    requires links { AreLinks case.now.model links.now }
+    requires weights { length weights.old ≡ links.now.weights }
     requires sides { AreSidesInside case.now.root sides.now }
     requires numbers { AreNumbers case.now x.now }
     ensures test { MatchResult result
@@ -31,17 +59,50 @@ pub(crate) fn test_accept(
         (Misses node (IsFirstAcceptMiss case.now (spans_of sides.now) bound x.now)) }
     ensures told { IfErr result IsToldOfFile }
 {
+    if accepts(case, links, bound, sides, weights, x) {
+        return Ok(());
+    }
     match meets_accept(case, sides, bound, x) {
         Ok(()) => Ok(()),
         Err(miss) => Err(CheckError::Missed { node, miss }),
     }
 }
 
-/// Tests the certificate of a rejecting leaf.
-pub(crate) fn test_reject(
+/// Whether the numbers `y` with these picks, ranks, `e` and `k` are a rejecting certificate of the
+/// rectangle with these sides. What the weights were is lost.
+fn rejects(
     case: &Case,
+    links: &Links,
     bound: Bound,
     sides: &[i64],
+    weights: &mut [i128],
+    y: &[i64],
+    picks: &[u32],
+    ranks: &[u32],
+    e: u32,
+    k: u32,
+) -> bool
+    ghost spans: { Spans }
+    requires spans { spans ≡ spans_of sides.now }
+    requires links { AreLinks case.now.model links.now }
+    requires weights { length weights.old ≡ links.now.weights }
+    requires sides { AreSidesInside case.now.root sides.now }
+    requires form { HasRejectForm case.now
+        (record { numbers = y.now; picks = picks.now; ranks = ranks.now; e = e; k = k }) }
+    ensures { IsTrue result ↔ IsRejecting case.now spans bound
+        (record { numbers = y.now; picks = picks.now; ranks = ranks.now; e = e; k = k }) }
+{
+    fill(case, links, sides, weights);
+    is_rejecting(case, links, weights, bound, y, picks, ranks, e, k)
+}
+
+/// Tests the certificate of a rejecting leaf. What the weights were is lost.
+pub(crate) fn test_reject(
+    case: &Case,
+    links: &Links,
+    bound: Bound,
+    sides: &[i64],
+    weights: &mut [i128],
     node: u32,
     y: &[i64],
     picks: &[u32],
@@ -49,6 +110,8 @@ pub(crate) fn test_reject(
     e: u32,
     k: u32,
 ) -> Result<(), CheckError>
+    requires links { AreLinks case.now.model links.now }
+    requires weights { length weights.old ≡ links.now.weights }
     requires sides { AreSidesInside case.now.root sides.now }
     requires form { HasRejectForm case.now
         (record { numbers = y.now; picks = picks.now; ranks = ranks.now; e = e; k = k }) }
@@ -58,6 +121,9 @@ pub(crate) fn test_reject(
         (Misses node (IsFirstRejectMiss case.now (spans_of sides.now) bound r)) }
     ensures told { IfErr result IsToldOfFile }
 {
+    if rejects(case, links, bound, sides, weights, y, picks, ranks, e, k) {
+        return Ok(());
+    }
     match meets_reject(case, sides, bound, y, picks, ranks, e, k) {
         Ok(()) => Ok(()),
         Err(miss) => Err(CheckError::Missed { node, miss }),

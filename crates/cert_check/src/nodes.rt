@@ -3,6 +3,7 @@ ghost use Rattle.std.specs.Prelude.{◌≡◌, ◌<◌, ◌≤◌, ◌^◌, ℕ,
 ghost use Rattle.lift_grid.specs.Rectangle.{sides_of, spans_of};
 ghost use Rattle.lift_grid.specs.Splitting.{IsHalvable};
 ghost use Rattle.lift_grid.specs.Tree.{lower_half};
+ghost use Rattle.lift_model.specs.Links.{AreLinks};
 ghost use Rattle.corner_lift.specs.Case.{IsCase};
 ghost use Rattle.cert_check.specs.Answer.{TreeEnds};
 ghost use Rattle.cert_check.specs.Source.{file_limit};
@@ -15,6 +16,7 @@ use crate::leaf::{test_accept, test_reject, test_split, test_unknown};
 use cert_text::{Head, Node, nodes_are_read, read_node};
 use corner_lift::Case;
 use lift_grid::narrow;
+use lift_model::Links;
 use std::alloc::{AllocError, Global};
 
 /// A copy of the lower half.
@@ -30,18 +32,23 @@ fn lower_half(alloc: Global, sides: &[i64], axis: u32) -> Result<Vec<i64>, Alloc
 }
 
 /// Checks the nodes of the rectangle with these sides, which may be halved `levels` times, and gives
-/// where they end. On the way down it keeps a rectangle for each level. The sides are free afterwards.
+/// where they end. On the way down it keeps a rectangle for each level. The sides and the weights are free
+/// afterwards.
 pub(crate) fn check_tree(
     alloc: Global,
     text: &[u8],
     head: &Head,
     case: &Case,
+    links: &Links,
+    weights: &mut [i128],
     levels: u32,
     sides: &mut [i64],
     came: Came,
 ) -> Result<Came, CheckError>
     requires text { length text.now ≤ file_limit }
     requires asked { case.now ≡ head.now.asked }
+    requires links { AreLinks case.now.model links.now }
+    requires weights { length weights.old ≡ links.now.weights }
     requires placed { IsPlaced case.now levels (spans_of sides.old) }
     requires paired { sides_of (spans_of sides.old) ≡ sides.old }
     requires came { IsIn text.now came }
@@ -60,12 +67,40 @@ pub(crate) fn check_tree(
             test_split(case, levels, sides, came.node, axis)?;
             let mut lower = lower_half(alloc, sides, axis)?;
             let behind = came.behind(place, came.leaves);
-            let between = check_tree(alloc, text, head, case, levels - 1, &mut lower, behind)?;
+            let between = check_tree(
+                alloc,
+                text,
+                head,
+                case,
+                links,
+                weights,
+                levels - 1,
+                &mut lower,
+                behind,
+            )?;
             narrow(sides, axis, false);
-            check_tree(alloc, text, head, case, levels - 1, sides, between)
+            check_tree(
+                alloc,
+                text,
+                head,
+                case,
+                links,
+                weights,
+                levels - 1,
+                sides,
+                between,
+            )
         }
         Node::Accept { x } => {
-            test_accept(case, head.bound(), sides, came.node, x.as_slice())?;
+            test_accept(
+                case,
+                links,
+                head.bound(),
+                sides,
+                weights,
+                came.node,
+                x.as_slice(),
+            )?;
             Ok(came.behind(place, came.leaves.one_accept()))
         }
         Node::Reject {
@@ -77,8 +112,10 @@ pub(crate) fn check_tree(
         } => {
             test_reject(
                 case,
+                links,
                 head.bound(),
                 sides,
+                weights,
                 came.node,
                 y.as_slice(),
                 picks.as_slice(),

@@ -22,6 +22,7 @@ mod Refusals
 mod MarkLoops
 mod NameLoop
 mod EntryLoop
+mod LineLoops
 mod EntryTerms
 mod BoxLoop
 mod Places

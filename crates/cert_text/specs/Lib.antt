@@ -9,3 +9,4 @@ pub mod Shown
 pub mod Leaf
 pub mod Rows
 pub mod HeadParts
+pub mod Left

@@ -1,71 +1,83 @@
 // Marks of states: picks and ranks.
-ghost use Rattle.std.specs.Prelude.{◌≡◌, ◌≤◌, ◌^◌, length, map, IfOk};
-ghost use Rattle.line_text.specs.Parts.{each};
-ghost use Rattle.cert_text.specs.Lines.{mark_of, mark_in, marks_in, marks_of};
+ghost use Rattle.std.specs.Prelude.{◌≡◌, ◌≤◌, ◌<◌, ◌^◌, length, map, slice_index_or, IfOk};
+ghost use Rattle.cert_text.specs.Lines.{mark_of, marks_of};
 ghost use Rattle.cert_text.specs.Nodes.{fits_state, fit_states};
-ghost use Rattle.line_text.specs.Shown.{Says};
+ghost use Rattle.cert_text.specs.Left.{in_marks, marks_by};
+ghost use Rattle.line_text.specs.Shown.{Says, first_of};
 
 use lift_model::Model;
-use line_text::{Decimal, TextCause, Words, between};
+use line_text::{Decimal, TextCause, Words};
 use std::alloc::{AllocError, Global};
 
-/// A mark: `-` for none, or a number.
-fn mark_of(word: &[u8]) -> Option<Option<Decimal>>
-    ensures { result ≡ mark_of word.now }
+/// The mark that the first word writes, `-` for none or a number, and those behind it.
+fn mark_first<'t>(words: &Words<'t>) -> Option<(Option<Decimal<'t>>, Words<'t>)>
+    ensures { result ≡ first_of mark_of words.now }
 {
+    if let Some((number, rest)) = words.number() {
+        return Some((Some(number), rest));
+    }
+    let Ok((word, rest)) = words.first() else {
+        return None;
+    };
     if word == b"-".as_slice() {
-        return Some(None);
+        return Some((None, rest));
     }
-    let number = Decimal::read(word)?;
-    Some(Some(number))
-}
-
-/// The marks that words write.
-fn marks<'t>(alloc: Global, words: Words<'t>) -> Result<Vec<Option<Decimal<'t>>>, TextCause>
-    ensures { Says (λ v. v.items) result (each mark_of words.entry) }
-{
-    let mut marks = Vec::new(alloc);
-    let mut rest = words;
-    while !rest.is_empty() {
-        let Ok((word, behind)) = rest.first() else {
-            return Err(TextCause::Syntax);
-        };
-        let Some(mark) = mark_of(word) else {
-            return Err(TextCause::Syntax);
-        };
-        marks.push(mark)?;
-        rest = behind;
-    }
-    Ok(marks)
+    None
 }
 
 /// The mark, if it is none or below its end.
-fn mark_in(mark: &Option<Decimal>, end: u32) -> Result<u32, TextCause>
-    ensures { Says (λ n. n) result (mark_in end mark.now) }
+fn mark_in(mark: &Option<Decimal>, end: u32) -> Option<u32>
+    ensures { result ≡ in_marks end mark.now }
 {
     match mark {
-        None => Ok(u32::MAX),
-        Some(number) => match between(number, 0, u64::from(end)) {
-            Ok(n) => Ok(n as u32),
-            Err(cause) => Err(cause),
+        None => Some(u32::MAX),
+        Some(number) => match number.narrow() {
+            Some(n) if 0 <= n && n < i128::from(end) => Some(n as u32),
+            _ => None,
         },
     }
 }
 
-/// The marks, if each is none or below its end.
-fn marks_in(alloc: Global, ends: &[u32], marks: &[Option<Decimal>]) -> Result<Vec<u32>, TextCause>
-    requires { length marks.now ≡ length ends.now }
-    ensures value { Says (λ v. v.items) result (marks_in ends.now marks.now) }
+/// The mark, if there is an end for it and it is none or below that.
+fn mark_at(mark: &Option<Decimal>, ends: &[u32], i: usize) -> Option<u32>
+    ensures { i < length ends.now → result ≡ in_marks (slice_index_or ends.now i 0) mark.now }
+{
+    if i < ends.len() {
+        mark_in(mark, ends[i])
+    } else {
+        None
+    }
+}
+
+/// The marks that words write, if there is one for each of the ends, and each is none or below its end.
+/// The form of all of them is told first.
+fn marks<'t>(alloc: Global, words: Words<'t>, ends: &[u32]) -> Result<Vec<u32>, TextCause>
+    ensures value { Says (λ v. v.items) result (marks_by ends.now words.entry) }
     ensures size { IfOk result (λ v. length v.items ≡ length ends.now) }
 {
-    let mut kept = Vec::new(alloc);
-    for i in 0..ends.len() {
-        match mark_in(&marks[i], ends[i]) {
-            Ok(mark) => kept.push(mark)?,
-            Err(cause) => return Err(cause),
+    let mut marks = Vec::with_capacity(alloc, ends.len())?;
+    let mut fit = true;
+    let mut rest = words;
+    while !rest.is_empty() {
+        let Some((mark, behind)) = mark_first(&rest) else {
+            return Err(TextCause::Syntax);
+        };
+        match mark_at(&mark, ends, marks.len()) {
+            Some(n) => marks.push(n)?,
+            None => {
+                marks.push(0)?;
+                fit = false;
+            }
         }
+        rest = behind;
     }
-    Ok(kept)
+    if marks.len() != ends.len() {
+        return Err(TextCause::Syntax);
+    }
+    if !fit {
+        return Err(TextCause::Limit);
+    }
+    Ok(marks)
 }
 
 /// A mark for each of the ends behind a word.
@@ -79,11 +91,7 @@ pub(crate) fn marks_of(
     ensures size { IfOk result (λ v. length v.items ≡ length ends.now) }
 {
     let rest = words.keyed(key)?;
-    let marks = marks(alloc, rest)?;
-    if marks.len() != ends.len() {
-        return Err(TextCause::Syntax);
-    }
-    marks_in(alloc, ends, &marks)
+    marks(alloc, rest, ends)
 }
 
 /// How many choices each state has.

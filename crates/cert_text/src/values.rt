@@ -1,11 +1,12 @@
 // Numbers of a leaf.
-ghost use Rattle.std.specs.Prelude.{◌≡◌, ◌≤◌, length, IfOk};
-ghost use Rattle.cert_text.specs.Lines.{values_in, values_of};
+ghost use Rattle.std.specs.Prelude.{◌≡◌, ◌≤◌, [], true, length, IfOk};
+ghost use Rattle.cert_text.specs.Lines.{values_of};
 ghost use Rattle.line_text.specs.Shown.{Says};
+ghost use Rattle.cert_text.specs.Left.{values_left};
 ghost use Rattle.cert_text.specs.Shown.{in_values};
 
 use corner_lift::one_at;
-use line_text::{Decimal, TextCause, Words, numbers_of};
+use line_text::{Decimal, TextCause, Words};
 use std::alloc::Global;
 
 /// The number, if it is from 0 to 2 to the `u`.
@@ -20,18 +21,34 @@ fn value(number: &Decimal, u: u32) -> Option<i64>
     }
 }
 
-/// The numbers, if each is from 0 to 2 to the `u`.
-fn values_in(alloc: Global, numbers: &[Decimal], u: u32) -> Result<Vec<i64>, TextCause>
+/// The numbers that words write, if there are so many, and each is from 0 to 2 to the `u`. The form of
+/// all of them is told first.
+fn values<'t>(alloc: Global, words: Words<'t>, count: u32, u: u32) -> Result<Vec<i64>, TextCause>
     requires { u ≤ 40 }
-    ensures value { Says (λ v. v.items) result (values_in u numbers.now) }
-    ensures size { IfOk result (λ v. length v.items ≡ length numbers.now) }
+    ensures value { Says (λ v. v.items) result (values_left count u [] true words.entry) }
+    ensures size { IfOk result (λ v. length v.items ≡ count) }
 {
-    let mut values = Vec::new(alloc);
-    for number in numbers {
-        match value(number, u) {
+    let mut values = Vec::with_capacity(alloc, count as usize)?;
+    let mut fit = true;
+    let mut rest = words;
+    while !rest.is_empty() {
+        let Some((number, behind)) = rest.number() else {
+            return Err(TextCause::Syntax);
+        };
+        match value(&number, u) {
             Some(n) => values.push(n)?,
-            None => return Err(TextCause::Limit),
+            None => {
+                values.push(0)?;
+                fit = false;
+            }
         }
+        rest = behind;
+    }
+    if values.len() != count as usize {
+        return Err(TextCause::Syntax);
+    }
+    if !fit {
+        return Err(TextCause::Limit);
     }
     Ok(values)
 }
@@ -48,9 +65,6 @@ pub(crate) fn values_of(
     ensures value { Says (λ v. v.items) result (values_of key.now count u words.now) }
     ensures size { IfOk result (λ v. length v.items ≡ count) }
 {
-    let numbers = numbers_of(alloc, words, key)?;
-    if numbers.len() != count as usize {
-        return Err(TextCause::Syntax);
-    }
-    values_in(alloc, &numbers, u)
+    let rest = words.keyed(key)?;
+    values(alloc, rest, count, u)
 }

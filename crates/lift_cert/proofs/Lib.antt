@@ -5,4 +5,5 @@ pub mod RejectMisses
 pub mod Holding
 pub mod Rejecting
 pub mod BothKinds
+pub mod QuickTests
 mod Samples

@@ -5,12 +5,12 @@ use Rattle.std.proofs.lemmas.Int.{ints}
 use Rattle.std.proofs.lemmas.Nat.{div_below, le-div, pow_pos}
 use Rattle.std.proofs.lemmas.List.{get_or_past, get_or_default}
 use Rattle.lift_poly.proofs.Ring.{linear, mul-zero}
-use Rattle.lift_grid.specs.Rectangle.{Spans, spans_of}
+use Rattle.lift_grid.specs.Rectangle.{Spans}
 use Rattle.lift_grid.specs.Tree.{RejectData}
 use Rattle.lift_model.specs.Process.{Move, weighted_sum, power}
 use Rattle.lift_model.specs.Model.{support, is_goal, choices, row_at, moves_at}
 use Rattle.corner_lift.specs.Corner.{corner, corner_sum, parameter_count, whole}
-use Rattle.corner_lift.specs.Case.{CaseData, IsCase, IsInside, Within, AreSidesInside, number, row_whole, corner_count}
+use Rattle.corner_lift.specs.Case.{CaseData, IsCase, IsInside, Within, number, row_whole, corner_count}
 use Rattle.corner_lift.specs.Certificate.{unmarked, mark, ranked_below, IsLower, IsHeld}
 use Rattle.corner_lift.specs.Laws.{ParametersAreTheRoots, SumsRise, WeightsSumToWhole}
 use Rattle.lift_cert.specs.Certificate.{IsRejecting, IsBeyond}
@@ -194,7 +194,7 @@ module _ (parameters : ParametersAreTheRoots) (k : CaseData) (spans : Spans) (wi
         rates = λ c lt. let rate = (at c lt).rate in omega (arith, linear, rate, same_whole s a);
       }
 
-  state_from_lower : IsLower k spans r → (s : ℕ) → IsHeldState k spans r s
+  pub state_from_lower : IsLower k spans r → (s : ℕ) → IsHeldState k spans r s
   state_from_lower lower s = record {
     goal = λ e. (lower.goal s e).0;
     unranked = λ e none. (lower.unranked s e (omega (arith, none))).0;
@@ -202,7 +202,7 @@ module _ (parameters : ParametersAreTheRoots) (k : CaseData) (spans : Spans) (wi
   }
 
   -- what passes all states is a lower vector
-  lower_from_states : IsCase k → HasRejectForm k r → AreHeldBefore k spans r (length k.model.states) → IsLower k spans r
+  pub lower_from_states : IsCase k → HasRejectForm k r → AreHeldBefore k spans r (length k.model.states) → IsLower k spans r
   lower_from_states is form held = record {
     numbers = form.numbers;
     sizes = form.sizes;
@@ -243,29 +243,26 @@ rejecting_misses_none parameters k spans bound r m within = misses_none paramete
 -- ---- the weight into lower ranks
 
 -- the weight of a row into states of lower rank lies from 0 to the whole, at each corner
-module _ (rise : SumsRise) (sums : WeightsSumToWhole) (parameters : ParametersAreTheRoots) (k : CaseData) (sides : List ℤ) (s a c : ℕ) (is : IsCase k) (inside : AreSidesInside k.root sides) (state : s < length k.model.states) (choice : a < length (choices k.model s)) (rank : ℕ → ℕ) (below : ℕ) where
-  there : IsInside k.root (spans_of sides)
-  there = record { rectangle = inside.rectangle.spans; within = inside.within }
-
+module _ (rise : SumsRise) (sums : WeightsSumToWhole) (parameters : ParametersAreTheRoots) (k : CaseData) (spans : Spans) (s a c : ℕ) (is : IsCase k) (inside : IsInside k.root spans) (state : s < length k.model.states) (choice : a < length (choices k.model s)) (rank : ℕ → ℕ) (below : ℕ) where
   zero_sum : (moves : List Move) → weighted_sum (λ t. pos 0) moves ≡ pos 0
   zero_sum [] = refl
   zero_sum (move ∷ moves) = omega (arith, linear, zero_sum moves, mul-zero move.1)
 
-  pub weight_least : pos 0 ≤ℤ corner_sum k.d (spans_of sides) (row_at k.model s a) c (ranked_below rank below)
+  pub weight_least : pos 0 ≤ℤ corner_sum k.d spans (row_at k.model s a) c (ranked_below rank below)
   weight_least =
       let row = row_at k.model s a in
-      let from_zero = rise k (spans_of sides) s a c (λ t. pos 0) (ranked_below rank below) is there (record { state = state; choice = choice }) (λ t. at_least (nat_lt (rank t) below)) in
-      omega (arith, linear, from_zero, zero_sum (moves_at (corner k.d (spans_of sides) (support row) c) row))
+      let from_zero = rise k spans s a c (λ t. pos 0) (ranked_below rank below) is inside (record { state = state; choice = choice }) (λ t. at_least (nat_lt (rank t) below)) in
+      omega (arith, linear, from_zero, zero_sum (moves_at (corner k.d spans (support row) c) row))
     where
       at_least : (b : Bool) → pos 0 ≤ℤ cond b (pos 1) (pos 0)
       at_least true = omega (arith, linear)
       at_least false = omega (arith, linear)
 
-  pub weight_most : c < corner_count k s a → corner_sum k.d (spans_of sides) (row_at k.model s a) c (ranked_below rank below) ≤ℤ row_whole k s a
+  pub weight_most : c < corner_count k s a → corner_sum k.d spans (row_at k.model s a) c (ranked_below rank below) ≤ℤ row_whole k s a
   weight_most lt =
       let row = row_at k.model s a in
-      let to_one = rise k (spans_of sides) s a c (ranked_below rank below) (λ t. pos 1) is there (record { state = state; choice = choice }) (λ t. at_most (nat_lt (rank t) below)) in
-      let all = sums k (spans_of sides) s a is there (record { state = state; choice = choice }) c (subst (λ n. c < 2 ^ n) (sym (parameters k (spans_of sides) row inside.within)) lt) in
+      let to_one = rise k spans s a c (ranked_below rank below) (λ t. pos 1) is inside (record { state = state; choice = choice }) (λ t. at_most (nat_lt (rank t) below)) in
+      let all = sums k spans s a is inside (record { state = state; choice = choice }) c (subst (λ n. c < 2 ^ n) (sym (parameters k spans row inside.within)) lt) in
       omega (arith, linear, to_one, all)
     where
       at_most : (b : Bool) → cond b (pos 1) (pos 0) ≤ℤ pos 1

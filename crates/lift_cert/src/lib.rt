@@ -6,6 +6,7 @@ mod bound;
 mod certificate;
 mod laws;
 mod miss;
+mod quick;
 mod reject;
 
 pub use accept::meets_accept;
@@ -15,4 +16,5 @@ pub use laws::{
     rejecting_certificates_reach,
 };
 pub use miss::Miss;
+pub use quick::{is_accepting, is_rejecting};
 pub use reject::meets_reject;

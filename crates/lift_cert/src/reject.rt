@@ -22,7 +22,7 @@ use corner_lift::{
 
 /// Whether `weight` times 2 to the `e` is at least the whole. That product is never formed, since it
 /// may be too wide.
-fn is_enough(weight: i128, e: u32, whole: i128) -> bool
+pub(crate) fn is_enough(weight: i128, e: u32, whole: i128) -> bool
     requires weight { pos 0 ≤ℤ weight }
     requires rate { e ≤ most_rate }
     requires whole { pos 1 ≤ℤ whole }

@@ -1,9 +1,12 @@
 -- How what the code holds is seen, and what its functions answer.
-use Rattle.std.specs.Prelude.{◌≡◌, ◌≢◌, ℕ, ℤ, pos, neg_ℤ, Bool, true, false, List, [], ◌∷◌, ◌++◌, Option, Result, Ok, Err}
+use Prim.Native.Char.{code}
+use Rattle.std.specs.Prelude.{◌≡◌, ◌≢◌, ◌==◌, ◌≤◌, ℕ, ℤ, pos, neg_ℤ, Bool, true, false, List, [], ◌∷◌, ◌++◌, length, Option, Some, None, Result, Ok, Err}
+use Rattle.std.specs.Option.{option_map}
+use Rattle.std.specs.Str.Parse.{digits_value}
 use Rattle.line_text.specs.declared.error.TextCause.{TextCause}
 use Rattle.line_text.specs.declared.error.TextCause.TheVariants.{Memory}
 use Rattle.line_text.specs.declared.error.TextError.{TextError}
-use Rattle.line_text.specs.Words.{words}
+use Rattle.line_text.specs.Words.{are_digits, words}
 use Rattle.line_text.specs.Reading.{◌>>=◌}
 use Rattle.line_text.specs.Parts.{Words, Read, each}
 
@@ -31,6 +34,20 @@ is_none_left (w ∷ ws) = false
 abbrev pub signed : Bool → ℕ → ℤ
 signed true n = neg_ℤ (pos n)
 signed false n = pos n
+
+-- the digits of a number without leading zeros, and the number that they write where they are few
+pub record IsDecimal (ds : List ℕ) (short : ℕ) : Type 0 where
+  pub digits : are_digits ds ≡ true
+  pub value : length ds ≤ 18 → short ≡ digits_value 10 ds
+
+-- a space, which ends a word
+abbrev pub is_space : ℕ → Bool
+is_space b = b == code " "
+
+-- what the first word writes, and the words behind it
+abbrev pub first_of : {A : Type 0} → (List ℕ → Option A) → Words → Option (A × Words)
+first_of of [] = None
+first_of of (word ∷ words) = option_map (λ x. (x, words)) (of word)
 
 -- what all words write is what is done, and what those write that are left
 abbrev pub Goes : {A : Type 0} → (List ℕ → Option A) → Words → List A → Words → Type 0

@@ -1,11 +1,12 @@
 // Numbers that words write.
-ghost use Rattle.std.specs.Prelude.{◌≡◌, ◌%◌, ◌≤◌, ◌<◌, ◌^◌, length, pos, true, unsigned_abs, int_lt, nat_lt, IfSome, IfNone};
+ghost use Rattle.std.specs.Prelude.{◌≡◌, ◌%◌, ◌≤◌, ◌<◌, ◌^◌, length, take, pos, true, unsigned_abs, int_lt, nat_lt, IfSome, IfNone};
 ghost use Rattle.std.specs.List.{list_all};
 ghost use Rattle.std.specs.Option.{option_map};
 ghost use Rattle.std.specs.Char.{is_ascii_digit};
 ghost use Rattle.std.specs.Ordering.{nat_cmp};
 ghost use Rattle.std.specs.Str.Parse.{digits_value};
 ghost use Rattle.line_text.specs.Words.{are_digits, natural_of, below_zero, number_of};
+ghost use Rattle.line_text.specs.Shown.{signed};
 
 use std::cmp::Ordering;
 
@@ -15,24 +16,24 @@ const MOST_DIGITS: usize = 31;
 /// How many digits at most write a number below 2 to the 64.
 const SHORT_DIGITS: usize = 18;
 
-/// A number that a word writes, of any length.
+/// A number that a word writes, of any length. The size that few digits write is kept.
 #[derive(Drop)]
 pub struct Decimal<'t> {
     negative: bool,
     digits: &'t [u8],
+    short: u64,
 }
 
 impl<'t> std::marker::Model for Decimal<'t> {
-    ghost use Rattle.std.specs.Prelude.{ℤ, ◌≡◌, true};
+    ghost use Rattle.std.specs.Prelude.{ℤ};
     ghost use Rattle.std.specs.Str.Parse.{digits_value};
-    ghost use Rattle.line_text.specs.Words.{are_digits};
-    ghost use Rattle.line_text.specs.Shown.{signed};
+    ghost use Rattle.line_text.specs.Shown.{signed, IsDecimal};
 
     ghost Value = { ℤ };
 
     ghost view = { λ d. signed d.negative (digits_value 10 d.digits.now) };
 
-    ghost invariant = { λ d. are_digits d.digits.now ≡ true };
+    ghost invariant = { λ d. IsDecimal d.digits.now d.short };
 }
 
 fn are_all_digits(word: &[u8]) -> bool
@@ -52,18 +53,22 @@ fn are_digits(word: &[u8]) -> bool
     }
 }
 
-/// The number that at most 18 digits write.
-fn short_value(digits: &[u8]) -> u64
-    requires digits { list_all is_ascii_digit digits.now ≡ true }
-    requires short { length digits.now ≤ 18 }
-    ensures value { result ≡ digits_value 10 digits.now }
-    ensures small { result < 10 ^ 18 }
+/// The number that the digits at the front of a text write, at most 18 of them, and how many these are.
+pub(crate) fn front_digits(text: &[u8]) -> (u64, usize)
+    ensures within { result.1 ≤ length text.now }
+    ensures few { result.1 ≤ 18 }
+    ensures digits { list_all is_ascii_digit (take result.1 text.now) ≡ true }
+    ensures value { result.0 ≡ digits_value 10 (take result.1 text.now) }
+    ensures all { list_all is_ascii_digit text.now ≡ true → length text.now ≤ 18 → result.1 ≡ length text.now }
 {
     let mut number: u64 = 0;
-    for digit in digits {
-        number = number * 10 + u64::from(*digit - b'0');
+    for (i, byte) in text.iter().enumerate() {
+        if i == SHORT_DIGITS || !byte.is_ascii_digit() {
+            return (number, i);
+        }
+        number = number * 10 + u64::from(*byte - b'0');
     }
-    number
+    (number, text.len())
 }
 
 /// The number that at most 31 digits write.
@@ -78,20 +83,6 @@ fn long_value(digits: &[u8]) -> u128
         number = number * 10 + u128::from(*digit - b'0');
     }
     number
-}
-
-/// The number that at most 31 digits write: few of them in half the width, which is faster.
-fn digits_value(digits: &[u8]) -> u128
-    requires digits { list_all is_ascii_digit digits.now ≡ true }
-    requires short { length digits.now ≤ 31 }
-    ensures value { result ≡ digits_value 10 digits.now }
-    ensures small { result < 10 ^ 31 }
-{
-    if digits.len() > SHORT_DIGITS {
-        long_value(digits)
-    } else {
-        u128::from(short_value(digits))
-    }
 }
 
 /// What the number that digits write leaves at a division.
@@ -138,15 +129,53 @@ fn is_less(digits: &[u8], others: &[u8]) -> bool
 }
 
 impl<'t> Decimal<'t> {
+    /// The number that digits write, or the one of that size below 0.
+    fn of_digits(negative: bool, digits: &'t [u8]) -> Self
+        requires { are_digits digits.now ≡ true }
+        ensures { result ≡ signed negative (digits_value 10 digits.now) }
+    {
+        let (short, _) = front_digits(digits);
+        Decimal {
+            negative,
+            digits,
+            short,
+        }
+    }
+
+    /// The number that few digits write, which is known.
+    pub(crate) fn of_few(digits: &'t [u8], short: u64) -> Self
+        requires digits { are_digits digits.now ≡ true }
+        requires value { short ≡ digits_value 10 digits.now }
+        ensures { result ≡ pos short }
+    {
+        Decimal {
+            negative: false,
+            digits,
+            short,
+        }
+    }
+
+    /// The size, unless it is wide.
+    fn size(&self) -> Option<u128>
+        ensures some { IfSome result (λ n. (n ≡ unsigned_abs self.now) × (n < 10 ^ 31)) }
+        ensures none { IfNone result (2 ^ 100 ≤ unsigned_abs self.now) }
+    {
+        let count = self.digits.len();
+        if count > MOST_DIGITS {
+            None
+        } else if count > SHORT_DIGITS {
+            Some(long_value(self.digits))
+        } else {
+            Some(u128::from(self.short))
+        }
+    }
+
     /// The number from 0 on that digits write; none where they write none.
     fn natural(digits: &'t [u8]) -> Option<Self>
         ensures { result ≡ option_map pos (natural_of digits.now) }
     {
         if are_digits(digits) {
-            Some(Decimal {
-                negative: false,
-                digits,
-            })
+            Some(Decimal::of_digits(false, digits))
         } else {
             None
         }
@@ -160,10 +189,7 @@ impl<'t> Decimal<'t> {
             return None;
         }
         if are_digits(digits) {
-            Some(Decimal {
-                negative: true,
-                digits,
-            })
+            Some(Decimal::of_digits(true, digits))
         } else {
             None
         }
@@ -208,10 +234,7 @@ impl<'t> Decimal<'t> {
         ensures some { IfSome result (λ n. n ≡ self.now) }
         ensures none { IfNone result (2 ^ 100 ≤ unsigned_abs self.now) }
     {
-        if self.digits.len() > MOST_DIGITS {
-            return None;
-        }
-        let size = digits_value(self.digits) as i128;
+        let size = self.size()? as i128;
         Some(if self.negative { -size } else { size })
     }
 

@@ -1,10 +1,13 @@
 // The words of a line.
-ghost use Rattle.std.specs.Prelude.{◌≡◌, [], length, OnErr};
-ghost use Rattle.line_text.specs.Words.{words};
+ghost use Rattle.std.specs.Prelude.{◌≡◌, ◌≤◌, [], true, length, take, IsTrue, OnErr};
+ghost use Rattle.std.specs.List.{list_all, position_or_len};
+ghost use Rattle.std.specs.Char.{is_ascii_digit};
+ghost use Rattle.line_text.specs.Words.{are_digits, number_of, words};
 ghost use Rattle.line_text.specs.Parts.{first, keyed, single};
-ghost use Rattle.line_text.specs.Shown.{Says, is_none_left};
+ghost use Rattle.line_text.specs.Shown.{Says, is_none_left, is_space, first_of};
 
 use crate::cursor::len_before;
+use crate::decimal::{Decimal, front_digits};
 use crate::error::TextCause;
 
 /// The words of a line that are left.
@@ -21,6 +24,41 @@ impl<'t> std::marker::Model for Words<'t> {
     ghost Value = { WordList };
 
     ghost view = { λ w. words_left w.text.now w.ended };
+}
+
+/// The first word of a text, which has so many bytes, and those behind it.
+fn cut(text: &[u8], len: usize) -> (&[u8], Words)
+    requires within { len ≤ length text.now }
+    requires len { len ≡ position_or_len is_space text.now }
+    ensures word { result.0.now ≡ take len text.now }
+    ensures first { first (words text.now) ≡ Ok (result.0.now, result.1) }
+{
+    let word = &text[..len];
+    if len == text.len() {
+        let none = Words {
+            text: word,
+            ended: true,
+        };
+        return (word, none);
+    }
+    let rest = Words {
+        text: &text[len + 1..],
+        ended: false,
+    };
+    (word, rest)
+}
+
+/// Whether so many digits, at the front of a text, are its first word, and that without leading zeros.
+fn is_word(text: &[u8], len: usize) -> bool
+    requires within { len ≤ length text.now }
+    requires digits { list_all is_ascii_digit (take len text.now) ≡ true }
+    ensures digits { IsTrue result → are_digits (take len text.now) ≡ true }
+    ensures len { IsTrue result → len ≡ position_or_len is_space text.now }
+{
+    if len == 0 || (len > 1 && text[0] == b'0') {
+        return false;
+    }
+    len == text.len() || text[len] == b' '
 }
 
 impl<'t> Words<'t> {
@@ -42,20 +80,25 @@ impl<'t> Words<'t> {
         if self.ended {
             return Err(TextCause::Syntax);
         }
-        let len = len_before(self.text, b' ');
-        let word = &self.text[..len];
-        if len == self.text.len() {
-            let none = Words {
-                text: word,
-                ended: true,
-            };
-            return Ok((word, none));
+        Ok(cut(self.text, len_before(self.text, b' ')))
+    }
+
+    /// The number that the first word writes, and those behind it; none where there is no word, or it
+    /// writes none. A short number is read at once with its word's end.
+    pub fn number(&self) -> Option<(Decimal<'t>, Words<'t>)>
+        ensures { result ≡ first_of number_of self.now }
+    {
+        if self.ended {
+            return None;
         }
-        let rest = Words {
-            text: &self.text[len + 1..],
-            ended: false,
-        };
-        Ok((word, rest))
+        let (short, len) = front_digits(self.text);
+        if is_word(self.text, len) {
+            let (word, rest) = cut(self.text, len);
+            return Some((Decimal::of_few(word, short), rest));
+        }
+        let (word, rest) = cut(self.text, len_before(self.text, b' '));
+        let number = Decimal::read(word)?;
+        Some((number, rest))
     }
 
     /// Whether no word is left.

@@ -25,11 +25,11 @@ returns-in_err-came-clause-end c =
     let parts = case_same h.asked c.model.result.now c.root.result.now c.grid.result c.w-2.result c.model.ensures c.root.ensures c.grid.ensures.d c.grid.ensures.depth c.w-2.ensures.value in
     let same : c.in_ok-case.case ≡ h.asked = c.in_ok-case.ensures.case ∙ parts in
     let admitted : IsAdmitted c.in_ok-case.case = subst IsAdmitted (sym c.in_ok-case.ensures.case) (c.in_ok-case.ensures.admitted.0 refl) in
-    let spans : spans_of c.deref_mut.result.now ≡ h.asked.root = ap (λ (s : List ℤ). spans_of s) (c.deref_mut.ensures.value ∙ c.in_ok-sides.ensures.items) ∙ c.sides.ensures.same ∙ c.root-2.ensures in
+    let spans : spans_of c.deref_mut-2.result.now ≡ h.asked.root = ap (λ (s : List ℤ). spans_of s) (c.deref_mut-2.ensures.value ∙ c.in_ok-sides.ensures.items) ∙ c.sides.ensures.same ∙ c.root-2.ensures in
     let begins = came_start c.args.text.now c.start.result c.args.place c.start.ensures.node c.start.ensures.place c.start.ensures.leaves in
     let is : c.from_residual-in_err-came.result ≡ Err e = search rules in
     says_err (λ s. s) (HeadEnds h at) _ e is
-    (λ some. nodes_end h at c.in_ok-case.case (came_of c.args.text.now c.start.result) (spans_of c.deref_mut.result.now) (Err e) same admitted begins spans (Err e, moved h c.greatest_depth-levels.result (greatest_depth c.in_ok-case.case) (spans_of c.deref_mut.result.now) (spans_of c.deref_mut.result.now) (came_of c.args.text.now c.start.result) (came_of c.args.text.now c.start.result) (Err e) c.greatest_depth-levels.ensures refl refl (c.in_err-came.ensures.end some), refl))
+    (λ some. nodes_end h at c.in_ok-case.case (came_of c.args.text.now c.start.result) (spans_of c.deref_mut-2.result.now) (Err e) same admitted begins spans (Err e, moved h c.greatest_depth-levels.result (greatest_depth c.in_ok-case.case) (spans_of c.deref_mut-2.result.now) (spans_of c.deref_mut-2.result.now) (came_of c.args.text.now c.start.result) (came_of c.args.text.now c.start.result) (Err e) c.greatest_depth-levels.ensures refl refl (c.in_err-came.ensures.end some), refl))
 
 pub returns-clause-end : goal.returns-clause-end
 returns-clause-end c =
@@ -39,10 +39,10 @@ returns-clause-end c =
     let parts = case_same h.asked c.model.result.now c.root.result.now c.grid.result c.w-2.result c.model.ensures c.root.ensures c.grid.ensures.d c.grid.ensures.depth c.w-2.ensures.value in
     let same : c.in_ok-case.case ≡ h.asked = c.in_ok-case.ensures.case ∙ parts in
     let admitted : IsAdmitted c.in_ok-case.case = subst IsAdmitted (sym c.in_ok-case.ensures.case) (c.in_ok-case.ensures.admitted.0 refl) in
-    let spans : spans_of c.deref_mut.result.now ≡ h.asked.root = ap (λ (s : List ℤ). spans_of s) (c.deref_mut.ensures.value ∙ c.in_ok-sides.ensures.items) ∙ c.sides.ensures.same ∙ c.root-2.ensures in
+    let spans : spans_of c.deref_mut-2.result.now ≡ h.asked.root = ap (λ (s : List ℤ). spans_of s) (c.deref_mut-2.ensures.value ∙ c.in_ok-sides.ensures.items) ∙ c.sides.ensures.same ∙ c.root-2.ensures in
     let begins = came_start text c.start.result c.args.place c.start.ensures.node c.start.ensures.place c.start.ensures.leaves in
     let came : Came = came_of text c.in_ok-came.came in
-    let walked : TreeEnds h (greatest_depth c.in_ok-case.case) (spans_of c.deref_mut.result.now) (came_of text c.start.result) (Ok came) =
-    moved h c.greatest_depth-levels.result (greatest_depth c.in_ok-case.case) (spans_of c.deref_mut.result.now) (spans_of c.deref_mut.result.now) (came_of text c.start.result) (came_of text c.start.result) (Ok came) c.greatest_depth-levels.ensures refl refl c.in_ok-came.ensures.end in
+    let walked : TreeEnds h (greatest_depth c.in_ok-case.case) (spans_of c.deref_mut-2.result.now) (came_of text c.start.result) (Ok came) =
+    moved h c.greatest_depth-levels.result (greatest_depth c.in_ok-case.case) (spans_of c.deref_mut-2.result.now) (spans_of c.deref_mut-2.result.now) (came_of text c.start.result) (came_of text c.start.result) (Ok came) c.greatest_depth-levels.ensures refl refl c.in_ok-came.ensures.end in
     says_as (λ s. s) (RestEnds came) (HeadEnds h at) c.check_rest.result
-    (λ a ends. nodes_end h at c.in_ok-case.case (came_of text c.start.result) (spans_of c.deref_mut.result.now) a same admitted begins spans (Ok came, walked, ends)) c.check_rest.ensures.end
+    (λ a ends. nodes_end h at c.in_ok-case.case (came_of text c.start.result) (spans_of c.deref_mut-2.result.now) a same admitted begins spans (Ok came, walked, ends)) c.check_rest.ensures.end

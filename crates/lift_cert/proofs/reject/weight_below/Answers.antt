@@ -1,5 +1,6 @@
 use Rattle.std.proofs.Common.{rules, to_z-of_z, SFits}
 use mir.Syntax.{w128}
+use Rattle.lift_grid.specs.Rectangle.{spans_of}
 use Rattle.corner_lift.specs.Certificate.{mark}
 use Rattle.lift_cert.proofs.RejectMisses.{weight_least, weight_most}
 use Rattle.lift_cert.proofs.reject.weight_below.Goals as goal
@@ -7,9 +8,9 @@ use Rattle.lift_cert.proofs.reject.weight_below.Goals as goal
 pub returns-clause-least : goal.returns-clause-least
 returns-clause-least c =
     let fits : SFits w128 c.weight_into.result = search rules in
-    rw (to_z-of_z fits, c.weight_into.ensures) (weight_least c.rows_at_corners.ensures.rise c.corners_bound_weights.ensures.sum c.rows_at_corners.ensures.parameters c.args.case.now c.args.sides.now c.args.state c.args.choice c.args.corner c.requires.case c.requires.sides c.requires.at.state c.requires.at.choice (mark c.ranks.result.now) c.rank-rank.result)
+    rw (to_z-of_z fits, c.weight_into.ensures) (weight_least c.rows_at_corners.ensures.rise c.corners_bound_weights.ensures.sum c.rows_at_corners.ensures.parameters c.args.case.now (spans_of c.args.sides.now) c.args.state c.args.choice c.args.corner c.requires.case (record { rectangle = c.requires.sides.rectangle.spans; within = c.requires.sides.within }) c.requires.at.state c.requires.at.choice (mark c.ranks.result.now) c.rank-rank.result)
 
 pub returns-clause-most : goal.returns-clause-most
 returns-clause-most c =
     let fits : SFits w128 c.weight_into.result = search rules in
-    rw (to_z-of_z fits, c.weight_into.ensures) (weight_most c.rows_at_corners.ensures.rise c.corners_bound_weights.ensures.sum c.rows_at_corners.ensures.parameters c.args.case.now c.args.sides.now c.args.state c.args.choice c.args.corner c.requires.case c.requires.sides c.requires.at.state c.requires.at.choice (mark c.ranks.result.now) c.rank-rank.result c.requires.at.corner)
+    rw (to_z-of_z fits, c.weight_into.ensures) (weight_most c.rows_at_corners.ensures.rise c.corners_bound_weights.ensures.sum c.rows_at_corners.ensures.parameters c.args.case.now (spans_of c.args.sides.now) c.args.state c.args.choice c.args.corner c.requires.case (record { rectangle = c.requires.sides.rectangle.spans; within = c.requires.sides.within }) c.requires.at.state c.requires.at.choice (mark c.ranks.result.now) c.rank-rank.result c.requires.at.corner)
