@@ -8,6 +8,7 @@ ghost use Rattle.corner_lift.specs.Stages.{IsGreatestLower};
 ghost use Rattle.lower_cert.specs.Lowering.{IsRead, HasPlaces, IsHigh, IsSettled, IsHeight, total};
 ghost use Rattle.lower_cert.specs.Limit.{IsGreatestAbove, NoneIsAbove};
 
+use crate::begin::begin;
 use crate::exit::lower_to_exit;
 use crate::laws::{ranks_fit, vectors_are_lowered};
 use crate::lower::{NONE, lower_level, rank_states, start, stuck_level};
@@ -107,6 +108,7 @@ fn descend(
 {
     start(case, lane);
     flag_all(work);
+    begin(case, links, weights, limit, lane, work);
     while lower_once(
         case, links, weights, limit, lane, allowed, ranks, picks, work,
     ) {}

@@ -241,7 +241,7 @@ fn set_flag(work: &mut [u32], position: u32) {
 
 /// Flags the positions of the states that lead to a state, but for its own: what it was lowered to is held,
 /// with its self loops.
-fn flag_before(links: &Links, work: &mut [u32], s: u32, position: u32)
+pub(crate) fn flag_before(links: &Links, work: &mut [u32], s: u32, position: u32)
     requires { s < state_count links.now }
 {
     for p in links.positions_before(s) {
@@ -300,7 +300,7 @@ fn turn(
 }
 
 /// Takes the turns of some positions, and tells whether a state fell.
-fn pass(
+pub(crate) fn pass(
     case: &Case,
     links: &Links,
     weights: &[i128],
@@ -325,7 +325,7 @@ fn pass(
 
 /// Lowers the states at some positions until none of them is flagged, or the initial state's number isn't
 /// above the limit.
-fn settle_part(
+pub(crate) fn settle_part(
     case: &Case,
     links: &Links,
     weights: &[i128],
@@ -345,7 +345,7 @@ fn settle_part(
 }
 
 /// Where the component ends that begins at a position, or the last of so many positions.
-fn component_end(links: &Links, low: u32, states: u32) -> u32
+pub(crate) fn component_end(links: &Links, low: u32, states: u32) -> u32
     requires { low < states }
     ensures later { low < result }
     ensures inside { result ≤ states }

@@ -1,4 +1,4 @@
-use Rattle.std.proofs.Common.{rules, ◌^◌, ◌≤◌, pow_mono, ℤ, pos, ◌-ℤ◌, ◌<ℤ◌, SFits, w64, to_z, of_z, to_z-of_z, arith}
+use Rattle.std.proofs.Common.{rules, ◌^◌, ◌≤◌, pow_mono, pos, ◌-ℤ◌, ◌<ℤ◌, SFits, w64, to_z, of_z, to_z-of_z, arith}
 use Rattle.lift_poly.proofs.Ring.{linear, le_from_test}
 use Rattle.lower_cert.proofs.Exits.{lt_from_test}
 use Rattle.lower_cert.proofs.Settling.{level_none, no_goals, less_fits}
