@@ -129,10 +129,9 @@ fn has_loop(case: &Case, links: &Links, s: u32, a: u32) -> bool
     false
 }
 
-/// How high a state is held by a choice: no number above it can be kept there. Where the choice holds the
-/// state's own, its least weighted mean over the corners tells it at once, and where it doesn't and has no
-/// self loop, that mean is it, rounded down.
-fn held(case: &Case, links: &Links, weights: &[i128], lane: &[i64], s: u32, a: u32) -> i64
+/// How high a state is held by a choice without a self loop: its least weighted mean over the corners,
+/// rounded down.
+fn held_by_least(case: &Case, links: &Links, weights: &[i128], lane: &[i64], s: u32, a: u32) -> i64
     ghost spans: { Spans }
     requires can { CanLower case.now links.now spans weights.now lane.now }
     requires row { HasChoice case.now.model s a }
@@ -147,10 +146,22 @@ fn held(case: &Case, links: &Links, weights: &[i128], lane: &[i64], s: u32, a: u
     if times(number, whole) <= sum {
         return number;
     }
-    if has_loop(case, links, s, a) {
-        return held_at_corners(case, links, weights, lane, s, a);
-    }
     rounded_down(sum, whole)
+}
+
+/// How high a state is held by a choice: no number above it can be kept there.
+fn held(case: &Case, links: &Links, weights: &[i128], lane: &[i64], s: u32, a: u32) -> i64
+    ghost spans: { Spans }
+    requires can { CanLower case.now links.now spans weights.now lane.now }
+    requires row { HasChoice case.now.model s a }
+    ensures least { pos 0 ≤ℤ result }
+    ensures most { HoldsNoMore case.now spans lane.now s a result }
+{
+    if has_loop(case, links, s, a) {
+        held_at_corners(case, links, weights, lane, s, a)
+    } else {
+        held_by_least(case, links, weights, lane, s, a)
+    }
 }
 
 /// The greater of two numbers.

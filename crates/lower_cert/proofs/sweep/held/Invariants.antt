@@ -1,10 +1,7 @@
 use Rattle.lower_cert.proofs.sweep.held.Given as goal
 
-abbrev pub ghost-table_min : goal.ghost-table_min
-ghost-table_min g a = g.spans
-
-abbrev pub ghost-table_whole : goal.ghost-table_whole
-ghost-table_whole g a = g.spans
-
 abbrev pub ghost-held_at_corners : goal.ghost-held_at_corners
 ghost-held_at_corners g a = g.spans
+
+abbrev pub ghost-held_by_least : goal.ghost-held_by_least
+ghost-held_by_least g a = g.spans

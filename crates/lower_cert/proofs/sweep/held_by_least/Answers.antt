@@ -2,7 +2,7 @@ use Rattle.std.proofs.Common.{rules, SFits, w64, to_z-of_z}
 use mir.Syntax.{w128}
 use Rattle.corner_lift.specs.Case.{number}
 use Rattle.lower_cert.proofs.Sweeping.{holds_no_more, holds_itself, sum_room}
-use Rattle.lower_cert.proofs.sweep.held.Goals as goal
+use Rattle.lower_cert.proofs.sweep.held_by_least.Goals as goal
 
 pub rounded_down-requires-clause-sum : goal.rounded_down-requires-clause-sum
 rounded_down-requires-clause-sum g c =
@@ -31,8 +31,3 @@ pub returns-then-times-sum-clause-most : goal.returns-then-times-sum-clause-most
 returns-then-times-sum-clause-most g c =
     let fits : SFits w64 (number c.args.lane.now c.args.s) = search rules in
     rw (to_z-of_z fits) (holds_itself c.args.case.now g.spans c.args.lane.now c.args.s c.args.a)
-
-pub returns-then-has_loop-clause-most : goal.returns-then-has_loop-clause-most
-returns-then-has_loop-clause-most g c =
-    let fits : SFits w64 c.held_at_corners.result = search rules in
-    rw (to_z-of_z fits) c.held_at_corners.ensures.most
