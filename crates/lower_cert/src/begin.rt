@@ -12,18 +12,18 @@ ghost use Rattle.lower_cert.specs.Beginning.{StandsAt, CanRaise, KeepsOthers, Is
 
 use crate::laws::vectors_are_lowered;
 use crate::lower::{is_at_most, times};
-use crate::sweep::{component_end, flag_before, greater, pass, settle_part};
+use crate::sweep::{component_end, flag_before, greater, pass, quotient, settle_part};
 use corner_lift::{Case, one_at, rows_at_corners, table_min, table_whole};
 use lift_model::Links;
 
 /// How many passes over a component lower it from 1, before it is begun anew.
-const FIRST_PATIENCE: u32 = 64;
+const FIRST_PATIENCE: u32 = 16;
 
 /// How many times as many passes may raise the vector that it is begun from.
-const RAISES: u32 = 32;
+const RAISES: u32 = 64;
 
 /// How many times as many passes the next try takes.
-const PATIENCE_STEP: u32 = 8;
+const PATIENCE_STEP: u32 = 16;
 
 /// How often it is begun anew.
 const TRIES: u32 = 2;
@@ -150,9 +150,10 @@ fn rounded_up(sum: i128, whole: i128, top: i64) -> i64
     requires top { pos 0 ≤ℤ top }
     ensures { (pos 0 ≤ℤ result) × (result ≤ℤ top) }
 {
-    let quotient = (sum as u128).div_ceil(whole as u128);
-    if quotient < top as u128 {
-        quotient as i64
+    let whole = whole as u128;
+    let number = quotient(sum as u128 + (whole - 1), whole);
+    if number < top as u128 {
+        number as i64
     } else {
         top
     }

@@ -1,6 +1,6 @@
 //! Lowering states one by one to what their choices hold.
 
-ghost use Rattle.std.specs.Prelude.{◌≡◌, ◌^◌, ◌*◌, ◌<◌, ◌≤◌, ◌⊎◌, ◌≤ℤ◌, ◌<ℤ◌, ◌+ℤ◌, ◌-ℤ◌, ◌*ℤ◌, pos, length, unsigned_abs, Contains, IsFalse, true, false};
+ghost use Rattle.std.specs.Prelude.{◌≡◌, ◌^◌, ◌*◌, ◌/◌, ◌<◌, ◌≤◌, ◌⊎◌, ◌≤ℤ◌, ◌<ℤ◌, ◌+ℤ◌, ◌-ℤ◌, ◌*ℤ◌, pos, length, unsigned_abs, Contains, IsFalse, true, false};
 ghost use Rattle.lift_grid.specs.Rectangle.{Spans};
 ghost use Rattle.lift_model.specs.Model.{is_goal, choices, row_at};
 ghost use Rattle.lift_model.specs.Links.{AreLinks, HasChoice, state_count, targets_of};
@@ -14,6 +14,18 @@ use corner_lift::{
 };
 use lift_model::Links;
 
+/// The quotient of two numbers. Where they fit 64 bits, so does the division.
+pub(crate) fn quotient(sum: u128, whole: u128) -> u128
+    requires { 1 ≤ whole }
+    ensures { result ≡ sum / whole }
+{
+    let most = u128::from(u64::MAX);
+    if sum <= most && whole <= most {
+        return u128::from(sum as u64 / whole as u64);
+    }
+    sum / whole
+}
+
 /// The quotient, rounded down.
 fn rounded_down(sum: i128, whole: i128) -> i64
     requires sum { pos 0 ≤ℤ sum }
@@ -22,7 +34,7 @@ fn rounded_down(sum: i128, whole: i128) -> i64
     ensures least { pos 0 ≤ℤ result }
     ensures less { sum <ℤ ((result +ℤ pos 1) *ℤ whole) }
 {
-    ((sum as u128) / (whole as u128)) as i64
+    quotient(sum as u128, whole as u128) as i64
 }
 
 /// What is left of a number without a part of it.
