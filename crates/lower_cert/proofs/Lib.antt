@@ -11,3 +11,4 @@ pub mod Settling
 pub mod Sweeping
 pub mod Exits
 pub mod BestExit
+pub mod Beginning

@@ -4,3 +4,4 @@ pub mod AnyRanks
 pub mod Lowering
 pub mod Exits
 pub mod Limit
+pub mod Beginning

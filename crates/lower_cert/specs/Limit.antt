@@ -1,5 +1,5 @@
 -- Greatest lower vectors whose number of the initial state is above a limit.
-use Rattle.std.specs.Prelude.{ℕ, ◌≤◌, ℤ, ◌≤ℤ◌, ◌<ℤ◌, length}
+use Rattle.std.specs.Prelude.{◌≤◌, ℤ, ◌≤ℤ◌, ◌<ℤ◌, length}
 use Rattle.lift_grid.specs.Rectangle.{Spans}
 use Rattle.lift_grid.specs.Tree.{RejectData}
 use Rattle.corner_lift.specs.Case.{CaseData, number}

@@ -8,6 +8,7 @@ ghost use Rattle.corner_lift.specs.Stages.{IsGreatestLower};
 ghost use Rattle.lower_cert.specs.Lowering.{IsRead, HasPlaces, IsHigh, IsSettled, IsHeight, total};
 ghost use Rattle.lower_cert.specs.Limit.{IsGreatestAbove, NoneIsAbove};
 
+use crate::begin::begin;
 use crate::exit::lower_to_exit;
 use crate::laws::{ranks_fit, vectors_are_lowered};
 use crate::lower::{NONE, lower_level, rank_states, start, stuck_level};
@@ -31,9 +32,9 @@ fn is_above(case: &Case, lane: &[i64], limit: i64) -> bool
     limit < lane[case.model().init() as usize]
 }
 
-/// Lowers states until each is held by a choice, ranks them, and lowers those without rank that have the
-/// greatest number above 0, if there are any: by 1, and then to their best exit. Tells whether it goes on:
-/// not where there are none, and not once the initial state's number isn't above the limit.
+/// Ranks the states, and lowers those without rank that have the greatest number above 0, if there are any:
+/// by 1, then to their best exit, and then all states until each is held by a choice. Tells whether it goes
+/// on: not where there are none, and not where the initial state's number isn't above the limit.
 fn lower_once(
     case: &Case,
     links: &Links,
@@ -56,7 +57,6 @@ fn lower_once(
 {
     rows_at_corners();
     let _ = case.w();
-    settle(case, links, weights, limit, lane, work);
     if !is_above(case, lane, limit) {
         return false;
     }
@@ -68,6 +68,7 @@ fn lower_once(
     lower_level(case, lane, ranks, picks, level);
     lower_to_exit(case, links, weights, lane, ranks, picks, level - 1);
     flag_marked(case, links, picks, work);
+    settle(case, links, weights, limit, lane, work);
     true
 }
 
@@ -107,6 +108,7 @@ fn descend(
 {
     start(case, lane);
     flag_all(work);
+    begin(case, links, weights, limit, lane, work);
     while lower_once(
         case, links, weights, limit, lane, allowed, ranks, picks, work,
     ) {}

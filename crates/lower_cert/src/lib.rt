@@ -1,6 +1,7 @@
 //! Greatest lower vectors of rectangles: the laws of finding one.
 #![tactic(auto)]
 
+mod begin;
 mod exit;
 mod greatest;
 mod laws;

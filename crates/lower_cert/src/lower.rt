@@ -40,7 +40,7 @@ pub(crate) fn times(number: i64, weight: i128) -> i128
 }
 
 /// Whether the one is at most the other.
-fn is_at_most(a: i128, b: i128) -> bool
+pub(crate) fn is_at_most(a: i128, b: i128) -> bool
     ensures { IsTrue result ↔ a ≤ℤ b }
 {
     a <= b

@@ -1,6 +1,6 @@
 //! Lowering states one by one to what their choices hold.
 
-ghost use Rattle.std.specs.Prelude.{◌≡◌, ◌^◌, ◌*◌, ◌<◌, ◌≤◌, ◌⊎◌, ◌≤ℤ◌, ◌<ℤ◌, ◌+ℤ◌, ◌-ℤ◌, ◌*ℤ◌, pos, length, unsigned_abs, Contains, IsFalse, true, false};
+ghost use Rattle.std.specs.Prelude.{◌≡◌, ◌^◌, ◌*◌, ◌/◌, ◌<◌, ◌≤◌, ◌⊎◌, ◌≤ℤ◌, ◌<ℤ◌, ◌+ℤ◌, ◌-ℤ◌, ◌*ℤ◌, pos, length, unsigned_abs, Contains, IsFalse, true, false};
 ghost use Rattle.lift_grid.specs.Rectangle.{Spans};
 ghost use Rattle.lift_model.specs.Model.{is_goal, choices, row_at};
 ghost use Rattle.lift_model.specs.Links.{AreLinks, HasChoice, state_count, targets_of};
@@ -14,6 +14,18 @@ use corner_lift::{
 };
 use lift_model::Links;
 
+/// The quotient of two numbers. Where they fit 64 bits, so does the division.
+pub(crate) fn quotient(sum: u128, whole: u128) -> u128
+    requires { 1 ≤ whole }
+    ensures { result ≡ sum / whole }
+{
+    let most = u128::from(u64::MAX);
+    if sum <= most && whole <= most {
+        return u128::from(sum as u64 / whole as u64);
+    }
+    sum / whole
+}
+
 /// The quotient, rounded down.
 fn rounded_down(sum: i128, whole: i128) -> i64
     requires sum { pos 0 ≤ℤ sum }
@@ -22,7 +34,7 @@ fn rounded_down(sum: i128, whole: i128) -> i64
     ensures least { pos 0 ≤ℤ result }
     ensures less { sum <ℤ ((result +ℤ pos 1) *ℤ whole) }
 {
-    ((sum as u128) / (whole as u128)) as i64
+    quotient(sum as u128, whole as u128) as i64
 }
 
 /// What is left of a number without a part of it.
@@ -241,7 +253,7 @@ fn set_flag(work: &mut [u32], position: u32) {
 
 /// Flags the positions of the states that lead to a state, but for its own: what it was lowered to is held,
 /// with its self loops.
-fn flag_before(links: &Links, work: &mut [u32], s: u32, position: u32)
+pub(crate) fn flag_before(links: &Links, work: &mut [u32], s: u32, position: u32)
     requires { s < state_count links.now }
 {
     for p in links.positions_before(s) {
@@ -300,7 +312,7 @@ fn turn(
 }
 
 /// Takes the turns of some positions, and tells whether a state fell.
-fn pass(
+pub(crate) fn pass(
     case: &Case,
     links: &Links,
     weights: &[i128],
@@ -325,7 +337,7 @@ fn pass(
 
 /// Lowers the states at some positions until none of them is flagged, or the initial state's number isn't
 /// above the limit.
-fn settle_part(
+pub(crate) fn settle_part(
     case: &Case,
     links: &Links,
     weights: &[i128],
@@ -345,7 +357,7 @@ fn settle_part(
 }
 
 /// Where the component ends that begins at a position, or the last of so many positions.
-fn component_end(links: &Links, low: u32, states: u32) -> u32
+pub(crate) fn component_end(links: &Links, low: u32, states: u32) -> u32
     requires { low < states }
     ensures later { low < result }
     ensures inside { result ≤ states }

@@ -37,10 +37,13 @@ pub record IsLeastLeading (k : CaseData) (spans : Spans) (allowed : List ℕ) (r
 abbrev pub HasNoLeading : CaseData → Spans → List ℕ → (ℕ → ℕ) → ℕ → ℕ → Type 0
 HasNoLeading k spans allowed rank r s = (a : ℕ) → a < length (choices k.model s) → IsLeading k spans allowed rank r s a → ⊥
 
--- where the state has a rank, and is no goal state, one of its choices is and does, below that rank
+-- one of the state's choices is and does
+abbrev pub HasLeading : CaseData → Spans → List ℕ → (ℕ → ℕ) → ℕ → ℕ → Type 0
+HasLeading k spans allowed rank r s = (a : ℕ) × ((a < length (choices k.model s)) × IsLeading k spans allowed rank r s a)
+
+-- so it is below the state's rank, where the state has one and is no goal state
 abbrev pub IsReached : CaseData → Spans → List ℕ → List ℕ → ℕ → Type 0
-IsReached k spans allowed ranks s = is_goal k.model s ≡ false → mark ranks s < unmarked
-    → (a : ℕ) × ((a < length (choices k.model s)) × IsLeading k spans allowed (mark ranks) (mark ranks s) s a)
+IsReached k spans allowed ranks s = is_goal k.model s ≡ false → mark ranks s < unmarked → HasLeading k spans allowed (mark ranks) (mark ranks s) s
 
 -- the state's pick: the least that is and does where the state has a rank and is no goal state, and else none
 pub record IsPickOf (k : CaseData) (spans : Spans) (allowed ranks : List ℕ) (s pick : ℕ) : Type 0 where

@@ -7,7 +7,7 @@ ghost use Rattle.corner_lift.specs.Certificate.{mark, unmarked};
 ghost use Rattle.corner_lift.specs.Stages.{LeadsBelow, AreStages};
 ghost use Rattle.corner_lift.specs.Table.{IsTable};
 ghost use Rattle.robust_rank.specs.Attracting.{Pass};
-ghost use Rattle.robust_rank.specs.Staging.{allows, CanRank, IsLeading, IsLeastLeading, HasNoLeading, row_count, OthersHaveNoPick, is_rank, IsReached, IsPickOf, IsStarting, IsComplete, StageData, IsGathering, AreKept, IsLooked};
+ghost use Rattle.robust_rank.specs.Staging.{allows, CanRank, IsLeading, IsLeastLeading, HasLeading, HasNoLeading, row_count, OthersHaveNoPick, is_rank, IsReached, IsPickOf, IsStarting, IsComplete, StageData, IsGathering, AreKept, IsLooked};
 
 use crate::corners::corners_of;
 use crate::laws::premises;
@@ -241,6 +241,33 @@ fn start(case: &Case, ranks: &mut [u32], queue: &mut [u32]) -> usize
     found
 }
 
+/// The least allowed choice of a state that leads below, where there is one. The last choice isn't looked
+/// at: where no other does, it does.
+fn known_choice(
+    case: &Case,
+    links: &Links,
+    weights: &[i128],
+    allowed: &[u32],
+    s: u32,
+    ranks: &[u32],
+    below: u32,
+) -> u32
+    ghost spans: { Spans }
+    requires rows { CanRank case.now links.now spans weights.now allowed.now }
+    requires state { s < length case.now.model.states }
+    requires ranks { length ranks.now ≡ length case.now.model.states }
+    requires some { HasLeading case.now spans allowed.now (mark ranks.now) below s }
+    ensures { IsLeastLeading case.now spans allowed.now (mark ranks.now) below s result }
+{
+    let last = case.model().choices(s) - 1;
+    for choice in 0..last {
+        if is_leading(case, links, weights, allowed, s, choice, ranks, below) {
+            return choice;
+        }
+    }
+    last
+}
+
 /// The pick of a state: the least allowed choice that leads below its rank. None where it has no rank,
 /// or is a goal state.
 fn pick_of(
@@ -262,10 +289,7 @@ fn pick_of(
     if case.model().is_goal(s) || rank == NONE {
         return NONE;
     }
-    match leading_choice(case, links, weights, allowed, s, ranks, rank) {
-        Some(choice) => choice,
-        None => NONE,
-    }
+    known_choice(case, links, weights, allowed, s, ranks, rank)
 }
 
 /// Writes the picks of all states.

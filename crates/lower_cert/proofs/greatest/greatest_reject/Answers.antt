@@ -1,4 +1,4 @@
-use Rattle.std.proofs.Common.{◌<ℤ◌, negsuc, pos, arith}
+use Rattle.std.proofs.Common.{arith}
 use Rattle.lift_poly.proofs.Ring.{linear}
 use Rattle.lower_cert.proofs.greatest.greatest_reject.Goals as goal
 

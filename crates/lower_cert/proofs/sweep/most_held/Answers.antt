@@ -1,4 +1,4 @@
-use Rattle.std.proofs.Common.{rules, SFits, w64, to_z, of_z, to_z-of_z, arith, ◌<ℤ◌, ◌≤ℤ◌, pos}
+use Rattle.std.proofs.Common.{rules, SFits, w64, to_z, of_z, to_z-of_z, arith}
 use Rattle.lift_poly.proofs.Ring.{linear, le_from_test}
 use Rattle.corner_lift.specs.Case.{number}
 use Rattle.lower_cert.proofs.Means.{Premises, stand}

@@ -1,12 +1,12 @@
-use Rattle.std.proofs.Common.{◌≡◌, ◌<◌, false, refl, sym, subst, arith}
+use Rattle.std.proofs.Common.{◌≡◌, ◌<◌, false, sym, subst, arith}
 use Rattle.lift_model.specs.Model.{is_goal}
 use Rattle.corner_lift.specs.Certificate.{mark, unmarked}
-use Rattle.robust_rank.specs.Staging.{IsLeading}
+use Rattle.robust_rank.specs.Staging.{HasLeading}
 use Rattle.robust_rank.proofs.ranking.pick_of.Goals as goal
 
-pub returns-in-None : goal.returns-in-None
-returns-in-None g c =
+pub known_choice-requires : goal.known_choice-requires
+known_choice-requires g c =
     let isnt : is_goal c.args.case.now.model c.args.s ≡ false = cc in
     let lt : mark c.args.ranks.now c.args.s < unmarked = omega (arith, c.mark_of-rank.ensures) in
     let there = c.requires.1.1.1 isnt lt in
-    absurd (c.in-None.ensures.none refl there.0 there.1.0 (subst (λ n. IsLeading c.args.case.now g.spans c.args.allowed.now (mark c.args.ranks.now) n c.args.s there.0) (sym c.mark_of-rank.ensures) there.1.1))
+    (c.requires.0, (c.requires.1.0, (c.requires.1.1.0, subst (λ n. HasLeading c.args.case.now g.spans c.args.allowed.now (mark c.args.ranks.now) n c.args.s) (sym c.mark_of-rank.ensures) there)))

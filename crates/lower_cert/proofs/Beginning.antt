@@ -1,0 +1,148 @@
+-- A part that is begun anew stays at or above every lower vector.
+use Rattle.std.proofs.Common.{◌≡◌, ◌≢◌, ℕ, ◌+◌, ◌^◌, ◌<◌, ◌≤◌, ◌⊎◌, inl, inr, ⊎_elim, Bool, true, false, not, ◌&&◌, List, Option, Some, None, length, set, ℤ, pos, ◌*ℤ◌, ◌≤ℤ◌, refl, sym, ap, subst, ◌∙◌, arith, nat_lt, true≢false, lt-ltb, ltb-true, ltb-false, length-set, get_or-set_same, get_or-set_other}
+use Rattle.std.proofs.lemmas.List.Elements.{All-set}
+use Rattle.lift_poly.proofs.Ring.{linear}
+use Rattle.lift_grid.specs.Rectangle.{Spans}
+use Rattle.lift_model.specs.Process.{power}
+use Rattle.lift_model.specs.Model.{is_goal, row_at, support}
+use Rattle.lift_model.specs.Links.{LinksData, position}
+use Rattle.corner_lift.specs.Corner.{whole, parameter_count}
+use Rattle.corner_lift.specs.Case.{CaseData, IsCase, IsInside, IsLeast, number, row_value, row_whole, corner_count}
+use Rattle.corner_lift.specs.Certificate.{AreNumbers}
+use Rattle.corner_lift.specs.Laws.{NumbersAreInRange, ParametersAreTheRoots}
+use Rattle.lower_cert.specs.Laws.{ClosedIsAbove}
+use Rattle.lower_cert.specs.Lowering.{IsHigh}
+use Rattle.lower_cert.specs.Beginning.{StandsAt, is_open, KeepsOthers, IsFilledAt, IsEnoughFor, IsEnoughAt, AreEnough, AreAll}
+use Rattle.lower_cert.proofs.Means.{either_way}
+use Rattle.lower_cert.proofs.Heights.{below-no}
+
+same_or_not : (i j : ℕ) → (i ≡ j) ⊎ (i ≢ j)
+same_or_not i j = grind arith
+
+same_or_less : (b a : ℕ) → b < a + 1 → (b < a) ⊎ (b ≡ a)
+same_or_less b a lt = grind arith
+
+-- ---- which states are those of a part
+
+pub open_of : (k : CaseData) (l : LinksData) (low high at s : ℕ) → low ≤ at → at < high → StandsAt k l at s → is_open k l low high s ≡ true
+open_of k l low high at s from to h =
+    let inside = lt-ltb s (length k.model.states) h.state in
+    let after : nat_lt (position l s) low ≡ false = below-no (position l s) low (omega (arith, from, h.is)) in
+    let before : nat_lt (position l s) high ≡ true = lt-ltb (position l s) high (omega (arith, to, h.is)) in
+    rw (h.goal, inside, after, before) refl
+
+parts : (g a b c : Bool) → (not g && (a && (not b && c))) ≡ true → (g ≡ false) × (a ≡ true) × (b ≡ false) × (c ≡ true)
+parts true a b c e = cc
+parts false false b c e = cc
+parts false true true c e = cc
+parts false true false false e = cc
+parts false true false true e = (refl, refl, refl, refl)
+
+-- where a state of a part stands
+pub record IsOpen (k : CaseData) (l : LinksData) (low high s : ℕ) : Type 0 where
+  pub at : StandsAt k l (position l s) s
+  pub from : low ≤ position l s
+  pub to : position l s < high
+
+pub of_open : (k : CaseData) (l : LinksData) (low high s : ℕ) → is_open k l low high s ≡ true → IsOpen k l low high s
+of_open k l low high s e =
+    let p = parts (is_goal k.model s) (nat_lt s (length k.model.states)) (nat_lt (position l s) low) (nat_lt (position l s) high) e in
+    record {
+      at = record { state = ltb-true s (length k.model.states) p.1; goal = p.0; is = refl };
+      from = ltb-false (position l s) low p.2;
+      to = ltb-true (position l s) high p.3;
+    }
+
+-- the state at a position is one
+pub some_same : (s t : ℕ) → Some s ≡ Some t → t ≡ s
+some_same s t e = ap (λ (o : Option ℕ). elim o [ Some n ↦ n | None ↦ 0 ]) (sym e)
+
+-- ---- what is written
+
+pub keeps_same : (k : CaseData) (l : LinksData) (low high : ℕ) (x : List ℤ) → AreNumbers k x → KeepsOthers k l low high x x
+keeps_same k l low high x numbers = record { numbers = numbers; others = λ s e. refl }
+
+pub keeps_both : (k : CaseData) (l : LinksData) (low high : ℕ) (x y z : List ℤ) → KeepsOthers k l low high x y → KeepsOthers k l low high y z → KeepsOthers k l low high x z
+keeps_both k l low high x y z f g = record { numbers = g.numbers; others = λ s e. g.others s e ∙ f.others s e }
+
+module _ (k : CaseData) (l : LinksData) (low high at s : ℕ) (x : List ℤ) (v : ℤ) (numbers : AreNumbers k x) (from : low ≤ at) (to : at < high) (stands : StandsAt k l at s) (least : pos 0 ≤ℤ v) (most : v ≤ℤ pos (2 ^ k.w)) where
+  in_lane : s < length x
+  in_lane = omega (arith, stands.state, numbers.size)
+
+  same : number (set x s v) s ≡ v
+  same = let lt = in_lane in rw get_or-set_same refl
+
+  other : (t : ℕ) → t ≢ s → number (set x s v) t ≡ number x t
+  other t ne = rw get_or-set_other refl
+
+  pub keeps_set : KeepsOthers k l low high x (set x s v)
+  keeps_set = record {
+    numbers = record { size = length-set x s v ∙ numbers.size; range = All-set (λ n. (pos 0 ≤ℤ n) × (n ≤ℤ pos (2 ^ k.w))) x s v (least, most) numbers.range };
+    others = λ t closed. other t (λ e. absurd (true≢false (sym (open_of k l low high at s from to stands) ∙ subst (λ i. is_open k l low high i ≡ false) e closed)));
+  }
+
+  pub filled_some : ((t : ℕ) → StandsAt k l at t → t ≡ s) → IsFilledAt k l low high at v x (set x s v)
+  filled_some only = record {
+    kept = keeps_set;
+    each = λ t. ⊎_elim (λ (e : t ≡ s). inr (ap (λ i. number (set x s v) i) e ∙ same)) (λ (ne : t ≢ s). inl (other t ne)) (same_or_not t s);
+    here = λ t h. ap (λ i. number (set x s v) i) (only t h) ∙ same;
+  }
+
+pub filled_none : (k : CaseData) (l : LinksData) (low high at : ℕ) (x : List ℤ) (v : ℤ) → AreNumbers k x → ((t : ℕ) → StandsAt k l at t → ⊥) → IsFilledAt k l low high at v x x
+filled_none k l low high at x v numbers none = record { kept = keeps_same k l low high x numbers; each = λ t. inl refl; here = λ t h. absurd (none t h) }
+
+-- one position more
+pub filled_more : (k : CaseData) (l : LinksData) (low high at : ℕ) (x y : List ℤ) (v : ℤ) → AreAll k l x v low at → IsFilledAt k l low high at v x y → AreAll k l y v low (at + 1)
+filled_more k l low high at x y v all one p from to t stands =
+    ⊎_elim
+    (λ (less : p < at). ⊎_elim (λ (e : number y t ≡ number x t). e ∙ all p from less t stands) (λ (e : number y t ≡ v). e) (one.each t))
+    (λ (e : p ≡ at). one.here t (subst (λ i. StandsAt k l i t) e stands))
+    (same_or_less p at to)
+
+pub enough_more : (k : CaseData) (l : LinksData) (spans : Spans) (x : List ℤ) (low at : ℕ) → AreEnough k l spans x low at → IsEnoughAt k l spans x at → AreEnough k l spans x low (at + 1)
+enough_more k l spans x low at all one p from to =
+    ⊎_elim
+    (λ (less : p < at). all p from less)
+    (λ (e : p ≡ at). subst (λ i. IsEnoughAt k l spans x i) (sym e) one)
+    (same_or_less p at to)
+
+-- ---- what is enough
+
+-- the least sum tells it
+pub enough_of : ParametersAreTheRoots → (k : CaseData) (spans : Spans) (x : List ℤ) (s a : ℕ) (m : ℤ) → IsInside k.root spans → IsLeast (row_value k spans s a x) (corner_count k s a) m
+    → m ≤ℤ (number x s *ℤ row_whole k s a) → IsEnoughFor k spans x s a
+enough_of parameters k spans x s a m within least le =
+    let row = row_at k.model s a in
+    let same : parameter_count spans (support row) ≡ parameter_count k.root (support row) = parameters k spans row within.within in
+    let wholes : number x s *ℤ whole k.model k.d spans row ≡ number x s *ℤ row_whole k s a = ap (λ n. number x s *ℤ (k.model.common *ℤ power k.d n)) same in
+    (least.attained.0, (subst (λ n. least.attained.0 < 2 ^ n) (sym same) least.attained.1.0, omega (arith, linear, le, least.attained.1.1, wholes)))
+
+-- ---- what stays above
+
+module _ (ranges : NumbersAreInRange) (k : CaseData) (l : LinksData) (spans : Spans) (low high : ℕ) (old new : List ℤ) (is : IsCase k) (within : IsInside k.root spans) (high_old : IsHigh k spans old) (kept : KeepsOthers k l low high old new) where
+  goal_is_closed : (s : ℕ) → is_goal k.model s ≡ true → is_open k l low high s ≡ false
+  goal_is_closed s g = rw g refl
+
+  open_is_no_goal : (s : ℕ) → is_open k l low high s ≡ true → is_goal k.model s ≡ false
+  open_is_no_goal s e = (of_open k l low high s e).at.goal
+
+  -- a vector that no choice lets rise in the part
+  pub closed_high : ClosedIsAbove → AreEnough k l spans new low high → IsHigh k spans new
+  closed_high start enough = record {
+    numbers = kept.numbers;
+    goal = λ s g. kept.others s (goal_is_closed s g) ∙ high_old.goal s g;
+    above = start k spans (is_open k l low high) (number new) is within open_is_no_goal
+        (λ s. (ranges k new s kept.numbers).0)
+        (λ y h s closed. omega (arith, linear, high_old.above y h s, kept.others s closed))
+        (λ s a yes choice. let o = of_open k l low high s yes in enough (position l s) o.from o.to s o.at a choice);
+  }
+
+  -- 1 in the part
+  pub top_high : AreAll k l new (pos (2 ^ k.w)) low high → IsHigh k spans new
+  top_high all = record {
+    numbers = kept.numbers;
+    goal = λ s g. kept.others s (goal_is_closed s g) ∙ high_old.goal s g;
+    above = λ y h s. either_way (is_open k l low high s)
+        (λ e. let o = of_open k l low high s e in omega (arith, linear, all (position l s) o.from o.to s o.at, (ranges k y.numbers s h.numbers).1))
+        (λ e. omega (arith, linear, high_old.above y h s, kept.others s e));
+  }

@@ -1,0 +1,12 @@
+use Rattle.lower_cert.specs.Beginning.{KeepsOthers}
+use Rattle.lower_cert.proofs.begin.raise_part.Given as goal
+
+abbrev pub ghost-raise_pass : goal.ghost-raise_pass
+ghost-raise_pass g a = g.spans
+
+abbrev pub ghost-are_enough : goal.ghost-are_enough
+ghost-are_enough g a = g.spans
+
+-- all else is as it was
+abbrev pub invariant-loop : goal.invariant-loop
+invariant-loop g l = KeepsOthers l.case l.links l.low l.high l.initial.lane l.lane
