@@ -44,8 +44,8 @@ fn is_rounded_up(sum: i64, whole: i64, quotient: i64) -> bool
     }
 }
 
-/// The quotient, rounded up to a whole number, where 64 bits hold the numbers and floats find it: that
-/// takes a third of the time of a division.
+/// The quotient, rounded up to a whole number, where 64 bits hold the numbers and floats find it, which
+/// takes less time than a division.
 #[inline]
 fn quick_quotient(sum: i128, whole: i128) -> Option<i64>
     requires least { pos 0 ≤ℤ sum }
