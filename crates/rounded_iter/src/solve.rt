@@ -112,7 +112,7 @@ impl Extreme {
 
 impl Table<'_> {
     /// The weighted sum of a row at the corner that counts.
-    #[inline]
+    #[inline(never)]
     fn extreme_sum(&self, lane: &[i64], s: u32, a: u32) -> i128
         ghost spans: { Spans }
         requires { CanTry self.now spans lane.now s a }
