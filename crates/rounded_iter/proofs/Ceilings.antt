@@ -9,7 +9,7 @@ use Rattle.lift_poly.proofs.Ring.{linear, as_diff, diffs, diff-same}
 pub less_one-mul : (x c : ℤ) → (x -ℤ pos 1) *ℤ c ≡ x *ℤ c -ℤ c
 less_one-mul x c = rw (as_diff x, as_diff c) (simp diffs (diff-same _ _ _ _ (omega arith)))
 
-less_one_below : (x c a : ℤ) → (x *ℤ c) <ℤ (a +ℤ c) → ((x -ℤ pos 1) *ℤ c) <ℤ a
+pub less_one_below : (x c a : ℤ) → (x *ℤ c) <ℤ (a +ℤ c) → ((x -ℤ pos 1) *ℤ c) <ℤ a
 less_one_below x c a h = rw less_one-mul (omega (arith, linear, h))
 
 -- q is the quotient of sum by whole, rounded up

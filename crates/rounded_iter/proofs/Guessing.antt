@@ -1,5 +1,5 @@
 -- A bound that rose from a guess is the least of all, where at each state it rose above the guess or the guess is no more than any bound.
-use Rattle.std.proofs.Common.{◌≡◌, ◌≢◌, ℕ, zero, suc, ◌+◌, ◌<◌, ◌≤◌, ◌^◌, Bool, true, false, not, cond, List, [], ◌∷◌, length, get_or, ℤ, pos, ◌+ℤ◌, ◌*ℤ◌, ◌≤ℤ◌, ◌<ℤ◌, int_le, refl, sym, ap, subst, ◌∙◌, arith, ◌⊎◌, ⊎_elim, inl, inr}
+use Rattle.std.proofs.Common.{◌≡◌, ◌≢◌, ℕ, zero, suc, ◌<◌, ◌≤◌, ◌^◌, Bool, true, false, not, cond, List, [], ◌∷◌, length, ℤ, pos, ◌+ℤ◌, ◌≤ℤ◌, ◌<ℤ◌, int_le, refl, sym, ap, subst, ◌∙◌, arith, ◌⊎◌, ⊎_elim, inl, inr}
 use Rattle.std.proofs.lemmas.Int.{by_lt_z}
 use Rattle.std.proofs.lemmas.List.{get_or_past, get_or_default}
 use Rattle.lift_poly.proofs.Ring.{linear, le_from_test}
@@ -9,7 +9,7 @@ use Rattle.lift_model.specs.Links.{HasChoice}
 use Rattle.corner_lift.specs.Certificate.{AtMost}
 use Rattle.corner_lift.specs.Case.{CaseData, number, corner_count}
 use Rattle.rounded_iter.specs.declared.table.Extreme.{Extreme}
-use Rattle.rounded_iter.specs.Rising.{TableData, IsRead, Run, IsBelow, IsBound, IsLeastBound, IsEnoughAt, IsEnoughFor}
+use Rattle.rounded_iter.specs.Rising.{TableData, IsRead, IsBelow, IsBound, IsLeastBound, IsEnoughAt, IsEnoughFor}
 use Rattle.rounded_iter.specs.Watching.{count, flag, from_zero, IsGuess, IsLeastFrom, IsFound, IsSure, low_word}
 use Rattle.rounded_iter.proofs.Solving.{RowLaws, across_map, enough_shifted, lt_from_test}
 use Rattle.rounded_iter.proofs.Raising.{in_or_past, goal_inside}

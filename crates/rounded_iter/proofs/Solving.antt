@@ -1,5 +1,5 @@
 -- What a number must be to be enough for a choice, and how far that goes when numbers rise.
-use Rattle.std.proofs.Common.{◌≡◌, ◌≢◌, ◌==◌, ℕ, suc, ◌+◌, ◌*◌, ◌^◌, ◌<◌, ◌≤◌, Bool, true, false, List, [], ◌∷◌, length, set, get_or, All, ℤ, pos, negsuc, ◌+ℤ◌, ◌-ℤ◌, ◌*ℤ◌, ◌≤ℤ◌, ◌<ℤ◌, refl, sym, ap, ap₂, subst, ◌∙◌, arith, ◌⊎◌, ⊎_elim, length-set, get_or-set_same, get_or-set_other, cond, pow_mono, Contains, unsigned_abs, int_le, SFits, w64, to_z, of_z, to_z-of_z, mul-le-mul_left}
+use Rattle.std.proofs.Common.{◌≡◌, ◌≢◌, ◌==◌, ℕ, zero, suc, ◌+◌, ◌*◌, ◌^◌, ◌<◌, ◌≤◌, Bool, true, false, List, [], ◌∷◌, length, set, get_or, All, ℤ, pos, negsuc, ◌+ℤ◌, ◌-ℤ◌, ◌*ℤ◌, ◌≤ℤ◌, ◌<ℤ◌, refl, sym, ap, ap₂, subst, ◌∙◌, arith, ◌⊎◌, ⊎_elim, length-set, get_or-set_same, get_or-set_other, cond, pow_mono, Contains, unsigned_abs, int_le, SFits, w64, to_z, of_z, to_z-of_z, mul-le-mul_left}
 use mir.Syntax.{w128}
 use Rattle.std.proofs.lemmas.Bool.{both_ways}
 use Rattle.std.proofs.lemmas.Int.{ints, by_lt_z, fits_signed_from_abs}
@@ -57,6 +57,15 @@ pub part_room : (m : ℕ) (part whole : ℤ) (limit : ℕ) → pos 0 ≤ℤ part
 part_room m part whole limit least most room =
     let le : unsigned_abs part ≤ unsigned_abs whole = omega (arith, ints, least, most) in
     omega (arith, mul-le-mul_left m le, room)
+
+-- ---- what is above 0
+
+product_positive : (a b : ℤ) → pos 1 ≤ℤ a → pos 1 ≤ℤ b → pos 1 ≤ℤ (a *ℤ b)
+product_positive a b f g = omega (arith, linear, f, mul-le a (pos 1) b (omega (arith, linear, f)) g, mul-comm a (pos 1), one-mul a)
+
+power_positive : (b : ℤ) (n : ℕ) → pos 1 ≤ℤ b → pos 1 ≤ℤ power b n
+power_positive b zero h = omega (arith, linear)
+power_positive b (suc n) h = product_positive b (power b n) h (power_positive b n h)
 
 pub same_or_not : (i j : ℕ) → (i ≡ j) ⊎ (i ≢ j)
 same_or_not i j = grind arith
@@ -198,6 +207,9 @@ module _ (laws : RowLaws) (k : CaseData) (spans : Spans) (is : IsCase k) (within
 
   pub at_spans : (c : ℕ) → c < corner_count k s a → c < 2 ^ parameter_count spans (support row)
   at_spans c lt = subst (λ n. c < 2 ^ n) (sym same_width) lt
+
+  pub whole_positive : pos 1 ≤ℤ full
+  whole_positive = product_positive k.model.common (power k.d (row_parameters k row)) is.asked.model.denominator.0 (power_positive k.d (row_parameters k row) (omega (arith, linear, is.asked.grid.positive)))
 
   -- a row has at least one corner, and few
   pub some_corner : 1 ≤ corner_count k s a

@@ -1,5 +1,5 @@
 -- What the iteration keeps: a vector at or below every bound, which can only rise. A bound is an upper vector where the greatest corner of a row counts, and a value vector where the least does.
-use Rattle.std.specs.Prelude.{◌≡◌, ℕ, ◌+◌, ◌<◌, ◌^◌, ◌⊎◌, true, false, List, [], ◌∷◌, ℤ, pos, ◌-ℤ◌, ◌*ℤ◌, ◌≤ℤ◌, nat_abs, length, slice_set}
+use Rattle.std.specs.Prelude.{◌≡◌, ℕ, ◌+◌, ◌<◌, ◌^◌, ◌⊎◌, true, false, List, [], ◌∷◌, ℤ, pos, ◌-ℤ◌, ◌*ℤ◌, ◌≤ℤ◌, ◌<ℤ◌, nat_abs, length, slice_set}
 use Rattle.lift_grid.specs.Rectangle.{Spans}
 use Rattle.lift_model.specs.Model.{is_goal, choices}
 use Rattle.lift_model.specs.Links.{LinksData, AreLinks, HasChoice}
@@ -76,6 +76,10 @@ pub record IsLeastBound (e : Extreme) (k : CaseData) (spans : Spans) (x : List �
   pub least : (y : List ℤ) → IsBound e k spans y → AtMost x y
 
 -- ---- one choice
+
+-- the quotient of a sum by a whole, rounded up to a whole number
+abbrev pub IsRoundedUp : ℤ → ℤ → ℤ → Type 0
+IsRoundedUp sum whole q = (sum ≤ℤ (q *ℤ whole)) × (((q -ℤ pos 1) *ℤ whole) <ℤ sum)
 
 -- what it needs to try a choice
 pub record CanTry (t : TableData) (spans : Spans) (x : List ℤ) (s a : ℕ) : Type 0 where

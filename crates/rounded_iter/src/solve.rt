@@ -1,27 +1,93 @@
 //! The least number of a state that is enough for one of its choices.
 
-ghost use Rattle.std.specs.Prelude.{◌≡◌, ◌*◌, ◌<◌, ◌^◌, ◌≤ℤ◌, ◌<ℤ◌, ◌*ℤ◌, ◌-ℤ◌, pos, unsigned_abs, Contains, IsFalse, IfSome, [], ◌∷◌};
+ghost use Rattle.std.specs.Prelude.{◌≡◌, ◌*◌, ◌<◌, ◌^◌, ◌≤ℤ◌, ◌<ℤ◌, ◌*ℤ◌, ◌-ℤ◌, pos, unsigned_abs, Contains, IsTrue, IsFalse, IfSome, [], ◌∷◌};
 ghost use Rattle.lift_model.specs.Model.{row_at};
 ghost use Rattle.lift_model.specs.Links.{AreLinks, HasChoice, targets_of};
 ghost use Rattle.lift_grid.specs.Rectangle.{Spans};
 ghost use Rattle.corner_lift.specs.Case.{row_value, row_whole, corner_count, most_precision, engine_limit};
-ghost use Rattle.rounded_iter.specs.Rising.{CanTry, CanSolve, IsExtreme, IsMoreExtreme, SolvesAt, IsSolved};
+ghost use Rattle.rounded_iter.specs.Rising.{CanTry, CanSolve, IsExtreme, IsMoreExtreme, SolvesAt, IsSolved, IsRoundedUp};
 
 use crate::table::{Extreme, Table};
 use corner_lift::{
     corners_bound_weights, rows_at_corners, table_loop, table_max, table_min, table_value,
     table_whole,
 };
+use std::num::{nearest_i64_to_f64, saturating_f64_to_i64};
+
+/// The quotient, rounded up to a whole number, as floats say it: nothing is proved of it.
+#[inline]
+fn guessed_quotient(sum: i64, whole: i64) -> i64 {
+    let low = saturating_f64_to_i64(nearest_i64_to_f64(sum) / nearest_i64_to_f64(whole));
+    low.saturating_add(i64::from(low.wrapping_mul(whole) < sum))
+}
+
+/// Whether this multiple of the whole is at least the sum, and the one before it is not.
+#[inline]
+fn is_first_from(sum: i64, whole: i64, multiple: i64) -> bool
+    requires least { pos 0 ≤ℤ sum }
+    requires positive { pos 1 ≤ℤ whole }
+    ensures { IsTrue result → (sum ≤ℤ multiple) × ((multiple -ℤ whole) <ℤ sum) }
+{
+    sum <= multiple && multiple - whole < sum
+}
+
+/// Whether this is the quotient, rounded up to a whole number.
+#[inline]
+fn is_rounded_up(sum: i64, whole: i64, quotient: i64) -> bool
+    requires least { pos 0 ≤ℤ sum }
+    requires positive { pos 1 ≤ℤ whole }
+    ensures { IsTrue result → IsRoundedUp sum whole quotient }
+{
+    match quotient.checked_mul(whole) {
+        Some(multiple) => is_first_from(sum, whole, multiple),
+        None => false,
+    }
+}
+
+/// The quotient, rounded up to a whole number, where 64 bits hold the numbers and floats find it, which
+/// takes less time than a division.
+#[inline]
+fn quick_quotient(sum: i128, whole: i128) -> Option<i64>
+    requires least { pos 0 ≤ℤ sum }
+    requires positive { pos 1 ≤ℤ whole }
+    ensures { IfSome result (λ quotient. IsRoundedUp sum whole quotient) }
+{
+    let Ok(short_sum) = i64::try_from(sum) else {
+        return None;
+    };
+    let Ok(short_whole) = i64::try_from(whole) else {
+        return None;
+    };
+    let quotient = guessed_quotient(short_sum, short_whole);
+    if is_rounded_up(short_sum, short_whole, quotient) {
+        Some(quotient)
+    } else {
+        None
+    }
+}
+
+/// The same, by a division.
+fn divided(sum: i128, whole: i128) -> i64
+    requires least { pos 0 ≤ℤ sum }
+    requires positive { pos 1 ≤ℤ whole }
+    requires most { sum ≤ℤ (pos (2 ^ most_precision) *ℤ whole) }
+    ensures { IsRoundedUp sum whole result }
+{
+    (sum as u128).div_ceil(whole as u128) as i64
+}
 
 /// The quotient, rounded up to a whole number.
+#[inline]
 fn rounded_up(sum: i128, whole: i128) -> i64
     requires least { pos 0 ≤ℤ sum }
     requires positive { pos 1 ≤ℤ whole }
     requires most { sum ≤ℤ (pos (2 ^ most_precision) *ℤ whole) }
-    ensures enough { sum ≤ℤ (result *ℤ whole) }
-    ensures least { ((result -ℤ pos 1) *ℤ whole) <ℤ sum }
+    ensures { IsRoundedUp sum whole result }
 {
-    (sum as u128).div_ceil(whole as u128) as i64
+    match quick_quotient(sum, whole) {
+        Some(quotient) => quotient,
+        None => divided(sum, whole),
+    }
 }
 
 /// A number times a weight.
@@ -46,6 +112,7 @@ impl Extreme {
 
 impl Table<'_> {
     /// The weighted sum of a row at the corner that counts.
+    #[inline(never)]
     fn extreme_sum(&self, lane: &[i64], s: u32, a: u32) -> i128
         ghost spans: { Spans }
         requires { CanTry self.now spans lane.now s a }
@@ -59,6 +126,7 @@ impl Table<'_> {
     }
 
     /// Whether a row has an entry into its own state.
+    #[inline]
     fn has_loop(&self, s: u32, a: u32) -> bool
         requires links { AreLinks self.now.case.model self.now.links }
         requires row { HasChoice self.now.case.model s a }
@@ -73,6 +141,7 @@ impl Table<'_> {
     }
 
     /// The target of a row that has only one.
+    #[inline]
     fn only_target(&self, s: u32, a: u32) -> Option<u32>
         requires links { AreLinks self.now.case.model self.now.links }
         requires row { HasChoice self.now.case.model s a }
@@ -124,6 +193,7 @@ impl Table<'_> {
 
     /// The least number from the state's own on that is enough for a row. A number that is `top`, as a
     /// goal state's is, is always enough. A row with one entry takes its target's number.
+    #[inline]
     pub(crate) fn enough(&self, lane: &[i64], s: u32, a: u32) -> i64
         ghost spans: { Spans }
         requires { CanTry self.now spans lane.now s a }
@@ -135,10 +205,10 @@ impl Table<'_> {
         if number == self.top {
             return number;
         }
-        let whole = table_whole(self.case, self.links, self.weights, s, a);
         if let Some(target) = self.only_target(s, a) {
             return Extreme::Greatest.of(number, lane[target as usize]);
         }
+        let whole = table_whole(self.case, self.links, self.weights, s, a);
         let sum = self.extreme_sum(lane, s, a);
         if sum <= times(number, whole) {
             return number;

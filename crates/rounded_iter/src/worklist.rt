@@ -2,7 +2,9 @@
 //! order of states has a flag, which says that its state may have to rise.
 
 ghost use Rattle.std.specs.Prelude.{◌≡◌, ◌≢◌, ◌+◌, ◌<◌, ◌≤ℤ◌, ◌<ℤ◌, ℕ, pos, length, IsTrue, IsFalse, IsSome};
-ghost use Rattle.corner_lift.specs.Case.{number};
+ghost use Rattle.lift_model.specs.Model.{choices};
+ghost use Rattle.lift_model.specs.Links.{AreLinks};
+ghost use Rattle.corner_lift.specs.Case.{IsCase, number};
 ghost use Rattle.rounded_iter.specs.Rising.{Run};
 ghost use Rattle.rounded_iter.specs.Watching.{CanRaise, CanRaiseBy, IsRaised, IsRaisedState, CanMark, IsMarked, CanVisit, IsVisited, CanTurn, IsTurned, CanPass, IsPassed, IsSettled, CanGoOn, IsKept, CanClimb, IsClimbed, flag};
 
@@ -10,6 +12,7 @@ use crate::table::{Ended, Table};
 use corner_lift::{corners_bound_weights, rows_at_corners};
 
 /// Flags a position that lies before the frontier, but for one.
+#[inline]
 fn set_flag(work: &mut [u32], position: u32, but: u32, frontier: u32)
     requires { position < length work.old }
     ensures kept { (j : ℕ) → flag work.new j ≡ 0 → flag work.old j ≡ 0 }
@@ -21,6 +24,7 @@ fn set_flag(work: &mut [u32], position: u32, but: u32, frontier: u32)
 }
 
 /// Takes away the flag of a position, and tells whether there was one.
+#[inline]
 fn take_flag(work: &mut [u32], position: u32) -> bool
     requires { position < length work.old }
     ensures clear { flag work.new position ≡ 0 }
@@ -36,6 +40,7 @@ fn take_flag(work: &mut [u32], position: u32) -> bool
 }
 
 /// Whether more passes were made than there is patience for.
+#[inline]
 fn is_over(passes: u32, patience: Option<u32>) -> bool
     ensures { IsTrue result → IsSome patience }
 {
@@ -46,7 +51,19 @@ fn is_over(passes: u32, patience: Option<u32>) -> bool
 }
 
 impl Table<'_> {
+    /// The number of a state's choices, by the links, whose lists lie closer together than the model's.
+    #[inline]
+    fn choice_count(&self, s: u32) -> u32
+        requires case { IsCase self.now.case }
+        requires links { AreLinks self.now.case.model self.now.links }
+        requires state { s < length self.now.case.model.states }
+        ensures { result ≡ length (choices self.now.case.model s) }
+    {
+        self.links.places(s).len() as u32
+    }
+
     /// Raises the number of a state to what is enough for one of its choices, and tells whether it rose.
+    #[inline]
     fn raise_choice(&self, lane: &mut [i64], s: u32, a: u32) -> bool
         ghost run: { Run }
         requires { CanRaiseBy self.now run lane.old s a }
@@ -63,6 +80,7 @@ impl Table<'_> {
     }
 
     /// Raises the number of a state to what is enough for all its choices, and tells whether it rose.
+    #[inline]
     fn raise(&self, lane: &mut [i64], s: u32) -> bool
         ghost run: { Run }
         requires { CanRaise self.now run lane.old s }
@@ -71,7 +89,7 @@ impl Table<'_> {
         rows_at_corners();
         corners_bound_weights();
         let mut rose = false;
-        for a in 0..self.case.model().choices(s) {
+        for a in 0..self.choice_count(s) {
             if self.raise_choice(lane, s, a) {
                 rose = true;
             }
@@ -81,6 +99,7 @@ impl Table<'_> {
 
     /// Flags the states that lead to the one at a position, as far as they stand before the frontier.
     /// The state itself needs no flag: what was raised is enough, with its self loops.
+    #[inline]
     fn mark(&self, work: &mut [u32], s: u32, position: u32, frontier: u32)
         requires { CanMark self.now work.old s position }
         ensures { IsMarked self.now work.old work.new s frontier }
@@ -91,6 +110,7 @@ impl Table<'_> {
     }
 
     /// Raises the state at a position, and where it rose, flags the states that lead to it.
+    #[inline]
     fn visit(
         &self,
         lane: &mut [i64],
@@ -111,6 +131,7 @@ impl Table<'_> {
     }
 
     /// Visits the state at a position, where it is flagged, and tells whether it rose.
+    #[inline]
     fn turn(&self, lane: &mut [i64], work: &mut [u32], position: u32, frontier: u32) -> bool
         ghost run: { Run }
         requires { CanTurn self.now run lane.old work.old position frontier }
@@ -142,6 +163,7 @@ impl Table<'_> {
     }
 
     /// Whether the initial state's number is above the limit.
+    #[inline]
     pub(crate) fn is_past(&self, lane: &[i64]) -> bool
         requires { self.now.case.model.init < length lane.now }
         ensures past { IsTrue result → self.now.limit <ℤ number lane.now self.now.case.model.init }
@@ -177,7 +199,30 @@ impl Table<'_> {
         Ended::Settled
     }
 
+    /// The same for a component whose states were visited once; a single state needs no more.
+    #[inline]
+    fn settle_component(
+        &self,
+        lane: &mut [i64],
+        work: &mut [u32],
+        low: u32,
+        high: u32,
+        patience: Option<u32>,
+    ) -> Ended
+        ghost run: { Run }
+        requires { CanPass self.now run lane.old work.old high }
+        ensures keeps { IsKept self.now run lane.new work.new high }
+        ensures past { result ≡ Ended.Past → self.now.limit <ℤ number lane.new self.now.case.model.init }
+        ensures slow { result ≡ Ended.Slow → IsSome patience }
+    {
+        if low.saturating_add(1) >= high {
+            return Ended::Settled;
+        }
+        self.settle(lane, work, low, high, patience)
+    }
+
     /// Visits the state at a position, the first of those that weren't visited.
+    #[inline]
     fn visit_first(&self, lane: &mut [i64], work: &mut [u32], position: u32)
         ghost run: { Run }
         requires { CanGoOn self.now run lane.old work.old position }
@@ -190,6 +235,7 @@ impl Table<'_> {
     }
 
     /// Whether a component ends before this position.
+    #[inline]
     pub(crate) fn is_end(&self, position: u32) -> bool {
         let before = position.saturating_sub(1) as usize;
         self.links.component_ends().get(before).copied() == Some(position)
@@ -207,7 +253,7 @@ impl Table<'_> {
         for position in 0..states {
             self.visit_first(lane, work, position);
             if self.is_end(position + 1) {
-                match self.settle(lane, work, low, position + 1, patience) {
+                match self.settle_component(lane, work, low, position + 1, patience) {
                     Ended::Settled => low = position + 1,
                     Ended::Past => return Ended::Past,
                     Ended::Slow => return Ended::Slow,

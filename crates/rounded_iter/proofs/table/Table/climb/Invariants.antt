@@ -4,6 +4,9 @@ use Rattle.rounded_iter.proofs.table.Table.climb.Given as goal
 abbrev pub ghost-visit_first : goal.ghost-visit_first
 ghost-visit_first g a = g.run
 
+abbrev pub ghost-settle_component : goal.ghost-settle_component
+ghost-settle_component g a = g.run
+
 abbrev pub ghost-settle : goal.ghost-settle
 ghost-settle g a = g.run
 

@@ -2,7 +2,7 @@ use Rattle.std.proofs.Common.{rules, SFits, w64, ◌*ℤ◌, ◌<ℤ◌, to_z, o
 use mir.Syntax.{w128}
 use Rattle.lift_poly.proofs.Ring.{linear, le_from_test}
 use Rattle.corner_lift.specs.Case.{number, row_whole}
-use Rattle.rounded_iter.proofs.Solving.{laws_of, same_number, lt_from_test, read_product, number_small, some_corner, top_solved, extreme_least, extreme_most, still_solved, lone_solved, only_inside, only_solved}
+use Rattle.rounded_iter.proofs.Solving.{laws_of, same_number, lt_from_test, read_product, number_small, some_corner, top_solved, extreme_least, extreme_most, still_solved, lone_solved, only_inside, only_solved, whole_positive}
 use Rattle.rounded_iter.proofs.table.Table.enough.Goals as goal
 
 pub returns-then-number-self : goal.returns-then-number-self
@@ -25,7 +25,7 @@ returns-in-Some g c =
     let number_fits : SFits w64 (number c.args.lane.now c.args.s) = search rules in
     let target_fits : SFits w64 (number c.args.lane.now c.in-Some.target) = search rules in
     rw (← c.self.view_is, to_z-of_z fits)
-    (only_solved (laws_of c.rows_at_corners.ensures.parameters c.rows_at_corners.ensures.numbers c.rows_at_corners.ensures.range c.rows_at_corners.ensures.rise c.corners_bound_weights.ensures.sum) c.self.inside.case.now g.spans r.read.case r.read.table.inside c.args.s c.args.a r.row c.args.lane.now r.numbers c.self.inside.extreme c.in-Some.target (rw (← c.self.view_is) at c.in-Some.ensures) (rw c.table_whole-whole.ensures.value at c.table_whole-whole.ensures.positive) c.of.result (rw (to_z-of_z number_fits, to_z-of_z target_fits) at c.of.ensures))
+    (only_solved (laws_of c.rows_at_corners.ensures.parameters c.rows_at_corners.ensures.numbers c.rows_at_corners.ensures.range c.rows_at_corners.ensures.rise c.corners_bound_weights.ensures.sum) c.self.inside.case.now g.spans r.read.case r.read.table.inside c.args.s c.args.a r.row c.args.lane.now r.numbers c.self.inside.extreme c.in-Some.target (rw (← c.self.view_is) at c.in-Some.ensures) (whole_positive (laws_of c.rows_at_corners.ensures.parameters c.rows_at_corners.ensures.numbers c.rows_at_corners.ensures.range c.rows_at_corners.ensures.rise c.corners_bound_weights.ensures.sum) c.self.inside.case.now g.spans r.read.case r.read.table.inside c.args.s c.args.a r.row) c.of.result (rw (to_z-of_z number_fits, to_z-of_z target_fits) at c.of.ensures))
 
 pub times-requires : goal.times-requires
 times-requires g c =
@@ -73,5 +73,5 @@ returns g c =
     let short : (number c.args.lane.now c.args.s *ℤ row_whole c.self.inside.case.now c.args.s c.args.a) <ℤ c.extreme_sum-sum.result = omega (arith, linear, to_z-of_z sum_fits, product, whole, lt_from_test (to_z w128 (of_z w128 c.extreme_sum-sum.result)) (to_z w128 (of_z w128 c.times.result)) c.if-sum-times.false) in
     rw (← c.self.view_is, to_z-of_z result_fits)
     (lone_solved (laws_of c.rows_at_corners.ensures.parameters c.rows_at_corners.ensures.numbers c.rows_at_corners.ensures.range c.rows_at_corners.ensures.rise c.corners_bound_weights.ensures.sum) c.self.inside.case.now g.spans r.read.case r.read.table.inside c.args.s c.args.a r.row c.args.lane.now r.numbers _ c.extreme_sum-sum.result (rw (← c.self.view_is) at c.extreme_sum-sum.ensures) (rw (← c.self.view_is) at (c.if-has_loop.ensures (search rules))) (rw c.table_whole-whole.ensures.value at c.table_whole-whole.ensures.positive) short c.rounded_up.result
-    (rw (to_z-of_z sum_fits, to_z-of_z whole_fits, c.table_whole-whole.ensures.value) at c.rounded_up.ensures.enough)
-    (rw (to_z-of_z sum_fits, to_z-of_z whole_fits, c.table_whole-whole.ensures.value) at c.rounded_up.ensures.least))
+    (rw (to_z-of_z sum_fits, to_z-of_z whole_fits, c.table_whole-whole.ensures.value) at c.rounded_up.ensures.0)
+    (rw (to_z-of_z sum_fits, to_z-of_z whole_fits, c.table_whole-whole.ensures.value) at c.rounded_up.ensures.1))

@@ -1,6 +1,5 @@
-use Rattle.std.proofs.Common.{◌+◌, ◌<◌, length, ap, subst, sym, arith}
-use Rattle.lift_model.specs.Model.{ModelData, choices}
-use Rattle.rounded_iter.specs.Rising.{TableData}
+use Rattle.std.proofs.Common.{◌+◌, ◌<◌, length, subst, sym, arith}
+use Rattle.lift_model.specs.Model.{choices}
 use Rattle.rounded_iter.specs.Watching.{IsRaised, IsRaisedBy}
 use Rattle.rounded_iter.proofs.Solving.{laws_of}
 use Rattle.rounded_iter.proofs.Raising.{raised_by_risen, raised_by_kept}
@@ -10,7 +9,7 @@ use Rattle.rounded_iter.proofs.table.Table.raise.Goals.{then-raise_choice, else-
 pub loop-a-preserved : goal.loop-a-preserved
 loop-a-preserved g c =
     let t = c.args.self.now in
-    let choice : c.loop-a.a < length (choices t.case.model c.args.s) = omega (arith, c.loop-a-test.true, c.choices-a-end.ensures, ap (λ (m : ModelData). length (choices m c.args.s)) c.model.ensures.value, ap (λ (d : TableData). length (choices d.case.model c.args.s)) c.self.view_is) in
+    let choice : c.loop-a.a < length (choices t.case.model c.args.s) = omega (arith, c.loop-a-test.true, c.choice_count-a-end.ensures) in
     elim c.if-raise_choice.branch [
       | then-raise_choice w ↦
           subst (λ b. IsRaisedBy t g.run c.args.lane.now c.raise_choice.new.lane c.args.s (c.loop-a.a + 1) b) (sym w.rose-is)

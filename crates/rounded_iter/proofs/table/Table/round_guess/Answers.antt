@@ -1,4 +1,4 @@
-use Rattle.std.proofs.Common.{rules, ◌≡◌, ◌<◌, ◌^◌, true, pos, ◌≤ℤ◌, SFits, w64, to_z-of_z, arith, length, ap, sym, ◌∙◌}
+use Rattle.std.proofs.Common.{rules, ◌≡◌, ◌<◌, ◌^◌, true, pos, ◌≤ℤ◌, SFits, w64, to_z-of_z, arith, length, ap, ◌∙◌}
 use Rattle.lift_model.specs.Model.{ModelData, is_goal}
 use Rattle.rounded_iter.proofs.Raising.{set_more}
 use Rattle.rounded_iter.proofs.Guessing.{guess_of}

@@ -140,5 +140,5 @@ returns g c =
     let left_fits : SFits w128 (to_z w128 (of_z w128 c.table_whole-whole.result) -ℤ to_z w128 (of_z w128 c.table_loop-own.result)) = rw (to_z-of_z whole_fits, to_z-of_z own_fits, c.table_loop-own.ensures) (less_fits _ _ whole_fits (own_least (laws_of c.rows_at_corners.ensures.parameters c.rows_at_corners.ensures.numbers c.rows_at_corners.ensures.range c.rows_at_corners.ensures.rise c.corners_bound_weights.ensures.sum) c.self.inside.case.now g.spans r.can.read.case r.can.read.table.inside c.args.s c.args.a r.can.row c.args.corner) (let some = left_positive (laws_of c.rows_at_corners.ensures.parameters c.rows_at_corners.ensures.numbers c.rows_at_corners.ensures.range c.rows_at_corners.ensures.rise c.corners_bound_weights.ensures.sum) c.self.inside.case.now g.spans r.can.read.case r.can.read.table.inside c.args.s c.args.a r.can.row c.args.lane.now r.can.numbers c.args.corner r.corner short in omega (arith, linear, some, c.table_whole-whole.ensures.value))) in
     rw (← c.self.view_is, to_z-of_z result_fits)
     (solved_at (laws_of c.rows_at_corners.ensures.parameters c.rows_at_corners.ensures.numbers c.rows_at_corners.ensures.range c.rows_at_corners.ensures.rise c.corners_bound_weights.ensures.sum) c.self.inside.case.now g.spans r.can.read.case r.can.read.table.inside c.args.s c.args.a r.can.row c.args.lane.now r.can.numbers c.args.corner r.corner short c.rounded_up.result
-    (rw (to_z-of_z rest_fits, rest, to_z-of_z left_fits, left) at c.rounded_up.ensures.enough)
-    (rw (to_z-of_z rest_fits, rest, to_z-of_z left_fits, left) at c.rounded_up.ensures.least))
+    (rw (to_z-of_z rest_fits, rest, to_z-of_z left_fits, left) at c.rounded_up.ensures.0)
+    (rw (to_z-of_z rest_fits, rest, to_z-of_z left_fits, left) at c.rounded_up.ensures.1))
