@@ -63,8 +63,13 @@ CHECK = Case("check", report_of=ACCEPT)
 LADDER_VERIFY = Case("verify " + LADDER_JOB, LADDER, last=room(2, **LADDER_ROOM))
 LADDER_CHECK = Case("check", report_of=LADDER_VERIFY)
 
+SELFTEST = Case("selftest 1")
+
 # Each of these runs is tried with each of its requests refused in turn.
-CASES = [ACCEPT, DEEP, CHECK, GENERATE, LADDER_VERIFY, LADDER_CHECK]
+CASES = [ACCEPT, DEEP, CHECK, GENERATE, LADDER_VERIFY, LADDER_CHECK, SELFTEST]
+
+# What selftest does in one run: it asks for memory at least as often as these do behind their words.
+SELFTEST_PARTS = [LADDER_VERIFY, LADDER_CHECK]
 
 
 @dataclass
@@ -123,6 +128,9 @@ class Bench:
         """The run with enough memory, and then with each request refused."""
         stdin = self.input_of(case)
         whole = self.run(case.words, stdin)
+        if whole.note == "usage: words\n":
+            print("not built: " + case.words)
+            return
         count = len(whole.requests)
         self.expect(whole.status == 0 and whole.written and count > 0, case.words + ": with enough memory")
         self.expect(whole.before_writing == count, case.words + ": a request after the first byte was written")
@@ -138,6 +146,15 @@ class Bench:
             made_again += again
             self.expect(again or is_out_of_memory(got), told(case, number, count, got))
         print("%5d requests, of which %d are made again: %s" % (count, made_again, case.words), flush=True)
+        if case is SELFTEST:
+            least = sum(self.work_of(part) for part in SELFTEST_PARTS)
+            self.expect(count >= least, "%s: %d requests, and its parts make %d" % (case.words, count, least))
+
+    def work_of(self, case):
+        """How many requests a run makes more than one whose text is refused at its first byte."""
+        stdin = self.input_of(case)
+        whole, refused = self.run(case.words, stdin), self.run(case.words, b"x" * len(stdin))
+        return len(whole.requests) - len(refused.requests)
 
 
 def is_out_of_memory(got):
