@@ -4,6 +4,7 @@ memory."""
 import os
 import resource
 import shutil
+import signal
 import subprocess
 import sys
 import tempfile
@@ -18,6 +19,9 @@ TIME = shutil.which("time")
 
 # The status of a run that reached its limit.
 STOPPED = -1
+
+# How such a run ends, by itself or below `time`.
+ENDINGS_AT_LIMIT = {end for number in (signal.SIGXCPU, signal.SIGKILL) for end in (-number, 128 + number)}
 
 
 @dataclass
@@ -55,7 +59,7 @@ def once(words, source, target, limit):
         _, status, usage = os.wait4(child.pid, 0)
         child.returncode = os.waitstatus_to_exitcode(status)
     seconds = usage.ru_utime + usage.ru_stime
-    if child.returncode != 0 and seconds > limit - 1:
+    if child.returncode in ENDINGS_AT_LIMIT:
         return Run(STOPPED, limit, 0.0, "stopped")
     megabytes = 0.0
     if TIME:
