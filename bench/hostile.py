@@ -30,11 +30,11 @@ class Kind:
 KINDS = {}
 
 
-def kind(words, name=None):
+def kind(words):
     """Enters a function that writes an input; its first line tells what is hostile."""
 
     def enter(make):
-        KINDS[name or make.__name__.replace("_", "-")] = Kind(make, words.split(), make.__doc__.strip())
+        KINDS[make.__name__.replace("_", "-")] = Kind(make, words.split(), make.__doc__.strip())
         return make
 
     return enter
@@ -101,7 +101,7 @@ def cancelling_steps():
     return values_model("1+" + PRODUCT + "+1-1" * 950 + "-" + PRODUCT)
 
 
-@kind(verify(over(LETTERS)), "cancelling-steps-once")
+@kind(verify(over(LETTERS)))
 def cancelling_steps_once():
     """one such value"""
     return values_model("1+" + PRODUCT + "+1-1" * 950 + "-" + PRODUCT, 8192)
@@ -109,14 +109,12 @@ def cancelling_steps_once():
 
 @kind(verify("0<=p<=1"))
 def deep_values():
-    """values 64 deep, 31 in each sum"""
+    """values 64 deep, 21 in each sum"""
     parentheses = "(" * 64 + "p" + ")" * 64
     signs = "-" * 64 + "p"
     value = parentheses + ("-" + parentheses + "+" + signs) * 10
-    rows = []
-    for number in range(MIB // (2 * len(value) + 64) - 1):
-        rows.append(["%d : %s" % (number, value), "%d : 1-(%s)" % (number + 1, value)])
-    return model(to_goal(rows), "p").replace("1-(" + value, "1-(p")
+    count = MIB // (len(value) + 64)
+    return model(to_goal([["%d : %s" % (number, value), "%d : 1-p" % (number + 1)] for number in range(count)]), "p")
 
 
 @kind(verify())
