@@ -7,9 +7,13 @@ mod checked;
 #[cfg(test)]
 mod decided;
 #[cfg(test)]
+mod each_fault;
+#[cfg(test)]
 mod faults;
 #[cfg(test)]
 mod limits;
+#[cfg(test)]
+mod malformed;
 #[cfg(test)]
 mod models;
 #[cfg(test)]

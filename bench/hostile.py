@@ -1,0 +1,482 @@
+#!/usr/bin/env python3
+"""Inputs that try to keep the program busy, each of at most 1 MiB (a tree of 20 levels has 16 MiB).
+
+    hostile.py list                       the kinds
+    hostile.py make KIND > input          writes an input
+    hostile.py run [--bin PATH] [--limit SECONDS] [KIND..]
+                                          runs the program on each, and prints a table
+"""
+
+import argparse
+import itertools
+import os
+import sys
+from dataclasses import dataclass
+from typing import Callable
+
+import measure
+
+MIB = 1 << 20
+LETTERS = "abcdefghijklmnop"
+
+
+@dataclass
+class Kind:
+    make: Callable[[], str]
+    words: list
+    about: str
+
+
+KINDS = {}
+
+
+def kind(words):
+    """Enters a function that writes an input; its first line tells what is hostile."""
+
+    def enter(make):
+        KINDS[make.__name__.replace("_", "-")] = Kind(make, words.split(), make.__doc__.strip())
+        return make
+
+    return enter
+
+
+def verify(region="", bound="1/2", precision=24):
+    words = "verify --goal goal --bound %s --precision %d" % (bound, precision)
+    return words + (" --region " + region if region else "")
+
+
+def over(names, low="1/10", high="9/10"):
+    """A region that gives each parameter the same interval."""
+    return ",".join("%s<=%s<=%s" % (low, name, high) for name in names)
+
+
+def model(states, parameters="", kind="DTMC"):
+    """A model: for each state its labels, and the lines of its choices."""
+    lines = ["@type: " + kind]
+    if parameters:
+        lines += ["@parameters", " ".join(parameters)]
+    lines.append("@model")
+    for number, (labels, rows) in enumerate(states):
+        lines.append("state %d%s" % (number, "".join(" " + label for label in labels)))
+        lines += rows
+    return "\n".join(lines) + "\n"
+
+
+def to_goal(rows):
+    """States 0 and on with these lines; then the goal and a sink, whose numbers follow."""
+    states = [(["init"] if number == 0 else [], lines) for number, lines in enumerate(rows)]
+    goal = len(states)
+    return states + [(["goal"], ["%d : 1" % goal]), ([], ["%d : 1" % (goal + 1)])]
+
+
+# ---- values
+
+
+PRODUCT = "*".join("(1+%s)" % letter for letter in LETTERS)
+
+
+def values_model(value, size=MIB - 4096):
+    """States with a long value that is 1, each written with a number of its own: as many as fit."""
+    rows = []
+    used = 0
+    while True:
+        number = len(rows)
+        row = "%d : %d-%d+%s" % (number, number, number, value)
+        used += len(row) + 12
+        if used > size:
+            break
+        rows.append([row])
+    return model(to_goal(rows), LETTERS)
+
+
+@kind(verify(over(LETTERS)))
+def cancelling_products():
+    """values of 40 products of 65,536 terms each, which cancel in pairs"""
+    return values_model("+".join(["1"] + ["%s-%s" % (PRODUCT, PRODUCT)] * 20))
+
+
+@kind(verify(over(LETTERS)))
+def cancelling_steps():
+    """values that add 1 to 65,536 terms and take it away, 1,900 times"""
+    return values_model("1+" + PRODUCT + "+1-1" * 950 + "-" + PRODUCT)
+
+
+@kind(verify(over(LETTERS)))
+def cancelling_steps_once():
+    """one such value"""
+    return values_model("1+" + PRODUCT + "+1-1" * 950 + "-" + PRODUCT, 8192)
+
+
+@kind(verify("0<=p<=1"))
+def deep_values():
+    """values 64 deep, 21 in each sum"""
+    parentheses = "(" * 64 + "p" + ")" * 64
+    signs = "-" * 64 + "p"
+    value = parentheses + ("-" + parentheses + "+" + signs) * 10
+    count = MIB // (len(value) + 64)
+    return model(to_goal([["%d : %s" % (number, value), "%d : 1-p" % (number + 1)] for number in range(count)]), "p")
+
+
+@kind(verify())
+def long_literals():
+    """numbers with a hundred thousand zeros behind the point"""
+    rows = [["%d : 0.%s1e%d" % (number, "0" * 100000, 100001)] for number in range(10)]
+    return model(to_goal(rows))
+
+
+@kind(verify("0<=p<=1"))
+def placeholders():
+    """65,536 placeholders, of which the last is used"""
+    lines = ["@type: DTMC", "@parameters", "p", "@placeholders"]
+    lines += ["$%x : p" % number for number in range(65535)] + ["$rest : 1-p", "@model", "state 0 init"]
+    lines += ["1 : $fffe", "2 : $rest", "state 1 goal", "1 : 1", "state 2", "2 : 1"]
+    return "\n".join(lines) + "\n"
+
+
+@kind(verify("0<=p<=1"))
+def placeholders_used():
+    """16,000 placeholders, each used once"""
+    count = 16000
+    lines = ["@type: DTMC", "@parameters", "p", "@placeholders"]
+    lines += ["$%d : 1-p" % number for number in range(count)] + ["@model"]
+    for number in range(count):
+        lines += ["state %d%s" % (number, "" if number else " init"), "%d : $%d" % (number + 1, number), "%d : p" % number]
+    lines += ["state %d goal" % count, "%d : 1" % count]
+    return "\n".join(lines) + "\n"
+
+
+# ---- lines
+
+
+@kind(verify())
+def line_feeds():
+    """a million line feeds"""
+    return "\n" * MIB
+
+
+@kind(verify())
+def labels():
+    """one state with half a million labels"""
+    return "@type: DTMC\n@model\nstate 0 init goal" + " a" * 500000 + "\n0 : 1\n"
+
+
+def descending(count, states):
+    """One choice with so many transitions, to the last state first; and the states behind."""
+    lines = ["@type: DTMC", "@model", "state 0 init", "%d : 1" % (count - 1)]
+    lines += ["%d : 0" % target for target in range(count - 2, -1, -1)]
+    for number in range(1, states):
+        lines += ["state %d%s" % (number, " goal" if number == 1 else ""), "%d : 1" % number]
+    return "\n".join(lines) + "\n"
+
+
+@kind(verify())
+def descending_targets():
+    """one choice with 30,000 transitions, to the last state first"""
+    return descending(30000, 30000)
+
+
+@kind(verify())
+def targets_without_states():
+    """one choice with 90,000 transitions, to the last state first, which isn't there"""
+    return descending(90000, 3)
+
+
+# ---- choices
+
+
+@kind(verify())
+def idle_choices():
+    """one state with 65,536 choices, each of which leads back to it"""
+    lines = ["@type: MDP", "@model", "state 0 init"] + ["action", "0 : 1"] * 65535 + ["action", "1 : 1/2", "2 : 1/2"]
+    lines += ["state 1 goal", "action", "1 : 1", "state 2", "action", "2 : 1"]
+    return "\n".join(lines) + "\n"
+
+
+@kind(verify("1/10<=p<=9/10"))
+def idle_choices_over_p():
+    """one state with 40,000 choices, each of which stays with p and is lost else"""
+    lines = ["@type: MDP", "@parameters", "p", "@model", "state 0 init"]
+    lines += ["action", "0 : p", "2 : 1-p"] * 40000 + ["action", "1 : p", "2 : 1-p"]
+    lines += ["state 1 goal", "action", "1 : 1", "state 2", "action", "2 : 1"]
+    return "\n".join(lines) + "\n"
+
+
+# ---- cycles
+
+
+def leaking(count, leak):
+    """A ring of so many states; each is left with a small probability, in equal parts to the goal and the sink."""
+    goal, sink = count, count + 1
+    half = "%s/2" % leak
+    rows = []
+    for number in range(count):
+        after = (number + 1) % count
+        rows.append(["%d : 1-%s" % (after, leak), "%d : %s" % (goal, half), "%d : %s" % (sink, half)])
+    return model(to_goal(rows))
+
+
+@kind(verify(bound="1"))
+def leaking_ring():
+    """a ring of 16,000 states, each of which leaks a millionth"""
+    return leaking(16000, "1e-6")
+
+
+@kind(verify(bound="0"))
+def leaking_ring_from_above():
+    """the same, with a bound of 0"""
+    return leaking(16000, "1e-6")
+
+
+@kind(verify(bound="0", precision=40))
+def leaking_pair_from_above():
+    """two states that lead to each other but for 1e-7, at precision 40, with a bound of 0"""
+    return leaking(2, "1e-7")
+
+
+@kind(verify(bound="1", precision=40))
+def tight_pair():
+    """two states that lead to each other but for 1e-17, at precision 40"""
+    return leaking(2, "1e-17")
+
+
+@kind(verify(bound="0", precision=40))
+def tight_pair_from_above():
+    """the same, with a bound of 0"""
+    return leaking(2, "1e-17")
+
+
+def walking(length, forth="1/2"):
+    goal, sink = length, length + 1
+    rows = []
+    for number in range(length):
+        after = number + 1 if number + 1 < length else goal
+        before = number - 1 if number else sink
+        rows.append(["%d : %s" % (after, forth), "%d : 1-%s" % (before, forth)])
+    return model(to_goal(rows))
+
+
+@kind(verify(bound="1"))
+def fair_walk_300():
+    """a fair walk over 300 states"""
+    return walking(300)
+
+
+@kind(verify(bound="1"))
+def fair_walk_3000():
+    """a fair walk over 3,000 states"""
+    return walking(3000)
+
+
+@kind(verify(bound="1"))
+def fair_walk_28000():
+    """a fair walk over 28,000 states"""
+    return walking(28000)
+
+
+@kind(verify(bound="0"))
+def fair_walk_300_from_above():
+    """a fair walk over 300 states, with a bound of 0"""
+    return walking(300)
+
+
+@kind(verify(bound="0"))
+def fair_walk_3000_from_above():
+    """a fair walk over 3,000 states, with a bound of 0"""
+    return walking(3000)
+
+
+# ---- end components
+
+
+@kind(verify(bound="0"))
+def end_components():
+    """8,000 pairs of states that lead back to each other; each pair may leave, with a probability of its own"""
+    rows = []
+    count = 8000
+    goal, sink = 2 * count, 2 * count + 1
+    for pair in range(count):
+        here, there = 2 * pair, 2 * pair + 1
+        after = (2 * pair + 2) % (2 * count)
+        leave = ["%d : %d/9001" % (goal, pair + 1), "%d : %d/9001" % (sink, 9000 - pair)]
+        rows.append(["action", "%d : 1" % there, "action"] + leave)
+        rows.append(["action", "%d : 1" % here, "action", "%d : 1/2" % after, "%d : 1/2" % sink])
+    return model(to_goal(rows), kind="MDP")
+
+
+def path_at_will(count):
+    """From each state back with certainty, or on at the risk to be lost, which grows; the goal is behind the last one."""
+    goal, sink = count, count + 1
+    rows = []
+    for here in range(count):
+        lines = ["action", "%d : 1" % max(here - 1, 0), "action"]
+        if here + 1 < count:
+            lines += ["%d : %d/12001" % (here + 1, 12000 - here), "%d : %d/12001" % (sink, here + 1)]
+        else:
+            lines += ["%d : 1/2" % goal, "%d : 1/2" % sink]
+        rows.append(lines)
+    return model(to_goal(rows), kind="MDP")
+
+
+@kind(verify(bound="0"))
+def nested_ends_1000():
+    """a path of 1,000 states; each may go back, or on at the risk to be lost"""
+    return path_at_will(1000)
+
+
+@kind(verify(bound="0"))
+def nested_ends_12000():
+    """the same with 12,000 states"""
+    return path_at_will(12000)
+
+
+# ---- parameters
+
+
+@kind(verify(over(LETTERS)))
+def parameter_sets():
+    """rows over four of sixteen parameters, with all sixteen sets, at sixteen corners"""
+    rows = []
+    used = 0
+    while used < MIB - 8192:
+        number = len(rows)
+        names = [LETTERS[(number // 4**place + 4 * place + number * place) % 4 + 4 * place] for place in range(4)]
+        lines = []
+        for corner in range(16):
+            factors = ["%s" % name if corner >> bit & 1 else "(1-%s)" % name for bit, name in enumerate(names)]
+            lines.append("*".join(factors))
+        after = number + 1
+        sums = ["%d : %s" % (number, "+".join(lines[:5])), "%d : %s" % (after, "+".join(lines[5:11])), "SINK : " + "+".join(lines[11:])]
+        rows.append(sums)
+        used += sum(len(line) + 1 for line in sums) + 12
+    sink = str(len(rows) + 1)
+    return model(to_goal([[line.replace("SINK", sink) for line in lines] for lines in rows]), LETTERS)
+
+
+@kind(verify(over(LETTERS)))
+def cancelling_rows():
+    """a row of 27,000 transitions over all sets of four of sixteen parameters, which cancel in pairs"""
+    products = ["*".join(names) for names in itertools.combinations(LETTERS, 4)]
+    lines = ["@type: DTMC", "@parameters", " ".join(LETTERS), "@model", "state 0 init", "0 : 1"]
+    for target in range(1, 26999, 2):
+        product = products[target // 2 % len(products)]
+        lines += ["%d : %s" % (target, product), "%d : -%s" % (target + 1, product)]
+    for number in range(1, 27001):
+        lines += ["state %d%s" % (number, " goal" if number == 1 else ""), "%d : 1" % number]
+    return "\n".join(lines) + "\n"
+
+
+# ---- reports
+
+
+def head(depth=0):
+    """The head of a coin's report over the region from 0 to 1."""
+    return (
+        "plift 1\nkind dtmc\nparameters 1 p\ncommon 1\nstates 3\ninit 0\ngoal 1 1\nrow 0 0 2\nto 1 1:1\nto 2 0:1 1:-1\n"
+        "row 1 0 1\nto 1 0:1\nrow 2 0 1\nto 2 0:1\nbound 1/2\nprecision 4\ndepth %d\ngrid %d\nbox 0 %d\n"
+        % (depth, 2**depth, 2**depth)
+    )
+
+
+@kind("check")
+def unknown_leaves():
+    """a report of 20 levels with a million unknown leaves"""
+    return head(20) + tree(20, "unknown\n")
+
+
+def tree(depth, leaf, axes=1):
+    """A tree all of whose leaves are at that depth; the rectangles are halved on each parameter in turn."""
+
+    def nodes(level):
+        return leaf if level == depth else "split %d\n" % (level % axes) + nodes(level + 1) * 2
+
+    return nodes(0)
+
+
+@kind("check")
+def rows_times_leaves():
+    """a report of 8,192 accepting leaves, for each of which 2,500 rows are tested at sixteen corners"""
+    depth, choices, common = 13, 2500, 10007
+    signs = [(-1) ** bin(subset).count("1") for subset in range(16)]
+    lines = ["plift 1", "kind mdp", "parameters 4 a b c d", "common %d" % common, "states 3", "init 0", "goal 1 1"]
+    for choice in range(choices):
+        terms = [(subset, sign * (choice + 1)) for subset, sign in enumerate(signs)]
+        rest = [(0, common - choice - 1)] + [(subset, -number) for subset, number in terms[1:]]
+        lines.append("row 0 %d 2" % choice)
+        lines += ["to %d " % target + " ".join("%d:%d" % term for term in row) for target, row in ((1, terms), (2, rest))]
+    lines += ["row 1 0 1", "to 1 0:%d" % common, "row 2 0 1", "to 2 0:%d" % common, "bound 1/1", "precision 4"]
+    lines += ["depth %d" % depth, "grid %d" % 2**depth, "box" + " 0 %d" % 2**depth * 4]
+    return "\n".join(lines) + "\n" + tree(depth, "accept 16 16 16\n", 4)
+
+
+@kind("check")
+def long_numbers():
+    """a report whose bound is two numbers of half a million digits"""
+    digits = "7" * (MIB // 2 - 512)
+    return head().replace("bound 1/2", "bound %s/%s" % (digits, digits[:-1] + "9"))
+
+
+@kind("check")
+def long_denominator():
+    """a report whose bound has a denominator of a million digits"""
+    return head().replace("bound 1/2", "bound 1234567/%s" % ("7" * (MIB - 1024)))
+
+
+@kind("check")
+def long_accept():
+    """a report whose leaf has a million numbers too many"""
+    return head() + "accept" + " 1" * (MIB // 2 - 512) + "\n"
+
+
+@kind("check")
+def long_box():
+    """a report whose region ends are numbers of half a million digits"""
+    digits = "8" * (MIB // 2 - 512)
+    return head().replace("box 0 1", "box %s %s" % (digits[:-1] + "0", digits))
+
+
+# ----
+
+
+def run(names, path, limit):
+    print("%-26s %9s %6s %10s %8s  %s" % ("kind", "bytes", "status", "seconds", "MB", "note"))
+    slow = []
+    with measure.scratch() as folder:
+        source, target = os.path.join(folder, "input"), os.path.join(folder, "output")
+        for name in names:
+            text = KINDS[name].make().encode("ascii")
+            with open(source, "wb") as file:
+                file.write(text)
+            result = measure.once([path] + KINDS[name].words, source, target, limit)
+            if result.stopped:
+                slow.append(name)
+            status = "-" if result.stopped else str(result.status)
+            seconds = ("> %d" % limit) if result.stopped else "%.2f" % result.seconds
+            print("%-26s %9d %6s %10s %8.1f  %s" % (name, len(text), status, seconds, result.megabytes, result.note), flush=True)
+    if slow:
+        print("too slow: " + ", ".join(slow))
+    return 1 if slow else 0
+
+
+def main():
+    parser = argparse.ArgumentParser(description=__doc__, formatter_class=argparse.RawDescriptionHelpFormatter)
+    parser.add_argument("what", choices=["list", "make", "run"])
+    parser.add_argument("kinds", nargs="*")
+    parser.add_argument("--bin")
+    parser.add_argument("--limit", type=int, default=60)
+    asked = parser.parse_intermixed_args()
+    names = asked.kinds or list(KINDS)
+    unknown = [name for name in names if name not in KINDS]
+    if unknown:
+        sys.exit("no such kind: " + ", ".join(unknown))
+    if asked.what == "list":
+        for name in names:
+            print("%-26s %s" % (name, KINDS[name].about))
+    elif asked.what == "make":
+        for name in asked.kinds:
+            sys.stdout.write(KINDS[name].make())
+    else:
+        sys.exit(run(names, measure.program(asked.bin), asked.limit))
+
+
+if __name__ == "__main__":
+    main()

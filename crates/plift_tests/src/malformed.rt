@@ -1,0 +1,160 @@
+// A model's text and a report, each with a few lines changed, and what is told of it.
+use crate::models::lines_of;
+use crate::runs::{status_name, words_of};
+use lift_base::{MemSink, SureSource};
+use plift_top::run;
+use std::alloc::Global;
+use std::test::Fail;
+
+// The coin. A semicolon stands between two lines.
+const COIN: &str =
+    "@type: DTMC;@parameters;p;@model;state 0 init;1 : p;2 : 1-p;state 1 heads;1 : 1;state 2;2 : 1";
+
+const VERIFY: &str =
+    "verify --goal heads --bound 1/2 --precision 4 --depth 0 --region 1/10<=p<=2/5";
+
+// Each row: the changes of the coin's lines, the status, no output, and the note. A change is a line's
+// number, and the lines that stand in its place, a semicolon behind each; a `?` stands for the byte 200.
+const MODELS: &str = "\
+5=state 1 init; | ModelRefused | - | model: line 5: StateOrder;
+5=state 0 \"init; | ModelRefused | - | model: line 5: OpenQuote;
+5=state 0 !2 init; | ModelRefused | - | model: line 5: ExitRate;
+5=state 0 {1} init; | ModelRefused | - | model: line 5: Observation;
+7=1 : 1-p; | ModelRefused | - | model: line 7: RepeatedTarget;
+7=3 : 1-p; | ModelRefused | - | model: line 7: TargetRange;
+8=state 1 init heads; | ModelRefused | - | model: line 11: InitCount;
+9= | ModelRefused | - | model: line 8: NoChoice;
+3=p p; | ModelRefused | - | model: line 3: RepeatedName;
+6=1 : q; | ModelRefused | - | model: line 6: UnknownName;
+6=1 : 2p; | ModelRefused | - | model: line 6: Syntax;
+6=1 : p/(1-1); | ModelRefused | - | model: line 6: DivisionByZero;
+6=1 : 4611686018427387904; | ModelRefused | - | model: line 6: Wide;
+6=1 : $r; | ModelRefused | - | model: line 6: UnknownPlace;
+6=1 : (((((((((((((((((((((((((((((((((((((((((((((((((((((((((((((((((p))))))))))))))))))))))))))))))))))))))))))))))))))))))))))))))))); | ModelRefused | - | model: line 6: Deep;
+6=1 : 1/4000000007*p; & 9=1 : 1/4000000009; | ModelRefused | - | model: line 11: CommonDenominator;
+4= | ModelRefused | - | model: line 4: Syntax;
+4= & 5= & 6= & 7= & 8= & 9= & 10= & 11= | ModelRefused | - | model: line 3: MissingSection;
+1=@type: DTMC;@type: DTMC; | ModelRefused | - | model: line 2: RepeatedSection;
+4=@modle; | ModelRefused | - | model: line 4: UnknownSection;
+6=action a;1 : p; & 7=action b;2 : 1-p; | ModelRefused | - | model: line 8: ExtraChoice;
+4=@nr_states;4;@model; | ModelRefused | - | model: line 13: CountMismatch;
+8=state 1 heads?; | ModelRefused | - | model: line 8: NotText;
+";
+
+// The coin's report over that region.
+const REPORT: &str =
+    "plift 1;kind dtmc;parameters 1 p;common 1;states 3;init 0;goal 1 1;row 0 0 2;to 1 1:1;to 2 0:1 1:-1;row 1 0 1;to 1 0:1;row 2 0 1;to 2 0:1;bound 1/2;precision 4;depth 0;grid 10;box 1 4;accept 7 16 0";
+
+// Each row: the changes of the report's lines, the status, the output, and the note.
+const REPORTS: &str = "\
+6=init 3; | NotSound | - | not sound: line 6: Limit;
+9=to 1 2:1; | NotSound | - | not sound: line 9: Limit;
+10=to 2 1:-1 0:1; | NotSound | - | not sound: line 10: Syntax;
+10=to 2 0:1 1:-2; | NotSound | - | not sound: state 0 choice 0: set 1 sums to -1;
+16=precision 41; | NotSound | - | not sound: line 16: Limit;
+19=box 4 4; | NotSound | - | not sound: line 19: Syntax;
+20=accept 7 17 0; | NotSound | - | not sound: line 20: Limit;
+20=accept 7 15 0; | NotSound | - | not sound: node 0 goal state 1 value 15;
+20=accept 9 16 0; | NotSound | - | not sound: node 0 bound: 18 > 16;
+20=accept 8 16 0; | Done | sound accept 1 reject 0 unknown 0; | -
+";
+
+// What stands in the place of a line, where it is changed.
+fn change_of<'a>(changes: &'a str, number: usize) -> Option<&'a str> {
+    for change in changes.split(" & ") {
+        if let Some((key, lines)) = change.split_once('=') {
+            if key.parse().ok() == Some(number) {
+                return Some(lines);
+            }
+        }
+    }
+    None
+}
+
+// Appends the bytes of a text, a line feed for each semicolon and the byte 200 for each `?`.
+fn push_text(bytes: &mut Vec<u8>, text: &str) -> Result<(), Fail> {
+    for byte in text.as_bytes() {
+        bytes.push(match *byte {
+            b';' => b'\n',
+            b'?' => 200,
+            other => other,
+        })?;
+    }
+    Ok(())
+}
+
+// The bytes of a text with changes.
+fn changed(alloc: Global, text: &str, changes: &str) -> Result<Vec<u8>, Fail> {
+    let mut bytes = Vec::new(alloc);
+    for (index, line) in text.split(';').enumerate() {
+        match change_of(changes, index + 1) {
+            Some(lines) => push_text(&mut bytes, lines)?,
+            None => {
+                push_text(&mut bytes, line)?;
+                bytes.push(b'\n')?;
+            }
+        }
+    }
+    Ok(bytes)
+}
+
+// What is told of a text.
+#[derive(Clone, Copy)]
+struct Answer<'a> {
+    status: &'a str,
+    written: &'a str,
+    told: &'a str,
+}
+
+// Whether the words and the text are answered so.
+fn is_answer(alloc: Global, words: &str, text: Vec<u8>, want: Answer<'_>) -> Result<bool, Fail> {
+    let words = words_of(alloc, words, ' ')?;
+    let mut source = SureSource::new(text);
+    let mut out = MemSink::new(alloc, 1000, 100, Vec::new(alloc))?;
+    let mut notes = MemSink::new(alloc, 100, 3, Vec::new(alloc))?;
+    let got = run(alloc, &words, &mut source, &mut out, &mut notes);
+    let written = lines_of(alloc, want.written)?;
+    let told = lines_of(alloc, want.told)?;
+    Ok(
+        status_name(got) == want.status
+            && out.taken() == written.as_slice()
+            && notes.taken() == told.as_slice(),
+    )
+}
+
+// A row's changes and its answer; none where it has too few cells.
+fn answer_of(row: &str) -> Option<(&str, Answer<'_>)> {
+    let mut cells = row.split(" | ");
+    let changes = cells.next()?;
+    let answer = Answer {
+        status: cells.next()?,
+        written: cells.next()?,
+        told: cells.next()?,
+    };
+    Some((changes, answer))
+}
+
+// Whether the text with a row's changes is answered as the row says.
+fn is_answered(alloc: Global, words: &str, text: &str, row: &str) -> Result<bool, Fail> {
+    let Some((changes, want)) = answer_of(row) else {
+        return Ok(false);
+    };
+    let text = changed(alloc, text, changes)?;
+    is_answer(alloc, words, text, want)
+}
+
+#[test]
+fn malformed_models_are_told(rt: HostRuntime) -> Result<(), Fail> {
+    for row in MODELS.lines() {
+        assert!(rt; is_answered(rt.alloc(), VERIFY, COIN, row)?, "{row}");
+    }
+    Ok(())
+}
+
+#[test]
+fn malformed_reports_are_told(rt: HostRuntime) -> Result<(), Fail> {
+    for row in REPORTS.lines() {
+        assert!(rt; is_answered(rt.alloc(), "check", REPORT, row)?, "{row}");
+    }
+    Ok(())
+}

@@ -1,0 +1,183 @@
+#!/usr/bin/env python3
+"""Refuses each request for memory of some runs in turn: status 8, and nothing is written.
+
+    tests/memory/run.py [--bin PATH]
+
+Each request is refused twice: with all behind it, and alone. Refused alone it may be made again at once, as where a list
+asks for more than it needs and then for what it needs; the answer is then the whole one. What verify asks for last is
+its room, so none comes while rectangles are decided and the report is written.
+
+Needs the built program (./plift builds it) and a C compiler, for a small library that is loaded before the C library
+and stands between the two. Prints how many requests each run makes. The last line is 'N passed, M failed'.
+"""
+
+import argparse
+import os
+import shutil
+import subprocess
+import sys
+import tempfile
+from dataclasses import dataclass
+
+HERE = os.path.dirname(os.path.abspath(__file__))
+TOP = os.path.dirname(os.path.dirname(HERE))
+PROGRAM = os.path.join(TOP, "crates", "plift", "out", "plift")
+
+COIN = "examples/coin.drn"
+COIN_JOB = "--goal heads --bound 1/2 --region 1/10<=p<=2/5 --precision 4"
+LADDER = "examples/ladder1.drn"
+LADDER_JOB = "--goal done --bound 1/2 --region 1/2<=p<=3/5,1/2<=q<=3/5 --depth 2"
+
+OUT_OF_MEMORY = 8
+# The first request is for the list of words: without it there is no note.
+NOTES = ("out of memory\n", "")
+
+
+@dataclass
+class Case:
+    """A run: its words, and what it reads: a file, or the report of another run."""
+
+    words: str
+    reads: str = os.devnull
+    report_of: "Case" = None
+    # What is asked for last, in bytes: the room of verify.
+    last: tuple = ()
+
+
+def room(depth, parameters, states, rows, weights):
+    """The seven pools of a room: for each its words, and its list of lanes, a lane being a word."""
+    pools = [(depth + 1, 2 * parameters * 8), (1, weights * 16), (1, states * 8), (1, rows * 4)]
+    pools += [(1, states * 4), (1, states * 4), (1, 2 * states * 4)]
+    return tuple(size for lanes, lane in pools for size in (lanes * lane, lanes * 8))
+
+
+# Different rows have weights of their own, one for each entry at each corner: five for the coin, nine for the ladder.
+COIN_ROOM = {"parameters": 1, "states": 3, "rows": 3, "weights": 5}
+LADDER_ROOM = {"parameters": 2, "states": 4, "rows": 4, "weights": 9}
+
+ACCEPT = Case("verify " + COIN_JOB, COIN, last=room(0, **COIN_ROOM))
+DEEP_JOB = "--goal heads --bound 1/2 --region 1/10<=p<=9/10 --precision 24 --depth 12"
+DEEP = Case("verify " + DEEP_JOB, COIN, last=room(12, **COIN_ROOM))
+GENERATE = Case("generate 1")
+CHECK = Case("check", report_of=ACCEPT)
+LADDER_VERIFY = Case("verify " + LADDER_JOB, LADDER, last=room(2, **LADDER_ROOM))
+LADDER_CHECK = Case("check", report_of=LADDER_VERIFY)
+
+SELFTEST = Case("selftest 1")
+
+# Each of these runs is tried with each of its requests refused in turn.
+CASES = [ACCEPT, DEEP, CHECK, GENERATE, LADDER_VERIFY, LADDER_CHECK, SELFTEST]
+
+# What selftest does in one run: it asks for memory at least as often as these do behind their words.
+SELFTEST_PARTS = [LADDER_VERIFY, LADDER_CHECK]
+
+
+@dataclass
+class Ending:
+    status: int
+    written: bytes
+    note: str
+    requests: list
+    # How many requests were made before the first write to standard output; None where nothing was written.
+    before_writing: int
+
+
+class Bench:
+    def __init__(self, program, folder):
+        self.program = program
+        self.folder = folder
+        self.library = os.path.join(folder, "refuse.so")
+        self.passed = 0
+        self.failed = 0
+        compiler = shutil.which("cc") or shutil.which("gcc") or sys.exit("no C compiler is on the PATH")
+        source = os.path.join(HERE, "refuse.c")
+        subprocess.run([compiler, "-O1", "-shared", "-fPIC", "-o", self.library, source, "-ldl"], check=True)
+
+    def run(self, words, stdin, refused=0, and_all_behind=False):
+        log = os.path.join(self.folder, "log")
+        around = {"LD_PRELOAD": self.library, "PLIFT_REFUSE": str(refused), "PLIFT_LOG": log}
+        if and_all_behind:
+            around["PLIFT_ALL"] = "1"
+        done = subprocess.run(
+            [self.program] + words.split(" "), input=stdin, stdout=subprocess.PIPE, stderr=subprocess.PIPE, env=around, timeout=60
+        )
+        requests, before = [], None
+        with open(log) as file:
+            for line in file:
+                size, what = line.split()
+                if what == "write":
+                    before = len(requests)
+                else:
+                    requests.append(int(size))
+        return Ending(done.returncode, done.stdout, done.stderr.decode("ascii", "replace"), requests, before)
+
+    def input_of(self, case):
+        if case.report_of:
+            return self.run(case.report_of.words, self.input_of(case.report_of)).written
+        with open(os.path.join(TOP, case.reads) if case.reads != os.devnull else os.devnull, "rb") as file:
+            return file.read()
+
+    def expect(self, holds, what):
+        if holds:
+            self.passed += 1
+        else:
+            self.failed += 1
+            print("FAILED: " + what)
+
+    def try_case(self, case):
+        """The run with enough memory, and then with each request refused."""
+        stdin = self.input_of(case)
+        whole = self.run(case.words, stdin)
+        if whole.note == "usage: words\n":
+            print("not built: " + case.words)
+            return
+        count = len(whole.requests)
+        self.expect(whole.status == 0 and whole.written and count > 0, case.words + ": with enough memory")
+        self.expect(whole.before_writing == count, case.words + ": a request after the first byte was written")
+        if case.last:
+            last = tuple(whole.requests[-len(case.last) :])
+            self.expect(last == case.last, "%s: the last requests are %s, not %s" % (case.words, last, case.last))
+        made_again = 0
+        for number in range(1, count + 1):
+            got = self.run(case.words, stdin, number, and_all_behind=True)
+            self.expect(is_out_of_memory(got), told(case, number, count, got))
+            got = self.run(case.words, stdin, number)
+            again = got.status == 0 and got.written == whole.written and len(got.requests) == count + 1
+            made_again += again
+            self.expect(again or is_out_of_memory(got), told(case, number, count, got))
+        print("%5d requests, of which %d are made again: %s" % (count, made_again, case.words), flush=True)
+        if case is SELFTEST:
+            least = sum(self.work_of(part) for part in SELFTEST_PARTS)
+            self.expect(count >= least, "%s: %d requests, and its parts make %d" % (case.words, count, least))
+
+    def work_of(self, case):
+        """How many requests a run makes more than one whose text is refused at its first byte."""
+        stdin = self.input_of(case)
+        whole, refused = self.run(case.words, stdin), self.run(case.words, b"x" * len(stdin))
+        return len(whole.requests) - len(refused.requests)
+
+
+def is_out_of_memory(got):
+    return got.status == OUT_OF_MEMORY and not got.written and got.note in NOTES
+
+
+def told(case, number, count, got):
+    return "%s: request %d of %d: status %d, %d bytes, %r" % (case.words, number, count, got.status, len(got.written), got.note)
+
+
+def main():
+    parser = argparse.ArgumentParser(description=__doc__, formatter_class=argparse.RawDescriptionHelpFormatter)
+    parser.add_argument("--bin", default=PROGRAM)
+    asked = parser.parse_args()
+    if not os.access(asked.bin, os.X_OK):
+        sys.exit(asked.bin + " isn't there: ./plift builds it")
+    with tempfile.TemporaryDirectory(prefix="plift-memory.") as folder:
+        bench = Bench(os.path.abspath(asked.bin), folder)
+        for case in CASES:
+            bench.try_case(case)
+    print("%d passed, %d failed" % (bench.passed, bench.failed))
+    sys.exit(1 if bench.failed else 0)
+
+
+if __name__ == "__main__":
+    main()
