@@ -1,5 +1,5 @@
 -- What an answer says, by the refusal that it comes from.
-use Rattle.std.proofs.Common.{◌≡◌, ◌≢◌, ◌≤◌, ◌<◌, ◌⊎◌, inl, inr, ℕ, List, [], ◌++◌, length, length-append, append-nil, None, Some, Ok, Err, refl, sym, ap, ◌∙◌, subst, arith, Result, IsErr, IsErrAnd}
+use Rattle.std.proofs.Common.{IsOk, ◌≡◌, ◌≢◌, ◌≤◌, ◌<◌, ◌⊎◌, inl, inr, ℕ, List, [], ◌++◌, length, length-append, append-nil, None, Some, Ok, Err, refl, sym, ap, ◌∙◌, subst, arith, Result, IsErr, IsErrAnd}
 use Rattle.std.specs.declared.option.Option.{Option}
 use Rattle.std.specs.Io.KnownBytes.{Appends}
 use Rattle.lift_base.specs.Outside.{Rose, AppendsFront, TakenHas, Wrote}
@@ -24,11 +24,13 @@ use Rattle.plift_words.specs.declared.error.WordsError.{WordsError}
 use Rattle.plift_words.specs.declared.error.WordsError.TheVariants as words
 use Rattle.plift_top.specs.Refused.{words_refusal}
 use Rattle.plift_top.specs.Verify.{WasRead, Reports, ReportsFront, IsRefused, KeepsLimit, text_limit}
-use Rattle.cert_check.specs.Sound.{IsSoundFile}
+use Rattle.cert_text.specs.Forms.{IsToldBound}
+use Rattle.cert_check.specs.Sound.{IsSoundFile, leaf_counts}
 use Rattle.cert_check.specs.Answer.{Answers}
 use Rattle.cert_check.specs.Laws.{AnswersAreOne, SoundFilesPass}
 use Rattle.cert_check.specs.declared.summary.Summary.{Summary}
 use Rattle.cert_check.specs.declared.error.CheckError.{CheckError}
+use Rattle.plift_top.specs.Laws.{RightReportsAreSound}
 use Rattle.plift_top.specs.Check.{IsFoundSound, IsFoundInPart, IsUnsound}
 use Rattle.plift_top.specs.Answers.{Acts, Generates, built, wanted, AsksToVerify, AsksToCheck, AsksToGenerate, NoFault, WroteNote, IsNoted, HasNote, status_of, answered, note_of}
 use Rattle.plift_top.specs.declared.status.Status.{Status}
@@ -92,6 +94,20 @@ module _ {S K : Type 0} (left : S → Option (List ℕ)) (faults : S → ℕ) (t
   reported (Ok (selftest n)) (Ok x) a e j is = absurd a
   reported (Err f) (Ok x) a e j is = absurd a.0
   reported asked (Err r) a e j is = absurd (never_done r e)
+
+  -- what was written for a job is a sound file
+  pub sound : RightReportsAreSound → (asked : Result JobData Field) (answer : Result (Unit {0}) Refusal) → Acts left faults taken counts asked source source' out out' answer
+      → (IsOk answer → (j : VerifyData) → AsksToVerify asked j → IsToldBound j.bound) → answered answer ≡ status.Done → (j : VerifyData) → AsksToVerify asked j
+      → (report : List ℕ) × (leaves : Summary) × IsSoundFile report leaves × Appends (taken out) (taken out') report
+  sound law (Ok (verify i)) (Ok x) a told e j is =
+      let k = case_of a.has.model a.has.root i.precision in
+      let h = a.has.has in
+      (report_text k i.bound h.tree, leaf_counts h.tree, law a.text i.goal a.has.model a.has.root i.precision i.bound h.tree a.has.read h.case (told refl i refl) h.right, h.report)
+  sound law (Ok (generate n)) (Ok x) a told e j is = absurd (cc)
+  sound law (Ok check) (Ok x) a told e j is = absurd (cc)
+  sound law (Ok (selftest n)) (Ok x) a told e j is = absurd a
+  sound law (Err f) (Ok x) a told e j is = absurd a.0
+  sound law asked (Err r) a told e j is = absurd (never_done r e)
 
   noted : (asked : Result JobData Field) (r : Refusal) → Acts {T = Unit {0}} left faults taken counts asked source source' out out' (Err r) → HasNote (status_of r) asked (left source) (left source') (note_of r)
   noted (Ok (verify j)) (refusal.Usage f) a = absurd a.0

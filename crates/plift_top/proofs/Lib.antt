@@ -2,6 +2,7 @@ pub mod Rows
 pub mod Reading
 pub mod Refusals
 pub mod Checks
+pub mod Soundness
 pub mod Acts
 pub mod Leaves
 pub mod Telling

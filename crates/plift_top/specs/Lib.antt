@@ -7,3 +7,4 @@ pub mod Check
 pub mod Steps
 pub mod Refused
 pub mod Answers
+pub mod Laws

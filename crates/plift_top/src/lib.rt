@@ -3,6 +3,7 @@
 
 mod checking;
 mod edge;
+mod laws;
 mod notes;
 mod program;
 mod refusal;
@@ -12,6 +13,7 @@ mod unsound;
 mod verify;
 
 pub use edge::launch;
+pub use laws::right_reports_are_sound;
 pub use program::run;
 pub use report::write_report;
 pub use status::{Status, exit_code};

@@ -1,6 +1,6 @@
 // The whole program, over any source and sinks.
 ghost use Rattle.std.specs.Prelude.{◌≡◌, ◌≢◌, ◌≤◌, ◌<◌, ◌⊎◌, length, List, ℕ};
-ghost use Rattle.std.specs.Prelude.{Some, Ok, Err, IsErr};
+ghost use Rattle.std.specs.Prelude.{Some, Ok, Err, IsErr, IsOk};
 ghost use Rattle.std.specs.Io.KnownBytes.{Appends};
 ghost use Rattle.lift_base.specs.Outside.{Rose, AppendsFront, TakenHas};
 ghost use Rattle.lift_grid.specs.Region.{Region, region};
@@ -10,6 +10,7 @@ ghost use Rattle.corner_lift.specs.Case.{CaseData, IsCase, IsAdmitted, case_of};
 ghost use Rattle.lift_cert.specs.declared.bound.Bound.{Bound};
 ghost use Rattle.region_tree.specs.Right.{IsRightTree};
 ghost use Rattle.cert_text.specs.Report.{report_text};
+ghost use Rattle.cert_text.specs.Forms.{IsToldBound};
 ghost use Rattle.drn_read.specs.Reading.{drn};
 ghost use Rattle.plift_words.specs.Job.{VerifyData};
 ghost use Rattle.plift_words.specs.declared.job.Field.TheVariants.{Words};
@@ -25,6 +26,7 @@ ghost use Rattle.plift_top.specs.Answers.{NoFault, Generates};
 ghost use Rattle.plift_top.specs.Answers.{HasNote, WroteNote, Acts};
 
 use crate::checking::check_report;
+use crate::laws::right_reports_are_sound;
 use crate::notes::end;
 use crate::refusal::Refusal;
 use crate::status::Status;
@@ -55,6 +57,8 @@ fn act<S: Source, K: Sink>(
     ensures answer { Acts S.left S.faults K.taken K.faults (wanted words.now)
         source.old source.new out.old out.new result }
     ensures limit { KeepsLimit result (S.left source.old) (S.left source.new) }
+    ensures bound { IsOk result → (j : VerifyData) → AsksToVerify (wanted words.now) j
+        → IsToldBound j.bound }
 {
     match job_of(alloc, words) {
         Ok(Job::Verify(job)) => verify(alloc, &job, source, out),
@@ -81,6 +85,12 @@ pub fn run<S: Source, K: Sink, E: Sink>(
         → (k : CaseData) × (bound : Bound) × (tree : Tree)
         × IsCase k × IsRightTree k bound tree
         × Appends (K.taken out.old) (K.taken out.new) (report_text k bound tree) }
+
+    // What out took is a sound file.
+    ensures sound { result ≡ Status.Done
+        → (j : VerifyData) → AsksToVerify (wanted words.now.items) j
+        → (report : List ℕ) × (leaves : Summary) × IsSoundFile report leaves
+        × Appends (K.taken out.old) (K.taken out.new) report }
 
     // The source gave a text that stands for a model, which with the job's region makes that case.
     // The tree's leaves tile the root, and each bounds the schedulers inside its rectangle.
@@ -190,6 +200,7 @@ pub fn run<S: Source, K: Sink, E: Sink>(
     first_fault_is_one();
     sound_files_pass();
     answers_are_one();
+    right_reports_are_sound();
     let answer = act(alloc, words, source, out);
     end(notes, answer)
 }
