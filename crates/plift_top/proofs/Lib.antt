@@ -3,6 +3,7 @@ pub mod Reading
 pub mod Refusals
 pub mod Checks
 pub mod Soundness
+pub mod Testing
 pub mod Acts
 pub mod Leaves
 pub mod Telling

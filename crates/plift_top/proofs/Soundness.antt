@@ -1,23 +1,17 @@
 -- Why what is written is a sound file: its head can be told, and its right tree is sound and can be told.
-use Rattle.std.proofs.Common.{◌≡◌, ◌≤◌, ℕ, ◌+◌, Bool, true, false, List, [], ◌∷◌, length, Ok, refl, sym, subst, arith, rules}
-use Rattle.std.specs.Prelude.{All}
-use Rattle.lift_bytes.specs.Bytes.{begins_name, is_name_byte}
+use Rattle.std.proofs.Common.{ℕ, ◌+◌, List, [], ◌∷◌, refl, arith, rules}
 use Rattle.lift_grid.specs.Rectangle.{Spans}
-use Rattle.lift_grid.specs.Region.{Region}
 use Rattle.lift_grid.specs.Tree.{Tree, lower_half, upper_half}
 use Rattle.lift_grid.specs.Tree.Tree.{accept, reject, unknown, split}
-use Rattle.lift_model.specs.Model.{ModelData}
 use Rattle.lift_model.specs.declared.entry.Entry.{Entry}
 use Rattle.corner_lift.specs.Case.{CaseData, IsCase, case_of}
-use Rattle.lift_cert.specs.RejectMiss.{most_height}
 use Rattle.lift_cert.specs.declared.bound.Bound.{Bound}
 use Rattle.lower_cert.specs.AnyRanks.{HeightFits}
 use Rattle.region_tree.specs.Right.{IsRight}
 use Rattle.drn_read.specs.Laws as read
-use Rattle.line_text.specs.Words.{is_name}
 use Rattle.cert_text.specs.Head.{HeadData}
 use Rattle.cert_text.specs.Forms.{IsHead, IsShortName, IsSmallEntry, IsToldBound}
-use Rattle.cert_check.specs.Sound.{IsSoundTree, leaf_counts}
+use Rattle.cert_check.specs.Sound.{IsSoundTree}
 use Rattle.cert_check.specs.Laws.{CanBeTold, SoundTreesAreReports}
 use Rattle.plift_top.specs.Laws.{RightReportsAreSound}
 

@@ -4,10 +4,12 @@
 mod checking;
 mod edge;
 mod laws;
+mod limited;
 mod notes;
 mod program;
 mod refusal;
 mod report;
+mod selftest;
 mod status;
 mod unsound;
 mod verify;
