@@ -22,7 +22,11 @@ generate|0 | usage: N;
 generate|32768 | usage: N;
 generate|000005 | usage: N;
 generate| | usage: N;
-selftest|5 | usage: words;
+selftest | usage: words;
+selftest|5|5 | usage: words;
+selftest|-5 | usage: words;
+selftest|0 | usage: N;
+selftest|32768 | usage: N;
 help | usage: words;
 --help | usage: words;
 -h | usage: words;
@@ -143,6 +147,35 @@ state 2 done
 state 3
 3 : 1
 ";
+
+// Each row: how many blocks, and the line of their ladder.
+const TESTED: &str = "\
+1 | selftest 1 states 4 accept 0 reject 1 unknown 0;
+2 | selftest 2 states 6 accept 0 reject 1 unknown 2;
+3 | selftest 3 states 8 accept 1 reject 0 unknown 0;
+1000 | selftest 1000 states 2002 accept 1 reject 0 unknown 0;
+";
+
+// Whether the ladder of so many blocks is tested, with that line, and nothing is told.
+fn is_tested(alloc: Global, blocks: &str, line: &str) -> Result<bool, Fail> {
+    let words = format!(in alloc; "selftest|{blocks}")?;
+    let mut out = MemSink::new(alloc, 100, 7, Vec::new(alloc))?;
+    let mut notes = MemSink::new(alloc, 100, 3, Vec::new(alloc))?;
+    let got = status_on(alloc, words.as_str(), &mut out, &mut notes)?;
+    let line = lines_of(alloc, line)?;
+    Ok(status_name(got) == "Done" && out.taken() == line.as_slice() && notes.taken().is_empty())
+}
+
+#[test]
+fn ladders_are_tested_and_nothing_read(rt: HostRuntime) -> Result<(), Fail> {
+    for row in TESTED.lines() {
+        let Some((blocks, line)) = row.split_once(" | ") else {
+            return Err(Fail::new("a row has too few cells"));
+        };
+        assert!(rt; is_tested(rt.alloc(), blocks, line)?, "{row}");
+    }
+    Ok(())
+}
 
 #[test]
 fn a_ladder_is_written_and_nothing_read(rt: HostRuntime) -> Result<(), Fail> {

@@ -1,5 +1,5 @@
 -- What an answer says, by the refusal that it comes from.
-use Rattle.std.proofs.Common.{◌≡◌, ◌≢◌, ◌≤◌, ◌<◌, ◌⊎◌, inl, inr, ℕ, List, [], ◌++◌, length, length-append, append-nil, None, Some, Ok, Err, refl, sym, ap, ◌∙◌, subst, arith, Result, IsErr, IsErrAnd}
+use Rattle.std.proofs.Common.{IsOk, ◌≡◌, ◌≢◌, ◌≤◌, ◌<◌, ◌⊎◌, inl, inr, ℕ, List, [], length, append-nil, None, Some, Ok, Err, refl, sym, ap, subst, arith, Result, IsErr, IsErrAnd}
 use Rattle.std.specs.declared.option.Option.{Option}
 use Rattle.std.specs.Io.KnownBytes.{Appends}
 use Rattle.lift_base.specs.Outside.{Rose, AppendsFront, TakenHas, Wrote}
@@ -10,6 +10,7 @@ use Rattle.corner_lift.specs.Case.{CaseData, IsCase, IsAdmitted, case_of}
 use Rattle.lift_cert.specs.declared.bound.Bound.{Bound}
 use Rattle.lift_rows.specs.Laws.{AdmittedHasNoFault}
 use Rattle.region_tree.specs.Right.{IsRightTree}
+use Rattle.region_tree.specs.Laws.{RightTreesAreOne}
 use Rattle.cert_text.specs.Report.{report_text}
 use Rattle.drn_read.specs.Reading.{drn}
 use Rattle.plift_words.specs.Job.{JobData, VerifyData}
@@ -17,25 +18,28 @@ use Rattle.plift_words.specs.Given.{asked, Asks}
 use Rattle.std.specs.declared.alloc.Global.{Global}
 use Rattle.std.specs.Prelude.{String}
 use Rattle.plift_words.specs.Job.JobData.{verify, check, generate, selftest}
-use Rattle.model_gen.specs.Ladder.{ladder_text}
+use Rattle.model_gen.specs.Ladder.{ladder_text, ladder_case}
 use Rattle.plift_words.specs.declared.job.Field.{Field}
 use Rattle.plift_words.specs.declared.job.Field.TheVariants as field
 use Rattle.plift_words.specs.declared.error.WordsError.{WordsError}
 use Rattle.plift_words.specs.declared.error.WordsError.TheVariants as words
 use Rattle.plift_top.specs.Refused.{words_refusal}
 use Rattle.plift_top.specs.Verify.{WasRead, Reports, ReportsFront, IsRefused, KeepsLimit, text_limit}
-use Rattle.cert_check.specs.Sound.{IsSoundFile}
+use Rattle.cert_text.specs.Forms.{IsToldBound}
+use Rattle.cert_check.specs.Sound.{IsSoundFile, leaf_counts}
 use Rattle.cert_check.specs.Answer.{Answers}
 use Rattle.cert_check.specs.Laws.{AnswersAreOne, SoundFilesPass}
 use Rattle.cert_check.specs.declared.summary.Summary.{Summary}
 use Rattle.cert_check.specs.declared.error.CheckError.{CheckError}
+use Rattle.plift_top.specs.Laws.{RightReportsAreSound}
 use Rattle.plift_top.specs.Check.{IsFoundSound, IsFoundInPart, IsUnsound}
-use Rattle.plift_top.specs.Answers.{Acts, Generates, built, wanted, AsksToVerify, AsksToCheck, AsksToGenerate, NoFault, WroteNote, IsNoted, HasNote, status_of, answered, note_of}
+use Rattle.plift_top.specs.Selftest.{one_half, IsLadderTree, ladder_report, tested_line, IsTestedTree, HasLongReport, TellsTested, Selftests}
+use Rattle.plift_top.specs.Answers.{Acts, Generates, wanted, AsksToVerify, AsksToCheck, AsksToGenerate, AsksToSelftest, IsTooLong, NoFault, WroteNote, IsNoted, HasNote, status_of, answered, note_of}
 use Rattle.plift_top.specs.declared.status.Status.{Status}
 use Rattle.plift_top.specs.declared.status.Status.TheVariants as status
 use Rattle.plift_top.specs.declared.refusal.Refusal.{Refusal}
 use Rattle.plift_top.specs.declared.refusal.Refusal.TheVariants as refusal
-use Rattle.plift_top.proofs.Reading.{read_as}
+use Rattle.plift_top.proofs.Reading.{read_as, short, given}
 use Rattle.plift_top.proofs.Refusals.{never_refused, one_status, rows_status}
 
 -- no refusal has the status of what is done
@@ -54,7 +58,7 @@ module _ {S K : Type 0} (left : S → Option (List ℕ)) (faults : S → ℕ) (t
   done (Ok (verify k)) (Ok x) a e j is = let same : k ≡ j = cc in subst (λ (i : VerifyData). WasRead (Reports (taken out) (taken out') i) (left source) (left source')) same a
   done (Ok (generate n)) (Ok x) a e j is = absurd (cc)
   done (Ok check) (Ok x) a e j is = absurd (cc)
-  done (Ok (selftest n)) (Ok x) a e j is = absurd a
+  done (Ok (selftest n)) (Ok x) a e j is = absurd (cc)
   done (Err f) (Ok x) a e j is = absurd a.0
   done asked (Err r) a e j is = absurd (never_done r e)
 
@@ -63,7 +67,7 @@ module _ {S K : Type 0} (left : S → Option (List ℕ)) (faults : S → ℕ) (t
   generated (Ok (generate m)) (Ok x) a e n is = let same : m ≡ n = cc in subst (λ (i : ℕ). Appends (taken out) (taken out') (ladder_text i)) same a.0
   generated (Ok (verify k)) (Ok x) a e n is = absurd (cc)
   generated (Ok check) (Ok x) a e n is = absurd (cc)
-  generated (Ok (selftest m)) (Ok x) a e n is = absurd a
+  generated (Ok (selftest m)) (Ok x) a e n is = absurd (cc)
   generated (Err f) (Ok x) a e n is = absurd a.0
   generated asked (Err r) a e n is = absurd (never_done r e)
 
@@ -74,14 +78,14 @@ module _ {S K : Type 0} (left : S → Option (List ℕ)) (faults : S → ℕ) (t
   generates (Ok (generate m)) (Err _) a n is = absurd a.0
   generates (Ok (verify k)) answer a n is = absurd (cc)
   generates (Ok check) answer a n is = absurd (cc)
-  generates (Ok (selftest m)) answer a n is = absurd a
+  generates (Ok (selftest m)) answer a n is = absurd (cc)
   generates (Err f) answer a n is = absurd (cc)
 
   pub reads_nothing : (asked : Result JobData Field) (answer : Result (Unit {0}) Refusal) → Acts left faults taken counts asked source source' out out' answer → (n : ℕ) → AsksToGenerate asked n → source' ≡ source
   reads_nothing (Ok (generate m)) answer a n is = a.1
   reads_nothing (Ok (verify k)) answer a n is = absurd (cc)
   reads_nothing (Ok check) answer a n is = absurd (cc)
-  reads_nothing (Ok (selftest m)) answer a n is = absurd a
+  reads_nothing (Ok (selftest m)) answer a n is = absurd (cc)
   reads_nothing (Err f) answer a n is = absurd (cc)
 
   pub reported : (asked : Result JobData Field) (answer : Result (Unit {0}) Refusal) → Acts left faults taken counts asked source source' out out' answer → answered answer ≡ status.Done
@@ -89,9 +93,23 @@ module _ {S K : Type 0} (left : S → Option (List ℕ)) (faults : S → ℕ) (t
   reported (Ok (verify i)) (Ok x) a e j is = (let h = a.has.has in (case_of a.has.model a.has.root i.precision, i.bound, h.tree, h.case, h.right, h.report))
   reported (Ok (generate n)) (Ok x) a e j is = absurd (cc)
   reported (Ok check) (Ok x) a e j is = absurd (cc)
-  reported (Ok (selftest n)) (Ok x) a e j is = absurd a
+  reported (Ok (selftest n)) (Ok x) a e j is = absurd (cc)
   reported (Err f) (Ok x) a e j is = absurd a.0
   reported asked (Err r) a e j is = absurd (never_done r e)
+
+  -- what was written for a job is a sound file
+  pub sound : RightReportsAreSound → (asked : Result JobData Field) (answer : Result (Unit {0}) Refusal) → Acts left faults taken counts asked source source' out out' answer
+      → (IsOk answer → (j : VerifyData) → AsksToVerify asked j → IsToldBound j.bound) → answered answer ≡ status.Done → (j : VerifyData) → AsksToVerify asked j
+      → (report : List ℕ) × (leaves : Summary) × IsSoundFile report leaves × Appends (taken out) (taken out') report
+  sound law (Ok (verify i)) (Ok x) a told e j is =
+      let k = case_of a.has.model a.has.root i.precision in
+      let h = a.has.has in
+      (report_text k i.bound h.tree, leaf_counts h.tree, law a.text i.goal a.has.model a.has.root i.precision i.bound h.tree a.has.read h.case (told refl i refl) h.right, h.report)
+  sound law (Ok (generate n)) (Ok x) a told e j is = absurd (cc)
+  sound law (Ok check) (Ok x) a told e j is = absurd (cc)
+  sound law (Ok (selftest n)) (Ok x) a told e j is = absurd (cc)
+  sound law (Err f) (Ok x) a told e j is = absurd a.0
+  sound law asked (Err r) a told e j is = absurd (never_done r e)
 
   noted : (asked : Result JobData Field) (r : Refusal) → Acts {T = Unit {0}} left faults taken counts asked source source' out out' (Err r) → HasNote (status_of r) asked (left source) (left source') (note_of r)
   noted (Ok (verify j)) (refusal.Usage f) a = absurd a.0
@@ -111,7 +129,10 @@ module _ {S K : Type 0} (left : S → Option (List ℕ)) (faults : S → ℕ) (t
   noted (Ok check) refusal.Memory a = (refusal.Memory, refl, refl, tt)
   noted (Ok check) (refusal.Unsound error) a = (refusal.Unsound error, refl, refl, (refl, a.0))
   noted (Ok check) _ a = absurd a.0
-  noted (Ok (selftest n)) _ a = absurd a
+  noted (Ok (selftest n)) refusal.WriteFault a = (refusal.WriteFault, refl, refl, tt)
+  noted (Ok (selftest n)) refusal.TooLong a = (refusal.TooLong, refl, refl, tt)
+  noted (Ok (selftest n)) refusal.Memory a = (refusal.Memory, refl, refl, tt)
+  noted (Ok (selftest n)) _ a = absurd a.0
   noted (Err f) (refusal.Usage g) a = (refusal.Usage g, refl, refl, ap (λ f. Err f) (sym a.0))
   noted (Err f) refusal.Memory a = (refusal.Memory, refl, refl, tt)
   noted (Err f) _ a = absurd a.0
@@ -147,7 +168,8 @@ module _ {S K : Type 0} (left : S → Option (List ℕ)) (faults : S → ℕ) (t
   read_fault (Ok (generate n)) (Err _) a e = absurd (cc)
   read_fault (Ok check) (Err refusal.ReadFault) a e = a.0
   read_fault (Ok check) (Err _) a e = absurd (cc)
-  read_fault (Ok (selftest n)) (Err _) a e = absurd a
+  read_fault (Ok (selftest n)) (Err refusal.ReadFault) a e = absurd a.0
+  read_fault (Ok (selftest n)) (Err _) a e = absurd (cc)
   read_fault (Err f) (Err refusal.ReadFault) a e = absurd a.0
   read_fault (Err f) (Err _) a e = absurd (cc)
 
@@ -160,7 +182,8 @@ module _ {S K : Type 0} (left : S → Option (List ℕ)) (faults : S → ℕ) (t
   write_fault (Ok (generate n)) (Err _) a e = absurd (cc)
   write_fault (Ok check) (Err refusal.WriteFault) a e = a.1
   write_fault (Ok check) (Err _) a e = absurd (cc)
-  write_fault (Ok (selftest n)) (Err _) a e = absurd a
+  write_fault (Ok (selftest n)) (Err refusal.WriteFault) a e = a.0.1
+  write_fault (Ok (selftest n)) (Err _) a e = absurd (cc)
   write_fault (Err f) (Err refusal.WriteFault) a e = absurd a.0
   write_fault (Err f) (Err _) a e = absurd (cc)
 
@@ -171,7 +194,7 @@ module _ {S K : Type 0} (left : S → Option (List ℕ)) (faults : S → ℕ) (t
   part (Ok (verify k)) (Err _) a e j is = absurd (cc)
   part (Ok (generate n)) (Err _) a e j is = absurd (cc)
   part (Ok check) (Err _) a e j is = absurd (cc)
-  part (Ok (selftest n)) (Err _) a e j is = absurd a
+  part (Ok (selftest n)) (Err _) a e j is = absurd (cc)
   part (Err f) (Err _) a e j is = absurd (cc)
 
   pub ladder_part : (asked : Result JobData Field) (answer : Result (Unit {0}) Refusal) → Acts left faults taken counts asked source source' out out' answer → answered answer ≡ status.WriteFault
@@ -181,7 +204,7 @@ module _ {S K : Type 0} (left : S → Option (List ℕ)) (faults : S → ℕ) (t
   ladder_part (Ok (generate m)) (Err _) a e n is = absurd (cc)
   ladder_part (Ok (verify k)) (Err _) a e n is = absurd (cc)
   ladder_part (Ok check) (Err _) a e n is = absurd (cc)
-  ladder_part (Ok (selftest m)) (Err _) a e n is = absurd a
+  ladder_part (Ok (selftest m)) (Err _) a e n is = absurd (cc)
   ladder_part (Err f) (Err _) a e n is = absurd (cc)
 
   pub kept : (asked : Result JobData Field) (answer : Result (Unit {0}) Refusal) → Acts left faults taken counts asked source source' out out' answer → answered answer ≢ status.Done → answered answer ≢ status.WriteFault
@@ -193,7 +216,10 @@ module _ {S K : Type 0} (left : S → Option (List ℕ)) (faults : S → ℕ) (t
   kept (Ok (generate n)) (Err _) a d e = absurd a.0
   kept (Ok check) (Err refusal.WriteFault) a d e = absurd (e refl)
   kept (Ok check) (Err _) a d e = a.1
-  kept (Ok (selftest n)) (Err r) a d e = absurd a
+  kept (Ok (selftest n)) (Err refusal.WriteFault) a d e = absurd (e refl)
+  kept (Ok (selftest n)) (Err refusal.TooLong) a d e = a.0.1
+  kept (Ok (selftest n)) (Err refusal.Memory) a d e = a.0
+  kept (Ok (selftest n)) (Err _) a d e = absurd a.0
   kept (Err f) (Err r) a d e = a.2
 
   pub checked : (asked : Result JobData Field) (answer : Result (Unit {0}) Refusal) → Acts left faults taken counts asked source source' out out' answer → answered answer ≡ status.Done
@@ -201,7 +227,7 @@ module _ {S K : Type 0} (left : S → Option (List ℕ)) (faults : S → ℕ) (t
   checked (Ok check) (Ok x) a e is = a
   checked (Ok (verify j)) (Ok x) a e is = absurd (cc)
   checked (Ok (generate n)) (Ok x) a e is = absurd (cc)
-  checked (Ok (selftest n)) (Ok x) a e is = absurd a
+  checked (Ok (selftest n)) (Ok x) a e is = absurd (cc)
   checked (Err f) (Ok x) a e is = absurd a.0
   checked asked (Err r) a e is = absurd (never_done r e)
 
@@ -212,7 +238,7 @@ module _ {S K : Type 0} (left : S → Option (List ℕ)) (faults : S → ℕ) (t
   line_part (Ok check) (Err _) a e is = absurd (cc)
   line_part (Ok (verify j)) (Err _) a e is = absurd (cc)
   line_part (Ok (generate n)) (Err _) a e is = absurd (cc)
-  line_part (Ok (selftest n)) (Err _) a e is = absurd a
+  line_part (Ok (selftest n)) (Err _) a e is = absurd (cc)
   line_part (Err f) (Err _) a e is = absurd (cc)
 
   pub not_sound : SoundFilesPass → AnswersAreOne → (asked : Result JobData Field) (answer : Result (Unit {0}) Refusal) → Acts left faults taken counts asked source source' out out' answer → answered answer ≡ status.NotSound
@@ -224,9 +250,81 @@ module _ {S K : Type 0} (left : S → Option (List ℕ)) (faults : S → ℕ) (t
   not_sound pass one (Ok (verify j)) (Err _) a e = absurd (cc)
   not_sound pass one (Ok (generate n)) (Err (refusal.Unsound error)) a e = absurd a.0
   not_sound pass one (Ok (generate n)) (Err _) a e = absurd (cc)
-  not_sound pass one (Ok (selftest n)) (Err _) a e = absurd a
+  not_sound pass one (Ok (selftest n)) (Err (refusal.Unsound error)) a e = absurd a.0
+  not_sound pass one (Ok (selftest n)) (Err _) a e = absurd (cc)
   not_sound pass one (Err f) (Err (refusal.Unsound error)) a e = absurd a.0
   not_sound pass one (Err f) (Err _) a e = absurd (cc)
+
+  pub selftested : (asked : Result JobData Field) (answer : Result (Unit {0}) Refusal) → Acts left faults taken counts asked source source' out out' answer → answered answer ≡ status.Done
+      → (n : ℕ) → AsksToSelftest asked n → (tree : Tree) × IsCase (ladder_case n) × IsLadderTree n tree × Appends (taken out) (taken out') (tested_line n (leaf_counts tree))
+  selftested (Ok (selftest m)) (Ok x) a e n is =
+      let same : m ≡ n = cc in
+      subst (λ (i : ℕ). (tree : Tree) × IsCase (ladder_case i) × IsLadderTree i tree × Appends (taken out) (taken out') (tested_line i (leaf_counts tree))) same (a.0.0, a.0.1.case, a.0.1.right, a.0.2)
+  selftested (Ok (verify j)) (Ok x) a e n is = absurd (cc)
+  selftested (Ok (generate m)) (Ok x) a e n is = absurd (cc)
+  selftested (Ok check) (Ok x) a e n is = absurd (cc)
+  selftested (Err f) (Ok x) a e n is = absurd a.0
+  selftested asked (Err r) a e n is = absurd (never_done r e)
+
+  pub tested_part : (asked : Result JobData Field) (answer : Result (Unit {0}) Refusal) → Acts left faults taken counts asked source source' out out' answer → answered answer ≡ status.WriteFault
+      → (n : ℕ) → AsksToSelftest asked n → (tree : Tree) × IsCase (ladder_case n) × IsLadderTree n tree × AppendsFront (taken out) (taken out') (tested_line n (leaf_counts tree))
+  tested_part asked (Ok x) a e n is = absurd (cc)
+  tested_part (Ok (selftest m)) (Err refusal.WriteFault) a e n is =
+      let same : m ≡ n = cc in
+      let tested = a.0.0 in
+      subst (λ (i : ℕ). (tree : Tree) × IsCase (ladder_case i) × IsLadderTree i tree × AppendsFront (taken out) (taken out') (tested_line i (leaf_counts tree))) same (tested.0, tested.1.case, tested.1.right, tested.2)
+  tested_part (Ok (selftest m)) (Err _) a e n is = absurd (cc)
+  tested_part (Ok (verify j)) (Err _) a e n is = absurd (cc)
+  tested_part (Ok (generate m)) (Err _) a e n is = absurd (cc)
+  tested_part (Ok check) (Err _) a e n is = absurd (cc)
+  tested_part (Err f) (Err _) a e n is = absurd (cc)
+
+  pub tests_unread : (asked : Result JobData Field) (answer : Result (Unit {0}) Refusal) → Acts left faults taken counts asked source source' out out' answer → (n : ℕ) → AsksToSelftest asked n → source' ≡ source
+  tests_unread (Ok (selftest m)) answer a n is = a.1
+  tests_unread (Ok (verify k)) answer a n is = absurd (cc)
+  tests_unread (Ok (generate m)) answer a n is = absurd (cc)
+  tests_unread (Ok check) answer a n is = absurd (cc)
+  tests_unread (Err f) answer a n is = absurd (cc)
+
+  -- an answer to `selftest`, by its kind
+  by_test : (Q : ℕ → Status → Type 0) → ((n : ℕ) → TellsTested (Appends (taken out) (taken out')) n → Q n status.Done) → ((n : ℕ) → TellsTested (AppendsFront (taken out) (taken out')) n → Rose (counts out) (counts out') → Q n status.WriteFault)
+      → ((n : ℕ) → HasLongReport n → Q n status.TooLong) → ((n : ℕ) → Q n status.Memory)
+      → (asked : Result JobData Field) (answer : Result (Unit {0}) Refusal) → Acts left faults taken counts asked source source' out out' answer → (n : ℕ) → AsksToSelftest asked n → Q n (answered answer)
+  by_test Q done part long memory (Ok (selftest m)) answer a n is = let same : m ≡ n = cc in subst (λ (i : ℕ). Q i (answered answer)) same (by answer a.0)
+    where
+      by : (answer : Result (Unit {0}) Refusal) → Selftests taken counts m out out' answer → Q m (answered answer)
+      by (Ok x) a = done m a
+      by (Err refusal.WriteFault) a = part m a.0 a.1
+      by (Err refusal.TooLong) a = long m a.0
+      by (Err refusal.Memory) a = memory m
+      by (Err _) a = absurd a
+  by_test Q done part long memory (Ok (verify j)) answer a n is = absurd (cc)
+  by_test Q done part long memory (Ok (generate m)) answer a n is = absurd (cc)
+  by_test Q done part long memory (Ok check) answer a n is = absurd (cc)
+  by_test Q done part long memory (Err f) answer a n is = absurd (cc)
+
+  pub tests : (asked : Result JobData Field) (answer : Result (Unit {0}) Refusal) → Acts left faults taken counts asked source source' out out' answer → (n : ℕ) → AsksToSelftest asked n
+      → (answered answer ≡ status.Done) ⊎ ((answered answer ≡ status.WriteFault) ⊎ ((answered answer ≡ status.TooLong) ⊎ (answered answer ≡ status.Memory)))
+  tests = by_test (λ n (s : Status). (s ≡ status.Done) ⊎ ((s ≡ status.WriteFault) ⊎ ((s ≡ status.TooLong) ⊎ (s ≡ status.Memory)))) (λ n h. inl refl) (λ n h rose. inr (inl refl)) (λ n h. inr (inr (inl refl))) (λ n. inr (inr (inr refl)))
+
+  pub short_tested : NoFault (counts out) (counts out') → (tree : Tree) (asked : Result JobData Field) (answer : Result (Unit {0}) Refusal) → Acts left faults taken counts asked source source' out out' answer → (n : ℕ) → AsksToSelftest asked n
+      → IsLadderTree n tree → length (ladder_report n tree) ≤ text_limit → (answered answer ≡ status.Done) ⊎ (answered answer ≡ status.Memory)
+  short_tested sure tree =
+      by_test (λ n (s : Status). IsLadderTree n tree → length (ladder_report n tree) ≤ text_limit → (s ≡ status.Done) ⊎ (s ≡ status.Memory))
+      (λ n h right few. inl refl) (λ n h rose right few. absurd (sure rose)) (λ n long right few. absurd (let more = long tree right in omega arith)) (λ n right few. inr refl)
+
+  -- a tree that was tested isn't one of a long report
+  not_long : RightTreesAreOne → (n : ℕ) (tree other : Tree) → IsTestedTree n other → IsLadderTree n tree → text_limit < length (ladder_report n tree) → ⊥
+  not_long one n tree other tested right long =
+      let same : other ≡ tree = one (ladder_case n) one_half other tree tested.case tested.right right in
+      let short = tested.short in
+      omega (arith, ap (λ (t : Tree). length (ladder_report n t)) same)
+
+  pub long_tested : RightTreesAreOne → (tree : Tree) (asked : Result JobData Field) (answer : Result (Unit {0}) Refusal) → Acts left faults taken counts asked source source' out out' answer → (n : ℕ) → AsksToSelftest asked n
+      → IsLadderTree n tree → text_limit < length (ladder_report n tree) → (answered answer ≡ status.TooLong) ⊎ (answered answer ≡ status.Memory)
+  long_tested one tree =
+      by_test (λ n (s : Status). IsLadderTree n tree → text_limit < length (ladder_report n tree) → (s ≡ status.TooLong) ⊎ (s ≡ status.Memory))
+      (λ n h right long. absurd (not_long one n tree h.0 h.1 right long)) (λ n h rose right long. absurd (not_long one n tree h.0 h.1 right long)) (λ n h right long. inl refl) (λ n right long. inr refl)
 
   pub unread : (asked : Result JobData Field) (answer : Result (Unit {0}) Refusal) → Acts left faults taken counts asked source source' out out' answer → IsErr asked
       → source' ≡ source
@@ -238,26 +336,42 @@ pub silent : {E : Type 0} (kept : E → Option (List ℕ)) (lost : E → ℕ) (n
 silent kept lost notes notes' (Ok x) n e = n
 silent kept lost notes notes' (Err r) n e = absurd (never_done r e)
 
+-- ---- how much is too much
+
+-- nothing was taken
+untouched : (left : Option (List ℕ)) → TakenHas (λ bytes. length bytes ≤ text_limit) left left
+untouched None = ([], tt, omega arith)
+untouched (Some text) = ([], refl, omega arith)
+
 -- more bytes than a text may have were taken at TooLong, and only there
-pub too_long : (answer : Result (Unit {0}) Refusal) (old new : Option (List ℕ)) → KeepsLimit answer old new → answered answer ≡ status.TooLong → TakenHas (λ bytes. text_limit < length bytes) old new
-too_long (Ok x) old new h e = absurd (cc)
-too_long (Err refusal.TooLong) old new h e = h
-too_long (Err _) old new h e = absurd (cc)
+took_more : (answer : Result (Unit {0}) Refusal) (old new : Option (List ℕ)) → KeepsLimit answer old new → answered answer ≡ status.TooLong → TakenHas (λ bytes. text_limit < length bytes) old new
+took_more (Ok x) old new h e = absurd (cc)
+took_more (Err refusal.TooLong) old new h e = h
+took_more (Err _) old new h e = absurd (cc)
 
-pub within : (answer : Result (Unit {0}) Refusal) (old new : Option (List ℕ)) → KeepsLimit answer old new → answered answer ≢ status.TooLong → TakenHas (λ bytes. length bytes ≤ text_limit) old new
-within (Ok x) old new h e = h
-within (Err refusal.TooLong) old new h e = absurd (e refl)
-within (Err _) old new h e = h
+took_few : (answer : Result (Unit {0}) Refusal) (old new : Option (List ℕ)) → KeepsLimit answer old new → answered answer ≢ status.TooLong → TakenHas (λ bytes. length bytes ≤ text_limit) old new
+took_few (Ok x) old new h e = h
+took_few (Err refusal.TooLong) old new h e = absurd (e refl)
+took_few (Err _) old new h e = h
 
--- a text that was given isn't too long where it is short
-short : (text : List ℕ) (rest : Option (List ℕ)) → length text ≤ text_limit → TakenHas (λ bytes. text_limit < length bytes) (Some text) rest → ⊥
-short text None h long = absurd long.1
-short text (Some ys) h (bytes, is, more) = omega (arith, ap length is, length-append bytes ys)
+module _ {S K : Type 0} (left : S → Option (List ℕ)) (faults : S → ℕ) (taken : K → Option (List ℕ)) (counts : K → ℕ) (source source' : S) (out out' : K) where
+  pub too_long : (asked : Result JobData Field) (answer : Result (Unit {0}) Refusal) → Acts left faults taken counts asked source source' out out' answer → (((n : ℕ) → AsksToSelftest asked n → ⊥) → KeepsLimit answer (left source) (left source'))
+      → answered answer ≡ status.TooLong → IsTooLong asked (left source) (left source')
+  too_long (Ok (selftest n)) (Ok x) a limit e = absurd (cc)
+  too_long (Ok (selftest n)) (Err refusal.TooLong) a limit e = a.0.0
+  too_long (Ok (selftest n)) (Err _) a limit e = absurd (cc)
+  too_long (Ok (verify j)) answer a limit e = took_more answer (left source) (left source') (limit (λ n is. absurd (cc))) e
+  too_long (Ok (generate n)) answer a limit e = took_more answer (left source) (left source') (limit (λ n is. absurd (cc))) e
+  too_long (Ok check) answer a limit e = took_more answer (left source) (left source') (limit (λ n is. absurd (cc))) e
+  too_long (Err f) answer a limit e = took_more answer (left source) (left source') (limit (λ n is. absurd (cc))) e
 
--- a source that tells its content gave this text
-given : (P : List ℕ → Type 0) (text : List ℕ) (rest : Option (List ℕ)) → WasRead P (Some text) rest → P text
-given P text None h = absurd h.consumed
-given P text (Some ys) h = subst P (sym (h.consumed ∙ ap (λ (r : List ℕ). h.text ++ r) h.ended ∙ append-nil h.text)) h.has
+  pub within : (asked : Result JobData Field) (answer : Result (Unit {0}) Refusal) → Acts left faults taken counts asked source source' out out' answer → (((n : ℕ) → AsksToSelftest asked n → ⊥) → KeepsLimit answer (left source) (left source'))
+      → answered answer ≢ status.TooLong → TakenHas (λ bytes. length bytes ≤ text_limit) (left source) (left source')
+  within (Ok (selftest n)) answer a limit e = subst (λ (s : S). TakenHas (λ bytes. length bytes ≤ text_limit) (left source) (left s)) (sym a.1) (untouched (left source))
+  within (Ok (verify j)) answer a limit e = took_few answer (left source) (left source') (limit (λ n is. absurd (cc))) e
+  within (Ok (generate n)) answer a limit e = took_few answer (left source) (left source') (limit (λ n is. absurd (cc))) e
+  within (Ok check) answer a limit e = took_few answer (left source) (left source') (limit (λ n is. absurd (cc))) e
+  within (Err f) answer a limit e = took_few answer (left source) (left source') (limit (λ n is. absurd (cc))) e
 
 -- where a text was given and nothing failed
 module _ {S K : Type 0} (left : S → Option (List ℕ)) (faults : S → ℕ) (taken : K → Option (List ℕ)) (counts : K → ℕ) (source source' : S) (out out' : K) (j : VerifyData) (text : List ℕ) (told : left source ≡ Some text)
@@ -354,11 +468,6 @@ written taken faults old new (Err e) note w = record { part = w.part; whole = λ
 
 -- ---- the words
 
--- nothing was taken
-untouched : (left : Option (List ℕ)) → TakenHas (λ bytes. length bytes ≤ text_limit) left left
-untouched None = ([], tt, omega arith)
-untouched (Some text) = ([], refl, omega arith)
-
 -- a refusal of the words comes before any byte is taken
 pub line_limit : (error : WordsError) (result : Result (Unit {0}) Refusal) (left : Option (List ℕ)) → IsErrAnd result (λ e. e ≡ words_refusal error) → KeepsLimit result left left
 line_limit error (Ok x) left is = absurd is
@@ -375,10 +484,15 @@ module _ {S K : Type 0} (left : S → Option (List ℕ)) (faults : S → ℕ) (t
   -- the words ask for a ladder, and it is written
   pub writes_ladder : (blocks : ℕ) (result : Result (Unit {0}) Refusal) → Generates taken counts blocks out out' result → asked line ≡ Ok (generate blocks) → Acts left faults taken counts (wanted line) source source out out' result
   unfolding wanted
-  writes_ladder blocks result a is = subst (λ (job : Result JobData Field). Acts left faults taken counts (built job) source source out out' result) (sym is) (a, refl)
+  writes_ladder blocks result a is = subst (λ (job : Result JobData Field). Acts left faults taken counts job source source out out' result) (sym is) (a, refl)
 
-  refused_by : (job : Result JobData Field) (error : WordsError) → Asks job (Err error) → Acts {T = Unit {0}} left faults taken counts (built job) source source out out (Err (words_refusal error))
-  refused_by job (words.Usage f) is = subst (λ (job : Result JobData Field). Acts {T = Unit {0}} left faults taken counts (built job) source source out out (Err (refusal.Usage f))) (sym is) (refl, refl, refl)
+  -- the words ask to test a ladder, and it is tested
+  pub tests_ladder : (blocks : ℕ) (result : Result (Unit {0}) Refusal) → Selftests taken counts blocks out out' result → asked line ≡ Ok (selftest blocks) → Acts left faults taken counts (wanted line) source source out out' result
+  unfolding wanted
+  tests_ladder blocks result a is = subst (λ (job : Result JobData Field). Acts left faults taken counts job source source out out' result) (sym is) (a, refl)
+
+  refused_by : (job : Result JobData Field) (error : WordsError) → Asks job (Err error) → Acts {T = Unit {0}} left faults taken counts job source source out out (Err (words_refusal error))
+  refused_by job (words.Usage f) is = subst (λ (job : Result JobData Field). Acts {T = Unit {0}} left faults taken counts job source source out out (Err (refusal.Usage f))) (sym is) (refl, refl, refl)
   refused_by (Ok (verify j)) words.Memory is = (tt, refl)
   refused_by (Ok (generate n)) words.Memory is = absurd is
   refused_by (Ok check) words.Memory is = absurd is
@@ -393,4 +507,4 @@ module _ {S K : Type 0} (left : S → Option (List ℕ)) (faults : S → ℕ) (t
   -- the words ask for no job, or there is no memory to read them
   pub refuses_line : (error : WordsError) (why : Refusal) → Asks (asked line) (Err error) → why ≡ words_refusal error → Acts {T = Unit {0}} left faults taken counts (wanted line) source source out out (Err why)
   unfolding wanted
-  refuses_line error why asks is = subst (λ (r : Refusal). Acts {T = Unit {0}} left faults taken counts (built (asked line)) source source out out (Err r)) (sym is) (refused_by (asked line) error asks)
+  refuses_line error why asks is = subst (λ (r : Refusal). Acts {T = Unit {0}} left faults taken counts (asked line) source source out out (Err r)) (sym is) (refused_by (asked line) error asks)

@@ -2,6 +2,8 @@ pub mod Rows
 pub mod Reading
 pub mod Refusals
 pub mod Checks
+pub mod Soundness
+pub mod Testing
 pub mod Acts
 pub mod Leaves
 pub mod Telling

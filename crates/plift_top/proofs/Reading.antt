@@ -1,8 +1,8 @@
 -- What the steps of a job say of the whole.
-use Rattle.std.proofs.Common.{◌≡◌, ◌≢◌, ℕ, List, Ok, Err, refl, sym, subst, Result, IsErrAnd}
+use Rattle.std.proofs.Common.{◌≡◌, ◌≢◌, ◌≤◌, ◌<◌, ℕ, List, ◌++◌, length, length-append, append-nil, None, Some, Ok, Err, refl, sym, ap, ◌∙◌, subst, arith, Result, IsErrAnd}
 use Rattle.std.specs.declared.option.Option.{Option}
 use Rattle.std.specs.Io.KnownBytes.{Consumes, IsAtEnd}
-use Rattle.lift_base.specs.Outside.{Rose}
+use Rattle.lift_base.specs.Outside.{Rose, TakenHas}
 use Rattle.lift_grid.specs.Region.{Region, region, Fails}
 use Rattle.lift_grid.specs.Rectangle.{Spans}
 use Rattle.lift_grid.specs.declared.rect.Grid.{Grid}
@@ -16,7 +16,7 @@ use Rattle.drn_read.specs.declared.error.DrnCause.TheVariants as cause
 use Rattle.drn_read.specs.declared.error.DrnError.{DrnError}
 use Rattle.plift_words.specs.Job.{VerifyData}
 use Rattle.plift_top.specs.Refused.{model_refusal, region_refusal}
-use Rattle.plift_top.specs.Verify.{WasRead, Makes, IsReported, IsCutOff, IsRefused, IsRefusedAt, IsRefusedOver, Stops, Verifies}
+use Rattle.plift_top.specs.Verify.{WasRead, text_limit, Makes, IsReported, IsCutOff, IsRefused, IsRefusedAt, IsRefusedOver, Stops, Verifies}
 use Rattle.plift_top.specs.Steps.{ReadsModel, NamesRoot, AdmitsCase, WritesOver}
 use Rattle.plift_top.specs.declared.refusal.Refusal.{Refusal}
 use Rattle.plift_top.specs.declared.refusal.Refusal.TheVariants as refusal
@@ -24,6 +24,16 @@ use Rattle.plift_top.specs.declared.refusal.Refusal.TheVariants as refusal
 -- what holds of a text that was read follows from what is known of it
 pub read_as : {P Q : List ℕ → Type 0} {old new : Option (List ℕ)} → ((text : List ℕ) → P text → Q text) → WasRead P old new → WasRead Q old new
 read_as f h = record { text = h.text; consumed = h.consumed; ended = h.ended; has = f h.text h.has }
+
+-- a text that was given isn't too long where it is short
+pub short : (text : List ℕ) (rest : Option (List ℕ)) → length text ≤ text_limit → TakenHas (λ bytes. text_limit < length bytes) (Some text) rest → ⊥
+short text None h long = absurd long.1
+short text (Some ys) h (bytes, is, more) = omega (arith, ap length is, length-append bytes ys)
+
+-- a source that tells its content gave this text
+pub given : (P : List ℕ → Type 0) (text : List ℕ) (rest : Option (List ℕ)) → WasRead P (Some text) rest → P text
+given P text None h = absurd h.consumed
+given P text (Some ys) h = subst P (sym (h.consumed ∙ ap (λ (r : List ℕ). h.text ++ r) h.ended ∙ append-nil h.text)) h.has
 
 -- a text that was read to its end is refused
 module _ {S : Type 0} (left : S → Option (List ℕ)) (faults : S → ℕ) (source source' : S) (goal bytes : List ℕ) (consumed : Consumes (left source) (left source') bytes) (ended : IsAtEnd (left source')) where

@@ -1,10 +1,10 @@
 -- The answers of the program, and the notes that tell them.
-use Rattle.std.specs.Prelude.{◌≡◌, ◌≢◌, ◌≤◌, ⊤, ℕ, List, String, ◌++◌, codes, Ok, Err, Result}
+use Rattle.std.specs.Prelude.{◌≡◌, ◌≢◌, ◌<◌, ◌≤◌, ⊤, ℕ, List, length, String, ◌++◌, codes, Ok, Err, Result}
 use Rattle.std.specs.declared.alloc.Global.{Global}
 use Rattle.std.specs.Fmt.{decimal}
 use Rattle.std.specs.declared.option.Option.{Option}
 use Rattle.std.specs.Io.KnownBytes.{Appends}
-use Rattle.lift_base.specs.Outside.{Rose, AppendsFront}
+use Rattle.lift_base.specs.Outside.{Rose, TakenHas, AppendsFront}
 use Rattle.lift_grid.specs.Faults.{error_name}
 use Rattle.lift_grid.specs.declared.error.RegionError.{RegionError}
 use Rattle.lift_rows.specs.Number.{error_row}
@@ -19,8 +19,9 @@ use Rattle.plift_words.specs.declared.job.Field.{Field}
 use Rattle.plift_words.specs.declared.job.Field.TheVariants as field
 use Rattle.plift_top.specs.Rows.{row_place, row_fault}
 use Rattle.plift_top.specs.Unsound.{unsound_note}
-use Rattle.plift_top.specs.Verify.{Verifies, WasRead, IsRefused}
+use Rattle.plift_top.specs.Verify.{Verifies, WasRead, IsRefused, text_limit}
 use Rattle.plift_top.specs.Check.{Checks}
+use Rattle.plift_top.specs.Selftest.{HasLongReport, Selftests}
 use Rattle.cert_check.specs.Answer.{Answers}
 use Rattle.plift_top.specs.declared.status.Status.{Status}
 use Rattle.plift_top.specs.declared.status.Status.TheVariants as status
@@ -89,14 +90,9 @@ status_number status.WriteFault = 6
 status_number status.TooLong = 7
 status_number status.Memory = 8
 
--- the command `selftest` isn't built yet: its lines are at fault as a whole
-abbrev pub built : Result JobData Field → Result JobData Field
-built (Ok (selftest blocks)) = Err field.Words
-built job = job
-
 -- the job that some words ask for, or their part at fault
 unfoldable pub wanted : List (String Global) → Result JobData Field
-wanted words = built (asked words)
+wanted words = asked words
 
 -- the words ask to verify that
 abbrev pub AsksToVerify : Result JobData Field → VerifyData → Type 0
@@ -109,6 +105,15 @@ AsksToCheck asked = asked ≡ Ok check
 -- the words ask to write the ladder of so many blocks
 abbrev pub AsksToGenerate : Result JobData Field → ℕ → Type 0
 AsksToGenerate asked blocks = asked ≡ Ok (generate blocks)
+
+-- the words ask to verify the ladder of so many blocks, and to check its report
+abbrev pub AsksToSelftest : Result JobData Field → ℕ → Type 0
+AsksToSelftest asked blocks = asked ≡ Ok (selftest blocks)
+
+-- What is too long: the report of the ladder that is tested, and else the text that was read.
+abbrev pub IsTooLong : Result JobData Field → Option (List ℕ) → Option (List ℕ) → Type 0
+IsTooLong (Ok (selftest blocks)) old new = HasLongReport blocks
+IsTooLong asked old new = TakenHas (λ bytes. text_limit < length bytes) old new
 
 -- no fault was counted
 abbrev pub NoFault : ℕ → ℕ → Type 0
@@ -151,10 +156,10 @@ Generates taken counts blocks out out' (Ok _) = Appends (taken out) (taken out')
 Generates taken counts blocks out out' (Err refusal.WriteFault) = AppendsFront (taken out) (taken out') (ladder_text blocks) × Rose (counts out) (counts out')
 Generates taken counts blocks out out' (Err _) = ⊥
 
--- the words ask for a job that is built and it was done or refused, or they ask for none and nothing was touched
+-- the words ask for a job and it was done or refused, or they ask for none and nothing was touched
 abbrev pub Acts : {S K T : Type 0} → (S → Option (List ℕ)) → (S → ℕ) → (K → Option (List ℕ)) → (K → ℕ) → Result JobData Field → S → S → K → K → Result T Refusal → Type 0
 Acts left faults taken counts (Ok (verify job)) source source' out out' result = Verifies left faults taken counts job source source' out out' result
 Acts left faults taken counts (Ok (generate blocks)) source source' out out' result = Generates taken counts blocks out out' result × (source' ≡ source)
 Acts left faults taken counts (Ok check) source source' out out' result = Checks left faults taken counts source source' out out' result
-Acts left faults taken counts (Ok (selftest blocks)) source source' out out' result = ⊥
+Acts left faults taken counts (Ok (selftest blocks)) source source' out out' result = Selftests taken counts blocks out out' result × (source' ≡ source)
 Acts left faults taken counts (Err f) source source' out out' result = RefusesLine f result × (source' ≡ source) × (out' ≡ out)

@@ -3,15 +3,19 @@
 
 mod checking;
 mod edge;
+mod laws;
+mod limited;
 mod notes;
 mod program;
 mod refusal;
 mod report;
+mod selftest;
 mod status;
 mod unsound;
 mod verify;
 
 pub use edge::launch;
+pub use laws::right_reports_are_sound;
 pub use program::run;
 pub use report::write_report;
 pub use status::{Status, exit_code};

@@ -1,6 +1,6 @@
 // The whole program, over any source and sinks.
 ghost use Rattle.std.specs.Prelude.{◌≡◌, ◌≢◌, ◌≤◌, ◌<◌, ◌⊎◌, length, List, ℕ};
-ghost use Rattle.std.specs.Prelude.{Some, Ok, Err, IsErr};
+ghost use Rattle.std.specs.Prelude.{Some, Ok, Err, IsErr, IsOk};
 ghost use Rattle.std.specs.Io.KnownBytes.{Appends};
 ghost use Rattle.lift_base.specs.Outside.{Rose, AppendsFront, TakenHas};
 ghost use Rattle.lift_grid.specs.Region.{Region, region};
@@ -10,30 +10,35 @@ ghost use Rattle.corner_lift.specs.Case.{CaseData, IsCase, IsAdmitted, case_of};
 ghost use Rattle.lift_cert.specs.declared.bound.Bound.{Bound};
 ghost use Rattle.region_tree.specs.Right.{IsRightTree};
 ghost use Rattle.cert_text.specs.Report.{report_text};
+ghost use Rattle.cert_text.specs.Forms.{IsToldBound};
 ghost use Rattle.drn_read.specs.Reading.{drn};
 ghost use Rattle.plift_words.specs.Job.{VerifyData};
 ghost use Rattle.plift_words.specs.declared.job.Field.TheVariants.{Words};
 ghost use Rattle.plift_top.specs.Verify.{WasRead, Reports, ReportsFront};
 ghost use Rattle.plift_top.specs.Verify.{IsRefused, KeepsLimit, text_limit};
-ghost use Rattle.model_gen.specs.Ladder.{ladder_text};
+ghost use Rattle.model_gen.specs.Ladder.{ladder_text, ladder_case};
 ghost use Rattle.plift_top.specs.Answers.{status_of, wanted, AsksToVerify, AsksToCheck};
-ghost use Rattle.plift_top.specs.Answers.{AsksToGenerate};
-ghost use Rattle.cert_check.specs.Sound.{IsSoundFile};
+ghost use Rattle.plift_top.specs.Answers.{AsksToGenerate, AsksToSelftest, IsTooLong};
+ghost use Rattle.plift_top.specs.Selftest.{one_half, tested_line};
+ghost use Rattle.cert_check.specs.Sound.{IsSoundFile, leaf_counts};
 ghost use Rattle.cert_check.specs.declared.summary.Summary.{Summary};
 ghost use Rattle.plift_top.specs.Check.{IsFoundSound, IsFoundInPart, IsUnsound};
 ghost use Rattle.plift_top.specs.Answers.{NoFault, Generates};
 ghost use Rattle.plift_top.specs.Answers.{HasNote, WroteNote, Acts};
 
 use crate::checking::check_report;
+use crate::laws::right_reports_are_sound;
 use crate::notes::end;
 use crate::refusal::Refusal;
+use crate::selftest::selftest;
 use crate::status::Status;
 use crate::verify::verify;
 use cert_check::{answers_are_one, sound_files_pass};
 use lift_base::{Sink, Source, write_buffered};
 use lift_rows::first_fault_is_one;
 use model_gen::Ladder;
-use plift_words::{Field, Job, job_of};
+use plift_words::{Job, job_of};
+use region_tree::right_trees_are_one;
 use std::alloc::Global;
 
 // Writes a ladder.
@@ -54,14 +59,16 @@ fn act<S: Source, K: Sink>(
 ) -> Result<(), Refusal>
     ensures answer { Acts S.left S.faults K.taken K.faults (wanted words.now)
         source.old source.new out.old out.new result }
-    ensures limit { KeepsLimit result (S.left source.old) (S.left source.new) }
+    ensures limit { ((n : ℕ) → AsksToSelftest (wanted words.now) n → ⊥)
+        → KeepsLimit result (S.left source.old) (S.left source.new) }
+    ensures bound { IsOk result → (j : VerifyData) → AsksToVerify (wanted words.now) j
+        → IsToldBound j.bound }
 {
     match job_of(alloc, words) {
         Ok(Job::Verify(job)) => verify(alloc, &job, source, out),
         Ok(Job::Generate(ladder)) => write_ladder(&ladder, out),
         Ok(Job::Check) => check_report(alloc, source, out),
-        // This isn't built yet.
-        Ok(Job::Selftest(_)) => Err(Refusal::Usage(Field::Words)),
+        Ok(Job::Selftest(ladder)) => selftest(alloc, &ladder, out),
         Err(cause) => Err(Refusal::from(cause)),
     }
 }
@@ -82,6 +89,12 @@ pub fn run<S: Source, K: Sink, E: Sink>(
         × IsCase k × IsRightTree k bound tree
         × Appends (K.taken out.old) (K.taken out.new) (report_text k bound tree) }
 
+    // What out took is a sound file.
+    ensures sound { result ≡ Status.Done
+        → (j : VerifyData) → AsksToVerify (wanted words.now.items) j
+        → (report : List ℕ) × (leaves : Summary) × IsSoundFile report leaves
+        × Appends (K.taken out.old) (K.taken out.new) report }
+
     // The source gave a text that stands for a model, which with the job's region makes that case.
     // The tree's leaves tile the root, and each bounds the schedulers inside its rectangle.
     ensures done { result ≡ Status.Done
@@ -100,6 +113,12 @@ pub fn run<S: Source, K: Sink, E: Sink>(
         → (n : ℕ) → AsksToGenerate (wanted words.now.items) n
         → Appends (K.taken out.old) (K.taken out.new) (ladder_text n) }
 
+    // Done of `selftest`: out took the line of the ladder's right tree, and nothing else.
+    ensures selftested { result ≡ Status.Done
+        → (n : ℕ) → AsksToSelftest (wanted words.now.items) n
+        → (tree : Tree) × IsCase (ladder_case n) × IsRightTree (ladder_case n) one_half tree
+        × Appends (K.taken out.old) (K.taken out.new) (tested_line n (leaf_counts tree)) }
+
     // Each refusal has its cause. What `told` says of its note has the causes of the others.
     ensures at_fault { IsErr (wanted words.now.items)
         → (result ≡ Status.Usage) ⊎ (result ≡ Status.Memory) }
@@ -108,7 +127,7 @@ pub fn run<S: Source, K: Sink, E: Sink>(
         → Rose (S.faults source.old) (S.faults source.new) }
     ensures write_fault { result ≡ Status.WriteFault → Rose (K.faults out.old) (K.faults out.new) }
     ensures too_long { result ≡ Status.TooLong
-        → TakenHas (λ bytes. text_limit < length bytes) (S.left source.old) (S.left source.new) }
+        → IsTooLong (wanted words.now.items) (S.left source.old) (S.left source.new) }
     ensures within { result ≢ Status.TooLong
         → TakenHas (λ bytes. length bytes ≤ text_limit) (S.left source.old) (S.left source.new) }
 
@@ -166,6 +185,22 @@ pub fn run<S: Source, K: Sink, E: Sink>(
     ensures reads_nothing { (n : ℕ) → AsksToGenerate (wanted words.now.items) n
         → source.new ≡ source.old }
 
+    // A ladder is tested without reading, or a write fails, or its report is too long.
+    ensures tests { (n : ℕ) → AsksToSelftest (wanted words.now.items) n
+        → (result ≡ Status.Done) ⊎ ((result ≡ Status.WriteFault)
+        ⊎ ((result ≡ Status.TooLong) ⊎ (result ≡ Status.Memory))) }
+    ensures tests_unread { (n : ℕ) → AsksToSelftest (wanted words.now.items) n
+        → source.new ≡ source.old }
+    ensures short_tested { (n : ℕ) (tree : Tree)
+        → AsksToSelftest (wanted words.now.items) n → IsRightTree (ladder_case n) one_half tree
+        → length (report_text (ladder_case n) one_half tree) ≤ text_limit
+        → NoFault (K.faults out.old) (K.faults out.new)
+        → (result ≡ Status.Done) ⊎ (result ≡ Status.Memory) }
+    ensures long_tested { (n : ℕ) (tree : Tree)
+        → AsksToSelftest (wanted words.now.items) n → IsRightTree (ladder_case n) one_half tree
+        → text_limit < length (report_text (ladder_case n) one_half tree)
+        → (result ≡ Status.TooLong) ⊎ (result ≡ Status.Memory) }
+
     // What stands after a refusal: a front of what was asked for after a write fault, else out as it
     // was.
     ensures part { result ≡ Status.WriteFault
@@ -178,6 +213,10 @@ pub fn run<S: Source, K: Sink, E: Sink>(
     ensures ladder_part { result ≡ Status.WriteFault
         → (n : ℕ) → AsksToGenerate (wanted words.now.items) n
         → AppendsFront (K.taken out.old) (K.taken out.new) (ladder_text n) }
+    ensures tested_part { result ≡ Status.WriteFault
+        → (n : ℕ) → AsksToSelftest (wanted words.now.items) n
+        → (tree : Tree) × IsCase (ladder_case n) × IsRightTree (ladder_case n) one_half tree
+        × AppendsFront (K.taken out.old) (K.taken out.new) (tested_line n (leaf_counts tree)) }
     ensures kept { result ≢ Status.Done → result ≢ Status.WriteFault → out.new ≡ out.old }
     ensures unread { IsErr (wanted words.now.items) → source.new ≡ source.old }
 
@@ -190,6 +229,8 @@ pub fn run<S: Source, K: Sink, E: Sink>(
     first_fault_is_one();
     sound_files_pass();
     answers_are_one();
+    right_reports_are_sound();
+    right_trees_are_one();
     let answer = act(alloc, words, source, out);
     end(notes, answer)
 }

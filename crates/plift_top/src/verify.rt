@@ -24,7 +24,7 @@ use region_tree::{Room, rectangles_at_depths, right_trees_tile};
 use std::alloc::Global;
 
 /// How many bytes a text may have.
-const TEXT_LIMIT: usize = 1 << 26;
+pub(crate) const TEXT_LIMIT: usize = 1 << 26;
 
 // Reads the text, and the model that it stands for.
 fn model_of<S: Source>(alloc: Global, goal: &[u8], source: &mut S) -> Result<Model, Refusal>

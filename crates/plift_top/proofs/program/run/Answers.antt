@@ -5,6 +5,9 @@ use Rattle.plift_top.proofs.program.run.Goals as goal
 pub returns-clause-report : goal.returns-clause-report
 returns-clause-report g c e = acts.reported g.S.Source.left g.S.Source.faults g.K.Sink.taken g.K.Sink.faults _ _ _ _ _ _ (rw c.deref.ensures.value at c.act-answer.ensures.answer) (sym c.end.ensures.status ∙ e)
 
+pub returns-clause-sound : goal.returns-clause-sound
+returns-clause-sound g c e = acts.sound g.S.Source.left g.S.Source.faults g.K.Sink.taken g.K.Sink.faults _ _ _ _ c.right_reports_are_sound.ensures _ _ (rw c.deref.ensures.value at c.act-answer.ensures.answer) (rw c.deref.ensures.value at c.act-answer.ensures.bound) (sym c.end.ensures.status ∙ e)
+
 pub returns-clause-done : goal.returns-clause-done
 returns-clause-done g c e = acts.done g.S.Source.left g.S.Source.faults g.K.Sink.taken g.K.Sink.faults _ _ _ _ _ _ (rw c.deref.ensures.value at c.act-answer.ensures.answer) (sym c.end.ensures.status ∙ e)
 
@@ -21,10 +24,10 @@ pub returns-clause-write_fault : goal.returns-clause-write_fault
 returns-clause-write_fault g c e = acts.write_fault g.S.Source.left g.S.Source.faults g.K.Sink.taken g.K.Sink.faults _ _ _ _ _ _ (rw c.deref.ensures.value at c.act-answer.ensures.answer) (sym c.end.ensures.status ∙ e)
 
 pub returns-clause-too_long : goal.returns-clause-too_long
-returns-clause-too_long g c e = acts.too_long _ _ _ c.act-answer.ensures.limit (sym c.end.ensures.status ∙ e)
+returns-clause-too_long g c e = acts.too_long g.S.Source.left g.S.Source.faults g.K.Sink.taken g.K.Sink.faults _ _ _ _ _ _ (rw c.deref.ensures.value at c.act-answer.ensures.answer) (rw c.deref.ensures.value at c.act-answer.ensures.limit) (sym c.end.ensures.status ∙ e)
 
 pub returns-clause-within : goal.returns-clause-within
-returns-clause-within g c e = acts.within _ _ _ c.act-answer.ensures.limit (λ f. e (c.end.ensures.status ∙ f))
+returns-clause-within g c e = acts.within g.S.Source.left g.S.Source.faults g.K.Sink.taken g.K.Sink.faults _ _ _ _ _ _ (rw c.deref.ensures.value at c.act-answer.ensures.answer) (rw c.deref.ensures.value at c.act-answer.ensures.limit) (λ f. e (c.end.ensures.status ∙ f))
 
 pub returns-clause-complete : goal.returns-clause-complete
 returns-clause-complete g c j text m root is told read named admitted len sure1 sure2 =
@@ -81,3 +84,21 @@ returns-clause-check_complete g c bytes leaves is told file len sure1 sure2 =
 pub returns-clause-check_refused : goal.returns-clause-check_refused
 returns-clause-check_refused g c bytes is told bad len sure1 sure2 =
     rw c.end.ensures.status (acts.check_refused g.S.Source.left g.S.Source.faults g.K.Sink.taken g.K.Sink.faults _ _ _ _ bytes told len sure1 sure2 _ _ (rw c.deref.ensures.value at c.act-answer.ensures.answer) is bad)
+
+pub returns-clause-selftested : goal.returns-clause-selftested
+returns-clause-selftested g c e = acts.selftested g.S.Source.left g.S.Source.faults g.K.Sink.taken g.K.Sink.faults _ _ _ _ _ _ (rw c.deref.ensures.value at c.act-answer.ensures.answer) (sym c.end.ensures.status ∙ e)
+
+pub returns-clause-tested_part : goal.returns-clause-tested_part
+returns-clause-tested_part g c e = acts.tested_part g.S.Source.left g.S.Source.faults g.K.Sink.taken g.K.Sink.faults _ _ _ _ _ _ (rw c.deref.ensures.value at c.act-answer.ensures.answer) (sym c.end.ensures.status ∙ e)
+
+pub returns-clause-tests : goal.returns-clause-tests
+returns-clause-tests g c n is = rw c.end.ensures.status (acts.tests g.S.Source.left g.S.Source.faults g.K.Sink.taken g.K.Sink.faults _ _ _ _ _ _ (rw c.deref.ensures.value at c.act-answer.ensures.answer) n is)
+
+pub returns-clause-tests_unread : goal.returns-clause-tests_unread
+returns-clause-tests_unread g c n is = acts.tests_unread g.S.Source.left g.S.Source.faults g.K.Sink.taken g.K.Sink.faults _ _ _ _ _ _ (rw c.deref.ensures.value at c.act-answer.ensures.answer) n is
+
+pub returns-clause-short_tested : goal.returns-clause-short_tested
+returns-clause-short_tested g c n tree is right few sure = rw c.end.ensures.status (acts.short_tested g.S.Source.left g.S.Source.faults g.K.Sink.taken g.K.Sink.faults _ _ _ _ sure tree _ _ (rw c.deref.ensures.value at c.act-answer.ensures.answer) n is right few)
+
+pub returns-clause-long_tested : goal.returns-clause-long_tested
+returns-clause-long_tested g c n tree is right long = rw c.end.ensures.status (acts.long_tested g.S.Source.left g.S.Source.faults g.K.Sink.taken g.K.Sink.faults _ _ _ _ c.right_trees_are_one.ensures tree _ _ (rw c.deref.ensures.value at c.act-answer.ensures.answer) n is right long)
