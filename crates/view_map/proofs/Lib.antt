@@ -1,0 +1,6 @@
+mod Rows
+mod Meeting
+mod Shares
+mod First
+mod Standing
+mod Whole

@@ -1,0 +1,4 @@
+pub mod Parts
+pub mod Share
+pub mod Told
+pub mod Slice
