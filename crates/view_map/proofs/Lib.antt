@@ -4,3 +4,4 @@ mod Shares
 mod First
 mod Standing
 mod Whole
+mod Choosing

@@ -2,3 +2,4 @@ pub mod Parts
 pub mod Share
 pub mod Told
 pub mod Slice
+pub mod Choice

@@ -2,11 +2,13 @@
 //! looked at; and the shares of its volume.
 #![tactic(auto)]
 
+mod choice;
 mod map;
 mod part;
 mod reading;
 mod slice;
 
+pub use choice::slice_of;
 pub use map::ReportMap;
 pub use part::{LeafKind, Part, span_at};
 pub use reading::read_map;
