@@ -17,10 +17,10 @@ pub const START: &[u8] =
 <text x=\"154\" y=\"82\">accepted</text>
 <text x=\"294\" y=\"82\">rejected</text>
 <text x=\"434\" y=\"82\">unknown</text>
-<text x=\"120\" y=\"26\">";
+<text x=\"20\" y=\"26\">";
 
 /// Between the first line of the title and the second.
-pub const SHARES: &[u8] = b"</text>\n<text x=\"120\" y=\"50\">";
+pub const SHARES: &[u8] = b"</text>\n<text x=\"20\" y=\"50\">";
 
 /// Behind the second line.
 pub const SHARES_END: &[u8] = b" of the volume, rounded down</text>\n";
