@@ -9,6 +9,7 @@ mod laws;
 mod leaf;
 mod nodes;
 mod summary;
+mod text;
 
 pub use checking::check;
 pub use error::CheckError;
@@ -17,3 +18,4 @@ pub use laws::{
     sound_trees_are_reports,
 };
 pub use summary::Summary;
+pub use text::check_text;

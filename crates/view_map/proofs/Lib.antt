@@ -1,0 +1,7 @@
+mod Rows
+mod Meeting
+mod Shares
+mod First
+mod Standing
+mod Whole
+mod Choosing

@@ -1,0 +1,5 @@
+pub mod Parts
+pub mod Share
+pub mod Told
+pub mod Slice
+pub mod Choice

@@ -1,0 +1,105 @@
+// The rectangles of pictures.
+use lift_base::{MemSink, Text};
+use std::alloc::Global;
+use std::test::Fail;
+use view_map::{read_map, slice_of};
+use view_text::Picture;
+
+// Reports, each by its name. A semicolon stands for the end of a line. WIDE: a coin with p from 1/10
+// to 9/10, accepted up to 1/2. PLAIN: no parameters. UNSOUND: its
+// certificate is too low.
+const REPORTS: &str = "\
+WIDE = plift 1;kind dtmc;parameters 1 p;common 1;states 3;init 0;goal 1 1;row 0 0 2;to 1 1:1;to 2 0:1 1:-1;row 1 0 1;to 1 0:1;row 2 0 1;to 2 0:1;bound 1/2;precision 4;depth 2;grid 40;box 4 36;split 0;accept 8 16 0;split 0;unknown;reject e 1 k 1 m 1 b 11/16;y 11 16 0;choice 0 - -;rank 1 0 -;
+PLAIN = plift 1;kind dtmc;parameters 0;common 4;states 3;init 0;goal 1 1;row 0 0 2;to 1 0:1;to 2 0:3;row 1 0 1;to 1 0:4;row 2 0 1;to 2 0:4;bound 1/2;precision 4;depth 0;grid 1;box;accept 4 16 0;
+UNSOUND = plift 1;kind dtmc;parameters 0;common 4;states 3;init 0;goal 1 1;row 0 0 2;to 1 0:1;to 2 0:3;row 1 0 1;to 1 0:4;row 2 0 1;to 2 0:4;bound 1/2;precision 4;depth 0;grid 1;box;accept 3 16 0;
+";
+
+// Each row: the report, and a part of its picture. The canvas has 1048576 units in each direction.
+const PICTURES: &str = "\
+WIDE | fill=\"url(#accepted)\" d=\"M0 1048576H524288V0H0z\"
+WIDE | fill=\"url(#unknown)\" d=\"M524288 1048576H786432V0H524288z\"
+WIDE | fill=\"url(#rejected)\" d=\"M786432 1048576H1048576V0H786432z\"
+WIDE | accepted 50.0000 %, rejected 25.0000 %, unknown 25.0000 % of the volume
+WIDE | >1/10</text>
+WIDE | >9/10</text>
+PLAIN | fill=\"url(#accepted)\" d=\"M0 1048576H1048576V0H0z\"
+PLAIN | fill=\"url(#rejected)\" d=\"\"
+PLAIN | accepted 100.0000 %, rejected 0.0000 %, unknown 0.0000 % of the volume
+";
+
+// The report of that name; none where there is none.
+fn find_report(name: &str) -> Option<&'static str> {
+    for row in REPORTS.lines() {
+        if let Some((key, text)) = row.split_once(" = ") {
+            if key == name {
+                return Some(text);
+            }
+        }
+    }
+    None
+}
+
+// The bytes of a text in which a semicolon stands for the end of a line.
+fn lines_of(alloc: Global, text: &str) -> Result<Vec<u8>, Fail> {
+    let mut bytes = Vec::new(alloc);
+    for byte in text.as_bytes() {
+        bytes.push(if *byte == b';' { b'\n' } else { *byte })?;
+    }
+    Ok(bytes)
+}
+
+// Whether the part stands somewhere in the text.
+fn is_within(text: &[u8], part: &[u8]) -> bool {
+    for at in 0..text.len() {
+        if text[at..].starts_with(part) {
+            return true;
+        }
+    }
+    false
+}
+
+// Whether the picture of a report has that part.
+fn has_part(alloc: Global, report: &str, part: &str) -> Result<bool, Fail> {
+    let text = lines_of(alloc, report)?;
+    if text.len() > 1 << 26 {
+        return Ok(false);
+    }
+    let Ok(map) = read_map(alloc, &text) else {
+        return Ok(false);
+    };
+    let slice = slice_of(alloc, map.head(), None, None, &[])?;
+    let mut out = MemSink::new(alloc, 10_000, 64, Vec::new(alloc))?;
+    let picture = Picture {
+        map: &map,
+        slice: &slice,
+    };
+    let written = picture.write_to(&mut out);
+    Ok(written.is_ok() && is_within(out.taken(), part.as_bytes()))
+}
+
+// Whether the picture of a row's report has the row's part.
+fn is_drawn(alloc: Global, row: &str) -> Result<bool, Fail> {
+    let Some((name, part)) = row.split_once(" | ") else {
+        return Ok(false);
+    };
+    let Some(report) = find_report(name) else {
+        return Ok(false);
+    };
+    has_part(alloc, report, part)
+}
+
+#[test]
+fn pictures_have_rectangles(rt: HostRuntime) -> Result<(), Fail> {
+    for row in PICTURES.lines() {
+        assert!(rt; is_drawn(rt.alloc(), row)?, "{row}");
+    }
+    Ok(())
+}
+
+#[test]
+fn unsound_reports_have_no_map(rt: HostRuntime) -> Result<(), Fail> {
+    let text = lines_of(rt.alloc(), find_report("UNSOUND").ok_or("no report")?)?;
+    assert!(rt; text.len() < 1000);
+    assert!(rt; read_map(rt.alloc(), &text).is_err());
+    Ok(())
+}

@@ -1,0 +1,204 @@
+// The field of a picture.
+ghost use Rattle.std.specs.Prelude.{◌≡◌, ◌<◌, ◌≤◌, ◌++◌, ◌-ℤ◌, max, min, unsigned_abs};
+ghost use Rattle.lift_base.specs.Outside.{Wrote};
+ghost use Rattle.lift_grid.specs.Rectangle.{spans_of};
+ghost use Rattle.view_map.specs.Share.{is_kind};
+ghost use Rattle.view_map.specs.Slice.{meets_all};
+ghost use Rattle.view_text.specs.Field.{band, canvas, is_shown, leaf_outline, outline, outlines, piece, place};
+ghost use Rattle.view_text.specs.Picture.{field_start, field_text};
+ghost use Rattle.view_text.specs.declared.style.TheConstants.{PATH_END};
+
+use crate::style::{ACCEPTED, BAR, FIELD_END, PATH_END, REJECTED, SQUARE, UNKNOWN};
+use lift_base::{Sink, Word, WriteFault, write_all, write_words, writes_in_turn};
+use view_map::{LeafKind, Part, ReportMap, Slice, span_at};
+
+/// How many units the canvas has in each direction.
+const CANVAS: u64 = 1 << 20;
+
+// How far two numbers are apart.
+fn distance(a: i64, b: i64) -> u64
+    ensures { result ≡ unsigned_abs (a -ℤ b) }
+{
+    a.abs_diff(b)
+}
+
+fn at_least_one(n: u64) -> u64
+    ensures value { result ≡ max n 1 }
+    ensures positive { 0 < result }
+{
+    if n == 0 { 1 } else { n }
+}
+
+fn at_most_canvas(n: u128) -> u64
+    ensures value { result ≡ min n canvas }
+    ensures within { result ≤ canvas }
+{
+    if n < u128::from(CANVAS) {
+        n as u64
+    } else {
+        CANVAS
+    }
+}
+
+// Where a number of a span stands on the canvas.
+fn place(low: i64, high: i64, z: i64) -> u64
+    ensures place { result ≡ place (low, high) z }
+    ensures within { result ≤ canvas }
+{
+    let width = at_least_one(distance(high, low));
+    let units = u128::from(distance(z, low)) * u128::from(CANVAS) / u128::from(width);
+    at_most_canvas(units)
+}
+
+// From where to where a leaf reaches along an axis.
+fn band(root: &[i64], axis: Option<u32>, part: &Part) -> (u64, u64)
+    ensures band { result ≡ band (spans_of root.now) axis part.now }
+    ensures from { result.0 ≤ canvas }
+    ensures to { result.1 ≤ canvas }
+{
+    match axis {
+        None => (0, CANVAS),
+        Some(parameter) => {
+            let whole = span_at(root, parameter);
+            let span = part.span(parameter);
+            (
+                place(whole.0, whole.1, span.0),
+                place(whole.0, whole.1, span.1),
+            )
+        }
+    }
+}
+
+// Writes a rectangle.
+fn write_outline<K: Sink>(out: &mut K, x: (u64, u64), y: (u64, u64)) -> Result<(), WriteFault>
+    requires from { y.0 ≤ canvas }
+    requires to { y.1 ≤ canvas }
+    ensures { Wrote K.taken K.faults out.old out.new result (outline x y) }
+{
+    write_words(
+        out,
+        &[
+            Word::Text(b"M"),
+            Word::Count(x.0),
+            Word::Text(b" "),
+            Word::Count(CANVAS - y.0),
+            Word::Text(b"H"),
+            Word::Count(x.1),
+            Word::Text(b"V"),
+            Word::Count(CANVAS - y.1),
+            Word::Text(b"H"),
+            Word::Count(x.0),
+            Word::Text(b"z"),
+        ],
+    )
+}
+
+fn is_kind(a: LeafKind, b: LeafKind) -> bool
+    ensures { result ≡ is_kind a b }
+{
+    a == b
+}
+
+// Whether a leaf is of that kind and meets the slice.
+fn is_shown(map: &ReportMap, slice: &Slice, kind: LeafKind, part: &Part) -> bool
+    ensures { result ≡ is_shown map.now slice.now kind part.now }
+{
+    let head = map.head();
+    let meets = slice.meets(head.grid().d, head.root().sides(), part);
+    is_kind(kind, part.kind()) && meets
+}
+
+// Writes the rectangle of a leaf.
+fn write_leaf<K: Sink>(
+    out: &mut K,
+    map: &ReportMap,
+    slice: &Slice,
+    part: &Part,
+) -> Result<(), WriteFault>
+    ensures { Wrote K.taken K.faults out.old out.new result
+        (leaf_outline map.now.head.asked.root slice.now.x slice.now.y part.now) }
+{
+    let root = map.head().root().sides();
+    write_outline(
+        out,
+        band(root, slice.x(), part),
+        band(root, slice.y(), part),
+    )
+}
+
+// Writes the rectangle of a leaf that is of that kind and meets the slice, and else nothing.
+fn write_part<K: Sink>(
+    out: &mut K,
+    map: &ReportMap,
+    slice: &Slice,
+    kind: LeafKind,
+    part: &Part,
+) -> Result<(), WriteFault>
+    ensures { Wrote K.taken K.faults out.old out.new result (piece map.now slice.now kind part.now) }
+{
+    writes_in_turn::<K>();
+    if is_shown(map, slice, kind, part) {
+        write_leaf(out, map, slice, part)
+    } else {
+        Ok(())
+    }
+}
+
+// Writes the rectangles of the leaves of a kind that meet the slice.
+fn write_outlines<K: Sink>(
+    out: &mut K,
+    map: &ReportMap,
+    slice: &Slice,
+    kind: LeafKind,
+) -> Result<(), WriteFault>
+    ensures { Wrote K.taken K.faults out.old out.new result (outlines map.now slice.now kind) }
+{
+    writes_in_turn::<K>();
+    for part in map.parts() {
+        write_part(out, map, slice, kind, part)?;
+    }
+    Ok(())
+}
+
+// Writes the path of a kind, behind what begins it.
+fn write_path<K: Sink>(
+    out: &mut K,
+    map: &ReportMap,
+    slice: &Slice,
+    kind: LeafKind,
+    start: &[u8],
+) -> Result<(), WriteFault>
+    ensures { Wrote K.taken K.faults out.old out.new result
+        (start.now ++ (outlines map.now slice.now kind ++ PATH_END.now)) }
+{
+    writes_in_turn::<K>();
+    write_all(out, start)?;
+    write_outlines(out, map, slice, kind)?;
+    write_all(out, PATH_END)
+}
+
+// What stands before the field.
+fn field_start(y: Option<u32>) -> &'static [u8]
+    ensures { result.now ≡ field_start y }
+{
+    match y {
+        None => BAR,
+        Some(_) => SQUARE,
+    }
+}
+
+/// Writes the field: the rectangles of each kind of leaf.
+pub(crate) fn write_field<K: Sink>(
+    out: &mut K,
+    map: &ReportMap,
+    slice: &Slice,
+) -> Result<(), WriteFault>
+    ensures { Wrote K.taken K.faults out.old out.new result (field_text map.now slice.now) }
+{
+    writes_in_turn::<K>();
+    write_all(out, field_start(slice.y()))?;
+    write_path(out, map, slice, LeafKind::Accept, ACCEPTED)?;
+    write_path(out, map, slice, LeafKind::Reject, REJECTED)?;
+    write_path(out, map, slice, LeafKind::Unknown, UNKNOWN)?;
+    write_all(out, FIELD_END)
+}

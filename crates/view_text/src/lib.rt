@@ -1,0 +1,11 @@
+//! The picture of a slice of a sound report's region, as SVG. The writers take no memory.
+#![tactic(auto)]
+
+mod axes;
+mod field;
+mod fraction;
+mod picture;
+mod share;
+mod style;
+
+pub use picture::Picture;
