@@ -128,9 +128,6 @@ class Bench:
         """The run with enough memory, and then with each request refused."""
         stdin = self.input_of(case)
         whole = self.run(case.words, stdin)
-        if whole.note == "usage: words\n":
-            print("not built: " + case.words)
-            return
         count = len(whole.requests)
         self.expect(whole.status == 0 and whole.written and count > 0, case.words + ": with enough memory")
         self.expect(whole.before_writing == count, case.words + ": a request after the first byte was written")
