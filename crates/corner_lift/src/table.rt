@@ -172,12 +172,12 @@ pub fn fill(case: &Case, links: &Links, sides: &[i64], weights: &mut [i128])
 }
 
 /// The weights of a corner of the row that stands at that place.
-fn corner_of(weights: &[i128], place: RowPlace, corner: usize) -> &[i128]
+fn corner_of(weights: &[i128], place: RowPlace, corner: u32) -> &[i128]
     requires { place.weights + place.count * corner + place.count ≤ length weights.now }
     ensures { result.now ≡ corner_part weights.now place corner }
 {
-    let at = place.weights + place.count * corner;
-    &weights[at..at + place.count]
+    let at = (place.weights + place.count * corner) as usize;
+    &weights[at..at + place.count as usize]
 }
 
 /// A weight times a number.
@@ -340,7 +340,7 @@ pub fn table_value(
     let place = links.place(s, a);
     let narrow = is_narrow(corner_of(weights, place, 0), w);
     sum_of(
-        corner_of(weights, place, corner as usize),
+        corner_of(weights, place, corner),
         links.targets(place),
         vec,
         narrow,
@@ -396,7 +396,7 @@ pub fn table_into(
     let _ = case.w();
     let place = links.place(s, a);
     sum_below(
-        corner_of(weights, place, corner as usize),
+        corner_of(weights, place, corner),
         links.targets(place),
         ranks,
         below,
@@ -428,7 +428,7 @@ pub fn table_loop(case: &Case, links: &Links, weights: &[i128], s: u32, a: u32, 
     let _ = case.w();
     let place = links.place(s, a);
     sum_at(
-        corner_of(weights, place, corner as usize),
+        corner_of(weights, place, corner),
         links.targets(place),
         s,
     )

@@ -1,6 +1,6 @@
 //! The blocks of a table of weights: one for all rows with the same polynomials.
 
-ghost use Rattle.std.specs.Prelude.{◌≡◌, ◌<◌, ◌≤◌, ◌^◌, [], length, count_ones, slice_index_or, IsTrue, IfSome, IfOk};
+ghost use Rattle.std.specs.Prelude.{◌≡◌, ◌+◌, ◌*◌, ◌<◌, ◌^◌, [], length, count_ones, slice_index_or, IsTrue, IfSome, IfOk};
 ghost use Rattle.lift_model.specs.Model.{support, row_at};
 ghost use Rattle.lift_model.specs.Links.{HasChoice, polynomials, first_row, no_first};
 ghost use Rattle.lift_model.specs.Layout.{AreFirsts, AreBlocks, IsPlaced};
@@ -37,9 +37,9 @@ pub struct Blocks {
     /// The first row of each block.
     pub firsts: Vec<FirstRow>,
     /// Where each block begins.
-    pub places: Vec<usize>,
+    pub places: Vec<u32>,
     /// How many weights they have.
-    pub weights: usize,
+    pub weights: u32,
 }
 
 /// A hash, and one number more.
@@ -97,11 +97,21 @@ fn are_same(left: &Row, right: &Row) -> bool
 }
 
 /// The number of corners of a row.
-pub(crate) fn corners_of(row: &Row) -> usize
-    ensures value { result ≡ 2 ^ count_ones (support row.now) }
-    ensures most { result ≤ 65536 }
+pub(crate) fn corners_of(row: &Row) -> u32
+    ensures { result ≡ 2 ^ count_ones (support row.now) }
 {
     1 << row.support().count_ones()
+}
+
+/// Where a block ends that has so many weights for each of its corners. A table of 2^32 weights would
+/// take 64 gigabytes, and is refused as memory is that isn't there.
+fn end_of(place: u32, entries: u32, corners: u32) -> Result<u32, AllocError>
+    ensures { IfOk result (λ end. end ≡ place + entries * corners) }
+{
+    match entries.checked_mul(corners) {
+        Some(count) => place.checked_add(count).ok_or(AllocError),
+        None => Err(AllocError),
+    }
 }
 
 /// Which slot a hash has after so many tries.
@@ -172,10 +182,9 @@ impl Blocks {
 
     /// Where the weights of a row begin: in the block of a row with the same polynomials, or in a block
     /// more.
-    pub(crate) fn place(&mut self, model: &Model, s: u32, a: u32) -> Result<usize, AllocError>
+    pub(crate) fn place(&mut self, model: &Model, s: u32, a: u32) -> Result<u32, AllocError>
         requires blocks { AreBlocks model.now self.old }
         requires row { HasChoice model.now s a }
-        requires room { self.old.weights ≤ 2 ^ 40 }
         ensures { IfOk result (λ place. IsPlaced model.now self.old self.new (row_at model.now s a) place) }
     {
         let row = model.row(s, a);
@@ -184,13 +193,14 @@ impl Blocks {
             return Ok(self.places[block]);
         }
         let place = self.weights;
+        let end = end_of(place, row.entries().len() as u32, corners_of(row))?;
         self.firsts.push(FirstRow {
             state: s,
             choice: a,
         })?;
         self.places.push(place)?;
         enter(&mut self.slots, hash, self.firsts.len());
-        self.weights += row.entries().len() * corners_of(row);
+        self.weights = end;
         Ok(place)
     }
 }

@@ -32,7 +32,7 @@ struct Visit {
     // its component, from 1, and 0 where it isn't known
     component: u32,
     // where the search goes on among the targets
-    next: usize,
+    next: u32,
 }
 
 /// A state that wasn't met.
@@ -57,8 +57,8 @@ struct Search {
 }
 
 /// Where the targets of a state begin.
-fn start_of(starts: &[usize], s: u32) -> usize {
-    starts.get(s as usize).copied().unwrap_or(0)
+fn start_of(starts: &[u32], s: u32) -> u32 {
+    number_at(starts, s as usize)
 }
 
 /// Puts a state into a component.
@@ -87,7 +87,7 @@ impl Search {
     }
 
     /// Opens a state whose targets begin there.
-    fn meet(&mut self, s: u32, start: usize) -> Result<(), AllocError> {
+    fn meet(&mut self, s: u32, start: u32) -> Result<(), AllocError> {
         self.times = self.times.saturating_add(1);
         if let Some(visit) = self.visits.get_mut(s as usize) {
             visit.met = self.times;
@@ -134,7 +134,7 @@ impl Search {
         &mut self,
         model: &Model,
         targets: &[u32],
-        starts: &[usize],
+        starts: &[u32],
         s: u32,
     ) -> Result<(), AllocError> {
         let next = self.visit(s).next;
@@ -146,7 +146,7 @@ impl Search {
         if let Some(visit) = self.visits.get_mut(s as usize) {
             visit.next = next.saturating_add(1);
         }
-        let target = number_at(targets, next);
+        let target = number_at(targets, next as usize);
         let visit = self.visit(target);
         if visit.met == 0 {
             self.meet(target, start_of(starts, target))?;
@@ -162,7 +162,7 @@ fn search_states(
     alloc: Global,
     model: &Model,
     targets: &[u32],
-    starts: &[usize],
+    starts: &[u32],
 ) -> Result<Search, AllocError> {
     let states = model.states();
     let mut search = Search::new(alloc, states as usize)?;
@@ -272,7 +272,7 @@ pub(crate) fn order_states(
     alloc: Global,
     model: &Model,
     targets: &[u32],
-    starts: &[usize],
+    starts: &[u32],
 ) -> Result<Order, AllocError>
     ensures order { IfOk result (λ order. IsOrder order.states.items order.positions.items (length model.now.states)) }
     ensures ends { IfOk result (λ order. length order.ends.items ≡ length model.now.states) }

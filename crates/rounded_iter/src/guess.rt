@@ -107,12 +107,12 @@ impl Sweeping {
 
 impl Table<'_> {
     /// The weighted mean of a row at a corner, of the states but its own.
-    fn mean(&self, lane: &[i64], s: u32, a: u32, corner: usize) -> f64
+    fn mean(&self, lane: &[i64], s: u32, a: u32, corner: u32) -> f64
         requires links { AreLinks self.now.case.model self.now.links }
         requires row { HasChoice self.now.case.model s a }
     {
         let place = self.links.place(s, a);
-        let mut at = place.weights.wrapping_add(place.count.wrapping_mul(corner));
+        let mut at = place.weights.wrapping_add(place.count.wrapping_mul(corner)) as usize;
         let mut sum = 0.0;
         let mut rest = 0.0;
         for target in self.links.targets(place) {

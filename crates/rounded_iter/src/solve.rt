@@ -182,7 +182,7 @@ impl Table<'_> {
     {
         rows_at_corners();
         corners_bound_weights();
-        let corners = self.links.place(s, a).corners as u32;
+        let corners = self.links.place(s, a).corners;
         let mut number = self.solve_corner(lane, s, a, 0);
         for corner in 1..corners {
             let other = self.solve_corner(lane, s, a, corner);
