@@ -176,8 +176,9 @@ fn corner_of(weights: &[i128], place: RowPlace, corner: u32) -> &[i128]
     requires { place.weights + place.count * corner + place.count ≤ length weights.now }
     ensures { result.now ≡ corner_part weights.now place corner }
 {
-    let at = (place.weights + place.count * corner) as usize;
-    &weights[at..at + place.count as usize]
+    let count = place.count as usize;
+    let at = place.weights as usize + count * corner as usize;
+    &weights[at..at + count]
 }
 
 /// A weight times a number.

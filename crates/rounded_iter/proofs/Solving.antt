@@ -211,12 +211,9 @@ module _ (laws : RowLaws) (k : CaseData) (spans : Spans) (is : IsCase k) (within
   pub whole_positive : pos 1 ≤ℤ full
   whole_positive = product_positive k.model.common (power k.d (row_parameters k row)) is.asked.model.denominator.0 (power_positive k.d (row_parameters k row) (omega (arith, linear, is.asked.grid.positive)))
 
-  -- a row has at least one corner, and few
+  -- a row has at least one corner
   pub some_corner : 1 ≤ corner_count k s a
   some_corner = pow_pos (row_parameters k row)
-
-  pub few_corners : corner_count k s a ≤ 2 ^ most_row_parameters
-  few_corners = pow_mono (is.admitted s [] has.state a [] has.choice).few
 
   -- what the row weighs into its own state
   abbrev own : ℕ → ℤ

@@ -1,12 +1,7 @@
 use Rattle.std.proofs.Common.{rules, ◌<◌, SFits, w64, to_z-of_z, arith}
 use Rattle.corner_lift.specs.Case.{corner_count}
-use Rattle.rounded_iter.proofs.Solving.{laws_of, corners_is, few_corners, solved_first, solved_more}
+use Rattle.rounded_iter.proofs.Solving.{laws_of, corners_is, solved_first, solved_more}
 use Rattle.rounded_iter.proofs.table.Table.solve.Goals as goal
-
-pub overflow_cast-corners : goal.overflow_cast-corners
-overflow_cast-corners g c =
-    let r = rw (← c.self.view_is) at c.requires in
-    record { fits = omega (arith, corners_is c.rows_at_corners.ensures.bits c.self.inside.case.now c.self.inside.links.now c.args.s c.args.a c.place-corners.result r.read.case r.read.links r.row c.place-corners.ensures, few_corners (laws_of c.rows_at_corners.ensures.parameters c.rows_at_corners.ensures.numbers c.rows_at_corners.ensures.range c.rows_at_corners.ensures.rise c.corners_bound_weights.ensures.sum) c.self.inside.case.now g.spans r.read.case r.read.table.inside c.args.s c.args.a r.row) }
 
 pub loop-corner-init : goal.loop-corner-init
 loop-corner-init g c =
