@@ -26,6 +26,17 @@ pub struct Weighed {
     pub whole: i128,
 }
 
+/// What a row weighs at one of its corners: a weighted sum, the whole, and the weight of its self loop.
+#[derive(Clone, Copy)]
+pub struct AtCorner {
+    /// The sum.
+    pub sum: i128,
+    /// The whole, at least 1.
+    pub whole: i128,
+    /// The weight into the state that has the row.
+    pub own: i128,
+}
+
 /// Writes the weights of a row at a corner.
 fn fill_corner(case: &Case, row: &Row, ends: &Ends, place: usize, weights: &mut [i128])
     requires room { abs_sum row.now * (greatest_end case.now.d ends.now ^ length ends.now * 2 ^ case.now.w) < engine_limit }
@@ -500,4 +511,32 @@ pub fn table_loop(case: &Case, links: &Links, weights: &[i128], s: u32, a: u32, 
     let _ = case.w();
     let place = links.place(s, a);
     sum_at(corner_of(weights, place, corner), links.targets(place), s)
+}
+
+/// `table_value`, `table_whole` and `table_loop` at once. One multiplication for each entry.
+#[inline]
+pub fn table_corner(
+    case: &Case,
+    links: &Links,
+    weights: &[i128],
+    s: u32,
+    a: u32,
+    corner: u32,
+    vec: &[i64],
+) -> AtCorner
+    ghost spans: { Spans }
+    requires { CanRead case.now links.now spans weights.now s a × AreNumbers case.now vec.now × (corner < corner_count case.now s a) }
+    ensures sum { result.sum ≡ row_value case.now spans s a vec.now corner }
+    ensures whole { IsWhole case.now s a result.whole }
+    ensures own { result.own ≡ corner_sum case.now.d spans (row_at case.now.model s a) corner (only_at s) }
+{
+    premises();
+    let w = case.w();
+    let place = links.place(s, a);
+    let whole = total_of(corner_of(weights, place, 0));
+    let part = corner_of(weights, place, corner);
+    let targets = links.targets(place);
+    let sum = sum_of(part, targets, vec, is_narrow(whole, w));
+    let own = sum_at(part, targets, s);
+    AtCorner { sum, whole, own }
 }
