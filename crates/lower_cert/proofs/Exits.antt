@@ -87,6 +87,3 @@ corners_is bits k l s a p is are has at =
 
 pub some_corner : (k : CaseData) (s a : ℕ) → 1 ≤ corner_count k s a
 some_corner k s a = pow_pos (row_parameters k (row_at k.model s a))
-
-pub few_corners : (k : CaseData) (s a : ℕ) → IsCase k → HasChoice k.model s a → corner_count k s a ≤ 2 ^ most_row_parameters
-few_corners k s a is has = pow_mono (is.admitted s [] has.state a [] has.choice).few
