@@ -103,7 +103,7 @@ pub(crate) fn lay_out(alloc: Global, model: &Model) -> Result<(Layout, Starts), 
     let count = count_rows(model);
     let mut layout = Layout {
         rows: Vec::with_capacity(alloc, count)?,
-        targets: Vec::new(alloc),
+        targets: Vec::with_capacity(alloc, count.saturating_mul(2))?,
         blocks: Blocks::new(alloc, count)?,
     };
     let mut starts = Starts {
