@@ -19,8 +19,8 @@ use Rattle.corner_lift.specs.Corner.{corner, corner_sum, whole, parameter_count}
 use Rattle.corner_lift.specs.Case.{CaseData, IsCase, IsInside, number, row_value, row_whole, corner_count, row_parameters, most_precision, most_row_parameters}
 use Rattle.corner_lift.specs.Dot.{only_at}
 use Rattle.corner_lift.specs.Laws.{HasRow, BitsAreParameters, ParametersAreTheRoots, NumbersAreInRange, SumsAreInRange, SumsRise, WeightsSumToWhole}
-use Rattle.rounded_iter.specs.declared.table.Extreme.{Extreme}
-use Rattle.rounded_iter.specs.declared.table.Extreme.TheVariants.{Greatest, Least}
+use Rattle.float_guess.specs.declared.part.Extreme.{Extreme}
+use Rattle.float_guess.specs.declared.part.Extreme.TheVariants.{Greatest, Least}
 use Rattle.rounded_iter.specs.Rising.{Across, IsExtreme, IsMoreExtreme, IsEnoughAt, SolvesAt, IsSolved}
 
 -- ---- order
