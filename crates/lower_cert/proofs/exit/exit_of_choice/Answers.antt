@@ -1,4 +1,4 @@
-use Rattle.std.proofs.Common.{rules, pos, ◌≤ℤ◌, SFits, w64, to_z, of_z, to_z-of_z, arith}
+use Rattle.std.proofs.Common.{rules, pos, ◌≤ℤ◌, SFits, w64, to_z, of_z, to_z-of_z}
 use Rattle.lower_cert.specs.Exits.{ExitsAtMost}
 use Rattle.lower_cert.proofs.Exits.{one_of_two}
 use Rattle.lower_cert.proofs.exit.exit_of_choice.Goals as goal

@@ -1,4 +1,4 @@
-use Rattle.std.proofs.Common.{rules, pos, ◌≤ℤ◌, SFits, w64, to_z-of_z, arith}
+use Rattle.std.proofs.Common.{rules, pos, ◌≤ℤ◌, SFits, w64, to_z-of_z}
 use Rattle.lower_cert.specs.Lowering.{HoldsNoMore}
 use Rattle.lower_cert.proofs.Exits.{one_of_two}
 use Rattle.lower_cert.proofs.sweep.held_at_corners.Goals as goal
