@@ -117,6 +117,7 @@ pub(crate) fn find_sources(
     let mut counts = vec![in alloc; 0u32; count]?;
     count_targets(&mut counts, targets);
     let starts = sum_counts(alloc, &counts)?;
+    drop(counts);
     let mut ends = Vec::from_slice(alloc, &starts[..count])?;
     let mut states = vec![in alloc; 0u32; starts[count] as usize]?;
     enter_states(&starts, &mut ends, &mut states, targets, cuts);

@@ -177,6 +177,14 @@ impl Blocks {
         None
     }
 
+    /// The first row of each block, and how many weights they have. What blocks were found by goes.
+    pub(crate) fn into_firsts(self) -> (Vec<FirstRow>, u32)
+        ensures firsts { result.0.items ≡ self.firsts.items }
+        ensures weights { result.1 ≡ self.weights }
+    {
+        (self.firsts, self.weights)
+    }
+
     /// Whether a block is of a row with the same polynomials.
     fn is_of(&self, model: &Model, block: usize, row: &Row) -> bool
         requires block { block < length self.now.firsts.items }

@@ -58,6 +58,7 @@ impl Links {
         ensures { IfOk result (λ links. AreLinks model.now links) }
     {
         let (layout, starts) = lay_out(alloc, model)?;
+        let (firsts, weights) = layout.blocks.into_firsts();
         let count = model.states() as usize;
         let sources = find_sources(alloc, count, &layout.targets, &starts.targets)?;
         let order = order_states(alloc, model, &layout.targets, &starts.targets)?;
@@ -66,8 +67,8 @@ impl Links {
             row_starts: starts.rows,
             rows: layout.rows,
             targets: layout.targets,
-            firsts: layout.blocks.firsts,
-            weights: layout.blocks.weights,
+            firsts,
+            weights,
             starts: sources.starts,
             ends: sources.ends,
             before: sources.states,

@@ -176,13 +176,14 @@ impl Search {
     }
 }
 
-/// Searches from each state that wasn't met before.
+/// Searches from each state that wasn't met before. Gives the states component by component, and for each
+/// where its own ends.
 fn search_states(
     alloc: Global,
     model: &Model,
     targets: &[u32],
     starts: &[u32],
-) -> Result<Search, AllocError> {
+) -> Result<(Vec<u32>, Vec<u32>), AllocError> {
     let states = model.states();
     let mut search = Search::new(alloc, states as usize)?;
     for s in 0..states {
@@ -190,7 +191,7 @@ fn search_states(
             search.search(model, targets, starts, s)?;
         }
     }
-    Ok(search)
+    Ok((search.states, search.ends))
 }
 
 /// Writes the position of each state of the list.
@@ -250,14 +251,14 @@ pub(crate) fn order_states(
     ensures ends { IfOk result (λ order. length order.ends.items ≡ length model.now.states) }
 {
     let count = model.states();
-    let search = search_states(alloc, model, targets, starts)?;
+    let (states, ends) = search_states(alloc, model, targets, starts)?;
     let mut positions = vec![in alloc; 0u32; count as usize]?;
-    place_states(&search.states, &mut positions);
-    if search.ends.len() == count as usize && are_placed(&search.states, &positions) {
+    place_states(&states, &mut positions);
+    if ends.len() == count as usize && are_placed(&states, &positions) {
         return Ok(Order {
-            states: search.states,
+            states,
             positions,
-            ends: search.ends,
+            ends,
         });
     }
     as_numbered(alloc, count)

@@ -16,7 +16,7 @@ use Rattle.lift_poly.specs.Polynomial.{Valuation, weight}
 use Rattle.lift_model.specs.Valid.{IsEntry}
 use Rattle.corner_lift.specs.Certificate.{AreNumbers, AtMost}
 use Rattle.corner_lift.specs.Corner.{corner, corner_sum, whole, parameter_count}
-use Rattle.corner_lift.specs.Case.{CaseData, IsCase, IsInside, number, row_value, row_whole, corner_count, row_parameters, most_precision, most_row_parameters}
+use Rattle.corner_lift.specs.Case.{CaseData, IsCase, IsInside, number, row_value, row_whole, corner_count, row_parameters, most_precision}
 use Rattle.corner_lift.specs.Dot.{only_at}
 use Rattle.corner_lift.specs.Laws.{HasRow, BitsAreParameters, ParametersAreTheRoots, NumbersAreInRange, SumsAreInRange, SumsRise, WeightsSumToWhole}
 use Rattle.float_guess.specs.declared.part.Extreme.{Extreme}
