@@ -107,6 +107,34 @@ def cancelling_steps_once():
     return values_model("1+" + PRODUCT + "+1-1" * 950 + "-" + PRODUCT, 8192)
 
 
+TENTHS = "1+" + PRODUCT + "+0.1-0.1" * 920 + "-" + PRODUCT
+FACTORS = "1+" + PRODUCT + "*2*0.5" * 950 + "-" + PRODUCT
+
+
+@kind(verify(over(LETTERS)))
+def cancelling_tenths():
+    """values that add a tenth to 65,536 terms and take it away, 1,840 times"""
+    return values_model(TENTHS)
+
+
+@kind(verify(over(LETTERS)))
+def cancelling_tenths_once():
+    """one such value"""
+    return values_model(TENTHS, 8192)
+
+
+@kind(verify(over(LETTERS)))
+def cancelling_factors():
+    """values that double 65,536 terms and halve them, 1,900 times"""
+    return values_model(FACTORS)
+
+
+@kind(verify(over(LETTERS)))
+def cancelling_factors_once():
+    """one such value"""
+    return values_model(FACTORS, 8192)
+
+
 @kind(verify("0<=p<=1"))
 def deep_values():
     """values 64 deep, 21 in each sum"""
