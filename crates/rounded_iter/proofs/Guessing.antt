@@ -13,7 +13,7 @@ use Rattle.float_guess.specs.Part.{KeepsOthers}
 use Rattle.rounded_iter.specs.Rising.{TableData, IsRead, IsBelow, IsBound, IsLeastBound, IsEnoughAt, IsEnoughFor}
 use Rattle.rounded_iter.specs.Watching.{count, flag, from_zero, IsGuess, IsLeastFrom, IsFound, IsSure, low_word}
 use Rattle.rounded_iter.proofs.Solving.{RowLaws, across_map, enough_shifted, lt_from_test}
-use Rattle.rounded_iter.proofs.Raising.{in_or_past, goal_inside}
+use Rattle.rounded_iter.proofs.Raising.{in_or_past}
 
 lesser : ℤ → ℤ → ℤ
 lesser a b = cond (int_le a b) a b

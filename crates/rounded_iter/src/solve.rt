@@ -5,12 +5,13 @@ ghost use Rattle.lift_model.specs.Model.{row_at};
 ghost use Rattle.lift_model.specs.Links.{AreLinks, HasChoice, targets_of};
 ghost use Rattle.lift_grid.specs.Rectangle.{Spans};
 ghost use Rattle.corner_lift.specs.Case.{row_value, row_whole, corner_count, most_precision, engine_limit};
+ghost use Rattle.corner_lift.specs.Table.{IsWhole};
 ghost use Rattle.rounded_iter.specs.Rising.{CanTry, CanSolve, IsExtreme, IsMoreExtreme, SolvesAt, IsSolved, IsRoundedUp};
 
 use crate::table::Table;
 use corner_lift::{
-    corners_bound_weights, rows_at_corners, table_loop, table_max, table_min, table_value,
-    table_whole,
+    Weighed, corners_bound_weights, rows_at_corners, table_greatest, table_least, table_loop,
+    table_value, table_whole,
 };
 use float_guess::Extreme;
 use std::num::{nearest_i64_to_f64, saturating_f64_to_i64};
@@ -110,17 +111,18 @@ fn more_extreme(extreme: Extreme, a: i64, b: i64) -> i64
 }
 
 impl Table<'_> {
-    /// The weighted sum of a row at the corner that counts.
-    #[inline(never)]
-    fn extreme_sum(&self, lane: &[i64], s: u32, a: u32) -> i128
+    /// The whole of a row, and its weighted sum at the corner that counts.
+    #[inline]
+    fn weigh(&self, lane: &[i64], s: u32, a: u32) -> Weighed
         ghost spans: { Spans }
         requires { CanTry self.now spans lane.now s a }
-        ensures { IsExtreme self.now.extreme (row_value self.now.case spans s a lane.now)
-            (corner_count self.now.case s a) result }
+        ensures extreme { IsExtreme self.now.extreme (row_value self.now.case spans s a lane.now)
+            (corner_count self.now.case s a) result.sum }
+        ensures whole { IsWhole self.now.case s a result.whole }
     {
         match self.extreme {
-            Extreme::Greatest => table_max(self.case, self.links, self.weights, s, a, lane),
-            Extreme::Least => table_min(self.case, self.links, self.weights, s, a, lane),
+            Extreme::Greatest => table_greatest(self.case, self.links, self.weights, s, a, lane),
+            Extreme::Least => table_least(self.case, self.links, self.weights, s, a, lane),
         }
     }
 
@@ -207,8 +209,7 @@ impl Table<'_> {
         if let Some(target) = self.only_target(s, a) {
             return more_extreme(Extreme::Greatest, number, lane[target as usize]);
         }
-        let whole = table_whole(self.case, self.links, self.weights, s, a);
-        let sum = self.extreme_sum(lane, s, a);
+        let Weighed { sum, whole } = self.weigh(lane, s, a);
         if sum <= times(number, whole) {
             return number;
         }
