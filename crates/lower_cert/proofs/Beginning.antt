@@ -1,18 +1,21 @@
 -- A part that is begun anew stays at or above every lower vector.
 use Rattle.std.proofs.Common.{◌≡◌, ◌≢◌, ℕ, ◌+◌, ◌^◌, ◌<◌, ◌≤◌, ◌⊎◌, inl, inr, ⊎_elim, Bool, true, false, not, ◌&&◌, List, Option, Some, None, length, set, ℤ, pos, ◌*ℤ◌, ◌≤ℤ◌, refl, sym, ap, subst, ◌∙◌, arith, nat_lt, true≢false, lt-ltb, ltb-true, ltb-false, length-set, get_or-set_same, get_or-set_other}
 use Rattle.std.proofs.lemmas.List.Elements.{All-set}
+use Rattle.std.proofs.lemmas.Int.{by_lt_z}
 use Rattle.lift_poly.proofs.Ring.{linear}
 use Rattle.lift_grid.specs.Rectangle.{Spans}
+use Rattle.lift_grid.specs.Tree.{RejectData}
 use Rattle.lift_model.specs.Process.{power}
 use Rattle.lift_model.specs.Model.{is_goal, row_at, support}
 use Rattle.lift_model.specs.Links.{LinksData, position}
 use Rattle.corner_lift.specs.Corner.{whole, parameter_count}
 use Rattle.corner_lift.specs.Case.{CaseData, IsCase, IsInside, IsLeast, number, row_value, row_whole, corner_count}
-use Rattle.corner_lift.specs.Certificate.{AreNumbers}
+use Rattle.corner_lift.specs.Certificate.{AreNumbers, AtMost, IsLower}
 use Rattle.corner_lift.specs.Laws.{NumbersAreInRange, ParametersAreTheRoots}
-use Rattle.lower_cert.specs.Laws.{ClosedIsAbove}
-use Rattle.lower_cert.specs.Lowering.{IsHigh}
-use Rattle.lower_cert.specs.Beginning.{StandsAt, is_open, KeepsOthers, IsFilledAt, IsEnoughFor, IsEnoughAt, AreEnough, AreAll}
+use Rattle.float_guess.specs.Part.{StandsAt, is_open, KeepsOthers}
+use Rattle.lower_cert.specs.Laws.{ClosedIsAbove, GuessIsAbove}
+use Rattle.lower_cert.specs.Lowering.{IsHigh, IsHighUnder, from_guess}
+use Rattle.lower_cert.specs.Beginning.{low_word, AreNoted, IsOtherAt, AreOther, IsFilledAt, IsEnoughFor, IsEnoughAt, AreEnough, AreAll}
 use Rattle.lower_cert.proofs.Means.{either_way}
 use Rattle.lower_cert.proofs.Heights.{below-no}
 
@@ -126,15 +129,19 @@ module _ (ranges : NumbersAreInRange) (k : CaseData) (l : LinksData) (spans : Sp
   open_is_no_goal : (s : ℕ) → is_open k l low high s ≡ true → is_goal k.model s ≡ false
   open_is_no_goal s e = (of_open k l low high s e).at.goal
 
+  most : (q : RejectData) → IsLower k spans q → (t : ℕ) → number q.numbers t ≤ℤ pos (2 ^ k.w)
+  most q lower t = (ranges k q.numbers t lower.numbers).1
+
   -- a vector that no choice lets rise in the part
   pub closed_high : ClosedIsAbove → AreEnough k l spans new low high → IsHigh k spans new
   closed_high start enough = record {
     numbers = kept.numbers;
     goal = λ s g. kept.others s (goal_is_closed s g) ∙ high_old.goal s g;
-    above = start k spans (is_open k l low high) (number new) is within open_is_no_goal
+    above = λ y h under. start k spans (is_open k l low high) (number new) is within open_is_no_goal
         (λ s. (ranges k new s kept.numbers).0)
-        (λ y h s closed. omega (arith, linear, high_old.above y h s, kept.others s closed))
-        (λ s a yes choice. let o = of_open k l low high s yes in enough (position l s) o.from o.to s o.at a choice);
+        (λ q lower s closed. omega (arith, linear, high_old.above q lower (most q lower) s, kept.others s closed))
+        (λ s a yes choice. let o = of_open k l low high s yes in enough (position l s) o.from o.to s o.at a choice)
+        y h;
   }
 
   -- 1 in the part
@@ -142,7 +149,37 @@ module _ (ranges : NumbersAreInRange) (k : CaseData) (l : LinksData) (spans : Sp
   top_high all = record {
     numbers = kept.numbers;
     goal = λ s g. kept.others s (goal_is_closed s g) ∙ high_old.goal s g;
-    above = λ y h s. either_way (is_open k l low high s)
+    above = λ y h under s. either_way (is_open k l low high s)
         (λ e. let o = of_open k l low high s e in omega (arith, linear, all (position l s) o.from o.to s o.at, (ranges k y.numbers s h.numbers).1))
-        (λ e. omega (arith, linear, high_old.above y h s, kept.others s e));
+        (λ e. omega (arith, linear, high_old.above y h under s, kept.others s e));
   }
+
+  -- ---- from a guess
+
+  -- what is guessed in the part is at or above every lower vector at or below it
+  pub guess_high : IsHighUnder k (from_guess spans new) new
+  guess_high = record { numbers = kept.numbers; goal = λ s g. kept.others s (goal_is_closed s g) ∙ high_old.goal s g; above = λ y h under. under }
+
+  -- where each state of the part fell below the guess, what it fell to is at or above every lower vector
+  pub fallen_high : GuessIsAbove → (z : List ℤ) (noted : List ℕ) → IsHighUnder k (from_guess spans new) z → AtMost z new → AreNoted new noted (length new) → AreOther k l z noted low high → IsHigh k spans z
+  fallen_high guess z noted fallen below notes others = record {
+    numbers = fallen.numbers;
+    goal = fallen.goal;
+    above = λ y h under. guess k spans (number new) (number z) is within
+        (λ s. (ranges k z s fallen.numbers).0)
+        (λ s g. omega (arith, linear, fallen.goal s g))
+        fallen.above
+        (λ s. either_way (is_open k l low high s)
+        (λ e. let o = of_open k l low high s e in
+        let differs : number z s ≡ number new s → ⊥ = λ same. others (position l s) o.from o.to s o.at (notes s (omega (arith, o.at.state, kept.numbers.size)) ∙ ap low_word (sym same)) in
+        inl (by_lt_z (number z s) (number new s) (λ lt. lt) (λ le. absurd (differs (omega (arith, linear, le, below s))))))
+        (λ e. inr (λ q lower. omega (arith, linear, high_old.above q lower (most q lower) s, kept.others s e))))
+        y h;
+  }
+
+pub others_more : (k : CaseData) (l : LinksData) (x : List ℤ) (noted : List ℕ) (low at : ℕ) → AreOther k l x noted low at → IsOtherAt k l x noted at → AreOther k l x noted low (at + 1)
+others_more k l x noted low at all one p from to =
+    ⊎_elim
+    (λ (less : p < at). all p from less)
+    (λ (e : p ≡ at). subst (λ i. IsOtherAt k l x noted i) (sym e) one)
+    (same_or_less p at to)

@@ -7,9 +7,9 @@ use Rattle.corner_lift.specs.Case.{CaseData, IsCase, IsInside, number}
 use Rattle.corner_lift.specs.Certificate.{unmarked, mark}
 use Rattle.corner_lift.specs.Laws.{NumbersAreInRange}
 use Rattle.lower_cert.specs.Capping.{marked}
-use Rattle.lower_cert.specs.Lowering.{IsHigh, IsLowered}
+use Rattle.lower_cert.specs.Lowering.{IsHigh, IsLowered, from_top}
 use Rattle.lower_cert.specs.Exits.{AreLevel, ExitsAtMost, ChoicesExitAtMost, StatesExitAtMost, AreLoweredTo}
-use Rattle.lower_cert.specs.Laws.{CappingKeeps}
+use Rattle.lower_cert.specs.Laws.{CappingKeepsUnder}
 use Rattle.lower_cert.proofs.Means.{Place, either_way}
 use Rattle.lower_cert.proofs.Capped.{caps_more}
 use Rattle.lower_cert.proofs.Sweeping.{same_or_less}
@@ -53,7 +53,7 @@ choices_all k spans x marks n m s a r e all h = subst (λ i. ChoicesExitAtMost k
 pub states_all : (k : CaseData) (spans : Spans) (x : List ℤ) (marks : List ℕ) (n m : ℤ) (s count : ℕ) (r : ℤ) → n ≡ m → count ≤ s → StatesExitAtMost k spans x marks n s r → StatesExitAtMost k spans x marks m count r
 states_all k spans x marks n m s count r e all h = subst (λ i. StatesExitAtMost k spans x marks i count r) e (record { least = h.least; each = λ t a lt inside choice. h.each t a (omega (arith, lt, all)) inside choice })
 
-module _ (keeps : CappingKeeps) (ranges : NumbersAreInRange) (k : CaseData) (spans : Spans) (old new : List ℤ) (marks ranks : List ℕ) (m r : ℤ) (is : IsCase k) (within : IsInside k.root spans) (high : IsHigh k spans old) (size : length marks ≡ length k.model.states) (goal : (s : ℕ) → unmarked ≤ mark ranks s → is_goal k.model s ≡ false) (level : AreLevel marks old ranks m) (exits : StatesExitAtMost k spans old marks m (length k.model.states) r) (less : r <ℤ m) (low : AreLoweredTo old new marks r) where
+module _ (keeps : CappingKeepsUnder) (ranges : NumbersAreInRange) (k : CaseData) (spans : Spans) (old new : List ℤ) (marks ranks : List ℕ) (m r : ℤ) (is : IsCase k) (within : IsInside k.root spans) (high : IsHigh k spans old) (size : length marks ≡ length k.model.states) (goal : (s : ℕ) → unmarked ≤ mark ranks s → is_goal k.model s ≡ false) (level : AreLevel marks old ranks m) (exits : StatesExitAtMost k spans old marks m (length k.model.states) r) (less : r <ℤ m) (low : AreLoweredTo old new marks r) where
   bounds : (t : ℕ) → (pos 0 ≤ℤ number new t) × (number new t ≤ℤ number old t)
   bounds t =
       let range = ranges k old t high.numbers in
@@ -72,7 +72,7 @@ module _ (keeps : CappingKeeps) (ranges : NumbersAreInRange) (k : CaseData) (spa
       (λ b. ltb-true s (length k.model.states) b)
       (λ b. absurd (omega (arith, small, mark-beyond marks s (omega (arith, size, ltb-false s (length k.model.states) b)))))
 
-  pub exit_lowers : IsLowered k spans old new false
+  pub exit_lowers : IsLowered k (from_top k spans) old new false
   exit_lowers = record {
     high = record {
       numbers = record { size = low.size ∙ high.numbers.size; range = all_from (λ i. (pos 0 ≤ℤ i) × (i ≤ℤ pos (2 ^ k.w))) new (λ t lt. let b = bounds t in (b.0, omega (arith, linear, b.1, (ranges k old t high.numbers).1))) };
@@ -80,13 +80,14 @@ module _ (keeps : CappingKeeps) (ranges : NumbersAreInRange) (k : CaseData) (spa
           (λ (e : number new s ≡ number old s). e ∙ high.goal s g)
           (λ (d : (marked marks s ≡ true) × (number new s ≡ r)). absurd (true≢false (sym g ∙ no_goal s d.0)))
           (low.each s);
-      above = keeps k spans (marked marks) (number old) (r +ℤ pos 1) (number new) is within no_goal (omega (arith, linear, exits.least)) high.above
+      above = keeps k spans (marked marks) (λ s. pos (2 ^ k.w)) (number old) (r +ℤ pos 1) (number new) is within no_goal (omega (arith, linear, exits.least)) high.above
           (λ s a e choice. exits.each s a (state_of s e) e choice less)
           (λ s. ⊎_elim
           (λ (e : number new s ≡ number old s). inl (omega (arith, linear, e)))
           (λ (d : (marked marks s ≡ true) × (number new s ≡ r)). inr (d.0, omega (arith, linear, d.1)))
           (low.each s));
     };
+    below = λ t. (bounds t).1;
     most = total_most old new low.size bounds;
     less = λ b. absurd (true≢false (sym b));
   }

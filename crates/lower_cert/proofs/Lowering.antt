@@ -15,7 +15,7 @@ use Rattle.corner_lift.specs.Certificate.{unmarked, mark}
 use Rattle.corner_lift.specs.Laws.{NumbersAreInRange, ParametersAreTheRoots}
 use Rattle.corner_lift.specs.Stages.{IsAllowed}
 use Rattle.lower_cert.specs.Lowering.{IsHigh, IsRanked, AreToldBefore, IsTold, IsStuckLevel, IsLoweredAt, total}
-use Rattle.lower_cert.specs.Laws.{is_stuck, CappingKeeps, StuckAreCapped}
+use Rattle.lower_cert.specs.Laws.{is_stuck, CappingKeepsUnder, StuckAreCapped}
 use Rattle.lower_cert.proofs.Means.{either_way}
 use Rattle.lower_cert.proofs.Stuck.{stuck_parts}
 use Rattle.lower_cert.proofs.Heights.{rank-fits, below-no, mark-beyond}
@@ -42,7 +42,7 @@ start_high ranges k spans x is size all =
     record {
       numbers = record { size = size; range = all_from (λ n. (pos 0 ≤ℤ n) × (n ≤ℤ pos (2 ^ k.w))) x (λ t lt. (omega (arith, linear, all t lt), omega (arith, linear, all t lt))) };
       goal = λ s g. all s (omega (arith, goal_inside k.model.goal s g, is.asked.model.goals, size));
-      above = λ r h s.
+      above = λ r h under s.
           either_way (nat_lt s (length x))
           (λ e. omega (arith, linear, all s (ltb-true s (length x) e), (ranges k r.numbers s h.numbers).1))
           (λ e. let past = ltb-false s (length x) e in omega (arith, linear, number_past x s past, number_past r.numbers s (omega (arith, past, size, h.numbers.size))));
@@ -195,7 +195,7 @@ total_less (n ∷ old) [] size le s lt less = absurd (omega (arith, size))
 total_less (n ∷ old) (m ∷ new) size le zero lt less = let h = total_most old new (omega (arith, size)) (λ t. le (suc t)) in let low = (le 0).0 in omega (arith, ints, h, low, less)
 total_less (n ∷ old) (m ∷ new) size le (suc s) lt less = let h = total_less old new (omega (arith, size)) (λ t. le (suc t)) s (omega (arith, lt)) less in let low = (le 0).0 in let most = (le 0).1 in omega (arith, ints, h, low, most)
 
-module _ (keeps : CappingKeeps) (stuck : StuckAreCapped) (ranges : NumbersAreInRange) (k : CaseData) (spans : Spans) (old new : List ℤ) (ranks picks : List ℕ) (v : ℤ) (is : IsCase k) (within : IsInside k.root spans) (high : IsHigh k spans old) (ranked : IsRanked k spans old picks ranks) (at : IsStuckLevel old ranks (length old) v) (positive : pos 0 <ℤ v) (low : IsLoweredAt old new ranks v (length old)) where
+module _ (keeps : CappingKeepsUnder) (stuck : StuckAreCapped) (ranges : NumbersAreInRange) (k : CaseData) (spans : Spans) (old new : List ℤ) (ranks picks : List ℕ) (v : ℤ) (is : IsCase k) (within : IsInside k.root spans) (high : IsHigh k spans old) (ranked : IsRanked k spans old picks ranks) (at : IsStuckLevel old ranks (length old) v) (positive : pos 0 <ℤ v) (low : IsLoweredAt old new ranks v (length old)) where
   abbrev Each : ℕ → Type 0
   Each t = (number new t ≡ number old t) ⊎ ((unmarked ≤ mark ranks t) × ((number old t ≡ v) × (number new t ≡ v -ℤ pos 1)))
 
@@ -227,7 +227,7 @@ module _ (keeps : CappingKeeps) (stuck : StuckAreCapped) (ranges : NumbersAreInR
             (λ (e : number new s ≡ number old s). e ∙ high.goal s g)
             (λ (d : (unmarked ≤ mark ranks s) × ((number old s ≡ v) × (number new s ≡ v -ℤ pos 1))). absurd (omega (arith, d.0, ranked.stages.goal s g)))
             (low.each s);
-        above = keeps k spans (is_stuck k (mark ranks)) (number old) v (number new) is within (λ s e. (stuck_parts (is_goal k.model s) (mark ranks s) e).0) positive high.above capped
+        above = keeps k spans (is_stuck k (mark ranks)) (λ s. pos (2 ^ k.w)) (number old) v (number new) is within (λ s e. (stuck_parts (is_goal k.model s) (mark ranks s) e).0) positive high.above capped
             (λ s. ⊎_elim
             (λ (e : number new s ≡ number old s). inl (omega (arith, linear, e)))
             (λ (d : (unmarked ≤ mark ranks s) × ((number old s ≡ v) × (number new s ≡ v -ℤ pos 1))). inr (capped_keeps 0 s (not_goal s d.0) d.0, omega (arith, linear, d.1.1)))

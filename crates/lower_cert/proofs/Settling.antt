@@ -60,7 +60,7 @@ module _ (greatest : StagesAreGreatest) (ranges : NumbersAreInRange) (k : CaseDa
       (λ s g some. rate.holds s (has_pick s g some) (picks_small s g some))
       (λ f all. rate.least f (omega arith) (λ s lt some. let p = picked k spans x picks ranks settled.ranked s some in all s p.0 p.1))
       (λ j positive all. height.least j positive all)
-      high.above
+      (λ y lower s. high.above y lower (λ t. (ranges k y.numbers t lower.numbers).1) s)
     where
       zero_number : (s : ℕ) → unmarked ≤ mark ranks s → number x s ≡ pos 0
       zero_number s free = omega (arith, linear, settled.none s free, (ranges k x s high.numbers).0)

@@ -13,9 +13,9 @@ use Rattle.corner_lift.specs.Corner.{whole, parameter_count}
 use Rattle.corner_lift.specs.Case.{CaseData, IsCase, IsInside, IsLeast, number, row_value, row_whole, corner_count}
 use Rattle.corner_lift.specs.Certificate.{AreNumbers}
 use Rattle.corner_lift.specs.Laws.{ParametersAreTheRoots, NumbersAreInRange, SumsAreInRange}
-use Rattle.lower_cert.specs.Lowering.{IsHigh, HoldsNoMore, HoldNoMore, IsLowered, IsWrittenLower, total}
+use Rattle.lower_cert.specs.Lowering.{Run, IsHighUnder, HoldsNoMore, HoldNoMore, IsLowered, IsWrittenLower, total}
 use Rattle.lower_cert.specs.Capping.{CapsAt}
-use Rattle.lower_cert.specs.Laws.{CappingKeeps}
+use Rattle.lower_cert.specs.Laws.{CappingKeepsUnder}
 use Rattle.lower_cert.proofs.Means.{Place}
 use Rattle.lower_cert.proofs.Capped.{caps_more}
 
@@ -95,11 +95,11 @@ is_same t s e = grind (arith, e)
 same_is : (t s : ℕ) → t ≡ s → (t == s) ≡ true
 same_is t s e = grind (arith, e)
 
-module _ (keeps : CappingKeeps) (ranges : NumbersAreInRange) (k : CaseData) (spans : Spans) (x : List ℤ) (s : ℕ) (r : ℤ) (is : IsCase k) (within : IsInside k.root spans) (high : IsHigh k spans x) (state : s < length k.model.states) (goal : is_goal k.model s ≡ false) (most : HoldNoMore k spans x s (length (choices k.model s)) r) where
+module _ (keeps : CappingKeepsUnder) (ranges : NumbersAreInRange) (k : CaseData) (run : Run) (x : List ℤ) (s : ℕ) (r : ℤ) (is : IsCase k) (within : IsInside k.root run.spans) (high : IsHighUnder k run x) (state : s < length k.model.states) (goal : is_goal k.model s ≡ false) (most : HoldNoMore k run.spans x s (length (choices k.model s)) r) where
   in_lane : s < length x
   in_lane = omega (arith, state, high.numbers.size)
 
-  set_high : r <ℤ number x s → IsHigh k spans (set x s r)
+  set_high : r <ℤ number x s → IsHighUnder k run (set x s r)
   set_high low =
       record {
         numbers = record { size = length-set x s r ∙ high.numbers.size; range = All-set (λ n. (pos 0 ≤ℤ n) × (n ≤ℤ pos (2 ^ k.w))) x s r (most.least, omega (arith, linear, low, (ranges k x s high.numbers).1)) high.numbers.range };
@@ -107,11 +107,11 @@ module _ (keeps : CappingKeeps) (ranges : NumbersAreInRange) (k : CaseData) (spa
             (λ (e : t ≡ s). absurd (no_goal (subst (λ i. is_goal k.model i ≡ true) e g)))
             (λ (ne : t ≢ s). other t ne ∙ high.goal t g)
             (same_or_not t s);
-        above = keeps k spans (λ t. t == s) (number x) (r +ℤ pos 1) (number (set x s r)) is within
+        above = keeps k run.spans (λ t. t == s) run.ceiling (number x) (r +ℤ pos 1) (number (set x s r)) is within
             (λ t e. subst (λ i. is_goal k.model i ≡ false) (sym (is_same t s e)) goal)
             (omega (arith, linear, most.least))
             high.above
-            (λ t a e choice. subst (λ i. (c : ℕ) × ((c < 2 ^ parameter_count spans (support (row_at k.model i a))) × Caps i a c)) (sym (is_same t s e)) (capped a (subst (λ i. a < length (choices k.model i)) (is_same t s e) choice)))
+            (λ t a e choice. subst (λ i. (c : ℕ) × ((c < 2 ^ parameter_count run.spans (support (row_at k.model i a))) × Caps i a c)) (sym (is_same t s e)) (capped a (subst (λ i. a < length (choices k.model i)) (is_same t s e) choice)))
             (λ t. ⊎_elim
             (λ (e : t ≡ s). inr (same_is t s e, subst (λ i. ((r +ℤ pos 1) -ℤ pos 1) ≤ℤ number (set x s r) i) (sym e) (omega (arith, linear, here))))
             (λ (ne : t ≢ s). inl (omega (arith, linear, other t ne)))
@@ -119,7 +119,7 @@ module _ (keeps : CappingKeeps) (ranges : NumbersAreInRange) (k : CaseData) (spa
       }
     where
       Caps : ℕ → ℕ → ℕ → Type 0
-      Caps t a c = CapsAt k spans (λ i. i == s) (number x) (r +ℤ pos 1) (row_at k.model t a) c
+      Caps t a c = CapsAt k run.spans (λ i. i == s) (number x) (r +ℤ pos 1) (row_at k.model t a) c
 
       no_goal : is_goal k.model s ≡ true → ⊥
       no_goal g = true≢false (sym g ∙ goal)
@@ -130,15 +130,30 @@ module _ (keeps : CappingKeeps) (ranges : NumbersAreInRange) (k : CaseData) (spa
       here : number (set x s r) s ≡ r
       here = let lt = in_lane in rw get_or-set_same refl
 
-      capped : (a : ℕ) → a < length (choices k.model s) → (c : ℕ) × ((c < 2 ^ parameter_count spans (support (row_at k.model s a))) × Caps s a c)
+      capped : (a : ℕ) → a < length (choices k.model s) → (c : ℕ) × ((c < 2 ^ parameter_count run.spans (support (row_at k.model s a))) × Caps s a c)
       capped a choice = most.each a choice choice low
 
-  pub lowered_state : (new : List ℤ) (lower : Bool) → IsWrittenLower x new s r lower → IsLowered k spans x new lower
+  set_below : r <ℤ number x s → (t : ℕ) → number (set x s r) t ≤ℤ number x t
+  set_below low t = ⊎_elim
+      (λ (e : t ≡ s). subst (λ i. number (set x s r) i ≤ℤ number x i) (sym e) (let lt = in_lane in rw get_or-set_same (omega (arith, linear, low))))
+      (λ (ne : t ≢ s). rw get_or-set_other (omega (arith, linear)))
+      (same_or_not t s)
+
+  pub lowered_state : (new : List ℤ) (lower : Bool) → IsWrittenLower x new s r lower → IsLowered k run x new lower
   lowered_state new true w =
       let y = w.yes refl in
-      subst (λ l. IsLowered k spans x l true) (sym y.0)
-      (record { high = set_high y.1; most = let lt = total_set x s r in_lane most.least y.1 in omega (arith, lt); less = λ b. total_set x s r in_lane most.least y.1 })
-  lowered_state new false w = subst (λ l. IsLowered k spans x l false) (sym (w.no refl)) (record { high = high; most = omega arith; less = λ b. absurd (true≢false (sym b)) })
+      subst (λ l. IsLowered k run x l true) (sym y.0)
+      (record { high = set_high y.1; below = set_below y.1; most = let lt = total_set x s r in_lane most.least y.1 in omega (arith, lt); less = λ b. total_set x s r in_lane most.least y.1 })
+  lowered_state new false w = subst (λ l. IsLowered k run x l false) (sym (w.no refl)) (record { high = high; below = λ t. omega (arith, linear); most = omega arith; less = λ b. absurd (true≢false (sym b)) })
+
+-- what was lowered twice
+pub lowered_both : (k : CaseData) (run : Run) (x y z : List ℤ) (a b : Bool) → IsLowered k run x y a → IsLowered k run y z b → IsLowered k run x z false
+lowered_both k run x y z a b f g = record {
+  high = g.high;
+  below = λ t. omega (arith, linear, f.below t, g.below t);
+  most = omega (arith, f.most, g.most);
+  less = λ e. absurd (true≢false (sym e));
+}
 
 -- ---- room
 

@@ -1,33 +1,12 @@
--- Where the lowering of a part of the states begins: from 1, or from a vector that no choice lets rise. A part has the positions from one on and before another.
-use Rattle.std.specs.Prelude.{◌≡◌, ℕ, ◌<◌, ◌≤◌, ◌⊎◌, ◌&&◌, not, nat_lt, Bool, false, List, ℤ, ◌*ℤ◌, ◌≤ℤ◌, length}
+-- Where the lowering of a part of the states begins: from 1, from a guess, or from a vector that no choice lets rise. A part has the positions from one on and before another.
+use Rattle.std.specs.Prelude.{◌≡◌, ◌≢◌, ℕ, ◌%◌, ◌<◌, ◌≤◌, ◌⊎◌, List, ℤ, ◌*ℤ◌, ◌≤ℤ◌, unsigned_abs, length, slice_index_or}
 use Rattle.lift_grid.specs.Rectangle.{Spans}
-use Rattle.lift_model.specs.Model.{is_goal, choices, row_at}
-use Rattle.lift_model.specs.Links.{LinksData, position}
+use Rattle.lift_model.specs.Model.{choices, row_at}
+use Rattle.lift_model.specs.Links.{LinksData}
 use Rattle.corner_lift.specs.Corner.{corner_sum, whole}
 use Rattle.corner_lift.specs.Case.{CaseData, number}
-use Rattle.corner_lift.specs.Certificate.{AreNumbers}
+use Rattle.float_guess.specs.Part.{StandsAt, KeepsOthers}
 use Rattle.lower_cert.specs.Capping.{AtSomeCorner}
-use Rattle.lower_cert.specs.Lowering.{IsRead}
-
--- the state is no goal state, and stands at that position
-pub record StandsAt (k : CaseData) (l : LinksData) (at s : ℕ) : Type 0 where
-  pub state : s < length k.model.states
-  pub goal : is_goal k.model s ≡ false
-  pub is : position l s ≡ at
-
--- whether the state is no goal state, and stands in the part
-abbrev pub is_open : CaseData → LinksData → ℕ → ℕ → ℕ → Bool
-is_open k l low high s = not (is_goal k.model s) && (nat_lt s (length k.model.states) && (not (nat_lt (position l s) low) && nat_lt (position l s) high))
-
--- a vector whose weighted means are looked at: one number from 0 to 2 ^ w for each state
-pub record CanRaise (k : CaseData) (l : LinksData) (spans : Spans) (weights x : List ℤ) : Type 0 where
-  pub read : IsRead k l spans weights x
-  pub numbers : AreNumbers k x
-
--- numbers from 0 to 2 ^ w, which are the old ones at all other states than those of the part
-pub record KeepsOthers (k : CaseData) (l : LinksData) (low high : ℕ) (old new : List ℤ) : Type 0 where
-  pub numbers : AreNumbers k new
-  pub others : (s : ℕ) → is_open k l low high s ≡ false → number new s ≡ number old s
 
 -- at some corner the choice's weighted mean is at most the state's number
 abbrev pub IsEnoughFor : CaseData → Spans → List ℤ → ℕ → ℕ → Type 0
@@ -54,3 +33,19 @@ pub record IsFilledAt (k : CaseData) (l : LinksData) (low high at : ℕ) (v : �
   pub kept : KeepsOthers k l low high old new
   pub each : (s : ℕ) → (number new s ≡ number old s) ⊎ (number new s ≡ v)
   pub here : (s : ℕ) → StandsAt k l at s → number new s ≡ v
+
+-- the low 32 bits of a number
+abbrev pub low_word : ℤ → ℕ
+low_word n = unsigned_abs n % 4294967296
+
+-- the low bits of the first numbers were noted, so many of them
+abbrev pub AreNoted : List ℤ → List ℕ → ℕ → Type 0
+AreNoted x noted n = (s : ℕ) → s < n → slice_index_or noted s 0 ≡ low_word (number x s)
+
+-- the state at a position has another number than the one of which that was noted
+abbrev pub IsOtherAt : CaseData → LinksData → List ℤ → List ℕ → ℕ → Type 0
+IsOtherAt k l x noted at = (s : ℕ) → StandsAt k l at s → slice_index_or noted s 0 ≢ low_word (number x s)
+
+-- so has each state of a part
+abbrev pub AreOther : CaseData → LinksData → List ℤ → List ℕ → ℕ → ℕ → Type 0
+AreOther k l x noted low high = (at : ℕ) → low ≤ at → at < high → IsOtherAt k l x noted at

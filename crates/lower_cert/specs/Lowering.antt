@@ -4,10 +4,10 @@ use Rattle.lift_grid.specs.Rectangle.{Spans}
 use Rattle.lift_model.specs.Model.{is_goal, choices, row_at}
 use Rattle.lift_model.specs.Links.{LinksData, AreLinks, HasChoice}
 use Rattle.corner_lift.specs.Case.{CaseData, number}
-use Rattle.corner_lift.specs.Certificate.{unmarked, mark, AreNumbers}
-use Rattle.corner_lift.specs.Stages.{IsAllowed, AreStages, IsAboveLower}
+use Rattle.corner_lift.specs.Certificate.{unmarked, mark, AreNumbers, AtMost}
+use Rattle.corner_lift.specs.Stages.{IsAllowed, AreStages}
 use Rattle.corner_lift.specs.Table.{IsTable}
-use Rattle.lower_cert.specs.Capping.{AtSomeCorner, CapsAt}
+use Rattle.lower_cert.specs.Capping.{AtSomeCorner, CapsAt, IsAboveLowerUnder}
 use Rattle.robust_rank.specs.Attracting.{Pass}
 use Rattle.robust_rank.specs.Staging.{row_count, allows, OthersHaveNoPick}
 
@@ -23,11 +23,28 @@ pub record HasPlaces (k : CaseData) (rows ranks_at picks_at : List ℕ) : Type 0
   pub ranks : length ranks_at ≡ length k.model.states
   pub picks : length picks_at ≡ length k.model.states
 
--- one number from 0 to 2 ^ w for each state, 2 ^ w on goal states, and at or above every lower vector
-pub record IsHigh (k : CaseData) (spans : Spans) (x : List ℤ) : Type 0 where
+-- where a vector is lowered: on which rectangle, and under which numbers
+pub record Run : Type 0 where
+  pub spans : Spans
+  pub ceiling : ℕ → ℤ
+
+-- from 1
+abbrev pub from_top : CaseData → Spans → Run
+from_top k spans = record { spans = spans; ceiling = λ s. pos (2 ^ k.w) }
+
+-- from a guess
+abbrev pub from_guess : Spans → List ℤ → Run
+from_guess spans guess = record { spans = spans; ceiling = number guess }
+
+-- one number from 0 to 2 ^ w for each state, 2 ^ w on goal states, and at or above every lower vector that is at or below the ceiling
+pub record IsHighUnder (k : CaseData) (run : Run) (x : List ℤ) : Type 0 where
   pub numbers : AreNumbers k x
   pub goal : (s : ℕ) → is_goal k.model s ≡ true → number x s ≡ pos (2 ^ k.w)
-  pub above : IsAboveLower k spans (number x)
+  pub above : IsAboveLowerUnder k run.spans run.ceiling (number x)
+
+-- the same of every lower vector
+abbrev pub IsHigh : CaseData → Spans → List ℤ → Type 0
+IsHigh k spans x = IsHighUnder k (from_top k spans) x
 
 -- the ranks and picks are those of the vector's stages
 pub record IsRanked (k : CaseData) (spans : Spans) (x : List ℤ) (picks ranks : List ℕ) : Type 0 where
@@ -85,16 +102,22 @@ pub record HoldNoMore (k : CaseData) (spans : Spans) (x : List ℤ) (s count : �
   pub least : pos 0 ≤ℤ r
   pub each : (a : ℕ) → a < count → a < length (choices k.model s) → HoldsNoMore k spans x s a r
 
--- a high vector whose sum is at most the old one's, and less where it was lowered
-pub record IsLowered (k : CaseData) (spans : Spans) (old new : List ℤ) (lower : Bool) : Type 0 where
-  pub high : IsHigh k spans new
+-- a high vector that is at most the old one at each state, and whose sum is less where it was lowered
+pub record IsLowered (k : CaseData) (run : Run) (old new : List ℤ) (lower : Bool) : Type 0 where
+  pub high : IsHighUnder k run new
+  pub below : AtMost new old
   pub most : total new ≤ total old
   pub less : lower ≡ true → total new < total old
 
--- what a state's number is lowered by
-pub record CanLower (k : CaseData) (l : LinksData) (spans : Spans) (weights x : List ℤ) : Type 0 where
+-- a vector whose weighted means are looked at: one number from 0 to 2 ^ w for each state
+pub record CanWeigh (k : CaseData) (l : LinksData) (spans : Spans) (weights x : List ℤ) : Type 0 where
   pub read : IsRead k l spans weights x
-  pub high : IsHigh k spans x
+  pub numbers : AreNumbers k x
+
+-- a vector that is lowered
+pub record CanLower (k : CaseData) (l : LinksData) (run : Run) (weights x : List ℤ) : Type 0 where
+  pub read : IsRead k l run.spans weights x
+  pub high : IsHighUnder k run x
 
 -- the state's number is v if that is lower, and else all is as it was
 pub record IsWrittenLower (old new : List ℤ) (s : ℕ) (v : ℤ) (lower : Bool) : Type 0 where

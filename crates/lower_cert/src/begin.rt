@@ -7,17 +7,22 @@ ghost use Rattle.lift_grid.specs.Rectangle.{Spans};
 ghost use Rattle.lift_model.specs.Links.{AreLinks, HasChoice};
 ghost use Rattle.corner_lift.specs.Case.{number};
 ghost use Rattle.corner_lift.specs.Certificate.{AreNumbers};
-ghost use Rattle.lower_cert.specs.Lowering.{CanLower, IsRead, IsHigh, IsLowered};
-ghost use Rattle.lower_cert.specs.Beginning.{StandsAt, CanRaise, KeepsOthers, IsFilledAt, IsEnoughFor, IsEnough, IsEnoughAt, AreEnough, AreAll};
+ghost use Rattle.lower_cert.specs.Lowering.{Run, IsRead, from_top, CanWeigh, CanLower, IsHigh, IsLowered};
+ghost use Rattle.lower_cert.specs.Beginning.{IsFilledAt, IsEnoughFor, IsEnough, IsEnoughAt, AreEnough, AreAll, AreNoted, IsOtherAt, AreOther, low_word};
+ghost use Rattle.float_guess.specs.Part.{StandsAt, KeepsOthers};
 
 use crate::laws::vectors_are_lowered;
-use crate::lower::{is_at_most, times};
-use crate::sweep::{component_end, flag_before, greater, pass, quotient, settle_part};
+use crate::lower::{is_at_most, start, times};
+use crate::sweep::{component_end, flag_all, flag_before, greater, pass, quotient, settle_part};
 use corner_lift::{Case, one_at, rows_at_corners, table_min, table_whole};
+use float_guess::{Extreme, Rounding, Way, guess_part};
 use lift_model::Links;
 
 /// How many passes over a component lower it from 1, before it is begun anew.
 const FIRST_PATIENCE: u32 = 16;
+
+/// How many passes lower it from a guess.
+const GUESS_PATIENCE: u32 = 16384;
 
 /// How many times as many passes may raise the vector that it is begun from.
 const RAISES: u32 = 64;
@@ -27,6 +32,14 @@ const PATIENCE_STEP: u32 = 16;
 
 /// How often it is begun anew.
 const TRIES: u32 = 2;
+
+/// The low 32 bits of a number.
+fn low_word_of(number: i64) -> u32
+    requires { pos 0 ≤ℤ number }
+    ensures { result ≡ low_word number }
+{
+    (number as u64 % 4294967296) as u32
+}
 
 /// The state at a position, if it is no goal state.
 fn open_state(case: &Case, links: &Links, position: u32) -> Option<u32>
@@ -82,7 +95,7 @@ fn fill_part(case: &Case, links: &Links, lane: &mut [i64], low: u32, high: u32, 
 /// Whether at some corner the choice's weighted mean is at most the state's number.
 fn is_enough_for(case: &Case, links: &Links, weights: &[i128], lane: &[i64], s: u32, a: u32) -> bool
     ghost spans: { Spans }
-    requires can { CanRaise case.now links.now spans weights.now lane.now }
+    requires can { CanWeigh case.now links.now spans weights.now lane.now }
     requires row { HasChoice case.now.model s a }
     ensures { IsTrue result → IsEnoughFor case.now spans lane.now s a }
 {
@@ -96,7 +109,7 @@ fn is_enough_for(case: &Case, links: &Links, weights: &[i128], lane: &[i64], s: 
 /// Whether it is so for each choice of the state.
 fn is_enough(case: &Case, links: &Links, weights: &[i128], lane: &[i64], s: u32) -> bool
     ghost spans: { Spans }
-    requires can { CanRaise case.now links.now spans weights.now lane.now }
+    requires can { CanWeigh case.now links.now spans weights.now lane.now }
     requires state { s < length case.now.model.states }
     ensures { IsTrue result → IsEnough case.now spans lane.now s }
 {
@@ -111,7 +124,7 @@ fn is_enough(case: &Case, links: &Links, weights: &[i128], lane: &[i64], s: u32)
 /// Whether it is so for the state at a position.
 fn is_enough_at(case: &Case, links: &Links, weights: &[i128], lane: &[i64], position: u32) -> bool
     ghost spans: { Spans }
-    requires can { CanRaise case.now links.now spans weights.now lane.now }
+    requires can { CanWeigh case.now links.now spans weights.now lane.now }
     requires position { position < length links.now.order }
     ensures { IsTrue result → IsEnoughAt case.now links.now spans lane.now position }
 {
@@ -131,7 +144,7 @@ fn are_enough(
     high: u32,
 ) -> bool
     ghost spans: { Spans }
-    requires can { CanRaise case.now links.now spans weights.now lane.now }
+    requires can { CanWeigh case.now links.now spans weights.now lane.now }
     requires high { high ≤ length links.now.order }
     ensures { IsTrue result → AreEnough case.now links.now spans lane.now low high }
 {
@@ -170,7 +183,7 @@ fn raised_for(
     top: i64,
 ) -> i64
     ghost spans: { Spans }
-    requires can { CanRaise case.now links.now spans weights.now lane.now }
+    requires can { CanWeigh case.now links.now spans weights.now lane.now }
     requires row { HasChoice case.now.model s a }
     requires top { top ≡ pos (2 ^ case.now.w) }
     ensures { (pos 0 ≤ℤ result) × (result ≤ℤ pos (2 ^ case.now.w)) }
@@ -189,7 +202,7 @@ fn raised_for(
 /// A number that is at least what each choice of the state asks for.
 fn raised(case: &Case, links: &Links, weights: &[i128], lane: &[i64], s: u32, top: i64) -> i64
     ghost spans: { Spans }
-    requires can { CanRaise case.now links.now spans weights.now lane.now }
+    requires can { CanWeigh case.now links.now spans weights.now lane.now }
     requires state { s < length case.now.model.states }
     requires top { top ≡ pos (2 ^ case.now.w) }
     ensures { (pos 0 ≤ℤ result) × (result ≤ℤ pos (2 ^ case.now.w)) }
@@ -216,7 +229,7 @@ fn raise_turn(
     top: i64,
 ) -> bool
     ghost spans: { Spans }
-    requires can { CanRaise case.now links.now spans weights.now lane.old }
+    requires can { CanWeigh case.now links.now spans weights.now lane.old }
     requires part { (low ≤ position) × (position < high) }
     requires high { (high ≤ length work.old) × (high ≤ length links.now.order) }
     requires top { top ≡ pos (2 ^ case.now.w) }
@@ -250,7 +263,7 @@ fn raise_pass(
     top: i64,
 ) -> bool
     ghost spans: { Spans }
-    requires can { CanRaise case.now links.now spans weights.now lane.old }
+    requires can { CanWeigh case.now links.now spans weights.now lane.old }
     requires high { (high ≤ length work.old) × (high ≤ length links.now.order) }
     requires top { top ≡ pos (2 ^ case.now.w) }
     ensures { KeepsOthers case.now links.now low high lane.old lane.new }
@@ -287,7 +300,7 @@ fn raise_part(
     top: i64,
 ) -> bool
     ghost spans: { Spans }
-    requires can { CanRaise case.now links.now spans weights.now lane.old }
+    requires can { CanWeigh case.now links.now spans weights.now lane.old }
     requires high { (high ≤ length work.old) × (high ≤ length links.now.order) }
     requires top { top ≡ pos (2 ^ case.now.w) }
     ensures kept { KeepsOthers case.now links.now low high lane.old lane.new }
@@ -316,7 +329,7 @@ fn begin_anew(
     passes: u32,
 ) -> bool
     ghost spans: { Spans }
-    requires can { CanLower case.now links.now spans weights.now lane.old }
+    requires can { CanLower case.now links.now (from_top case.now spans) weights.now lane.old }
     requires high { (high ≤ length work.old) × (high ≤ length links.now.order) }
     ensures { IsHigh case.now spans lane.new }
 {
@@ -345,10 +358,10 @@ fn settle_within(
     high: u32,
     passes: u32,
 ) -> bool
-    ghost spans: { Spans }
-    requires can { CanLower case.now links.now spans weights.now lane.old }
+    ghost run: { Run }
+    requires can { CanLower case.now links.now run weights.now lane.old }
     requires high { (high ≤ length work.old) × (high ≤ length links.now.order) }
-    ensures { IsLowered case.now spans lane.old lane.new false }
+    ensures { IsLowered case.now run lane.old lane.new false }
 {
     let init = case.model().init() as usize;
     for _ in 0..passes {
@@ -359,7 +372,108 @@ fn settle_within(
     false
 }
 
-/// Lowers the states of a component from 1, or from where it is begun anew.
+/// Notes the low bits of each number.
+fn note(lane: &[i64], noted: &mut [u32])
+    requires sizes { length noted.old ≡ length lane.now }
+    requires numbers { (s : ℕ) → pos 0 ≤ℤ number lane.now s }
+    ensures { AreNoted lane.now noted.new (length lane.now) }
+{
+    for s in 0..lane.len() {
+        noted[s] = low_word_of(lane[s]);
+    }
+}
+
+/// Whether the state at a position has another number than the one that was noted.
+fn is_other_at(case: &Case, links: &Links, lane: &[i64], noted: &[u32], position: u32) -> bool
+    requires links { AreLinks case.now.model links.now }
+    requires numbers { AreNumbers case.now lane.now }
+    requires notes { length noted.now ≡ length case.now.model.states }
+    requires position { position < length links.now.order }
+    ensures { IsTrue result → IsOtherAt case.now links.now lane.now noted.now position }
+{
+    match open_state(case, links, position) {
+        Some(s) => noted[s as usize] != low_word_of(lane[s as usize]),
+        None => true,
+    }
+}
+
+/// Whether so has each state of a part.
+fn are_other(case: &Case, links: &Links, lane: &[i64], noted: &[u32], low: u32, high: u32) -> bool
+    requires links { AreLinks case.now.model links.now }
+    requires numbers { AreNumbers case.now lane.now }
+    requires notes { length noted.now ≡ length case.now.model.states }
+    requires high { high ≤ length links.now.order }
+    ensures { IsTrue result → AreOther case.now links.now lane.now noted.now low high }
+{
+    for position in low..high {
+        if !is_other_at(case, links, lane, noted, position) {
+            return false;
+        }
+    }
+    true
+}
+
+/// What came of a guess.
+#[derive(Clone, Copy)]
+enum Guessed {
+    /// There was none, and the part is at 1 again.
+    Nothing,
+    /// Each state of the part fell below it, so that it was a good one.
+    Good,
+    /// Nobody knows.
+    Bad,
+}
+
+/// Begins a part at a guess, and lowers it from there.
+fn lower_from_guess(
+    case: &Case,
+    links: &Links,
+    weights: &[i128],
+    lane: &mut [i64],
+    flags: &mut [u32],
+    noted: &mut [u32],
+    low: u32,
+    high: u32,
+) -> Guessed
+    ghost spans: { Spans }
+    requires can { CanLower case.now links.now (from_top case.now spans) weights.now lane.old }
+    requires flags { high ≤ length flags.old }
+    requires notes { length noted.old ≡ length case.now.model.states }
+    requires high { high ≤ length links.now.order }
+    ensures { (result ≡ Guessed.Bad → ⊥) → IsHigh case.now spans lane.new }
+{
+    vectors_are_lowered();
+    rows_at_corners();
+    let top = one_at(case.w());
+    let (extreme, rounding, way) = (Extreme::Least, Rounding::Up, Way::Elimination);
+    let guessed = guess_part(
+        case, links, weights, extreme, rounding, lane, flags, noted, low, high, way,
+    );
+    flag_part(flags, low, high);
+    if !guessed {
+        fill_part(case, links, lane, low, high, top);
+        return Guessed::Nothing;
+    }
+    note(lane, noted);
+    let settled = settle_within(
+        case,
+        links,
+        weights,
+        -1,
+        lane,
+        flags,
+        low,
+        high,
+        GUESS_PATIENCE,
+    );
+    if settled && are_other(case, links, lane, noted, low, high) {
+        return Guessed::Good;
+    }
+    Guessed::Bad
+}
+
+/// Lowers the states of a component from 1, from a guess, or from where it is begun anew. False: a guess
+/// was a bad one.
 fn begin_part(
     case: &Case,
     links: &Links,
@@ -369,28 +483,73 @@ fn begin_part(
     work: &mut [u32],
     low: u32,
     high: u32,
-)
+    guess: bool,
+) -> bool
     ghost spans: { Spans }
-    requires can { CanLower case.now links.now spans weights.now lane.old }
-    requires high { (high ≤ length work.old) × (high ≤ length links.now.order) }
-    ensures { IsHigh case.now spans lane.new }
+    requires can { CanLower case.now links.now (from_top case.now spans) weights.now lane.old }
+    requires work { length work.old ≡ 2 * length case.now.model.states }
+    requires high { (high ≤ length case.now.model.states) × (high ≤ length links.now.order) }
+    ensures high { IsTrue result → IsHigh case.now spans lane.new }
+    ensures sure { guess ≡ false → IsTrue result }
 {
     let mut patience = FIRST_PATIENCE;
-    for _ in 0..TRIES {
-        if settle_within(case, links, weights, limit, lane, work, low, high, patience) {
-            return;
+    if settle_within(case, links, weights, limit, lane, work, low, high, patience) {
+        return true;
+    }
+    if guess {
+        let (flags, noted) = work.split_at_mut(case.model().states() as usize);
+        match lower_from_guess(case, links, weights, lane, flags, noted, low, high) {
+            Guessed::Good => return true,
+            Guessed::Bad => return false,
+            Guessed::Nothing => {}
         }
+    }
+    for _ in 0..TRIES {
         let passes = patience.saturating_mul(RAISES);
         if begin_anew(case, links, weights, lane, work, low, high, passes) {
             break;
         }
         patience = patience.saturating_mul(PATIENCE_STEP);
+        if settle_within(case, links, weights, limit, lane, work, low, high, patience) {
+            return true;
+        }
     }
     settle_part(case, links, weights, limit, lane, work, low, high);
+    true
 }
 
 /// Lowers a vector that is 1 everywhere, component by component from those below, until none of its states
-/// is flagged, or the initial state's number isn't above the limit.
+/// is flagged, or the initial state's number isn't above the limit. False: a guess was a bad one.
+fn begin_parts(
+    case: &Case,
+    links: &Links,
+    weights: &[i128],
+    limit: i64,
+    lane: &mut [i64],
+    work: &mut [u32],
+    guess: bool,
+) -> bool
+    ghost spans: { Spans }
+    requires can { CanLower case.now links.now (from_top case.now spans) weights.now lane.old }
+    requires work { length work.old ≡ 2 * length case.now.model.states }
+    ensures high { IsTrue result → IsHigh case.now spans lane.new }
+    ensures sure { guess ≡ false → IsTrue result }
+{
+    let states = case.model().states();
+    let init = case.model().init() as usize;
+    let mut low = 0;
+    while low < states && lane[init] > limit {
+        let high = component_end(links, low, states);
+        if !begin_part(case, links, weights, limit, lane, work, low, high, guess) {
+            return false;
+        }
+        low = high;
+    }
+    true
+}
+
+/// Lowers a vector from 1, component by component from those below, until none of its states is flagged, or
+/// the initial state's number isn't above the limit.
 pub(crate) fn begin(
     case: &Case,
     links: &Links,
@@ -400,16 +559,16 @@ pub(crate) fn begin(
     work: &mut [u32],
 )
     ghost spans: { Spans }
-    requires can { CanLower case.now links.now spans weights.now lane.old }
+    requires read { IsRead case.now links.now spans weights.now lane.old }
     requires work { length work.old ≡ 2 * length case.now.model.states }
     ensures { IsHigh case.now spans lane.new }
 {
-    let states = case.model().states();
-    let init = case.model().init() as usize;
-    let mut low = 0;
-    while low < states && lane[init] > limit {
-        let high = component_end(links, low, states);
-        begin_part(case, links, weights, limit, lane, work, low, high);
-        low = high;
+    start(case, lane);
+    flag_all(work);
+    if begin_parts(case, links, weights, limit, lane, work, true) {
+        return;
     }
+    start(case, lane);
+    flag_all(work);
+    begin_parts(case, links, weights, limit, lane, work, false);
 }

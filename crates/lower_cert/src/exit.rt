@@ -7,7 +7,7 @@ ghost use Rattle.lift_model.specs.Links.{HasChoice};
 ghost use Rattle.corner_lift.specs.Case.{number, corner_count};
 ghost use Rattle.corner_lift.specs.Certificate.{mark, unmarked};
 ghost use Rattle.lower_cert.specs.Capping.{marked};
-ghost use Rattle.lower_cert.specs.Lowering.{IsRead, IsHigh, IsLowered};
+ghost use Rattle.lower_cert.specs.Lowering.{IsRead, IsHigh, IsLowered, from_top};
 ghost use Rattle.lower_cert.specs.Exits.{AreLevel, CanExit, ExitsAtMost, ChoicesExitAtMost, StatesExitAtMost, AreLoweredTo};
 
 use crate::laws::vectors_are_lowered;
@@ -198,7 +198,7 @@ pub(crate) fn lower_to_exit(
     requires sizes { (length marks.old ≡ length case.now.model.states) × (length ranks.now ≡ length case.now.model.states) }
     requires goal { (s : ℕ) → unmarked ≤ mark ranks.now s → is_goal case.now.model s ≡ false }
     requires level { (pos 0 ≤ℤ level) × (level ≤ℤ pos (2 ^ case.now.w)) }
-    ensures { IsLowered case.now spans lane.old lane.new false }
+    ensures { IsLowered case.now (from_top case.now spans) lane.old lane.new false }
 {
     vectors_are_lowered();
     rows_at_corners();

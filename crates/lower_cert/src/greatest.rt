@@ -11,8 +11,8 @@ ghost use Rattle.lower_cert.specs.Limit.{IsGreatestAbove, NoneIsAbove};
 use crate::begin::begin;
 use crate::exit::lower_to_exit;
 use crate::laws::{ranks_fit, vectors_are_lowered};
-use crate::lower::{NONE, lower_level, rank_states, start, stuck_level};
-use crate::sweep::{flag_all, flag_marked, settle};
+use crate::lower::{NONE, lower_level, rank_states, stuck_level};
+use crate::sweep::{flag_marked, settle};
 use corner_lift::{Case, rows_at_corners};
 use lift_model::Links;
 use robust_rank::rate;
@@ -106,8 +106,6 @@ fn descend(
     ensures high { IsHigh case.now spans lane.new }
     ensures settled { limit <ℤ number lane.new case.now.model.init → IsSettled case.now spans lane.new picks.new ranks.new }
 {
-    start(case, lane);
-    flag_all(work);
     begin(case, links, weights, limit, lane, work);
     while lower_once(
         case, links, weights, limit, lane, allowed, ranks, picks, work,
@@ -189,6 +187,7 @@ pub fn greatest_reject_above(
     ensures some { IfSome result (λ rate. IsGreatestAbove case.now spans limit (record { numbers = lane.new; picks = picks.new; ranks = ranks.new; e = rate.e; k = rate.k })) }
     ensures none { IsNone result → NoneIsAbove case.now spans limit }
 {
+    rows_at_corners();
     descend(
         case, links, weights, limit, lane, allowed, ranks, picks, work,
     );

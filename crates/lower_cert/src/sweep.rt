@@ -5,7 +5,7 @@ ghost use Rattle.lift_grid.specs.Rectangle.{Spans};
 ghost use Rattle.lift_model.specs.Model.{is_goal, choices, row_at};
 ghost use Rattle.lift_model.specs.Links.{AreLinks, HasChoice, state_count, targets_of};
 ghost use Rattle.corner_lift.specs.Case.{number, corner_count, engine_limit};
-ghost use Rattle.lower_cert.specs.Lowering.{CanLower, IsExit, HoldsNoMore, HoldNoMore, IsLowered, IsWrittenLower};
+ghost use Rattle.lower_cert.specs.Lowering.{Run, CanWeigh, CanLower, IsExit, HoldsNoMore, HoldNoMore, IsLowered, IsWrittenLower};
 
 use crate::laws::vectors_are_lowered;
 use crate::lower::times;
@@ -78,7 +78,7 @@ fn exit_at(
     corner: u32,
 ) -> i64
     ghost spans: { Spans }
-    requires can { CanLower case.now links.now spans weights.now lane.now }
+    requires can { CanWeigh case.now links.now spans weights.now lane.now }
     requires row { HasChoice case.now.model s a }
     requires corner { corner < corner_count case.now s a }
     ensures least { pos 0 ≤ℤ result }
@@ -110,7 +110,7 @@ fn held_at_corners(
     a: u32,
 ) -> i64
     ghost spans: { Spans }
-    requires can { CanLower case.now links.now spans weights.now lane.now }
+    requires can { CanWeigh case.now links.now spans weights.now lane.now }
     requires row { HasChoice case.now.model s a }
     ensures least { pos 0 ≤ℤ result }
     ensures most { HoldsNoMore case.now spans lane.now s a result }
@@ -145,7 +145,7 @@ fn has_loop(case: &Case, links: &Links, s: u32, a: u32) -> bool
 /// rounded down.
 fn held_by_least(case: &Case, links: &Links, weights: &[i128], lane: &[i64], s: u32, a: u32) -> i64
     ghost spans: { Spans }
-    requires can { CanLower case.now links.now spans weights.now lane.now }
+    requires can { CanWeigh case.now links.now spans weights.now lane.now }
     requires row { HasChoice case.now.model s a }
     ensures least { pos 0 ≤ℤ result }
     ensures most { HoldsNoMore case.now spans lane.now s a result }
@@ -164,7 +164,7 @@ fn held_by_least(case: &Case, links: &Links, weights: &[i128], lane: &[i64], s: 
 /// How high a state is held by a choice: no number above it can be kept there.
 fn held(case: &Case, links: &Links, weights: &[i128], lane: &[i64], s: u32, a: u32) -> i64
     ghost spans: { Spans }
-    requires can { CanLower case.now links.now spans weights.now lane.now }
+    requires can { CanWeigh case.now links.now spans weights.now lane.now }
     requires row { HasChoice case.now.model s a }
     ensures least { pos 0 ≤ℤ result }
     ensures most { HoldsNoMore case.now spans lane.now s a result }
@@ -187,7 +187,7 @@ pub(crate) fn greater(a: i64, b: i64) -> i64
 /// no further one.
 fn most_held(case: &Case, links: &Links, weights: &[i128], lane: &[i64], s: u32) -> i64
     ghost spans: { Spans }
-    requires can { CanLower case.now links.now spans weights.now lane.now }
+    requires can { CanWeigh case.now links.now spans weights.now lane.now }
     requires state { s < length case.now.model.states }
     ensures { HoldNoMore case.now spans lane.now s (length (choices case.now.model s)) result }
 {
@@ -218,11 +218,11 @@ fn write_lower(lane: &mut [i64], s: u32, number: i64) -> bool
 
 /// Lowers a state that is no goal state to what its choices hold, and tells whether that is lower.
 fn lower_state(case: &Case, links: &Links, weights: &[i128], lane: &mut [i64], s: u32) -> bool
-    ghost spans: { Spans }
-    requires can { CanLower case.now links.now spans weights.now lane.old }
+    ghost run: { Run }
+    requires can { CanLower case.now links.now run weights.now lane.old }
     requires state { s < length case.now.model.states }
     requires goal { is_goal case.now.model s ≡ false }
-    ensures { IsLowered case.now spans lane.old lane.new result }
+    ensures { IsLowered case.now run lane.old lane.new result }
 {
     vectors_are_lowered();
     rows_at_corners();
@@ -233,9 +233,9 @@ fn lower_state(case: &Case, links: &Links, weights: &[i128], lane: &mut [i64], s
 
 /// Lowers a state, if it is one, no goal state, and above 0.
 fn try_state(case: &Case, links: &Links, weights: &[i128], lane: &mut [i64], s: u32) -> bool
-    ghost spans: { Spans }
-    requires { CanLower case.now links.now spans weights.now lane.old }
-    ensures { IsLowered case.now spans lane.old lane.new result }
+    ghost run: { Run }
+    requires { CanLower case.now links.now run weights.now lane.old }
+    ensures { IsLowered case.now run lane.old lane.new result }
 {
     let model = case.model();
     if s >= model.states() || model.is_goal(s) || lane[s as usize] <= 0 {
@@ -293,10 +293,10 @@ fn turn(
     work: &mut [u32],
     position: u32,
 ) -> bool
-    ghost spans: { Spans }
-    requires can { CanLower case.now links.now spans weights.now lane.old }
+    ghost run: { Run }
+    requires can { CanLower case.now links.now run weights.now lane.old }
     requires position { (position < length work.old) × (position < length links.now.order) }
-    ensures { IsLowered case.now spans lane.old lane.new result }
+    ensures { IsLowered case.now run lane.old lane.new result }
 {
     let place = position as usize;
     if work[place] == 0 {
@@ -321,10 +321,10 @@ pub(crate) fn pass(
     low: u32,
     high: u32,
 ) -> bool
-    ghost spans: { Spans }
-    requires can { CanLower case.now links.now spans weights.now lane.old }
+    ghost run: { Run }
+    requires can { CanLower case.now links.now run weights.now lane.old }
     requires high { (high ≤ length work.old) × (high ≤ length links.now.order) }
-    ensures { IsLowered case.now spans lane.old lane.new result }
+    ensures { IsLowered case.now run lane.old lane.new result }
 {
     let mut lower = false;
     for position in low..high {
@@ -347,10 +347,10 @@ pub(crate) fn settle_part(
     low: u32,
     high: u32,
 )
-    ghost spans: { Spans }
-    requires can { CanLower case.now links.now spans weights.now lane.old }
+    ghost run: { Run }
+    requires can { CanLower case.now links.now run weights.now lane.old }
     requires high { (high ≤ length work.old) × (high ≤ length links.now.order) }
-    ensures { IsLowered case.now spans lane.old lane.new false }
+    ensures { IsLowered case.now run lane.old lane.new false }
 {
     let init = case.model().init() as usize;
     while pass(case, links, weights, lane, work, low, high) && lane[init] > limit {}
@@ -378,10 +378,10 @@ pub(crate) fn settle(
     lane: &mut [i64],
     work: &mut [u32],
 )
-    ghost spans: { Spans }
-    requires can { CanLower case.now links.now spans weights.now lane.old }
+    ghost run: { Run }
+    requires can { CanLower case.now links.now run weights.now lane.old }
     requires work { length work.old ≡ 2 * length case.now.model.states }
-    ensures { IsLowered case.now spans lane.old lane.new false }
+    ensures { IsLowered case.now run lane.old lane.new false }
 {
     let states = case.model().states();
     let mut low = 0;

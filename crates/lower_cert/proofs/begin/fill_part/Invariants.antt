@@ -1,4 +1,5 @@
-use Rattle.lower_cert.specs.Beginning.{KeepsOthers, AreAll}
+use Rattle.float_guess.specs.Part.{KeepsOthers}
+use Rattle.lower_cert.specs.Beginning.{AreAll}
 use Rattle.lower_cert.proofs.begin.fill_part.Given as goal
 
 -- the positions so far are filled

@@ -1,4 +1,4 @@
-use Rattle.lower_cert.specs.Beginning.{KeepsOthers}
+use Rattle.float_guess.specs.Part.{KeepsOthers}
 use Rattle.lower_cert.proofs.begin.raise_part.Given as goal
 
 abbrev pub ghost-raise_pass : goal.ghost-raise_pass

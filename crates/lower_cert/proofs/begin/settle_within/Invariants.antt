@@ -3,7 +3,7 @@ use Rattle.lower_cert.specs.Lowering.{IsLowered}
 use Rattle.lower_cert.proofs.begin.settle_within.Given as goal
 
 abbrev pub ghost-pass : goal.ghost-pass
-ghost-pass g a = g.spans
+ghost-pass g a = g.run
 
 abbrev pub invariant-loop : goal.invariant-loop
-invariant-loop g l = IsLowered l.case g.spans l.initial.lane l.lane false
+invariant-loop g l = IsLowered l.case g.run l.initial.lane l.lane false

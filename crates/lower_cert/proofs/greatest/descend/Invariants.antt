@@ -1,9 +1,6 @@
 use Rattle.lower_cert.specs.Lowering.{IsHigh, total}
 use Rattle.lower_cert.proofs.greatest.descend.Given as goal
 
-abbrev pub ghost-start : goal.ghost-start
-ghost-start g a = g.spans
-
 abbrev pub ghost-lower_once : goal.ghost-lower_once
 ghost-lower_once g a = g.spans
 

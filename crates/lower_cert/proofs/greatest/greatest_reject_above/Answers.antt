@@ -22,4 +22,4 @@ returns-clause-none g c =
     let test = (rw (to_z-of_z c.ranges.limit) at c.is_above.ensures).1 in
     λ none r lower. by_lt_z c.args.limit (number c.descend.new.lane init)
     (λ lt. let wrong = test lt in let not = c.if-is_above.false in absurd (cc (wrong, not)))
-    (λ le. omega (arith, linear, le, c.descend.ensures.high.above r lower init))
+    (λ le. omega (arith, linear, le, c.descend.ensures.high.above r lower (λ t. (c.rows_at_corners.ensures.numbers c.args.case.now r.numbers t lower.numbers).1) init))

@@ -15,7 +15,7 @@ exit-requires-clause-number g c =
     let place = stand laws c.args.case.now g.spans c.w.ensures.case c.requires.0.read.table.inside in
     let n_fits : SFits w64 (number c.args.lane.now c.args.s) = search rules in
     let n_is = to_z-of_z n_fits in
-    let range = corners.numbers c.args.case.now c.args.lane.now c.args.s c.requires.0.high.numbers in
+    let range = corners.numbers c.args.case.now c.args.lane.now c.args.s c.requires.0.numbers in
     let small : 2 ^ c.args.case.now.w ≤ 2 ^ 40 = pow_mono c.w.ensures.case.asked.precision.1 in
     rw n_is (range.0, omega (arith, linear, range.1, small))
 
@@ -39,7 +39,7 @@ exit-requires-clause-room g c =
     let n_is = to_z-of_z n_fits in
     let w_fits : SFits w128 c.table_whole-whole.result = search rules in
     let w_is = to_z-of_z w_fits ∙ c.table_whole-whole.ensures.value in
-    let range = corners.numbers c.args.case.now c.args.lane.now c.args.s c.requires.0.high.numbers in
+    let range = corners.numbers c.args.case.now c.args.lane.now c.args.s c.requires.0.numbers in
     let size : unsigned_abs (number c.args.lane.now c.args.s) ≤ 2 ^ c.args.case.now.w = (omega (arith, ints, range.0, range.1)) in
     rw (n_is, to_z-of_z w_fits) (c.table_whole-whole.ensures.room _ size)
 
@@ -52,7 +52,7 @@ exit-requires-clause-part g c =
     let n_is = to_z-of_z n_fits in
     let o_fits : SFits w128 c.table_loop-own.result = search rules in
     let o_is = to_z-of_z o_fits ∙ c.table_loop-own.ensures in
-    let range = corners.numbers c.args.case.now c.args.lane.now c.args.s c.requires.0.high.numbers in
+    let range = corners.numbers c.args.case.now c.args.lane.now c.args.s c.requires.0.numbers in
     let size : unsigned_abs (number c.args.lane.now c.args.s) ≤ 2 ^ c.args.case.now.w = (omega (arith, ints, range.0, range.1)) in
     rw (n_is, o_is) (part_room _ _ _ engine_limit (into_least c.args.case.now g.spans place c.args.s c.args.a c.requires.1.0.choice c.args.corner c.requires.1.1 (λ t. t == c.args.s) (number c.args.lane.now) (number c.args.lane.now c.args.s)) (into_most c.args.case.now g.spans place c.args.s c.args.a c.requires.1.0.choice c.args.corner c.requires.1.1 (λ t. t == c.args.s) (number c.args.lane.now) (number c.args.lane.now c.args.s)) (rw c.table_whole-whole.ensures.value at (c.table_whole-whole.ensures.room _ size)))
 
@@ -67,7 +67,7 @@ exit-requires-clause-sum g c =
     let o_is = to_z-of_z o_fits ∙ c.table_loop-own.ensures in
     let s_fits : SFits w128 c.table_value-sum.result = search rules in
     let s_is = to_z-of_z s_fits ∙ c.table_value-sum.ensures in
-    rw (n_is, o_is, s_is) (rest_least c.args.case.now g.spans place c.args.s c.args.a c.requires.1.0.choice c.args.corner c.requires.1.1 (λ t. t == c.args.s) (number c.args.lane.now) (number c.args.lane.now c.args.s) (λ t e. ap (number c.args.lane.now) (is_same t c.args.s e)) (λ t. (corners.numbers c.args.case.now c.args.lane.now t c.requires.0.high.numbers).0))
+    rw (n_is, o_is, s_is) (rest_least c.args.case.now g.spans place c.args.s c.args.a c.requires.1.0.choice c.args.corner c.requires.1.1 (λ t. t == c.args.s) (number c.args.lane.now) (number c.args.lane.now c.args.s) (λ t e. ap (number c.args.lane.now) (is_same t c.args.s e)) (λ t. (corners.numbers c.args.case.now c.args.lane.now t c.requires.0.numbers).0))
 
 pub returns-clause-most : goal.returns-clause-most
 returns-clause-most g c =

@@ -2,7 +2,7 @@ use Rattle.lower_cert.specs.Lowering.{IsLowered}
 use Rattle.lower_cert.proofs.sweep.pass.Given as goal
 
 abbrev pub ghost-turn : goal.ghost-turn
-ghost-turn g a = g.spans
+ghost-turn g a = g.run
 
 abbrev pub invariant-loop-position : goal.invariant-loop-position
-invariant-loop-position g l = IsLowered l.case g.spans l.initial.lane l.lane l.lower
+invariant-loop-position g l = IsLowered l.case g.run l.initial.lane l.lane l.lower

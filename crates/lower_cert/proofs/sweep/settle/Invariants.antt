@@ -3,10 +3,10 @@ use Rattle.lower_cert.specs.Lowering.{IsLowered}
 use Rattle.lower_cert.proofs.sweep.settle.Given as goal
 
 abbrev pub ghost-settle_part : goal.ghost-settle_part
-ghost-settle_part g a = g.spans
+ghost-settle_part g a = g.run
 
 abbrev pub invariant-loop-low : goal.invariant-loop-low
-invariant-loop-low g l = IsLowered l.case g.spans l.initial.lane l.lane false × (l.low ≤ l.states)
+invariant-loop-low g l = IsLowered l.case g.run l.initial.lane l.lane false × (l.low ≤ l.states)
 
 abbrev pub decreases-loop-low : goal.decreases-loop-low
 decreases-loop-low g l = l.states - l.low

@@ -1,4 +1,4 @@
 use Rattle.lower_cert.proofs.sweep.try_state.Given as goal
 
 abbrev pub ghost-lower_state : goal.ghost-lower_state
-ghost-lower_state g a = g.spans
+ghost-lower_state g a = g.run
