@@ -57,7 +57,12 @@ fn least_of(alloc: Global, case: &Case) -> Result<String, Fail> {
 /// the least upper vector and the least value vector at precision 20. State 0 asks for state 3's number
 /// less a 4096th of it, and state 3 for state 0's number less a 4096th of it and 256 more. Both hold first
 /// where state 0 has 128 * 4096 and state 3 has 128 more. From 0 on that takes 22,430 rounds.
+///
+/// And two states that lead to each other and leave that cycle with 10^-17, in equal parts to the goal and to
+/// where it is lost: a number below half of 2^20 is never enough, as what leaves adds a little, and half of it
+/// is. From 0 on that takes half a million rounds.
 const SLOW: &str = "\
+action a;3 : 1-1e-17;1 : 1e-17/2;2 : 1e-17/2 / action a;0 : 1-1e-17;1 : 1e-17/2;2 : 1e-17/2 | [524288, 1048576, 0, 524288] | [524288, 1048576, 0, 524288]
 action a;3 : 4095/4096;2 : 1/4096 / action a;0 : 4095/4096;1 : 1/4096 | [524288, 1048576, 0, 524416] | [524288, 1048576, 0, 524416]";
 
 /// Compares the least vectors with those of each line.
