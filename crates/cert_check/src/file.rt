@@ -11,7 +11,7 @@ use crate::nodes::check_tree;
 use crate::summary::Summary;
 use cert_text::{Head, Place, read_head};
 use lift_model::Links;
-use lift_rows::admit;
+use lift_rows::{admit, admit_linked};
 use std::alloc::Global;
 
 /// Tests that nothing follows the last node.
@@ -37,8 +37,12 @@ fn check_head(alloc: Global, text: &[u8], head: &Head, place: Place) -> Result<S
 {
     rectangles_are_placed();
     let _ = head.w();
-    let case = admit(head.model(), head.root(), head.grid(), head.w())?;
-    let links = Links::build(alloc, case.model())?;
+    let Ok(links) = Links::build(alloc, head.model()) else {
+        // A row that isn't admitted is told all the same.
+        admit(head.model(), head.root(), head.grid(), head.w())?;
+        return Err(CheckError::Memory);
+    };
+    let case = admit_linked(head.model(), head.root(), head.grid(), head.w(), &links)?;
     let mut weights = vec![in alloc; 0i128; links.weights_len()]?;
     let mut sides = Vec::from_slice(alloc, head.root().sides())?;
     let levels = case.greatest_depth();
