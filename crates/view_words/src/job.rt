@@ -50,5 +50,5 @@ pub enum Usage {
     X(Cause),
     Y(Cause),
     /// The value that is given by the option `--at` number `place`, from 1.
-    At { place: u32, cause: Cause },
+    At { place: u64, cause: Cause },
 }
