@@ -19,7 +19,7 @@ use Rattle.corner_lift.specs.Corner.{corner, parameter_count, corner_sum, whole}
 use Rattle.corner_lift.specs.Certificate.{AreNumbers, ranked_below}
 use Rattle.corner_lift.specs.Case.{CaseData, IsCase, IsRowOf, IsInside, AreSidesInside, Within, BoundsAbove, BoundsBelow, IsGreatest, IsLeast, number, corner_count, row_value, row_whole, row_parameters, engine_limit}
 use Rattle.corner_lift.specs.Premises.{Premises}
-use Rattle.corner_lift.specs.Table.{corner_weights, first_corners, block, blocks, CanRead}
+use Rattle.corner_lift.specs.Table.{corner_weights, first_corners, block, blocks, CanRead, IsWhole}
 use Rattle.corner_lift.specs.Dot.{dot, total, corner_part, only_at, CanSum, CanCompare, FitsLane, FitsLaneAtCorners}
 use Rattle.corner_lift.proofs.CornerBound.{mul-pos_lem}
 use Rattle.corner_lift.proofs.RowBound.{power-pos}
@@ -270,22 +270,25 @@ module _ (laws : Premises) (k : CaseData) (l : LinksData) (spans : Spans) (weigh
       below : (a : ℤ) → unsigned_abs a < engine_limit → a <ℤ pos engine_limit
       below a small = omega (arith, ints, small)
 
+  pub is_whole : (z : ℤ) → z ≡ row_whole k s a → IsWhole k s a z
+  is_whole z is = record { value = is; positive = rw is whole_positive; size = rw is whole_size; room = rw is whole_numbers }
+
   -- ---- numbers of 64 bits
 
   pub first_total : total (corner_part weights place 0) ≡ row_whole k s a
   first_total = whole_stands 0 (pow_pos (row_parameters k row))
 
-  -- where the first corner's weights sum to little, numbers of 64 bits hold each corner's sum
-  pub lane_at : (x : List ℤ) → AreNumbers k x → total (corner_part weights place 0) <ℤ pos (2 ^ (63 - k.w)) → (c : ℕ) → c < corner_count k s a → FitsLane (number x) (corner_part weights place c) (targets_of row)
+  -- where the whole is little, numbers of 64 bits hold each corner's sum
+  pub lane_at : (x : List ℤ) → AreNumbers k x → row_whole k s a <ℤ pos (2 ^ (63 - k.w)) → (c : ℕ) → c < corner_count k s a → FitsLane (number x) (corner_part weights place c) (targets_of row)
   lane_at x numbers small c lt =
       let most = corner_sum_range laws k row spans is.asked.grid.positive is.asked.spans can.table.inside.rectangle can.table.inside.within of.admitted c (number x) (pos (2 ^ k.w)) (number_range k x numbers) in
-      let room = lane_room k.w (row_whole k s a) (corner_sum k.d spans row c (number x)) (omega (arith, is.asked.precision.1)) (rw first_total at small) most.1 in
+      let room = lane_room k.w (row_whole k s a) (corner_sum k.d spans row c (number x)) (omega (arith, is.asked.precision.1)) small most.1 in
       record {
         weights_fit = rw (whole_stands c lt) room.0;
         sum_fits = rw (sum_stands c lt (number x)) room.1;
       }
 
-  pub lane_at_corners : (x : List ℤ) → AreNumbers k x → total (corner_part weights place 0) <ℤ pos (2 ^ (63 - k.w)) → FitsLaneAtCorners (number x) weights (targets_of row) place
+  pub lane_at_corners : (x : List ℤ) → AreNumbers k x → row_whole k s a <ℤ pos (2 ^ (63 - k.w)) → FitsLaneAtCorners (number x) weights (targets_of row) place
   lane_at_corners x numbers small c lt = lane_at x numbers small c (omega (arith, lt, corners_all))
 
 -- ---- bounds in a rectangle that is given by its spans

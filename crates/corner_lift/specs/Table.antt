@@ -1,12 +1,12 @@
 -- Tables of corner weights: the weights of all rows of a case at the corners of a rectangle, made once for it. Rows with the same polynomials share a block of weights.
-use Rattle.std.specs.Prelude.{◌≡◌, ℕ, zero, suc, ◌^◌, List, [], ◌∷◌, ◌++◌, ℤ, map}
+use Rattle.std.specs.Prelude.{◌≡◌, ℕ, zero, suc, ◌*◌, ◌^◌, ◌<◌, ◌≤◌, List, [], ◌∷◌, ◌++◌, ℤ, pos, ◌≤ℤ◌, unsigned_abs, map}
 use Rattle.lift_poly.specs.Polynomial.{weight}
 use Rattle.lift_grid.specs.Rectangle.{Spans}
 use Rattle.lift_model.specs.declared.entry.Entry.{Entry}
 use Rattle.lift_model.specs.Model.{ModelData, support}
 use Rattle.lift_model.specs.Links.{LinksData, AreLinks, HasChoice, Firsts, first_row}
 use Rattle.corner_lift.specs.Corner.{corner, parameter_count}
-use Rattle.corner_lift.specs.Case.{CaseData, IsInside}
+use Rattle.corner_lift.specs.Case.{CaseData, IsInside, row_whole, engine_limit}
 
 -- the weights of a row at a corner, entry by entry
 abbrev pub corner_weights : ℤ → Spans → List Entry → ℕ → List ℤ
@@ -40,3 +40,10 @@ pub record CanRead (k : CaseData) (l : LinksData) (spans : Spans) (weights : Lis
   pub links : AreLinks k.model l
   pub table : IsTable k l spans weights
   pub row : HasChoice k.model s a
+
+-- What the row's weights sum to at each of its corners: from 1 on, and no number up to 2^w times it leaves the engine's limit.
+pub record IsWhole (k : CaseData) (s a : ℕ) (sum : ℤ) : Type 0 where
+  pub value : sum ≡ row_whole k s a
+  pub positive : pos 1 ≤ℤ sum
+  pub size : unsigned_abs sum < engine_limit
+  pub room : (n : ℕ) → n ≤ 2 ^ k.w → n * unsigned_abs sum < engine_limit

@@ -16,4 +16,7 @@ pub use laws::{
 };
 pub use precision::one_at;
 pub use row::{raw_weight, row_max, row_min, row_value, weight_into, whole};
-pub use table::{fill, table_into, table_loop, table_max, table_min, table_value, table_whole};
+pub use table::{
+    AtCorner, Weighed, fill, table_corner, table_greatest, table_into, table_least, table_loop,
+    table_max, table_min, table_value, table_whole,
+};

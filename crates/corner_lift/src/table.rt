@@ -8,7 +8,7 @@ ghost use Rattle.corner_lift.specs.Corner.{corner_sum};
 ghost use Rattle.corner_lift.specs.Certificate.{AreNumbers, mark, ranked_below};
 ghost use Rattle.corner_lift.specs.Case.{number, IsCase, IsRowOf, AreSidesInside, IsGreatest, IsLeast, BoundsAbove, BoundsBelow, row_value, row_whole, corner_count, abs_sum, engine_limit, most_precision, most_row_parameters};
 ghost use Rattle.corner_lift.specs.Ends.{weight_at, greatest_end, IsPair};
-ghost use Rattle.corner_lift.specs.Table.{block, IsTable, CanRead};
+ghost use Rattle.corner_lift.specs.Table.{block, IsTable, CanRead, IsWhole};
 ghost use Rattle.corner_lift.specs.Dot.{dot, total, corner_part, only_at, CanSum, CanCompare, FitsLane, FitsLaneAtCorners};
 
 use crate::case::Case;
@@ -16,6 +16,26 @@ use crate::ends::Ends;
 use crate::laws::premises;
 use crate::row::{greater, lesser};
 use lift_model::{Links, Row, RowPlace};
+
+/// A weighted sum of a row, and its whole: what the weights alone sum to, at each corner.
+#[derive(Clone, Copy)]
+pub struct Weighed {
+    /// The sum.
+    pub sum: i128,
+    /// The whole, at least 1.
+    pub whole: i128,
+}
+
+/// What a row weighs at one of its corners: a weighted sum, the whole, and the weight of its self loop.
+#[derive(Clone, Copy)]
+pub struct AtCorner {
+    /// The sum.
+    pub sum: i128,
+    /// The whole, at least 1.
+    pub whole: i128,
+    /// The weight into the state that has the row.
+    pub own: i128,
+}
 
 /// Writes the weights of a row at a corner.
 fn fill_corner(case: &Case, row: &Row, ends: &Ends, place: usize, weights: &mut [i128])
@@ -172,15 +192,18 @@ pub fn fill(case: &Case, links: &Links, sides: &[i64], weights: &mut [i128])
 }
 
 /// The weights of a corner of the row that stands at that place.
-fn corner_of(weights: &[i128], place: RowPlace, corner: usize) -> &[i128]
+#[inline]
+fn corner_of(weights: &[i128], place: RowPlace, corner: u32) -> &[i128]
     requires { place.weights + place.count * corner + place.count ≤ length weights.now }
     ensures { result.now ≡ corner_part weights.now place corner }
 {
-    let at = place.weights + place.count * corner;
-    &weights[at..at + place.count]
+    let count = place.count as usize;
+    let at = place.weights as usize + count * corner as usize;
+    &weights[at..at + count]
 }
 
 /// A weight times a number.
+#[inline]
 fn times(weight: i128, number: i64) -> i128
     requires { unsigned_abs weight * unsigned_abs number < engine_limit }
     ensures { result ≡ weight *ℤ number }
@@ -189,6 +212,7 @@ fn times(weight: i128, number: i64) -> i128
 }
 
 /// The sum of the weights, each times its target's number, in numbers of 64 bits.
+#[inline]
 fn sum_in_lane(weights: &[i128], targets: &[u32], vec: &[i64]) -> i64
     requires targets { All (λ t. t < length vec.now) targets.now }
     requires room { CanSum (number vec.now) weights.now targets.now }
@@ -203,6 +227,7 @@ fn sum_in_lane(weights: &[i128], targets: &[u32], vec: &[i64]) -> i64
 }
 
 /// The sum of the weights, each times its target's number.
+#[inline]
 fn wide_sum(weights: &[i128], targets: &[u32], vec: &[i64]) -> i128
     requires targets { All (λ t. t < length vec.now) targets.now }
     requires room { CanSum (number vec.now) weights.now targets.now }
@@ -216,6 +241,7 @@ fn wide_sum(weights: &[i128], targets: &[u32], vec: &[i64]) -> i128
 }
 
 /// The sum of the weights, each times its target's number; in numbers of 64 bits where they hold it.
+#[inline]
 fn sum_of(weights: &[i128], targets: &[u32], vec: &[i64], narrow: bool) -> i128
     requires targets { All (λ t. t < length vec.now) targets.now }
     requires room { CanSum (number vec.now) weights.now targets.now }
@@ -262,6 +288,7 @@ fn sum_at(weights: &[i128], targets: &[u32], s: u32) -> i128
 }
 
 /// The sum of the weights.
+#[inline]
 fn total_of(weights: &[i128]) -> i128
     requires weights { All (λ w. pos 0 ≤ℤ w) weights.now }
     requires room { total weights.now <ℤ pos engine_limit }
@@ -274,15 +301,14 @@ fn total_of(weights: &[i128]) -> i128
     sum
 }
 
-/// Whether weights that sum to as much as these can be summed in numbers of 64 bits, each times a
-/// number of at most 2 to the `w`.
-fn is_narrow(weights: &[i128], w: u32) -> bool
-    requires weights { All (λ weight. pos 0 ≤ℤ weight) weights.now }
-    requires room { total weights.now <ℤ pos engine_limit }
-    requires precision { w ≤ most_precision }
-    ensures { IsTrue result → total weights.now <ℤ pos (2 ^ (63 - w)) }
+/// Whether weights that sum to the whole can be summed in numbers of 64 bits, each times a number of at
+/// most 2 to the `w`.
+#[inline]
+fn is_narrow(whole: i128, w: u32) -> bool
+    requires { w ≤ most_precision }
+    ensures { IsTrue result → whole <ℤ pos (2 ^ (63 - w)) }
 {
-    total_of(weights) < 1 << (63 - w)
+    whole < 1 << (63 - w)
 }
 
 /// The greatest sum over the corners of the row that stands at that place.
@@ -338,16 +364,80 @@ pub fn table_value(
     premises();
     let w = case.w();
     let place = links.place(s, a);
-    let narrow = is_narrow(corner_of(weights, place, 0), w);
+    let whole = total_of(corner_of(weights, place, 0));
     sum_of(
-        corner_of(weights, place, corner as usize),
+        corner_of(weights, place, corner),
         links.targets(place),
         vec,
-        narrow,
+        is_narrow(whole, w),
     )
 }
 
+/// The whole of a row of the rectangle whose table `weights` is, and its greatest sum over the corners.
+/// One multiplication for each entry and corner.
+#[inline]
+pub fn table_greatest(
+    case: &Case,
+    links: &Links,
+    weights: &[i128],
+    s: u32,
+    a: u32,
+    vec: &[i64],
+) -> Weighed
+    ghost spans: { Spans }
+    requires { CanRead case.now links.now spans weights.now s a × AreNumbers case.now vec.now }
+    ensures greatest { IsGreatest (row_value case.now spans s a vec.now) (corner_count case.now s a) result.sum }
+    ensures range { (pos 0 ≤ℤ result.sum) × (result.sum ≤ℤ (pos (2 ^ case.now.w) *ℤ row_whole case.now s a)) }
+    ensures bound { BoundsAbove case.now spans s a vec.now result.sum }
+    ensures whole { IsWhole case.now s a result.whole }
+{
+    premises();
+    let w = case.w();
+    let place = links.place(s, a);
+    let whole = total_of(corner_of(weights, place, 0));
+    let sum = greatest_of(
+        weights,
+        place,
+        links.targets(place),
+        vec,
+        is_narrow(whole, w),
+    );
+    Weighed { sum, whole }
+}
+
+/// The whole of a row of the rectangle whose table `weights` is, and its least sum over the corners. One
+/// multiplication for each entry and corner.
+#[inline]
+pub fn table_least(
+    case: &Case,
+    links: &Links,
+    weights: &[i128],
+    s: u32,
+    a: u32,
+    vec: &[i64],
+) -> Weighed
+    ghost spans: { Spans }
+    requires { CanRead case.now links.now spans weights.now s a × AreNumbers case.now vec.now }
+    ensures least { IsLeast (row_value case.now spans s a vec.now) (corner_count case.now s a) result.sum }
+    ensures bound { BoundsBelow case.now spans s a vec.now result.sum }
+    ensures whole { IsWhole case.now s a result.whole }
+{
+    premises();
+    let w = case.w();
+    let place = links.place(s, a);
+    let whole = total_of(corner_of(weights, place, 0));
+    let sum = least_of(
+        weights,
+        place,
+        links.targets(place),
+        vec,
+        is_narrow(whole, w),
+    );
+    Weighed { sum, whole }
+}
+
 /// `row_max` of the rectangle whose table `weights` is. One multiplication for each entry and corner.
+#[inline]
 pub fn table_max(case: &Case, links: &Links, weights: &[i128], s: u32, a: u32, vec: &[i64]) -> i128
     ghost spans: { Spans }
     requires { CanRead case.now links.now spans weights.now s a × AreNumbers case.now vec.now }
@@ -355,25 +445,18 @@ pub fn table_max(case: &Case, links: &Links, weights: &[i128], s: u32, a: u32, v
     ensures range { (pos 0 ≤ℤ result) × (result ≤ℤ (pos (2 ^ case.now.w) *ℤ row_whole case.now s a)) }
     ensures bound { BoundsAbove case.now spans s a vec.now result }
 {
-    premises();
-    let w = case.w();
-    let place = links.place(s, a);
-    let narrow = is_narrow(corner_of(weights, place, 0), w);
-    greatest_of(weights, place, links.targets(place), vec, narrow)
+    table_greatest(case, links, weights, s, a, vec).sum
 }
 
 /// `row_min` of the rectangle whose table `weights` is. One multiplication for each entry and corner.
+#[inline]
 pub fn table_min(case: &Case, links: &Links, weights: &[i128], s: u32, a: u32, vec: &[i64]) -> i128
     ghost spans: { Spans }
     requires { CanRead case.now links.now spans weights.now s a × AreNumbers case.now vec.now }
     ensures least { IsLeast (row_value case.now spans s a vec.now) (corner_count case.now s a) result }
     ensures bound { BoundsBelow case.now spans s a vec.now result }
 {
-    premises();
-    let w = case.w();
-    let place = links.place(s, a);
-    let narrow = is_narrow(corner_of(weights, place, 0), w);
-    least_of(weights, place, links.targets(place), vec, narrow)
+    table_least(case, links, weights, s, a, vec).sum
 }
 
 /// `weight_into` of the rectangle whose table `weights` is. No multiplication.
@@ -396,7 +479,7 @@ pub fn table_into(
     let _ = case.w();
     let place = links.place(s, a);
     sum_below(
-        corner_of(weights, place, corner as usize),
+        corner_of(weights, place, corner),
         links.targets(place),
         ranks,
         below,
@@ -427,9 +510,33 @@ pub fn table_loop(case: &Case, links: &Links, weights: &[i128], s: u32, a: u32, 
     premises();
     let _ = case.w();
     let place = links.place(s, a);
-    sum_at(
-        corner_of(weights, place, corner as usize),
-        links.targets(place),
-        s,
-    )
+    sum_at(corner_of(weights, place, corner), links.targets(place), s)
+}
+
+/// `table_value`, `table_whole` and `table_loop` at once. One multiplication for each entry.
+#[inline]
+pub fn table_corner(
+    case: &Case,
+    links: &Links,
+    weights: &[i128],
+    s: u32,
+    a: u32,
+    corner: u32,
+    vec: &[i64],
+) -> AtCorner
+    ghost spans: { Spans }
+    requires { CanRead case.now links.now spans weights.now s a × AreNumbers case.now vec.now × (corner < corner_count case.now s a) }
+    ensures sum { result.sum ≡ row_value case.now spans s a vec.now corner }
+    ensures whole { IsWhole case.now s a result.whole }
+    ensures own { result.own ≡ corner_sum case.now.d spans (row_at case.now.model s a) corner (only_at s) }
+{
+    premises();
+    let w = case.w();
+    let place = links.place(s, a);
+    let whole = total_of(corner_of(weights, place, 0));
+    let part = corner_of(weights, place, corner);
+    let targets = links.targets(place);
+    let sum = sum_of(part, targets, vec, is_narrow(whole, w));
+    let own = sum_at(part, targets, s);
+    AtCorner { sum, whole, own }
 }

@@ -27,7 +27,7 @@ use Rattle.drn_expr.specs.Expansion.{product, by_number}
 use Rattle.drn_expr.specs.declared.error.ExprError.{ExprError}
 use Rattle.drn_expr.specs.declared.error.ExprError.TheVariants.{Wide, Memory, SharedParameter}
 use Rattle.drn_expr.specs.Laws.{MultiplesFit, SumsFit, ProductsFit}
-use Rattle.drn_expr.proofs.Divisors.{common_is, nothing_common, common-negative}
+use Rattle.drn_expr.proofs.Divisors.{common_divides, nothing_common, common-negative}
 
 abbrev pub over : List Term → ℕ → OverOne
 over terms den = record { terms = terms; den = den }
@@ -54,8 +54,11 @@ memory_alone fault.Memory ts r target h fits is some = absurd (some is)
 
 -- ---- lowest terms
 
-pub divides_each : (content den g : ℕ) (ts : List Term) → IsContent ts content → IsGcd content den g → DividesEach g ts
-divides_each content den g ts h is k d lt = dvd_trans g is.0 (h.divides k d lt)
+common_divides_den : GcdIsGreatest → (den g : ℕ) (ts : List Term) → g ≡ common_divisor den ts → g ∣ den
+common_divides_den greatest den g ts is = let P : ℕ → Type 0 = λ n. n ∣ den in subst P (sym is) (common_divides greatest den ts).0
+
+pub divides_each : GcdIsGreatest → (den g : ℕ) (ts : List Term) → g ≡ common_divisor den ts → DividesEach g ts
+divides_each greatest den g ts is = subst (λ n. DividesEach n ts) (sym is) (common_divides greatest den ts).1
 
 lowest_is : (den g : ℕ) (ts q : List Term) → g ≡ common_divisor den ts → q ≡ quotient ts (pos g) → over q (den / g) ≡ lowest ts den
 lowest_is den g ts q e f = ap (λ p. over p (den / g)) f ∙ ap (λ k. over (quotient ts (pos k)) (den / k)) e
@@ -71,24 +74,21 @@ or_true : (b : Bool) → (b || true) ≡ true
 or_true true = refl
 or_true false = refl
 
-pub wide_den : GcdIsGreatest → GcdIsUnique → (den content g : ℕ) (ts : List Term) → IsContent ts content → g ≡ gcd content den → size_limit ≤ den / g → Err Wide ≡ narrow ts den
+pub wide_den : (den g : ℕ) (ts : List Term) → g ≡ common_divisor den ts → size_limit ≤ den / g → Err Wide ≡ narrow ts den
 unfolding by_wide
-wide_den greatest unique den content g ts h e large =
-    let is = common_is greatest unique den content g ts h e in
+wide_den den g ts is large =
     let p = over (quotient ts (pos g)) (den / g) in
     let test : nat_le size_limit (den / g) ≡ true = grind (arith, nat_tests) in
     narrow_by p ts den true (lowest_is den g ts (quotient ts (pos g)) is refl) (ap (λ b. b || list_any is_large p.terms) test)
 
-pub wide_terms : GcdIsGreatest → GcdIsUnique → (den content g : ℕ) (ts q : List Term) → IsContent ts content → g ≡ gcd content den → q ≡ quotient ts (pos g) → list_any is_large q ≡ true → Err Wide ≡ narrow ts den
+pub wide_terms : (den g : ℕ) (ts q : List Term) → g ≡ common_divisor den ts → q ≡ quotient ts (pos g) → list_any is_large q ≡ true → Err Wide ≡ narrow ts den
 unfolding by_wide
-wide_terms greatest unique den content g ts q h e f large =
-    let is = common_is greatest unique den content g ts h e in
+wide_terms den g ts q is f large =
     narrow_by (over q (den / g)) ts den true (lowest_is den g ts q is f) (ap (λ b. nat_le size_limit (den / g) || b) large ∙ or_true (nat_le size_limit (den / g)))
 
-pub narrow_given : GcdIsGreatest → GcdIsUnique → (den content g : ℕ) (ts q : List Term) → IsContent ts content → g ≡ gcd content den → q ≡ quotient ts (pos g) → den / g < size_limit → list_any is_large q ≡ false → Ok (over q (den / g)) ≡ narrow ts den
+pub narrow_given : (den g : ℕ) (ts q : List Term) → g ≡ common_divisor den ts → q ≡ quotient ts (pos g) → den / g < size_limit → list_any is_large q ≡ false → Ok (over q (den / g)) ≡ narrow ts den
 unfolding by_wide
-narrow_given greatest unique den content g ts q h e f small_den small_terms =
-    let is = common_is greatest unique den content g ts h e in
+narrow_given den g ts q is f small_den small_terms =
     let test : nat_le size_limit (den / g) ≡ false = grind (arith, nat_tests) in
     narrow_by (over q (den / g)) ts den false (lowest_is den g ts q is f) (ap (λ b. b || list_any is_large q) test ∙ small_terms)
 
@@ -113,13 +113,13 @@ quotient_above den g h above = let P : ℕ → Type 0 = λ k. 0 < k in by_quotie
     by_quotient zero e = let whole = div-mul_cancel g h in absurd (omega (arith, whole, ap (λ m. m * g) e))
     by_quotient (suc k) e = omega (arith, e)
 
-pub rat_poly : GcdIsGreatest → GcdIsUnique → (den content g : ℕ) (ts q : List Term) → 0 < den → 0 < g → IsContent ts content → IsGcd content den g → g ≡ gcd content den → times (pos g) q ≡ ts → IsPolynomial q → den / g < size_limit → list_any is_large q ≡ false → IsRatPoly (over q (den / g))
-rat_poly greatest unique den content g ts q positive above h is e back polynomial small_den small_terms = record {
+pub rat_poly : GcdIsGreatest → (den g : ℕ) (ts q : List Term) → 0 < den → 0 < g → g ≡ common_divisor den ts → times (pos g) q ≡ ts → IsPolynomial q → den / g < size_limit → list_any is_large q ≡ false → IsRatPoly (over q (den / g))
+rat_poly greatest den g ts q positive above is back polynomial small_den small_terms = record {
   polynomial = polynomial;
-  positive = quotient_above den g is.1 positive;
+  positive = quotient_above den g (common_divides_den greatest den g ts is) positive;
   den = small_den;
   sizes = small_sizes q small_terms;
-  lowest = nothing_common greatest den g ts q above (common_is greatest unique den content g ts h e) back;
+  lowest = nothing_common greatest den g ts q above is back;
 }
 
 -- ---- numbers and parameters
@@ -221,12 +221,18 @@ positive_size (negsuc n) h = omega arith
 
 -- ---- the search for a large coefficient
 
-pub large_at : (ts : List Term) (i : ℕ) (t : Term) → slice_get ts i ≡ Some t → size_limit ≤ unsigned_abs t.1 → true ≡ list_any is_large ts
-large_at ts i t at large =
-    let test : is_large t ≡ true = grind (arith, nat_tests) in
-    sym (list_any_at is_large ts i t (slice_get_within ts i t at) (ap is_large (get_or_from_slice_get ts i t t at) ∙ test))
+large_size : (t : Term) → size_limit ≤ unsigned_abs t.1 → is_large t ≡ true
+large_size t h = grind (arith, nat_tests)
 
-pub small_more : (ts : List Term) (i : ℕ) (t : Term) → slice_get ts i ≡ Some t → unsigned_abs t.1 < size_limit → list_any is_large (take i ts) ≡ false → list_any is_large (take (i + 1) ts) ≡ false
-small_more ts i t at size before =
-    let test : is_large t ≡ false = grind (arith, nat_tests) in
-    list_any_more is_large ts i t (slice_get_within ts i t at) ∙ ap (λ b. b || is_large (get_or ts i t)) before ∙ ap is_large (get_or_from_slice_get ts i t t at) ∙ test
+pub small_size : (t : Term) → unsigned_abs t.1 < size_limit → is_large t ≡ false
+small_size t h = grind (arith, nat_tests)
+
+-- the term whose coefficient is looked at, for each of some terms
+module _ (of : Term → Term) where
+  pub large_at : (ts : List Term) (i : ℕ) (t : Term) → slice_get ts i ≡ Some t → size_limit ≤ unsigned_abs (of t).1 → true ≡ list_any (λ u. is_large (of u)) ts
+  large_at ts i t at large =
+      sym (list_any_at (λ u. is_large (of u)) ts i t (slice_get_within ts i t at) (ap (λ u. is_large (of u)) (get_or_from_slice_get ts i t t at) ∙ large_size (of t) large))
+
+  pub small_more : (ts : List Term) (i : ℕ) (t : Term) → slice_get ts i ≡ Some t → unsigned_abs (of t).1 < size_limit → list_any (λ u. is_large (of u)) (take i ts) ≡ false → list_any (λ u. is_large (of u)) (take (i + 1) ts) ≡ false
+  small_more ts i t at size before =
+      list_any_more (λ u. is_large (of u)) ts i t (slice_get_within ts i t at) ∙ ap (λ b. b || is_large (of (get_or ts i t))) before ∙ ap (λ u. is_large (of u)) (get_or_from_slice_get ts i t t at) ∙ small_size (of t) size

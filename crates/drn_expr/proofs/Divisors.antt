@@ -48,6 +48,10 @@ one_from : (k : ℕ) → k ∣ 1 → k ≡ 1
 one_from zero h = let e = mod-eq-zero_of_dvd zero h in absurd (omega (arith, e))
 one_from (suc k) h = let above : 0 < 1 = omega arith in omega (arith, le_of_dvd above h)
 
+-- with 1 nothing is in common
+pub common-one : GcdIsGreatest → (ts : List Term) → common_divisor 1 ts ≡ 1
+common-one greatest ts = one_from (common_divisor 1 ts) (common_divides greatest 1 ts).0
+
 -- nothing is left in common
 pub nothing_common : GcdIsGreatest → (d g : ℕ) (ts q : List Term) → 0 < g → g ≡ common_divisor d ts → times (pos g) q ≡ ts → common_divisor (d / g) q ≡ 1
 nothing_common greatest d g ts q above e back =

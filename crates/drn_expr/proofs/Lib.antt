@@ -2,6 +2,7 @@ pub mod Calls
 pub mod Chains
 pub mod Divisors
 pub mod Factors
+pub mod Few
 pub mod Fitting
 pub mod Forms
 pub mod Least

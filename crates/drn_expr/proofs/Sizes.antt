@@ -10,7 +10,7 @@ use Rattle.lift_poly.specs.Polynomial.{Term, IsPolynomial}
 use Rattle.lift_poly.specs.Arithmetic.{coefficient, sum, times, scaled, products, product, support}
 use Rattle.lift_poly.specs.Laws.{TermsSumToPolynomial, TermsHaveCoefficients, CoefficientsAreTerms, SumsAddCoefficients, MultiplesScaleCoefficients, ProductsMultiplyCoefficients}
 use Rattle.lift_poly.specs.MultiAffine.{is_wide, narrow}
-use Rattle.drn_expr.specs.Laws.{CoefficientsAreSmall, MultiplesFit, SumsFit, ProductsFit}
+use Rattle.drn_expr.specs.Laws.{CoefficientsAreSmall, MultiplesFit, SumsFit, PlainSumsFit, ProductsFit}
 use Rattle.drn_expr.specs.RatPolys.{OverOne, IsRatPoly}
 
 -- each coefficient is below a bound
@@ -58,6 +58,11 @@ module _ (polynomial : TermsSumToPolynomial) (terms : TermsHaveCoefficients) (fo
       let right = scaled b q.terms in
       narrow_is terms (sum left right) (polynomial (left ++ right))
       (λ set. omega (arith, ints, sums left right set, multiple_below multiples a p h small_a set, multiple_below multiples b q k small_b set))
+
+  pub plain_sums_fit : SumsAddCoefficients → PlainSumsFit
+  plain_sums_fit sums p q h k =
+      narrow_is terms (sum p.terms q.terms) (polynomial (p.terms ++ q.terms))
+      (λ set. omega (arith, ints, sums p.terms q.terms set, coefficients_small found p set h, coefficients_small found q set k))
 
   pub products_fit : ProductsMultiplyCoefficients → ProductsFit
   products_fit law p q h k apart =

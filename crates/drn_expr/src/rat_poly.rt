@@ -1,10 +1,12 @@
-ghost use Rattle.std.specs.Prelude.{◌≡◌, ◌≢◌, ◌<◌, ◌^◌, ℤ, pos, [], ◌∷◌, ℕ, unsigned_abs, Ok, Err};
+ghost use Rattle.std.specs.Prelude.{◌≡◌, ◌≢◌, ◌<◌, ◌≤◌, ◌^◌, ℤ, pos, [], ◌∷◌, ℕ, unsigned_abs, Ok, Err};
 ghost use Rattle.std.specs.Prelude.{IfOk};
 ghost use Rattle.std.specs.List.{list_any};
 ghost use Rattle.lift_frac.specs.Limits.{product_limit};
 ghost use Rattle.lift_poly.specs.Limits.{parameter_limit};
 ghost use Rattle.lift_poly.specs.Polynomial.{constant};
 ghost use Rattle.drn_expr.specs.RatPolys.{OverOne, IsRatPoly, is_large, narrow, with_sign};
+ghost use Rattle.drn_expr.specs.RatPolys.{common_divisor};
+ghost use Rattle.drn_expr.specs.Laws.{is_large_at};
 ghost use Rattle.drn_expr.specs.Expansion.{sum, negative, difference, product, quotient};
 
 use crate::error::ExprError;
@@ -36,6 +38,9 @@ impl Model for RatPoly {
 /// definitions.
 const LIMIT: u128 = 1 << 62;
 
+/// How many terms a sum in place adds at most, each of which may move all terms of the other operand.
+const FEW: usize = 4;
+
 /// Whether a coefficient is too large.
 fn has_large(poly: &MultiAffine) -> bool
     ensures { result ≡ list_any is_large poly.now }
@@ -46,6 +51,32 @@ fn has_large(poly: &MultiAffine) -> bool
         }
     }
     false
+}
+
+/// Whether a polynomial has a coefficient that is too large at the set of one of these terms.
+fn has_large_at(poly: &MultiAffine, terms: &MultiAffine) -> bool
+    ensures { result ≡ is_large_at poly.now terms.now }
+{
+    for i in 0..terms.len() {
+        if poly.coefficient(terms.term(i).0).unsigned_abs() >= LIMIT {
+            return true;
+        }
+    }
+    false
+}
+
+/// The greatest common divisor of a denominator and all coefficients.
+fn common_divisor(poly: &MultiAffine, den: u128) -> u128
+    requires { 0 < den }
+    ensures value { result ≡ common_divisor den poly.now }
+    ensures positive { 0 < result }
+    ensures small { result ≤ den }
+{
+    divisors_and_multiples();
+    if den == 1 {
+        return 1;
+    }
+    gcd(poly.content(), den)
 }
 
 /// A size with the sign of a number.
@@ -111,13 +142,13 @@ impl RatPoly {
     }
 
     /// The same fraction over its least denominator. `Wide` exactly where that is too large.
-    fn narrow(alloc: Global, poly: &MultiAffine, den: u128) -> Result<RatPoly, ExprError>
+    fn narrow(alloc: Global, poly: MultiAffine, den: u128) -> Result<RatPoly, ExprError>
         requires positive { 0 < den }
         requires small { den < product_limit }
-        ensures { result ≢ Err ExprError.Memory → result ≡ narrow poly.now den }
+        ensures { result ≢ Err ExprError.Memory → result ≡ narrow poly den }
     {
         divisors_and_multiples();
-        let divisor = gcd(poly.content(), den);
+        let divisor = common_divisor(&poly, den);
         let den = den / divisor;
         if den >= LIMIT {
             return Err(ExprError::Wide);
@@ -132,15 +163,33 @@ impl RatPoly {
         })
     }
 
-    /// The sum.
-    pub(crate) fn sum(&self, alloc: Global, other: &RatPoly) -> Result<RatPoly, ExprError>
-        ensures { result ≢ Err ExprError.Memory → result ≡ sum self.now other.now }
+    /// The sum of two polynomials over 1, the other one of few terms. It is made in place: only the
+    /// coefficients that change are looked at.
+    fn sum_of_few(self, other: &RatPoly) -> Result<RatPoly, ExprError>
+        requires left { self.den ≡ 1 }
+        requires right { other.now.den ≡ 1 }
+        ensures { result ≢ Err ExprError.Memory → result ≡ sum self other.now }
     {
+        operations_fit();
+        let poly = self.poly.add_few(&other.poly)?;
+        if has_large_at(&poly, &other.poly) {
+            return Err(ExprError::Wide);
+        }
+        Ok(RatPoly { poly, den: 1 })
+    }
+
+    /// The sum.
+    pub(crate) fn sum(self, alloc: Global, other: &RatPoly) -> Result<RatPoly, ExprError>
+        ensures { result ≢ Err ExprError.Memory → result ≡ sum self other.now }
+    {
+        if self.den == 1 && other.den == 1 && other.poly.len() <= FEW {
+            return self.sum_of_few(other);
+        }
         operations_fit();
         let left = self.poly.scale(alloc, i128::from(other.den))?;
         let right = other.poly.scale(alloc, i128::from(self.den))?;
         let poly = left.add(alloc, &right)?;
-        RatPoly::narrow(alloc, &poly, u128::from(self.den) * u128::from(other.den))
+        RatPoly::narrow(alloc, poly, u128::from(self.den) * u128::from(other.den))
     }
 
     /// The polynomial with the other sign.
@@ -157,8 +206,8 @@ impl RatPoly {
     }
 
     /// The difference.
-    pub(crate) fn difference(&self, alloc: Global, other: &RatPoly) -> Result<RatPoly, ExprError>
-        ensures { result ≢ Err ExprError.Memory → result ≡ difference self.now other.now }
+    pub(crate) fn difference(self, alloc: Global, other: &RatPoly) -> Result<RatPoly, ExprError>
+        ensures { result ≢ Err ExprError.Memory → result ≡ difference self other.now }
     {
         let other = other.negative(alloc)?;
         self.sum(alloc, &other)
@@ -170,7 +219,7 @@ impl RatPoly {
     {
         operations_fit();
         let poly = self.poly.mul(alloc, &other.poly)?;
-        RatPoly::narrow(alloc, &poly, u128::from(self.den) * u128::from(other.den))
+        RatPoly::narrow(alloc, poly, u128::from(self.den) * u128::from(other.den))
     }
 
     /// The quotient. `ParametricDivisor` exactly where the divisor holds a parameter, and else
@@ -187,6 +236,6 @@ impl RatPoly {
             return Err(ExprError::DivisionByZero);
         }
         let poly = self.poly.scale(alloc, with_sign(number, other.den))?;
-        RatPoly::narrow(alloc, &poly, u128::from(self.den) * number.unsigned_abs())
+        RatPoly::narrow(alloc, poly, u128::from(self.den) * number.unsigned_abs())
     }
 }

@@ -10,7 +10,7 @@ ghost use Rattle.corner_lift.specs.Table.{IsTable};
 
 use crate::example::model_of;
 use corner_lift::{
-    Case, fill, rows_at_corners, table_into, table_max, table_min, table_value, table_whole,
+    Case, fill, rows_at_corners, table_corner, table_greatest, table_into, table_least, table_value,
 };
 use lift_grid::read_region;
 use lift_model::Links;
@@ -26,13 +26,13 @@ const TAIL: &str = ";state 1 goal;1 : 1;state 2;2 : 1";
 
 /// A row of state 0 with both parameters, and a region; how many weights the table has; and of that row
 /// the whole, what the numbers 0, 16 and 0 sum to at the first and at the last corner, the least and the
-/// greatest over the corners, and at the last corner the weight into the goal state. The last row's sums
-/// need more than 64 bits.
+/// greatest over the corners, and at the last corner the weights into the goal state and into state 0
+/// itself. The last row's sums need more than 64 bits.
 const READ: &str = "\
-0 : p*q;1 : p-p*q;2 : 1-p | 1/5<=p<=2/5,3/5<=q<=4/5 | 13 25 32 32 16 64 2
-0 : p;1 : q-p;2 : 1-q | 1/5<=p<=2/5,3/5<=q<=4/5 | 13 25 160 160 80 240 10
-1 : 1/2*p+1/2*q;2 : 1-1/2*p-1/2*q | 1/5<=p<=2/5,3/5<=q<=4/5 | 9 50 320 480 320 480 30
-0 : p*q;1 : p-p*q;2 : 1-p | 1/576460752303423488<=p<=2/576460752303423488,1/576460752303423488<=q<=2/576460752303423488 | 13 332306998946228968225951765070086144 9223372036854775792 18446744073709551552 9223372036854775776 18446744073709551584 1152921504606846972";
+0 : p*q;1 : p-p*q;2 : 1-p | 1/5<=p<=2/5,3/5<=q<=4/5 | 13 25 32 32 16 64 2 8
+0 : p;1 : q-p;2 : 1-q | 1/5<=p<=2/5,3/5<=q<=4/5 | 13 25 160 160 80 240 10 10
+1 : 1/2*p+1/2*q;2 : 1-1/2*p-1/2*q | 1/5<=p<=2/5,3/5<=q<=4/5 | 9 50 320 480 320 480 30 0
+0 : p*q;1 : p-p*q;2 : 1-p | 1/576460752303423488<=p<=2/576460752303423488,1/576460752303423488<=q<=2/576460752303423488 | 13 332306998946228968225951765070086144 9223372036854775792 18446744073709551552 9223372036854775776 18446744073709551584 1152921504606846972 4";
 
 /// What the table tells of the row of state 0.
 fn told(
@@ -49,14 +49,15 @@ fn told(
     requires choice { length (choices case.now.model 0) ≡ 1 }
     requires corners { corner_count case.now 0 0 ≡ 4 }
 {
-    let whole = table_whole(case, links, weights, 0, 0);
     let first = table_value(case, links, weights, 0, 0, 0, vec);
-    let last = table_value(case, links, weights, 0, 0, 3, vec);
-    let least = table_min(case, links, weights, 0, 0, vec);
-    let greatest = table_max(case, links, weights, 0, 0, vec);
+    let last = table_corner(case, links, weights, 0, 0, 3, vec);
+    let (sum, own) = (last.sum, last.own);
+    let least = table_least(case, links, weights, 0, 0, vec).sum;
+    let greatest = table_greatest(case, links, weights, 0, 0, vec);
+    let (whole, most) = (greatest.whole, greatest.sum);
     let goal = table_into(case, links, weights, 0, 0, 3, &[1, 0, u32::MAX], 1);
     let size = weights.len();
-    Ok(format!(in alloc; "{size} {whole} {first} {last} {least} {greatest} {goal}")?)
+    Ok(format!(in alloc; "{size} {whole} {first} {sum} {least} {most} {goal} {own}")?)
 }
 
 /// Makes the table of the case's root, and tells what it tells.

@@ -133,7 +133,7 @@ fn corners_at(case: &Case, links: &Links, state: u32, choice: u32) -> u32
 {
     rows_at_corners();
     let _ = case.w();
-    links.place(state, choice).corners as u32
+    links.place(state, choice).corners
 }
 
 /// Whether each corner of the row that a ranked state picks has enough weight into lower ranks.

@@ -1,17 +1,16 @@
 -- Laying out the rows of a model one by one.
-use Rattle.std.proofs.Common.{◌≡◌, ℕ, zero, suc, ◌+◌, ◌-◌, ◌*◌, ◌^◌, ◌<◌, ◌≤◌, List, [], ◌∷◌, ◌++◌, length, map, take, drop, get_or, slice_range, sum_by, count_ones, All, refl, sym, ap, ap₂, subst, ◌∙◌, arith, ◌⊎◌, ⊎_elim, inl, inr, length-append, append_assoc, mul-le-mul_left}
+use Rattle.std.proofs.Common.{◌≡◌, ℕ, zero, suc, ◌+◌, ◌-◌, ◌^◌, ◌<◌, ◌≤◌, List, [], ◌∷◌, ◌++◌, length, map, take, drop, get_or, slice_range, sum_by, count_ones, All, refl, sym, ap, ap₂, subst, ◌∙◌, arith, ◌⊎◌, ⊎_elim, inl, inr, length-append, append_assoc}
 use Rattle.std.specs.List.{concat}
 use Rattle.std.proofs.lemmas.List.{take-append-le, take_all, take_more, map-append, append-nil}
 use Rattle.std.proofs.lemmas.List.Elements.{All-nil, All-append, All-map}
 use Rattle.std.proofs.lemmas.List.Folds.{concat-append}
-use Rattle.std.proofs.lemmas.List.Sums.{sum_by_more, sum_by_more_le, sum_by-take-le, sum_by-cons, get_or-le-sum_by}
+use Rattle.std.proofs.lemmas.List.Sums.{sum_by_more, sum_by-cons}
 use Rattle.lift_model.specs.declared.entry.Entry.{Entry}
 use Rattle.lift_model.specs.declared.blocks.FirstRow.{FirstRow}
 use Rattle.lift_model.specs.declared.blocks.Blocks.{Blocks}
 use Rattle.lift_model.specs.declared.layout.RowPlace.{RowPlace}
 use Rattle.lift_model.specs.declared.layout.Layout.{Layout}
 use Rattle.lift_model.specs.Model.{ModelData, support, choices, row_at}
-use Rattle.lift_model.specs.Valid.{IsModel}
 use Rattle.lift_model.specs.Links.{HasChoice, HasBlock, Firsts, IsRowPlace, row_number, block_place, weight_count, targets_of, all_targets, first_row, no_first, no_place}
 use Rattle.lift_model.specs.Layout.{AreBlocks, IsPlaced, Comes, IsLaid, AreRowStarts, AreCut}
 use Rattle.lift_model.proofs.Listing.{in_first, at_seam}
@@ -41,12 +40,6 @@ pub range_seam : {X : Type 0} (xs ys : List X) (a b : ℕ) → a ≡ length xs �
 range_seam xs ys a b e f =
     let size : b - a ≡ length ys = omega (arith, f) in
     rw (size, e) (slice_seam xs ys)
-
--- ---- sizes
-
-pub row_few : (m : ModelData) (s a : ℕ) → IsModel m → HasChoice m s a → length (row_at m s a) ≤ 262144
-row_few m s a is has =
-    omega (arith, is.transitions, get_or-le-sum_by (sum_by length) m.states s [] has.state, get_or-le-sum_by length (choices m s) a [] has.choice)
 
 -- ---- blocks
 
@@ -101,7 +94,6 @@ placed_new m old new first are has firsts places weights =
         total = rw firsts (weights ∙ ap (λ n. n + weight_count (first_row m first)) are.total ∙ sym (place_next m old.firsts.items first));
       };
       grows = (first ∷ [], firsts);
-      small = omega (arith, weights);
       has = rw firsts (record {
         block = length old.firsts.items;
         inside = omega (arith, firsts_size);
@@ -126,8 +118,8 @@ row_number-lt m t b s a lt (inr h) = rw (h.0) (omega (arith, h.1))
 
 -- ---- the loops
 
-pub laid_none : (m : ModelData) (layout : Layout) → layout.rows.items ≡ [] → layout.targets.items ≡ [] → AreBlocks m layout.blocks → layout.blocks.weights ≡ 0 → IsLaid m layout 0 0
-laid_none m layout rows targets blocks weights = record { count = rw rows refl; entries = rw targets refl; states = rw targets (All-nil (λ t. t < length m.states)); blocks = blocks; small = omega (arith, weights); places = λ t b comes. absurd (none t b comes) }
+pub laid_none : (m : ModelData) (layout : Layout) → layout.rows.items ≡ [] → layout.targets.items ≡ [] → AreBlocks m layout.blocks → IsLaid m layout 0 0
+laid_none m layout rows targets blocks = record { count = rw rows refl; entries = rw targets refl; states = rw targets (All-nil (λ t. t < length m.states)); blocks = blocks; places = λ t b comes. absurd (none t b comes) }
   where
     none : (t b : ℕ) → Comes m t b 0 0 → ⊥
     none t b (inl h) = absurd (omega (arith, h.0))
@@ -155,9 +147,9 @@ place_kept m targets more firsts blocks row place h = record {
 }
 
 pub laid_row : (m : ModelData) (old new : Layout) (s a : ℕ) (place : RowPlace) → HasChoice m s a → IsLaid m old s a → IsPlaced m old.blocks new.blocks (row_at m s a) place.weights
-    → place.entries ≡ length old.targets.items → place.count ≡ length (row_at m s a) → place.corners ≡ 2 ^ count_ones (support (row_at m s a)) → place.corners ≤ 65536 → All (λ (entry : Entry). entry.target < length m.states) (row_at m s a)
+    → place.entries ≡ length old.targets.items → place.count ≡ length (row_at m s a) → place.corners ≡ 2 ^ count_ones (support (row_at m s a)) → All (λ (entry : Entry). entry.target < length m.states) (row_at m s a)
     → new.rows.items ≡ old.rows.items ++ (place ∷ []) → new.targets.items ≡ old.targets.items ++ targets_of (row_at m s a) → IsLaid m new s (a + 1)
-laid_row m old new s a place has h placed entries count corners few inside rows targets =
+laid_row m old new s a place has h placed entries count corners inside rows targets =
     let row = row_at m s a in
     let size : length (old.targets.items ++ targets_of row) ≡ length old.targets.items + length row = length-append old.targets.items (targets_of row) ∙ ap (λ n. length old.targets.items + n) (length-targets row) in
     record {
@@ -165,7 +157,6 @@ laid_row m old new s a place has h placed entries count corners few inside rows 
       entries = rw targets (omega (arith, h.entries, size, sum_by_more length (choices m s) a [] has.choice));
       states = rw targets (All-append (λ t. t < length m.states) old.targets.items (targets_of row) h.states (All-map (λ t. t < length m.states) (λ (entry : Entry). entry.target) row inside));
       blocks = placed.blocks;
-      small = rw targets (omega (arith, h.small, size, placed.small, ap (λ n. length row * n) corners, mul-le-mul_left (length row) few));
       places = λ t b comes. rw (rows, targets, placed.grows.1) (⊎_elim
           (λ (before : Comes m t b s a).
           let lt : row_number m t b < length old.rows.items = omega (arith, h.count, row_number-lt m t b s a (in_model m t b s a has.state before) before) in
@@ -185,18 +176,12 @@ laid_row m old new s a place has h placed entries count corners few inside rows 
       block = subst (λ firsts. HasBlock m firsts (row_at m s a) place.weights) placed.grows.1 placed.has;
     }
 
--- the entries before a row are fewer than all
-pub laid_room : (m : ModelData) (layout : Layout) (s a : ℕ) → IsModel m → s < length m.states → IsLaid m layout s a → layout.blocks.weights ≤ 2 ^ 40
-laid_room m layout s a is state h =
-    omega (arith, h.small, h.entries, is.transitions, sum_by_more_le (sum_by length) m.states s [] state, sum_by-take-le length (choices m s) a)
-
 pub laid_state : (m : ModelData) (layout : Layout) (s a : ℕ) → s < length m.states → a ≡ length (choices m s) → IsLaid m layout s a → IsLaid m layout (s + 1) 0
 laid_state m layout s a state is h = record {
   count = h.count ∙ omega (arith, is, sum_by_more length m.states s [] state);
   entries = h.entries ∙ (let all : take a (choices m s) ≡ choices m s = take_all a (choices m s) (omega (arith, is)) in omega (arith, ap (sum_by length) all, sum_by_more (sum_by length) m.states s [] state));
   states = h.states;
   blocks = h.blocks;
-  small = h.small;
   places = λ t b comes. h.places t b (earlier t b comes);
 }
   where

@@ -1,7 +1,7 @@
 -- Listing the states before each state, in parts of one flat list.
-use Rattle.std.proofs.Common.{◌≡◌, ◌≢◌, ℕ, zero, suc, ◌+◌, ◌-◌, ◌<◌, ◌≤◌, ◌==◌, List, [], ◌∷◌, ◌++◌, length, take, drop, set, get_or, slice_range, refl, sym, ap, subst, ◌∙◌, arith, ◌⊎◌, ⊎_elim, inl, inr, length-append, length-set, cond, get_or-set_same, get_or-set_other, Contains}
+use Rattle.std.proofs.Common.{◌≡◌, ◌≢◌, ℕ, zero, suc, ◌+◌, ◌-◌, ◌<◌, ◌≤◌, ◌==◌, List, [], ◌∷◌, ◌++◌, length, take, drop, set, get_or, slice_range, refl, sym, ap, subst, ◌∙◌, arith, ◌⊎◌, ⊎_elim, inl, inr, length-append, length-set, cond, get_or-set_same, get_or-set_other, Contains, nat_lt, sum_by, count_by}
 use Rattle.std.proofs.lemmas.List.{take_more, take_all, append-nil, drop_all, take_more_set, take-set-le, get_or-take, get_or_default}
-use Rattle.std.proofs.lemmas.List.Sums.{sum_by-append, sum_by-take-le, count_by_more_yes}
+use Rattle.std.proofs.lemmas.List.Sums.{sum_by-append, sum_by-cons, sum_by-take-le, sum_by_more, count_by_more_yes, count_by-le-length}
 use Rattle.std.proofs.lemmas.List.Elements.{Contains-append_left, Contains-append_right, Contains-append_cases, Contains-push, Contains-push_cases}
 use Rattle.lift_model.specs.Before.{at, count_of, part, AreSums, ArePlaced, HaveRoom, HasLast, IsUpTo, IsListed, IsNoted, AreEntered, AreListed, targets_from}
 
@@ -298,6 +298,36 @@ written_back len new items same size =
     ap (λ rest. take len (new ++ rest)) (drop_all (length new) items (omega (arith, same))) ∙ ap (take len) (append-nil new) ∙ take_all len new (omega (arith, size))
 
 -- ---- rooms
+
+-- how many numbers are less
+abbrev less : ℕ → List ℕ → ℕ
+less u targets = count_by (λ t. nat_lt t u) targets
+
+less_more : (u : ℕ) (targets : List ℕ) → less (u + 1) targets ≡ less u targets + count_of u targets
+less_more u [] = refl
+less_more u (t ∷ targets) = rw (sum_by-cons (λ (t : ℕ). cond (nat_lt t (u + 1)) 1 0) t targets, sum_by-cons (λ (t : ℕ). cond (nat_lt t u) 1 0) t targets, sum_by-cons (λ (t : ℕ). cond (t == u) 1 0) t targets) (omega (arith, less_more u targets, here))
+  where
+    here : cond {A = ℕ} (nat_lt t (u + 1)) 1 0 ≡ cond (nat_lt t u) 1 0 + cond (t == u) 1 0
+    here = grind arith
+
+none_less : (targets : List ℕ) → less 0 targets ≡ 0
+none_less [] = refl
+none_less (t ∷ targets) = rw (sum_by-cons (λ (t : ℕ). cond (nat_lt t 0) 1 0) t targets) (omega (arith, none_less targets, here))
+  where
+    here : cond {A = ℕ} (nat_lt t 0) 1 0 ≡ 0
+    here = grind arith
+
+-- the counts of all numbers together
+pub counted_all : (counts targets : List ℕ) → ((u : ℕ) → u < length counts → at counts u ≡ count_of u targets) → sum_by (λ (c : ℕ). c) counts ≤ length targets
+counted_all counts targets counted =
+    omega (arith, ap (sum_by (λ (c : ℕ). c)) (let all : take (length counts) counts ≡ counts = take_all (length counts) counts (omega arith) in all), so_far (length counts) (omega arith), count_by-le-length (λ t. nat_lt t (length counts)) targets)
+  where
+    so_far : (n : ℕ) → n ≤ length counts → sum_by (λ (c : ℕ). c) (take n counts) ≡ less n targets
+    so_far zero le = sym (none_less targets)
+    so_far (suc n) le =
+        let lt : n < length counts = omega (arith, le) in
+        let next : suc n ≡ n + 1 = omega arith in
+        rw next (omega (arith, sum_by_more (λ (c : ℕ). c) counts n 0 lt, so_far n (omega (arith, le)), less_more n targets, counted n lt))
 
 module _ (starts counts : List ℕ) (n : ℕ) (sums : AreSums starts counts n) where
   sums_rising : (u v : ℕ) → u ≤ v → v ≤ n → at starts u ≤ at starts v

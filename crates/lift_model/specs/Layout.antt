@@ -1,10 +1,10 @@
 -- What the loops that lay out the rows of a model keep.
-use Rattle.std.specs.Prelude.{◌≡◌, ℕ, ◌+◌, ◌*◌, ◌<◌, ◌≤◌, ◌⊎◌, ◌++◌, List, length, take, sum_by, slice_index_or, slice_range, All}
+use Rattle.std.specs.Prelude.{◌≡◌, ℕ, ◌+◌, ◌<◌, ◌≤◌, ◌⊎◌, ◌++◌, List, length, take, sum_by, slice_index_or, slice_range, All}
 use Rattle.lift_model.specs.declared.blocks.Blocks.{Blocks}
 use Rattle.lift_model.specs.declared.layout.Layout.{Layout}
 use Rattle.lift_model.specs.declared.entry.Entry.{Entry}
 use Rattle.lift_model.specs.Model.{ModelData, choices, row_at}
-use Rattle.lift_model.specs.Links.{HasChoice, HasBlock, Firsts, IsRowPlace, row_number, block_place, weight_count, all_targets, no_first, no_place}
+use Rattle.lift_model.specs.Links.{HasChoice, HasBlock, Firsts, IsRowPlace, row_number, block_place, all_targets, no_first, no_place}
 
 -- each is a row of the model
 abbrev pub AreFirsts : ModelData → Firsts → Type 0
@@ -21,7 +21,6 @@ pub record AreBlocks (m : ModelData) (blocks : Blocks) : Type 0 where
 pub record IsPlaced (m : ModelData) (old new : Blocks) (row : List Entry) (place : ℕ) : Type 0 where
   pub blocks : AreBlocks m new
   pub grows : (more : Firsts) × (new.firsts.items ≡ old.firsts.items ++ more)
-  pub small : new.weights ≤ old.weights + weight_count row
   pub has : HasBlock m new.firsts.items row place
 
 -- the choice b of t comes before the choice a of s
@@ -34,7 +33,6 @@ pub record IsLaid (m : ModelData) (layout : Layout) (s a : ℕ) : Type 0 where
   pub entries : length layout.targets.items ≡ sum_by (sum_by length) (take s m.states) + sum_by length (take a (choices m s))
   pub states : All (λ t. t < length m.states) layout.targets.items
   pub blocks : AreBlocks m layout.blocks
-  pub small : layout.blocks.weights ≤ 65536 * length layout.targets.items
   pub places : (t b : ℕ) → Comes m t b s a → IsRowPlace m layout.targets.items layout.blocks.firsts.items (row_at m t b) (slice_index_or layout.rows.items (row_number m t b) no_place)
 
 -- the numbers of the first rows of so many states, and of the row after them

@@ -1,6 +1,6 @@
 //! Which states lead to a state, in parts of one flat list.
 
-ghost use Rattle.std.specs.Prelude.{◌≡◌, ℕ, ◌+◌, ◌<◌, ◌≤◌, ◌^◌, ◌∷◌, [], length, true, false, All, IfOk};
+ghost use Rattle.std.specs.Prelude.{◌≡◌, ℕ, ◌+◌, ◌<◌, ◌≤◌, ◌^◌, ◌∷◌, [], length, sum, true, false, All, IfOk};
 ghost use Rattle.lift_model.specs.Before.{at as number_in, count_of, AreSums, ArePlaced, HaveRoom, AreEntered, HasLast, AreCuts, AreListed, AreSources, part};
 
 use std::alloc::{AllocError, Global};
@@ -9,9 +9,9 @@ use std::alloc::{AllocError, Global};
 #[derive(Drop)]
 pub struct Sources {
     /// Where each part begins, and after the last one where its room ends.
-    pub starts: Vec<usize>,
+    pub starts: Vec<u32>,
     /// Where each part ends.
-    pub ends: Vec<usize>,
+    pub ends: Vec<u32>,
     /// The flat list.
     pub states: Vec<u32>,
 }
@@ -29,30 +29,30 @@ fn count_targets(counts: &mut [u32], targets: &[u32])
 }
 
 /// The sums of the counts before each place, and of all.
-fn sum_counts(alloc: Global, counts: &[u32]) -> Result<Vec<usize>, AllocError>
-    requires { length counts.now ≤ 2 ^ 20 }
+fn sum_counts(alloc: Global, counts: &[u32]) -> Result<Vec<u32>, AllocError>
+    requires { sum counts.now < 2 ^ 32 }
     ensures { IfOk result (λ starts. AreSums starts.items counts.now (length counts.now)) }
 {
-    let mut starts = vec![in alloc; 0usize]?;
-    let mut sum = 0usize;
+    let mut starts = vec![in alloc; 0u32]?;
+    let mut sum = 0u32;
     for count in counts {
-        sum += *count as usize;
+        sum += *count;
         starts.push(sum)?;
     }
     Ok(starts)
 }
 
 /// Whether the state is the last of a part.
-fn is_last(states: &[u32], start: usize, end: usize, s: u32) -> bool
+fn is_last(states: &[u32], start: u32, end: u32, s: u32) -> bool
     requires { end ≤ length states.now }
     ensures yes { result ≡ true → HasLast states.now start end s }
     ensures no { result ≡ false → ¬ HasLast states.now start end s }
 {
-    start < end && states[end - 1] == s
+    start < end && states[end as usize - 1] == s
 }
 
 /// Enters the state `s` at one of its targets, where it isn't there.
-fn enter(starts: &[usize], ends: &mut [usize], states: &mut [u32], target: u32, s: u32)
+fn enter(starts: &[u32], ends: &mut [u32], states: &mut [u32], target: u32, s: u32)
     requires placed { ArePlaced starts.now ends.old (length states.old) (length ends.old) }
     requires target { target < length ends.old }
     requires room { number_in ends.old target < number_in starts.now (target + 1) }
@@ -63,12 +63,12 @@ fn enter(starts: &[usize], ends: &mut [usize], states: &mut [u32], target: u32, 
     if is_last(states, starts[at], end, s) {
         return;
     }
-    states[end] = s;
+    states[end as usize] = s;
     ends[at] = end + 1;
 }
 
 /// Enters the state `s` at each of these targets.
-fn enter_all(starts: &[usize], ends: &mut [usize], states: &mut [u32], targets: &[u32], s: u32)
+fn enter_all(starts: &[u32], ends: &mut [u32], states: &mut [u32], targets: &[u32], s: u32)
     requires placed { ArePlaced starts.now ends.old (length states.old) (length ends.old) }
     requires targets { All (λ t. t < length ends.old) targets.now }
     requires room { HaveRoom starts.now ends.old (length ends.old) targets.now }
@@ -80,13 +80,7 @@ fn enter_all(starts: &[usize], ends: &mut [usize], states: &mut [u32], targets: 
 }
 
 /// Enters each state at its targets.
-fn enter_states(
-    starts: &[usize],
-    ends: &mut [usize],
-    states: &mut [u32],
-    targets: &[u32],
-    cuts: &[usize],
-)
+fn enter_states(starts: &[u32], ends: &mut [u32], states: &mut [u32], targets: &[u32], cuts: &[u32])
     requires placed { ArePlaced starts.now ends.old (length states.old) (length ends.old) }
     requires empty { (u : ℕ) → u < length ends.old → number_in ends.old u ≡ number_in starts.now u }
     requires targets { All (λ t. t < length ends.old) targets.now }
@@ -101,7 +95,7 @@ fn enter_states(
             starts,
             ends,
             states,
-            &targets[cuts[s]..cuts[s + 1]],
+            &targets[cuts[s] as usize..cuts[s + 1] as usize],
             s as u32,
         );
     }
@@ -112,7 +106,7 @@ pub(crate) fn find_sources(
     alloc: Global,
     count: usize,
     targets: &[u32],
-    cuts: &[usize],
+    cuts: &[u32],
 ) -> Result<Sources, AllocError>
     requires count { (1 ≤ count) × (count ≤ 65536) }
     requires small { length targets.now < 2 ^ 32 }
@@ -123,8 +117,9 @@ pub(crate) fn find_sources(
     let mut counts = vec![in alloc; 0u32; count]?;
     count_targets(&mut counts, targets);
     let starts = sum_counts(alloc, &counts)?;
+    drop(counts);
     let mut ends = Vec::from_slice(alloc, &starts[..count])?;
-    let mut states = vec![in alloc; 0u32; starts[count]]?;
+    let mut states = vec![in alloc; 0u32; starts[count] as usize]?;
     enter_states(&starts, &mut ends, &mut states, targets, cuts);
     Ok(Sources {
         starts,

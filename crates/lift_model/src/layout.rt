@@ -14,13 +14,13 @@ use std::alloc::{AllocError, Global};
 #[derive(Clone, Copy)]
 pub struct RowPlace {
     /// Where its targets begin among those of all rows.
-    pub entries: usize,
+    pub entries: u32,
     /// How many entries it has.
-    pub count: usize,
+    pub count: u32,
     /// How many corners it has.
-    pub corners: usize,
+    pub corners: u32,
     /// Where its weights begin in a table.
-    pub weights: usize,
+    pub weights: u32,
 }
 
 /// The rows so far, their targets, and the blocks of their weights.
@@ -38,9 +38,9 @@ pub struct Layout {
 #[derive(Drop)]
 pub struct Starts {
     /// The numbers of the first rows.
-    pub rows: Vec<usize>,
+    pub rows: Vec<u32>,
     /// The places of the first targets.
-    pub targets: Vec<usize>,
+    pub targets: Vec<u32>,
 }
 
 /// Appends the targets of a row.
@@ -63,8 +63,8 @@ fn push_row(layout: &mut Layout, model: &Model, s: u32, a: u32) -> Result<(), Al
     let row = model.row(s, a);
     let weights = layout.blocks.place(model, s, a)?;
     layout.rows.push(RowPlace {
-        entries: layout.targets.len(),
-        count: row.entries().len(),
+        entries: layout.targets.len() as u32,
+        count: row.entries().len() as u32,
         corners: corners_of(row),
         weights,
     })?;
@@ -103,17 +103,17 @@ pub(crate) fn lay_out(alloc: Global, model: &Model) -> Result<(Layout, Starts), 
     let count = count_rows(model);
     let mut layout = Layout {
         rows: Vec::with_capacity(alloc, count)?,
-        targets: Vec::new(alloc),
+        targets: Vec::with_capacity(alloc, count.saturating_mul(2))?,
         blocks: Blocks::new(alloc, count)?,
     };
     let mut starts = Starts {
-        rows: vec![in alloc; 0]?,
-        targets: vec![in alloc; 0]?,
+        rows: vec![in alloc; 0u32]?,
+        targets: vec![in alloc; 0u32]?,
     };
     for s in 0..model.states() {
         push_rows(&mut layout, model, s)?;
-        starts.rows.push(layout.rows.len())?;
-        starts.targets.push(layout.targets.len())?;
+        starts.rows.push(layout.rows.len() as u32)?;
+        starts.targets.push(layout.targets.len() as u32)?;
     }
     Ok((layout, starts))
 }

@@ -15,13 +15,13 @@ use std::alloc::{AllocError, Global};
 /// What iterations over a model look up, made once for it.
 #[derive(Drop)]
 pub struct Links {
-    row_starts: Vec<usize>,
+    row_starts: Vec<u32>,
     rows: Vec<RowPlace>,
     targets: Vec<u32>,
     firsts: Vec<FirstRow>,
-    weights: usize,
-    starts: Vec<usize>,
-    ends: Vec<usize>,
+    weights: u32,
+    starts: Vec<u32>,
+    ends: Vec<u32>,
     before: Vec<u32>,
     before_positions: Vec<u32>,
     order: Vec<u32>,
@@ -58,6 +58,7 @@ impl Links {
         ensures { IfOk result (λ links. AreLinks model.now links) }
     {
         let (layout, starts) = lay_out(alloc, model)?;
+        let (firsts, weights) = layout.blocks.into_firsts();
         let count = model.states() as usize;
         let sources = find_sources(alloc, count, &layout.targets, &starts.targets)?;
         let order = order_states(alloc, model, &layout.targets, &starts.targets)?;
@@ -66,8 +67,8 @@ impl Links {
             row_starts: starts.rows,
             rows: layout.rows,
             targets: layout.targets,
-            firsts: layout.blocks.firsts,
-            weights: layout.blocks.weights,
+            firsts,
+            weights,
             starts: sources.starts,
             ends: sources.ends,
             before: sources.states,
@@ -83,7 +84,7 @@ impl Links {
         requires { s < state_count self.now }
         ensures { result.now ≡ states_before self.now s }
     {
-        &self.before[self.starts[s as usize]..self.ends[s as usize]]
+        &self.before[self.starts[s as usize] as usize..self.ends[s as usize] as usize]
     }
 
     /// The positions of the states that have an entry into `s`.
@@ -91,7 +92,7 @@ impl Links {
         requires { s < state_count self.now }
         ensures { result.now ≡ positions_before self.now s }
     {
-        &self.before_positions[self.starts[s as usize]..self.ends[s as usize]]
+        &self.before_positions[self.starts[s as usize] as usize..self.ends[s as usize] as usize]
     }
 
     /// The number of a row, in reading order.
@@ -101,7 +102,7 @@ impl Links {
         ensures value { result ≡ row_place self.now s a }
         ensures inside { result < length self.now.rows }
     {
-        self.row_starts[s as usize] + a as usize
+        self.row_starts[s as usize] as usize + a as usize
     }
 
     /// Where a row's targets and weights stand.
@@ -118,7 +119,7 @@ impl Links {
         requires { s < state_count self.now }
         ensures { result.now ≡ slice_range self.now.rows (row_place self.now s 0) (row_place self.now (s + 1) 0) }
     {
-        &self.rows[self.row_starts[s as usize]..self.row_starts[s as usize + 1]]
+        &self.rows[self.row_starts[s as usize] as usize..self.row_starts[s as usize + 1] as usize]
     }
 
     /// The place of a row's first corner weight in a table. Only rows with the same polynomials, entry
@@ -128,7 +129,7 @@ impl Links {
         requires choice { a < choice_count self.now s }
         ensures { result ≡ (place self.now s a).weights }
     {
-        self.place(s, a).weights
+        self.place(s, a).weights as usize
     }
 
     /// The targets of the row that stands at that place, entry by entry.
@@ -136,7 +137,8 @@ impl Links {
         requires { place.entries + place.count ≤ length self.now.targets }
         ensures { result.now ≡ slice_range self.now.targets place.entries (place.entries + place.count) }
     {
-        &self.targets[place.entries..place.entries + place.count]
+        let entries = place.entries as usize;
+        &self.targets[entries..entries + place.count as usize]
     }
 
     /// The rows that have a block of weights in a table, in the blocks' order.
@@ -150,7 +152,7 @@ impl Links {
     pub fn weights_len(&self) -> usize
         ensures { result ≡ self.now.weights }
     {
-        self.weights
+        self.weights as usize
     }
 
     /// The states by their strongly connected components: those that a component leads to come before

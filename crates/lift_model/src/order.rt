@@ -1,5 +1,5 @@
-//! An order of the states by their strongly connected components, found by Tarjan's search in depth.
-//! Nothing is proved of the search: what it gives is tested at the end.
+//! An order of the states by their strongly connected components, found by a search in depth, as Tarjan
+//! does it. Nothing is proved of the search: what it gives is tested at the end.
 
 ghost use Rattle.std.specs.Prelude.{◌≡◌, ◌≤◌, true, length, IfOk};
 ghost use Rattle.lift_model.specs.Order.{IsOrder};
@@ -8,8 +8,11 @@ use crate::lists::{number_at, put};
 use crate::model::Model;
 use std::alloc::{AllocError, Global};
 
-/// A search looks at each transition once, and opens and leaves each state once: less than this.
+/// A search meets each state once and leaves it once: in fewer turns than this.
 const TURNS: u32 = 1 << 20;
+
+/// Stands for the time of a state whose component is known.
+const CLOSED: u32 = u32::MAX;
 
 /// An order of the states.
 #[derive(Drop)]
@@ -22,205 +25,173 @@ pub struct Order {
     pub ends: Vec<u32>,
 }
 
-/// What a search in depth knows of a state.
+/// A state that a search is in.
 #[derive(Clone, Copy)]
-struct Visit {
-    // when it was met, from 1, and 0 where it wasn't
-    met: u32,
+struct Open {
+    state: u32,
+    // where the search goes on among the targets, and where those of the state end
+    next: u32,
+    end: u32,
     // the earliest time of a state that is reached from it
     low: u32,
-    // its component, from 1, and 0 where it isn't known
-    component: u32,
-    // where the search goes on among the targets
-    next: usize,
 }
-
-/// A state that wasn't met.
-const UNMET: Visit = Visit {
-    met: 0,
-    low: 0,
-    component: 0,
-    next: 0,
-};
 
 /// What a search in depth knows.
 #[derive(Drop)]
 struct Search {
-    visits: Vec<Visit>,
-    // the states that are open, and those whose component isn't known
-    open: Vec<u32>,
-    waiting: Vec<u32>,
-    // the states in the order in which they are left
+    // when each state was met, from 1; 0 where it wasn't, and `CLOSED` where its component is known
+    times: Vec<u32>,
+    time: u32,
+    // the states that the search is in, and those that it left whose component isn't known
+    open: Vec<Open>,
     left: Vec<u32>,
-    times: u32,
-    components: u32,
+    // the states whose component is known, component by component, and for each where its own ends
+    states: Vec<u32>,
+    ends: Vec<u32>,
 }
 
-/// Where the targets of a state begin.
-fn start_of(starts: &[usize], s: u32) -> usize {
-    starts.get(s as usize).copied().unwrap_or(0)
-}
-
-/// Puts a state into a component.
-fn assign(visits: &mut [Visit], s: u32, component: u32) {
-    if let Some(visit) = visits.get_mut(s as usize) {
-        visit.component = component;
-    }
+/// The lesser of two times.
+fn earlier(time: u32, other: u32) -> u32 {
+    if other < time { other } else { time }
 }
 
 impl Search {
     /// No state was met yet, of so many.
     fn new(alloc: Global, states: usize) -> Result<Search, AllocError> {
         Ok(Search {
-            visits: vec![in alloc; UNMET; states]?,
-            open: Vec::new(alloc),
-            waiting: Vec::new(alloc),
+            times: vec![in alloc; 0u32; states]?,
+            time: 0,
+            open: Vec::with_capacity(alloc, states)?,
             left: Vec::with_capacity(alloc, states)?,
-            times: 0,
-            components: 0,
+            states: Vec::with_capacity(alloc, states)?,
+            ends: Vec::with_capacity(alloc, states)?,
         })
     }
 
-    /// What is known of a state.
-    fn visit(&self, s: u32) -> Visit {
-        self.visits.get(s as usize).copied().unwrap_or(UNMET)
-    }
-
-    /// Opens a state whose targets begin there.
-    fn meet(&mut self, s: u32, start: usize) -> Result<(), AllocError> {
-        self.times = self.times.saturating_add(1);
-        if let Some(visit) = self.visits.get_mut(s as usize) {
-            visit.met = self.times;
-            visit.low = self.times;
-            visit.next = start;
-        }
-        self.open.push(s)?;
-        self.waiting.push(s)?;
+    /// Opens a state that wasn't met. The search goes no further from a goal state.
+    fn meet(&mut self, model: &Model, starts: &[u32], s: u32) -> Result<(), AllocError> {
+        self.time = self.time.saturating_add(1);
+        put(&mut self.times, s as usize, self.time);
+        let next = number_at(starts, s as usize);
+        let is_goal = s < model.states() && model.is_goal(s);
+        let end = if is_goal {
+            next
+        } else {
+            number_at(starts, s as usize + 1)
+        };
+        self.open.push(Open {
+            state: s,
+            next,
+            end,
+            low: self.time,
+        })?;
         Ok(())
     }
 
-    /// Notes that from `s` a state is reached that was met at that time.
-    fn reach(&mut self, s: u32, time: u32) {
-        if let Some(visit) = self.visits.get_mut(s as usize) {
-            if time < visit.low {
-                visit.low = time;
-            }
-        }
+    /// Adds a state of a component that ends there.
+    fn add(&mut self, s: u32, end: u32) -> Result<(), AllocError> {
+        put(&mut self.times, s as usize, CLOSED);
+        self.states.push(s)?;
+        self.ends.push(end)?;
+        Ok(())
     }
 
-    /// Leaves the state that was opened last, and with the first state of a component all of it.
-    fn leave(&mut self, s: u32) -> Result<(), AllocError> {
-        self.left.push(s)?;
-        let visit = self.visit(s);
-        if let Some(parent) = self.open.last() {
-            let parent = *parent;
-            self.reach(parent, visit.low);
-        }
-        if visit.low == visit.met {
-            self.components = self.components.saturating_add(1);
-            while let Some(t) = self.waiting.pop() {
-                assign(&mut self.visits, t, self.components);
-                if t == s {
-                    break;
-                }
+    /// Where those begin that were left since that time, among all that were left.
+    fn left_since(&self, time: u32) -> usize {
+        let mut first = self.left.len();
+        while first > 0 {
+            let last = number_at(&self.left, first - 1);
+            if number_at(&self.times, last as usize) < time {
+                break;
             }
+            first -= 1;
+        }
+        first
+    }
+
+    /// Closes the component whose first state was met at that time: what was left since then, and it.
+    fn close(&mut self, s: u32, time: u32) -> Result<(), AllocError> {
+        let first = self.left_since(time);
+        let count = self.left.len().saturating_sub(first);
+        let end = self.states.len().saturating_add(count).saturating_add(1);
+        let end = u32::try_from(end).unwrap_or(0);
+        for place in first..self.left.len() {
+            let t = number_at(&self.left, place);
+            self.add(t, end)?;
+        }
+        self.left.truncate(first);
+        self.add(s, end)
+    }
+
+    /// Leaves a state, and with the first state of a component all of it.
+    fn leave(&mut self, here: Open) -> Result<(), AllocError> {
+        let time = number_at(&self.times, here.state as usize);
+        if here.low == time {
+            return self.close(here.state, time);
+        }
+        self.left.push(here.state)?;
+        if let Some(parent) = self.open.last_mut() {
+            parent.low = earlier(parent.low, here.low);
         }
         Ok(())
     }
 
-    /// Goes on from the state that was opened last: to one target more, or out of it. A goal state is
-    /// left at once.
+    /// Goes on from a state: to its next target that wasn't met, or out of it.
     fn turn(
         &mut self,
         model: &Model,
         targets: &[u32],
-        starts: &[usize],
+        starts: &[u32],
+        mut here: Open,
+    ) -> Result<(), AllocError> {
+        for place in here.next..here.end {
+            let target = number_at(targets, place as usize);
+            let time = number_at(&self.times, target as usize);
+            if time == 0 {
+                here.next = place;
+                self.open.push(here)?;
+                return self.meet(model, starts, target);
+            }
+            here.low = earlier(here.low, time);
+        }
+        self.leave(here)
+    }
+
+    /// Searches from a state that wasn't met, until it is left.
+    fn search(
+        &mut self,
+        model: &Model,
+        targets: &[u32],
+        starts: &[u32],
         s: u32,
     ) -> Result<(), AllocError> {
-        let next = self.visit(s).next;
-        let is_goal = s < model.states() && model.is_goal(s);
-        if is_goal || next >= start_of(starts, s.saturating_add(1)) {
-            self.open.pop();
-            return self.leave(s);
-        }
-        if let Some(visit) = self.visits.get_mut(s as usize) {
-            visit.next = next.saturating_add(1);
-        }
-        let target = number_at(targets, next);
-        let visit = self.visit(target);
-        if visit.met == 0 {
-            self.meet(target, start_of(starts, target))?;
-        } else if visit.component == 0 {
-            self.reach(s, visit.met);
+        self.meet(model, starts, s)?;
+        for _ in 0..TURNS {
+            match self.open.pop() {
+                Some(here) => self.turn(model, targets, starts, here)?,
+                None => return Ok(()),
+            }
         }
         Ok(())
     }
 }
 
-/// Searches from each state that wasn't met before.
+/// Searches from each state that wasn't met before. Gives the states component by component, and for each
+/// where its own ends.
 fn search_states(
     alloc: Global,
     model: &Model,
     targets: &[u32],
-    starts: &[usize],
-) -> Result<Search, AllocError> {
+    starts: &[u32],
+) -> Result<(Vec<u32>, Vec<u32>), AllocError> {
     let states = model.states();
     let mut search = Search::new(alloc, states as usize)?;
-    let mut first = 0u32;
-    for _ in 0..TURNS {
-        if let Some(s) = search.open.last() {
-            let s = *s;
-            search.turn(model, targets, starts, s)?;
-        } else if first < states {
-            if search.visit(first).met == 0 {
-                search.meet(first, start_of(starts, first))?;
-            }
-            first += 1;
-        } else {
-            break;
+    for s in 0..states {
+        if number_at(&search.times, s as usize) == 0 {
+            search.search(model, targets, starts, s)?;
         }
     }
-    Ok(search)
-}
-
-/// Where the states of each component end, if those of each stand behind those of the one before.
-fn ends_of(alloc: Global, search: &Search) -> Result<Vec<u32>, AllocError> {
-    let mut ends = vec![in alloc; 0u32; (search.components as usize).saturating_add(1)]?;
-    for visit in &search.visits {
-        let component = visit.component as usize;
-        let count = number_at(&ends, component);
-        put(&mut ends, component, count.saturating_add(1));
-    }
-    let mut sum = 0u32;
-    for end in ends.iter_mut() {
-        sum = sum.saturating_add(*end);
-        *end = sum;
-    }
-    Ok(ends)
-}
-
-/// The states as they were left, but by components, and for each position where its component ends.
-fn by_components(
-    alloc: Global,
-    search: &Search,
-    states: usize,
-) -> Result<(Vec<u32>, Vec<u32>), AllocError>
-    ensures states { IfOk result (λ lists. length lists.0.items ≡ states) }
-    ensures ends { IfOk result (λ lists. length lists.1.items ≡ states) }
-{
-    let ends = ends_of(alloc, search)?;
-    let mut next = Vec::from_slice(alloc, &ends)?;
-    let mut order = vec![in alloc; 0u32; states]?;
-    let mut order_ends = vec![in alloc; 0u32; states]?;
-    for s in &search.left {
-        let component = search.visit(*s).component as usize;
-        let before = component.saturating_sub(1);
-        let place = number_at(&next, before);
-        put(&mut next, before, place.saturating_add(1));
-        put(&mut order, place as usize, *s);
-        put(&mut order_ends, place as usize, number_at(&ends, component));
-    }
-    Ok((order, order_ends))
+    Ok((search.states, search.ends))
 }
 
 /// Writes the position of each state of the list.
@@ -234,12 +205,14 @@ fn place_states(states: &[u32], positions: &mut [u32])
     }
 }
 
-/// Whether each state is found at its position.
+/// Whether each state is found at its position, and there are no more positions than states.
 fn are_placed(states: &[u32], positions: &[u32]) -> bool
-    requires same { length states.now ≡ length positions.now }
-    requires few { length positions.now ≤ 65536 }
+    requires { length positions.now ≤ 65536 }
     ensures { result ≡ true → IsOrder states.now positions.now (length positions.now) }
 {
+    if states.len() != positions.len() {
+        return false;
+    }
     for (s, position) in positions.iter().enumerate() {
         if states.get(*position as usize) != Some(&(s as u32)) {
             return false;
@@ -272,17 +245,16 @@ pub(crate) fn order_states(
     alloc: Global,
     model: &Model,
     targets: &[u32],
-    starts: &[usize],
+    starts: &[u32],
 ) -> Result<Order, AllocError>
     ensures order { IfOk result (λ order. IsOrder order.states.items order.positions.items (length model.now.states)) }
     ensures ends { IfOk result (λ order. length order.ends.items ≡ length model.now.states) }
 {
     let count = model.states();
-    let search = search_states(alloc, model, targets, starts)?;
-    let (states, ends) = by_components(alloc, &search, count as usize)?;
+    let (states, ends) = search_states(alloc, model, targets, starts)?;
     let mut positions = vec![in alloc; 0u32; count as usize]?;
     place_states(&states, &mut positions);
-    if are_placed(&states, &positions) {
+    if ends.len() == count as usize && are_placed(&states, &positions) {
         return Ok(Order {
             states,
             positions,

@@ -4,16 +4,19 @@ use Rattle.std.specs.Int.{◌∣◌, IsGcd}
 use Rattle.std.specs.Int.RustNames.{int_rem}
 use Rattle.std.proofs.lemmas.Int.{quot-rem}
 use Rattle.std.proofs.Math.Nat.{div-le_self}
-use Rattle.std.proofs.lemmas.Nat.Gcd.{dvd_trans, dvd-zero, mod-eq-zero_of_dvd}
+use Rattle.std.proofs.lemmas.Nat.Gcd.{dvd_trans, dvd-zero, mod-eq-zero_of_dvd, dvd_of_mod-eq-zero}
 use Rattle.std.proofs.lemmas.List.{take_more}
-use Rattle.std.proofs.lemmas.List.Elements.{All-nil, All-cons, All-head, All-tail, All-map, All-push, All-weaker}
+use Rattle.std.proofs.lemmas.List.Elements.{All-nil, All-cons, All-head, All-tail, All-map, All-push, All-take, All-weaker}
 use Rattle.lift_poly.specs.Limits.{term_limit}
 use Rattle.lift_poly.specs.Polynomial.{Term}
 use Rattle.lift_poly.specs.Arithmetic.{times, quotient, DividesEach, IsContent}
 use Rattle.lift_poly.specs.MultiAffine.{IsMultiAffine}
 use Rattle.lift_poly.proofs.Canonical.{Canonical, canonical_from_polynomial}
 use Rattle.lift_poly.proofs.Merging.{Small, multi_affine_from}
-use Rattle.lift_poly.proofs.Ring.{linear, mul-comm, mul-zero}
+use Rattle.lift_poly.proofs.Ring.{linear, mul-comm, mul-zero, one-mul}
+
+one_divides : (n : ℕ) → 1 ∣ n
+one_divides n = dvd_of_mod-eq-zero 1 (omega arith)
 
 no_remainder : (a by : ℤ) → unsigned_abs by ∣ unsigned_abs a → int_rem a by ≡ pos 0
 no_remainder (pos n) by h = ap pos (mod-eq-zero_of_dvd (unsigned_abs by) h)
@@ -79,3 +82,19 @@ content_push ts t g h c k = record {
 
 pub content_more : (ts : List Term) (i : ℕ) (d : Term) (g h : ℕ) → i < length ts → IsContent (take i ts) g → IsGcd g (unsigned_abs (get_or ts i d).1) h → IsContent (take (i + 1) ts) h
 content_more ts i d g h lt c k = subst (λ us. IsContent us h) (sym (take_more ts i d lt)) (content_push (take i ts) (get_or ts i d) g h c k)
+
+-- coefficients some of which have nothing in common
+pub content_one : (ts : List Term) (i : ℕ) → IsContent (take i ts) 1 → IsContent ts 1
+content_one ts i c = record {
+  divides = λ k d lt. one_divides (unsigned_abs (get_or ts k d).1);
+  greatest = λ other d. c.greatest other (All-take (λ u. other ∣ unsigned_abs u.1) i ts d);
+}
+
+-- ---- the divisor 1
+
+pub times-one : (ts : List Term) → times (pos 1) ts ≡ ts
+times-one [] = refl
+times-one (t ∷ ts) = ap₂ (λ z us. (t.0, z) ∷ us) (one-mul t.1) (times-one ts)
+
+pub quotient-one : (ts : List Term) → quotient ts (pos 1) ≡ ts
+quotient-one ts = sym (times-one (quotient ts (pos 1))) ∙ times-quotient (pos 1) ts (λ k d lt. one_divides (unsigned_abs (get_or ts k d).1))

@@ -3,6 +3,7 @@ pub mod Canonical
 pub mod Coefficients
 pub mod Counts
 pub mod Division
+pub mod Insertion
 pub mod Lookup
 pub mod Merging
 pub mod Products

@@ -35,7 +35,7 @@ coefficient_absent set (t ∷ ts) h = coefficient-other set t ts (All-head (λ u
 index_rises : (a b set : ℕ) → a ≤ b → ordering_index (nat_cmp a set) ≤ ordering_index (nat_cmp b set)
 index_rises a b set le = grind (arith, nat_tests)
 
-equal_set : (a set : ℕ) → nat_cmp a set ≡ Equal → a ≡ set
+pub equal_set : (a set : ℕ) → nat_cmp a set ≡ Equal → a ≡ set
 equal_set a set h = grind (arith, nat_tests)
 
 less_set : (a set : ℕ) → nat_cmp a set ≡ Less → a ≢ set
@@ -45,7 +45,7 @@ greater_set : (a set : ℕ) → nat_cmp a set ≡ Greater → a ≢ set
 greater_set a set h = grind (arith, nat_tests)
 
 -- the sets of a polynomial ascend, so that a search among them finds its place
-searchable : (set : ℕ) (ts : List Term) → Rising ts → IsNonDecreasingBy (λ t. ordering_index (nat_cmp t.0 set)) ts
+pub searchable : (set : ℕ) (ts : List Term) → Rising ts → IsNonDecreasingBy (λ t. ordering_index (nat_cmp t.0 set)) ts
 searchable set ts h i j d le lt =
     elim (cases_lt i j) [
       | inl before ↦ index_rises (get_or ts i d).0 (get_or ts j d).0 set (omega (arith, h i j d before lt))

@@ -79,7 +79,7 @@ merging_both left right done xs ys a b m e small =
 -- ---- coefficients that are too large
 
 -- before a term stands none of its set
-coefficient_before : (low : ℕ) (a : Term) (done xs : List Term) → Canonical low (done ++ a ∷ xs) → coefficient a.0 done ≡ pos 0
+pub coefficient_before : (low : ℕ) (a : Term) (done xs : List Term) → Canonical low (done ++ a ∷ xs) → coefficient a.0 done ≡ pos 0
 coefficient_before low a [] xs h = refl
 coefficient_before low a (d ∷ done) xs h = coefficient-other a.0 d done (omega (arith, below (suc d.0) done h.2)) ∙ coefficient_before (suc d.0) a done xs h.2
   where

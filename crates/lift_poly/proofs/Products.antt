@@ -7,16 +7,16 @@ use Rattle.std.proofs.lemmas.Grind.{common_steps}
 use Rattle.std.proofs.lemmas.List.{get_or-map, length-map, take_more, append-nil}
 use Rattle.std.proofs.lemmas.List.Elements.{All-nil, All-cons, All-head, All-tail, All-append, All-map, All-weaker}
 use Rattle.std.proofs.lemmas.List.Folds.{list_any-append, list_any_at}
-use Rattle.std.proofs.lemmas.Nat.{or_lt}
+use Rattle.std.proofs.lemmas.Nat.{or_lt, or_comm}
 use Rattle.lift_poly.specs.Limits.{set_limit, term_limit}
 use Rattle.lift_poly.specs.Polynomial.{Term, IsPolynomial}
 use Rattle.lift_poly.specs.Arithmetic.{coefficient, times, scaled, products_of, products, product, support}
 use Rattle.lift_poly.specs.MultiAffine.{IsMultiAffine, is_wide}
-use Rattle.lift_poly.proofs.Canonical.{Canonical, canonical_from_polynomial, polynomial_from_canonical, coefficient-here, coefficient-other, collected_is}
+use Rattle.lift_poly.proofs.Canonical.{Canonical, canonical_from_polynomial, polynomial_from_canonical, coefficient-here, coefficient-other, coefficient-append, coefficient-collected, polynomial-collected, collected_is}
 use Rattle.lift_poly.proofs.Merging.{Small, multi_affine_from, narrow_size}
 use Rattle.lift_poly.proofs.Counts.{mul-some, distinct_products, sorted_is, wide_collected}
 use Rattle.lift_poly.proofs.Sets.{zero-or}
-use Rattle.lift_poly.proofs.Ring.{mul-add, mul-zero, zero-mul}
+use Rattle.lift_poly.proofs.Ring.{linear, mul-comm, mul-add, mul-zero, zero-mul}
 
 -- the product of two terms
 abbrev pub joined : Term → Term → Term
@@ -81,6 +81,38 @@ wide_among (t ∷ left) right (suc i) d lt wide =
 pub wide_row : (left right : List Term) (i : ℕ) (d : Term) → IsPolynomial left → IsPolynomial right → bit_and (support left) (support right) ≡ 0 → i < length left
     → list_any is_wide (products_of (get_or left i d) right) ≡ true → list_any is_wide (product left right) ≡ true
 wide_row left right i d h k none lt wide = wide_collected (products left right) (distinct_products left right h k none) (wide_among left right i d lt wide)
+
+-- ---- the factors in the other order
+
+joined-comm : (t u : Term) → joined t u ≡ joined u t
+joined-comm t u = ap₂ (λ n z. (n, z)) (or_comm t.0 u.0) (mul-comm t.1 u.1)
+
+products-none : (ts : List Term) → products ts [] ≡ []
+products-none [] = refl
+products-none (t ∷ ts) = products-none ts
+
+-- one term more in the right factor
+coefficient-more : (set : ℕ) (t : Term) (left right : List Term) → coefficient set (products left (t ∷ right)) ≡ coefficient set (products_of t left) +ℤ coefficient set (products left right)
+coefficient-more set t [] right = refl
+coefficient-more set t (u ∷ left) right =
+    omega (
+      arith,
+      linear,
+      coefficient-append set (products_of u (t ∷ right)) (products left (t ∷ right)),
+      coefficient-append set (products_of u right) (products left right),
+      coefficient-more set t left right,
+      ap (λ w. coefficient set (w ∷ products_of u right)) (joined-comm u t),
+    )
+
+coefficient-swapped : (set : ℕ) (left right : List Term) → coefficient set (products left right) ≡ coefficient set (products right left)
+coefficient-swapped set [] right = sym (ap (coefficient set) (products-none right))
+coefficient-swapped set (t ∷ left) right =
+    omega (arith, linear, coefficient-append set (products_of t right) (products left right), coefficient-more set t right left, coefficient-swapped set left right)
+
+pub product-comm : (left right : List Term) → product left right ≡ product right left
+product-comm left right =
+    collected_is (product left right) (products right left) (polynomial-collected (products left right))
+    (λ set. coefficient-collected set (products left right) ∙ coefficient-swapped set left right)
 
 -- a set of 16 parameters, and a coefficient that isn't 0
 abbrev Proper : Term → Type 0

@@ -8,7 +8,8 @@ ghost use Rattle.lift_poly.specs.MultiAffine.{IsMultiAffine, narrow, product_ans
 
 use crate::error::PolyError;
 use crate::terms::{
-    common_divisor, multiple_terms, product_terms, push_kept, push_term, quotient_terms, sum_terms,
+    add_term, common_divisor, multiple_terms, product_terms, push_kept, push_term, quotient_terms,
+    sum_terms,
 };
 use std::alloc::{AllocError, Global};
 use std::marker::Model;
@@ -115,6 +116,9 @@ impl MultiAffine {
         let mut divisor = 0;
         for term in &self.terms {
             divisor = common_divisor(divisor, term.1.unsigned_abs());
+            if divisor == 1 {
+                return 1;
+            }
         }
         divisor
     }
@@ -141,6 +145,19 @@ impl MultiAffine {
         Ok(MultiAffine { terms })
     }
 
+    /// The same sum, made in place. It is fast where the other polynomial has few terms: each is looked
+    /// up, and moves the terms behind it.
+    pub fn add_few(self, other: &MultiAffine) -> Result<MultiAffine, PolyError>
+        ensures answer { result ≢ Err PolyError.Memory → result ≡ narrow (sum self other.now) }
+        ensures fits { IfOk result IsMultiAffine }
+    {
+        let MultiAffine { mut terms } = self;
+        for term in &other.terms {
+            add_term(&mut terms, *term)?;
+        }
+        Ok(MultiAffine { terms })
+    }
+
     /// The polynomial times a number of size below 2^125. `Wide` exactly where one of the result's
     /// coefficients has a size of 2^125 or more. Linear in the number of terms.
     pub fn scale(&self, alloc: Global, by: i128) -> Result<MultiAffine, PolyError>
@@ -148,13 +165,16 @@ impl MultiAffine {
         ensures answer { result ≢ Err PolyError.Memory → result ≡ narrow (scaled by self.now) }
         ensures fits { IfOk result IsMultiAffine }
     {
+        if by == 1 {
+            return Ok(self.copy(alloc)?);
+        }
         let terms = multiple_terms(alloc, &self.terms, by)?;
         Ok(MultiAffine { terms })
     }
 
     /// The product. `SharedParameter` exactly where a parameter occurs in both factors, and else
     /// `Wide` exactly where one of the product's coefficients has a size of 2^125 or more. With n
-    /// terms in the product, it takes a time of n log n.
+    /// terms in the product, and m in the factor that has fewer, it takes a time of n log m.
     pub fn mul(&self, alloc: Global, other: &MultiAffine) -> Result<MultiAffine, PolyError>
         ensures answer { result ≢ Err PolyError.Memory
             → result ≡ product_answer self.now other.now }
@@ -167,14 +187,18 @@ impl MultiAffine {
         Ok(MultiAffine { terms })
     }
 
-    /// The polynomial over a divisor of each of its coefficients. Linear in the number of terms.
-    pub fn divide(&self, alloc: Global, by: i128) -> Result<MultiAffine, AllocError>
+    /// The polynomial over a divisor of each of its coefficients. Linear in the number of terms,
+    /// unless the divisor is 1.
+    pub fn divide(self, alloc: Global, by: i128) -> Result<MultiAffine, AllocError>
         requires positive { pos 0 <ℤ by }
-        requires divides { DividesEach (unsigned_abs by) self.now }
-        ensures quotient { IfOk result (λ p. p ≡ quotient self.now by) }
-        ensures exact { IfOk result (λ p. times by p ≡ self.now) }
+        requires divides { DividesEach (unsigned_abs by) self }
+        ensures quotient { IfOk result (λ p. p ≡ quotient self by) }
+        ensures exact { IfOk result (λ p. times by p ≡ self) }
         ensures fits { IfOk result IsMultiAffine }
     {
+        if by == 1 {
+            return Ok(self);
+        }
         let terms = quotient_terms(alloc, &self.terms, by)?;
         Ok(MultiAffine { terms })
     }

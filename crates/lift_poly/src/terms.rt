@@ -1,11 +1,11 @@
 //! The arithmetic on lists of terms, of which `MultiAffine` is made.
 ghost use Rattle.std.specs.Prelude.{◌≡◌, ◌≢◌, ◌+◌, ◌*ℤ◌, ◌<ℤ◌, pos, [], ◌∷◌, ◌++◌, true, false};
-ghost use Rattle.std.specs.Prelude.{bit_and, unsigned_abs, Ok, Err, OnOk, IfOk, IfErr};
-ghost use Rattle.std.specs.Prelude.{if◌then◌else◌};
-ghost use Rattle.std.specs.List.{list_any};
+ghost use Rattle.std.specs.Prelude.{ℕ, bit_and, unsigned_abs, Ok, Err, OnOk, IfOk, IfErr};
+ghost use Rattle.std.specs.Prelude.{if◌then◌else◌, ◌<◌, ◌≤◌, length, take, drop};
+ghost use Rattle.std.specs.List.{list_any, insert};
 ghost use Rattle.std.specs.Int.{IsGcd};
 ghost use Rattle.lift_poly.specs.Arithmetic.{kept, sum, times, scaled, quotient, products_of};
-ghost use Rattle.lift_poly.specs.Arithmetic.{product, support, DividesEach};
+ghost use Rattle.lift_poly.specs.Arithmetic.{product, support, coefficient, DividesEach};
 ghost use Rattle.lift_poly.specs.MultiAffine.{IsMultiAffine, is_wide};
 
 use crate::error::PolyError;
@@ -55,6 +55,53 @@ pub(crate) fn push_kept(terms: &mut Vec<(u16, i128)>, term: (u16, i128)) -> Resu
     let coefficient = within_limit(term.1)?;
     if coefficient != 0 {
         push_term(terms, (term.0, coefficient))?;
+    }
+    Ok(())
+}
+
+/// Puts a term at a place, and moves those from there on.
+fn insert_term(
+    terms: &mut Vec<(u16, i128)>,
+    place: usize,
+    term: (u16, i128),
+) -> Result<(), AllocError>
+    requires { place ≤ length terms.old.items }
+    ensures { OnOk result (terms.new.items ≡ insert terms.old.items place term) }
+{
+    terms.insert(place, term)?;
+    Ok(())
+}
+
+/// Puts a term in the place of another one, which goes away alone where the coefficient is 0.
+fn replace_term(terms: &mut Vec<(u16, i128)>, place: usize, term: (u16, i128))
+    requires { place < length terms.old.items }
+    ensures { terms.new.items
+        ≡ take place terms.old.items ++ kept term (drop (place + 1) terms.old.items) }
+{
+    if term.1 == 0 {
+        terms.remove(place);
+    } else {
+        terms[place] = term;
+    }
+}
+
+/// Adds a term to a polynomial, at its place by ascending set. `Wide` exactly where the coefficient
+/// there has a size of 2^125 or more then. A binary search, and a move of the terms behind.
+pub(crate) fn add_term(terms: &mut Vec<(u16, i128)>, term: (u16, i128)) -> Result<(), PolyError>
+    requires terms { IsMultiAffine terms.old.items }
+    requires term { IsMultiAffine (term ∷ []) }
+    ensures sum { OnOk result ((set : ℕ)
+        → coefficient set terms.new.items ≡ coefficient set (term ∷ terms.old.items)) }
+    ensures fits { OnOk result (IsMultiAffine terms.new.items) }
+    ensures causes { IfErr result (λ e. e ≢ PolyError.Memory → (e ≡ PolyError.Wide)
+        × (is_wide (term.0, coefficient term.0 (term ∷ terms.old.items)) ≡ true)) }
+{
+    match terms.binary_search_by_key(&term.0, |term| term.0) {
+        Ok(place) => {
+            let coefficient = within_limit(term.1 + terms[place].1)?;
+            replace_term(terms, place, (term.0, coefficient));
+        }
+        Err(place) => insert_term(terms, place, term)?,
     }
     Ok(())
 }
@@ -132,9 +179,10 @@ pub(crate) fn multiple_terms(
     Ok(multiple)
 }
 
-/// The terms of the product of two polynomials that share no parameter. With n products of terms,
-/// it takes a time of n log n.
-pub(crate) fn product_terms(
+/// The terms of the product of two polynomials that share no parameter. The products of one term of
+/// the left with those of the right ascend: with n of all, and m terms at the left, it takes a time
+/// of n log m.
+fn products_by_rows(
     alloc: Global,
     left: &[(u16, i128)],
     right: &[(u16, i128)],
@@ -151,8 +199,30 @@ pub(crate) fn product_terms(
     for term in left {
         push_products(&mut products, *term, right)?;
     }
-    products.sort_unstable_by_key(|term| term.0);
+    products.sort_by_key(|term| term.0)?;
     Ok(products)
+}
+
+/// The terms of the product of two polynomials that share no parameter. With n products of terms, and
+/// m terms in the factor that has fewer, it takes a time of n log m.
+pub(crate) fn product_terms(
+    alloc: Global,
+    left: &[(u16, i128)],
+    right: &[(u16, i128)],
+) -> Result<Vec<(u16, i128)>, PolyError>
+    requires left { IsMultiAffine left.now }
+    requires right { IsMultiAffine right.now }
+    requires apart { bit_and (support left.now) (support right.now) ≡ 0 }
+    ensures product { IfOk result (λ v. v.items ≡ product left.now right.now) }
+    ensures fits { IfOk result (λ v. IsMultiAffine v.items) }
+    ensures causes { IfErr result (λ e. e ≢ PolyError.Memory
+        → (e ≡ PolyError.Wide) × (list_any is_wide (product left.now right.now) ≡ true)) }
+{
+    if left.len() <= right.len() {
+        products_by_rows(alloc, left, right)
+    } else {
+        products_by_rows(alloc, right, left)
+    }
 }
 
 /// The terms over a divisor of each coefficient. Linear in the number of terms.

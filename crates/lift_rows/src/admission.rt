@@ -1,7 +1,9 @@
 ghost use Rattle.std.specs.Prelude.{◌≡◌, ◌<◌, ◌≤◌, ◌↔◌, length, IsOk, IfOk, IfErr, MatchResult};
+ghost use Rattle.std.specs.Bool.{OnTrue};
 ghost use Rattle.lift_grid.specs.Rectangle.{IsOnGrid};
 ghost use Rattle.lift_grid.specs.Parts.{region_of};
 ghost use Rattle.lift_model.specs.Model.{choices, row_at};
+ghost use Rattle.lift_model.specs.Links.{AreLinks};
 ghost use Rattle.corner_lift.specs.Case.{SumsToOne, IsNarrow, IsNowhereNegative, IsAdmittedRow, IsAdmitted, case_of, row_parameters, most_row_parameters, most_halvings, most_precision};
 ghost use Rattle.lift_rows.specs.Admitted.{HasWeightsFromZero, HasSumsOfTotal};
 ghost use Rattle.lift_rows.specs.Fault.{IsRowFault, IsFirstFault, HasSmallNumber};
@@ -13,7 +15,7 @@ use crate::weights::first_negative;
 use crate::width::is_narrow;
 use corner_lift::{Case, rows_at_corners, rows_inside};
 use lift_grid::{Grid, Rect};
-use lift_model::Model;
+use lift_model::{Links, Model};
 
 /// `most_row_parameters`: how many parameters may occur in a row.
 const MOST_PARAMETERS: u32 = 4;
@@ -117,6 +119,20 @@ fn test_row(asked: &Candidate, state: u32, choice: u32) -> Result<(), RowError>
     test_weights(asked, state, choice)
 }
 
+/// Whether the first row of each block is admitted, and so is every row, since rows of a block have the
+/// same polynomials.
+fn firsts_pass(asked: &Candidate, links: &Links) -> bool
+    requires { AreLinks asked.now.model links.now }
+    ensures { OnTrue result (IsAdmitted asked.now) }
+{
+    for first in links.firsts() {
+        if test_row(asked, first.state, first.choice).is_err() {
+            return false;
+        }
+    }
+    true
+}
+
 /// The case of a model over a root, or the first fault of its rows, which are tested by state and
 /// choice. A row is tested in this order: its coefficients at a set of parameters sum to the common
 /// denominator or to 0 (`RowSum`); at most 4 parameters occur in it (`RowParameters`); with A the sum of
@@ -153,4 +169,40 @@ pub fn admit<'m>(model: &'m Model, root: &'m Rect, grid: Grid, w: u32) -> Result
         }
     }
     Ok(Case::new(model, root, grid, w))
+}
+
+/// The same by the model's links: of rows with the same polynomials one is tested. All rows are gone
+/// over in turn only where one isn't admitted, to tell the first fault.
+pub fn admit_linked<'m>(
+    model: &'m Model,
+    root: &'m Rect,
+    grid: Grid,
+    w: u32,
+    links: &Links,
+) -> Result<Case<'m>, RowError>
+    requires grid { IsOnGrid grid.d grid.depth (length model.now.names) root.now }
+    requires depth { grid.depth ≤ most_halvings }
+    requires precision { (1 ≤ w) × (w ≤ most_precision) }
+    requires links { AreLinks model.now links.now }
+    ensures case { IfOk result (λ c. c ≡ case_of model.now (region_of (grid, root.now)) w) }
+
+    // Ok exactly where each row is admitted, and else the first fault.
+    ensures admitted { IsOk result ↔ IsAdmitted (case_of model.now (region_of (grid, root.now)) w) }
+    ensures fault { IfErr result (IsFirstFault (case_of model.now (region_of (grid, root.now)) w)) }
+    ensures number { IfErr result HasSmallNumber }
+
+    // At every valuation inside the root each row is then a distribution.
+    ensures weights { IfOk result HasWeightsFromZero }
+    ensures sums { IfOk result HasSumsOfTotal }
+{
+    let _ = model.states();
+    // What a root's sides are and what holds of rows inside, for the proof.
+    let _ = root.sides();
+    rows_inside();
+    let asked = Candidate::new(model, root, grid, w);
+    if firsts_pass(&asked, links) {
+        Ok(Case::new(model, root, grid, w))
+    } else {
+        admit(model, root, grid, w)
+    }
 }

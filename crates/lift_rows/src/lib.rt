@@ -10,6 +10,6 @@ mod sums;
 mod weights;
 mod width;
 
-pub use admission::admit;
+pub use admission::{admit, admit_linked};
 pub use error::RowError;
 pub use laws::{cases_have_distributions, first_fault_is_one, unadmitted_has_a_first_fault};

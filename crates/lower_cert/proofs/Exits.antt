@@ -1,5 +1,5 @@
 -- How high a choice holds a set of states that have the same number, at a corner.
-use Rattle.std.proofs.Common.{◌≡◌, ℕ, ◌*◌, ◌^◌, ◌<◌, ◌≤◌, ◌⊎◌, length, ⊎_elim, Bool, true, false, [], ℤ, pos, ◌+ℤ◌, ◌-ℤ◌, ◌*ℤ◌, ◌≤ℤ◌, ◌<ℤ◌, unsigned_abs, int_le, sym, ap, subst, ◌∙◌, arith, pow_mono, mul-le-mul_left}
+use Rattle.std.proofs.Common.{◌≡◌, ℕ, ◌*◌, ◌^◌, ◌<◌, ◌≤◌, ◌⊎◌, length, ⊎_elim, Bool, true, false, ℤ, pos, ◌+ℤ◌, ◌-ℤ◌, ◌*ℤ◌, ◌≤ℤ◌, ◌<ℤ◌, unsigned_abs, int_le, sym, ap, subst, ◌∙◌, arith, mul-le-mul_left}
 use Rattle.std.proofs.lemmas.Int.{ints, by_lt_z}
 use Rattle.std.proofs.lemmas.Bool.{both_ways}
 use Rattle.std.proofs.lemmas.Nat.{pow_pos}
@@ -10,7 +10,7 @@ use Rattle.lift_model.specs.Model.{choices, row_at, support}
 use Rattle.lift_model.specs.Links.{LinksData, AreLinks, HasChoice, place}
 use Rattle.lift_model.specs.declared.layout.RowPlace.{RowPlace}
 use Rattle.corner_lift.specs.Corner.{corner_sum, whole, parameter_count}
-use Rattle.corner_lift.specs.Case.{CaseData, IsCase, row_whole, corner_count, row_parameters, most_row_parameters}
+use Rattle.corner_lift.specs.Case.{CaseData, IsCase, row_whole, corner_count, row_parameters}
 use Rattle.corner_lift.specs.Laws.{BitsAreParameters}
 use Rattle.lower_cert.specs.Capping.{into, CapsAt}
 use Rattle.lower_cert.specs.Lowering.{IsExit}
@@ -87,6 +87,3 @@ corners_is bits k l s a p is are has at =
 
 pub some_corner : (k : CaseData) (s a : ℕ) → 1 ≤ corner_count k s a
 some_corner k s a = pow_pos (row_parameters k (row_at k.model s a))
-
-pub few_corners : (k : CaseData) (s a : ℕ) → IsCase k → HasChoice k.model s a → corner_count k s a ≤ 2 ^ most_row_parameters
-few_corners k s a is has = pow_mono (is.admitted s [] has.state a [] has.choice).few

@@ -86,7 +86,7 @@ fn exit_of_choice(
 {
     rows_at_corners();
     let _ = case.w();
-    let corners = links.place(s, a).corners as u32;
+    let corners = links.place(s, a).corners;
     let mut least = exit_at_corner(case, links, weights, lane, marks, level, s, a, 0);
     for corner in 1..corners {
         let other = exit_at_corner(case, links, weights, lane, marks, level, s, a, corner);

@@ -117,7 +117,7 @@ fn held_at_corners(
 {
     rows_at_corners();
     let _ = case.w();
-    let corners = links.place(s, a).corners as u32;
+    let corners = links.place(s, a).corners;
     let mut least = exit_at(case, links, weights, lane, s, a, 0);
     for corner in 1..corners {
         let other = exit_at(case, links, weights, lane, s, a, corner);

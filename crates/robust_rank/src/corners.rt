@@ -19,5 +19,5 @@ pub(crate) fn corners_of(case: &Case, links: &Links, s: u32, a: u32) -> u32
 {
     rows_at_corners();
     let _ = case.w();
-    links.place(s, a).corners as u32
+    links.place(s, a).corners
 }

@@ -5,10 +5,11 @@ use Rattle.std.proofs.lemmas.List.{get_or_past, get_or_default}
 use Rattle.lift_poly.proofs.Ring.{linear, le_from_test}
 use Rattle.lift_grid.specs.Rectangle.{Spans}
 use Rattle.lift_model.specs.Model.{is_goal, choices}
-use Rattle.lift_model.specs.Links.{HasChoice}
+use Rattle.lift_model.specs.Links.{LinksData, HasChoice}
 use Rattle.corner_lift.specs.Certificate.{AtMost}
 use Rattle.corner_lift.specs.Case.{CaseData, number, corner_count}
-use Rattle.rounded_iter.specs.declared.table.Extreme.{Extreme}
+use Rattle.float_guess.specs.declared.part.Extreme.{Extreme}
+use Rattle.float_guess.specs.Part.{KeepsOthers}
 use Rattle.rounded_iter.specs.Rising.{TableData, IsRead, IsBelow, IsBound, IsLeastBound, IsEnoughAt, IsEnoughFor}
 use Rattle.rounded_iter.specs.Watching.{count, flag, from_zero, IsGuess, IsLeastFrom, IsFound, IsSure, low_word}
 use Rattle.rounded_iter.proofs.Solving.{RowLaws, across_map, enough_shifted, lt_from_test}
@@ -170,9 +171,9 @@ found_of laws t spans x false h over within = record { below = least_below laws 
 pub found_past : (t : TableData) (spans : Spans) (x : List ℤ) → IsBelow t.extreme t.case (from_zero spans) x → t.limit <ℤ number x t.case.model.init → IsFound t spans x false
 found_past t spans x below over = record { below = below; least = λ e. cc; within = λ e. cc; past = λ e. over }
 
--- numbers in their range, and 2 ^ w on goal states
-pub guess_of : (k : CaseData) (x : List ℤ) → length k.model.goal ≡ length k.model.states → length x ≡ length k.model.states → ((i : ℕ) → i < length k.model.states → (pos 0 ≤ℤ number x i) × (number x i ≤ℤ pos (2 ^ k.w))) → ((i : ℕ) → i < length k.model.states → is_goal k.model i ≡ true → number x i ≡ pos (2 ^ k.w)) → IsGuess k x
-guess_of k x goals size range goal = record {
-  numbers = record { size = size; range = λ i d lt. subst (λ n. (pos 0 ≤ℤ n) × (n ≤ℤ pos (2 ^ k.w))) (sym (get_or_default x i d (pos 0) lt)) (range i (omega (arith, lt, size))) };
-  goal = λ s g. goal s (goal_inside k goals s g) g;
+-- what was written in a part leaves it a guess
+pub guess_kept : (k : CaseData) (l : LinksData) (low high : ℕ) (x y : List ℤ) → IsGuess k x → KeepsOthers k l low high x y → IsGuess k y
+guess_kept k l low high x y guess kept = record {
+  numbers = kept.numbers;
+  goal = λ s g. kept.others s (rw g refl) ∙ guess.goal s g;
 }

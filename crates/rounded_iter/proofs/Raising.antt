@@ -15,8 +15,8 @@ use Rattle.corner_lift.specs.Corner.{AtCorners, corner, corner_sum, whole}
 use Rattle.corner_lift.specs.Case.{CaseData, IsCase, IsInside, number, row_whole, corner_count}
 use Rattle.corner_lift.specs.Dot.{only_at}
 use Rattle.corner_lift.specs.Laws.{NumbersAreInRange}
-use Rattle.rounded_iter.specs.declared.table.Extreme.{Extreme}
-use Rattle.rounded_iter.specs.declared.table.Extreme.TheVariants.{Greatest, Least}
+use Rattle.float_guess.specs.declared.part.Extreme.{Extreme}
+use Rattle.float_guess.specs.declared.part.Extreme.TheVariants.{Greatest, Least}
 use Rattle.rounded_iter.specs.Value.{IsValue, IsLeastValue, SomeMeanAtMost}
 use Rattle.rounded_iter.specs.Rising.{TableData, IsRead, Run, IsBelow, IsBound, IsLeastBound, IsEnough, IsEnoughFor, IsEnoughAt, IsSolved, Across, room}
 use Rattle.rounded_iter.specs.Watching.{count, from_zero, HasGoals, CanRaise, IsRaised, IsRaisedBy, IsRaisedState, IsBelowUppers}

@@ -16,11 +16,11 @@ use Rattle.lift_poly.specs.Polynomial.{Valuation, weight}
 use Rattle.lift_model.specs.Valid.{IsEntry}
 use Rattle.corner_lift.specs.Certificate.{AreNumbers, AtMost}
 use Rattle.corner_lift.specs.Corner.{corner, corner_sum, whole, parameter_count}
-use Rattle.corner_lift.specs.Case.{CaseData, IsCase, IsInside, number, row_value, row_whole, corner_count, row_parameters, most_precision, most_row_parameters}
+use Rattle.corner_lift.specs.Case.{CaseData, IsCase, IsInside, number, row_value, row_whole, corner_count, row_parameters, most_precision}
 use Rattle.corner_lift.specs.Dot.{only_at}
 use Rattle.corner_lift.specs.Laws.{HasRow, BitsAreParameters, ParametersAreTheRoots, NumbersAreInRange, SumsAreInRange, SumsRise, WeightsSumToWhole}
-use Rattle.rounded_iter.specs.declared.table.Extreme.{Extreme}
-use Rattle.rounded_iter.specs.declared.table.Extreme.TheVariants.{Greatest, Least}
+use Rattle.float_guess.specs.declared.part.Extreme.{Extreme}
+use Rattle.float_guess.specs.declared.part.Extreme.TheVariants.{Greatest, Least}
 use Rattle.rounded_iter.specs.Rising.{Across, IsExtreme, IsMoreExtreme, IsEnoughAt, SolvesAt, IsSolved}
 
 -- ---- order
@@ -211,12 +211,9 @@ module _ (laws : RowLaws) (k : CaseData) (spans : Spans) (is : IsCase k) (within
   pub whole_positive : pos 1 ≤ℤ full
   whole_positive = product_positive k.model.common (power k.d (row_parameters k row)) is.asked.model.denominator.0 (power_positive k.d (row_parameters k row) (omega (arith, linear, is.asked.grid.positive)))
 
-  -- a row has at least one corner, and few
+  -- a row has at least one corner
   pub some_corner : 1 ≤ corner_count k s a
   some_corner = pow_pos (row_parameters k row)
-
-  pub few_corners : corner_count k s a ≤ 2 ^ most_row_parameters
-  few_corners = pow_mono (is.admitted s [] has.state a [] has.choice).few
 
   -- what the row weighs into its own state
   abbrev own : ℕ → ℤ

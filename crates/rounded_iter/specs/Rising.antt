@@ -6,8 +6,8 @@ use Rattle.lift_model.specs.Links.{LinksData, AreLinks, HasChoice}
 use Rattle.corner_lift.specs.Case.{CaseData, IsCase, IsGreatest, IsLeast, number, row_value, row_whole, corner_count}
 use Rattle.corner_lift.specs.Certificate.{AreNumbers, AtMost}
 use Rattle.corner_lift.specs.Table.{IsTable}
-use Rattle.rounded_iter.specs.declared.table.Extreme.{Extreme}
-use Rattle.rounded_iter.specs.declared.table.Extreme.TheVariants.{Greatest, Least}
+use Rattle.float_guess.specs.declared.part.Extreme.{Extreme}
+use Rattle.float_guess.specs.declared.part.Extreme.TheVariants.{Greatest, Least}
 
 -- the rows of a case, their weights in a rectangle, which corner counts, and where an iteration may stop
 pub record TableData : Type 0 where

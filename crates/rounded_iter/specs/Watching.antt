@@ -190,12 +190,10 @@ pub record IsGuess (k : CaseData) (x : List ℤ) : Type 0 where
   pub numbers : AreNumbers k x
   pub goal : (s : ℕ) → is_goal k.model s ≡ true → number x s ≡ pos (2 ^ k.w)
 
--- what it needs to make one
-pub record CanGuess (t : TableData) (x : List ℤ) (noted : List ℕ) : Type 0 where
-  pub case : IsCase t.case
+-- what it needs to make one of another
+pub record CanGuess (t : TableData) (x : List ℤ) : Type 0 where
   pub links : AreLinks t.case.model t.links
-  pub size : length x ≡ count t
-  pub notes : length noted ≡ count t
+  pub guess : IsGuess t.case x
 
 -- what it needs to rise from a guess
 pub record CanConfirm (t : TableData) (spans : Spans) (x : List ℤ) (flags noted : List ℕ) : Type 0 where
@@ -230,7 +228,7 @@ pub record CanRise (t : TableData) (spans : Spans) (x : List ℤ) (flags : List 
 -- what it needs to find the least bound with room for flags and notes
 pub record CanFindSlow (t : TableData) (spans : Spans) (x : List ℤ) (flags noted : List ℕ) : Type 0 where
   pub read : IsRead t spans
-  pub size : length x ≡ count t
+  pub guess : IsGuess t.case x
   pub places : length flags ≡ count t
   pub notes : length noted ≡ count t
 

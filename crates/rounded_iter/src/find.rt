@@ -5,19 +5,29 @@ ghost use Rattle.std.specs.Prelude.{◌≡◌, ◌≤ℤ◌, ◌^◌, ◌<◌, �
 ghost use Rattle.lift_grid.specs.Rectangle.{Spans};
 ghost use Rattle.corner_lift.specs.Case.{number};
 ghost use Rattle.rounded_iter.specs.Rising.{IsBelow, IsLeastBound};
-ghost use Rattle.rounded_iter.specs.Watching.{CanStart, HasGoals, CanClimb, CanRise, CanFind, CanFindSlow, IsFound, CanConfirm, CanTest, AreNoted, IsSure, low_word, from_zero};
+ghost use Rattle.rounded_iter.specs.Watching.{CanStart, HasGoals, CanClimb, CanRise, CanFind, CanFindSlow, IsFound, CanGuess, IsGuess, CanConfirm, CanTest, AreNoted, IsSure, low_word, from_zero};
 
 use crate::table::{Ended, Table};
 use corner_lift::{corners_bound_weights, rows_at_corners};
+use float_guess::{Rounding, Way, guess_part};
 
-/// How many passes over a component are made before the first guess. Each guess that fails makes it more.
-const FIRST_PATIENCE: u32 = 64;
+/// How many passes over a component are made before the first guess.
+const FIRST_PATIENCE: u32 = 16;
 
-/// By how much that is.
-const PATIENCE_STEP: u32 = 32;
+/// How many times as many are made each time that a guess fails.
+const PATIENCE_STEP: u32 = 4;
+
+/// How many sweeps are made for a guess, for each pass that there is patience for.
+const SWEEPS_A_PASS: u32 = 16;
+
+/// How many passes raise such a guess, for each of these.
+const RAISES_A_PASS: u32 = 32;
+
+/// How many passes raise a guess by elimination.
+const RAISES: u32 = 16384;
 
 /// How many guesses are made.
-const GUESSES: u32 = 3;
+const GUESSES: u32 = 5;
 
 /// The low 32 bits of a number.
 fn low_word_of(number: i64) -> u32
@@ -96,7 +106,8 @@ impl Table<'_> {
     fn confirm(&self, lane: &mut [i64], flags: &mut [u32], noted: &mut [u32], passes: u32) -> bool
         ghost spans: { Spans }
         requires { CanConfirm self.now spans lane.old flags.old noted.old }
-        ensures { IsTrue result → IsLeastBound self.now.extreme self.now.case spans lane.new }
+        ensures least { IsTrue result → IsLeastBound self.now.extreme self.now.case spans lane.new }
+        ensures guess { IsGuess self.now.case lane.new }
     {
         rows_at_corners();
         corners_bound_weights();
@@ -114,6 +125,7 @@ impl Table<'_> {
         requires { CanClimb self.now (from_zero spans) lane.old flags.old }
         ensures found { IfSome result (λ found. IsFound self.now spans lane.new found) }
         ensures slow { result ≡ None → IsSome patience }
+        ensures guess { IsGuess self.now.case lane.new }
     {
         rows_at_corners();
         corners_bound_weights();
@@ -135,9 +147,56 @@ impl Table<'_> {
         requires { CanRise self.now spans lane.old flags.old }
         ensures found { IfSome result (λ found. IsFound self.now spans lane.new found) }
         ensures slow { result ≡ None → IsSome patience }
+        ensures guess { IsGuess self.now.case lane.new }
     {
         self.start(lane);
         self.rise(lane, flags, patience)
+    }
+
+    /// Guesses the least bound in a component. False: it is not worth much.
+    fn guess_component(
+        &self,
+        lane: &mut [i64],
+        flags: &mut [u32],
+        noted: &mut [u32],
+        low: u32,
+        high: u32,
+        way: Way,
+    ) -> bool
+        requires { CanGuess self.now lane.old }
+        ensures { IsGuess self.now.case lane.new }
+    {
+        guess_part(
+            self.case,
+            self.links,
+            self.weights,
+            self.extreme,
+            Rounding::Down,
+            lane,
+            flags,
+            noted,
+            low,
+            high,
+            way,
+        )
+    }
+
+    /// Guesses the least bound, component by component from those below. False: it is not worth much.
+    fn guess(&self, lane: &mut [i64], flags: &mut [u32], noted: &mut [u32], way: Way) -> bool
+        requires { CanGuess self.now lane.old }
+        ensures { IsGuess self.now.case lane.new }
+    {
+        let mut low = 0;
+        for position in 0..self.case.model().states() {
+            let next = position + 1;
+            if self.is_end(next) {
+                if !self.guess_component(lane, flags, noted, low, next, way) {
+                    return false;
+                }
+                low = next;
+            }
+        }
+        true
     }
 
     /// Makes a guess and raises it. None: no least bound came of it for certain.
@@ -146,15 +205,17 @@ impl Table<'_> {
         lane: &mut [i64],
         flags: &mut [u32],
         noted: &mut [u32],
-        patience: u32,
+        way: Way,
+        raises: u32,
     ) -> Option<bool>
         ghost spans: { Spans }
         requires { CanFindSlow self.now spans lane.old flags.old noted.old }
-        ensures { IfSome result (λ found. IsFound self.now spans lane.new found) }
+        ensures found { IfSome result (λ found. IsFound self.now spans lane.new found) }
+        ensures guess { IsGuess self.now.case lane.new }
     {
         rows_at_corners();
         corners_bound_weights();
-        if !self.guess(lane, noted, patience) {
+        if !self.guess(lane, flags, noted, way) {
             return None;
         }
         let boundless = Table {
@@ -165,8 +226,7 @@ impl Table<'_> {
             top: self.top,
             limit: self.top,
         };
-        let passes = patience.saturating_mul(PATIENCE_STEP);
-        if !boundless.confirm(lane, flags, noted, passes) {
+        if !boundless.confirm(lane, flags, noted, raises) {
             return None;
         }
         Some(!self.is_past(lane))
@@ -179,9 +239,15 @@ impl Table<'_> {
         requires { CanFindSlow self.now spans lane.old flags.old noted.old }
         ensures { IsFound self.now spans lane.new result }
     {
+        let way = Way::Elimination;
+        if let Some(found) = self.rise_from_guess(lane, flags, noted, way, RAISES) {
+            return found;
+        }
         let mut patience = FIRST_PATIENCE;
         for _ in 0..GUESSES {
-            if let Some(found) = self.rise_from_guess(lane, flags, noted, patience) {
+            let way = Way::Sweeps(patience.saturating_mul(SWEEPS_A_PASS));
+            let raises = patience.saturating_mul(RAISES_A_PASS);
+            if let Some(found) = self.rise_from_guess(lane, flags, noted, way, raises) {
                 return found;
             }
             patience = patience.saturating_mul(PATIENCE_STEP);

@@ -6,8 +6,9 @@ ghost use Rattle.corner_lift.specs.Table.{IsTable};
 ghost use Rattle.rounded_iter.specs.Value.{IsLeastValue};
 ghost use Rattle.rounded_iter.specs.Watching.{CanIterate, CanContinue, IsLeastWithin};
 
-use crate::table::{Extreme, Table};
+use crate::table::Table;
 use corner_lift::{Case, corners_bound_weights, one_at, rows_at_corners};
+use float_guess::Extreme;
 use lift_model::Links;
 
 /// Leaves in `lane` the least upper vector of the case on the rectangle whose table `weights` is: of the

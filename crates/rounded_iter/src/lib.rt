@@ -2,7 +2,6 @@
 #![tactic(auto)]
 
 mod find;
-mod guess;
 mod least;
 mod solve;
 mod table;

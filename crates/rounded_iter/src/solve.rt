@@ -7,11 +7,12 @@ ghost use Rattle.lift_grid.specs.Rectangle.{Spans};
 ghost use Rattle.corner_lift.specs.Case.{row_value, row_whole, corner_count, most_precision, engine_limit};
 ghost use Rattle.rounded_iter.specs.Rising.{CanTry, CanSolve, IsExtreme, IsMoreExtreme, SolvesAt, IsSolved, IsRoundedUp};
 
-use crate::table::{Extreme, Table};
+use crate::table::Table;
 use corner_lift::{
     corners_bound_weights, rows_at_corners, table_loop, table_max, table_min, table_value,
     table_whole,
 };
+use float_guess::Extreme;
 use std::num::{nearest_i64_to_f64, saturating_f64_to_i64};
 
 /// The quotient, rounded up to a whole number, as floats say it: nothing is proved of it.
@@ -98,15 +99,13 @@ fn times(number: i64, weight: i128) -> i128
     i128::from(number) * weight
 }
 
-impl Extreme {
-    /// The greater or the lesser of two numbers.
-    fn of(self, a: i64, b: i64) -> i64
-        ensures { IsMoreExtreme self a b result }
-    {
-        match self {
-            Extreme::Greatest => if a < b { b } else { a },
-            Extreme::Least => if a < b { a } else { b },
-        }
+/// The greater or the lesser of two numbers.
+fn more_extreme(extreme: Extreme, a: i64, b: i64) -> i64
+    ensures { IsMoreExtreme extreme a b result }
+{
+    match extreme {
+        Extreme::Greatest => if a < b { b } else { a },
+        Extreme::Least => if a < b { a } else { b },
     }
 }
 
@@ -182,11 +181,11 @@ impl Table<'_> {
     {
         rows_at_corners();
         corners_bound_weights();
-        let corners = self.links.place(s, a).corners as u32;
+        let corners = self.links.place(s, a).corners;
         let mut number = self.solve_corner(lane, s, a, 0);
         for corner in 1..corners {
             let other = self.solve_corner(lane, s, a, corner);
-            number = self.extreme.of(number, other);
+            number = more_extreme(self.extreme, number, other);
         }
         number
     }
@@ -206,7 +205,7 @@ impl Table<'_> {
             return number;
         }
         if let Some(target) = self.only_target(s, a) {
-            return Extreme::Greatest.of(number, lane[target as usize]);
+            return more_extreme(Extreme::Greatest, number, lane[target as usize]);
         }
         let whole = table_whole(self.case, self.links, self.weights, s, a);
         let sum = self.extreme_sum(lane, s, a);

@@ -1,14 +1,6 @@
 use corner_lift::Case;
+use float_guess::Extreme;
 use lift_model::Links;
-
-/// Which corner of a row counts for its state's number.
-#[derive(Clone, Copy)]
-pub(crate) enum Extreme {
-    /// The one with the greatest weighted mean.
-    Greatest,
-    /// The one with the least.
-    Least,
-}
 
 /// How an iteration ended.
 #[derive(Clone, Copy)]

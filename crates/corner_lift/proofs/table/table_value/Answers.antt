@@ -26,11 +26,14 @@ returns g c =
 pub corner_of-requires : goal.corner_of-requires
 corner_of-requires g c = corner_ends c.premises.ensures c.args.case.now c.args.links.now g.spans c.args.weights.now c.args.s c.args.a c.w-w.ensures.case c.requires.0 c.place-place.result (row_placed c.args.case.now c.args.links.now g.spans c.args.weights.now c.args.s c.args.a c.place-place.result c.requires.0 c.place-place.ensures) 0 (pow_pos (row_parameters c.args.case.now (row_at c.args.case.now.model c.args.s c.args.a)))
 
-pub is_narrow-narrow-requires-clause-weights : goal.is_narrow-narrow-requires-clause-weights
-is_narrow-narrow-requires-clause-weights g c = rw c.corner_of.ensures (corner_least_at c.premises.ensures c.args.case.now c.args.links.now g.spans c.args.weights.now c.args.s c.args.a c.w-w.ensures.case c.requires.0 c.place-place.result (row_placed c.args.case.now c.args.links.now g.spans c.args.weights.now c.args.s c.args.a c.place-place.result c.requires.0 c.place-place.ensures) 0 (pow_pos (row_parameters c.args.case.now (row_at c.args.case.now.model c.args.s c.args.a))))
+pub total_of-whole-requires-clause-weights : goal.total_of-whole-requires-clause-weights
+total_of-whole-requires-clause-weights g c = rw c.corner_of.ensures (corner_least_at c.premises.ensures c.args.case.now c.args.links.now g.spans c.args.weights.now c.args.s c.args.a c.w-w.ensures.case c.requires.0 c.place-place.result (row_placed c.args.case.now c.args.links.now g.spans c.args.weights.now c.args.s c.args.a c.place-place.result c.requires.0 c.place-place.ensures) 0 (pow_pos (row_parameters c.args.case.now (row_at c.args.case.now.model c.args.s c.args.a))))
 
-pub is_narrow-narrow-requires-clause-room : goal.is_narrow-narrow-requires-clause-room
-is_narrow-narrow-requires-clause-room g c = rw (c.corner_of.ensures, first_total c.premises.ensures c.args.case.now c.args.links.now g.spans c.args.weights.now c.args.s c.args.a c.w-w.ensures.case c.requires.0 c.place-place.result (row_placed c.args.case.now c.args.links.now g.spans c.args.weights.now c.args.s c.args.a c.place-place.result c.requires.0 c.place-place.ensures)) (whole_below c.premises.ensures c.args.case.now c.args.links.now g.spans c.args.weights.now c.args.s c.args.a c.w-w.ensures.case c.requires.0 c.place-place.result (row_placed c.args.case.now c.args.links.now g.spans c.args.weights.now c.args.s c.args.a c.place-place.result c.requires.0 c.place-place.ensures))
+pub total_of-whole-requires-clause-room : goal.total_of-whole-requires-clause-room
+total_of-whole-requires-clause-room g c = rw (c.corner_of.ensures, first_total c.premises.ensures c.args.case.now c.args.links.now g.spans c.args.weights.now c.args.s c.args.a c.w-w.ensures.case c.requires.0 c.place-place.result (row_placed c.args.case.now c.args.links.now g.spans c.args.weights.now c.args.s c.args.a c.place-place.result c.requires.0 c.place-place.ensures)) (whole_below c.premises.ensures c.args.case.now c.args.links.now g.spans c.args.weights.now c.args.s c.args.a c.w-w.ensures.case c.requires.0 c.place-place.result (row_placed c.args.case.now c.args.links.now g.spans c.args.weights.now c.args.s c.args.a c.place-place.result c.requires.0 c.place-place.ensures))
 
 pub sum_of-requires-clause-lane : goal.sum_of-requires-clause-lane
-sum_of-requires-clause-lane g c small = rw (c.targets.ensures, (row_placed c.args.case.now c.args.links.now g.spans c.args.weights.now c.args.s c.args.a c.place-place.result c.requires.0 c.place-place.ensures).entries, c.corner_of-2.ensures) (lane_at c.premises.ensures c.args.case.now c.args.links.now g.spans c.args.weights.now c.args.s c.args.a c.w-w.ensures.case c.requires.0 c.place-place.result (row_placed c.args.case.now c.args.links.now g.spans c.args.weights.now c.args.s c.args.a c.place-place.result c.requires.0 c.place-place.ensures) c.args.vec.now c.requires.1 (rw (c.corner_of.ensures, c.w-w.ensures.value) at (c.is_narrow-narrow.ensures small)) c.args.corner c.requires.2)
+sum_of-requires-clause-lane g c small =
+    let fits : SFits w128 c.total_of-whole.result = search rules in
+    let whole = to_z-of_z fits ∙ (rw c.corner_of.ensures at c.total_of-whole.ensures) ∙ first_total c.premises.ensures c.args.case.now c.args.links.now g.spans c.args.weights.now c.args.s c.args.a c.w-w.ensures.case c.requires.0 c.place-place.result (row_placed c.args.case.now c.args.links.now g.spans c.args.weights.now c.args.s c.args.a c.place-place.result c.requires.0 c.place-place.ensures) in
+    rw (c.targets.ensures, (row_placed c.args.case.now c.args.links.now g.spans c.args.weights.now c.args.s c.args.a c.place-place.result c.requires.0 c.place-place.ensures).entries, c.corner_of-2.ensures) (lane_at c.premises.ensures c.args.case.now c.args.links.now g.spans c.args.weights.now c.args.s c.args.a c.w-w.ensures.case c.requires.0 c.place-place.result (row_placed c.args.case.now c.args.links.now g.spans c.args.weights.now c.args.s c.args.a c.place-place.result c.requires.0 c.place-place.ensures) c.args.vec.now c.requires.1 (rw (whole, c.w-w.ensures.value) at (c.is_narrow.ensures small)) c.args.corner c.requires.2)

@@ -7,9 +7,9 @@ use Rattle.drn_expr.proofs.rat_poly.has_large.Goals as goal
 pub returns-then-unsigned_abs-ge-LIMIT : goal.returns-then-unsigned_abs-ge-LIMIT
 returns-then-unsigned_abs-ge-LIMIT c =
     let fits : FitsSigned w128 c.term.result.1 = search rules in
-    large_at c.args.poly.now c.loop-i.i c.term.result c.term.ensures (omega (arith, c.if-unsigned_abs-ge-LIMIT.true, c.unsigned_abs.ensures.value, ap unsigned_abs (to_z-of_z w128 c.term.result.1 fits)))
+    large_at (λ t. t) c.args.poly.now c.loop-i.i c.term.result c.term.ensures (omega (arith, c.if-unsigned_abs-ge-LIMIT.true, c.unsigned_abs.ensures.value, ap unsigned_abs (to_z-of_z w128 c.term.result.1 fits)))
 
 pub loop-i-preserved : goal.loop-i-preserved
 loop-i-preserved c =
     let fits : FitsSigned w128 c.term.result.1 = search rules in
-    small_more c.args.poly.now c.loop-i.i c.term.result c.term.ensures (omega (arith, c.if-unsigned_abs-ge-LIMIT.false, c.unsigned_abs.ensures.value, ap unsigned_abs (to_z-of_z w128 c.term.result.1 fits))) c.loop-i.invariant
+    small_more (λ t. t) c.args.poly.now c.loop-i.i c.term.result c.term.ensures (omega (arith, c.if-unsigned_abs-ge-LIMIT.false, c.unsigned_abs.ensures.value, ap unsigned_abs (to_z-of_z w128 c.term.result.1 fits))) c.loop-i.invariant

@@ -1,7 +1,7 @@
 use Rattle.std.proofs.Common.{◌≡◌, ◌≤◌, ◌<◌, ℕ, length, take, arith, rules, ap, subst, sym, ◌∙◌}
 use Rattle.std.proofs.lemmas.List.{get_or_default}
 use Rattle.lift_model.specs.Before.{at, count_of, AreSums}
-use Rattle.lift_model.proofs.Listing.{sources_placed, sources_room, written_back}
+use Rattle.lift_model.proofs.Listing.{counted_all, sources_placed, sources_room, written_back}
 use Rattle.lift_model.proofs.before.find_sources.Goals as goal
 use Rattle.lift_model.proofs.before.find_sources.Goals.{After-deref_mut-3}
 
@@ -28,6 +28,15 @@ ends_are c = rw (c.deref_mut-2.ensures.value, c.deref-3.ensures.value) (search r
 
 ends_size : (c : After-deref_mut-3) → length c.deref_mut-2.result.now ≡ c.args.count
 ends_size c = search rules
+
+pub sum_counts-requires : goal.sum_counts-requires
+sum_counts-requires c =
+    let ok = c.in_ok-counts.counts.ok.0 in
+    let kept = c.count_targets.auto.counts in
+    let len = c.deref_mut.ensures.len in
+    let are : c.deref.result.now ≡ c.count_targets.new.counts = c.deref.ensures.value ∙ written_back c.in_ok-counts.counts.len c.count_targets.new.counts c.in_ok-counts.counts.items (omega (arith, ok, kept, len)) (omega (arith, ok, kept, len)) in
+    let all = counted_all c.count_targets.new.counts c.args.targets.now (λ u lt. c.count_targets.ensures u (omega (arith, lt, kept))) in
+    rw are (omega (arith, all, c.requires.small))
 
 pub enter_states-requires-clause-placed : goal.enter_states-requires-clause-placed
 enter_states-requires-clause-placed c =

@@ -1,10 +1,7 @@
-use Rattle.std.proofs.Common.{rules, pos, ◌≤ℤ◌, SFits, w64, to_z-of_z, arith}
+use Rattle.std.proofs.Common.{rules, pos, ◌≤ℤ◌, SFits, w64, to_z-of_z}
 use Rattle.lower_cert.specs.Lowering.{HoldsNoMore}
-use Rattle.lower_cert.proofs.Exits.{corners_is, few_corners, one_of_two}
+use Rattle.lower_cert.proofs.Exits.{one_of_two}
 use Rattle.lower_cert.proofs.sweep.held_at_corners.Goals as goal
-
-pub overflow_cast-corners : goal.overflow_cast-corners
-overflow_cast-corners g c = record { fits = omega (arith, corners_is c.rows_at_corners.ensures.bits c.args.case.now c.args.links.now c.args.s c.args.a c.place-corners.result c.w.ensures.case c.requires.0.read.links c.requires.1 c.place-corners.ensures, few_corners c.args.case.now c.args.s c.args.a c.w.ensures.case c.requires.1) }
 
 pub loop-corner-preserved : goal.loop-corner-preserved
 loop-corner-preserved g c =

@@ -10,7 +10,7 @@ climb-requires g c = record {
   places = c.requires.places;
 }
 
-pub returns-in-Settled : goal.returns-in-Settled
-returns-in-Settled g c =
+pub returns-in-Settled-clause-least : goal.returns-in-Settled-clause-least
+returns-in-Settled-clause-least g c =
     λ sure. guessed_least (laws_of c.rows_at_corners.ensures.parameters c.rows_at_corners.ensures.numbers c.rows_at_corners.ensures.range c.rows_at_corners.ensures.rise c.corners_bound_weights.ensures.sum) c.args.self.now g.spans c.requires.read c.args.lane.now c.climb.new.lane (c.climb.ensures.least c.in-Settled.is)
     (λ s lt. sure_of c.args.self.now.case c.args.lane.now c.climb.new.lane c.note.new.noted s (c.note.ensures s (omega (arith, lt, c.requires.guess.numbers.size))) (c.is_sure.ensures sure s lt))

@@ -1,0 +1,18 @@
+use Rattle.std.proofs.Common.{FitsSigned, unsigned_abs, ap, ◌∙◌, arith, rules}
+use Rattle.std.specs.Int.{w128}
+use Rattle.std.proofs.lemmas.Int.{to_z-of_z}
+use Rattle.lift_poly.specs.Arithmetic.{coefficient}
+use Rattle.drn_expr.proofs.Calls.{large_at, small_more}
+use Rattle.drn_expr.proofs.rat_poly.has_large_at.Goals as goal
+
+pub returns-then-unsigned_abs-ge-LIMIT : goal.returns-then-unsigned_abs-ge-LIMIT
+returns-then-unsigned_abs-ge-LIMIT c =
+    let fits : FitsSigned w128 c.coefficient.result = search rules in
+    large_at (λ t. (t.0, coefficient t.0 c.args.poly.now)) c.args.terms.now c.loop-i.i c.term.result c.term.ensures
+    (omega (arith, c.if-unsigned_abs-ge-LIMIT.true, c.unsigned_abs.ensures.value, ap unsigned_abs (to_z-of_z w128 c.coefficient.result fits ∙ c.coefficient.ensures)))
+
+pub loop-i-preserved : goal.loop-i-preserved
+loop-i-preserved c =
+    let fits : FitsSigned w128 c.coefficient.result = search rules in
+    small_more (λ t. (t.0, coefficient t.0 c.args.poly.now)) c.args.terms.now c.loop-i.i c.term.result c.term.ensures
+    (omega (arith, c.if-unsigned_abs-ge-LIMIT.false, c.unsigned_abs.ensures.value, ap unsigned_abs (to_z-of_z w128 c.coefficient.result fits ∙ c.coefficient.ensures))) c.loop-i.invariant

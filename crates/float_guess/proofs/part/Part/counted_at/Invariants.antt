@@ -1,0 +1,6 @@
+use Rattle.float_guess.specs.Part.{IsSameBeyond}
+use Rattle.float_guess.proofs.part.Part.counted_at.Given as goal
+
+-- all else is as it was
+abbrev pub invariant-loop-a : goal.invariant-loop-a
+invariant-loop-a l = IsSameBeyond l.self.case.now l.self.links.now l.self.low l.self.high l.initial.lane l.lane

@@ -1,0 +1,284 @@
+//! A guess by elimination. The states of a part are taken in the order of their positions, and each is put
+//! into the rows of those after it. That does where each row comes to at most one later state then, as in
+//! walks, rings, retries, and trees with ways back.
+
+ghost use Rattle.std.specs.Prelude.{◌≡◌, ◌<◌, length};
+ghost use Rattle.lift_model.specs.Links.{AreLinks, HasChoice};
+ghost use Rattle.float_guess.specs.Part.{IsSameBeyond};
+
+use crate::floats::float_of;
+use crate::part::{Extreme, Part, first_weight};
+use crate::step::{NOWHERE, Outlook, Step};
+use std::num::{
+    f64_from_bits_with_nan, f64_to_bits_with_nan, nearest_i64_to_f64, saturating_f64_to_u32,
+};
+
+/// What stands for 1 where a step's mean is kept.
+const MEAN_ONE: f64 = 2147483648.0;
+
+/// How often the choices and corners that count are found anew.
+const ROUNDS: u32 = 24;
+
+/// What counts of a state's rows: the outlook, and a number that tells choices and corners apart.
+#[derive(Clone, Copy)]
+struct Counted {
+    outlook: Outlook,
+    mark: u64,
+}
+
+/// How an elimination ended.
+#[derive(Clone, Copy)]
+enum Eliminated {
+    /// All states were put in. The number tells apart which choices and corners counted.
+    All(u64),
+    /// The row of the state at this position comes to more than one later state.
+    Before(u32),
+}
+
+impl Part<'_> {
+    /// The step of the state at a position. Its leak lies in the lane.
+    fn step_at(&self, lane: &[i64], means: &[u32], targets: &[u32], position: u32) -> Step {
+        let bits = u64::try_from(self.number_at(lane, position)).unwrap_or(0);
+        let mean = i64::from(means.get(position as usize).copied().unwrap_or(0));
+        Step {
+            leak: f64_from_bits_with_nan(bits),
+            mean: nearest_i64_to_f64(mean) / MEAN_ONE,
+            to: targets.get(position as usize).copied().unwrap_or(NOWHERE),
+        }
+    }
+
+    /// Writes the step of the state at a position.
+    fn write_step(
+        &self,
+        lane: &mut [i64],
+        means: &mut [u32],
+        targets: &mut [u32],
+        position: u32,
+        step: Step,
+    )
+        requires links { AreLinks self.now.case.now.model self.now.links.now }
+        requires size { length lane.old ≡ length self.now.case.now.model.states }
+        ensures { IsSameBeyond self.now.case.now self.now.links.now self.now.low self.now.high lane.old lane.new }
+    {
+        if let Some(mean) = means.get_mut(position as usize) {
+            *mean = saturating_f64_to_u32(step.mean * MEAN_ONE + 0.5);
+        }
+        if let Some(to) = targets.get_mut(position as usize) {
+            *to = step.to;
+        }
+        let bits = i64::try_from(f64_to_bits_with_nan(step.leak)).unwrap_or(0);
+        self.write(lane, position, bits);
+    }
+
+    /// The step of a state that was put in, to a state that wasn't, which is one from a position on. The
+    /// steps on the way to it are made longer.
+    fn follow(
+        &self,
+        lane: &mut [i64],
+        means: &mut [u32],
+        targets: &mut [u32],
+        from: u32,
+        position: u32,
+    ) -> Step
+        requires links { AreLinks self.now.case.now.model self.now.links.now }
+        requires size { length lane.old ≡ length self.now.case.now.model.states }
+        ensures { IsSameBeyond self.now.case.now self.now.links.now self.now.low self.now.high lane.old lane.new }
+    {
+        let mut step = self.step_at(lane, means, targets, from);
+        for _ in self.low..self.high {
+            if step.to >= position {
+                break;
+            }
+            let mut next = self.step_at(lane, means, targets, step.to);
+            if next.to < position {
+                next = next.then(self.step_at(lane, means, targets, next.to));
+                self.write_step(lane, means, targets, step.to, next);
+            }
+            step = step.then(next);
+        }
+        self.write_step(lane, means, targets, from, step);
+        step
+    }
+
+    /// An outlook with an entry of the row of the state at a position.
+    fn look_at(
+        &self,
+        lane: &mut [i64],
+        means: &mut [u32],
+        targets: &mut [u32],
+        position: u32,
+        outlook: Outlook,
+        target: u32,
+        weight: f64,
+    ) -> Outlook
+        requires links { AreLinks self.now.case.now.model self.now.links.now }
+        requires size { length lane.old ≡ length self.now.case.now.model.states }
+        ensures { IsSameBeyond self.now.case.now self.now.links.now self.now.low self.now.high lane.old lane.new }
+    {
+        let Some(at) = self.position_of(target) else {
+            return outlook.leave(weight, self.worth_beyond(lane, target));
+        };
+        if at == position {
+            return outlook;
+        }
+        if at > position {
+            return outlook.come(weight, self.worth_at(lane, at), at);
+        }
+        let step = self.follow(lane, means, targets, at, position);
+        let outlook = outlook.leave(weight * step.leak, step.mean);
+        if step.to == position {
+            return outlook;
+        }
+        let worth = self.worth_at(lane, step.to);
+        outlook.come(weight * (1.0 - step.leak), worth, step.to)
+    }
+
+    /// The outlook of a row of the state at a position, at a corner.
+    fn outlook(
+        &self,
+        lane: &mut [i64],
+        means: &mut [u32],
+        targets: &mut [u32],
+        position: u32,
+        s: u32,
+        a: u32,
+        corner: u32,
+    ) -> Outlook
+        requires links { AreLinks self.now.case.now.model self.now.links.now }
+        requires size { length lane.old ≡ length self.now.case.now.model.states }
+        requires row { HasChoice self.now.case.now.model s a }
+        ensures { IsSameBeyond self.now.case.now self.now.links.now self.now.low self.now.high lane.old lane.new }
+    {
+        let place = self.links.place(s, a);
+        let mut at = first_weight(place, corner);
+        let mut outlook = Outlook::NONE;
+        for target in self.links.targets(place) {
+            let weight = float_of(self.weights.get(at).copied().unwrap_or(0));
+            if weight > 0.0 {
+                outlook = self.look_at(lane, means, targets, position, outlook, *target, weight);
+            }
+            at = at.wrapping_add(1);
+        }
+        outlook
+    }
+
+    /// What counts of a row: the corner that is worth most, or least.
+    fn counted_of_row(
+        &self,
+        lane: &mut [i64],
+        means: &mut [u32],
+        targets: &mut [u32],
+        position: u32,
+        s: u32,
+        a: u32,
+    ) -> Counted
+        requires links { AreLinks self.now.case.now.model self.now.links.now }
+        requires size { length lane.old ≡ length self.now.case.now.model.states }
+        requires row { HasChoice self.now.case.now.model s a }
+        ensures { IsSameBeyond self.now.case.now self.now.links.now self.now.low self.now.high lane.old lane.new }
+    {
+        let mut counted = Counted {
+            outlook: self.outlook(lane, means, targets, position, s, a, 0),
+            mark: u64::from(a) << 4,
+        };
+        for corner in 1..self.links.place(s, a).corners {
+            let outlook = self.outlook(lane, means, targets, position, s, a, corner);
+            let counts = match self.extreme {
+                Extreme::Greatest => outlook.worth() > counted.outlook.worth(),
+                Extreme::Least => outlook.worth() < counted.outlook.worth(),
+            };
+            if counts {
+                let mark = (u64::from(a) << 4).wrapping_add(u64::from(corner));
+                counted = Counted { outlook, mark };
+            }
+        }
+        counted
+    }
+
+    /// What counts of the state at a position: the choice that is worth most.
+    fn counted_at(
+        &self,
+        lane: &mut [i64],
+        means: &mut [u32],
+        targets: &mut [u32],
+        position: u32,
+    ) -> Counted
+        requires links { AreLinks self.now.case.now.model self.now.links.now }
+        requires size { length lane.old ≡ length self.now.case.now.model.states }
+        ensures { IsSameBeyond self.now.case.now self.now.links.now self.now.low self.now.high lane.old lane.new }
+    {
+        let mut counted = Counted {
+            outlook: Outlook::NONE,
+            mark: 0,
+        };
+        let Some(s) = self.state_at(position) else {
+            return counted;
+        };
+        for a in 0..self.case.model().choices(s) {
+            let other = self.counted_of_row(lane, means, targets, position, s, a);
+            if a == 0 || other.outlook.worth() > counted.outlook.worth() {
+                counted = other;
+            }
+        }
+        counted
+    }
+
+    /// Puts the states in, from the first position on, as long as that does.
+    fn put_in(&self, lane: &mut [i64], means: &mut [u32], targets: &mut [u32]) -> Eliminated
+        requires links { AreLinks self.now.case.now.model self.now.links.now }
+        requires size { length lane.old ≡ length self.now.case.now.model.states }
+        ensures { IsSameBeyond self.now.case.now self.now.links.now self.now.low self.now.high lane.old lane.new }
+    {
+        let mut marks: u64 = 1;
+        for position in self.low..self.high {
+            let counted = self.counted_at(lane, means, targets, position);
+            let Some(step) = counted.outlook.step() else {
+                return Eliminated::Before(position);
+            };
+            self.write_step(lane, means, targets, position, step);
+            marks = marks
+                .wrapping_mul(6364136223846793005)
+                .wrapping_add(counted.mark);
+        }
+        Eliminated::All(marks)
+    }
+
+    /// Writes what the states before a position are worth, by their steps.
+    fn take_out(&self, lane: &mut [i64], means: &[u32], targets: &[u32], end: u32)
+        requires links { AreLinks self.now.case.now.model self.now.links.now }
+        requires size { length lane.old ≡ length self.now.case.now.model.states }
+        ensures { IsSameBeyond self.now.case.now self.now.links.now self.now.low self.now.high lane.old lane.new }
+    {
+        for position in (self.low..end).rev() {
+            let step = self.step_at(lane, means, targets, position);
+            let worth = step.worth(self.worth_at(lane, step.to));
+            self.write_worth(lane, position, worth);
+        }
+    }
+
+    /// Finds what the states are worth by elimination, with the choices and corners that count anew in each
+    /// round, until the same count again. False: that didn't do.
+    pub(crate) fn eliminate(&self, lane: &mut [i64], means: &mut [u32], targets: &mut [u32]) -> bool
+        requires links { AreLinks self.now.case.now.model self.now.links.now }
+        requires size { length lane.old ≡ length self.now.case.now.model.states }
+        ensures { IsSameBeyond self.now.case.now self.now.links.now self.now.low self.now.high lane.old lane.new }
+    {
+        let mut last = 0;
+        for _ in 0..ROUNDS {
+            match self.put_in(lane, means, targets) {
+                Eliminated::All(marks) => {
+                    self.take_out(lane, means, targets, self.high);
+                    if marks == last {
+                        return true;
+                    }
+                    last = marks;
+                }
+                Eliminated::Before(end) => {
+                    self.take_out(lane, means, targets, end);
+                    return false;
+                }
+            }
+        }
+        true
+    }
+}

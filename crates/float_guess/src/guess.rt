@@ -1,0 +1,139 @@
+//! A guess of what the states of a part are worth.
+
+ghost use Rattle.std.specs.Prelude.{◌≡◌, ◌≤ℤ◌, ◌^◌, pos, length};
+ghost use Rattle.lift_model.specs.Links.{AreLinks};
+ghost use Rattle.float_guess.specs.Part.{CanGuess, KeepsOthers, IsSameBeyond, AreRounded};
+
+use crate::floats::ONE;
+use crate::part::{Extreme, Part};
+use corner_lift::{Case, one_at, rows_at_corners};
+use lift_model::Links;
+
+/// By a unit over this a guess differs from what the floats say, so that errors of rounding don't matter.
+const MARGINS_IN_A_UNIT: i64 = 64;
+
+/// It differs by this at least, since an elimination keeps some numbers to 31 bits.
+const LEAST_MARGIN: i64 = 1 << 31;
+
+/// On which side of what the floats say a guess lies.
+#[derive(Clone, Copy)]
+pub enum Rounding {
+    /// At or below it.
+    Down,
+    /// Above it.
+    Up,
+}
+
+/// How a guess is made.
+#[derive(Clone, Copy)]
+pub enum Way {
+    /// By elimination.
+    Elimination,
+    /// By so many sweeps at most.
+    Sweeps(u32),
+}
+
+impl Rounding {
+    /// So many units, of what stands for a probability.
+    fn of(self, number: i64, unit: i64) -> i64 {
+        let margin = (unit / MARGINS_IN_A_UNIT).max(LEAST_MARGIN);
+        let (number, more) = match self {
+            Rounding::Down => (number.saturating_sub(margin).max(0), 0),
+            Rounding::Up => (number.saturating_add(margin), 1),
+        };
+        number.checked_div(unit).unwrap_or(0).saturating_add(more)
+    }
+}
+
+impl Part<'_> {
+    /// Lets the lane hold what stands for probabilities.
+    fn scale(&self, lane: &mut [i64], unit: i64)
+        requires links { AreLinks self.now.case.now.model self.now.links.now }
+        requires size { length lane.old ≡ length self.now.case.now.model.states }
+        ensures { IsSameBeyond self.now.case.now self.now.links.now self.now.low self.now.high lane.old lane.new }
+    {
+        for position in self.low..self.high {
+            let number = self.number_at(lane, position);
+            self.write(lane, position, number.saturating_mul(unit));
+        }
+    }
+
+    /// Finds what the states are worth. False: it didn't.
+    fn find(&self, lane: &mut [i64], means: &mut [u32], targets: &mut [u32], way: Way) -> bool
+        requires links { AreLinks self.now.case.now.model self.now.links.now }
+        requires size { length lane.old ≡ length self.now.case.now.model.states }
+        ensures { IsSameBeyond self.now.case.now self.now.links.now self.now.low self.now.high lane.old lane.new }
+    {
+        match way {
+            Way::Elimination => self.eliminate(lane, means, targets),
+            Way::Sweeps(most) => self.approach(lane, means, most),
+        }
+    }
+
+    /// A number of units within the range, for what stands for a probability.
+    fn rounded(&self, rounding: Rounding, number: i64, unit: i64) -> i64
+        requires { pos 0 ≤ℤ self.now.top }
+        ensures { (pos 0 ≤ℤ result) × (result ≤ℤ self.now.top) }
+    {
+        let number = rounding.of(number, unit);
+        if number < 0 {
+            0
+        } else if number < self.top {
+            number
+        } else {
+            self.top
+        }
+    }
+
+    /// Lets the lane hold numbers again, of which `top` stands for 1.
+    fn round(&self, lane: &mut [i64], rounding: Rounding, unit: i64)
+        requires links { AreLinks self.now.case.now.model self.now.links.now }
+        requires size { length lane.old ≡ length self.now.case.now.model.states }
+        requires top { self.now.top ≡ pos (2 ^ self.now.case.now.w) }
+        ensures same { IsSameBeyond self.now.case.now self.now.links.now self.now.low self.now.high lane.old lane.new }
+        ensures rounded { AreRounded self.now.case.now self.now.links.now self.now.low self.now.high lane.new }
+    {
+        for position in self.low..self.high {
+            let number = self.number_at(lane, position);
+            self.write(lane, position, self.rounded(rounding, number, unit));
+        }
+    }
+}
+
+/// Guesses what the states of a part are worth, which stand at the positions from `low` on and before `high`
+/// and are no goal states, given the numbers of the others: at or below that, or above it, by less than two
+/// units, if it does well. What `means` and `targets` hold is free. False: the guess isn't worth much, since
+/// the way didn't do.
+pub fn guess_part(
+    case: &Case,
+    links: &Links,
+    weights: &[i128],
+    extreme: Extreme,
+    rounding: Rounding,
+    lane: &mut [i64],
+    means: &mut [u32],
+    targets: &mut [u32],
+    low: u32,
+    high: u32,
+    way: Way,
+) -> bool
+    requires { CanGuess case.now links.now lane.old }
+    ensures { KeepsOthers case.now links.now low high lane.old lane.new }
+{
+    rows_at_corners();
+    let top = one_at(case.w());
+    let part = Part {
+        case: &*case,
+        links: &*links,
+        weights: &*weights,
+        extreme,
+        top,
+        low,
+        high,
+    };
+    let unit = ONE.checked_div(top).unwrap_or(1);
+    part.scale(lane, unit);
+    let done = part.find(lane, means, targets, way);
+    part.round(lane, rounding, unit);
+    done
+}
