@@ -41,14 +41,19 @@ pub greatest_none : (ps : List PartData) (n : ℕ) → greatest_from ps n (n - n
 unfolding greatest_from
 greatest_none ps n = rw (none_left n) refl
 
--- the same from the greatest depth down
-pub least_here : (ps : List PartData) (n : ℕ) (p : PartData) → find (is_decided_at n) ps ≡ Some p → least_below ps (suc n) ≡ Some p
-unfolding least_below
-least_here ps n p e = rw e refl
+-- the same from the greatest depth down: i depths below the last of n
+one_less : (i n : ℕ) → i < n → n - i ≡ suc (n - 1 - i)
+one_less i n h = omega (arith, h)
 
-pub least_next : (ps : List PartData) (n : ℕ) → find (is_decided_at n) ps ≡ None → least_below ps (suc n) ≡ least_below ps n
+pub least_here : (ps : List PartData) (i n : ℕ) (p : PartData) → i < n → find (is_decided_at (n - 1 - i)) ps ≡ Some p → least_below ps (n - i) ≡ Some p
 unfolding least_below
-least_next ps n e = rw e refl
+least_here ps i n p h e = rw (one_less i n h, e) refl
+
+pub least_next : (ps : List PartData) (i n : ℕ) → i < n → find (is_decided_at (n - 1 - i)) ps ≡ None → least_below ps (n - i) ≡ least_below ps (n - (i + 1))
+unfolding least_below
+least_next ps i n h e =
+    let rest : n - (i + 1) ≡ n - 1 - i = omega (arith, h) in
+    rw (one_less i n h, e, rest) refl
 
 pub least_none : (ps : List PartData) → least_below ps zero ≡ None
 unfolding least_below

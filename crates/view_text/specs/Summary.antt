@@ -59,9 +59,13 @@ kind_name Accept = codes "accept"
 kind_name Reject = codes "reject"
 kind_name Unknown = codes "unknown"
 
+-- a leaf's kind and depth, behind a label
+abbrev pub kind_text : List ℕ → PartData → List ℕ
+kind_text label p = label ++ kind_name p.kind ++ codes " depth " ++ decimal p.depth
+
 -- a leaf, behind a label: its kind, its depth and its rectangle
 abbrev pub leaf_text : HeadData → List ℕ → PartData → List ℕ
-leaf_text h label p = (label ++ kind_name p.kind ++ codes " depth " ++ decimal p.depth) ++ (intervals_from h p 0 (length h.asked.model.names) ++ codes "\n")
+leaf_text h label p = kind_text label p ++ (intervals_from h p 0 (length h.asked.model.names) ++ codes "\n")
 
 -- the same, where there is one
 abbrev pub leaf_line : HeadData → List ℕ → Option PartData → List ℕ

@@ -3,7 +3,7 @@ ghost use Rattle.std.specs.Prelude.{◌≡◌, ◌++◌, ◌≤◌, find, length
 ghost use Rattle.std.specs.Option.{option_map};
 ghost use Rattle.lift_base.specs.Outside.{Wrote};
 ghost use Rattle.view_text.specs.Summary.{depth_line, depths, extremes, greatest_from};
-ghost use Rattle.view_text.specs.Summary.{intervals_from, interval_text, is_decided_at, kind_name};
+ghost use Rattle.view_text.specs.Summary.{intervals_from, interval_text, is_decided_at, kind_name, kind_text};
 ghost use Rattle.view_text.specs.Summary.{leaf_line, leaf_text, least_below, leaves_line};
 ghost use Rattle.view_text.specs.Summary.{share_line, shares_lines, summary_text};
 
@@ -101,8 +101,8 @@ fn greatest(map: &ReportMap) -> Option<&Part>
 fn least(map: &ReportMap) -> Option<&Part>
     ensures { option_map (λ p. p.now) result ≡ least_below map.now.parts 21 }
 {
-    for depth in (0..DEPTHS).rev() {
-        if let Some(part) = decided_at(map, depth) {
+    for above in 0..DEPTHS {
+        if let Some(part) = decided_at(map, DEPTHS - 1 - above) {
             return Some(part);
         }
     }
@@ -151,6 +151,21 @@ fn kind_name(kind: LeafKind) -> &'static [u8]
     }
 }
 
+// Writes a leaf's kind and depth behind a label.
+fn write_kind<K: Sink>(out: &mut K, label: &[u8], part: &Part) -> Result<(), WriteFault>
+    ensures { Wrote K.taken K.faults out.old out.new result (kind_text label.now part.now) }
+{
+    write_words(
+        out,
+        &[
+            Word::Text(label),
+            Word::Text(kind_name(part.kind())),
+            Word::Text(b" depth "),
+            Word::Count(u64::from(part.depth())),
+        ],
+    )
+}
+
 // Writes a leaf behind a label.
 fn write_leaf<K: Sink>(
     out: &mut K,
@@ -161,15 +176,7 @@ fn write_leaf<K: Sink>(
     ensures { Wrote K.taken K.faults out.old out.new result (leaf_text head.now label.now part.now) }
 {
     writes_in_turn::<K>();
-    write_words(
-        out,
-        &[
-            Word::Text(label),
-            Word::Text(kind_name(part.kind())),
-            Word::Text(b" depth "),
-            Word::Count(u64::from(part.depth())),
-        ],
-    )?;
+    write_kind(out, label, part)?;
     write_intervals(out, head, part)?;
     write_all(out, b"\n")
 }
@@ -224,7 +231,9 @@ fn write_depths<K: Sink>(out: &mut K, map: &ReportMap) -> Result<(), WriteFault>
     ensures { Wrote K.taken K.faults out.old out.new result (depths map.now) }
 {
     writes_in_turn::<K>();
-    for depth in 0..map.head().grid().depth + 1 {
+    let head = map.head();
+    let _ = head.w();
+    for depth in 0..head.grid().depth + 1 {
         write_depth(out, map, depth)?;
     }
     Ok(())

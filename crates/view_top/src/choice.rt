@@ -1,5 +1,6 @@
 // The slice that a picture shows, by what is asked for.
-ghost use Rattle.std.specs.Prelude.{◌≡◌, ◌++◌, ◌∷◌, ◌<ℤ◌, [], map, pos, IfOk};
+ghost use Rattle.std.specs.Prelude.{◌≡◌, ◌++◌, ◌∷◌, ◌<ℤ◌, ◌==◌, [], map, pos, IfOk};
+ghost use Rattle.std.specs.List.{list_any};
 ghost use Rattle.std.specs.Option.{option_map};
 ghost use Rattle.lift_frac.specs.Frac.{ratio_of};
 ghost use Rattle.view_map.specs.Choice.{axes_of};
@@ -88,13 +89,17 @@ fn cut_of(names: &Names, text: &str) -> Result<Cut, Cause>
     }
 }
 
+fn has_value(given: &[Cut], parameter: u32) -> bool
+    ensures { result ≡ list_any (λ c. c.parameter == parameter) given.now }
+{
+    given.iter().any(|cut| cut.parameter() == parameter)
+}
+
 // Whether a parameter lies on an axis, or has a value already.
 fn is_taken(axes: Axes, given: &[Cut], parameter: u32) -> bool
     ensures { result ≡ is_taken axes given.now parameter }
 {
-    lies_on(axes.0, parameter)
-        || lies_on(axes.1, parameter)
-        || given.iter().any(|cut| cut.parameter() == parameter)
+    lies_on(axes.0, parameter) || lies_on(axes.1, parameter) || has_value(given, parameter)
 }
 
 // A value of a parameter that isn't taken, inside the region.
