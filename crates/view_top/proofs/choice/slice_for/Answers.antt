@@ -1,6 +1,7 @@
-use Rattle.std.proofs.Common.{ℕ, List, map, ap}
+use Rattle.std.proofs.Common.{ℕ, List, map, ap, Vec}
+use Rattle.std.specs.declared.alloc.Global.{Global}
 use Rattle.std.specs.Borrow.{Bor}
-use Rattle.view_map.specs.Slice.{SliceData}
+use Rattle.view_map.specs.Slice.{CutData, SliceData}
 use Rattle.view_words.specs.Given.{wish_data}
 use Rattle.view_top.specs.Choice.{slice_for}
 use Rattle.view_top.proofs.Choosing.{no_memory, no_axes, no_values, has_slice}
@@ -14,7 +15,7 @@ returns-in_err-chosen c = no_memory {X = SliceData} {Y = SliceData} (λ s. s) (s
 
 pub returns-in_err-given : goal.returns-in_err-given
 returns-in_err-given c =
-    no_values c.args.head.now (wish_data c.args.wish.now) c.in_ok-axes.axes c.in_ok-chosen.chosen (rw (c.names.ensures.value, c.model.ensures) at c.in_ok-axes.ensures) c.in_ok-chosen.ensures _ _ _ c.from_residual-in_err-given.result c.from_residual-in_err-given.ensures.1
+    no_values c.args.head.now (wish_data c.args.wish.now) c.in_ok-axes.axes c.in_ok-chosen.chosen (rw (c.names.ensures.value, c.model.ensures) at c.in_ok-axes.ensures) c.in_ok-chosen.ensures (λ (cuts : Vec CutData Global). cuts.items) _ _ c.from_residual-in_err-given.result c.from_residual-in_err-given.ensures.1
     (ap (map (λ (t : Bor (List ℕ)). t.now)) c.deref.ensures.value) c.in_err-given.ensures
 
 pub returns-in_err-slice_of : goal.returns-in_err-slice_of
