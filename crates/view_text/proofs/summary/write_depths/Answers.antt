@@ -11,7 +11,7 @@ loop-depth-preserved g c = c.writes_in_turn.ensures.next _ _ _ _ _ _ _ c.loop-de
 
 pub returns : goal.returns
 returns g c =
-    let n = c.args.map.now.head.asked.depth + 1 in
+    let n = c.grid-depth-end.result.depth + 1 in
     let end : c.loop-depth.depth ≡ n = omega arith in
     let none = ap (λ (i : ℕ). depths_from c.args.map.now i (n - i)) end ∙ depths_end c.args.map.now n in
     c.writes_in_turn.ensures.ends _ _ _ (rw none at c.loop-depth.invariant)

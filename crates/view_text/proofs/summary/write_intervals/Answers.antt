@@ -11,7 +11,7 @@ loop-parameter-preserved g c = c.writes_in_turn.ensures.next _ _ _ _ _ _ _ c.loo
 
 pub returns : goal.returns
 returns g c =
-    let n = length c.args.head.now.asked.model.names in
+    let n = c.len-parameter-end.result in
     let end : c.loop-parameter.parameter ≡ n = omega arith in
     let none = ap (λ (i : ℕ). intervals_from c.args.head.now c.args.part.now i (n - i)) end ∙ intervals_end c.args.head.now c.args.part.now n in
     c.writes_in_turn.ensures.ends _ _ _ (rw none at c.loop-parameter.invariant)
