@@ -1,5 +1,5 @@
 -- Lines and leaves, depth by depth and parameter by parameter.
-use Rattle.std.proofs.Common.{◌≡◌, ℕ, zero, suc, ◌+◌, ◌-◌, ◌<◌, List, [], ◌++◌, Option, Some, None, find, refl, arith}
+use Rattle.std.proofs.Common.{◌≡◌, ℕ, zero, suc, ◌+◌, ◌-◌, ◌<◌, List, [], ◌++◌, Some, None, find, refl, arith}
 use Rattle.cert_text.specs.Head.{HeadData}
 use Rattle.view_map.specs.Parts.{PartData, MapData}
 use Rattle.view_text.specs.Summary.{depth_line, depths_from, interval_text, intervals_from, greatest_from, least_below, is_decided_at}

@@ -1,5 +1,5 @@
 -- The table of a report's leaves.
-use Rattle.std.specs.Prelude.{ℕ, zero, suc, ◌+◌, ◌==◌, ◌&&◌, Bool, not, pos, ℤ, List, [], ◌++◌, codes, find, length, unsigned_abs, Option, Some, None}
+use Rattle.std.specs.Prelude.{ℕ, zero, suc, ◌+◌, ◌==◌, ◌&&◌, Bool, not, pos, List, [], ◌++◌, codes, find, length, Option, Some, None}
 use Rattle.std.specs.Fmt.{decimal}
 use Rattle.cert_text.specs.Head.{HeadData}
 use Rattle.view_map.specs.Parts.{PartData, MapData}

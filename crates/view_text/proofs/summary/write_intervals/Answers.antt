@@ -1,4 +1,4 @@
-use Rattle.std.proofs.Common.{◌≡◌, ◌+◌, ◌-◌, ℕ, ap, ◌∙◌, arith, length}
+use Rattle.std.proofs.Common.{◌≡◌, ◌-◌, ℕ, ap, ◌∙◌, arith}
 use Rattle.view_text.specs.Summary.{intervals_from}
 use Rattle.view_text.proofs.Counting.{intervals_next, intervals_end}
 use Rattle.view_text.proofs.summary.write_intervals.Goals as goal
