@@ -35,8 +35,8 @@ use Rattle.plift_top.specs.Laws.{RightReportsAreSound}
 use Rattle.plift_top.specs.Check.{IsFoundSound, IsFoundInPart, IsUnsound}
 use Rattle.plift_top.specs.Selftest.{one_half, IsLadderTree, ladder_report, tested_line, IsTestedTree, HasLongReport, TellsTested, Selftests}
 use Rattle.plift_top.specs.Answers.{Acts, Generates, wanted, AsksToVerify, AsksToCheck, AsksToGenerate, AsksToSelftest, IsTooLong, NoFault, WroteNote, IsNoted, HasNote, status_of, answered, note_of}
-use Rattle.plift_top.specs.declared.status.Status.{Status}
-use Rattle.plift_top.specs.declared.status.Status.TheVariants as status
+use Rattle.check_notes.specs.declared.status.Status.{Status}
+use Rattle.check_notes.specs.declared.status.Status.TheVariants as status
 use Rattle.plift_top.specs.declared.refusal.Refusal.{Refusal}
 use Rattle.plift_top.specs.declared.refusal.Refusal.TheVariants as refusal
 use Rattle.plift_top.proofs.Reading.{read_as, short, given}

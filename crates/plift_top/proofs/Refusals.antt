@@ -10,7 +10,7 @@ use Rattle.drn_read.specs.declared.error.DrnError.{DrnError}
 use Rattle.plift_words.specs.Job.{VerifyData}
 use Rattle.plift_top.specs.Verify.{IsRefusedAt, IsRefusedOver}
 use Rattle.plift_top.specs.Answers.{status_of}
-use Rattle.plift_top.specs.declared.status.Status.TheVariants as status
+use Rattle.check_notes.specs.declared.status.Status.TheVariants as status
 use Rattle.plift_top.specs.declared.refusal.Refusal.{Refusal}
 use Rattle.plift_top.specs.declared.refusal.Refusal.TheVariants as refusal
 

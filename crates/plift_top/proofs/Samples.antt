@@ -11,7 +11,7 @@ use Rattle.cert_check.specs.declared.error.CheckError.TheVariants.{Text, Missed,
 use Rattle.plift_words.specs.Job.{JobData}
 use Rattle.plift_words.specs.declared.job.Field.{Field}
 use Rattle.plift_top.specs.Answers.{note_of, HasNote}
-use Rattle.plift_top.specs.declared.status.Status.TheVariants as status
+use Rattle.check_notes.specs.declared.status.Status.TheVariants as status
 use Rattle.plift_top.specs.declared.refusal.Refusal.TheVariants as refusal
 use Rattle.plift_top.proofs.Acts.{never_done}
 

@@ -17,14 +17,14 @@ use Rattle.plift_words.specs.Given.{asked}
 use Rattle.model_gen.specs.Ladder.{ladder_text}
 use Rattle.plift_words.specs.declared.job.Field.{Field}
 use Rattle.plift_words.specs.declared.job.Field.TheVariants as field
-use Rattle.plift_top.specs.Rows.{row_place, row_fault}
-use Rattle.plift_top.specs.Unsound.{unsound_note}
+use Rattle.check_notes.specs.Rows.{row_place, row_fault}
+use Rattle.check_notes.specs.Unsound.{unsound_note}
 use Rattle.plift_top.specs.Verify.{Verifies, WasRead, IsRefused, text_limit}
 use Rattle.plift_top.specs.Check.{Checks}
 use Rattle.plift_top.specs.Selftest.{HasLongReport, Selftests}
 use Rattle.cert_check.specs.Answer.{Answers}
-use Rattle.plift_top.specs.declared.status.Status.{Status}
-use Rattle.plift_top.specs.declared.status.Status.TheVariants as status
+use Rattle.check_notes.specs.declared.status.Status.{Status}
+use Rattle.check_notes.specs.declared.status.Status.TheVariants as status
 use Rattle.plift_top.specs.declared.refusal.Refusal.{Refusal}
 use Rattle.plift_top.specs.declared.refusal.Refusal.TheVariants as refusal
 
@@ -77,18 +77,6 @@ note_of refusal.Memory = codes "out of memory\n"
 abbrev pub answered : {T : Type 0} → Result T Refusal → Status
 answered (Ok x) = status.Done
 answered (Err why) = status_of why
-
--- the number that the process ends with
-abbrev pub status_number : Status → ℕ
-status_number status.Done = 0
-status_number status.NotSound = 1
-status_number status.Usage = 2
-status_number status.ModelRefused = 3
-status_number status.RowsRefused = 4
-status_number status.ReadFault = 5
-status_number status.WriteFault = 6
-status_number status.TooLong = 7
-status_number status.Memory = 8
 
 -- the job that some words ask for, or their part at fault
 unfoldable pub wanted : List (String Global) → Result JobData Field

@@ -1,7 +1,5 @@
 pub mod Leaf
 pub mod Told
-pub mod Rows
-pub mod Unsound
 pub mod Verify
 pub mod Check
 pub mod Steps

@@ -1,6 +1,6 @@
 // The program's words, its standard streams, and the code that it exits with.
 use crate::program::run;
-use crate::status::{Status, exit_code};
+use check_notes::{Status, exit_code};
 use lift_base::{StdSink, StdSource};
 use std::process::ExitCode;
 use std::{env, io};

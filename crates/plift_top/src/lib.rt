@@ -10,12 +10,10 @@ mod program;
 mod refusal;
 mod report;
 mod selftest;
-mod status;
-mod unsound;
 mod verify;
 
+pub use check_notes::{Status, exit_code};
 pub use edge::launch;
 pub use laws::right_reports_are_sound;
 pub use program::run;
 pub use report::write_report;
-pub use status::{Status, exit_code};

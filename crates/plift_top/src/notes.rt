@@ -3,12 +3,11 @@ ghost use Rattle.std.specs.Prelude.{◌≡◌, ◌++◌};
 ghost use Rattle.lift_base.specs.Outside.{Wrote};
 ghost use Rattle.lift_rows.specs.Number.{error_row};
 ghost use Rattle.plift_top.specs.Answers.{status_of, usage_note, region_note, model_note};
-ghost use Rattle.plift_top.specs.Rows.{row_place, row_fault};
+ghost use Rattle.check_notes.specs.Rows.{row_place, row_fault};
 ghost use Rattle.plift_top.specs.Answers.{rows_note, note_of, answered, IsNoted};
 
 use crate::refusal::Refusal;
-use crate::status::Status;
-use crate::unsound::write_unsound_note;
+use check_notes::{Status, write_row_words, write_unsound_note};
 use drn_read::DrnError;
 use lift_base::{Sink, Word, WriteFault, write_all, write_words, writes_in_turn};
 use lift_grid::RegionError;
@@ -69,62 +68,6 @@ fn write_region_note<E: Sink>(notes: &mut E, error: RegionError) -> Result<(), W
             Word::Text(b"\n"),
         ],
     )
-}
-
-fn write_row_fault<E: Sink>(notes: &mut E, error: RowError) -> Result<(), WriteFault>
-    ensures { Wrote E.taken E.faults notes.old notes.new result (row_fault error) }
-{
-    match error {
-        RowError::RowSum { set, sum, .. } => write_words(
-            notes,
-            &[
-                Word::Text(b"set "),
-                Word::Count(u64::from(set)),
-                Word::Text(b" sums to "),
-                Word::Number(sum),
-            ],
-        ),
-        RowError::Negative {
-            target,
-            corner,
-            weight,
-            ..
-        } => write_words(
-            notes,
-            &[
-                Word::Text(b"target "),
-                Word::Count(u64::from(target)),
-                Word::Text(b" at corner "),
-                Word::Count(u64::from(corner)),
-                Word::Text(b" has weight "),
-                Word::Number(weight),
-            ],
-        ),
-        RowError::RowParameters { count, .. } => write_words(
-            notes,
-            &[Word::Count(u64::from(count)), Word::Text(b" parameters")],
-        ),
-        RowError::TooWide { .. } => write_all(notes, b"too wide"),
-    }
-}
-
-pub(crate) fn write_row_words<E: Sink>(notes: &mut E, error: RowError) -> Result<(), WriteFault>
-    ensures { Wrote E.taken E.faults notes.old notes.new result
-        (row_place (error_row error) ++ row_fault error) }
-{
-    writes_in_turn::<E>();
-    let (state, choice) = error.row();
-    write_words(
-        notes,
-        &[
-            Word::Text(b"state "),
-            Word::Count(u64::from(state)),
-            Word::Text(b" choice "),
-            Word::Count(u64::from(choice)),
-            Word::Text(b": "),
-        ],
-    )?;
-    write_row_fault(notes, error)
 }
 
 fn write_rows_note<E: Sink>(notes: &mut E, error: RowError) -> Result<(), WriteFault>

@@ -4,3 +4,5 @@
 
 #[cfg(test)]
 mod pictures;
+#[cfg(test)]
+mod views;

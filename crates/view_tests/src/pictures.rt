@@ -6,11 +6,14 @@ use view_map::{read_map, slice_of};
 use view_text::Picture;
 
 // Reports, each by its name. A semicolon stands for the end of a line. WIDE: a coin with p from 1/10
-// to 9/10, accepted up to 1/2. PLAIN: no parameters. UNSOUND: its
+// to 9/10, accepted up to 1/2. PLAIN: no parameters. TWO and THREE: as many
+// parameters, each step of a chain taken with one of them, accepted up to 1/4. UNSOUND: its
 // certificate is too low.
 const REPORTS: &str = "\
 WIDE = plift 1;kind dtmc;parameters 1 p;common 1;states 3;init 0;goal 1 1;row 0 0 2;to 1 1:1;to 2 0:1 1:-1;row 1 0 1;to 1 0:1;row 2 0 1;to 2 0:1;bound 1/2;precision 4;depth 2;grid 40;box 4 36;split 0;accept 8 16 0;split 0;unknown;reject e 1 k 1 m 1 b 11/16;y 11 16 0;choice 0 - -;rank 1 0 -;
 PLAIN = plift 1;kind dtmc;parameters 0;common 4;states 3;init 0;goal 1 1;row 0 0 2;to 1 0:1;to 2 0:3;row 1 0 1;to 1 0:4;row 2 0 1;to 2 0:4;bound 1/2;precision 4;depth 0;grid 1;box;accept 4 16 0;
+TWO = plift 1;kind dtmc;parameters 2 p q;common 1;states 4;init 0;goal 1 3;row 0 0 2;to 1 1:1;to 2 0:1 1:-1;row 1 0 2;to 3 2:1;to 2 0:1 2:-1;row 2 0 1;to 2 0:1;row 3 0 1;to 3 0:1;bound 1/4;precision 4;depth 2;grid 4;box 0 4 0 4;split 0;split 1;accept 4 8 0 16;unknown;split 1;unknown;unknown;
+THREE = plift 1;kind dtmc;parameters 3 p q r;common 1;states 5;init 0;goal 1 4;row 0 0 2;to 1 1:1;to 3 0:1 1:-1;row 1 0 2;to 2 2:1;to 3 0:1 2:-1;row 2 0 2;to 4 4:1;to 3 0:1 4:-1;row 3 0 1;to 3 0:1;row 4 0 1;to 4 0:1;bound 1/4;precision 4;depth 3;grid 8;box 0 8 0 8 0 8;split 0;split 1;accept 4 8 16 0 16;split 2;accept 4 8 8 0 16;unknown;split 1;split 2;accept 4 4 8 0 16;unknown;split 2;unknown;unknown;
 UNSOUND = plift 1;kind dtmc;parameters 0;common 4;states 3;init 0;goal 1 1;row 0 0 2;to 1 0:1;to 2 0:3;row 1 0 1;to 1 0:4;row 2 0 1;to 2 0:4;bound 1/2;precision 4;depth 0;grid 1;box;accept 3 16 0;
 ";
 
@@ -27,8 +30,8 @@ PLAIN | fill=\"url(#rejected)\" d=\"\"
 PLAIN | accepted 100.0000 %, rejected 0.0000 %, unknown 0.0000 % of the volume
 ";
 
-// The report of that name; none where there is none.
-fn find_report(name: &str) -> Option<&'static str> {
+/// The report of that name; none where there is none.
+pub fn find_report(name: &str) -> Option<&'static str> {
     for row in REPORTS.lines() {
         if let Some((key, text)) = row.split_once(" = ") {
             if key == name {
@@ -39,8 +42,8 @@ fn find_report(name: &str) -> Option<&'static str> {
     None
 }
 
-// The bytes of a text in which a semicolon stands for the end of a line.
-fn lines_of(alloc: Global, text: &str) -> Result<Vec<u8>, Fail> {
+/// The bytes of a text in which a semicolon stands for the end of a line.
+pub fn lines_of(alloc: Global, text: &str) -> Result<Vec<u8>, Fail> {
     let mut bytes = Vec::new(alloc);
     for byte in text.as_bytes() {
         bytes.push(if *byte == b';' { b'\n' } else { *byte })?;
@@ -48,8 +51,8 @@ fn lines_of(alloc: Global, text: &str) -> Result<Vec<u8>, Fail> {
     Ok(bytes)
 }
 
-// Whether the part stands somewhere in the text.
-fn is_within(text: &[u8], part: &[u8]) -> bool {
+/// Whether the part stands somewhere in the text.
+pub fn is_within(text: &[u8], part: &[u8]) -> bool {
     for at in 0..text.len() {
         if text[at..].starts_with(part) {
             return true;

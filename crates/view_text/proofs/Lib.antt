@@ -1,2 +1,3 @@
 mod Numbers
 mod Pieces
+pub mod Counting

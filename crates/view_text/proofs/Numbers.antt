@@ -1,6 +1,5 @@
 -- Numbers as they are shown.
-use Rattle.std.proofs.Common.{◌≡◌, ◌==◌, ℕ, ◌++◌, Bool, true, false, cond, List, [], codes, refl, arith, nat_eq}
-use Rattle.std.proofs.lemmas.Bool.Decides.{nat_tests}
+use Rattle.std.proofs.Common.{◌≡◌, ◌==◌, ℕ, ◌++◌, Bool, true, false, cond, List, [], codes, refl}
 use Rattle.std.specs.Fmt.{decimal}
 use Rattle.view_text.specs.Numbers.{divisor_text}
 

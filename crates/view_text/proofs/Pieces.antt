@@ -1,5 +1,5 @@
 -- Texts that are written piece by piece.
-use Rattle.std.proofs.Common.{◌≡◌, ℕ, zero, suc, ◌+◌, ◌<◌, ◌≤◌, Bool, true, false, cond, List, [], ◌∷◌, ◌++◌, length, drop, get_or, refl, ap, ◌∙◌, sym, arith}
+use Rattle.std.proofs.Common.{◌≡◌, ℕ, zero, suc, ◌+◌, ◌<◌, ◌≤◌, Bool, true, false, cond, List, [], ◌∷◌, ◌++◌, length, drop, get_or, refl, ap, sym, arith}
 use Rattle.std.specs.List.{filter, flat_map}
 
 one_piece : {X : Type 0} (f : X → List ℕ) (x : X) (xs ys : List X) (rest : List ℕ) (b : Bool) → flat_map f ys ≡ rest → flat_map f (cond b (x ∷ ys) ys) ≡ cond b (f x) [] ++ rest

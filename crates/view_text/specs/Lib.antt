@@ -1,3 +1,4 @@
 pub mod Numbers
 pub mod Field
 pub mod Picture
+pub mod Summary

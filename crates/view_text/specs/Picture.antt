@@ -1,5 +1,5 @@
 -- The picture of a slice of a report's region, as SVG.
-use Rattle.std.specs.Prelude.{ℕ, ◌*◌, List, [], ◌∷◌, ◌++◌, ℤ, unsigned_abs, codes, flat_map, slice_index_or, Option, Some, None}
+use Rattle.std.specs.Prelude.{ℕ, List, [], ◌++◌, ℤ, unsigned_abs, codes, flat_map, slice_index_or, Option, Some, None}
 use Rattle.std.specs.Fmt.{decimal}
 use Rattle.cert_text.specs.Head.{HeadData}
 use Rattle.view_map.specs.Parts.{PartData, MapData}

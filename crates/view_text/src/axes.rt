@@ -10,8 +10,8 @@ use cert_text::Head;
 use lift_base::{Sink, WriteFault, write_all, writes_in_turn};
 use view_map::{Cut, Slice, span_at};
 
-// The name of a parameter.
-fn name_of(head: &Head, parameter: u32) -> &[u8]
+/// The name of a parameter.
+pub(crate) fn name_of(head: &Head, parameter: u32) -> &[u8]
     ensures { result.now ≡ name_of head.now parameter }
 {
     let names = head.model().names();
@@ -22,8 +22,8 @@ fn name_of(head: &Head, parameter: u32) -> &[u8]
     }
 }
 
-// Writes an end of a parameter's span, over the grid.
-fn write_end<K: Sink>(out: &mut K, head: &Head, end: i64) -> Result<(), WriteFault>
+/// Writes an end of a parameter's span, over the grid.
+pub(crate) fn write_end<K: Sink>(out: &mut K, head: &Head, end: i64) -> Result<(), WriteFault>
     ensures { Wrote K.taken K.faults out.old out.new result (end_text head.now end) }
 {
     let _ = head.w();

@@ -7,5 +7,7 @@ mod fraction;
 mod picture;
 mod share;
 mod style;
+mod summary;
 
 pub use picture::Picture;
+pub use summary::SummaryText;

@@ -1,6 +1,4 @@
-use Rattle.std.proofs.Common.{◌≡◌, List, ap, sym, ◌∙◌}
-use Rattle.std.specs.List.{flat_map}
-use Rattle.view_map.specs.Slice.{CutData}
+use Rattle.std.proofs.Common.{sym}
 use Rattle.view_text.specs.Picture.{cut_text}
 use Rattle.view_text.proofs.Pieces.{flat_end, flat_item}
 use Rattle.view_text.proofs.axes.write_cuts.Goals as goal

@@ -1,4 +1,4 @@
-use Rattle.std.proofs.Common.{◌≡◌, ℤ, pos, rules, SFits, w64, to_z-of_z, ap, ◌∙◌}
+use Rattle.std.proofs.Common.{◌≡◌, rules, SFits, w64, to_z-of_z, ap, ◌∙◌}
 use Rattle.lift_grid.specs.Rectangle.{Spans}
 use Rattle.view_map.specs.Slice.{span_at}
 use Rattle.view_text.proofs.axes.write_low.Goals as goal

@@ -1,5 +1,4 @@
 use Rattle.std.proofs.Common.{◌∙◌, ap}
-use Rattle.view_map.specs.Parts.{MapData}
 use Rattle.cert_text.specs.Head.{HeadData}
 use Rattle.view_text.proofs.field.write_leaf.Goals as goal
 

@@ -1,6 +1,5 @@
-use Rattle.std.proofs.Common.{◌≡◌, ◌&&◌, ◌≤◌, List, ap, sym, ◌∙◌, subst, [], drop, length}
+use Rattle.std.proofs.Common.{◌≡◌, List, ap, sym, ◌∙◌}
 use Rattle.std.specs.List.{flat_map}
-use Rattle.lift_base.specs.Laws.{WroteUpTo}
 use Rattle.view_map.specs.Parts.{PartData}
 use Rattle.view_text.specs.Field.{is_shown, leaf_outline, outlines, piece}
 use Rattle.view_text.proofs.Pieces.{flat_end, flat_filter, flat_item}

@@ -1,0 +1,10 @@
+use Rattle.std.proofs.Common.{◌≡◌}
+use Rattle.view_follow.specs.Copied.{IsCopied}
+use Rattle.view_follow.proofs.copying.copy.Given as goal
+
+abbrev pub invariant-loop : goal.invariant-loop
+invariant-loop g l = record {
+  copied : IsCopied (g.S.Source.left l.fn.source) (g.S.Source.left l.source) (g.K.Sink.taken l.fn.out) (g.K.Sink.taken l.out);
+  read_well : g.S.Source.faults l.source ≡ g.S.Source.faults l.fn.source;
+  written_well : g.K.Sink.faults l.out ≡ g.K.Sink.faults l.fn.out;
+}

@@ -1,0 +1,9 @@
+//! Copies a report as it comes, and tells how far it has come.
+#![tactic(auto)]
+
+mod copying;
+mod line;
+mod progress;
+
+pub use copying::{CopyError, follow};
+pub use progress::Lines;

@@ -1,0 +1,62 @@
+-- What the words come to.
+use Rattle.std.proofs.Common.{◌≡◌, ℕ, List, Ok, Err, Result, refl, sym, ap, ◌∙◌, subst, inl, inr, IsErrAnd}
+use Rattle.std.specs.declared.option.Option.{Option}
+use Rattle.view_words.specs.Words.{JobData, ViewData, show, follow}
+use Rattle.view_words.specs.Given.{Asks, job_data}
+use Rattle.view_words.specs.declared.job.Job.{Job}
+use Rattle.view_words.specs.declared.job.Usage.{Usage}
+use Rattle.view_words.specs.declared.error.WordsError.{WordsError}
+use Rattle.view_words.specs.declared.error.WordsError.TheVariants as words
+use Rattle.view_follow.specs.Copied.{Copies}
+use Rattle.view_follow.specs.declared.copying.CopyError.{CopyError}
+use Rattle.view_top.specs.Refused.{words_refusal, copy_refusal}
+use Rattle.view_top.specs.Shown.{Shows}
+use Rattle.view_top.specs.Answers.{Acts, Follows, IsQuiet, copied}
+use Rattle.view_top.specs.declared.refusal.Refusal.{Refusal}
+use Rattle.view_top.specs.declared.refusal.Refusal.TheVariants as refusal
+
+module _ {S K : Type 0} (left : S → Option (List ℕ)) (faults : S → ℕ) (taken : K → Option (List ℕ)) (counts : K → ℕ) where
+  -- a copy that was cut off
+  pub cut_off : (source source' : S) (out out' : K) (e : CopyError) (result : Result (Unit {0}) Refusal) → IsErrAnd result (λ r. r ≡ copy_refusal e) → Copies {T = Unit {0}} left faults taken counts source source' out out' (Err e)
+      → Follows left faults taken counts source source' out out' result
+  cut_off source source' out out' e (Ok x) is h = absurd is
+  cut_off source source' out out' e (Err r) is h = inl (Err e, h, ap Err is)
+
+  -- a whole one
+  pub all_copied : (source source' : S) (out out' : K) (x : Unit {0}) → Copies left faults taken counts source source' out out' (Ok x) → Follows left faults taken counts source source' out out' (Ok tt)
+  all_copied source source' out out' x h = inl (Ok tt, h, refl)
+
+  -- want of memory, before anything was touched
+  memory : (asked : Result JobData Usage) (source : S) (out : K) → Acts left faults taken counts asked source source out out (Err refusal.Memory)
+  memory (Ok (show v)) source out = (tt, refl)
+  memory (Ok follow) source out = inr (refl, refl, refl)
+  memory (Err fault) source out = (tt, refl, refl)
+
+  by_cause : (asked : Result JobData Usage) (source : S) (out : K) (e : WordsError) → Asks asked (Err e) → Acts left faults taken counts asked source source out out (Err (words_refusal e))
+  by_cause asked source out words.Memory h = memory asked source out
+  by_cause asked source out (words.Usage fault) h = subst (λ (a : Result JobData Usage). Acts left faults taken counts a source source out out (Err (refusal.Usage fault))) (sym h) (refl, refl, refl)
+
+  -- words that ask for nothing
+  pub no_job : (asked : Result JobData Usage) (source : S) (out : K) (e : WordsError) (result : Result (Unit {0}) Refusal) → IsErrAnd result (λ r. r ≡ words_refusal e) → Asks asked (Err e)
+      → Acts left faults taken counts asked source source out out result
+  no_job asked source out e (Ok x) is h = absurd is
+  no_job asked source out e (Err r) is h = subst (λ (r : Refusal). Acts left faults taken counts asked source source out out (Err r)) (sym is) (by_cause asked source out e h)
+
+  -- a report is shown, or copied
+  pub does_show : (asked : Result JobData Usage) (v : ViewData) (source source' : S) (out out' : K) (result : Result (Unit {0}) Refusal) → asked ≡ Ok (show v) → Shows left faults taken counts v source source' out out' result
+      → Acts left faults taken counts asked source source' out out' result
+  does_show asked v source source' out out' result is h = subst (λ (a : Result JobData Usage). Acts left faults taken counts a source source' out out' result) (sym is) h
+
+  pub does_follow : (asked : Result JobData Usage) (source source' : S) (out out' : K) (result : Result (Unit {0}) Refusal) → asked ≡ Ok follow → Follows left faults taken counts source source' out out' result
+      → Acts left faults taken counts asked source source' out out' result
+  does_follow asked source source' out out' result is h = subst (λ (a : Result JobData Usage). Acts left faults taken counts a source source' out out' result) (sym is) h
+
+-- nothing was told
+pub silent : {E : Type 0} (asked : Result JobData Usage) (notes : E) → IsQuiet asked notes notes
+silent (Ok follow) notes = tt
+silent (Ok (show v)) notes = refl
+silent (Err fault) notes = refl
+
+-- of a copy nothing is asked
+pub loud : {E : Type 0} (asked : Result JobData Usage) (old new : E) → asked ≡ Ok follow → IsQuiet asked old new
+loud asked old new is = subst (λ (a : Result JobData Usage). IsQuiet a old new) (sym is) tt
