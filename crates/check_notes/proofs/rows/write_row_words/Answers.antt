@@ -1,4 +1,4 @@
-use Rattle.check_notes.proofs.Rows.{row_parts}
+use Rattle.check_notes.proofs.Pieces.{row_parts}
 use Rattle.check_notes.proofs.rows.write_row_words.Goals as goal
 
 pub returns-in_err-write_words : goal.returns-in_err-write_words

@@ -1,4 +1,4 @@
-use Rattle.check_notes.proofs.Rows.{node_parts}
+use Rattle.check_notes.proofs.Pieces.{node_parts}
 use Rattle.check_notes.proofs.unsound.write_node_miss.Goals as goal
 
 pub returns-in_err-write_words : goal.returns-in_err-write_words
