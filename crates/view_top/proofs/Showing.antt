@@ -4,6 +4,7 @@ use Rattle.std.specs.Prelude.{IfOk, IfErr}
 use Rattle.std.specs.declared.option.Option.{Option}
 use Rattle.std.specs.Io.KnownBytes.{Consumes, IsAtEnd}
 use Rattle.lift_base.specs.Outside.{Rose, Wrote, TakenHas}
+use Rattle.cert_text.specs.Head.{HeadData}
 use Rattle.cert_check.specs.Answer.{Answers}
 use Rattle.cert_check.specs.Source.{WasRead, file_limit}
 use Rattle.cert_check.specs.Shown.{IsToldOfFile}
@@ -11,7 +12,7 @@ use Rattle.cert_check.specs.declared.error.CheckError.{CheckError}
 use Rattle.cert_check.specs.declared.error.CheckError.TheVariants as check
 use Rattle.view_map.specs.Parts.{MapData}
 use Rattle.view_map.specs.Told.{IsMapOf}
-use Rattle.view_words.specs.Words.{ViewData}
+use Rattle.view_words.specs.Words.{ViewData, WishData}
 use Rattle.view_words.specs.declared.job.Usage.{Usage}
 use Rattle.std.proofs.Common.{Vec}
 use Rattle.std.specs.declared.alloc.Global.{Global}
@@ -21,6 +22,7 @@ use Rattle.lift_base.specs.declared.input.ReadError.TheVariants as why
 use Rattle.view_map.specs.Slice.{SliceData}
 use Rattle.view_top.specs.Refused.{check_refusal, read_refusal}
 use Rattle.view_top.specs.Given.{Gives}
+use Rattle.view_top.specs.Choice.{slice_for}
 use Rattle.view_top.specs.Shown.{picture_of, text_for, IsShown, IsWritten, IsCutOff, WritesView, StopsReading, ReadsMap, Shows}
 use Rattle.view_top.specs.declared.refusal.Refusal.{Refusal}
 use Rattle.view_top.specs.declared.refusal.Refusal.TheVariants as refusal
@@ -29,7 +31,7 @@ use Rattle.view_top.specs.declared.refusal.Refusal.TheVariants as refusal
 
 module _ {K : Type 0} (taken : K → Option (List ℕ)) (counts : K → ℕ) (old new : K) where
   -- a text that was written whole
-  pub whole : {T E U : Type 0} (x : T) (y : U) (asked : Result (List ℕ) Usage) (text : List ℕ) → asked ≡ Ok text → Wrote {E = E} taken counts old new (Ok x) text → WritesView taken counts asked old new (Ok y)
+  pub whole : {T E : Type 0} (x : T) (y : Unit {0}) (asked : Result (List ℕ) Usage) (text : List ℕ) → asked ≡ Ok text → Wrote {E = E} taken counts old new (Ok x) text → WritesView taken counts asked old new (Ok y)
   whole x y asked text is w = (text, is, w.whole)
 
   -- one that was cut off
@@ -49,6 +51,11 @@ module _ {K : Type 0} (taken : K → Option (List ℕ)) (counts : K → ℕ) (ol
       go refusal.WriteFault h = absurd h
       go refusal.TooLong h = absurd h
       go (refusal.Unsound error) h = absurd h
+
+  -- the same, of the report's head by another name
+  pub no_slice_at : (m : MapData) (head : HeadData) (w : WishData) → head ≡ m.head → (e : Refusal) (result : Result (Unit {0}) Refusal) → IsErrAnd result (λ r. r ≡ e) → Gives {X = SliceData} (λ s. s) (slice_for head w) (Err e) → old ≡ new
+      → WritesView taken counts (picture_of m (slice_for m.head w)) old new result
+  no_slice_at m head w of e result is h same = no_slice m (slice_for m.head w) e result is (subst (λ (x : HeadData). Gives {X = SliceData} (λ s. s) (slice_for x w) (Err e)) of h) same
 
 -- ---- reading
 
