@@ -1,10 +1,10 @@
 #!/usr/bin/env python3
-"""Tests of what docs/TUTORIAL.md and docs/STORM.md say:  python3 recheck/pages.py [--bin PROGRAM]
+"""Tests of what docs/TUTORIAL.md and docs/STORM.md say:  python3 recheck/pages.py [--bin PROGRAM] [--view PROGRAM]
 
 Every command of the tutorial runs in a copy of the examples and has to print what stands below it. The lines that
 docs/STORM.md speaks of are put into small models and have to be read, or refused with the note that it tells, and
-its commands have to mend what they are for. PROGRAM is a built plift (crates/plift/out/plift); without it ./plift
-is started.
+its commands have to mend what they are for. PROGRAM is a built plift (crates/plift/out/plift) or plift_view
+(crates/plift_view/out/plift_view); without it ./plift or ./plift-view is started.
 """
 import argparse, re, shutil, subprocess, sys, tempfile
 from pathlib import Path
@@ -90,11 +90,13 @@ def bash(command, folder):
 
 
 def tutorial(folder):
-    """For each command of the tutorial, which is followed by its output: whether it prints this."""
+    """For each command of the tutorial: whether it prints the output that follows it, or nothing where none does."""
     shown = blocks('TUTORIAL.md')
-    for (kind, command), (_, printed) in zip(shown, shown[1:]):
+    for (kind, command), (after, printed) in zip(shown, shown[1:]):
         if kind == 'sh':
-            yield command, bash(command, folder) == printed
+            yield command, bash(command, folder) == ('' if after == 'sh' else printed)
+    drawn = (folder / 'links.svg').read_bytes()
+    yield 'docs/pictures/links.svg', drawn == (TOP / 'docs/pictures/links.svg').read_bytes()
 
 
 def note(folder, text):
@@ -123,14 +125,16 @@ def commands(folder):
 def main():
     words = argparse.ArgumentParser()
     words.add_argument('--bin', default=str(TOP / 'plift'))
-    program = Path(words.parse_args().bin).resolve()
+    words.add_argument('--view', default=str(TOP / 'plift-view'))
+    given = words.parse_args()
     count = wrong = 0
     with tempfile.TemporaryDirectory() as name:
         folder = Path(name)
         shutil.copytree(TOP / 'examples', folder / 'examples')
         shutil.copytree(TOP / 'recheck', folder / 'recheck')
-        (folder / 'plift').write_text(f'#!/bin/sh\nexec "{program}" "$@"\n')
-        (folder / 'plift').chmod(0o755)
+        for script, program in ('plift', given.bin), ('plift-view', given.view):
+            (folder / script).write_text(f'#!/bin/sh\nexec "{Path(program).resolve()}" "$@"\n')
+            (folder / script).chmod(0o755)
         for test in (tutorial, lines, commands):
             for what, is_right in test(folder):
                 count += 1
