@@ -23,8 +23,8 @@ pub struct FirstRow {
     pub choice: u32,
 }
 
-/// The blocks so far. They are found by a hash of the polynomials, of which nothing is promised, and
-/// tested by comparison.
+/// The blocks so far. They are found by the hashes of rows, of which nothing is promised, and tested by
+/// comparison.
 #[derive(Drop)]
 pub struct Blocks {
     // a hash table: the number of a block, from 1 on, or 0
@@ -37,26 +37,6 @@ pub struct Blocks {
     pub places: Vec<u32>,
     /// How many weights they have.
     pub weights: u32,
-}
-
-/// A hash, and one number more.
-fn mixed(hash: u64, number: u64) -> u64 {
-    (hash.rotate_left(5) ^ number).wrapping_mul(0x9e37_79b9_7f4a_7c15)
-}
-
-/// A hash of a row's polynomials.
-fn hash_of(row: &Row) -> u64 {
-    let mut hash = 0;
-    for entry in row.entries() {
-        let poly = &entry.poly;
-        for index in 0..poly.len() {
-            let (set, coefficient) = poly.term(index);
-            hash = mixed(hash, u64::from(set));
-            hash = mixed(hash, (coefficient.unsigned_abs() % (1 << 64)) as u64);
-        }
-        hash = mixed(hash, 1);
-    }
-    hash ^ (hash >> 32)
 }
 
 /// Whether two polynomials are the same.
@@ -203,7 +183,7 @@ impl Blocks {
         ensures { IfOk result (λ place. IsPlaced model.now self.old self.new (row_at model.now s a) place) }
     {
         let row = model.row(s, a);
-        let hash = hash_of(row);
+        let hash = row.hash();
         if let Some(block) = self.find(model, hash, row) {
             return Ok(self.places[block]);
         }

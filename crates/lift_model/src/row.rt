@@ -8,6 +8,8 @@ use crate::entry::Entry;
 pub struct Row {
     entries: Vec<Entry>,
     support: u16,
+    // nothing is promised of it
+    hash: u64,
 }
 
 impl std::marker::Model for Row {
@@ -33,13 +35,38 @@ fn support_of(entries: &[Entry]) -> u16
     set
 }
 
+/// A hash, and one number more.
+fn mixed(hash: u64, number: u64) -> u64 {
+    (hash.rotate_left(5) ^ number).wrapping_mul(0x9e37_79b9_7f4a_7c15)
+}
+
+/// A hash of the polynomials, by which equal rows are looked for.
+fn hash_of(entries: &[Entry]) -> u64 {
+    let mut hash = 0;
+    for entry in entries {
+        let poly = &entry.poly;
+        for index in 0..poly.len() {
+            let (set, coefficient) = poly.term(index);
+            hash = mixed(hash, u64::from(set));
+            hash = mixed(hash, (coefficient.unsigned_abs() % (1 << 64)) as u64);
+        }
+        hash = mixed(hash, 1);
+    }
+    hash ^ (hash >> 32)
+}
+
 impl Row {
-    /// The row with these entries. Takes no memory, and goes over their terms once.
+    /// The row with these entries. Takes no memory, and is linear in the number of their terms.
     pub fn new(entries: Vec<Entry>) -> Self
         ensures { result ≡ entries.items }
     {
         let support = support_of(&entries);
-        Row { entries, support }
+        let hash = hash_of(&entries);
+        Row {
+            entries,
+            support,
+            hash,
+        }
     }
 
     /// The entries.
@@ -54,6 +81,12 @@ impl Row {
         ensures { result ≡ support self.now }
     {
         self.support
+    }
+
+    /// A hash of the polynomials, made with the row. Rows with the same polynomials have the same, of which
+    /// nothing is promised.
+    pub(crate) fn hash(&self) -> u64 {
+        self.hash
     }
 }
 
