@@ -3,5 +3,6 @@ pub mod Picking
 pub mod Unions
 mod Samples
 pub mod Listing
+pub mod First
 pub mod Laying
 pub mod Linking

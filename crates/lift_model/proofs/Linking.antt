@@ -1,7 +1,8 @@
 -- The parts of the links of a model, put together.
-use Rattle.std.proofs.Common.{◌≡◌, ℕ, zero, suc, ◌+◌, ◌-◌, ◌<◌, ◌≤◌, List, [], ◌∷◌, length, map, take, drop, slice_range, sum_by, Contains, refl, sym, ap, subst, ◌∙◌, arith, ◌⊎◌, ⊎_elim, inl}
+use Rattle.std.proofs.Common.{◌≡◌, ℕ, zero, suc, ◌+◌, ◌-◌, ◌<◌, ◌≤◌, List, [], ◌∷◌, length, map, take, drop, slice_range, sum_by, slice_index_or, All, Contains, refl, sym, ap, subst, ◌∙◌, arith, ◌⊎◌, ⊎_elim, inl}
 use Rattle.std.specs.List.{concat}
 use Rattle.std.proofs.lemmas.List.{take_all, get_or_past}
+use Rattle.std.proofs.lemmas.List.Elements.{All-contains}
 use Rattle.std.proofs.lemmas.List.Sums.{sum_by_more, sum_by_more_le}
 use Rattle.lift_model.specs.declared.layout.RowPlace.{RowPlace}
 use Rattle.lift_model.specs.declared.layout.Layout.{Layout}
@@ -9,7 +10,7 @@ use Rattle.lift_model.specs.Model.{ModelData, choices}
 use Rattle.lift_model.specs.Order.{IsOrder}
 use Rattle.lift_model.specs.Links.{LinksData, AreLinks, AreBefore, row_number, targets_of, position}
 use Rattle.lift_model.specs.Layout.{IsLaid, AreRowStarts, AreCut}
-use Rattle.lift_model.specs.Before.{at, part, AreCuts, AreSources, AreListed}
+use Rattle.lift_model.specs.Before.{at, part, AreCuts, AreSources, AreListed, AreFirst}
 use Rattle.lift_model.specs.Stored.{AreStored}
 use Rattle.lift_model.proofs.Listing.{none_in}
 
@@ -54,6 +55,17 @@ count_mapped : {X Y : Type 0} (f : X → Y) (xs : List X) → length (map f xs) 
 count_mapped f [] = refl
 count_mapped f (x ∷ xs) = ap suc (count_mapped f xs)
 
+mapped_at : {X Y : Type 0} (f : X → Y) (xs : List X) (i : ℕ) (x : X) → slice_index_or (map f xs) i (f x) ≡ f (slice_index_or xs i x)
+mapped_at f [] i x = refl
+mapped_at f (y ∷ xs) zero x = refl
+mapped_at f (y ∷ xs) (suc i) x = mapped_at f xs i x
+
+mapped_there : {X Y : Type 0} (f : X → Y) (xs : List X) (x : X) → Contains xs x → Contains (map f xs) (f x)
+mapped_there f xs x there = (there.0, omega (arith, there.1, count_mapped f xs), mapped_at f xs there.0 x ∙ ap f there.2)
+
+all_mapped : {X Y : Type 0} (P : Y → Type 0) (f : X → Y) (xs : List X) → All P (map f xs) → (x : X) → Contains xs x → P (f x)
+all_mapped P f xs all x there = All-contains P (map f xs) (f x) all (mapped_there f xs x there)
+
 -- ---- the rows
 
 rows_all : (m : ModelData) → row_number m (length m.states) 0 ≡ sum_by length m.states
@@ -71,7 +83,11 @@ module _ (m : ModelData) (l : LinksData) (layout : Layout) (starts : List ℕ)
     (rows : l.rows ≡ layout.rows.items) (targets : l.targets ≡ layout.targets.items) (firsts : l.firsts ≡ layout.blocks.firsts.items) (weights : l.weights ≡ layout.blocks.weights)
     (laid : IsLaid m layout (length m.states) 0) (numbered : AreRowStarts m l.row_starts (length m.states)) (cut : AreCut m starts layout.targets.items (length m.states))
     (sources : AreSources (length m.states) layout.targets.items starts l.starts l.ends l.before)
-    (ordered : IsOrder l.order l.positions (length m.states)) (placed : l.before_positions ≡ map (position l) l.before) where
+    (ordered : IsOrder l.order l.positions (length m.states)) (placed : l.before_positions ≡ map (position l) l.before)
+    (first : AreFirst l.positions (part l.starts l.ends l.before_positions) l.lone) where
+  before_placed : (s : ℕ) → part l.starts l.ends l.before_positions s ≡ map (position l) (part l.starts l.ends l.before s)
+  before_placed s = ap (λ list. slice_range list (at l.starts s) (at l.ends s)) placed ∙ ap (take (at l.ends s - at l.starts s)) (drop_mapped (position l) (at l.starts s) l.before) ∙ take_mapped (position l) (at l.ends s - at l.starts s) (drop (at l.starts s) l.before)
+
   pub links_built : AreLinks m l
   links_built = record {
     states = ordered.counts.1;
@@ -83,8 +99,9 @@ module _ (m : ModelData) (l : LinksData) (layout : Layout) (starts : List ℕ)
     firsts = rw firsts (laid.blocks.rows);
     weights = rw (weights, firsts) (laid.blocks.total);
     before = listed_all m starts layout.targets.items (part l.starts l.ends l.before) cut sources.listed;
-    before_positions = λ s lt. ap (λ list. slice_range list (at l.starts s) (at l.ends s)) placed ∙ ap (take (at l.ends s - at l.starts s)) (drop_mapped (position l) (at l.starts s) l.before) ∙ take_mapped (position l) (at l.ends s - at l.starts s) (drop (at l.starts s) l.before);
+    before_positions = λ s lt. before_placed s;
     order = ordered;
+    lone = λ s lt is t leads. all_mapped (λ p. at l.positions s ≤ p) (position l) (part l.starts l.ends l.before s) (subst (All (λ p. at l.positions s ≤ p)) (before_placed s) (first s is)) t ((listed_all m starts layout.targets.items (part l.starts l.ends l.before) cut sources.listed s lt).all t leads);
   }
 
   pub links_stored : length l.component_ends ≡ length m.states → AreStored l

@@ -1,5 +1,5 @@
 -- What the loops that list the states before each state keep. The lists are parts of one flat list: each has its room there, as much as its state is a target.
-use Rattle.std.specs.Prelude.{◌≡◌, ℕ, ◌+◌, ◌<◌, ◌≤◌, ◌==◌, ◌⊎◌, List, length, count_by, All, Contains, slice_index_or, slice_range}
+use Rattle.std.specs.Prelude.{◌≡◌, ℕ, ◌+◌, ◌<◌, ◌≤◌, ◌==◌, ◌⊎◌, Bool, true, false, List, length, count_by, All, Contains, slice_index_or, slice_range}
 use Rattle.std.specs.List.Sorted.{IsStrictlyIncreasing}
 
 -- how often the number is in the list
@@ -13,6 +13,10 @@ at list u = slice_index_or list u 0
 -- the part of the flat list that belongs to u
 abbrev pub part : List ℕ → List ℕ → List ℕ → ℕ → List ℕ
 part starts ends states u = slice_range states (at starts u) (at ends u)
+
+-- where a number has a flag, each number in its list is at or behind its position
+abbrev pub AreFirst : List ℕ → (ℕ → List ℕ) → List Bool → Type 0
+AreFirst positions lists flags = (s : ℕ) → slice_index_or flags s false ≡ true → All (λ p. at positions s ≤ p) (lists s)
 
 -- each start is the sum of the counts before it
 pub record AreSums (starts counts : List ℕ) (n : ℕ) : Type 0 where

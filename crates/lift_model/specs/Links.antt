@@ -1,5 +1,5 @@
 -- Links: what iterations over a model look up. Where each row and its corner weights stand in a table, which states lead to a state, and an order of the states.
-use Rattle.std.specs.Prelude.{◌≡◌, ℕ, ◌+◌, ◌-◌, ◌*◌, ◌^◌, ◌<◌, ◌≤◌, List, length, map, take, sum_by, slice_index_or, slice_range, count_ones, Contains}
+use Rattle.std.specs.Prelude.{◌≡◌, ℕ, ◌+◌, ◌-◌, ◌*◌, ◌^◌, ◌<◌, ◌≤◌, Bool, true, false, List, length, map, take, sum_by, slice_index_or, slice_range, count_ones, Contains}
 use Rattle.std.specs.List.{concat}
 use Rattle.std.specs.List.Sorted.{IsStrictlyIncreasing}
 use Rattle.lift_poly.specs.Polynomial.{Term}
@@ -87,6 +87,7 @@ pub record LinksData : Type 0 where
   pub order : List ℕ
   pub component_ends : List ℕ
   pub positions : List ℕ
+  pub lone : List Bool
 
 -- stands for the place of a row past the end
 abbrev pub no_place : RowPlace
@@ -120,6 +121,10 @@ positions_before l s = slice_range l.before_positions (slice_index_or l.starts s
 abbrev pub position : LinksData → ℕ → ℕ
 position l s = slice_index_or l.positions s 0
 
+-- all states that lead to s stand behind it in the order, but for itself
+abbrev pub IsLone : ModelData → LinksData → ℕ → Type 0
+IsLone m l s = (t : ℕ) → Leads m t s → position l s ≤ position l t
+
 -- where a row's targets and weights begin, and how many entries and corners it has
 pub record IsRowPlace (m : ModelData) (targets : List ℕ) (firsts : Firsts) (row : List Entry) (place : RowPlace) : Type 0 where
   pub count : place.count ≡ length row
@@ -139,3 +144,4 @@ pub record AreLinks (m : ModelData) (l : LinksData) : Type 0 where
   pub before : (s : ℕ) → s < length m.states → AreBefore m s (states_before l s)
   pub before_positions : (s : ℕ) → s < length m.states → positions_before l s ≡ map (position l) (states_before l s)
   pub order : IsOrder l.order l.positions (length m.states)
+  pub lone : (s : ℕ) → s < length m.states → slice_index_or l.lone s false ≡ true → IsLone m l s

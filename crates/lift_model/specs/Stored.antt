@@ -18,6 +18,7 @@ links_of l = record {
   order = l.order.items;
   component_ends = l.component_ends.items;
   positions = l.positions.items;
+  lone = l.lone.items;
 }
 
 -- what the lists keep by themselves: their parts lie inside them

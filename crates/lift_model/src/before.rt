@@ -1,7 +1,7 @@
 //! Which states lead to a state, in parts of one flat list.
 
 ghost use Rattle.std.specs.Prelude.{◌≡◌, ℕ, ◌+◌, ◌<◌, ◌≤◌, ◌^◌, ◌∷◌, [], length, sum, true, false, All, IfOk};
-ghost use Rattle.lift_model.specs.Before.{at as number_in, count_of, AreSums, ArePlaced, HaveRoom, AreEntered, HasLast, AreCuts, AreListed, AreSources, part};
+ghost use Rattle.lift_model.specs.Before.{at as number_in, count_of, AreSums, ArePlaced, HaveRoom, AreEntered, HasLast, AreCuts, AreListed, AreSources, AreFirst, part};
 
 use std::alloc::{AllocError, Global};
 
@@ -99,6 +99,37 @@ fn enter_states(starts: &[u32], ends: &mut [u32], states: &mut [u32], targets: &
             s as u32,
         );
     }
+}
+
+/// Whether none of these positions lies before that one.
+fn is_first(positions: &[u32], position: u32) -> bool
+    ensures { result ≡ true → All (λ p. position ≤ p) positions.now }
+{
+    for p in positions {
+        if *p < position {
+            return false;
+        }
+    }
+    true
+}
+
+/// Tells for each position whether none in its part of the flat list lies before it.
+pub(crate) fn find_first(
+    alloc: Global,
+    positions: &[u32],
+    starts: &[u32],
+    ends: &[u32],
+    before: &[u32],
+) -> Result<Vec<bool>, AllocError>
+    requires { ArePlaced starts.now ends.now (length before.now) (length positions.now) }
+    ensures { IfOk result (λ list. AreFirst positions.now (part starts.now ends.now before.now) list.items) }
+{
+    let mut list = Vec::with_capacity(alloc, positions.len())?;
+    for s in 0..positions.len() {
+        let part = &before[starts[s] as usize..ends[s] as usize];
+        list.push(is_first(part, positions[s]))?;
+    }
+    Ok(list)
 }
 
 /// The states that lead to each of so many states. Their targets stand cut into those of each state.

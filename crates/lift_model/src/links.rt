@@ -1,10 +1,10 @@
 //! What iterations over a model look up: where rows and their weights stand, which states lead to a
 //! state, and an order of the states.
 
-ghost use Rattle.std.specs.Prelude.{◌≡◌, ◌+◌, ◌<◌, ◌≤◌, length, map, slice_index_or, slice_range, IfOk};
+ghost use Rattle.std.specs.Prelude.{◌≡◌, ◌+◌, ◌<◌, ◌≤◌, false, length, map, slice_index_or, slice_range, IfOk};
 ghost use Rattle.lift_model.specs.Links.{LinksData, AreLinks, state_count, choice_count, row_place, place, states_before, positions_before, position};
 
-use crate::before::find_sources;
+use crate::before::{find_first, find_sources};
 use crate::blocks::FirstRow;
 use crate::layout::{RowPlace, lay_out};
 use crate::lists::number_at;
@@ -27,6 +27,7 @@ pub struct Links {
     order: Vec<u32>,
     component_ends: Vec<u32>,
     positions: Vec<u32>,
+    lone: Vec<bool>,
 }
 
 impl std::marker::Model for Links {
@@ -63,6 +64,13 @@ impl Links {
         let sources = find_sources(alloc, count, &layout.targets, &starts.targets)?;
         let order = order_states(alloc, model, &layout.targets, &starts.targets)?;
         let before_positions = positions_of(alloc, &sources.states, &order.positions)?;
+        let lone = find_first(
+            alloc,
+            &order.positions,
+            &sources.starts,
+            &sources.ends,
+            &before_positions,
+        )?;
         Ok(Links {
             row_starts: starts.rows,
             rows: layout.rows,
@@ -76,6 +84,7 @@ impl Links {
             order: order.states,
             component_ends: order.ends,
             positions: order.positions,
+            lone,
         })
     }
 
@@ -168,6 +177,14 @@ impl Links {
         ensures { result.now ≡ self.now.component_ends }
     {
         &self.component_ends
+    }
+
+    /// Whether all states that lead to this one stand behind it in the order, but for itself. True of states
+    /// that lie on no cycle, but for a self loop; where it is false, nothing is promised.
+    pub fn is_lone(&self, s: u32) -> bool
+        ensures { result ≡ slice_index_or self.now.lone s false }
+    {
+        self.lone.get(s as usize).copied().unwrap_or(false)
     }
 
     /// The position of a state in the order.
