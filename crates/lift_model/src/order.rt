@@ -1,7 +1,7 @@
 //! An order of the states by their strongly connected components, found by a search in depth, as Tarjan
 //! does it. Nothing is proved of the search: what it gives is tested at the end.
 
-ghost use Rattle.std.specs.Prelude.{◌≡◌, ◌≤◌, true, length, IfOk};
+ghost use Rattle.std.specs.Prelude.{◌≡◌, ◌≤◌, ◌<◌, ℕ, true, length, slice_index_or, IfOk};
 ghost use Rattle.lift_model.specs.Order.{IsOrder};
 
 use crate::lists::{number_at, put};
@@ -205,12 +205,25 @@ fn place_states(states: &[u32], positions: &mut [u32])
     }
 }
 
-/// Whether each state is found at its position, and there are no more positions than states.
+/// Whether each state of the list has the position at which it stands there.
+fn stand_there(states: &[u32], positions: &[u32]) -> bool
+    requires { length states.now ≤ 65536 }
+    ensures { result ≡ true → (i : ℕ) → i < length states.now → slice_index_or positions.now (slice_index_or states.now i 0) 0 ≡ i }
+{
+    for (i, s) in states.iter().enumerate() {
+        if positions.get(*s as usize) != Some(&(i as u32)) {
+            return false;
+        }
+    }
+    true
+}
+
+/// Whether each state is found at its position, and no other one is.
 fn are_placed(states: &[u32], positions: &[u32]) -> bool
     requires { length positions.now ≤ 65536 }
     ensures { result ≡ true → IsOrder states.now positions.now (length positions.now) }
 {
-    if states.len() != positions.len() {
+    if states.len() != positions.len() || !stand_there(states, positions) {
         return false;
     }
     for (s, position) in positions.iter().enumerate() {
