@@ -4,7 +4,7 @@ use Rattle.std.proofs.lemmas.List.{get_or_default, get_or-map, length-map}
 use Rattle.std.proofs.lemmas.List.Elements.{Contains-get_or}
 use Rattle.lift_poly.proofs.Ring.{linear}
 use Rattle.lift_grid.specs.Rectangle.{Spans}
-use Rattle.lift_model.specs.Links.{LinksData, Leads, position, states_before, positions_before}
+use Rattle.lift_model.specs.Links.{LinksData, Leads, IsLone, position, states_before, positions_before}
 use Rattle.corner_lift.specs.Laws.{NumbersAreInRange}
 use Rattle.rounded_iter.specs.Rising.{TableData, IsRead, Run, IsBelow, IsLeastBound, IsEnough, room}
 use Rattle.rounded_iter.specs.Watching.{count, flag, IsRaisedState, IsWatched, IsWatchedBut, CanMark, IsMarked, IsKept, CanVisit, IsVisited, IsTurned, IsPassed, IsLeastFrom, IsFound}
@@ -197,6 +197,22 @@ module _ (t : TableData) (run : Run) (read : IsRead t run.spans) where
     places = h.places;
     watched = watched_past x work (i + 1) s past (watched_next x work i s at h.watched);
   }
+
+  -- the state at the frontier was raised, and no state before it leads to it
+  pub kept_lone : (old new : List ℤ) (work : List ℕ) (i s : ℕ) (rose : Bool) → s < n → IsLone t.case.model t.links s → get_or t.links.order i 0 ≡ s → i < n → IsKept t run old work i → IsRaisedState t run old new s rose → IsKept t run new work (i + 1)
+  kept_lone old new work i s rose state lone at inside h g = record {
+    below = g.below;
+    places = h.places;
+    watched = λ q within ahead clear. ⊎_elim
+        (λ (same : q ≡ s). subst (λ u. IsEnough t.extreme t.case run.spans new u) (sym same) g.enough)
+        (λ (ne : q ≢ s). enough_kept t run.spans old new q s ne
+        (λ leads. ne (found q i s within (omega (arith, ahead, lone q leads, here)) at))
+        g.other (watched_next old work i s at h.watched q within ahead clear ne))
+        (same_or_not q s);
+  }
+    where
+      here : position t.links s ≡ i
+      here = ap (position t.links) (sym at) ∙ read.links.order.back i inside
 
   -- no flag is left
   pub kept_all : (x : List ℤ) (work : List ℕ) → IsKept t run x work n → ((j : ℕ) → 0 ≤ j → j < n → flag work j ≡ 0) → IsLeastFrom t run x

@@ -12,7 +12,7 @@ use corner_lift::{corners_bound_weights, rows_at_corners};
 use float_guess::{Rounding, Way, guess_part};
 
 /// How many passes over a component are made before the first guess.
-const FIRST_PATIENCE: u32 = 16;
+const FIRST_PATIENCE: u32 = 32;
 
 /// How many times as many are made each time that a guess fails.
 const PATIENCE_STEP: u32 = 4;

@@ -10,8 +10,8 @@ ghost use Rattle.rounded_iter.specs.Rising.{CanTry, CanSolve, IsExtreme, IsMoreE
 
 use crate::table::Table;
 use corner_lift::{
-    Weighed, corners_bound_weights, rows_at_corners, table_greatest, table_least, table_loop,
-    table_value, table_whole,
+    AtCorner, Weighed, corners_bound_weights, rows_at_corners, table_corner, table_greatest,
+    table_least,
 };
 use float_guess::Extreme;
 use std::num::{nearest_i64_to_f64, saturating_f64_to_i64};
@@ -166,12 +166,18 @@ impl Table<'_> {
         rows_at_corners();
         corners_bound_weights();
         let number = lane[s as usize];
-        let sum = table_value(self.case, self.links, self.weights, s, a, corner, lane);
-        let whole = table_whole(self.case, self.links, self.weights, s, a);
+        let AtCorner { sum, whole, own } = table_corner(
+            self.case,
+            self.links,
+            self.weights,
+            s,
+            a,
+            corner,
+            lane,
+        );
         if sum <= times(number, whole) {
             return number;
         }
-        let own = table_loop(self.case, self.links, self.weights, s, a, corner);
         rounded_up(sum - times(number, own), whole - own)
     }
 
@@ -209,12 +215,12 @@ impl Table<'_> {
         if let Some(target) = self.only_target(s, a) {
             return more_extreme(Extreme::Greatest, number, lane[target as usize]);
         }
+        if self.has_loop(s, a) {
+            return self.solve(lane, s, a);
+        }
         let Weighed { sum, whole } = self.weigh(lane, s, a);
         if sum <= times(number, whole) {
             return number;
-        }
-        if self.has_loop(s, a) {
-            return self.solve(lane, s, a);
         }
         rounded_up(sum, whole)
     }

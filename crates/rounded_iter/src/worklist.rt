@@ -221,7 +221,8 @@ impl Table<'_> {
         self.settle(lane, work, low, high, patience)
     }
 
-    /// Visits the state at a position, the first of those that weren't visited.
+    /// Visits the state at a position, the first of those that weren't visited. Where no state before it
+    /// leads to it, none needs a flag.
     #[inline]
     fn visit_first(&self, lane: &mut [i64], work: &mut [u32], position: u32)
         ghost run: { Run }
@@ -229,7 +230,12 @@ impl Table<'_> {
         ensures { IsKept self.now run lane.new work.new (position + 1) }
     {
         let s = self.links.order()[position as usize];
-        if s < self.case.model().states() {
+        if s >= self.case.model().states() {
+            return;
+        }
+        if self.links.is_lone(s) {
+            self.raise(lane, s);
+        } else {
             self.visit(lane, work, s, position, position + 1);
         }
     }
