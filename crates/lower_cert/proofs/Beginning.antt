@@ -1,5 +1,5 @@
 -- A part that is begun anew stays at or above every lower vector.
-use Rattle.std.proofs.Common.{◌≡◌, ◌≢◌, ℕ, ◌+◌, ◌^◌, ◌<◌, ◌≤◌, ◌⊎◌, inl, inr, ⊎_elim, Bool, true, false, not, ◌&&◌, List, Option, Some, None, length, set, ℤ, pos, ◌*ℤ◌, ◌≤ℤ◌, refl, sym, ap, subst, ◌∙◌, arith, nat_lt, true≢false, lt-ltb, ltb-true, ltb-false, length-set, get_or-set_same, get_or-set_other}
+use Rattle.std.proofs.Common.{slice_index_or, ◌≡◌, ◌≢◌, ℕ, ◌+◌, ◌^◌, ◌<◌, ◌≤◌, ◌⊎◌, inl, inr, ⊎_elim, Bool, true, false, not, ◌&&◌, List, Option, Some, None, length, set, ℤ, pos, ◌*ℤ◌, ◌≤ℤ◌, refl, sym, ap, subst, ◌∙◌, arith, nat_lt, true≢false, lt-ltb, ltb-true, ltb-false, length-set, get_or-set_same, get_or-set_other}
 use Rattle.std.proofs.lemmas.List.Elements.{All-set}
 use Rattle.std.proofs.lemmas.Int.{by_lt_z}
 use Rattle.lift_poly.proofs.Ring.{linear}
@@ -15,7 +15,7 @@ use Rattle.corner_lift.specs.Laws.{NumbersAreInRange, ParametersAreTheRoots}
 use Rattle.float_guess.specs.Part.{StandsAt, is_open, KeepsOthers}
 use Rattle.lower_cert.specs.Laws.{ClosedIsAbove, GuessIsAbove}
 use Rattle.lower_cert.specs.Lowering.{IsHigh, IsHighUnder, from_guess}
-use Rattle.lower_cert.specs.Beginning.{low_word, AreNoted, IsOtherAt, AreOther, IsFilledAt, IsEnoughFor, IsEnoughAt, AreEnough, AreAll}
+use Rattle.lower_cert.specs.Beginning.{low_word, IsNotedAt, AreNoted, IsOtherAt, AreOther, IsFilledAt, IsEnoughFor, IsEnoughAt, AreEnough, AreAll}
 use Rattle.lower_cert.proofs.Means.{either_way}
 use Rattle.lower_cert.proofs.Heights.{below-no}
 
@@ -102,6 +102,26 @@ filled_more k l low high at x y v all one p from to t stands =
     (λ (e : p ≡ at). one.here t (subst (λ i. StandsAt k l i t) e stands))
     (same_or_less p at to)
 
+-- a state's number that is noted
+pub noted_some : (k : CaseData) (l : LinksData) (x : List ℤ) (at s v : ℕ) (noted : List ℕ) → s < length noted → v ≡ low_word (number x s) → ((t : ℕ) → StandsAt k l at t → t ≡ s) → IsNotedAt k l x at noted (set noted s v)
+noted_some k l x at s v noted lt is only = record {
+  each = λ t. ⊎_elim (λ (e : t ≡ s). inr (same t e)) (λ (ne : t ≢ s). inl (rw get_or-set_other refl)) (same_or_not t s);
+  here = λ t h. same t (only t h);
+}
+  where
+    same : (t : ℕ) → t ≡ s → slice_index_or (set noted s v) t 0 ≡ low_word (number x t)
+    same t e = ap (λ i. slice_index_or (set noted s v) i 0) e ∙ (rw get_or-set_same is) ∙ ap (λ i. low_word (number x i)) (sym e)
+
+pub noted_none : (k : CaseData) (l : LinksData) (x : List ℤ) (at : ℕ) (noted : List ℕ) → ((t : ℕ) → StandsAt k l at t → ⊥) → IsNotedAt k l x at noted noted
+noted_none k l x at noted none = record { each = λ t. inl refl; here = λ t h. absurd (none t h) }
+
+pub noted_more : (k : CaseData) (l : LinksData) (x : List ℤ) (low at : ℕ) (old new : List ℕ) → AreNoted k l x old low at → IsNotedAt k l x at old new → AreNoted k l x new low (at + 1)
+noted_more k l x low at old new all one p from to t stands =
+    ⊎_elim
+    (λ (less : p < at). ⊎_elim (λ (e : slice_index_or new t 0 ≡ slice_index_or old t 0). e ∙ all p from less t stands) (λ (e : slice_index_or new t 0 ≡ low_word (number x t)). e) (one.each t))
+    (λ (e : p ≡ at). one.here t (subst (λ i. StandsAt k l i t) e stands))
+    (same_or_less p at to)
+
 pub enough_more : (k : CaseData) (l : LinksData) (spans : Spans) (x : List ℤ) (low at : ℕ) → AreEnough k l spans x low at → IsEnoughAt k l spans x at → AreEnough k l spans x low (at + 1)
 enough_more k l spans x low at all one p from to =
     ⊎_elim
@@ -161,7 +181,7 @@ module _ (ranges : NumbersAreInRange) (k : CaseData) (l : LinksData) (spans : Sp
   guess_high = record { numbers = kept.numbers; goal = λ s g. kept.others s (goal_is_closed s g) ∙ high_old.goal s g; above = λ y h under. under }
 
   -- where each state of the part fell below the guess, what it fell to is at or above every lower vector
-  pub fallen_high : GuessIsAbove → (z : List ℤ) (noted : List ℕ) → IsHighUnder k (from_guess spans new) z → AtMost z new → AreNoted new noted (length new) → AreOther k l z noted low high → IsHigh k spans z
+  pub fallen_high : GuessIsAbove → (z : List ℤ) (noted : List ℕ) → IsHighUnder k (from_guess spans new) z → AtMost z new → AreNoted k l new noted low high → AreOther k l z noted low high → IsHigh k spans z
   fallen_high guess z noted fallen below notes others = record {
     numbers = fallen.numbers;
     goal = fallen.goal;
@@ -171,7 +191,7 @@ module _ (ranges : NumbersAreInRange) (k : CaseData) (l : LinksData) (spans : Sp
         fallen.above
         (λ s. either_way (is_open k l low high s)
         (λ e. let o = of_open k l low high s e in
-        let differs : number z s ≡ number new s → ⊥ = λ same. others (position l s) o.from o.to s o.at (notes s (omega (arith, o.at.state, kept.numbers.size)) ∙ ap low_word (sym same)) in
+        let differs : number z s ≡ number new s → ⊥ = λ same. others (position l s) o.from o.to s o.at (notes (position l s) o.from o.to s o.at ∙ ap low_word (sym same)) in
         inl (by_lt_z (number z s) (number new s) (λ lt. lt) (λ le. absurd (differs (omega (arith, linear, le, below s))))))
         (λ e. inr (λ q lower. omega (arith, linear, high_old.above q lower (most q lower) s, kept.others s e))))
         y h;

@@ -12,3 +12,4 @@ pub mod Sweeping
 pub mod Exits
 pub mod BestExit
 pub mod Beginning
+mod Counting

@@ -1,10 +1,13 @@
 -- Weighted sums as means, and what a row of a case gives at the corners of a rectangle.
-use Rattle.std.proofs.Common.{◌≡◌, ℕ, zero, suc, ◌^◌, ◌<◌, ◌≤◌, ◌⊎◌, Bool, true, false, List, [], ◌∷◌, length, get_or, ℤ, pos, ◌+ℤ◌, ◌*ℤ◌, ◌≤ℤ◌, ◌<ℤ◌, refl, sym, ap, ◌∙◌, arith, nat_lt, ltb-true, ltb-false}
+use Rattle.std.proofs.Common.{◌≡◌, ℕ, zero, suc, ◌^◌, ◌<◌, ◌≤◌, ◌⊎◌, Bool, true, false, List, [], ◌∷◌, length, get_or, All, ℤ, pos, ◌+ℤ◌, ◌*ℤ◌, ◌≤ℤ◌, ◌<ℤ◌, refl, sym, ap, ◌∙◌, arith, nat_lt, ltb-true, ltb-false}
 use Rattle.std.proofs.lemmas.Int.{by_lt_z}
 use Rattle.lift_poly.proofs.Ring.{linear, mul-comm, mul-assoc, mul-add, add-mul, mul-zero, zero-mul, one-mul, mul-le, mul-lt}
 use Rattle.lift_grid.specs.Rectangle.{Spans}
 use Rattle.lift_grid.specs.Tree.{RejectData}
 use Rattle.lift_model.specs.declared.entry.Entry.{Entry}
+use Rattle.lift_poly.specs.Polynomial.{Valuation, weight}
+use Rattle.lift_model.specs.Links.{targets_of}
+use Rattle.lift_model.specs.Valid.{IsEntry}
 use Rattle.lift_model.specs.Process.{Move, power, weighted_sum}
 use Rattle.lift_model.specs.Model.{ModelData, support, is_goal, choices, row_at, moves_at}
 use Rattle.corner_lift.specs.Corner.{parameter_count, corner, corner_sum, whole}
@@ -74,6 +77,24 @@ state_of m s a lt = either_way (nat_lt s (length m.states)) (λ e. ltb-true s (l
     past_end (state ∷ states) zero a le lt = omega (arith, le)
     past_end (state ∷ states) (suc s) a le lt = past_end states s a (omega (arith, le)) lt
 
+-- the sum of a row with one entry
+single : (v : Valuation) (f : ℕ → ℤ) (row : List Entry) (t : ℕ) → targets_of row ≡ t ∷ [] → weighted_sum f (moves_at v row) ≡ weighted_sum (λ i. pos 1) (moves_at v row) *ℤ f t
+single v f [] t e = absurd (omega (arith, ap (length {A = ℕ}) e))
+single v f (x ∷ []) t e =
+    let same : x.target ≡ t = ap (λ l. get_or l 0 0) e in
+    let w = weight v x.poly in
+    let all : w *ℤ pos 1 +ℤ pos 0 ≡ w = omega (arith, linear, mul-comm w (pos 1), one-mul w) in
+    omega (arith, linear, ap (λ i. w *ℤ f i) same, ap (λ n. n *ℤ f t) all)
+single v f (x ∷ (y ∷ row)) t e = absurd (omega (arith, ap (length {A = ℕ}) e))
+
+-- and where it leads
+pub only_inside : (n p : ℕ) (row : List Entry) (t : ℕ) → targets_of row ≡ t ∷ [] → All (IsEntry n p) row → t < n
+only_inside n p [] t e h = absurd (omega (arith, ap (length {A = ℕ}) e))
+only_inside n p (x ∷ row) t e h =
+    let same : x.target ≡ t = ap (λ l. get_or l 0 0) e in
+    let here : IsEntry n p x = h 0 x (omega arith) in
+    omega (arith, here.target, same)
+
 -- ---- a choice at the corners of a rectangle inside the root
 
 module _ (k : CaseData) (spans : Spans) (place : Place k spans) (s a : ℕ) (choice : a < length (choices k.model s)) where
@@ -100,6 +121,10 @@ module _ (k : CaseData) (spans : Spans) (place : Place k spans) (s a : ℕ) (cho
 
   pub scaled : (c : ℕ) (q : ℤ) (f : ℕ → ℤ) → corner_sum k.d spans (row_at k.model s a) c (λ t. f t *ℤ q) ≡ corner_sum k.d spans (row_at k.model s a) c f *ℤ q
   scaled c q f = sum-times q f (moves_at (corner k.d spans (support (row_at k.model s a)) c) (row_at k.model s a))
+
+  -- a row with one entry weighs its target's number with all its weight
+  pub only : (c : ℕ) → c < 2 ^ parameter_count spans (support (row_at k.model s a)) → (t : ℕ) → targets_of (row_at k.model s a) ≡ t ∷ [] → (f : ℕ → ℤ) → corner_sum k.d spans (row_at k.model s a) c f ≡ whole k.model k.d spans (row_at k.model s a) *ℤ f t
+  only c lt t e f = single (corner k.d spans (support (row_at k.model s a)) c) f (row_at k.model s a) t e ∙ ap (λ z. z *ℤ f t) (ones c lt)
 
 -- ---- a lower vector
 

@@ -4,11 +4,12 @@ use mir.Syntax.{w128}
 use Rattle.std.proofs.Math.Nat.{lt-div-mul-add, div-lt_iff_lt-mul}
 use Rattle.std.proofs.lemmas.Int.{ints, to_z_pos}
 use Rattle.std.proofs.lemmas.List.Elements.{All-set}
+use Rattle.std.proofs.lemmas.Nat.{pow_pos}
 use Rattle.lift_poly.proofs.Ring.{linear, add-mul, one-mul, mul-comm, mul-le}
 use Rattle.lift_grid.specs.Rectangle.{Spans}
 use Rattle.lift_model.specs.Process.{power}
 use Rattle.lift_model.specs.Model.{is_goal, choices, row_at, support}
-use Rattle.lift_model.specs.Links.{HasChoice}
+use Rattle.lift_model.specs.Links.{HasChoice, targets_of}
 use Rattle.corner_lift.specs.Corner.{whole, parameter_count}
 use Rattle.corner_lift.specs.Case.{CaseData, IsCase, IsInside, IsLeast, number, row_value, row_whole, corner_count}
 use Rattle.corner_lift.specs.Certificate.{AreNumbers}
@@ -16,7 +17,7 @@ use Rattle.corner_lift.specs.Laws.{ParametersAreTheRoots, NumbersAreInRange, Sum
 use Rattle.lower_cert.specs.Lowering.{Run, IsHighUnder, HoldsNoMore, HoldNoMore, IsLowered, IsWrittenLower, total}
 use Rattle.lower_cert.specs.Capping.{CapsAt}
 use Rattle.lower_cert.specs.Laws.{CappingKeepsUnder}
-use Rattle.lower_cert.proofs.Means.{Place}
+use Rattle.lower_cert.proofs.Means.{Place, only, only_inside, positive}
 use Rattle.lower_cert.proofs.Capped.{caps_more}
 
 -- ---- quotients
@@ -54,6 +55,17 @@ holds_no_more parameters k spans x s a m r within least less =
     let same : parameter_count spans (support row) ≡ parameter_count k.root (support row) = parameters k spans row within.within in
     let wholes : (r +ℤ pos 1) *ℤ whole k.model k.d spans row ≡ (r +ℤ pos 1) *ℤ row_whole k s a = ap (λ n. (r +ℤ pos 1) *ℤ (k.model.common *ℤ power k.d n)) same in
     λ low. (least.attained.0, (subst (λ n. least.attained.0 < 2 ^ n) (sym same) least.attained.1.0, inr (inr (omega (arith, linear, less, least.attained.1.1, wholes)))))
+
+-- the only target of a row is a state
+pub target_inside : (k : CaseData) (s a t n : ℕ) → IsCase k → HasChoice k.model s a → targets_of (row_at k.model s a) ≡ t ∷ [] → n ≡ length k.model.states → t < n
+target_inside k s a t n is has one size = omega (arith, size, only_inside (length k.model.states) (length k.model.names) (row_at k.model s a) t one (is.asked.model.rows s [] has.state a [] has.choice).entries)
+
+-- a choice whose row has one entry holds its target's number, and no more
+pub only_holds : (k : CaseData) (spans : Spans) (place : Place k spans) (x : List ℤ) (s a t : ℕ) → a < length (choices k.model s) → targets_of (row_at k.model s a) ≡ t ∷ [] → HoldsNoMore k spans x s a (number x t)
+only_holds k spans place x s a t choice one low =
+    let full = whole k.model k.d spans (row_at k.model s a) in
+    let some = pow_pos (parameter_count spans (support (row_at k.model s a))) in
+    (0, (some, inr (inr (omega (arith, linear, only k spans place s a choice 0 some t one (number x), positive k spans place s a choice, add-mul (number x t) (pos 1) full, one-mul full, mul-comm full (number x t))))))
 
 -- of a choice that holds the state's own number there is nothing to say
 pub holds_itself : (k : CaseData) (spans : Spans) (x : List ℤ) (s a : ℕ) → HoldsNoMore k spans x s a (number x s)

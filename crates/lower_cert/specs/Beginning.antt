@@ -38,9 +38,14 @@ pub record IsFilledAt (k : CaseData) (l : LinksData) (low high at : ℕ) (v : �
 abbrev pub low_word : ℤ → ℕ
 low_word n = unsigned_abs n % 4294967296
 
--- the low bits of the first numbers were noted, so many of them
-abbrev pub AreNoted : List ℤ → List ℕ → ℕ → Type 0
-AreNoted x noted n = (s : ℕ) → s < n → slice_index_or noted s 0 ≡ low_word (number x s)
+-- those of the number of the state at a position were noted, and all else is as it was or noted
+pub record IsNotedAt (k : CaseData) (l : LinksData) (x : List ℤ) (at : ℕ) (old new : List ℕ) : Type 0 where
+  pub each : (s : ℕ) → (slice_index_or new s 0 ≡ slice_index_or old s 0) ⊎ (slice_index_or new s 0 ≡ low_word (number x s))
+  pub here : (s : ℕ) → StandsAt k l at s → slice_index_or new s 0 ≡ low_word (number x s)
+
+-- those of the states of a part were noted
+abbrev pub AreNoted : CaseData → LinksData → List ℤ → List ℕ → ℕ → ℕ → Type 0
+AreNoted k l x noted low high = (at : ℕ) → low ≤ at → at < high → (s : ℕ) → StandsAt k l at s → slice_index_or noted s 0 ≡ low_word (number x s)
 
 -- the state at a position has another number than the one of which that was noted
 abbrev pub IsOtherAt : CaseData → LinksData → List ℤ → List ℕ → ℕ → Type 0

@@ -12,7 +12,7 @@ ghost use Rattle.lower_cert.specs.Exits.{AreLevel, CanExit, ExitsAtMost, Choices
 
 use crate::laws::vectors_are_lowered;
 use crate::lower::{NONE, rank_of};
-use crate::sweep::{exit, greater, lesser};
+use crate::sweep::{choice_count, exit, greater, lesser};
 use corner_lift::{
     Case, corners_bound_weights, rows_at_corners, table_into, table_value, table_whole,
 };
@@ -112,8 +112,9 @@ fn exit_of_choices(
 {
     rows_at_corners();
     corners_bound_weights();
+    let _ = case.w();
     let mut most = 0;
-    for a in 0..case.model().choices(s) {
+    for a in 0..choice_count(case, links, s) {
         let other = exit_of_choice(case, links, weights, lane, marks, level, s, a);
         most = greater(most, other);
     }

@@ -6,6 +6,8 @@ mod exit;
 mod greatest;
 mod laws;
 mod lower;
+mod part;
+mod raise;
 mod sweep;
 
 pub use greatest::{Rate, greatest_reject, greatest_reject_above};

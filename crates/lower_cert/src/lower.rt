@@ -10,7 +10,8 @@ ghost use Rattle.robust_rank.specs.Staging.{row_count};
 ghost use Rattle.lower_cert.specs.Lowering.{IsRead, HasPlaces, IsHigh, IsRanked, AreToldBefore, IsStuckLevel, IsLoweredAt, total};
 
 use crate::laws::vectors_are_lowered;
-use corner_lift::{Case, one_at, rows_at_corners, table_min, table_whole};
+use crate::sweep::{choice_count, only_target};
+use corner_lift::{Case, Weighed, corners_bound_weights, one_at, rows_at_corners, table_least};
 use lift_model::Links;
 use robust_rank::{attract, ranks_go_by_stages};
 
@@ -46,6 +47,13 @@ pub(crate) fn is_at_most(a: i128, b: i128) -> bool
     a <= b
 }
 
+/// The same for numbers.
+fn is_no_more(a: i64, b: i64) -> bool
+    ensures { IsTrue result ↔ a ≤ℤ b }
+{
+    a <= b
+}
+
 /// Whether the state's choice holds its number at each corner.
 fn is_allowed(case: &Case, links: &Links, weights: &[i128], lane: &[i64], s: u32, a: u32) -> bool
     ghost spans: { Spans }
@@ -55,10 +63,17 @@ fn is_allowed(case: &Case, links: &Links, weights: &[i128], lane: &[i64], s: u32
     ensures { IsTrue result ↔ IsAllowed case.now spans (number lane.now) s a }
 {
     rows_at_corners();
+    corners_bound_weights();
     let _ = case.w();
-    let whole = table_whole(case, links, weights, s, a);
-    let least = table_min(case, links, weights, s, a, lane);
-    is_at_most(times(lane[s as usize], whole), least)
+    let number = lane[s as usize];
+    if number <= 0 {
+        return true;
+    }
+    if let Some(target) = only_target(case, links, s, a) {
+        return is_no_more(number, lane[target as usize]);
+    }
+    let Weighed { sum, whole } = table_least(case, links, weights, s, a, lane);
+    is_at_most(times(number, whole), sum)
 }
 
 /// 1 for what is so, and 0 for what isn't.
@@ -86,7 +101,7 @@ fn allow_state(
     requires told { AreToldBefore case.now spans lane.now allowed.old s 0 }
     ensures told { AreToldBefore case.now spans lane.now allowed.new (s + 1) 0 }
 {
-    for a in 0..case.model().choices(s) {
+    for a in 0..choice_count(case, links, s) {
         let row = links.row_place(s, a);
         allowed[row] = flag(is_allowed(case, links, weights, lane, s, a));
     }

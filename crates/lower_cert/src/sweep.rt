@@ -1,6 +1,6 @@
 //! Lowering states one by one to what their choices hold.
 
-ghost use Rattle.std.specs.Prelude.{◌≡◌, ◌^◌, ◌*◌, ◌/◌, ◌<◌, ◌≤◌, ◌⊎◌, ◌≤ℤ◌, ◌<ℤ◌, ◌+ℤ◌, ◌-ℤ◌, ◌*ℤ◌, pos, length, unsigned_abs, Contains, IsFalse, true, false};
+ghost use Rattle.std.specs.Prelude.{◌≡◌, ◌^◌, ◌*◌, ◌/◌, ◌<◌, ◌≤◌, ◌⊎◌, ◌≤ℤ◌, ◌<ℤ◌, ◌+ℤ◌, ◌-ℤ◌, ◌*ℤ◌, pos, length, unsigned_abs, Contains, IfSome, [], ◌∷◌, IsFalse, true, false};
 ghost use Rattle.lift_grid.specs.Rectangle.{Spans};
 ghost use Rattle.lift_model.specs.Model.{is_goal, choices, row_at};
 ghost use Rattle.lift_model.specs.Links.{AreLinks, HasChoice, state_count, targets_of};
@@ -10,7 +10,7 @@ ghost use Rattle.lower_cert.specs.Lowering.{Run, CanWeigh, CanLower, IsExit, Hol
 use crate::laws::vectors_are_lowered;
 use crate::lower::times;
 use corner_lift::{
-    Case, corners_bound_weights, rows_at_corners, table_loop, table_min, table_value, table_whole,
+    AtCorner, Case, Weighed, corners_bound_weights, rows_at_corners, table_corner, table_least,
 };
 use lift_model::Links;
 
@@ -87,9 +87,7 @@ fn exit_at(
     rows_at_corners();
     corners_bound_weights();
     let _ = case.w();
-    let whole = table_whole(case, links, weights, s, a);
-    let own = table_loop(case, links, weights, s, a, corner);
-    let sum = table_value(case, links, weights, s, a, corner, lane);
+    let AtCorner { sum, whole, own } = table_corner(case, links, weights, s, a, corner, lane);
     exit(lane[s as usize], sum, own, whole)
 }
 
@@ -141,6 +139,22 @@ fn has_loop(case: &Case, links: &Links, s: u32, a: u32) -> bool
     false
 }
 
+/// The target of a row that has only one.
+#[inline]
+pub(crate) fn only_target(case: &Case, links: &Links, s: u32, a: u32) -> Option<u32>
+    requires links { AreLinks case.now.model links.now }
+    requires row { HasChoice case.now.model s a }
+    ensures { IfSome result (λ t. targets_of (row_at case.now.model s a) ≡ t ∷ []) }
+{
+    let _ = case.model();
+    let targets = links.targets(links.place(s, a));
+    if targets.len() == 1 {
+        Some(targets[0])
+    } else {
+        None
+    }
+}
+
 /// How high a state is held by a choice without a self loop: its least weighted mean over the corners,
 /// rounded down.
 fn held_by_least(case: &Case, links: &Links, weights: &[i128], lane: &[i64], s: u32, a: u32) -> i64
@@ -153,8 +167,7 @@ fn held_by_least(case: &Case, links: &Links, weights: &[i128], lane: &[i64], s: 
     rows_at_corners();
     let _ = case.w();
     let number = lane[s as usize];
-    let sum = table_min(case, links, weights, s, a, lane);
-    let whole = table_whole(case, links, weights, s, a);
+    let Weighed { sum, whole } = table_least(case, links, weights, s, a, lane);
     if times(number, whole) <= sum {
         return number;
     }
@@ -169,6 +182,14 @@ fn held(case: &Case, links: &Links, weights: &[i128], lane: &[i64], s: u32, a: u
     ensures least { pos 0 ≤ℤ result }
     ensures most { HoldsNoMore case.now spans lane.now s a result }
 {
+    rows_at_corners();
+    corners_bound_weights();
+    let _ = case.w();
+    if let Some(target) = only_target(case, links, s, a) {
+        if target != s {
+            return lane[target as usize];
+        }
+    }
     if has_loop(case, links, s, a) {
         held_at_corners(case, links, weights, lane, s, a)
     } else {
@@ -183,6 +204,17 @@ pub(crate) fn greater(a: i64, b: i64) -> i64
     if a < b { b } else { a }
 }
 
+/// How many choices a state has, by the links, whose lists lie closer together than the model's.
+#[inline]
+pub(crate) fn choice_count(case: &Case, links: &Links, s: u32) -> u32
+    requires links { AreLinks case.now.model links.now }
+    requires state { s < length case.now.model.states }
+    ensures { result ≡ length (choices case.now.model s) }
+{
+    let _ = case.model();
+    links.places(s).len() as u32
+}
+
 /// The greatest number that a choice of the state holds. Where a choice holds the state's own, it looks at
 /// no further one.
 fn most_held(case: &Case, links: &Links, weights: &[i128], lane: &[i64], s: u32) -> i64
@@ -193,9 +225,10 @@ fn most_held(case: &Case, links: &Links, weights: &[i128], lane: &[i64], s: u32)
 {
     rows_at_corners();
     corners_bound_weights();
+    let _ = case.w();
     let number = lane[s as usize];
     let mut most = 0;
-    for a in 0..case.model().choices(s) {
+    for a in 0..choice_count(case, links, s) {
         most = greater(most, held(case, links, weights, lane, s, a));
         if number <= most {
             return most;
@@ -231,42 +264,60 @@ fn lower_state(case: &Case, links: &Links, weights: &[i128], lane: &mut [i64], s
     write_lower(lane, s, number)
 }
 
-/// Lowers a state, if it is one, no goal state, and above 0.
+/// Lowers a state, if it is no goal state and above 0.
+#[inline]
 fn try_state(case: &Case, links: &Links, weights: &[i128], lane: &mut [i64], s: u32) -> bool
     ghost run: { Run }
-    requires { CanLower case.now links.now run weights.now lane.old }
+    requires can { CanLower case.now links.now run weights.now lane.old }
+    requires state { s < length case.now.model.states }
     ensures { IsLowered case.now run lane.old lane.new result }
 {
-    let model = case.model();
-    if s >= model.states() || model.is_goal(s) || lane[s as usize] <= 0 {
+    if lane[s as usize] <= 0 || case.model().is_goal(s) {
         return false;
     }
     lower_state(case, links, weights, lane, s)
 }
 
-/// Flags a position, where there is one.
-fn set_flag(work: &mut [u32], position: u32) {
-    if let Some(flag) = work.get_mut(position as usize) {
-        *flag = 1;
-    }
-}
-
-/// Flags the positions of the states that lead to a state, but for its own: what it was lowered to is held,
-/// with its self loops.
-pub(crate) fn flag_before(links: &Links, work: &mut [u32], s: u32, position: u32)
-    requires { s < state_count links.now }
-{
-    for p in links.positions_before(s) {
-        if *p != position {
-            set_flag(work, *p);
+/// Flags a position that lies before the frontier.
+#[inline]
+fn set_flag(work: &mut [u32], position: u32, frontier: u32) {
+    if position < frontier {
+        if let Some(flag) = work.get_mut(position as usize) {
+            *flag = 1;
         }
     }
 }
 
-/// Flags all positions.
-pub(crate) fn flag_all(work: &mut [u32]) {
+/// Flags the positions of the states that lead to a state, as far as they lie before the frontier, but for
+/// its own.
+#[inline]
+pub(crate) fn flag_before(links: &Links, work: &mut [u32], s: u32, own: u32, frontier: u32)
+    requires { s < state_count links.now }
+{
+    for position in links.positions_before(s) {
+        if *position != own {
+            set_flag(work, *position, frontier);
+        }
+    }
+}
+
+/// Takes away the flag of a position, and tells whether there was one.
+#[inline]
+pub(crate) fn take_flag(work: &mut [u32], position: u32) -> bool
+    requires { position < length work.old }
+{
+    let place = position as usize;
+    if work[place] == 0 {
+        return false;
+    }
+    work[place] = 0;
+    true
+}
+
+/// Takes away all flags.
+pub(crate) fn clear_flags(work: &mut [u32]) {
     for i in 0..work.len() {
-        work[i] = 1;
+        work[i] = 0;
     }
 }
 
@@ -277,14 +328,43 @@ pub(crate) fn flag_marked(case: &Case, links: &Links, marks: &[u32], work: &mut 
 {
     for s in 0..case.model().states() {
         if marks[s as usize] == 0 {
-            set_flag(work, links.position(s));
-            flag_before(links, work, s, u32::MAX);
+            set_flag(work, links.position(s), u32::MAX);
+            flag_before(links, work, s, u32::MAX, u32::MAX);
         }
     }
 }
 
-/// Lowers the state at a position, if it is flagged, and flags those that lead to it where it fell. Tells
-/// whether it did.
+/// Lowers the state at a position, and where it fell, flags those that lead to it, as far as they lie before
+/// the frontier. The state itself needs no flag: what it was lowered to is held, with its self loops. Tells
+/// whether it fell.
+#[inline]
+pub(crate) fn visit(
+    case: &Case,
+    links: &Links,
+    weights: &[i128],
+    lane: &mut [i64],
+    work: &mut [u32],
+    position: u32,
+    frontier: u32,
+) -> bool
+    ghost run: { Run }
+    requires can { CanLower case.now links.now run weights.now lane.old }
+    requires position { position < length links.now.order }
+    ensures { IsLowered case.now run lane.old lane.new result }
+{
+    let s = links.order()[position as usize];
+    if s >= case.model().states() {
+        return false;
+    }
+    let fell = try_state(case, links, weights, lane, s);
+    if fell {
+        flag_before(links, work, s, position, frontier);
+    }
+    fell
+}
+
+/// Visits the state at a position, if it is flagged, and tells whether it fell.
+#[inline]
 fn turn(
     case: &Case,
     links: &Links,
@@ -292,26 +372,20 @@ fn turn(
     lane: &mut [i64],
     work: &mut [u32],
     position: u32,
+    frontier: u32,
 ) -> bool
     ghost run: { Run }
     requires can { CanLower case.now links.now run weights.now lane.old }
     requires position { (position < length work.old) × (position < length links.now.order) }
     ensures { IsLowered case.now run lane.old lane.new result }
 {
-    let place = position as usize;
-    if work[place] == 0 {
+    if !take_flag(work, position) {
         return false;
     }
-    work[place] = 0;
-    let s = links.order()[place];
-    let lower = try_state(case, links, weights, lane, s);
-    if lower && s < case.model().states() {
-        flag_before(links, work, s, position);
-    }
-    lower
+    visit(case, links, weights, lane, work, position, frontier)
 }
 
-/// Takes the turns of some positions, and tells whether a state fell.
+/// Visits the flagged states at some positions, and tells whether one fell.
 pub(crate) fn pass(
     case: &Case,
     links: &Links,
@@ -320,23 +394,24 @@ pub(crate) fn pass(
     work: &mut [u32],
     low: u32,
     high: u32,
+    frontier: u32,
 ) -> bool
     ghost run: { Run }
     requires can { CanLower case.now links.now run weights.now lane.old }
     requires high { (high ≤ length work.old) × (high ≤ length links.now.order) }
     ensures { IsLowered case.now run lane.old lane.new result }
 {
-    let mut lower = false;
+    let mut fell = false;
     for position in low..high {
-        if turn(case, links, weights, lane, work, position) {
-            lower = true;
+        if turn(case, links, weights, lane, work, position, frontier) {
+            fell = true;
         }
     }
-    lower
+    fell
 }
 
 /// Lowers the states at some positions until none of them is flagged, or the initial state's number isn't
-/// above the limit.
+/// above the limit. A single state needs one visit.
 pub(crate) fn settle_part(
     case: &Case,
     links: &Links,
@@ -346,6 +421,7 @@ pub(crate) fn settle_part(
     work: &mut [u32],
     low: u32,
     high: u32,
+    frontier: u32,
 )
     ghost run: { Run }
     requires can { CanLower case.now links.now run weights.now lane.old }
@@ -353,7 +429,16 @@ pub(crate) fn settle_part(
     ensures { IsLowered case.now run lane.old lane.new false }
 {
     let init = case.model().init() as usize;
-    while pass(case, links, weights, lane, work, low, high) && lane[init] > limit {}
+    while pass(case, links, weights, lane, work, low, high, frontier)
+        && !is_single(low, high)
+        && lane[init] > limit
+    {}
+}
+
+/// Whether these are the positions of one state.
+#[inline]
+pub(crate) fn is_single(low: u32, high: u32) -> bool {
+    low.saturating_add(1) >= high
 }
 
 /// Where the component ends that begins at a position, or the last of so many positions.
@@ -387,7 +472,7 @@ pub(crate) fn settle(
     let mut low = 0;
     while low < states {
         let high = component_end(links, low, states);
-        settle_part(case, links, weights, limit, lane, work, low, high);
+        settle_part(case, links, weights, limit, lane, work, low, high, states);
         low = high;
     }
 }

@@ -4,6 +4,9 @@ use Rattle.lower_cert.proofs.begin.begin_part.Given as goal
 abbrev pub ghost-settle_within : goal.ghost-settle_within
 ghost-settle_within g a = from_top a.case.now g.spans
 
+abbrev pub ghost-visit_first : goal.ghost-visit_first
+ghost-visit_first g a = from_top a.case.now g.spans
+
 abbrev pub ghost-lower_from_guess : goal.ghost-lower_from_guess
 ghost-lower_from_guess g a = g.spans
 

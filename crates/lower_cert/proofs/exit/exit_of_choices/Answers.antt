@@ -1,5 +1,4 @@
-use Rattle.std.proofs.Common.{rules, ap, length, SFits, w64, to_z, of_z, to_z-of_z, arith}
-use Rattle.lift_model.specs.Model.{choices}
+use Rattle.std.proofs.Common.{rules, SFits, w64, to_z, of_z, to_z-of_z, arith}
 use Rattle.lower_cert.proofs.Means.{Premises, stand}
 use Rattle.lower_cert.proofs.BestExit.{choices_next, choices_all}
 use Rattle.lower_cert.proofs.exit.exit_of_choices.Goals as goal
@@ -8,11 +7,11 @@ pub loop-a-preserved : goal.loop-a-preserved
 loop-a-preserved g c =
     let corners = c.rows_at_corners.ensures in
     let laws : Premises = record { numbers = corners.numbers; rise = corners.rise; sums = c.corners_bound_weights.ensures.sum; parameters = corners.parameters } in
-    let place = stand laws c.args.case.now g.spans c.model.ensures.case c.requires.0.read.table.inside in
+    let place = stand laws c.args.case.now g.spans c.w.ensures.case c.requires.0.read.table.inside in
     let fits : SFits w64 c.greater-most.result = search rules in
     let other_fits : SFits w64 c.exit_of_choice-other.result = search rules in
     let up = rw (to_z-of_z other_fits) at c.greater-most.ensures in
     rw (to_z-of_z fits) (choices_next c.args.case.now g.spans place c.args.lane.now c.args.marks.now (to_z w64 (of_z w64 c.args.level)) c.args.s c.loop-a.a _ c.exit_of_choice-other.result c.greater-most.result c.loop-a.invariant c.exit_of_choice-other.ensures.most up.0 up.1.0)
 
 pub returns : goal.returns
-returns g c = choices_all c.args.case.now g.spans c.args.lane.now c.args.marks.now (to_z w64 (of_z w64 c.args.level)) c.args.level c.args.s c.loop-a.a _ (to_z-of_z c.ranges.level) (omega (arith, c.loop-a-test.false, c.choices-a-end.ensures, ap (λ m. length (choices m c.args.s)) c.model.ensures.value)) c.loop-a.invariant
+returns g c = choices_all c.args.case.now g.spans c.args.lane.now c.args.marks.now (to_z w64 (of_z w64 c.args.level)) c.args.level c.args.s c.loop-a.a _ (to_z-of_z c.ranges.level) (omega (arith, c.loop-a-test.false, c.choice_count-a-end.ensures)) c.loop-a.invariant

@@ -5,4 +5,4 @@ abbrev pub ghost-turn : goal.ghost-turn
 ghost-turn g a = g.run
 
 abbrev pub invariant-loop-position : goal.invariant-loop-position
-invariant-loop-position g l = IsLowered l.case g.run l.initial.lane l.lane l.lower
+invariant-loop-position g l = IsLowered l.case g.run l.initial.lane l.lane l.fell

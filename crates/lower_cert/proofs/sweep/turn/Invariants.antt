@@ -1,4 +1,4 @@
 use Rattle.lower_cert.proofs.sweep.turn.Given as goal
 
-abbrev pub ghost-try_state : goal.ghost-try_state
-ghost-try_state g a = g.run
+abbrev pub ghost-visit : goal.ghost-visit
+ghost-visit g a = g.run

@@ -1,6 +1,0 @@
-use Rattle.std.proofs.Common.{to_z-of_z}
-use Rattle.lower_cert.proofs.Beginning.{some_same, filled_some}
-use Rattle.lower_cert.proofs.begin.fill_at.Goals as goal
-
-pub returns-in-Some : goal.returns-in-Some
-returns-in-Some c = rw (to_z-of_z c.ranges.number) (filled_some c.args.case.now c.args.links.now c.args.low c.args.high c.args.position c.in-Some.s c.args.lane.now c.args.number c.requires.numbers c.requires.part.0 c.requires.part.1 c.in-Some.ensures.some c.requires.number.0 c.requires.number.1 (λ t h. some_same c.in-Some.s t (c.in-Some.ensures.all t h)))

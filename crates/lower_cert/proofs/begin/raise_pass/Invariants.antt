@@ -1,9 +1,0 @@
-use Rattle.float_guess.specs.Part.{KeepsOthers}
-use Rattle.lower_cert.proofs.begin.raise_pass.Given as goal
-
-abbrev pub ghost-raise_turn : goal.ghost-raise_turn
-ghost-raise_turn g a = g.spans
-
--- all else is as it was
-abbrev pub invariant-loop-position : goal.invariant-loop-position
-invariant-loop-position g l = KeepsOthers l.case l.links l.low l.high l.initial.lane l.lane

@@ -1,4 +1,0 @@
-use Rattle.lower_cert.proofs.begin.raise_turn.Given as goal
-
-abbrev pub ghost-raised : goal.ghost-raised
-ghost-raised g a = g.spans

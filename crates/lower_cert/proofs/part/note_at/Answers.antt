@@ -1,0 +1,10 @@
+use Rattle.std.proofs.Common.{rules, ◌∙◌, ap, SFits, w64, to_z-of_z, arith}
+use Rattle.corner_lift.specs.Case.{number}
+use Rattle.lower_cert.specs.Beginning.{low_word}
+use Rattle.lower_cert.proofs.Beginning.{some_same, noted_some}
+use Rattle.lower_cert.proofs.part.note_at.Goals as goal
+
+pub returns-in-Some : goal.returns-in-Some
+returns-in-Some c =
+    let fits : SFits w64 (number c.args.lane.now c.in-Some.s) = search rules in
+    noted_some c.args.case.now c.args.links.now c.args.lane.now c.args.position c.in-Some.s c.low_word_of.result c.args.noted.now (omega (arith, c.requires.notes, c.in-Some.ensures.some.state)) (c.low_word_of.ensures ∙ ap low_word (to_z-of_z fits)) (λ t h. some_same c.in-Some.s t (c.in-Some.ensures.all t h))

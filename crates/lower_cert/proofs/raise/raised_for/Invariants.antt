@@ -1,0 +1,4 @@
+use Rattle.lower_cert.proofs.raise.raised_for.Given as goal
+
+abbrev pub ghost-table_least : goal.ghost-table_least
+ghost-table_least g a = g.spans
