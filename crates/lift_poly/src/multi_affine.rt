@@ -8,8 +8,8 @@ ghost use Rattle.lift_poly.specs.MultiAffine.{IsMultiAffine, narrow, product_ans
 
 use crate::error::PolyError;
 use crate::terms::{
-    add_term, common_divisor, multiple_terms, product_terms, push_kept, push_term, quotient_terms,
-    sum_terms,
+    add_each, add_term, common_divisor, have_same_sets, multiple_terms, product_terms, push_kept,
+    push_term, quotient_terms, sum_terms,
 };
 use std::alloc::{AllocError, Global};
 use std::marker::Model;
@@ -158,6 +158,20 @@ impl MultiAffine {
         Ok(MultiAffine { terms })
     }
 
+    /// The same sum, made in place where both polynomials have terms at the same sets.
+    pub fn add_in_place(self, alloc: Global, other: &MultiAffine) -> Result<MultiAffine, PolyError>
+        ensures answer { result ≢ Err PolyError.Memory → result ≡ narrow (sum self other.now) }
+        ensures fits { IfOk result IsMultiAffine }
+    {
+        let MultiAffine { mut terms } = self;
+        if have_same_sets(&terms, &other.terms) {
+            add_each(&mut terms, &other.terms)?;
+            return Ok(MultiAffine { terms });
+        }
+        let terms = sum_terms(alloc, &terms, &other.terms)?;
+        Ok(MultiAffine { terms })
+    }
+
     /// The polynomial times a number of size below 2^125. `Wide` exactly where one of the result's
     /// coefficients has a size of 2^125 or more. Linear in the number of terms.
     pub fn scale(&self, alloc: Global, by: i128) -> Result<MultiAffine, PolyError>
@@ -165,10 +179,20 @@ impl MultiAffine {
         ensures answer { result ≢ Err PolyError.Memory → result ≡ narrow (scaled by self.now) }
         ensures fits { IfOk result IsMultiAffine }
     {
+        self.copy(alloc)?.scale_in_place(by)
+    }
+
+    /// The same multiple, made in place.
+    pub fn scale_in_place(self, by: i128) -> Result<MultiAffine, PolyError>
+        requires { unsigned_abs by < term_limit }
+        ensures answer { result ≡ narrow (scaled by self) }
+        ensures fits { IfOk result IsMultiAffine }
+    {
+        let MultiAffine { terms } = self;
         if by == 1 {
-            return Ok(self.copy(alloc)?);
+            return Ok(MultiAffine { terms });
         }
-        let terms = multiple_terms(alloc, &self.terms, by)?;
+        let terms = multiple_terms(terms, by)?;
         Ok(MultiAffine { terms })
     }
 
@@ -180,10 +204,19 @@ impl MultiAffine {
             → result ≡ product_answer self.now other.now }
         ensures fits { IfOk result IsMultiAffine }
     {
+        let other = other.copy(alloc)?;
+        self.copy(alloc)?.mul_in_place(other)
+    }
+
+    /// The same product, made in the memory of the factor that has more terms, as far as it reaches.
+    pub fn mul_in_place(self, other: MultiAffine) -> Result<MultiAffine, PolyError>
+        ensures answer { result ≢ Err PolyError.Memory → result ≡ product_answer self other }
+        ensures fits { IfOk result IsMultiAffine }
+    {
         if self.support() & other.support() != 0 {
             return Err(PolyError::SharedParameter);
         }
-        let terms = product_terms(alloc, &self.terms, &other.terms)?;
+        let terms = product_terms(self.terms, other.terms)?;
         Ok(MultiAffine { terms })
     }
 

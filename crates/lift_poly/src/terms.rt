@@ -1,7 +1,7 @@
 //! The arithmetic on lists of terms, of which `MultiAffine` is made.
 ghost use Rattle.std.specs.Prelude.{◌≡◌, ◌≢◌, ◌+◌, ◌*ℤ◌, ◌<ℤ◌, pos, [], ◌∷◌, ◌++◌, true, false};
 ghost use Rattle.std.specs.Prelude.{ℕ, bit_and, unsigned_abs, Ok, Err, OnOk, IfOk, IfErr};
-ghost use Rattle.std.specs.Prelude.{if◌then◌else◌, ◌<◌, ◌≤◌, length, take, drop};
+ghost use Rattle.std.specs.Prelude.{if◌then◌else◌, ◌<◌, ◌≤◌, ◌↔◌, IsTrue, length, map, take, drop};
 ghost use Rattle.std.specs.List.{list_any, insert};
 ghost use Rattle.std.specs.Int.{IsGcd};
 ghost use Rattle.lift_poly.specs.Arithmetic.{kept, sum, times, scaled, quotient, products_of};
@@ -106,22 +106,97 @@ pub(crate) fn add_term(terms: &mut Vec<(u16, i128)>, term: (u16, i128)) -> Resul
     Ok(())
 }
 
-/// Adds the products of one term with each of the others at the end.
-pub(crate) fn push_products(
-    terms: &mut Vec<(u16, i128)>,
-    term: (u16, i128),
-    others: &[(u16, i128)],
-) -> Result<(), PolyError>
+/// Adds the products of a term with each of the first terms at the end.
+fn push_row(terms: &mut Vec<(u16, i128)>, term: (u16, i128), count: usize) -> Result<(), PolyError>
+    requires { count ≤ length terms.old.items }
     ensures products { OnOk result (terms.new.items
-        ≡ terms.old.items ++ products_of term others.now) }
-    ensures fits { OnOk result (list_any is_wide (products_of term others.now) ≡ false) }
-    ensures causes { IfErr result (λ e. e ≢ PolyError.Memory
-        → (e ≡ PolyError.Wide) × (list_any is_wide (products_of term others.now) ≡ true)) }
+        ≡ terms.old.items ++ products_of term (take count terms.old.items)) }
+    ensures fits { OnOk result (list_any is_wide (products_of term (take count terms.old.items))
+        ≡ false) }
+    ensures causes { IfErr result (λ e. e ≢ PolyError.Memory → (e ≡ PolyError.Wide)
+        × (list_any is_wide (products_of term (take count terms.old.items)) ≡ true)) }
 {
-    for other in others {
+    for i in 0..count {
+        let other = terms[i];
         let coefficient = product_of(term.1, other.1)?;
         push_term(terms, (term.0 | other.0, coefficient))?;
     }
+    Ok(())
+}
+
+/// Multiplies each of the first terms by a term, in its place.
+fn multiply_row(
+    terms: &mut Vec<(u16, i128)>,
+    term: (u16, i128),
+    count: usize,
+) -> Result<(), PolyError>
+    requires { count ≤ length terms.old.items }
+    ensures products { OnOk result (terms.new.items
+        ≡ products_of term (take count terms.old.items) ++ drop count terms.old.items) }
+    ensures fits { OnOk result (list_any is_wide (products_of term (take count terms.old.items))
+        ≡ false) }
+    ensures causes { IfErr result (λ e. (e ≡ PolyError.Wide)
+        × (list_any is_wide (products_of term (take count terms.old.items)) ≡ true)) }
+{
+    for i in 0..count {
+        let other = terms[i];
+        let coefficient = product_of(term.1, other.1)?;
+        terms[i] = (term.0 | other.0, coefficient);
+    }
+    Ok(())
+}
+
+/// Whether two polynomials have terms at the same sets.
+pub(crate) fn have_same_sets(left: &[(u16, i128)], right: &[(u16, i128)]) -> bool
+    ensures { IsTrue result ↔ (map (λ term. term.0) left.now ≡ map (λ term. term.0) right.now) }
+{
+    if left.len() != right.len() {
+        return false;
+    }
+    for i in 0..left.len() {
+        if left[i].0 != right[i].0 {
+            return false;
+        }
+    }
+    true
+}
+
+/// Puts a term at a place, unless its coefficient is 0, and gives the place behind it.
+fn keep_term(terms: &mut Vec<(u16, i128)>, place: usize, term: (u16, i128)) -> usize
+    requires { place < length terms.old.items }
+    ensures front { take result terms.new.items ≡ take place terms.old.items ++ kept term [] }
+    ensures rest { drop (place + 1) terms.new.items ≡ drop (place + 1) terms.old.items }
+    ensures len { length terms.new.items ≡ length terms.old.items }
+    ensures behind { (place ≤ result) × (result ≤ place + 1) }
+{
+    if term.1 == 0 {
+        return place;
+    }
+    terms[place] = term;
+    place + 1
+}
+
+/// Adds a polynomial with terms at the same sets, in place. `Wide` exactly where a coefficient of the
+/// sum has a size of 2^125 or more. Linear in the number of terms.
+pub(crate) fn add_each(
+    terms: &mut Vec<(u16, i128)>,
+    others: &[(u16, i128)],
+) -> Result<(), PolyError>
+    requires left { IsMultiAffine terms.old.items }
+    requires right { IsMultiAffine others.now }
+    requires sets { map (λ term. term.0) terms.old.items ≡ map (λ term. term.0) others.now }
+    ensures sum { OnOk result (terms.new.items ≡ sum terms.old.items others.now) }
+    ensures fits { OnOk result (IsMultiAffine terms.new.items) }
+    ensures causes { IfErr result (λ e. (e ≡ PolyError.Wide)
+        × (list_any is_wide (sum terms.old.items others.now) ≡ true)) }
+{
+    let mut end = 0;
+    for i in 0..others.len() {
+        let term = terms[i];
+        let coefficient = within_limit(term.1 + others[i].1)?;
+        end = keep_term(terms, end, (term.0, coefficient));
+    }
+    terms.truncate(end);
     Ok(())
 }
 
@@ -138,7 +213,7 @@ pub(crate) fn sum_terms(
     ensures causes { IfErr result (λ e. e ≢ PolyError.Memory
         → (e ≡ PolyError.Wide) × (list_any is_wide (sum left.now right.now) ≡ true)) }
 {
-    let mut terms = Vec::new(alloc);
+    let mut terms = Vec::with_capacity(alloc, left.len() + right.len())?;
     let (mut i, mut j) = (0, 0);
     while i < left.len() && j < right.len() {
         let (a, b) = (left[i], right[j]);
@@ -159,46 +234,54 @@ pub(crate) fn sum_terms(
     Ok(terms)
 }
 
-/// The terms of a multiple. Linear in the number of terms.
+/// The terms of a multiple, in their places. Linear in the number of terms.
 pub(crate) fn multiple_terms(
-    alloc: Global,
-    terms: &[(u16, i128)],
+    terms: Vec<(u16, i128)>,
     by: i128,
 ) -> Result<Vec<(u16, i128)>, PolyError>
-    requires { IsMultiAffine terms.now }
-    ensures multiple { IfOk result (λ v. v.items ≡ scaled by terms.now) }
+    requires { IsMultiAffine terms.items }
+    ensures multiple { IfOk result (λ v. v.items ≡ scaled by terms.items) }
     ensures fits { IfOk result (λ v. IsMultiAffine v.items) }
-    ensures causes { IfErr result (λ e. e ≢ PolyError.Memory
-        → (e ≡ PolyError.Wide) × (list_any is_wide (scaled by terms.now) ≡ true)) }
+    ensures causes { IfErr result (λ e. (e ≡ PolyError.Wide)
+        × (list_any is_wide (scaled by terms.items) ≡ true)) }
 {
+    let mut multiple = terms;
     if by == 0 {
-        return Ok(Vec::new(alloc));
+        multiple.clear();
+        return Ok(multiple);
     }
-    let mut multiple = Vec::with_capacity(alloc, terms.len())?;
-    push_products(&mut multiple, (0, by), terms)?;
+    let count = multiple.len();
+    multiply_row(&mut multiple, (0, by), count)?;
     Ok(multiple)
 }
 
-/// The terms of the product of two polynomials that share no parameter. The products of one term of
-/// the left with those of the right ascend: with n of all, and m terms at the left, it takes a time
-/// of n log m.
+/// The terms of the product of two polynomials that share no parameter. They are made in the memory of
+/// the left ones, as far as it reaches. The products of one term of the right with those of the left
+/// ascend: with n of all, and m terms at the right, it takes a time of n log m.
 fn products_by_rows(
-    alloc: Global,
-    left: &[(u16, i128)],
+    left: Vec<(u16, i128)>,
     right: &[(u16, i128)],
 ) -> Result<Vec<(u16, i128)>, PolyError>
-    requires left { IsMultiAffine left.now }
+    requires left { IsMultiAffine left.items }
     requires right { IsMultiAffine right.now }
-    requires apart { bit_and (support left.now) (support right.now) ≡ 0 }
-    ensures product { IfOk result (λ v. v.items ≡ product left.now right.now) }
+    requires apart { bit_and (support right.now) (support left.items) ≡ 0 }
+    ensures product { IfOk result (λ v. v.items ≡ product right.now left.items) }
     ensures fits { IfOk result (λ v. IsMultiAffine v.items) }
-    ensures causes { IfErr result (λ e. e ≢ PolyError.Memory
-        → (e ≡ PolyError.Wide) × (list_any is_wide (product left.now right.now) ≡ true)) }
+    ensures causes { IfErr result (λ e. e ≢ PolyError.Memory → (e ≡ PolyError.Wide)
+        × (list_any is_wide (product right.now left.items) ≡ true)) }
 {
-    let mut products = Vec::with_capacity(alloc, left.len() * right.len())?;
-    for term in left {
-        push_products(&mut products, *term, right)?;
+    let mut products = left;
+    if right.is_empty() {
+        products.clear();
+        return Ok(products);
     }
+    let others = &right[1..];
+    let count = products.len();
+    products.reserve(count * others.len())?;
+    for term in others {
+        push_row(&mut products, *term, count)?;
+    }
+    multiply_row(&mut products, right[0], count)?;
     products.sort_by_key(|term| term.0)?;
     Ok(products)
 }
@@ -206,22 +289,21 @@ fn products_by_rows(
 /// The terms of the product of two polynomials that share no parameter. With n products of terms, and
 /// m terms in the factor that has fewer, it takes a time of n log m.
 pub(crate) fn product_terms(
-    alloc: Global,
-    left: &[(u16, i128)],
-    right: &[(u16, i128)],
+    left: Vec<(u16, i128)>,
+    right: Vec<(u16, i128)>,
 ) -> Result<Vec<(u16, i128)>, PolyError>
-    requires left { IsMultiAffine left.now }
-    requires right { IsMultiAffine right.now }
-    requires apart { bit_and (support left.now) (support right.now) ≡ 0 }
-    ensures product { IfOk result (λ v. v.items ≡ product left.now right.now) }
+    requires left { IsMultiAffine left.items }
+    requires right { IsMultiAffine right.items }
+    requires apart { bit_and (support left.items) (support right.items) ≡ 0 }
+    ensures product { IfOk result (λ v. v.items ≡ product left.items right.items) }
     ensures fits { IfOk result (λ v. IsMultiAffine v.items) }
-    ensures causes { IfErr result (λ e. e ≢ PolyError.Memory
-        → (e ≡ PolyError.Wide) × (list_any is_wide (product left.now right.now) ≡ true)) }
+    ensures causes { IfErr result (λ e. e ≢ PolyError.Memory → (e ≡ PolyError.Wide)
+        × (list_any is_wide (product left.items right.items) ≡ true)) }
 {
-    if left.len() <= right.len() {
-        products_by_rows(alloc, left, right)
+    if left.len() < right.len() {
+        products_by_rows(right, &left)
     } else {
-        products_by_rows(alloc, right, left)
+        products_by_rows(left, &right)
     }
 }
 

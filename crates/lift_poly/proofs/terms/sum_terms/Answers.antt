@@ -14,7 +14,7 @@ pub loop-i-init : goal.loop-i-init
 loop-i-init c = record {
   left_within = omega arith;
   right_within = omega arith;
-  merging = rw c.new-terms.ensures.items (merging_none c.args.left.now c.args.right.now c.requires.left c.requires.right);
+  merging = rw c.in_ok-terms.ensures.items (merging_none c.args.left.now c.args.right.now c.requires.left c.requires.right);
 }
 
 pub loop-i-preserved-then-a-b : goal.loop-i-preserved-then-a-b
