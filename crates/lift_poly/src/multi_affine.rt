@@ -14,6 +14,9 @@ use crate::terms::{
 use std::alloc::{AllocError, Global};
 use std::marker::Model;
 
+/// How many terms a sum in place looks up at most, each of which may move all terms of the other operand.
+const FEW: usize = 4;
+
 /// A polynomial in at most 16 parameters that is affine in each of them: a finite map from sets of
 /// parameters to whole numbers that aren't 0. Bit i of a set stands for parameter i.
 ///
@@ -158,11 +161,14 @@ impl MultiAffine {
         Ok(MultiAffine { terms })
     }
 
-    /// The same sum, made in place where both polynomials have terms at the same sets.
+    /// The same sum. It is made in place where the other polynomial has few terms, or terms at the same sets.
     pub fn add_in_place(self, alloc: Global, other: &MultiAffine) -> Result<MultiAffine, PolyError>
         ensures answer { result ≢ Err PolyError.Memory → result ≡ narrow (sum self other.now) }
         ensures fits { IfOk result IsMultiAffine }
     {
+        if other.terms.len() <= FEW {
+            return self.add_few(other);
+        }
         let MultiAffine { mut terms } = self;
         if have_same_sets(&terms, &other.terms) {
             add_each(&mut terms, &other.terms)?;

@@ -1,7 +1,7 @@
 //! The arithmetic on lists of terms, of which `MultiAffine` is made.
 ghost use Rattle.std.specs.Prelude.{◌≡◌, ◌≢◌, ◌+◌, ◌*ℤ◌, ◌<ℤ◌, pos, [], ◌∷◌, ◌++◌, true, false};
 ghost use Rattle.std.specs.Prelude.{ℕ, bit_and, unsigned_abs, Ok, Err, OnOk, IfOk, IfErr};
-ghost use Rattle.std.specs.Prelude.{if◌then◌else◌, ◌<◌, ◌≤◌, ◌↔◌, IsTrue, length, map, take, drop};
+ghost use Rattle.std.specs.Prelude.{if◌then◌else◌, ◌<◌, ◌≤◌, ◌↔◌, IsTrue, length, map, take, drop, int_div};
 ghost use Rattle.std.specs.List.{list_any, insert};
 ghost use Rattle.std.specs.Int.{IsGcd};
 ghost use Rattle.lift_poly.specs.Arithmetic.{kept, sum, times, scaled, quotient, products_of};
@@ -31,6 +31,9 @@ fn product_of(left: i128, right: i128) -> Result<i128, PolyError>
     ensures value { IfOk result (λ z. (z ≡ left *ℤ right) × (is_wide (0, left *ℤ right) ≡ false)) }
     ensures wide { IfErr result (λ e. (e ≡ PolyError.Wide) × (is_wide (0, left *ℤ right) ≡ true)) }
 {
+    if let (Ok(a), Ok(b)) = (i64::try_from(left), i64::try_from(right)) {
+        return within_limit(i128::from(a) * i128::from(b));
+    }
     match left.checked_mul(right) {
         Some(number) => within_limit(number),
         None => Err(PolyError::Wide),
@@ -130,7 +133,8 @@ fn multiply_row(
     term: (u16, i128),
     count: usize,
 ) -> Result<(), PolyError>
-    requires { count ≤ length terms.old.items }
+    requires within { count ≤ length terms.old.items }
+    requires narrow { list_any is_wide (take count terms.old.items) ≡ false }
     ensures products { OnOk result (terms.new.items
         ≡ products_of term (take count terms.old.items) ++ drop count terms.old.items) }
     ensures fits { OnOk result (list_any is_wide (products_of term (take count terms.old.items))
@@ -138,6 +142,9 @@ fn multiply_row(
     ensures causes { IfErr result (λ e. (e ≡ PolyError.Wide)
         × (list_any is_wide (products_of term (take count terms.old.items)) ≡ true)) }
 {
+    if term.0 == 0 && term.1 == 1 {
+        return Ok(());
+    }
     for i in 0..count {
         let other = terms[i];
         let coefficient = product_of(term.1, other.1)?;
@@ -307,6 +314,17 @@ pub(crate) fn product_terms(
     }
 }
 
+/// A coefficient over a divisor that is above 0.
+fn quotient_of(number: i128, by: i128) -> i128
+    requires { pos 0 <ℤ by }
+    ensures { result ≡ int_div number by }
+{
+    if let (Ok(number), Ok(by)) = (i64::try_from(number), i64::try_from(by)) {
+        return i128::from(number / by);
+    }
+    number / by
+}
+
 /// The terms over a divisor of each coefficient. Linear in the number of terms.
 pub(crate) fn quotient_terms(
     alloc: Global,
@@ -322,15 +340,29 @@ pub(crate) fn quotient_terms(
 {
     let mut quotient = Vec::with_capacity(alloc, terms.len())?;
     for term in terms {
-        push_term(&mut quotient, (term.0, term.1 / by))?;
+        push_term(&mut quotient, (term.0, quotient_of(term.1, by)))?;
     }
     Ok(quotient)
+}
+
+/// The greatest common divisor of two numbers of 64 bits; 0 where both are 0.
+fn short_divisor(a: u64, b: u64) -> u64
+    ensures { IsGcd a b result }
+{
+    let (mut a, mut b) = (a, b);
+    while b != 0 {
+        (a, b) = (b, a % b);
+    }
+    a
 }
 
 /// The greatest common divisor; 0 where both numbers are 0.
 pub(crate) fn common_divisor(a: u128, b: u128) -> u128
     ensures { IsGcd a b result }
 {
+    if let (Ok(a), Ok(b)) = (u64::try_from(a), u64::try_from(b)) {
+        return u128::from(short_divisor(a, b));
+    }
     let (mut a, mut b) = (a, b);
     while b != 0 {
         (a, b) = (b, a % b);

@@ -7,6 +7,7 @@ use Rattle.std.proofs.lemmas.List.{take_all}
 use Rattle.lift_poly.specs.Polynomial.{Term}
 use Rattle.lift_poly.specs.Arithmetic.{times, scaled, products_of}
 use Rattle.lift_poly.specs.MultiAffine.{IsMultiAffine, is_wide}
+use Rattle.lift_poly.proofs.Answers.{none_wide}
 use Rattle.lift_poly.proofs.Products.{products_of-number, times_is, scaled_none, scaled_fits, whole_row}
 use Rattle.lift_poly.proofs.terms.multiple_terms.Goals as goal
 use Rattle.lift_poly.proofs.terms.multiple_terms.Goals.{In_ok-multiply_row}
@@ -23,6 +24,10 @@ pub returns-then-by-eq0-clause-multiple : goal.returns-then-by-eq0-clause-multip
 returns-then-by-eq0-clause-multiple c =
     let none : c.args.by ≡ pos 0 = omega (arith, ints) in
     c.clear.ensures.items ∙ scaled_none c.args.by c.args.terms.items none
+
+pub multiply_row-requires-clause-narrow : goal.multiply_row-requires-clause-narrow
+multiply_row-requires-clause-narrow c =
+    ap (list_any is_wide) (take_all c.len-count.result c.args.terms.items (omega (arith, c.len-count.ensures))) ∙ none_wide c.args.terms.items c.requires
 
 pub returns-in_err-multiply_row-clause-causes : goal.returns-in_err-multiply_row-clause-causes
 returns-in_err-multiply_row-clause-causes c =

@@ -9,6 +9,7 @@ use Rattle.lift_poly.specs.Polynomial.{Term}
 use Rattle.lift_poly.specs.Arithmetic.{products_of, products, product}
 use Rattle.lift_poly.specs.MultiAffine.{IsMultiAffine, is_wide}
 use Rattle.lift_poly.specs.declared.error.PolyError.TheVariants.{Memory}
+use Rattle.lift_poly.proofs.Answers.{none_wide}
 use Rattle.lift_poly.proofs.Lookup.{length_le}
 use Rattle.lift_poly.proofs.Products.{products_more, products_fit_more, first_and_others, wide_behind, wide_first, sorted_rows}
 use Rattle.lift_poly.proofs.terms.products_by_rows.Goals as goal
@@ -51,6 +52,12 @@ loop-term-preserved c =
           ∙ ap (λ us. left ++ us) (sym (products_more others left c.loop-term.term-index (0, pos 0) c.loop-term-test.true)),
       products_fit_more others left c.loop-term.term-index (0, pos 0) c.loop-term-test.true c.loop-term.invariant.1 (sym (ap (λ us. list_any is_wide (products_of term us)) front) ∙ c.in_ok-push_row.ensures.fits),
     )
+
+pub multiply_row-requires-clause-narrow : goal.multiply_row-requires-clause-narrow
+multiply_row-requires-clause-narrow c =
+    let count : length c.reserve.new.self.items ≡ c.len-count.result = omega (arith, ap length c.in_ok-reserve.ensures.items, c.args.left.ok, c.len-count.ensures) in
+    let front = (front_at c.loop-term.products.items c.reserve.new.self.items _ c.len-count.result c.loop-term.invariant.0 count).0 ∙ c.in_ok-reserve.ensures.items in
+    ap (list_any is_wide) front ∙ none_wide c.args.left.items c.requires.left
 
 pub returns-in_err-multiply_row-clause-causes : goal.returns-in_err-multiply_row-clause-causes
 returns-in_err-multiply_row-clause-causes c =
