@@ -118,7 +118,7 @@ impl MultiAffine {
     {
         let mut divisor = 0;
         for term in &self.terms {
-            divisor = common_divisor(divisor, term.1.unsigned_abs());
+            divisor = common_divisor(term.1.unsigned_abs(), divisor);
             if divisor == 1 {
                 return 1;
             }
