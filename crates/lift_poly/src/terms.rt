@@ -14,6 +14,9 @@ use std::alloc::{AllocError, Global};
 /// The size from which on a coefficient is too large: `term_limit` in the definitions.
 const LIMIT: u128 = 1 << 125;
 
+/// For how many terms memory is kept, though few of them are left.
+const LITTLE: usize = 64;
+
 /// A coefficient, or `Wide` where it is too large.
 pub(crate) fn within_limit(number: i128) -> Result<i128, PolyError>
     ensures value { IfOk result (λ z. (z ≡ number) × (is_wide (0, number) ≡ false)) }
@@ -60,6 +63,15 @@ pub(crate) fn push_kept(terms: &mut Vec<(u16, i128)>, term: (u16, i128)) -> Resu
         push_term(terms, (term.0, coefficient))?;
     }
     Ok(())
+}
+
+/// Gives memory back where more than half of it is free. Little memory stays as it is.
+fn release(terms: &mut Vec<(u16, i128)>)
+    ensures { terms.new.items ≡ terms.old.items }
+{
+    if terms.capacity() > LITTLE && terms.len() < terms.capacity() / 2 {
+        terms.shrink_to_fit();
+    }
 }
 
 /// Puts a term at a place, and moves those from there on.
@@ -204,6 +216,7 @@ pub(crate) fn add_each(
         end = keep_term(terms, end, (term.0, coefficient));
     }
     terms.truncate(end);
+    release(terms);
     Ok(())
 }
 
@@ -238,6 +251,7 @@ pub(crate) fn sum_terms(
     }
     terms.extend_from_slice(&left[i..])?;
     terms.extend_from_slice(&right[j..])?;
+    release(&mut terms);
     Ok(terms)
 }
 
@@ -255,6 +269,7 @@ pub(crate) fn multiple_terms(
     let mut multiple = terms;
     if by == 0 {
         multiple.clear();
+        release(&mut multiple);
         return Ok(multiple);
     }
     let count = multiple.len();
@@ -280,6 +295,7 @@ fn products_by_rows(
     let mut products = left;
     if right.is_empty() {
         products.clear();
+        release(&mut products);
         return Ok(products);
     }
     let others = &right[1..];
