@@ -1,8 +1,7 @@
 -- The sum of two polynomials over 1: only the coefficients at the other one's sets can become too large.
-use Rattle.std.proofs.Common.{◌≡◌, ℕ, ◌*◌, ◌<◌, Bool, true, false, cond, ◌||◌, List, [], ◌∷◌, ◌++◌, length, get_or, pos, Ok, Err, ⊎_elim, unsigned_abs, refl, sym, ap, ap₂, subst, ◌∙◌, arith}
+use Rattle.std.proofs.Common.{◌≡◌, ℕ, ◌*◌, ◌<◌, Bool, true, false, cond, ◌||◌, List, [], ◌∷◌, ◌++◌, length, get_or, pos, Ok, Err, ⊎_elim, unsigned_abs, sym, ap, ap₂, subst, ◌∙◌, arith, mul_comm}
 use Rattle.std.specs.List.{list_any}
 use Rattle.std.proofs.lemmas.Bool.{cases_Bool}
-use Rattle.std.proofs.lemmas.Bool.Decides.{nat_tests}
 use Rattle.std.proofs.lemmas.List.Folds.{list_any_at, list_any_none}
 use Rattle.std.proofs.lemmas.Nat.Gcd.{dvd_of_mod-eq-zero}
 use Rattle.lift_frac.specs.Limits.{size_limit}
@@ -13,7 +12,7 @@ use Rattle.lift_poly.specs.Arithmetic.{coefficient, scaled, times, quotient, Div
 use Rattle.lift_poly.specs.Laws.{TermsSumToPolynomial, TermsHaveCoefficients, CoefficientsAreTerms, CoefficientsDetermine, SumsAddCoefficients, MultiplesScaleCoefficients, MultiplesKeepTerms, QuotientsAreExact, QuotientsArePolynomials}
 use Rattle.lift_poly.proofs.Ring.{linear, one-mul}
 use Rattle.drn_expr.specs.Expansion.{sum}
-use Rattle.drn_expr.specs.Laws.{CoefficientsAreSmall, SumsOverOne, SumsOverOneAreValues, is_large_at}
+use Rattle.drn_expr.specs.Laws.{CoefficientsAreSmall, SumsCommute, SumsOverOne, SumsOverOneAreValues, is_large_at}
 use Rattle.drn_expr.specs.RatPolys.{OverOne, IsRatPoly, is_large, narrow}
 use Rattle.drn_expr.specs.declared.error.ExprError.TheVariants.{Wide}
 use Rattle.drn_expr.proofs.Calls.{over, wide_terms, narrow_given, rat_poly, small_size}
@@ -33,6 +32,16 @@ quotient-one : ((ts : List Term) → IsPolynomial ts → scaled (pos 1) ts ≡ t
 quotient-one one kept exact quotients ts h =
     let q = quotients (pos 1) ts (each_by_one ts) h in
     sym (kept (pos 1) (quotient ts (pos 1)) (λ e. cc e) q ∙ one (quotient ts (pos 1)) q) ∙ exact (pos 1) ts (each_by_one ts)
+
+-- ---- the operands' order
+
+pub sums_commute : CoefficientsDetermine → TermsSumToPolynomial → SumsAddCoefficients → SumsCommute
+sums_commute unique polynomial sums a b =
+    let left = scaled (pos b.den) a.terms in
+    let right = scaled (pos a.den) b.terms in
+    ap₂ narrow
+    (unique (poly.sum left right) (poly.sum right left) (polynomial (left ++ right)) (polynomial (right ++ left)) (λ set. omega (arith, linear, sums left right set, sums right left set)))
+    (mul_comm a.den b.den)
 
 -- ---- coefficients that are too large
 

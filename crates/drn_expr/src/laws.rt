@@ -1,6 +1,6 @@
 ghost use Rattle.drn_expr.specs.Laws.{ReadingIsOver, ReadingIsWorth, MultiplesAreOver};
 ghost use Rattle.drn_expr.specs.Laws.{CoefficientsAreSmall, MultiplesFit, SumsFit, ProductsFit};
-ghost use Rattle.drn_expr.specs.Laws.{PlainSumsFit, SumsOverOne, SumsOverOneAreValues};
+ghost use Rattle.drn_expr.specs.Laws.{PlainSumsFit, SumsCommute, SumsOverOne, SumsOverOneAreValues};
 
 use lift_frac::{divisors_and_multiples, literals_follow};
 use lift_poly::{coefficients_determine, coefficients_follow, weights_follow};
@@ -18,14 +18,15 @@ pub fn readings_follow()
     weights_follow();
 }
 
-/// Holds that what an operation forms before it takes lowest terms is never too large, and what a sum
-/// over 1 comes to, for the proofs of operations. It does nothing.
+/// Holds that what an operation forms before it takes lowest terms is never too large, that sums have no
+/// order, and what a sum over 1 comes to, for the proofs of operations. It does nothing.
 pub(crate) fn operations_fit()
     ensures coefficients { CoefficientsAreSmall }
     ensures multiples { MultiplesFit }
     ensures sums { SumsFit }
     ensures plain_sums { PlainSumsFit }
     ensures products { ProductsFit }
+    ensures commute { SumsCommute }
     ensures over_one { SumsOverOne }
     ensures values { SumsOverOneAreValues }
 {

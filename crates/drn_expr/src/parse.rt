@@ -71,18 +71,18 @@ fn calculated(
 {
     let (left, right) = (left?, right?);
     match operation {
-        Operation::Sum => left.sum(alloc, &right),
-        Operation::Difference => left.difference(alloc, &right),
-        Operation::Product => left.product(alloc, &right),
+        Operation::Sum => left.sum(alloc, right),
+        Operation::Difference => left.difference(alloc, right),
+        Operation::Product => left.product(alloc, right),
         Operation::Quotient => left.quotient(alloc, &right),
     }
 }
 
 /// The operand with the other sign, or the first operation that failed.
-fn negated(alloc: Global, operand: Result<RatPoly, ExprError>) -> Result<RatPoly, ExprError>
+fn negated(operand: Result<RatPoly, ExprError>) -> Result<RatPoly, ExprError>
     ensures { result ≢ Err ExprError.Memory → result ≡ opposite operand }
 {
-    operand?.negative(alloc)
+    operand?.negative()
 }
 
 /// One parenthesis or unary minus more around a place. `Deep` exactly where it is the 65th.
@@ -217,7 +217,7 @@ fn factor(
             let depth = deeper(depth)?;
             let inner = factor(alloc, text, line, symbol.to, names, depth)?;
             Ok(Part {
-                value: negated(alloc, inner.value),
+                value: negated(inner.value),
                 to: inner.to,
             })
         }

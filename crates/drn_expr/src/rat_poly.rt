@@ -179,26 +179,29 @@ impl RatPoly {
     }
 
     /// The sum.
-    pub(crate) fn sum(self, alloc: Global, other: &RatPoly) -> Result<RatPoly, ExprError>
-        ensures { result ≢ Err ExprError.Memory → result ≡ sum self other.now }
+    pub(crate) fn sum(self, alloc: Global, other: RatPoly) -> Result<RatPoly, ExprError>
+        ensures { result ≢ Err ExprError.Memory → result ≡ sum self other }
     {
-        if self.den == 1 && other.den == 1 && other.poly.len() <= FEW {
-            return self.sum_of_few(other);
-        }
         operations_fit();
-        let left = self.poly.scale(alloc, i128::from(other.den))?;
-        let right = other.poly.scale(alloc, i128::from(self.den))?;
-        let poly = left.add(alloc, &right)?;
+        if self.den == 1 && other.den == 1 && other.poly.len() <= FEW {
+            return self.sum_of_few(&other);
+        }
+        if self.den == 1 && other.den == 1 && self.poly.len() <= FEW {
+            return other.sum_of_few(&self);
+        }
+        let left = self.poly.scale_in_place(i128::from(other.den))?;
+        let right = other.poly.scale_in_place(i128::from(self.den))?;
+        let poly = left.add_in_place(alloc, &right)?;
         RatPoly::narrow(alloc, poly, u128::from(self.den) * u128::from(other.den))
     }
 
     /// The polynomial with the other sign.
-    pub(crate) fn negative(&self, alloc: Global) -> Result<RatPoly, ExprError>
-        ensures { result ≢ Err ExprError.Memory → result ≡ Ok (negative self.now) }
+    pub(crate) fn negative(self) -> Result<RatPoly, ExprError>
+        ensures { result ≢ Err ExprError.Memory → result ≡ Ok (negative self) }
     {
         operations_fit();
         coefficients_follow();
-        let poly = self.poly.scale(alloc, -1)?;
+        let poly = self.poly.scale_in_place(-1)?;
         Ok(RatPoly {
             poly,
             den: self.den,
@@ -206,26 +209,26 @@ impl RatPoly {
     }
 
     /// The difference.
-    pub(crate) fn difference(self, alloc: Global, other: &RatPoly) -> Result<RatPoly, ExprError>
-        ensures { result ≢ Err ExprError.Memory → result ≡ difference self other.now }
+    pub(crate) fn difference(self, alloc: Global, other: RatPoly) -> Result<RatPoly, ExprError>
+        ensures { result ≢ Err ExprError.Memory → result ≡ difference self other }
     {
-        let other = other.negative(alloc)?;
-        self.sum(alloc, &other)
+        let other = other.negative()?;
+        self.sum(alloc, other)
     }
 
     /// The product. `SharedParameter` exactly where a parameter occurs in both factors.
-    pub(crate) fn product(&self, alloc: Global, other: &RatPoly) -> Result<RatPoly, ExprError>
-        ensures { result ≢ Err ExprError.Memory → result ≡ product self.now other.now }
+    pub(crate) fn product(self, alloc: Global, other: RatPoly) -> Result<RatPoly, ExprError>
+        ensures { result ≢ Err ExprError.Memory → result ≡ product self other }
     {
         operations_fit();
-        let poly = self.poly.mul(alloc, &other.poly)?;
+        let poly = self.poly.mul_in_place(other.poly)?;
         RatPoly::narrow(alloc, poly, u128::from(self.den) * u128::from(other.den))
     }
 
     /// The quotient. `ParametricDivisor` exactly where the divisor holds a parameter, and else
     /// `DivisionByZero` exactly where it is 0.
-    pub(crate) fn quotient(&self, alloc: Global, other: &RatPoly) -> Result<RatPoly, ExprError>
-        ensures { result ≢ Err ExprError.Memory → result ≡ quotient self.now other.now }
+    pub(crate) fn quotient(self, alloc: Global, other: &RatPoly) -> Result<RatPoly, ExprError>
+        ensures { result ≢ Err ExprError.Memory → result ≡ quotient self other.now }
     {
         operations_fit();
         if other.poly.support() != 0 {
@@ -235,7 +238,7 @@ impl RatPoly {
         if number == 0 {
             return Err(ExprError::DivisionByZero);
         }
-        let poly = self.poly.scale(alloc, with_sign(number, other.den))?;
+        let poly = self.poly.scale_in_place(with_sign(number, other.den))?;
         RatPoly::narrow(alloc, poly, u128::from(self.den) * number.unsigned_abs())
     }
 }

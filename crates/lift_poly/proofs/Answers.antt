@@ -13,10 +13,11 @@ use Rattle.lift_poly.specs.declared.error.PolyError.TheVariants.{SharedParameter
 narrow_term : (t : Term) → unsigned_abs t.1 < term_limit → is_wide t ≡ false
 narrow_term t h = grind (arith, nat_tests)
 
+pub none_wide : (ts : List Term) → IsMultiAffine ts → list_any is_wide ts ≡ false
+none_wide ts h = list_any_none is_wide ts (All-weaker (λ t. unsigned_abs t.1 < term_limit) (λ t. is_wide t ≡ false) narrow_term ts h.sizes)
+
 pub narrow_ok : (ts : List Term) → IsMultiAffine ts → narrow ts ≡ Ok ts
-narrow_ok ts h =
-    let fits : list_any is_wide ts ≡ false = list_any_none is_wide ts (All-weaker (λ t. unsigned_abs t.1 < term_limit) (λ t. is_wide t ≡ false) narrow_term ts h.sizes) in
-    rw fits refl
+narrow_ok ts h = rw (none_wide ts h) refl
 
 pub narrow_wide : (ts : List Term) → list_any is_wide ts ≡ true → narrow ts ≡ Err Wide
 narrow_wide ts h = rw h refl

@@ -1,11 +1,11 @@
 -- One merge of two polynomials: what is done, and what is left of each.
-use Rattle.std.proofs.Common.{◌≡◌, ℕ, suc, ◌+◌, ◌<◌, ◌≤◌, Bool, true, false, ◌||◌, List, [], ◌∷◌, ◌++◌, length, get_or, drop, ℤ, pos, ◌+ℤ◌, All, ◌⊎◌, ⊎_elim, FitsSigned, negsuc, unsigned_abs, refl, sym, ap, ◌∙◌, subst, arith, append_assoc, add-one, drop-cons}
+use Rattle.std.proofs.Common.{◌≡◌, ℕ, suc, ◌+◌, ◌-◌, ◌<◌, ◌≤◌, Bool, true, false, ◌||◌, List, [], ◌∷◌, ◌++◌, length, map, get_or, drop, ℤ, pos, ◌+ℤ◌, All, ◌⊎◌, ⊎_elim, FitsSigned, negsuc, unsigned_abs, refl, sym, ap, ◌∙◌, subst, arith, append_assoc, add-one, drop-cons}
 use Rattle.std.specs.Int.{w128}
 use Rattle.std.specs.List.{list_any}
 use Rattle.std.proofs.lemmas.Int.{fits_signed_from_abs}
 use Rattle.std.proofs.lemmas.Bool.{cases_eq}
 use Rattle.std.proofs.lemmas.Bool.Decides.{nat_tests}
-use Rattle.std.proofs.lemmas.List.{drop_all, append-nil}
+use Rattle.std.proofs.lemmas.List.{drop_all, append-nil, drop-drop, length-map, get_or-map, get_or_default}
 use Rattle.std.proofs.lemmas.List.Elements.{All-nil, All-cons, All-append, All-drop, All-weaker}
 use Rattle.lift_poly.specs.Limits.{set_limit, term_limit}
 use Rattle.lift_poly.specs.Polynomial.{Term}
@@ -240,3 +240,34 @@ unsigned_abs-add (negsuc n) (negsuc a) (negsuc b) e = omega (arith, linear)
 -- two coefficients that aren't too large have a sum that the machine holds
 pub sum_fits : (a b : Term) → Small a → Small b → FitsSigned w128 (a.1 +ℤ b.1)
 sum_fits a b h k = fits_signed_from_abs w128 (a.1 +ℤ b.1) (omega (arith, unsigned_abs-add (a.1 +ℤ b.1) a.1 b.1 refl, h.1, k.1))
+
+-- ---- two polynomials with terms at the same sets, in the place of the left
+
+-- what stands at a place, and behind it, is what stood there
+pub next_behind : (items ts : List Term) (i : ℕ) (d : Term) → i < length items → i < length ts → drop i items ≡ drop i ts → (get_or items i d ≡ get_or ts i d) × (drop (i + 1) items ≡ drop (i + 1) ts)
+next_behind items ts i d h k e =
+    let parts = sym (drop-cons items i d h) ∙ e ∙ drop-cons ts i d k in
+    (ap (λ us. get_or us 0 d) parts, sym (next_is items i) ∙ ap (drop 1) parts ∙ next_is ts i)
+
+pub same_behind : (before after : List Term) (end i : ℕ) → end ≤ i → drop (end + 1) after ≡ drop (end + 1) before → drop (i + 1) after ≡ drop (i + 1) before
+same_behind before after end i le e =
+    let place : (end + 1) + (i - end) ≡ i + 1 = omega arith in
+    ap (λ k. drop k after) (sym place) ∙ sym (drop-drop (i - end) (end + 1) after) ∙ ap (drop (i - end)) e ∙ drop-drop (i - end) (end + 1) before ∙ ap (λ k. drop k before) place
+
+pub same_length : (ts us : List Term) → map (λ (t : Term). t.0) ts ≡ map (λ (t : Term). t.0) us → length ts ≡ length us
+same_length ts us e = sym (length-map ts (λ (t : Term). t.0)) ∙ ap length e ∙ length-map us (λ (t : Term). t.0)
+
+pub same_set : (ts us : List Term) (i : ℕ) (d : Term) → map (λ (t : Term). t.0) ts ≡ map (λ (t : Term). t.0) us → i < length us → (get_or ts i d).0 ≡ (get_or us i d).0
+same_set ts us i d e lt =
+    sym (get_or-map (λ (t : Term). t.0) ts i d 0 (omega (arith, lt, same_length ts us e))) ∙ ap (λ ns. get_or ns i 0) e ∙ get_or-map (λ (t : Term). t.0) us i d 0 lt
+
+pub read_behind : (items ts us : List Term) (i : ℕ) (x d : Term) → drop i items ≡ drop i ts → length items ≡ length ts → map (λ (t : Term). t.0) ts ≡ map (λ (t : Term). t.0) us → i < length us → x ≡ get_or items i x → x ≡ get_or ts i d
+read_behind items ts us i x d e n sets lt h =
+    let inside : i < length ts = omega (arith, lt, same_length ts us sets) in
+    let within : i < length items = omega (arith, n, inside) in
+    h ∙ get_or_default items i x d within ∙ (next_behind items ts i d within inside e).0
+
+pub sum_fits_at : (ts us : List Term) (i : ℕ) (x d : Term) → IsMultiAffine ts → IsMultiAffine us → map (λ (t : Term). t.0) ts ≡ map (λ (t : Term). t.0) us → i < length us → x ≡ get_or ts i d → FitsSigned w128 (x.1 +ℤ (get_or us i d).1)
+sum_fits_at ts us i x d h k sets lt e =
+    subst (λ (t : Term). FitsSigned w128 (t.1 +ℤ (get_or us i d).1)) (sym e)
+    (sum_fits (get_or ts i d) (get_or us i d) (small_from ts h i d (omega (arith, lt, same_length ts us sets))) (small_from us k i d lt))

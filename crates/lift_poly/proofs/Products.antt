@@ -1,10 +1,10 @@
 -- Products of terms, one by one, and a polynomial times a number.
-use Rattle.std.proofs.Common.{◌≡◌, ◌≢◌, ℕ, zero, suc, ◌+◌, ◌<◌, Bool, true, false, ◌||◌, List, [], ◌∷◌, ◌++◌, length, get_or, take, ℤ, pos, ◌+ℤ◌, ◌*ℤ◌, All, ⊎_elim, unsigned_abs, bit_and, bit_or, refl, sym, ap, ap₂, ◌∙◌, arith, append_assoc}
+use Rattle.std.proofs.Common.{◌≡◌, ◌≢◌, ℕ, zero, suc, ◌+◌, ◌-◌, ◌<◌, ◌≤◌, Bool, true, false, ◌||◌, List, [], ◌∷◌, ◌++◌, length, get_or, set, take, drop, ℤ, pos, ◌+ℤ◌, ◌*ℤ◌, All, ⊎_elim, unsigned_abs, bit_and, bit_or, refl, sym, ap, ap₂, ◌∙◌, subst, arith, append_assoc, add-one, drop-cons}
 use Rattle.std.specs.List.{list_any}
 use Rattle.std.specs.List.Sorted.{IsPermutation, IsNonDecreasingBy}
 use Rattle.std.proofs.lemmas.Bool.{cases_eq, cases_Bool}
 use Rattle.std.proofs.lemmas.Grind.{common_steps}
-use Rattle.std.proofs.lemmas.List.{get_or-map, length-map, take_more, append-nil}
+use Rattle.std.proofs.lemmas.List.{get_or-map, length-map, length-take, length-take-le, get_or-take, take_more, take_all, drop_all, append-nil, get_or_append_left, get_or_default, get_or_at, set_at}
 use Rattle.std.proofs.lemmas.List.Elements.{All-nil, All-cons, All-head, All-tail, All-append, All-map, All-weaker}
 use Rattle.std.proofs.lemmas.List.Folds.{list_any-append, list_any_at}
 use Rattle.std.proofs.lemmas.Nat.{or_lt, or_comm}
@@ -181,3 +181,65 @@ scaled_fits by ts ne h fits =
   where
     sets : All (λ t. t.0 < set_limit) (times by ts)
     sets = All-map (λ t. t.0 < set_limit) (λ (t : Term). (t.0, by *ℤ t.1)) ts h.sets
+
+-- ---- products in a row, in the place of what they are made of
+
+-- a term in front of a list is still there behind more terms
+pub read_front : (items ts more : List Term) (i : ℕ) (x d : Term) → items ≡ ts ++ more → i < length ts → x ≡ get_or items i x → x ≡ get_or ts i d
+read_front items ts more i x d e lt h = h ∙ ap (λ us. get_or us i x) e ∙ get_or_append_left ts more x i lt ∙ get_or_default ts i x d lt
+
+row_length : (t : Term) (ts : List Term) (i : ℕ) → i < length ts → length (products_of t (take i ts)) ≡ i
+row_length t ts i lt = length-map (take i ts) (joined t) ∙ length-take-le i ts (omega arith)
+
+-- what stands where the next product belongs
+pub read_next : (t : Term) (items ts : List Term) (i : ℕ) (x d : Term) → items ≡ products_of t (take i ts) ++ drop i ts → i < length ts → x ≡ get_or items i x → x ≡ get_or ts i d
+read_next t items ts i x d e lt h =
+    h ∙ ap (λ us. get_or us i x) (e ∙ ap (λ us. products_of t (take i ts) ++ us) (drop-cons ts i d lt))
+    ∙ get_or_at (products_of t (take i ts)) (get_or ts i d) (drop (suc i) ts) x i (row_length t ts i lt)
+
+-- one product more in its place
+pub write_next : (t : Term) (items ts : List Term) (i : ℕ) (y d : Term) → items ≡ products_of t (take i ts) ++ drop i ts → i < length ts → y ≡ joined t (get_or ts i d) → set items i y ≡ products_of t (take (i + 1) ts) ++ drop (i + 1) ts
+write_next t items ts i y d e lt h =
+    let row = products_of t (take i ts) in
+    ap (λ us. set us i y) (e ∙ ap (λ us. row ++ us) (drop-cons ts i d lt))
+    ∙ set_at row (get_or ts i d) (drop (suc i) ts) y i (row_length t ts i lt)
+    ∙ sym (append_assoc row (y ∷ []) (drop (suc i) ts))
+    ∙ ap₂ (λ us ws. us ++ ws) (ap (λ u. row ++ u ∷ []) h ∙ sym (products_of_more t ts i d lt)) (ap (λ k. drop k ts) (sym (add-one i)))
+
+-- a product that is too large is among those of the first terms
+pub wide_row_of : (t : Term) (ts : List Term) (count i : ℕ) (d : Term) → i < count → i < length ts → is_wide (joined t (get_or ts i d)) ≡ true → list_any is_wide (products_of t (take count ts)) ≡ true
+wide_row_of t ts count i d before lt wide =
+    wide_product t (take count ts) i d (omega (arith, before, lt, length-take count ts)) (ap (λ u. is_wide (joined t u)) (get_or-take count ts i d before) ∙ wide)
+
+-- the products with all terms
+pub whole_row : (t : Term) (ts : List Term) (n : ℕ) → length ts ≤ n → products_of t (take n ts) ++ drop n ts ≡ products_of t ts
+whole_row t ts n le = ap₂ (λ us ws. products_of t us ++ ws) (take_all n ts le) (drop_all n ts le) ∙ append-nil (products_of t ts)
+
+-- ---- the first term of a factor, and the others
+
+pub first_and_others : (ts : List Term) (d : Term) → 0 < length ts → ts ≡ get_or ts 0 d ∷ take (length ts - 1) (drop 1 ts)
+first_and_others [] d lt = absurd (omega arith)
+first_and_others (t ∷ ts) d lt = ap (λ us. t ∷ us) (sym (take_all (length (t ∷ ts) - 1) ts (omega arith)))
+
+-- a term behind the first one whose products are too large makes the product too large
+pub wide_behind : (left right others : List Term) (first : Term) (i : ℕ) (d : Term) → right ≡ first ∷ others → IsMultiAffine left → IsMultiAffine right → bit_and (support right) (support left) ≡ 0 → i < length others
+    → list_any is_wide (products_of (get_or others i d) left) ≡ true → list_any is_wide (product right left) ≡ true
+wide_behind left right others first i d e h k none lt wide =
+    ap (λ ts. list_any is_wide (product ts left)) e
+    ∙ wide_row (first ∷ others) left (suc i) d (subst IsMultiAffine e k).polynomial h.polynomial (subst (λ ts. bit_and (support ts) (support left) ≡ 0) e none) (omega arith) wide
+
+-- so does the first one
+pub wide_first : (left right others : List Term) (first : Term) → right ≡ first ∷ others → IsMultiAffine left → IsMultiAffine right → bit_and (support right) (support left) ≡ 0
+    → list_any is_wide (products_of first left) ≡ true → list_any is_wide (product right left) ≡ true
+wide_first left right others first e h k none wide =
+    ap (λ ts. list_any is_wide (product ts left)) e
+    ∙ wide_row (first ∷ others) left 0 first (subst IsMultiAffine e k).polynomial h.polynomial (subst (λ ts. bit_and (support ts) (support left) ≡ 0) e none) (omega arith) wide
+
+-- the products with the first term and with the others, once they are sorted, are the product
+pub sorted_rows : (left right others us : List Term) (first : Term) → right ≡ first ∷ others → IsMultiAffine left → IsMultiAffine right → bit_and (support right) (support left) ≡ 0
+    → list_any is_wide (products_of first left) ≡ false → list_any is_wide (products others left) ≡ false → IsPermutation (products_of first left ++ products others left) us → IsNonDecreasingBy (λ (t : Term). t.0) us
+    → IsMultiAffine us × (us ≡ product right left)
+sorted_rows left right others us first e h k none front behind moved sorted =
+    let r = sorted_products (first ∷ others) left us (subst IsMultiAffine e k) h (subst (λ ts. bit_and (support ts) (support left) ≡ 0) e none)
+    (fits_both (products_of first left) (products others left) front behind) moved sorted in
+    (r.0, r.1 ∙ ap (λ ts. product ts left) (sym e))

@@ -8,11 +8,14 @@ ghost use Rattle.lift_poly.specs.MultiAffine.{IsMultiAffine, narrow, product_ans
 
 use crate::error::PolyError;
 use crate::terms::{
-    add_term, common_divisor, multiple_terms, product_terms, push_kept, push_term, quotient_terms,
-    sum_terms,
+    add_each, add_term, common_divisor, have_same_sets, multiple_terms, product_terms, push_kept,
+    push_term, quotient_terms, sum_terms,
 };
 use std::alloc::{AllocError, Global};
 use std::marker::Model;
+
+/// How many terms a sum in place looks up at most, each of which may move all terms of the other operand.
+const FEW: usize = 4;
 
 /// A polynomial in at most 16 parameters that is affine in each of them: a finite map from sets of
 /// parameters to whole numbers that aren't 0. Bit i of a set stands for parameter i.
@@ -115,7 +118,7 @@ impl MultiAffine {
     {
         let mut divisor = 0;
         for term in &self.terms {
-            divisor = common_divisor(divisor, term.1.unsigned_abs());
+            divisor = common_divisor(term.1.unsigned_abs(), divisor);
             if divisor == 1 {
                 return 1;
             }
@@ -158,6 +161,23 @@ impl MultiAffine {
         Ok(MultiAffine { terms })
     }
 
+    /// The same sum. It is made in place where the other polynomial has few terms, or terms at the same sets.
+    pub fn add_in_place(self, alloc: Global, other: &MultiAffine) -> Result<MultiAffine, PolyError>
+        ensures answer { result ≢ Err PolyError.Memory → result ≡ narrow (sum self other.now) }
+        ensures fits { IfOk result IsMultiAffine }
+    {
+        if other.terms.len() <= FEW {
+            return self.add_few(other);
+        }
+        let MultiAffine { mut terms } = self;
+        if have_same_sets(&terms, &other.terms) {
+            add_each(&mut terms, &other.terms)?;
+            return Ok(MultiAffine { terms });
+        }
+        let terms = sum_terms(alloc, &terms, &other.terms)?;
+        Ok(MultiAffine { terms })
+    }
+
     /// The polynomial times a number of size below 2^125. `Wide` exactly where one of the result's
     /// coefficients has a size of 2^125 or more. Linear in the number of terms.
     pub fn scale(&self, alloc: Global, by: i128) -> Result<MultiAffine, PolyError>
@@ -165,10 +185,20 @@ impl MultiAffine {
         ensures answer { result ≢ Err PolyError.Memory → result ≡ narrow (scaled by self.now) }
         ensures fits { IfOk result IsMultiAffine }
     {
+        self.copy(alloc)?.scale_in_place(by)
+    }
+
+    /// The same multiple, made in place.
+    pub fn scale_in_place(self, by: i128) -> Result<MultiAffine, PolyError>
+        requires { unsigned_abs by < term_limit }
+        ensures answer { result ≡ narrow (scaled by self) }
+        ensures fits { IfOk result IsMultiAffine }
+    {
+        let MultiAffine { terms } = self;
         if by == 1 {
-            return Ok(self.copy(alloc)?);
+            return Ok(MultiAffine { terms });
         }
-        let terms = multiple_terms(alloc, &self.terms, by)?;
+        let terms = multiple_terms(terms, by)?;
         Ok(MultiAffine { terms })
     }
 
@@ -180,10 +210,19 @@ impl MultiAffine {
             → result ≡ product_answer self.now other.now }
         ensures fits { IfOk result IsMultiAffine }
     {
+        let other = other.copy(alloc)?;
+        self.copy(alloc)?.mul_in_place(other)
+    }
+
+    /// The same product, made in the memory of the factor that has more terms, as far as it reaches.
+    pub fn mul_in_place(self, other: MultiAffine) -> Result<MultiAffine, PolyError>
+        ensures answer { result ≢ Err PolyError.Memory → result ≡ product_answer self other }
+        ensures fits { IfOk result IsMultiAffine }
+    {
         if self.support() & other.support() != 0 {
             return Err(PolyError::SharedParameter);
         }
-        let terms = product_terms(alloc, &self.terms, &other.terms)?;
+        let terms = product_terms(self.terms, other.terms)?;
         Ok(MultiAffine { terms })
     }
 

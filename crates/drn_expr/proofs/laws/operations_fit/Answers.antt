@@ -1,5 +1,5 @@
 use Rattle.drn_expr.proofs.Sizes.{coefficients_small, multiples_fit, sums_fit, plain_sums_fit, products_fit}
-use Rattle.drn_expr.proofs.Few.{sums_over_one, sums_over_one_are_values}
+use Rattle.drn_expr.proofs.Few.{sums_commute, sums_over_one, sums_over_one_are_values}
 use Rattle.drn_expr.proofs.laws.operations_fit.Goals as goal
 
 pub returns : goal.returns
@@ -13,6 +13,7 @@ returns c =
       sums = sums_fit law.polynomial law.terms law.found more.multiples more.sums;
       plain_sums = plain_sums_fit law.polynomial law.terms law.found more.sums;
       products = products_fit law.polynomial law.terms law.found more.products;
+      commute = sums_commute law.unique law.polynomial more.sums;
       over_one = sums_over_one greatest law.unique law.polynomial law.terms law.found more.sums more.multiples more.kept more.exact more.quotients;
       values = sums_over_one_are_values greatest law.unique law.polynomial law.terms law.found more.sums more.multiples more.kept;
     }

@@ -1,4 +1,4 @@
-use Rattle.std.proofs.Common.{◌≡◌, sym, ap, ◌∙◌}
+use Rattle.std.proofs.Common.{sym, ap, ◌∙◌}
 use Rattle.drn_expr.specs.RatPolys.{common_divisor}
 use Rattle.drn_expr.proofs.Divisors.{common_is, common-one}
 use Rattle.drn_expr.proofs.rat_poly.common_divisor.Goals as goal

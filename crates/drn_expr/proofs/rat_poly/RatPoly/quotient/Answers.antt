@@ -13,7 +13,7 @@ returns-in_err-poly c =
     let e : c.from_residual.result ≡ Err (cause_of c.in_err-poly.field-0.0) = search rules in
     let fits : FitsSigned w128 c.with_sign.result = search rules in
     let by = ap unsigned_abs (to_z-of_z w128 c.with_sign.result fits ∙ c.with_sign.ensures) ∙ sign_size _ c.other.inside.den in
-    multiple_refused c.operations_fit.ensures.multiples c.in_err-poly.field-0.0 (to_z w128 (of_z w128 c.with_sign.result)) (over c.self.inside.poly c.self.inside.den) _ _ c.self.invariant (omega (arith, by, c.other.invariant.den)) c.in_err-poly.ensures.answer e
+    multiple_refused c.operations_fit.ensures.multiples c.in_err-poly.field-0.0 (to_z w128 (of_z w128 c.with_sign.result)) (over c.self.inside.poly c.self.inside.den) _ _ c.self.invariant (omega (arith, by, c.other.invariant.den)) (λ _. c.in_err-poly.ensures.answer) e
 
 -- the new denominator is small
 small_den : (c : After-unsigned_abs) → c.from.result * c.unsigned_abs.result < product_limit
