@@ -9,3 +9,4 @@ pub mod Keeping
 pub mod Laws
 pub mod Shown
 pub mod ModelSteps
+pub mod Recent

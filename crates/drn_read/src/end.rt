@@ -261,7 +261,7 @@ pub(crate) fn finish(alloc: Global, number: u32, reader: Reader) -> Result<Model
     ensures fault { TellsLine result (end_fault number reader) }
     ensures model { IfOk result (λ m. m ≡ model reader) }
 {
-    let Reader { header, model } = reader;
+    let Reader { header, model, .. } = reader;
     let choices = model.choices();
     let states = model.into_states();
     test_whole(number, &header, &states, choices)?;

@@ -17,6 +17,7 @@ mod error;
 mod extend;
 mod front;
 mod header;
+mod known;
 mod labels;
 mod last;
 mod laws;

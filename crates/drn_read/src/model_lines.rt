@@ -12,12 +12,14 @@ ghost use Rattle.drn_read.specs.Judging.{action_fault, state_fault, choiceless, 
 ghost use Rattle.drn_read.specs.Judging.{choice_count, is_chain, choice_fault, room_fault};
 ghost use Rattle.drn_read.specs.Keeping.{states_with, on_last, with_choice, with_transitions};
 ghost use Rattle.drn_read.specs.Shown.{Tells, TellsLine, IsSource, rest, left, piece};
+ghost use Rattle.drn_read.specs.Recent.{AreKnown};
 ghost use Rattle.drn_read.specs.ModelSteps.{on_line, transition_at, new_state, words_with};
 
 use crate::cursor::{Cursor, LineWord};
-use crate::entry::{named_value, transition_front};
+use crate::entry::transition_front;
 use crate::error::{DrnCause, DrnError};
 use crate::header::HeaderReader;
+use crate::known::KnownValues;
 use crate::labels::{Labels, read_action, read_state};
 use crate::last::test_last_state;
 use crate::state::{State, Transition};
@@ -253,12 +255,19 @@ impl ModelReader {
     }
 
     /// A transition's line.
-    fn read_transition(&mut self, header: &HeaderReader, line: Cursor<'_>) -> Result<(), DrnCause>
+    fn read_transition(
+        &mut self,
+        header: &HeaderReader,
+        known: &mut KnownValues,
+        line: Cursor<'_>,
+    ) -> Result<(), DrnCause>
+        requires { AreKnown header.now.names header.now.placeholders known.old.values.items }
         ensures fault { Tells result (transition_fault header.now self.old (rest line.entry)) }
         ensures after { let content = rest line.entry in
             let value = entry_value header.now.names header.now.placeholders content in
             let transition = transition_at line.entry.line.number (target_of content) value in
             OnOk result (self.new ≡ on_last (with_transitions transition) self.old) }
+        ensures known { AreKnown header.now.names header.now.placeholders known.new.values.items }
     {
         if self.states.is_empty() {
             return Err(DrnCause::Syntax);
@@ -267,7 +276,7 @@ impl ModelReader {
             return Err(DrnCause::Syntax);
         };
         self.test_room(front.target)?;
-        let value = named_value(
+        let value = known.named_value(
             self.alloc,
             front.value,
             header.names(),
@@ -378,13 +387,16 @@ impl ModelReader {
     pub fn read_line(
         &mut self,
         header: &HeaderReader,
+        known: &mut KnownValues,
         label: &[u8],
         line: Cursor<'_>,
     ) -> Result<(), DrnError>
+        requires { AreKnown header.now.names header.now.placeholders known.old.values.items }
         ensures fault { (source : TextLine) → IsSource line.entry source
             → TellsLine result (model_fault header.now self.old source) }
         ensures after { OnOk result ((source : TextLine) → IsSource line.entry source
             → self.new ≡ states_with label.now header.now self.old source) }
+        ensures known { AreKnown header.now.names header.now.placeholders known.new.values.items }
     {
         let number = line.line.number;
         let content = line.rest();
@@ -396,7 +408,7 @@ impl ModelReader {
         } else if content.is_empty() {
             Ok(())
         } else if is_transition(content) {
-            on_line(number, self.read_transition(header, line))
+            on_line(number, self.read_transition(header, known, line))
         } else {
             self.read_words(header, label, number, line)
         }

@@ -9,6 +9,7 @@ ghost use Rattle.drn_read.specs.Shown.{TellsLine, IsSource};
 use crate::cursor::Cursor;
 use crate::error::DrnError;
 use crate::header::HeaderReader;
+use crate::known::KnownValues;
 use crate::model_lines::{ModelReader, on_line};
 use crate::section::Phase;
 use std::alloc::Global;
@@ -18,6 +19,7 @@ use std::alloc::Global;
 pub(crate) struct Reader {
     pub header: HeaderReader,
     pub model: ModelReader,
+    pub known: KnownValues,
 }
 
 impl std::marker::Model for Reader {
@@ -25,7 +27,11 @@ impl std::marker::Model for Reader {
 
     ghost Value = { Said };
 
+    ghost use Rattle.drn_read.specs.Recent.{AreKnown};
+
     ghost view = { λ r. record { header = r.header; states = r.model } };
+
+    ghost invariant = { λ r. AreKnown r.header.names r.header.placeholders r.known.values.items };
 }
 
 impl Reader {
@@ -37,6 +43,7 @@ impl Reader {
         Reader {
             header: HeaderReader::new(alloc),
             model: ModelReader::new(alloc),
+            known: KnownValues::new(alloc),
         }
     }
 
@@ -48,8 +55,11 @@ impl Reader {
             → self.new ≡ with_line label.now self.old source) }
     {
         if let Phase::Model = self.header.phase() {
-            return self.model.read_line(&self.header, label, line);
+            return self
+                .model
+                .read_line(&self.header, &mut self.known, label, line);
         }
+        self.known.clear();
         on_line(line.line.number, self.header.read_line(line))
     }
 }
