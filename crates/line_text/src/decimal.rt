@@ -13,7 +13,7 @@ use std::cmp::Ordering;
 /// How many digits a number has at most that isn't wide.
 const MOST_DIGITS: usize = 31;
 
-/// How many digits at most write a number below 2 to the 64.
+/// How many digits at most are read in 64 bits.
 const SHORT_DIGITS: usize = 18;
 
 /// A number that a word writes, of any length. The size that few digits write is kept.
