@@ -16,14 +16,14 @@ action b;2 : p;3 : 1-p;state 1 goal;action a;1 : 1;state 2;action a;1 : q;2 : 1-
 action b;0 : p;3 : 1-p;action c;1 : 1/2*p;2 : 1-1/2*p;state 3;action a;3 : 1;\
 state 4;action a;0 : 1";
 
-/// For each state the states before it, their positions and its own, the numbers of its rows, where
-/// their weights begin, and their targets.
+/// For each state the states before it, their positions and its own, whether all of them stand behind it,
+/// the numbers of its rows, where their weights begin, and their targets.
 const TOLD: &str = "\
-0 | [2, 4] [2, 4] 3 | 0 0 [1, 2] 1 0 [2, 3]
-1 | [0, 1, 2] [3, 0, 2] 0 | 2 4 [1]
-2 | [0, 2] [3, 2] 2 | 3 5 [1, 2] 4 0 [0, 3] 5 9 [1, 2]
-3 | [0, 2, 3] [3, 2, 1] 1 | 6 4 [3]
-4 | [] [] 4 | 7 4 [0]";
+0 | [2, 4] [2, 4] 3 false | 0 0 [1, 2] 1 0 [2, 3]
+1 | [0, 1, 2] [3, 0, 2] 0 true | 2 4 [1]
+2 | [0, 2] [3, 2] 2 true | 3 5 [1, 2] 4 0 [0, 3] 5 9 [1, 2]
+3 | [0, 2, 3] [3, 2, 1] 1 true | 6 4 [3]
+4 | [] [] 4 true | 7 4 [0]";
 
 /// What the links tell of a state.
 fn told(alloc: Global, model: &Model, links: &Links, s: u32) -> Result<String, Fail>
@@ -33,7 +33,8 @@ fn told(alloc: Global, model: &Model, links: &Links, s: u32) -> Result<String, F
     let before = links.before(s);
     let positions = links.positions_before(s);
     let position = links.position(s);
-    let mut told = format!(in alloc; "{s} | {before:?} {positions:?} {position} |")?;
+    let lone = links.is_lone(s);
+    let mut told = format!(in alloc; "{s} | {before:?} {positions:?} {position} {lone} |")?;
     for a in 0..model.choices(s) {
         let number = links.row_place(s, a);
         let weights = links.weight_place(s, a);
