@@ -118,6 +118,16 @@ impl RatPoly {
         })
     }
 
+    /// The same polynomial. Memory is given back where more than half of it is free.
+    pub(crate) fn compact(self) -> RatPoly
+        ensures { result ≡ self }
+    {
+        RatPoly {
+            poly: self.poly.compact(),
+            den: self.den,
+        }
+    }
+
     /// A number.
     pub(crate) fn number(alloc: Global, number: Frac) -> Result<RatPoly, ExprError>
         ensures { result ≢ Err ExprError.Memory

@@ -69,5 +69,6 @@ pub fn read_value(
     }
     let whole = value(alloc, text, line, from, names, 0)?;
     ended(text, line, whole.to)?;
-    whole.value
+    let value = whole.value?;
+    Ok(value.compact())
 }

@@ -9,7 +9,7 @@ ghost use Rattle.lift_poly.specs.MultiAffine.{IsMultiAffine, narrow, product_ans
 use crate::error::PolyError;
 use crate::terms::{
     add_each, add_term, common_divisor, have_same_sets, multiple_terms, product_terms, push_kept,
-    push_term, quotient_terms, sum_terms,
+    push_term, quotient_terms, release, sum_terms,
 };
 use std::alloc::{AllocError, Global};
 use std::marker::Model;
@@ -73,6 +73,16 @@ impl MultiAffine {
     {
         let terms = Vec::from_slice(alloc, &self.terms)?;
         Ok(MultiAffine { terms })
+    }
+
+    /// The same polynomial. Memory is given back where more than half of it is free, as after a sum in
+    /// place whose terms cancel.
+    pub fn compact(self) -> MultiAffine
+        ensures { result ≡ self }
+    {
+        let MultiAffine { mut terms } = self;
+        release(&mut terms);
+        MultiAffine { terms }
     }
 
     /// The set of the parameters that occur. Linear in the number of terms.

@@ -66,7 +66,7 @@ pub(crate) fn push_kept(terms: &mut Vec<(u16, i128)>, term: (u16, i128)) -> Resu
 }
 
 /// Gives memory back where more than half of it is free. Little memory stays as it is.
-fn release(terms: &mut Vec<(u16, i128)>)
+pub(crate) fn release(terms: &mut Vec<(u16, i128)>)
     ensures { terms.new.items ≡ terms.old.items }
 {
     if terms.capacity() > LITTLE && terms.len() < terms.capacity() / 2 {
@@ -216,7 +216,6 @@ pub(crate) fn add_each(
         end = keep_term(terms, end, (term.0, coefficient));
     }
     terms.truncate(end);
-    release(terms);
     Ok(())
 }
 
@@ -251,7 +250,6 @@ pub(crate) fn sum_terms(
     }
     terms.extend_from_slice(&left[i..])?;
     terms.extend_from_slice(&right[j..])?;
-    release(&mut terms);
     Ok(terms)
 }
 
@@ -269,7 +267,6 @@ pub(crate) fn multiple_terms(
     let mut multiple = terms;
     if by == 0 {
         multiple.clear();
-        release(&mut multiple);
         return Ok(multiple);
     }
     let count = multiple.len();
@@ -295,7 +292,6 @@ fn products_by_rows(
     let mut products = left;
     if right.is_empty() {
         products.clear();
-        release(&mut products);
         return Ok(products);
     }
     let others = &right[1..];

@@ -9,7 +9,7 @@ use Rattle.lift_poly.specs.Arithmetic.{kept, sum}
 use Rattle.lift_poly.specs.MultiAffine.{IsMultiAffine, is_wide}
 use Rattle.lift_poly.proofs.Merging.{merging_none, small_from, merging_both_at, merging_wide_at, merged_all, sum_fits_at, next_behind, read_behind, same_behind, same_length, same_set}
 use Rattle.lift_poly.proofs.terms.add_each.Goals as goal
-use Rattle.lift_poly.proofs.terms.add_each.Goals.{After-release}
+use Rattle.lift_poly.proofs.terms.add_each.Goals.{After-truncate}
 
 pub loop-i-init : goal.loop-i-init
 loop-i-init c = record {
@@ -75,14 +75,14 @@ loop-i-preserved c =
     }
 
 -- what is kept is the sum
-kept_all : (c : After-release) → IsMultiAffine c.release.new.terms.items × (c.release.new.terms.items ≡ sum c.args.terms.now.items c.args.others.now)
+kept_all : (c : After-truncate) → IsMultiAffine c.truncate.new.self.items × (c.truncate.new.self.items ≡ sum c.args.terms.now.items c.args.others.now)
 kept_all c =
     let ts = c.args.terms.now.items in
     let us = c.args.others.now in
     let done = take c.loop-i.end c.loop-i.terms.items in
     let end : length ts ≤ c.loop-i.i = omega (arith, c.loop-i-test.false, same_length ts us c.requires.sets) in
     let rest = ap₂ (λ ws vs. (done ++ ws) ++ vs) (drop_all c.loop-i.i ts end) (drop_all c.loop-i.i us c.loop-i-test.false) ∙ append-nil (done ++ []) ∙ append-nil done in
-    merged_all ts us done c.release.new.terms.items c.loop-i.i c.loop-i.i c.loop-i.invariant.merging (inl end) (small_from ts c.requires.left) (small_from us c.requires.right) (c.release.ensures ∙ c.truncate.ensures.items ∙ sym rest)
+    merged_all ts us done c.truncate.new.self.items c.loop-i.i c.loop-i.i c.loop-i.invariant.merging (inl end) (small_from ts c.requires.left) (small_from us c.requires.right) (c.truncate.ensures.items ∙ sym rest)
 
 pub returns-clause-sum : goal.returns-clause-sum
 returns-clause-sum c = (kept_all c).1

@@ -23,7 +23,7 @@ passed by terms fits = ap (λ z. products_of (0, z) terms) (to_z-of_z w128 by fi
 pub returns-then-by-eq0-clause-multiple : goal.returns-then-by-eq0-clause-multiple
 returns-then-by-eq0-clause-multiple c =
     let none : c.args.by ≡ pos 0 = omega (arith, ints) in
-    c.release.ensures ∙ c.clear.ensures.items ∙ scaled_none c.args.by c.args.terms.items none
+    c.clear.ensures.items ∙ scaled_none c.args.by c.args.terms.items none
 
 pub multiply_row-requires-clause-narrow : goal.multiply_row-requires-clause-narrow
 multiply_row-requires-clause-narrow c =

@@ -66,12 +66,12 @@ pub returns-clause-sum : goal.returns-clause-sum
 returns-clause-sum c =
     let end : (length c.args.left.now ≤ c.loop-i.i) ⊎ (length c.args.right.now ≤ c.loop-i.j) =
     elim c.loop-i-test.branch [ then-loop-i-test+else-j-right w ↦ inr (omega arith) | else-loop-i-test w ↦ inl (omega arith) ] in
-    (merged_all c.args.left.now c.args.right.now c.loop-i.terms.items c.release.new.terms.items c.loop-i.i c.loop-i.j c.loop-i.invariant.merging end
+    (merged_all c.args.left.now c.args.right.now c.loop-i.terms.items c.extend_from_slice-2.new.self.items c.loop-i.i c.loop-i.j c.loop-i.invariant.merging end
     (small_from c.args.left.now c.requires.left) (small_from c.args.right.now c.requires.right) (grind (arith, common_steps))).1
 
 pub returns-clause-fits : goal.returns-clause-fits
 returns-clause-fits c =
     let end : (length c.args.left.now ≤ c.loop-i.i) ⊎ (length c.args.right.now ≤ c.loop-i.j) =
     elim c.loop-i-test.branch [ then-loop-i-test+else-j-right w ↦ inr (omega arith) | else-loop-i-test w ↦ inl (omega arith) ] in
-    (merged_all c.args.left.now c.args.right.now c.loop-i.terms.items c.release.new.terms.items c.loop-i.i c.loop-i.j c.loop-i.invariant.merging end
+    (merged_all c.args.left.now c.args.right.now c.loop-i.terms.items c.extend_from_slice-2.new.self.items c.loop-i.i c.loop-i.j c.loop-i.invariant.merging end
     (small_from c.args.left.now c.requires.left) (small_from c.args.right.now c.requires.right) (grind (arith, common_steps))).0
