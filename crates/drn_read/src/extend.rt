@@ -6,6 +6,9 @@ ghost use Rattle.drn_read.specs.Keeping.{with_choice, with_transitions};
 use crate::state::{State, Transition};
 use std::alloc::{AllocError, Global};
 
+/// How many transitions a choice has room for at first.
+const FIRST_ROOM: usize = 2;
+
 impl State {
     /// Whether there is no choice yet.
     #[tactic(auto, using(crate::proofs::LastOnes::no_rows))]
@@ -37,7 +40,8 @@ impl State {
         match self.choices.last_mut() {
             Some(choice) => choice.push(transition)?,
             None => {
-                let choice = Vec::from_array(alloc, [transition])?;
+                let mut choice = Vec::with_capacity(alloc, FIRST_ROOM)?;
+                choice.push(transition)?;
                 self.choices.push(choice)?;
             }
         }

@@ -78,7 +78,7 @@ fn row_of(alloc: Global, common: u64, choice: &[Transition]) -> Result<Row, DrnC
     ensures fault { Tells result (when (list_any (is_large common) choice.now) CommonDenominator) }
     ensures row { IfOk result (λ row. row ≡ map (entry common) choice.now) }
 {
-    let mut entries = Vec::new(alloc);
+    let mut entries = Vec::with_capacity(alloc, choice.len())?;
     for transition in choice {
         entries.push(entry_of(alloc, common, transition)?)?;
     }
@@ -93,7 +93,7 @@ fn rows_of(alloc: Global, common: u64, choices: &[Vec<Transition>]) -> Result<Ve
     ensures rows { IfOk result (λ rows. rows.items
         ≡ map (map (entry common)) (map (λ row. row.items) choices.now)) }
 {
-    let mut rows = Vec::new(alloc);
+    let mut rows = Vec::with_capacity(alloc, choices.len())?;
     for choice in choices {
         rows.push(row_of(alloc, common, choice)?)?;
     }
@@ -113,7 +113,7 @@ pub(crate) fn all_rows(
     ensures rows { IfOk result (λ rows. map (λ v. v.items) rows.items
         ≡ map (λ s. map (map (entry common)) s.choices) states.now) }
 {
-    let mut rows = Vec::new(alloc);
+    let mut rows = Vec::with_capacity(alloc, states.len())?;
     for state in states {
         rows.push(rows_of(alloc, common, &state.choices)?)?;
     }

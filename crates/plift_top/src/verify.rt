@@ -18,7 +18,7 @@ use lift_cert::{Bound, certificates_decide, rejecting_certificates_reach};
 use lift_grid::{Grid, Rect, read_region};
 use lift_model::{Links, Model};
 use lift_names::Names;
-use lift_rows::admit;
+use lift_rows::{admit, admit_linked};
 use plift_words::VerifyJob;
 use region_tree::{Room, rectangles_at_depths, right_trees_tile};
 use std::alloc::Global;
@@ -61,6 +61,23 @@ fn case_of<'m>(
     Ok(case)
 }
 
+// The same by the model's links: of rows with the same polynomials one is tested.
+fn linked_case_of<'m>(
+    model: &'m Model,
+    root: &'m Rect,
+    grid: Grid,
+    job: &VerifyJob,
+    links: &Links,
+) -> Result<Case<'m>, Refusal>
+    requires grid { IsOnGrid grid.d grid.depth (length model.now.names) root.now }
+    requires depth { grid.depth ≡ job.now.depth }
+    requires links { AreLinks model.now links.now }
+    ensures { AdmitsCase (verify_data job.now) model.now (region_of (grid, root.now)) result }
+{
+    let case = admit_linked(model, root, grid, job.precision, links)?;
+    Ok(case)
+}
+
 // Writes the report of a case whose rows were tested. From here on no memory is taken.
 fn write_case<K: Sink>(
     case: &Case,
@@ -95,8 +112,12 @@ fn write_over<K: Sink>(
     ensures { WritesOver K.taken K.faults (verify_data job.now) model.now
         (region_of (grid, root.now)) out.old out.new result }
 {
-    let case = case_of(model, root, grid, job)?;
-    let links = Links::build(alloc, model)?;
+    let Ok(links) = Links::build(alloc, model) else {
+        // A row that isn't admitted is told all the same.
+        case_of(model, root, grid, job)?;
+        return Err(Refusal::Memory);
+    };
+    let case = linked_case_of(model, root, grid, job, &links)?;
     let mut room = Room::make(alloc, &case, &links)?;
     write_case(&case, &links, job.bound, &mut room, out)?;
     Ok(())

@@ -15,8 +15,8 @@ row_of-requires c =
 
 pub returns-in_err-row_of-clause-fault : goal.returns-in_err-row_of-clause-fault
 returns-in_err-row_of-clause-fault c =
-    let e : c.from_residual.result ≡ Err c.in_err-row_of.field-0.0 = search rules in
-    fault_kept_over c.from_residual.result c.in_err-row_of.field-0.0 (list_any (is_large c.args.common)) (λ row. row.items) c.args.choices.now c.loop-choice.choice-index c.choice-item.result _ e c.loop-choice-test.true c.choice-item.is c.deref.ensures.value c.in_err-row_of.ensures.fault
+    let e : c.from_residual-in_err-row_of.result ≡ Err c.in_err-row_of.field-0.0 = search rules in
+    fault_kept_over c.from_residual-in_err-row_of.result c.in_err-row_of.field-0.0 (list_any (is_large c.args.common)) (λ row. row.items) c.args.choices.now c.loop-choice.choice-index c.choice-item.result _ e c.loop-choice-test.true c.choice-item.is c.deref.ensures.value c.in_err-row_of.ensures.fault
 
 pub returns-clause-fault : goal.returns-clause-fault
 returns-clause-fault c =
