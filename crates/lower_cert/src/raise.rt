@@ -17,13 +17,13 @@ use lift_model::Links;
 use std::num::{nearest_i64_to_f64, saturating_f64_to_i64};
 
 /// How many passes the first blocks of a raising have.
-const FIRST_BLOCK: u32 = 8;
+const FIRST_BLOCK: u32 = 16;
 
 /// Where the rise falls by less than this part of itself from one block to the next, blocks get longer.
 const SLOW_FALL: f64 = 0.0625;
 
 /// How far the falls of two blocks may differ that are alike.
-const ALIKE: f64 = 1.5;
+const ALIKE: f64 = 1.2;
 
 /// Whether at some corner the choice's weighted mean is at most the state's number.
 fn is_enough_for(case: &Case, links: &Links, weights: &[i128], lane: &[i64], s: u32, a: u32) -> bool
