@@ -1,5 +1,5 @@
 -- Loops over the states at the end of a text.
-use Rattle.std.proofs.Common.{◌≡◌, ℕ, ℤ, pos, to_z, ◌+◌, ◌<◌, ◌≤◌, suc, cond, not, nat_lt, ◌||◌, ◌==◌, ◌-◌, Bool, true, false, refl, List, [], ◌∷◌, ◌++◌, length, get_or, take, drop, map, fold, sym, ◌∙◌, ap, arith, drop-cons, Option, Some, None, Result, Err}
+use Rattle.std.proofs.Common.{◌≡◌, ℕ, ℤ, pos, to_z, ◌+◌, ◌<◌, ◌≤◌, suc, cond, not, nat_lt, ◌||◌, ◌==◌, ◌-◌, ◌%◌, Bool, true, false, refl, List, [], ◌∷◌, ◌++◌, length, get_or, take, drop, map, fold, sym, ◌∙◌, ap, arith, drop-cons, Option, Some, None, Result, Err}
 use Rattle.std.proofs.lemmas.Bool.Decides.{nat_tests}
 use Rattle.std.proofs.lemmas.List.Folds.{list_any-append}
 use Rattle.std.proofs.lemmas.List.Sums.{fold_more, fold-append, prefix_len-le-length}
@@ -13,7 +13,9 @@ use Rattle.std.proofs.lemmas.Bool.{leb-false}
 use Rattle.std.proofs.lemmas.List.Elements.{All-weaker}
 use Rattle.drn_read.proofs.Lists.{find_none, All-from_flat_map}
 use Rattle.lift_frac.specs.Parts.{capped}
-use Rattle.lift_frac.specs.Laws.{LcmIsAtLeast}
+use Rattle.lift_frac.specs.Laws.{LcmIsAtLeast, LcmIsMultiple, LcmIsLeast}
+use Rattle.std.specs.Int.{◌∣◌}
+use Rattle.std.proofs.lemmas.Nat.Gcd.{dvd_refl, dvd_antisymm, dvd_of_mod-eq-zero}
 use Rattle.lift_model.specs.declared.kind.Kind.{Kind}
 use Rattle.lift_model.specs.declared.kind.Kind.TheVariants.{Dtmc}
 use Rattle.lift_model.specs.declared.entry.Entry.{Entry}
@@ -139,6 +141,22 @@ none_means limit c e = by_test (nat_lt c limit) refl
     by_test : (b : Bool) → nat_lt c limit ≡ b → limit ≤ c
     by_test true is = absurd (some_none c (rw is at e))
     by_test false is = grind (arith, nat_tests)
+
+some_means : (limit c d : ℕ) → capped limit c ≡ Some d → c ≡ d
+some_means limit c d e = by_test (nat_lt c limit) refl
+  where
+    by_test : (b : Bool) → nat_lt c limit ≡ b → c ≡ d
+    by_test true is = let same : Some c ≡ Some d = rw is at e in cc
+    by_test false is = let none : None ≡ Some d = rw is at e in absurd (cc)
+
+-- a multiple stays as it is
+pub stays : (multiple : LcmIsMultiple) (least : LcmIsLeast) (old : Option ℕ) (m den : ℕ) → old ≡ Some m → m % den ≡ 0 → Becomes old old (λ c. lcm c den)
+stays multiple least old m den there divides = record {
+  is = λ c e.
+      let same : c ≡ m = some_means common_limit c m (sym e ∙ there) in
+      let over : den ∣ c = dvd_of_mod-eq-zero den (rw same divides) in
+      e ∙ ap (capped common_limit) (dvd_antisymm (multiple c den).0 (least c den c (dvd_refl c) over));
+}
 
 -- none stays none
 pub no_more : (law : LcmIsAtLeast) (old : Option ℕ) (den : ℕ) → old ≡ None → 0 < den → Becomes old None (λ c. lcm c den)

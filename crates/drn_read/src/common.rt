@@ -20,7 +20,11 @@ fn joined(common: Option<u64>, value: &RatPoly) -> Option<u64>
 {
     divisors_and_multiples();
     let den = value.den() as u64;
-    let least = lcm(common?, den);
+    let known = common?;
+    if known % den == 0 {
+        return common;
+    }
+    let least = lcm(known, den);
     if least < COMMON_LIMIT {
         Some(least as u64)
     } else {

@@ -42,7 +42,7 @@ impl State {
             None => {
                 let mut choice = Vec::with_capacity(alloc, FIRST_ROOM)?;
                 choice.push(transition)?;
-                self.choices.push(choice)?;
+                self.choices = Vec::from_array(alloc, [choice])?;
             }
         }
         Ok(())
