@@ -1,0 +1,147 @@
+//! What the code uses of the kit's library, over that of Rust. Memory is never refused.
+
+pub mod alloc {
+    #[derive(Clone, Copy, Debug, PartialEq, Eq)]
+    pub struct AllocError;
+    #[derive(Clone, Copy, Debug, PartialEq, Eq, Default)]
+    pub struct Global;
+    pub struct AllocFailed<T>(pub T);
+    impl<T> From<AllocFailed<T>> for AllocError {
+        fn from(_: AllocFailed<T>) -> Self {
+            AllocError
+        }
+    }
+}
+pub mod marker {
+    pub use std::marker::PhantomData;
+    pub struct Brand;
+    pub trait Model {}
+}
+pub mod io {
+    pub use std::io::{Read, Write};
+}
+pub mod num {
+    pub fn f64_from_bits_with_nan(x: u64) -> f64 {
+        f64::from_bits(x)
+    }
+    pub fn f64_to_bits_with_nan(x: f64) -> u64 {
+        x.to_bits()
+    }
+    pub fn nearest_i64_to_f64(x: i64) -> f64 {
+        x as f64
+    }
+    pub fn nearest_u64_to_f64(x: u64) -> f64 {
+        x as f64
+    }
+    pub fn nearest_u32_to_f64(x: u32) -> f64 {
+        x as f64
+    }
+    pub fn nearest_i128_to_f64(x: i128) -> f64 {
+        x as f64
+    }
+    pub fn nearest_u128_to_f64(x: u128) -> f64 {
+        x as f64
+    }
+    pub fn saturating_f64_to_i64(x: f64) -> i64 {
+        x as i64
+    }
+    pub fn saturating_f64_to_u32(x: f64) -> u32 {
+        x as u32
+    }
+    pub fn saturating_f64_to_u64(x: f64) -> u64 {
+        x as u64
+    }
+}
+pub mod thiserror {
+    pub trait Error {}
+}
+pub mod memchr {
+    extern "C" {
+        #[link_name = "memchr"]
+        fn c_memchr(s: *const u8, c: i32, n: usize) -> *const u8;
+    }
+    pub fn memchr(c: u8, s: &[u8]) -> Option<usize> {
+        let p = unsafe { c_memchr(s.as_ptr(), c as i32, s.len()) };
+        if p.is_null() {
+            None
+        } else {
+            Some(p as usize - s.as_ptr() as usize)
+        }
+    }
+}
+pub mod itoa {
+    pub struct Buffer {
+        b: [u8; 48],
+    }
+    pub trait Int: Copy {
+        fn wide(self) -> i128;
+    }
+    macro_rules! ints { ($($t:ty)*) => { $(impl Int for $t { fn wide(self) -> i128 { self as i128 } })* } }
+    ints!(i8 u8 i16 u16 i32 u32 i64 u64 isize usize i128 u128);
+    const D: &[u8; 200] = b"00010203040506070809101112131415161718192021222324252627282930313233343536373839404142434445464748495051525354555657585960616263646566676869707172737475767778798081828384858687888990919293949596979899";
+    impl Buffer {
+        #[inline]
+        pub fn new() -> Self {
+            Buffer { b: [0; 48] }
+        }
+        #[inline]
+        pub fn format<T: Int>(&mut self, t: T) -> &str {
+            let w = t.wide();
+            let neg = w < 0;
+            let mut big = w.unsigned_abs();
+            let mut i = 48;
+            while big >= 10000000000000000000 {
+                let r = (big % 10) as u8;
+                big /= 10;
+                i -= 1;
+                self.b[i] = b'0' + r;
+            }
+            let mut n = big as u64;
+            while n >= 100 {
+                let r = (n % 100) as usize * 2;
+                n /= 100;
+                i -= 2;
+                self.b[i] = D[r];
+                self.b[i + 1] = D[r + 1];
+            }
+            if n >= 10 {
+                let r = n as usize * 2;
+                i -= 2;
+                self.b[i] = D[r];
+                self.b[i + 1] = D[r + 1];
+            } else {
+                i -= 1;
+                self.b[i] = b'0' + n as u8;
+            }
+            if neg {
+                i -= 1;
+                self.b[i] = b'-';
+            }
+            unsafe { std::str::from_utf8_unchecked(&self.b[i..]) }
+        }
+    }
+}
+pub mod collections;
+pub mod indexmap;
+pub mod vec;
+pub mod prelude {
+    pub use crate::rvec;
+    pub use crate::vec::Vec;
+    pub use crate::IterExt;
+}
+
+#[macro_export]
+macro_rules! rvec {
+    (in $a:expr; $x:expr; $n:expr) => { $crate::vec::Vec::from_elem($a, $x, $n) };
+    (in $a:expr; $($x:expr),* $(,)?) => { Ok::<_, $crate::alloc::AllocError>($crate::vec::Vec(std::vec![$($x),*])) };
+}
+pub trait IterExt: Iterator + Sized {
+    fn rcollect(self, _: alloc::Global) -> Result<vec::Vec<Self::Item>, alloc::AllocError> {
+        Ok(vec::Vec(self.collect()))
+    }
+}
+impl<I: Iterator> IterExt for I {}
+
+pub fn boxed<T>(t: T) -> Result<Box<T>, alloc::AllocError> {
+    Ok(Box::new(t))
+}
