@@ -6,11 +6,11 @@ use Rattle.lift_grid.specs.Tree.Tree.{split as splits, accept as accepts, reject
 use Rattle.lift_model.specs.declared.entry.Entry.{Entry}
 use Rattle.lift_model.specs.Valid.{most_name_bytes}
 use Rattle.corner_lift.specs.Case.{CaseData, IsAsked, most_row_parameters}
-use Rattle.corner_lift.specs.Certificate.{AreNumbers, unmarked}
+use Rattle.corner_lift.specs.Certificate.{AreNumbers, most_rate, unmarked}
 use Rattle.lift_cert.specs.Bound.{IsBound}
 use Rattle.lift_cert.specs.declared.bound.Bound.{Bound}
 use Rattle.line_text.specs.Words.{is_name}
-use Rattle.lift_cert.specs.RejectMiss.{most_rate, most_height}
+use Rattle.lift_cert.specs.RejectMiss.{most_height}
 use Rattle.cert_text.specs.Lines.{most_terms}
 use Rattle.cert_text.specs.Head.{HeadData}
 use Rattle.cert_text.specs.Nodes.{Node, split, accept, reject, unknown, fit_states}

@@ -14,9 +14,9 @@ use Rattle.lift_model.specs.declared.kind.Kind.TheVariants.{Dtmc, Mdp}
 use Rattle.lift_model.specs.declared.entry.Entry.{Entry}
 use Rattle.lift_model.specs.Valid.{most_parameters, most_name_bytes, coefficient_limit}
 use Rattle.corner_lift.specs.Case.{most_row_parameters}
-use Rattle.corner_lift.specs.Certificate.{unmarked}
+use Rattle.corner_lift.specs.Certificate.{most_rate, unmarked}
 use Rattle.lift_cert.specs.declared.bound.Bound.{Bound}
-use Rattle.lift_cert.specs.RejectMiss.{most_rate, most_height}
+use Rattle.lift_cert.specs.RejectMiss.{most_height}
 use Rattle.line_text.specs.declared.error.TextCause.TheVariants.{Syntax, Version, Limit}
 use Rattle.line_text.specs.Words.{number_of, pair_of, is_name}
 use Rattle.line_text.specs.Reading.{◌>>=◌}

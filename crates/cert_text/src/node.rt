@@ -3,7 +3,8 @@ ghost use Rattle.std.specs.Prelude.{◌≡◌, ◌≤◌, ◌^◌, ◌∷◌, ma
 ghost use Rattle.std.specs.List.{concat, flat_map};
 ghost use Rattle.lift_base.specs.Outside.{Wrote};
 ghost use Rattle.corner_lift.specs.Case.{number};
-ghost use Rattle.lift_cert.specs.RejectMiss.{most_rate, most_height};
+ghost use Rattle.lift_cert.specs.RejectMiss.{most_height};
+ghost use Rattle.corner_lift.specs.Certificate.{most_rate};
 ghost use Rattle.cert_text.specs.Report.{line, spaced, numbers_words, split_line, accept_line};
 ghost use Rattle.cert_text.specs.Report.{mark_word, reject_words, reject_lines, unknown_line};
 

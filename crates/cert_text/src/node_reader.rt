@@ -1,7 +1,8 @@
 // Reads a node of a report.
 ghost use Rattle.std.specs.Prelude.{◌≡◌, ◌≤◌, ◌<◌, ◌+◌, ◌^◌, ℕ, drop, length, map, codes, IfOk};
 ghost use Rattle.line_text.specs.Reading.{line_at};
-ghost use Rattle.lift_cert.specs.RejectMiss.{most_rate, most_height};
+ghost use Rattle.lift_cert.specs.RejectMiss.{most_height};
+ghost use Rattle.corner_lift.specs.Certificate.{most_rate};
 ghost use Rattle.cert_text.specs.Lines.{values_of, marks_of, reject_of};
 ghost use Rattle.cert_text.specs.Nodes.{begins, fits_leaf, reject};
 ghost use Rattle.cert_text.specs.Nodes.{split_at, accept_at, rejecting_at, reject_at, unknown_at, node_by, node_at};

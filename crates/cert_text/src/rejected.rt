@@ -1,7 +1,8 @@
 // The first line of a rejecting leaf.
 ghost use Rattle.std.specs.Prelude.{◌≡◌, ◌≤◌, IfOk};
 ghost use Rattle.line_text.specs.Words.{pair_of};
-ghost use Rattle.lift_cert.specs.RejectMiss.{most_rate, most_height};
+ghost use Rattle.lift_cert.specs.RejectMiss.{most_height};
+ghost use Rattle.corner_lift.specs.Certificate.{most_rate};
 ghost use Rattle.cert_text.specs.Lines.{named, reject_of};
 ghost use Rattle.line_text.specs.Shown.{Says};
 ghost use Rattle.cert_text.specs.Leaf.{rejected_of};

@@ -1,4 +1,5 @@
 pub mod Rows
+pub mod Rates
 pub mod CornerBound
 pub mod RowBound
 pub mod Coefficients

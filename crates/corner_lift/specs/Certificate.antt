@@ -63,12 +63,16 @@ pub record IsHeld (k : CaseData) (spans : Spans) (r : RejectData) (s : ℕ) : Ty
   pub means : MeansAtLeast k spans (picked_row k r s) (number r.numbers) (number r.numbers s)
   pub rates : IsRate k spans r r.e s
 
+-- the greatest e, by our own profile: a weight that isn't 0 is at least 1, and the whole is below 2 ^ 126
+abbrev pub most_rate : ℕ
+most_rate = 126
+
 -- A lower vector: 2 ^ w on goal states, whose rank is 0; 0 on states without rank; and each other state is held by its pick.
 pub record IsLower (k : CaseData) (spans : Spans) (r : RejectData) : Type 0 where
   pub numbers : AreNumbers k r.numbers
   pub sizes : (length r.picks ≡ length k.model.states) × (length r.ranks ≡ length k.model.states)
   pub marks : All (λ rank. rank ≤ unmarked) r.ranks
-  pub bounds : (r.e ≤ 126) × (1 ≤ r.k) × (r.k < unmarked)
+  pub bounds : (r.e ≤ most_rate) × (1 ≤ r.k) × (r.k < unmarked)
   pub goal : (s : ℕ) → is_goal k.model s ≡ true → (number r.numbers s ≡ pos (2 ^ k.w)) × (mark r.ranks s ≡ 0) × (mark r.picks s ≡ unmarked)
   pub unranked : (s : ℕ) → is_goal k.model s ≡ false → unmarked ≤ mark r.ranks s → (number r.numbers s ≡ pos 0) × (mark r.picks s ≡ unmarked)
   pub held : (s : ℕ) → is_goal k.model s ≡ false → mark r.ranks s < unmarked → IsHeld k spans r s

@@ -5,6 +5,7 @@ mod case;
 mod ends;
 mod laws;
 mod precision;
+mod rate;
 mod row;
 mod table;
 mod weighted;
@@ -15,6 +16,7 @@ pub use laws::{
     rows_inside,
 };
 pub use precision::one_at;
+pub use rate::is_enough;
 pub use row::{raw_weight, row_max, row_min, row_value, weight_into, whole};
 pub use table::{
     AtCorner, Weighed, fill, table_corner, table_greatest, table_into, table_least, table_loop,

@@ -5,7 +5,7 @@ use Rattle.lift_grid.specs.Tree.{RejectData}
 use Rattle.lift_model.specs.Model.{is_goal, choices, row_at}
 use Rattle.corner_lift.specs.Corner.{corner_sum}
 use Rattle.corner_lift.specs.Case.{CaseData, number, row_value, row_whole, corner_count}
-use Rattle.corner_lift.specs.Certificate.{AreNumbers, unmarked, mark, ranked_below}
+use Rattle.corner_lift.specs.Certificate.{AreNumbers, unmarked, mark, ranked_below, most_rate}
 use Rattle.lift_cert.specs.Miss.{IsGoalMiss}
 use Rattle.lift_cert.specs.declared.bound.Bound.{Bound}
 use Rattle.lift_cert.specs.declared.miss.Miss.{Miss}
@@ -16,10 +16,6 @@ use Rattle.lift_cert.specs.declared.miss.Miss.TheVariants.{Goal, Unranked, Row, 
 -- the greatest k, by our own profile: a rank for each state that a model may have
 abbrev pub most_height : ℕ
 most_height = 65536
-
--- the greatest e, by our own profile: a weight that isn't 0 is at least 1, and the whole is below 2 ^ 126
-abbrev pub most_rate : ℕ
-most_rate = 126
 
 -- the state has neither a rank nor a pick
 abbrev pub IsUnmarked : RejectData → ℕ → Type 0

@@ -2,7 +2,7 @@ ghost use Rattle.std.specs.Prelude.{◌≡◌, ◌≤◌, ◌<◌, ◌↔◌, tr
 ghost use Rattle.lift_model.specs.Model.{is_goal};
 ghost use Rattle.corner_lift.specs.Case.{number};
 ghost use Rattle.corner_lift.specs.Certificate.{mark, unmarked};
-ghost use Rattle.lift_cert.specs.RejectMiss.{HasRejectForm, most_rate};
+ghost use Rattle.lift_cert.specs.RejectMiss.{HasRejectForm};
 
 use corner_lift::Case;
 

@@ -10,27 +10,15 @@ ghost use Rattle.lift_cert.specs.Certificate.{IsRejecting, IsBeyond};
 ghost use Rattle.lift_cert.specs.Miss.{HasSmallNumbers};
 ghost use Rattle.lift_cert.specs.RejectMiss.{HasRejectForm, IsMarked, IsAtCorner, IsSupported, IsFast};
 ghost use Rattle.lift_cert.specs.RejectMiss.{IsHeldCorner, IsHeldRow, IsHeldState, IsHeldMiss};
-ghost use Rattle.lift_cert.specs.RejectMiss.{IsFirstRejectMiss, IsUnderBoundMiss, most_rate, weight_below};
+ghost use Rattle.lift_cert.specs.RejectMiss.{IsFirstRejectMiss, IsUnderBoundMiss, weight_below};
 
 use crate::accept::{corners_of, times};
 use crate::bound::Bound;
 use crate::certificate::Certificate;
 use crate::miss::Miss;
 use corner_lift::{
-    Case, corners_bound_weights, one_at, row_value, rows_at_corners, weight_into, whole,
+    Case, corners_bound_weights, is_enough, one_at, row_value, rows_at_corners, weight_into, whole,
 };
-
-/// Whether `weight` times 2 to the `e` is at least the whole. That product is never formed, since it
-/// may be too wide.
-pub(crate) fn is_enough(weight: i128, e: u32, whole: i128) -> bool
-    requires weight { pos 0 ≤ℤ weight }
-    requires rate { e ≤ most_rate }
-    requires whole { pos 1 ≤ℤ whole }
-    ensures { IsTrue result ↔ whole ≤ℤ (weight *ℤ pos (2 ^ e)) }
-{
-    let below = (whole - 1).unsigned_abs();
-    below >> e < weight.unsigned_abs()
-}
 
 /// Tests the mean at a corner of the row that a ranked state picks.
 fn test_mean(

@@ -1,5 +1,5 @@
 -- A parametric Markov model, and the process that it is at a valuation.
-use Rattle.std.specs.Prelude.{ℕ, Bool, false, List, [], ◌∷◌, ℤ, ◌*ℤ◌, map, slice_index_or, bit_or}
+use Rattle.std.specs.Prelude.{ℕ, Bool, false, List, [], ◌∷◌, ℤ, ◌*ℤ◌, length, map, sum_by, slice_index_or, bit_or}
 use Rattle.lift_poly.specs.Polynomial.{Valuation, weight, denominator}
 use Rattle.lift_poly.specs.Arithmetic as polynomial
 use Rattle.lift_model.specs.declared.kind.Kind.{Kind}
@@ -26,6 +26,10 @@ choices m s = slice_index_or m.states s []
 -- the row of a state's choice of that number
 abbrev pub row_at : ModelData → ℕ → ℕ → List Entry
 row_at m s a = slice_index_or (choices m s) a []
+
+-- how many rows a model has
+abbrev pub row_count : ModelData → ℕ
+row_count m = sum_by length m.states
 
 -- the set of the parameters that are in one of these sets
 abbrev pub union : List ℕ → ℕ

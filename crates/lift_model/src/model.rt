@@ -1,5 +1,5 @@
 ghost use Rattle.std.specs.Prelude.{◌≡◌, ◌<◌, false, length, map, slice_index_or};
-ghost use Rattle.lift_model.specs.Model.{choices, row_at, live};
+ghost use Rattle.lift_model.specs.Model.{choices, row_at, choices_support, live, union};
 ghost use Rattle.lift_model.specs.Valid.{IsModel, IsRow};
 
 use crate::kind::Kind;
@@ -22,11 +22,12 @@ pub struct Model {
     goal: Vec<bool>,
     init: u32,
     states: Vec<Vec<Row>>,
+    live: u16,
 }
 
 impl std::marker::Model for Model {
-    ghost use Rattle.std.specs.Prelude.{map};
-    ghost use Rattle.lift_model.specs.Model.{ModelData};
+    ghost use Rattle.std.specs.Prelude.{◌≡◌, map};
+    ghost use Rattle.lift_model.specs.Model.{ModelData, choices_support, union};
     ghost use Rattle.lift_model.specs.Valid.{IsModel, IsRow};
 
     ghost Value = { ModelData };
@@ -47,11 +48,23 @@ impl std::marker::Model for Model {
       goal = m.goal.items;
       init = m.init;
       states = map (λ v. v.items) m.states.items;
-    }) };
+    }) × (m.live ≡ union (map choices_support (map (λ v. v.items) m.states.items))) };
+}
+
+/// The set of the parameters that occur in some row of these states.
+fn live_of(states: &[Vec<Row>]) -> u16
+    ensures { result ≡ union (map choices_support (map (λ v. v.items) states.now)) }
+{
+    let mut set = 0;
+    for choices in states {
+        set |= choices_support(choices);
+    }
+    set
 }
 
 impl Model {
-    /// The model of these parts, `c` being the common denominator. Takes no memory.
+    /// The model of these parts, `c` being the common denominator. Takes no memory, and is linear in the number of
+    /// choices.
     pub fn new(
         kind: Kind,
         c: i64,
@@ -77,6 +90,7 @@ impl Model {
           states = map (λ v. v.items) states.items;
         } }
     {
+        let live = live_of(&states);
         Model {
             kind,
             common: c,
@@ -84,6 +98,7 @@ impl Model {
             goal,
             init,
             states,
+            live,
         }
     }
 
@@ -153,15 +168,10 @@ impl Model {
         &self.states[s as usize][a as usize]
     }
 
-    /// The set of the parameters that occur in some row, also of a goal state. Linear in the number
-    /// of choices.
+    /// The set of the parameters that occur in some row, also of a goal state.
     pub fn live(&self) -> u16
         ensures { result ≡ live self.now }
     {
-        let mut set = 0;
-        for choices in &self.states {
-            set |= choices_support(choices);
-        }
-        set
+        self.live
     }
 }

@@ -66,6 +66,14 @@ impl MultiAffine {
         Ok(MultiAffine { terms })
     }
 
+    /// The polynomial of these terms, which it keeps. Takes no memory.
+    pub fn from_vec(terms: Vec<(u16, i128)>) -> MultiAffine
+        requires { IsMultiAffine terms.items }
+        ensures { result ≡ terms.items }
+    {
+        MultiAffine { terms }
+    }
+
     /// The same polynomial.
     pub fn copy(&self, alloc: Global) -> Result<MultiAffine, AllocError>
         ensures value { IfOk result (λ p. p ≡ self.now) }

@@ -17,5 +17,5 @@ overflow_cast-result c =
     let vectors = c.self.inside.states.items in
     let rows : Vec Row Global → List (List Entry) = λ w. w.items in
     let state = ap (λ (m : ModelData). length m.states) c.self.view_is in
-    let small = few vectors c.index.result.now c.args.s (omega (arith, c.requires, state, length-map vectors rows)) c.index.ensures c.self.invariant.choices in
+    let small = few vectors c.index.result.now c.args.s (omega (arith, c.requires, state, length-map vectors rows)) c.index.ensures c.self.invariant.0.choices in
     record { fits = omega (arith, small, c.len.ensures) }

@@ -18,4 +18,4 @@ pub returns-clause-valid : goal.returns-clause-valid
 returns-clause-valid c =
     rw (← c.self.view_is)
     (valid_at (λ v. v.items) c.self.inside.states.items c.index.result.now c.index-2.result.now _ _ c.args.s c.args.a c.index.ensures c.index-2.ensures
-    (rw (← c.self.view_is) at c.requires.state) (rw (← c.self.view_is) at c.requires.choice) c.self.invariant.rows)
+    (rw (← c.self.view_is) at c.requires.state) (rw (← c.self.view_is) at c.requires.choice) c.self.invariant.0.rows)

@@ -1,7 +1,7 @@
 use Rattle.std.proofs.Common.{rules, ◌-ℤ◌, pos, to_z-of_z, SFits}
 use mir.Syntax.{w128}
-use Rattle.lift_cert.proofs.RejectMisses.{is_enough_lem}
-use Rattle.lift_cert.proofs.reject.is_enough.Goals as goal
+use Rattle.corner_lift.proofs.Rates.{is_enough_lem}
+use Rattle.corner_lift.proofs.rate.is_enough.Goals as goal
 
 pub returns : goal.returns
 returns c =

@@ -1,8 +1,8 @@
 use Rattle.std.proofs.Common.{List, Vec, Global, ℕ, map, sym, ap, ◌∙◌}
 use Rattle.lift_model.specs.declared.row.Row.{Row}
-use Rattle.lift_model.specs.Model.{union, choices_support, live}
+use Rattle.lift_model.specs.Model.{union, choices_support}
 use Rattle.lift_model.proofs.Unions.{union_more, union_all, map-mapped}
-use Rattle.lift_model.proofs.model.Model.live.Goals as goal
+use Rattle.lift_model.proofs.model.live_of.Goals as goal
 
 -- the parameters of the choices that a vector holds
 support_of : Vec Row Global → ℕ
@@ -20,5 +20,3 @@ returns c =
     let vectors = c.deref-choices-items.result.now in
     union_all support_of c.loop-choices.set c.loop-choices.choices-index vectors c.loop-choices-test.false c.loop-choices.invariant
     ∙ sym (ap union (map-mapped choices_support (λ (v : Vec Row Global). v.items) vectors))
-    ∙ ap (λ (vs : List (Vec Row Global)). union (map choices_support (map (λ v. v.items) vs))) c.deref-choices-items.ensures.value
-    ∙ ap live c.self.view_is
