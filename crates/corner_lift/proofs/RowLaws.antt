@@ -1,17 +1,21 @@
 -- The laws of rows at corners and inside.
-use Rattle.std.proofs.Common.{◌≡◌, ◌^◌, [], ◌∷◌, get_or, pos, ◌*ℤ◌, refl, ap, arith}
-use Rattle.lift_poly.specs.Polynomial.{denominator}
-use Rattle.lift_poly.proofs.Ring.{linear, mul-assoc}
+use Rattle.std.proofs.Common.{◌≡◌, ◌^◌, ℕ, List, [], ◌∷◌, get_or, ℤ, pos, ◌*ℤ◌, ◌≤ℤ◌, refl, ap, arith, All}
+use Rattle.std.proofs.lemmas.List.Elements.{All-head, All-tail}
+use Rattle.lift_poly.specs.Polynomial.{Valuation, weight, denominator}
+use Rattle.lift_poly.proofs.Ring.{linear, mul-assoc, mul-comm, mul-le, one-mul, add-mul, zero-mul}
 use Rattle.lift_grid.specs.Rectangle.{Spans, AreSides, sides_of, spans_of}
-use Rattle.lift_model.specs.Process.{power}
+use Rattle.lift_model.specs.declared.entry.Entry.{Entry}
+use Rattle.lift_model.specs.Process.{power, weighted_sum}
 use Rattle.lift_model.specs.Model.{support, row_at, moves_at}
+use Rattle.lift_model.specs.Links.{targets_of}
 use Rattle.corner_lift.specs.Corner.{corner, parameter_count}
-use Rattle.corner_lift.specs.Case.{CaseData, IsCase, Within, AreSidesInside, number}
-use Rattle.corner_lift.specs.Laws.{BitsAreParameters, ParametersAreTheRoots, NumbersAreInRange, SumsAreInRange, SumsRise, WeightsInside, SumsAreTotals, MeansAtMostInside, MeansAtLeastInside, RootIsInside}
+use Rattle.corner_lift.specs.Case.{CaseData, IsCase, Within, AreSidesInside, number, row_whole}
+use Rattle.corner_lift.specs.Laws.{BitsAreParameters, ParametersAreTheRoots, NumbersAreInRange, SumsAreInRange, SumsRise, SumsAreAtMost, SumsAreAtLeast, WeightsInside, SumsAreTotals, MeansAtMostInside, MeansAtLeastInside, RootIsInside}
 use Rattle.corner_lift.specs.Premises.{Premises}
 use Rattle.corner_lift.proofs.CornerBound.{Inside-on}
 use Rattle.corner_lift.proofs.Coefficients.{row_total}
 use Rattle.corner_lift.proofs.Rows.{number_range}
+use Rattle.corner_lift.proofs.CornerEnds.{weights_least, weights_sum}
 use Rattle.corner_lift.proofs.RowBound.{row_upper, row_lower}
 use Rattle.corner_lift.proofs.Cases.{admitted_row, parameters_asked, parameter_count-within, corner_moves, corner_sum_range, inside_least}
 
@@ -35,6 +39,39 @@ sums_rise laws k spans s a c x y is inside has le =
     let row = row_at k.model s a in
     laws.rise x y (moves_at (corner k.d spans (support row) c) row) le
     (corner_moves laws k row spans is.asked.grid.positive is.asked.spans inside.rectangle inside.within (admitted_row k s a is has.state has.choice) c)
+
+module _ (v : Valuation) (x : ℕ → ℤ) (n : ℤ) where
+  sum_most : (row : List Entry) → All (λ (entry : Entry). pos 0 ≤ℤ weight v entry.poly) row → All (λ t. x t ≤ℤ n) (targets_of row) → weighted_sum x (moves_at v row) ≤ℤ (weighted_sum (λ t. pos 1) (moves_at v row) *ℤ n)
+  sum_most [] least most = omega (arith, linear, zero-mul n)
+  sum_most (e ∷ row) least most =
+      let w = weight v e.poly in
+      let others = weighted_sum (λ t. pos 1) (moves_at v row) in
+      let rest = sum_most row (All-tail (λ (entry : Entry). pos 0 ≤ℤ weight v entry.poly) e row least) (All-tail (λ t. x t ≤ℤ n) e.target (targets_of row) most) in
+      let here = mul-le w (x e.target) n (All-head (λ (entry : Entry). pos 0 ≤ℤ weight v entry.poly) e row least) (All-head (λ t. x t ≤ℤ n) e.target (targets_of row) most) in
+      omega (arith, linear, here, rest, add-mul (w *ℤ pos 1) others n, mul-assoc w (pos 1) n, ap (λ z. w *ℤ z) (one-mul n))
+
+  sum_least : (row : List Entry) → All (λ (entry : Entry). pos 0 ≤ℤ weight v entry.poly) row → All (λ t. n ≤ℤ x t) (targets_of row) → (weighted_sum (λ t. pos 1) (moves_at v row) *ℤ n) ≤ℤ weighted_sum x (moves_at v row)
+  sum_least [] least most = omega (arith, linear, zero-mul n)
+  sum_least (e ∷ row) least most =
+      let w = weight v e.poly in
+      let others = weighted_sum (λ t. pos 1) (moves_at v row) in
+      let rest = sum_least row (All-tail (λ (entry : Entry). pos 0 ≤ℤ weight v entry.poly) e row least) (All-tail (λ t. n ≤ℤ x t) e.target (targets_of row) most) in
+      let here = mul-le w n (x e.target) (All-head (λ (entry : Entry). pos 0 ≤ℤ weight v entry.poly) e row least) (All-head (λ t. n ≤ℤ x t) e.target (targets_of row) most) in
+      omega (arith, linear, here, rest, add-mul (w *ℤ pos 1) others n, mul-assoc w (pos 1) n, ap (λ z. w *ℤ z) (one-mul n))
+
+pub sums_are_at_most : Premises → SumsAreAtMost
+sums_are_at_most laws k spans s a x n is inside has most c lt =
+    let row = row_at k.model s a in
+    let v = corner k.d spans (support row) c in
+    let le = sum_most v x n row (weights_least laws k spans s a is inside has c lt) most in
+    omega (arith, linear, le, ap (λ z. z *ℤ n) (weights_sum laws k spans s a is inside has c lt), mul-comm n (row_whole k s a))
+
+pub sums_are_at_least : Premises → SumsAreAtLeast
+sums_are_at_least laws k spans s a x n is inside has least c lt =
+    let row = row_at k.model s a in
+    let v = corner k.d spans (support row) c in
+    let le = sum_least v x n row (weights_least laws k spans s a is inside has c lt) least in
+    omega (arith, linear, le, ap (λ z. z *ℤ n) (weights_sum laws k spans s a is inside has c lt), mul-comm n (row_whole k s a))
 
 -- ---- inside
 

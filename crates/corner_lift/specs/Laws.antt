@@ -7,6 +7,7 @@ use Rattle.lift_grid.specs.Tree.{lower_half, upper_half}
 use Rattle.lift_model.specs.declared.entry.Entry.{Entry}
 use Rattle.lift_model.specs.Process.{power, weighted_sum}
 use Rattle.lift_model.specs.Model.{ModelData, support, choices, live, row_at, moves_at, process_at}
+use Rattle.lift_model.specs.Links.{targets_of}
 use Rattle.corner_lift.specs.Corner.{AtCorners, corner, parameter_count, corner_weight, corner_sum, no_entry}
 use Rattle.corner_lift.specs.Case.{CaseData, IsAsked, IsCase, IsInside, Within, SumsToOne, row_parameters, row_whole, number}
 use Rattle.corner_lift.specs.Certificate.{AreNumbers, MeansAtMost, MeansAtLeast}
@@ -65,6 +66,16 @@ SumsAreInRange = (k : CaseData) (spans : Spans) (s a c : ℕ) (x : List ℤ) →
 abbrev pub SumsRise : Type 0
 SumsRise = (k : CaseData) (spans : Spans) (s a c : ℕ) (x y : ℕ → ℤ) → IsCase k → IsInside k.root spans → HasRow k s a → ((t : ℕ) → x t ≤ℤ y t)
     → corner_sum k.d spans (row_at k.model s a) c x ≤ℤ corner_sum k.d spans (row_at k.model s a) c y
+
+-- where no target's number is above n, no weighted sum of the row at a corner is above n times the whole
+abbrev pub SumsAreAtMost : Type 0
+SumsAreAtMost = (k : CaseData) (spans : Spans) (s a : ℕ) (x : ℕ → ℤ) (n : ℤ) → IsCase k → IsInside k.root spans → HasRow k s a → All (λ t. x t ≤ℤ n) (targets_of (row_at k.model s a))
+    → AtCorners spans (row_at k.model s a) (λ c. corner_sum k.d spans (row_at k.model s a) c x ≤ℤ (n *ℤ row_whole k s a))
+
+-- where none is below n, no such sum is below n times the whole
+abbrev pub SumsAreAtLeast : Type 0
+SumsAreAtLeast = (k : CaseData) (spans : Spans) (s a : ℕ) (x : ℕ → ℤ) (n : ℤ) → IsCase k → IsInside k.root spans → HasRow k s a → All (λ t. n ≤ℤ x t) (targets_of (row_at k.model s a))
+    → AtCorners spans (row_at k.model s a) (λ c. (n *ℤ row_whole k s a) ≤ℤ corner_sum k.d spans (row_at k.model s a) c x)
 
 -- ---- rows at valuations inside
 

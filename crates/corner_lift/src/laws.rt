@@ -10,6 +10,8 @@ ghost use Rattle.corner_lift.specs.Laws.{
   NumbersAreInRange,
   SumsAreInRange,
   SumsRise,
+  SumsAreAtMost,
+  SumsAreAtLeast,
   WeightsInside,
   SumsAreTotals,
   MeansAtMostInside,
@@ -38,13 +40,16 @@ pub fn corners_bound_weights()
 }
 
 /// Rows at corners: how many parameters a row has, in the root and in a rectangle inside it; in which
-/// range a vector's numbers and sums lie; and that a greater vector has no lesser sum.
+/// range a vector's numbers and sums lie; that a greater vector has no lesser sum; and that a sum is at most, or at
+/// least, what it is where all targets have the same number, if none has one above, or below, it.
 pub fn rows_at_corners()
     ensures bits { BitsAreParameters }
     ensures parameters { ParametersAreTheRoots }
     ensures numbers { NumbersAreInRange }
     ensures range { SumsAreInRange }
     ensures rise { SumsRise }
+    ensures most { SumsAreAtMost }
+    ensures least { SumsAreAtLeast }
 {
     weights_follow();
     weighted_sums_follow();

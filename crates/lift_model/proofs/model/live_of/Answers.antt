@@ -1,4 +1,4 @@
-use Rattle.std.proofs.Common.{List, Vec, Global, ℕ, map, sym, ap, ◌∙◌}
+use Rattle.std.proofs.Common.{Vec, Global, ℕ, sym, ap, ◌∙◌}
 use Rattle.lift_model.specs.declared.row.Row.{Row}
 use Rattle.lift_model.specs.Model.{union, choices_support}
 use Rattle.lift_model.proofs.Unions.{union_more, union_all, map-mapped}
@@ -12,11 +12,11 @@ pub loop-choices-preserved : goal.loop-choices-preserved
 unfolding support_of
 loop-choices-preserved c =
     rw (c.choices_support-set.ensures, c.deref.ensures.value)
-    (union_more support_of c.loop-choices.set c.loop-choices.choices-index c.deref-choices-items.result.now c.choices-item.result c.loop-choices-test.true c.choices-item.is ∙ c.loop-choices.invariant)
+    (union_more support_of c.loop-choices.set c.loop-choices.choices-index c.args.states.now c.choices-item.result c.loop-choices-test.true c.choices-item.is ∙ c.loop-choices.invariant)
 
 pub returns : goal.returns
 unfolding support_of
 returns c =
-    let vectors = c.deref-choices-items.result.now in
+    let vectors = c.args.states.now in
     union_all support_of c.loop-choices.set c.loop-choices.choices-index vectors c.loop-choices-test.false c.loop-choices.invariant
     ∙ sym (ap union (map-mapped choices_support (λ (v : Vec Row Global). v.items) vectors))

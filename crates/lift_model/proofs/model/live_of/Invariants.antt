@@ -4,4 +4,4 @@ use Rattle.lift_model.proofs.model.live_of.Given as goal
 
 -- the set so far and what is left make the live parameters
 abbrev pub invariant-loop-choices : goal.invariant-loop-choices
-invariant-loop-choices l = bit_or l.set (union (map (λ v. choices_support v.items) (drop l.choices-index l.choices-items))) ≡ union (map (λ v. choices_support v.items) l.choices-items)
+invariant-loop-choices l = bit_or l.set (union (map (λ v. choices_support v.items) (drop l.choices-index l.states))) ≡ union (map (λ v. choices_support v.items) l.states)
