@@ -1,11 +1,11 @@
 //! Quick tests of certificates, over a table of the rectangle's weights: they tell no miss.
 
-ghost use Rattle.std.specs.Prelude.{◌≡◌, ◌<◌, ◌↔◌, ℕ, false, length, IsTrue};
+ghost use Rattle.std.specs.Prelude.{◌≡◌, ◌<◌, ◌≤ℤ◌, ◌↔◌, ℕ, false, length, All, IsTrue};
 ghost use Rattle.lift_grid.specs.Rectangle.{Spans};
-ghost use Rattle.lift_model.specs.Links.{AreLinks, HasChoice};
-ghost use Rattle.lift_model.specs.Model.{is_goal};
-ghost use Rattle.corner_lift.specs.Case.{IsCase, corner_count};
-ghost use Rattle.corner_lift.specs.Certificate.{AreNumbers};
+ghost use Rattle.lift_model.specs.Links.{AreLinks, HasChoice, targets_of};
+ghost use Rattle.lift_model.specs.Model.{is_goal, row_at};
+ghost use Rattle.corner_lift.specs.Case.{IsCase, corner_count, number};
+ghost use Rattle.corner_lift.specs.Certificate.{AreNumbers, mark};
 ghost use Rattle.corner_lift.specs.Table.{IsTable, CanRead};
 ghost use Rattle.lift_cert.specs.Certificate.{IsAccepting, IsRejecting};
 ghost use Rattle.lift_cert.specs.Miss.{IsAcceptedRow, IsAcceptedState};
@@ -14,14 +14,62 @@ ghost use Rattle.lift_cert.specs.RejectMiss.{HasRejectForm, IsSupported, IsFast,
 use crate::accept::times;
 use crate::bound::Bound;
 use crate::certificate::Certificate;
-use crate::reject::is_enough;
 use corner_lift::{
-    Case, corners_bound_weights, one_at, rows_at_corners, table_into, table_max, table_min,
-    table_whole,
+    Case, Weighed, corners_bound_weights, is_enough, one_at, rows_at_corners, table_greatest,
+    table_into, table_least, table_whole,
 };
 use lift_model::Links;
 
-/// Whether the row of the state's choice passes at each of its corners.
+/// Whether no target of a row has a number above this one.
+#[inline]
+fn are_at_most(case: &Case, links: &Links, x: &[i64], state: u32, choice: u32, most: i64) -> bool
+    requires links { AreLinks case.now.model links.now }
+    requires row { HasChoice case.now.model state choice }
+    ensures { IsTrue result → All (λ t. number x.now t ≤ℤ most) (targets_of (row_at case.now.model state choice)) }
+{
+    for target in links.targets(links.place(state, choice)) {
+        match x.get(*target as usize) {
+            Some(number) if *number <= most => (),
+            _ => return false,
+        }
+    }
+    true
+}
+
+/// Whether no target of a row has a number below this one.
+#[inline]
+fn are_at_least(case: &Case, links: &Links, y: &[i64], state: u32, choice: u32, least: i64) -> bool
+    requires links { AreLinks case.now.model links.now }
+    requires row { HasChoice case.now.model state choice }
+    ensures { IsTrue result → All (λ t. least ≤ℤ number y.now t) (targets_of (row_at case.now.model state choice)) }
+{
+    for target in links.targets(links.place(state, choice)) {
+        match y.get(*target as usize) {
+            Some(number) if least <= *number => (),
+            _ => return false,
+        }
+    }
+    true
+}
+
+/// Whether each target of a row has a lower rank than this one.
+#[inline]
+fn are_below(case: &Case, links: &Links, ranks: &[u32], state: u32, choice: u32, below: u32) -> bool
+    requires links { AreLinks case.now.model links.now }
+    requires row { HasChoice case.now.model state choice }
+    ensures { IsTrue result → All (λ t. mark ranks.now t < below) (targets_of (row_at case.now.model state choice)) }
+{
+    for target in links.targets(links.place(state, choice)) {
+        match ranks.get(*target as usize) {
+            Some(rank) if *rank < below => (),
+            _ => return false,
+        }
+    }
+    true
+}
+
+/// Whether the row of the state's choice passes at each of its corners. Where no target has a greater number
+/// than the state, nothing is weighed.
 fn is_row_accepted(
     case: &Case,
     links: &Links,
@@ -36,12 +84,12 @@ fn is_row_accepted(
     ensures { IsTrue result ↔ IsAcceptedRow case.now spans x.now state choice }
 {
     rows_at_corners();
-    let right = times(
-        x[state as usize],
-        table_whole(case, links, weights, state, choice),
-    );
-    let greatest = table_max(case, links, weights, state, choice, x);
-    greatest <= right
+    let number = x[state as usize];
+    if are_at_most(case, links, x, state, choice, number) {
+        return true;
+    }
+    let Weighed { sum, whole } = table_greatest(case, links, weights, state, choice, x);
+    sum <= times(number, whole)
 }
 
 /// Whether each row of an inner state passes.
@@ -54,7 +102,7 @@ fn are_rows_accepted(case: &Case, links: &Links, weights: &[i128], x: &[i64], st
     requires inner { is_goal case.now.model state ≡ false }
     ensures { IsTrue result ↔ IsAcceptedState case.now spans x.now state }
 {
-    for choice in 0..case.model().choices(state) {
+    for choice in 0..links.choices(state) {
         if !is_row_accepted(case, links, weights, x, state, choice) {
             return false;
         }
@@ -100,7 +148,8 @@ pub fn is_accepting(case: &Case, links: &Links, weights: &[i128], bound: Bound, 
     bound.admits(x[model.init() as usize], case.w())
 }
 
-/// Whether a ranked state's number is at most the mean at each corner of the row that it picks.
+/// Whether a ranked state's number is at most the mean at each corner of the row that it picks. Where no target
+/// has a lesser number, nothing is weighed.
 fn is_row_supported(
     case: &Case,
     links: &Links,
@@ -116,12 +165,13 @@ fn is_row_supported(
         → IsSupported case.now spans r.now state choice c) }
 {
     rows_at_corners();
-    let left = times(
-        r.number(case, state),
-        table_whole(case, links, weights, state, choice),
-    );
-    let least = table_min(case, links, weights, state, choice, r.numbers());
-    left <= least
+    let number = r.number(case, state);
+    let numbers = r.numbers();
+    if are_at_least(case, links, numbers, state, choice, number) {
+        return true;
+    }
+    let Weighed { sum, whole } = table_least(case, links, weights, state, choice, numbers);
+    times(number, whole) <= sum
 }
 
 /// How many corners the row of the state's choice has.
@@ -136,7 +186,8 @@ fn corners_at(case: &Case, links: &Links, state: u32, choice: u32) -> u32
     links.place(state, choice).corners
 }
 
-/// Whether each corner of the row that a ranked state picks has enough weight into lower ranks.
+/// Whether each corner of the row that a ranked state picks has enough weight into lower ranks. Where all
+/// targets have lower ranks, all of the weight leads there.
 fn is_row_fast(
     case: &Case,
     links: &Links,
@@ -154,6 +205,9 @@ fn is_row_fast(
     rows_at_corners();
     corners_bound_weights();
     let rank = r.rank(case, state);
+    if are_below(case, links, r.ranks(), state, choice, rank) {
+        return true;
+    }
     let whole = table_whole(case, links, weights, state, choice);
     for corner in 0..corners_at(case, links, state, choice) {
         let weight = table_into(case, links, weights, state, choice, corner, r.ranks(), rank);

@@ -104,6 +104,15 @@ impl Links {
         &self.before_positions[self.starts[s as usize] as usize..self.ends[s as usize] as usize]
     }
 
+    /// The number of choices of a state.
+    #[inline]
+    pub fn choices(&self, s: u32) -> u32
+        requires { s < state_count self.now }
+        ensures { result ≡ choice_count self.now s }
+    {
+        self.row_starts[s as usize + 1].saturating_sub(self.row_starts[s as usize])
+    }
+
     /// The number of a row, in reading order.
     pub fn row_place(&self, s: u32, a: u32) -> usize
         requires state { s < state_count self.now }

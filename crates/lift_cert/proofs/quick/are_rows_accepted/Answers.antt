@@ -6,7 +6,7 @@ use Rattle.lift_cert.proofs.quick.are_rows_accepted.Goals as goal
 
 pub returns-then-not-is_row_accepted : goal.returns-then-not-is_row_accepted
 returns-then-not-is_row_accepted g c =
-    let there = rw (c.choices-choice-end.ensures, c.model.ensures.value) at c.loop-choice-test.true in
+    let there = rw (c.choices-choice-end.ensures, c.requires.0.choices c.args.state c.requires.1.1.1.0) at c.loop-choice-test.true in
     refused c.is_row_accepted.result c.is_row_accepted.ensures c.if-not-is_row_accepted.true (λ accepted. accepted.rows c.requires.1.1.1.1 c.loop-choice.choice there)
 
 pub loop-choice-preserved : goal.loop-choice-preserved

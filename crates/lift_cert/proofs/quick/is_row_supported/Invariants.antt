@@ -1,7 +1,4 @@
 use Rattle.lift_cert.proofs.quick.is_row_supported.Given as goal
 
-abbrev pub ghost-table_whole : goal.ghost-table_whole
-ghost-table_whole g a = g.spans
-
-abbrev pub ghost-table_min : goal.ghost-table_min
-ghost-table_min g a = g.spans
+abbrev pub ghost-table_least : goal.ghost-table_least
+ghost-table_least g a = g.spans
