@@ -5,5 +5,6 @@ pub mod RejectMisses
 pub mod Holding
 pub mod Rejecting
 pub mod BothKinds
+pub mod Targets
 pub mod QuickTests
 mod Samples

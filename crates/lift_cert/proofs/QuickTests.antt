@@ -1,10 +1,9 @@
 -- Quick tests of certificates: what they say, and why they say it of certificates.
-use Rattle.std.proofs.Common.{◌≡◌, ◌<◌, ◌≤◌, ◌^◌, ℕ, Bool, true, false, List, [], ℤ, pos, ◌*ℤ◌, ◌≤ℤ◌, ◌<ℤ◌, refl, arith, IsTrue}
+use Rattle.std.proofs.Common.{◌≡◌, ◌<◌, ℕ, Bool, true, false, List, [], ℤ, ◌≤ℤ◌, refl, arith, IsTrue}
 use Rattle.std.specs.Prelude.{◌↔◌, not, int_le}
 use Rattle.std.proofs.lemmas.Int.{by_lt_z}
 use Rattle.lift_poly.proofs.Ring.{linear, test_from_le, le_from_test}
 use Rattle.lift_grid.specs.Rectangle.{Spans}
-use Rattle.lift_grid.specs.Tree.{RejectData}
 use Rattle.corner_lift.specs.Case.{CaseData, Within, IsGreatest, IsLeast}
 use Rattle.corner_lift.specs.Certificate.{IsUpper}
 use Rattle.corner_lift.specs.Laws.{ParametersAreTheRoots}

@@ -1,8 +1,6 @@
 -- The tests of a rejecting certificate: the first that fails is one, and a certificate that passes all is a rejecting one.
-use Rattle.std.proofs.Common.{◌≡◌, ◌+◌, ◌/◌, ◌*◌, ◌^◌, ◌<◌, ◌≤◌, ℕ, Bool, true, false, List, [], ◌∷◌, length, All, ℤ, pos, ◌-ℤ◌, ◌*ℤ◌, ◌≤ℤ◌, ◌<ℤ◌, unsigned_abs, nat_lt, ltb-true, ltb-false, cond, refl, sym, ap, subst, ◌∙◌, arith, ◌⊎◌, ⊎_elim, Result, Ok, Err, IsTrue}
+use Rattle.std.proofs.Common.{◌≡◌, ◌^◌, ◌<◌, ◌≤◌, ℕ, Bool, true, false, List, [], ◌∷◌, length, All, ℤ, pos, ◌*ℤ◌, ◌≤ℤ◌, ◌<ℤ◌, nat_lt, cond, refl, sym, ap, subst, ◌∙◌, arith, ◌⊎◌, ⊎_elim, Result, Ok, Err}
 use Rattle.std.specs.Prelude.{◌↔◌, IsOk, IsErr, MatchResult}
-use Rattle.std.proofs.lemmas.Int.{ints}
-use Rattle.std.proofs.lemmas.Nat.{div_below, le-div, pow_pos}
 use Rattle.std.proofs.lemmas.List.{get_or_past, get_or_default}
 use Rattle.lift_poly.proofs.Ring.{linear, mul-zero}
 use Rattle.lift_grid.specs.Rectangle.{Spans}

@@ -28,9 +28,9 @@ fn are_at_most(case: &Case, links: &Links, x: &[i64], state: u32, choice: u32, m
     ensures { IsTrue result → All (λ t. number x.now t ≤ℤ most) (targets_of (row_at case.now.model state choice)) }
 {
     for target in links.targets(links.place(state, choice)) {
-        match x.get(*target as usize) {
-            Some(number) if *number <= most => (),
-            _ => return false,
+        let place = *target as usize;
+        if place >= x.len() || x[place] > most {
+            return false;
         }
     }
     true
@@ -44,9 +44,9 @@ fn are_at_least(case: &Case, links: &Links, y: &[i64], state: u32, choice: u32, 
     ensures { IsTrue result → All (λ t. least ≤ℤ number y.now t) (targets_of (row_at case.now.model state choice)) }
 {
     for target in links.targets(links.place(state, choice)) {
-        match y.get(*target as usize) {
-            Some(number) if least <= *number => (),
-            _ => return false,
+        let place = *target as usize;
+        if place >= y.len() || y[place] < least {
+            return false;
         }
     }
     true
@@ -60,9 +60,9 @@ fn are_below(case: &Case, links: &Links, ranks: &[u32], state: u32, choice: u32,
     ensures { IsTrue result → All (λ t. mark ranks.now t < below) (targets_of (row_at case.now.model state choice)) }
 {
     for target in links.targets(links.place(state, choice)) {
-        match ranks.get(*target as usize) {
-            Some(rank) if *rank < below => (),
-            _ => return false,
+        let place = *target as usize;
+        if place >= ranks.len() || ranks[place] >= below {
+            return false;
         }
     }
     true
@@ -84,6 +84,7 @@ fn is_row_accepted(
     ensures { IsTrue result ↔ IsAcceptedRow case.now spans x.now state choice }
 {
     rows_at_corners();
+    let _ = case.w();
     let number = x[state as usize];
     if are_at_most(case, links, x, state, choice, number) {
         return true;
@@ -165,6 +166,7 @@ fn is_row_supported(
         → IsSupported case.now spans r.now state choice c) }
 {
     rows_at_corners();
+    let _ = case.w();
     let number = r.number(case, state);
     let numbers = r.numbers();
     if are_at_least(case, links, numbers, state, choice, number) {
@@ -204,13 +206,15 @@ fn is_row_fast(
 {
     rows_at_corners();
     corners_bound_weights();
+    let _ = case.w();
     let rank = r.rank(case, state);
-    if are_below(case, links, r.ranks(), state, choice, rank) {
+    let ranks = r.ranks();
+    if are_below(case, links, ranks, state, choice, rank) {
         return true;
     }
     let whole = table_whole(case, links, weights, state, choice);
     for corner in 0..corners_at(case, links, state, choice) {
-        let weight = table_into(case, links, weights, state, choice, corner, r.ranks(), rank);
+        let weight = table_into(case, links, weights, state, choice, corner, ranks, rank);
         if !is_enough(weight, r.e(), whole) {
             return false;
         }

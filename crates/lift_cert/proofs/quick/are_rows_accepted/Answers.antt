@@ -15,7 +15,7 @@ loop-choice-preserved g c = one_more (IsAcceptedRow c.args.case.now g.spans c.ar
 pub returns : goal.returns
 returns g c =
     let inner = c.requires.1.1.1.1 in
-    let all = rw (c.choices-choice-end.ensures, c.model.ensures.value) at c.loop-choice-test.false in
+    let all = rw (c.choices-choice-end.ensures, c.requires.0.choices c.args.state c.requires.1.1.1.0) at c.loop-choice-test.false in
     granted (record {
       goal = λ is. let wrong : true ≡ false = cc (is, inner) in absurd (cc wrong);
       rows = λ is a lt. c.loop-choice.invariant a (omega (arith, lt, all));
