@@ -45,8 +45,9 @@ PlainSumsFit = (p q : OverOne) → IsRatPoly p → IsRatPoly q → narrow (sum p
 abbrev pub ProductsFit : Type 0
 ProductsFit = (p q : OverOne) → IsRatPoly p → IsRatPoly q → bit_and (support p.terms) (support q.terms) ≡ 0 → narrow (product p.terms q.terms) ≡ Ok (product p.terms q.terms)
 
--- ---- the operands of a sum may be swapped
+-- ---- order
 
+-- the operands of a sum may be swapped
 abbrev pub SumsCommute : Type 0
 SumsCommute = (a b : OverOne) → expanded.sum a b ≡ expanded.sum b a
 
