@@ -5,9 +5,11 @@
 mod eliminate;
 mod floats;
 mod guess;
+mod notes;
 mod part;
 mod step;
 mod sweep;
 
 pub use guess::{Rounding, Way, guess_part};
+pub use notes::low_word_of;
 pub use part::Extreme;
