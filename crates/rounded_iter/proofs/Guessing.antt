@@ -10,8 +10,9 @@ use Rattle.corner_lift.specs.Certificate.{AtMost}
 use Rattle.corner_lift.specs.Case.{CaseData, number, corner_count}
 use Rattle.float_guess.specs.declared.part.Extreme.{Extreme}
 use Rattle.float_guess.specs.Part.{KeepsOthers}
-use Rattle.rounded_iter.specs.Rising.{TableData, IsRead, IsBelow, IsBound, IsLeastBound, IsEnoughAt, IsEnoughFor}
-use Rattle.rounded_iter.specs.Watching.{count, flag, from_zero, IsGuess, IsLeastFrom, IsFound, IsSure, low_word}
+use Rattle.rounded_iter.specs.Rising.{TableData, IsRead, IsBelow, IsEnoughEverywhere, IsLeastBound, IsEnoughAt, IsEnoughFor}
+use Rattle.float_guess.specs.Notes.{low_word}
+use Rattle.rounded_iter.specs.Watching.{count, flag, from_zero, IsGuess, IsLeastFrom, IsFound, IsSure}
 use Rattle.rounded_iter.proofs.Solving.{RowLaws, across_map, enough_shifted, lt_from_test}
 use Rattle.rounded_iter.proofs.Raising.{in_or_past}
 
@@ -75,7 +76,7 @@ module _ (laws : RowLaws) (t : TableData) (spans : Spans) (read : IsRead t spans
   e = t.extreme
 
   abbrev Bound : List ℤ → Type 0
-  Bound y = IsBound e k spans y
+  Bound y = IsEnoughEverywhere e k spans y
 
   module _ (r y : List ℤ) (m : ℤ) (bound : Bound r) (also : Bound y) (least : pos 0 ≤ℤ m) where
     sizes : length r ≡ length y

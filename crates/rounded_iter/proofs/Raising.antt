@@ -18,7 +18,7 @@ use Rattle.corner_lift.specs.Laws.{NumbersAreInRange}
 use Rattle.float_guess.specs.declared.part.Extreme.{Extreme}
 use Rattle.float_guess.specs.declared.part.Extreme.TheVariants.{Greatest, Least}
 use Rattle.rounded_iter.specs.Value.{IsValue, IsLeastValue, SomeMeanAtMost}
-use Rattle.rounded_iter.specs.Rising.{TableData, IsRead, Run, IsBelow, IsBound, IsLeastBound, IsEnough, IsEnoughFor, IsEnoughAt, IsSolved, Across, room}
+use Rattle.rounded_iter.specs.Rising.{TableData, IsRead, Run, IsBelow, IsEnoughEverywhere, IsLeastBound, IsEnough, IsEnoughFor, IsEnoughAt, IsSolved, Across, room}
 use Rattle.rounded_iter.specs.Watching.{count, from_zero, HasGoals, CanRaise, IsRaised, IsRaisedBy, IsRaisedState, IsBelowUppers}
 use Rattle.rounded_iter.proofs.Solving.{RowLaws, across_map, same_or_not, sum_moved, only_same, only_other, own_none, same_whole, at_root, at_spans, enough_shifted, in_lane, set_numbers, value_set, n_least}
 
@@ -235,7 +235,7 @@ start_below numbers e k spans x goals size written = record {
     either true = (omega (arith, linear), omega (arith, linear))
     either false = (omega (arith, linear), omega (arith, linear))
 
-    under : (y : List ℤ) → IsBound e k spans y → (s : ℕ) (b : Bool) → is_goal k.model s ≡ b → cond b (pos (2 ^ k.w)) (pos 0) ≤ℤ number y s
+    under : (y : List ℤ) → IsEnoughEverywhere e k spans y → (s : ℕ) (b : Bool) → is_goal k.model s ≡ b → cond b (pos (2 ^ k.w)) (pos 0) ≤ℤ number y s
     under y bound s true is = rw (bound.goal s is) (omega (arith, linear))
     under y bound s false is = (numbers k y s bound.numbers).0
 
@@ -251,14 +251,14 @@ module _ (laws : RowLaws) (k : CaseData) (spans : Spans) (is : IsCase k) (within
   product : (s a : ℕ) → HasChoice k.model s a → (n : ℤ) → n *ℤ whole k.model k.d spans (row_at k.model s a) ≡ n *ℤ row_whole k s a
   product s a has n = ap (λ w. n *ℤ w) (same_whole laws k spans is within s a has)
 
-  upper_of : (x : List ℤ) → IsBound Greatest k spans x → IsUpper k spans x
+  upper_of : (x : List ℤ) → IsEnoughEverywhere Greatest k spans x → IsUpper k spans x
   upper_of x h = record {
     numbers = h.numbers;
     goal = h.goal;
     means = λ s g. row_of (λ row. AtCorners spans row (λ c. corner_sum k.d spans row c (number x) ≤ℤ (number x s *ℤ whole k.model k.d spans row))) s (λ a has c lt. omega (arith, linear, h.enough s has.state g a has.choice c (at_root laws k spans is within s a has c lt), product s a has (number x s)));
   }
 
-  bound_of : (y : List ℤ) → IsUpper k spans y → IsBound Greatest k spans y
+  bound_of : (y : List ℤ) → IsUpper k spans y → IsEnoughEverywhere Greatest k spans y
   bound_of y h = record {
     numbers = h.numbers;
     goal = h.goal;
@@ -291,7 +291,7 @@ module _ (laws : RowLaws) (k : CaseData) (spans : Spans) (is : IsCase k) (within
   pub past_of : (x : List ℤ) (limit : ℤ) → IsBelow Greatest k (from_zero spans) x → limit <ℤ number x k.model.init → (y : List ℤ) → IsUpper k spans y → limit <ℤ number y k.model.init
   past_of x limit h past y upper = omega (arith, linear, past, h.least y (bound_of y upper) (λ s. (laws.numbers k y s upper.numbers).0) k.model.init)
 
-  value_of : (x : List ℤ) → IsBound Least k spans x → IsValue k spans x
+  value_of : (x : List ℤ) → IsEnoughEverywhere Least k spans x → IsValue k spans x
   value_of x h = record {
     numbers = h.numbers;
     goal = h.goal;
@@ -300,7 +300,7 @@ module _ (laws : RowLaws) (k : CaseData) (spans : Spans) (is : IsCase k) (within
         (one.0, (at_spans laws k spans is within s a has one.0 one.1.0, omega (arith, linear, one.1.1, product s a has (number x s)))));
   }
 
-  value_bound : (y : List ℤ) → IsValue k spans y → IsBound Least k spans y
+  value_bound : (y : List ℤ) → IsValue k spans y → IsEnoughEverywhere Least k spans y
   value_bound y h = record {
     numbers = h.numbers;
     goal = h.goal;

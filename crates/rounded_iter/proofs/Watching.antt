@@ -7,18 +7,18 @@ use Rattle.lift_grid.specs.Rectangle.{Spans}
 use Rattle.lift_model.specs.Links.{LinksData, Leads, IsLone, position, states_before, positions_before}
 use Rattle.corner_lift.specs.Laws.{NumbersAreInRange}
 use Rattle.rounded_iter.specs.Rising.{TableData, IsRead, Run, IsBelow, IsLeastBound, IsEnough, room}
-use Rattle.rounded_iter.specs.Watching.{count, flag, IsRaisedState, IsWatched, IsWatchedBut, CanMark, IsMarked, IsKept, CanVisit, IsVisited, IsTurned, IsPassed, IsLeastFrom, IsFound}
+use Rattle.rounded_iter.specs.Watching.{count, flag, IsRaisedState, IsWatched, IsWatchedBut, CanFlag, IsFlagged, IsKept, CanVisit, IsVisited, IsTurned, IsPassed, IsLeastFrom, IsFound}
 use Rattle.rounded_iter.proofs.Solving.{same_or_not}
 use Rattle.rounded_iter.proofs.Raising.{one_more, leads_inside, enough_kept}
 
 -- ---- flags
 
 -- the positions of a list so far were flagged, as far as they stand before the frontier, but for one
-abbrev pub AreMarked : List ℕ → List ℕ → List ℕ → ℕ → ℕ → ℕ → Type 0
-AreMarked list old work but frontier n = ((i : ℕ) → flag work i ≡ 0 → flag old i ≡ 0) × ((j : ℕ) → j < n → get_or list j 0 < frontier → get_or list j 0 ≢ but → flag work (get_or list j 0) ≢ 0)
+abbrev pub AreFlagged : List ℕ → List ℕ → List ℕ → ℕ → ℕ → ℕ → Type 0
+AreFlagged list old work but frontier n = ((i : ℕ) → flag work i ≡ 0 → flag old i ≡ 0) × ((j : ℕ) → j < n → get_or list j 0 < frontier → get_or list j 0 ≢ but → flag work (get_or list j 0) ≢ 0)
 
-pub marked_more : (list old work new : List ℕ) (but frontier n : ℕ) → ((i : ℕ) → flag new i ≡ 0 → flag work i ≡ 0) → (get_or list n 0 < frontier → get_or list n 0 ≢ but → flag new (get_or list n 0) ≢ 0) → AreMarked list old work but frontier n → AreMarked list old new but frontier (n + 1)
-marked_more list old work new but frontier n kept flagged h = (
+pub flagged_more : (list old work new : List ℕ) (but frontier n : ℕ) → ((i : ℕ) → flag new i ≡ 0 → flag work i ≡ 0) → (get_or list n 0 < frontier → get_or list n 0 ≢ but → flag new (get_or list n 0) ≢ 0) → AreFlagged list old work but frontier n → AreFlagged list old new but frontier (n + 1)
+flagged_more list old work new but frontier n kept flagged h = (
   λ i clear. h.0 i (kept i clear),
   λ j lt ahead ne. ⊎_elim
       (λ (before : j < n). λ clear. h.1 j before ahead ne (kept (get_or list j 0) clear))
@@ -26,7 +26,7 @@ marked_more list old work new but frontier n kept flagged h = (
       (one_more j n lt),
 )
 
-module _ (t : TableData) (work : List ℕ) (s i : ℕ) (can : CanMark t work s i) where
+module _ (t : TableData) (work : List ℕ) (s i : ℕ) (can : CanFlag t work s i) where
   abbrev l : LinksData
   l = t.links
 
@@ -44,10 +44,10 @@ module _ (t : TableData) (work : List ℕ) (s i : ℕ) (can : CanMark t work s i
       let inside = can.links.order.inside q (leads_inside t.case.model q s leads) in
       omega (arith, at_position j lt, inside, can.places)
 
-  pub marked_all : (old new : List ℕ) (frontier n : ℕ) → length (positions_before l s) ≤ n → AreMarked (positions_before l s) old new i frontier n → IsMarked t old new s frontier
-  marked_all old new frontier n all h = record {
+  pub flagged_all : (old new : List ℕ) (frontier n : ℕ) → length (positions_before l s) ≤ n → AreFlagged (positions_before l s) old new i frontier n → IsFlagged t old new s frontier
+  flagged_all old new frontier n all h = record {
     kept = h.0;
-    marked = λ q leads inside ne ahead.
+    flagged = λ q leads inside ne ahead.
         let at : Contains (states_before l s) q = (can.links.before s can.state).all q leads in
         let lt : at.0 < length (positions_before l s) = omega (arith, at.1, sizes) in
         let e : get_or (positions_before l s) at.0 0 ≡ position l q = at_position at.0 lt ∙ ap (position l) (get_or_default (states_before l s) at.0 0 q at.1 ∙ at.2) in
@@ -59,15 +59,15 @@ module _ (t : TableData) (work : List ℕ) (s i : ℕ) (can : CanMark t work s i
 
 module _ (t : TableData) (run : Run) (old new : List ℤ) (before work : List ℕ) (s i frontier : ℕ) (can : CanVisit t run old before s i frontier) where
   -- it rose
-  pub visited_risen : length work ≡ length before → IsRaisedState t run old new s true → IsMarked t before work s frontier → IsVisited t run old new before work frontier true
-  visited_risen places g marks = record {
+  pub visited_risen : length work ≡ length before → IsRaisedState t run old new s true → IsFlagged t before work s frontier → IsVisited t run old new before work frontier true
+  visited_risen places g flags_set = record {
     step = record {
       keeps = record {
         below = g.below;
         places = omega (arith, places, can.places);
         watched = λ q inside ahead clear. ⊎_elim
             (λ (same : q ≡ s). subst (λ u. IsEnough t.extreme t.case run.spans new u) (sym same) g.enough)
-            (λ (ne : q ≢ s). enough_kept t run.spans old new q s ne (λ leads. marks.marked q leads inside ne ahead clear) g.other (can.watched q inside ahead (marks.kept (position t.links q) clear) ne))
+            (λ (ne : q ≢ s). enough_kept t run.spans old new q s ne (λ leads. flags_set.flagged q leads inside ne ahead clear) g.other (can.watched q inside ahead (flags_set.kept (position t.links q) clear) ne))
             (same_or_not q s);
       };
       less = λ e. g.less refl;

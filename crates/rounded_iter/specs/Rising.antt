@@ -52,8 +52,8 @@ IsEnoughFor e k spans x s a = Across e (corner_count k s a) (IsEnoughAt k spans 
 abbrev pub IsEnough : Extreme → CaseData → Spans → List ℤ → ℕ → Type 0
 IsEnough e k spans x s = (a : ℕ) → a < length (choices k.model s) → IsEnoughFor e k spans x s a
 
--- a bound: 2 ^ w on goal states, and enough elsewhere
-pub record IsBound (e : Extreme) (k : CaseData) (spans : Spans) (x : List ℤ) : Type 0 where
+-- a bound of the iteration: 2 ^ w on goal states, and enough elsewhere
+pub record IsEnoughEverywhere (e : Extreme) (k : CaseData) (spans : Spans) (x : List ℤ) : Type 0 where
   pub numbers : AreNumbers k x
   pub goal : (s : ℕ) → is_goal k.model s ≡ true → number x s ≡ pos (2 ^ k.w)
   pub enough : (s : ℕ) → s < length k.model.states → is_goal k.model s ≡ false → IsEnough e k spans x s
@@ -68,12 +68,12 @@ pub record IsBelow (e : Extreme) (k : CaseData) (run : Run) (x : List ℤ) : Typ
   pub numbers : AreNumbers k x
   pub goal : (s : ℕ) → is_goal k.model s ≡ true → number x s ≡ pos (2 ^ k.w)
   pub above : AtMost run.from x
-  pub least : (y : List ℤ) → IsBound e k run.spans y → AtMost run.from y → AtMost x y
+  pub least : (y : List ℤ) → IsEnoughEverywhere e k run.spans y → AtMost run.from y → AtMost x y
 
 -- the bound that is least at each state
 pub record IsLeastBound (e : Extreme) (k : CaseData) (spans : Spans) (x : List ℤ) : Type 0 where
-  pub bound : IsBound e k spans x
-  pub least : (y : List ℤ) → IsBound e k spans y → AtMost x y
+  pub bound : IsEnoughEverywhere e k spans x
+  pub least : (y : List ℤ) → IsEnoughEverywhere e k spans y → AtMost x y
 
 -- ---- one choice
 

@@ -1,14 +1,15 @@
 -- What the iteration keeps: a vector at or below every bound, and flags at the positions of the states that may have to rise.
-use Rattle.std.specs.Prelude.{◌≡◌, ◌≢◌, ℕ, ◌*◌, ◌%◌, ◌^◌, ◌<◌, ◌≤◌, ◌⊎◌, Bool, true, false, Option, IsSome, List, [], ℤ, pos, ◌≤ℤ◌, ◌<ℤ◌, unsigned_abs, length, slice_index_or}
+use Rattle.std.specs.Prelude.{◌≡◌, ◌≢◌, ℕ, ◌*◌, ◌^◌, ◌<◌, ◌≤◌, ◌⊎◌, Bool, true, false, Option, IsSome, List, [], ℤ, pos, ◌≤ℤ◌, ◌<ℤ◌, length, slice_index_or}
 use Rattle.lift_grid.specs.Rectangle.{Spans}
 use Rattle.lift_model.specs.Model.{choices, is_goal}
 use Rattle.lift_model.specs.Links.{LinksData, AreLinks, Leads, position}
 use Rattle.corner_lift.specs.Case.{CaseData, IsCase, number}
 use Rattle.corner_lift.specs.Table.{IsTable}
 use Rattle.corner_lift.specs.Certificate.{AreNumbers, AtMost, IsUpper, IsLeastUpper}
+use Rattle.float_guess.specs.Notes.{low_word}
 use Rattle.rounded_iter.specs.declared.table.Ended.{Ended}
 use Rattle.rounded_iter.specs.declared.table.Ended.TheVariants.{Settled, Past, Slow}
-use Rattle.rounded_iter.specs.Rising.{TableData, IsRead, Run, IsBelow, IsBound, IsLeastBound, IsEnough, IsEnoughFor, room}
+use Rattle.rounded_iter.specs.Rising.{TableData, IsRead, Run, IsBelow, IsEnoughEverywhere, IsLeastBound, IsEnough, IsEnoughFor, room}
 
 -- how many states there are
 abbrev pub count : TableData → ℕ
@@ -72,16 +73,16 @@ abbrev pub IsWatchedBut : TableData → Run → List ℤ → List ℕ → ℕ �
 IsWatchedBut t run x work frontier but = (q : ℕ) → q < count t → position t.links q < frontier → flag work (position t.links q) ≡ 0 → q ≢ but → IsEnough t.extreme t.case run.spans x q
 
 -- what it needs to flag the states that lead to the one at a position
-pub record CanMark (t : TableData) (work : List ℕ) (s i : ℕ) : Type 0 where
+pub record CanFlag (t : TableData) (work : List ℕ) (s i : ℕ) : Type 0 where
   pub links : AreLinks t.case.model t.links
   pub state : s < count t
   pub at : slice_index_or t.links.order i 0 ≡ s
   pub places : length work ≡ count t
 
 -- the other states that lead to s were flagged, as far as they stand before the frontier
-pub record IsMarked (t : TableData) (old new : List ℕ) (s frontier : ℕ) : Type 0 where
+pub record IsFlagged (t : TableData) (old new : List ℕ) (s frontier : ℕ) : Type 0 where
   pub kept : (i : ℕ) → flag new i ≡ 0 → flag old i ≡ 0
-  pub marked : (q : ℕ) → Leads t.case.model q s → q < count t → q ≢ s → position t.links q < frontier → flag new (position t.links q) ≢ 0
+  pub flagged : (q : ℕ) → Leads t.case.model q s → q < count t → q ≢ s → position t.links q < frontier → flag new (position t.links q) ≢ 0
 
 -- ---- steps
 
@@ -155,9 +156,9 @@ pub record CanClimb (t : TableData) (run : Run) (x : List ℤ) (work : List ℕ)
 
 -- the bound that is least among those at least the vector from which the iteration rose
 pub record IsLeastFrom (t : TableData) (run : Run) (x : List ℤ) : Type 0 where
-  pub bound : IsBound t.extreme t.case run.spans x
+  pub bound : IsEnoughEverywhere t.extreme t.case run.spans x
   pub above : AtMost run.from x
-  pub least : (y : List ℤ) → IsBound t.extreme t.case run.spans y → AtMost run.from y → AtMost x y
+  pub least : (y : List ℤ) → IsEnoughEverywhere t.extreme t.case run.spans y → AtMost run.from y → AtMost x y
 
 -- the vector is that bound, or the initial state's number passed the limit, or it took too many passes
 pub record IsClimbed (t : TableData) (run : Run) (x : List ℤ) (patience : Option ℕ) (ended : Ended) : Type 0 where
@@ -195,16 +196,12 @@ pub record CanGuess (t : TableData) (x : List ℤ) : Type 0 where
   pub links : AreLinks t.case.model t.links
   pub guess : IsGuess t.case x
 
--- what it needs to rise from a guess
+-- what it needs to rise from a guess, with room for flags and notes
 pub record CanConfirm (t : TableData) (spans : Spans) (x : List ℤ) (flags noted : List ℕ) : Type 0 where
   pub read : IsRead t spans
   pub guess : IsGuess t.case x
   pub places : length flags ≡ count t
   pub notes : length noted ≡ count t
-
--- the low 32 bits of a number
-abbrev pub low_word : ℤ → ℕ
-low_word n = unsigned_abs n % 4294967296
 
 -- the low bits of the first numbers were noted, so many of them
 abbrev pub AreNoted : List ℤ → List ℕ → ℕ → Type 0
@@ -224,13 +221,6 @@ pub record CanRise (t : TableData) (spans : Spans) (x : List ℤ) (flags : List 
   pub read : IsRead t spans
   pub size : length x ≡ count t
   pub places : length flags ≡ count t
-
--- what it needs to find the least bound with room for flags and notes
-pub record CanFindSlow (t : TableData) (spans : Spans) (x : List ℤ) (flags noted : List ℕ) : Type 0 where
-  pub read : IsRead t spans
-  pub guess : IsGuess t.case x
-  pub places : length flags ≡ count t
-  pub notes : length noted ≡ count t
 
 -- what it needs to write the first vector
 pub record CanStart (t : TableData) (x : List ℤ) : Type 0 where

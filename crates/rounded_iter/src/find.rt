@@ -5,11 +5,11 @@ ghost use Rattle.std.specs.Prelude.{◌≡◌, ◌≤ℤ◌, ◌^◌, ◌<◌, �
 ghost use Rattle.lift_grid.specs.Rectangle.{Spans};
 ghost use Rattle.corner_lift.specs.Case.{number};
 ghost use Rattle.rounded_iter.specs.Rising.{IsBelow, IsLeastBound};
-ghost use Rattle.rounded_iter.specs.Watching.{CanStart, HasGoals, CanClimb, CanRise, CanFind, CanFindSlow, IsFound, CanGuess, IsGuess, CanConfirm, CanTest, AreNoted, IsSure, low_word, from_zero};
+ghost use Rattle.rounded_iter.specs.Watching.{CanStart, HasGoals, CanClimb, CanRise, CanFind, IsFound, CanGuess, IsGuess, CanConfirm, CanTest, AreNoted, IsSure, from_zero};
 
 use crate::table::{Ended, Table};
 use corner_lift::{corners_bound_weights, rows_at_corners};
-use float_guess::{Rounding, Way, guess_part};
+use float_guess::{Rounding, Way, guess_part, low_word_of};
 
 /// How many passes over a component are made before the first guess.
 const FIRST_PATIENCE: u32 = 32;
@@ -28,14 +28,6 @@ const RAISES: u32 = 16384;
 
 /// How many guesses are made.
 const GUESSES: u32 = 5;
-
-/// The low 32 bits of a number.
-fn low_word_of(number: i64) -> u32
-    requires { pos 0 ≤ℤ number }
-    ensures { result ≡ low_word number }
-{
-    (number as u64 % 4294967296) as u32
-}
 
 /// Notes the low bits of each number.
 fn note(lane: &[i64], noted: &mut [u32])
@@ -209,7 +201,7 @@ impl Table<'_> {
         raises: u32,
     ) -> Option<bool>
         ghost spans: { Spans }
-        requires { CanFindSlow self.now spans lane.old flags.old noted.old }
+        requires { CanConfirm self.now spans lane.old flags.old noted.old }
         ensures found { IfSome result (λ found. IsFound self.now spans lane.new found) }
         ensures guess { IsGuess self.now.case lane.new }
     {
@@ -236,7 +228,7 @@ impl Table<'_> {
     /// within the limit. False: it is above it in every bound.
     fn find_slow(&self, lane: &mut [i64], flags: &mut [u32], noted: &mut [u32]) -> bool
         ghost spans: { Spans }
-        requires { CanFindSlow self.now spans lane.old flags.old noted.old }
+        requires { CanConfirm self.now spans lane.old flags.old noted.old }
         ensures { IsFound self.now spans lane.new result }
     {
         let way = Way::Elimination;

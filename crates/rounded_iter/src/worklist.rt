@@ -6,7 +6,7 @@ ghost use Rattle.lift_model.specs.Model.{choices};
 ghost use Rattle.lift_model.specs.Links.{AreLinks};
 ghost use Rattle.corner_lift.specs.Case.{IsCase, number};
 ghost use Rattle.rounded_iter.specs.Rising.{Run};
-ghost use Rattle.rounded_iter.specs.Watching.{CanRaise, CanRaiseBy, IsRaised, IsRaisedState, CanMark, IsMarked, CanVisit, IsVisited, CanTurn, IsTurned, CanPass, IsPassed, IsSettled, CanGoOn, IsKept, CanClimb, IsClimbed, flag};
+ghost use Rattle.rounded_iter.specs.Watching.{CanRaise, CanRaiseBy, IsRaised, IsRaisedState, CanFlag, IsFlagged, CanVisit, IsVisited, CanTurn, IsTurned, CanPass, IsPassed, IsSettled, CanGoOn, IsKept, CanClimb, IsClimbed, flag};
 
 use crate::table::{Ended, Table};
 use corner_lift::{corners_bound_weights, rows_at_corners};
@@ -100,9 +100,9 @@ impl Table<'_> {
     /// Flags the states that lead to the one at a position, as far as they stand before the frontier.
     /// The state itself needs no flag: what was raised is enough, with its self loops.
     #[inline]
-    fn mark(&self, work: &mut [u32], s: u32, position: u32, frontier: u32)
-        requires { CanMark self.now work.old s position }
-        ensures { IsMarked self.now work.old work.new s frontier }
+    fn flag_before(&self, work: &mut [u32], s: u32, position: u32, frontier: u32)
+        requires { CanFlag self.now work.old s position }
+        ensures { IsFlagged self.now work.old work.new s frontier }
     {
         for p in self.links.positions_before(s) {
             set_flag(work, *p, position, frontier);
@@ -125,7 +125,7 @@ impl Table<'_> {
     {
         let rose = self.raise(lane, s);
         if rose {
-            self.mark(work, s, position, frontier);
+            self.flag_before(work, s, position, frontier);
         }
         rose
     }

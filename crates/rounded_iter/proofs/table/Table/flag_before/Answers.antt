@@ -1,6 +1,6 @@
 use Rattle.std.proofs.Common.{arith}
-use Rattle.rounded_iter.proofs.Watching.{position_inside, marked_all}
-use Rattle.rounded_iter.proofs.table.Table.mark.Goals as goal
+use Rattle.rounded_iter.proofs.Watching.{position_inside, flagged_all}
+use Rattle.rounded_iter.proofs.table.Table.flag_before.Goals as goal
 
 pub set_flag-requires : goal.set_flag-requires
 set_flag-requires c =
@@ -12,5 +12,5 @@ pub returns : goal.returns
 returns c =
     let r = rw (← c.self.view_is) at c.requires in
     rw (← c.self.view_is)
-    (marked_all (record { case = c.self.inside.case.now; links = c.self.inside.links.now; weights = c.self.inside.weights.now; extreme = c.self.inside.extreme; limit = c.self.inside.limit }) c.args.work.now c.args.s c.args.position r c.args.work.now c.loop-p.work c.args.frontier c.loop-p.p-index
+    (flagged_all (record { case = c.self.inside.case.now; links = c.self.inside.links.now; weights = c.self.inside.weights.now; extreme = c.self.inside.extreme; limit = c.self.inside.limit }) c.args.work.now c.args.s c.args.position r c.args.work.now c.loop-p.work c.args.frontier c.loop-p.p-index
     (rw c.positions_before-p-items.ensures at c.loop-p-test.false) (rw c.positions_before-p-items.ensures at c.loop-p.invariant))
