@@ -1,7 +1,7 @@
 //! Tests of ranks by stages.
 
 ghost use Rattle.std.specs.Prelude.{◌≡◌};
-ghost use Rattle.robust_rank.specs.Staging.{row_count};
+ghost use Rattle.lift_model.specs.Model.{row_count};
 
 use crate::example::model_of;
 use corner_lift::{Case, fill};

@@ -1,7 +1,7 @@
 -- Lowering a vector that is at or above every lower vector, until it is the greatest lower vector.
 use Rattle.std.specs.Prelude.{◌≡◌, ◌==◌, ℕ, ◌+◌, ◌^◌, ◌<◌, ◌≤◌, ◌⊎◌, Bool, true, false, List, [], ◌∷◌, ℤ, pos, ◌+ℤ◌, ◌-ℤ◌, ◌*ℤ◌, ◌≤ℤ◌, ◌<ℤ◌, nat_abs, length, slice_set}
 use Rattle.lift_grid.specs.Rectangle.{Spans}
-use Rattle.lift_model.specs.Model.{is_goal, choices, row_at}
+use Rattle.lift_model.specs.Model.{is_goal, choices, row_at, row_count}
 use Rattle.lift_model.specs.Links.{LinksData, AreLinks, HasChoice}
 use Rattle.corner_lift.specs.Case.{CaseData, number}
 use Rattle.corner_lift.specs.Certificate.{unmarked, mark, AreNumbers, AtMost}
@@ -9,7 +9,7 @@ use Rattle.corner_lift.specs.Stages.{IsAllowed, AreStages}
 use Rattle.corner_lift.specs.Table.{IsTable}
 use Rattle.lower_cert.specs.Capping.{AtSomeCorner, CapsAt, IsAboveLowerUnder}
 use Rattle.robust_rank.specs.Attracting.{Pass}
-use Rattle.robust_rank.specs.Staging.{row_count, allows, OthersHaveNoPick}
+use Rattle.robust_rank.specs.Staging.{allows, OthersHaveNoPick}
 
 -- the links are those of the case's model, the weights are the table of a rectangle, and there is one number for each state
 pub record IsRead (k : CaseData) (l : LinksData) (spans : Spans) (weights lane : List ℤ) : Type 0 where

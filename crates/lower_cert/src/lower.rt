@@ -2,11 +2,11 @@
 
 ghost use Rattle.std.specs.Prelude.{◌≡◌, ◌*◌, ◌+◌, ◌^◌, ◌<◌, ◌≤◌, ◌≤ℤ◌, ◌<ℤ◌, ◌*ℤ◌, ◌↔◌, pos, length, unsigned_abs, IsTrue, nat_lt, true, ◌-ℤ◌, ◌⊎◌};
 ghost use Rattle.lift_grid.specs.Rectangle.{Spans};
+ghost use Rattle.lift_model.specs.Model.{row_count};
 ghost use Rattle.lift_model.specs.Links.{HasChoice};
 ghost use Rattle.corner_lift.specs.Case.{IsInside, engine_limit, number};
 ghost use Rattle.corner_lift.specs.Certificate.{AreNumbers, mark, unmarked};
 ghost use Rattle.corner_lift.specs.Stages.{IsAllowed};
-ghost use Rattle.robust_rank.specs.Staging.{row_count};
 ghost use Rattle.lower_cert.specs.Lowering.{IsRead, HasPlaces, IsHigh, IsRanked, AreToldBefore, IsStuckLevel, IsLoweredAt, total};
 
 use crate::laws::vectors_are_lowered;

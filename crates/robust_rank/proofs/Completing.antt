@@ -10,9 +10,10 @@ use Rattle.corner_lift.specs.Corner.{no_entry}
 use Rattle.corner_lift.specs.Case.{CaseData, IsCase, IsInside}
 use Rattle.corner_lift.specs.Certificate.{unmarked, mark}
 use Rattle.corner_lift.specs.Stages.{AreStages}
+use Rattle.corner_lift.specs.Laws.{SumsRise}
 use Rattle.robust_rank.specs.Attracting.{Pass, IsNextStage}
 use Rattle.robust_rank.specs.Staging.{allows, is_rank, IsQueuedIn, StageData, IsAdded, IsGathering, IsLooked, IsComplete, IsStarting, IsPickOf}
-use Rattle.robust_rank.proofs.Means.{Premises, in_or_past}
+use Rattle.robust_rank.proofs.Means.{in_or_past}
 use Rattle.robust_rank.proofs.Stages.{start_is_staged, next_is_staged, empty_stage_ends}
 use Rattle.robust_rank.proofs.Gathering.{mark_same, mark_other, same_or_not}
 use Rattle.robust_rank.proofs.Before.{stands_before}
@@ -61,10 +62,10 @@ module _ (k : CaseData) (ranks queue : List ℕ) (s found : ℕ) (h : IsStarting
       less : (t : ℕ) → t < s + 1 → (t ≡ s → ⊥) → t < s
       less t lt ne = ⊎_elim (λ (l : t < s). l) (λ (past : s ≤ t). absurd (ne (omega (arith, past, lt)))) (in_or_past t s)
 
-pub begin : Premises → (k : CaseData) (spans : Spans) (allowed ranks queue : List ℕ) (to : ℕ) → IsCase k → IsInside k.root spans → IsStarting k ranks queue (length k.model.states) to → IsComplete k spans allowed ranks queue 0 0 to
-begin laws k spans allowed ranks queue to is within h = record {
+pub begin : (k : CaseData) (spans : Spans) (allowed ranks queue : List ℕ) (to : ℕ) → IsCase k → IsInside k.root spans → IsStarting k ranks queue (length k.model.states) to → IsComplete k spans allowed ranks queue 0 0 to
+begin k spans allowed ranks queue to is within h = record {
   sizes = h.sizes;
-  staged = start_is_staged laws k spans (allows k.model allowed) (mark ranks) is within
+  staged = start_is_staged k spans (allows k.model allowed) (mark ranks) is within
       (λ s goal. (h.goals s (goal_in s goal) goal).0)
       (λ s isnt. h.others s (λ lt. isnt));
   count = h.count;
@@ -140,9 +141,9 @@ module _ (k : CaseData) (l : LinksData) (allowed : List ℕ) (start : StageData)
 -- ---- the end
 
 module _ (k : CaseData) (spans : Spans) (allowed ranks picks : List ℕ) (sizes : (length ranks ≡ length k.model.states) × (length picks ≡ length k.model.states)) (all : (s : ℕ) → s < length k.model.states → IsPickOf k spans allowed ranks s (mark picks s)) where
-  pub stages : Premises → (queue : List ℕ) (r from to : ℕ) → IsCase k → IsInside k.root spans → r < unmarked → to ≤ from → IsComplete k spans allowed ranks queue r from to → AreStages k spans (Pass (allows k.model allowed)) (mark picks) (mark ranks)
-  stages laws queue r from to is within small empty h =
-      empty_stage_ends laws k spans (allows k.model allowed) (mark picks) (mark ranks) r is within small h.staged
+  pub stages : SumsRise → (queue : List ℕ) (r from to : ℕ) → IsCase k → IsInside k.root spans → r < unmarked → to ≤ from → IsComplete k spans allowed ranks queue r from to → AreStages k spans (Pass (allows k.model allowed)) (mark picks) (mark ranks)
+  stages rise queue r from to is within small empty h =
+      empty_stage_ends rise k spans (allows k.model allowed) (mark picks) (mark ranks) r is within small h.staged
       (λ s is_r. let at = h.last s is_r in omega (arith, at.1.0, at.1.1, empty))
       (λ s isnt lt. let state : s < length k.model.states = ranked_in s lt in
       let pick = (all s state).picked isnt lt in

@@ -7,8 +7,9 @@ use Rattle.lift_model.specs.Process.{weighted_sum}
 use Rattle.lift_model.specs.Model.{row_at, support, moves_at}
 use Rattle.corner_lift.specs.Corner.{corner, no_entry}
 use Rattle.corner_lift.specs.Certificate.{ranked_below}
+use Rattle.corner_lift.specs.Laws.{SumsRise}
 use Rattle.robust_rank.specs.Attracting.{FrontierLeads, GapLeads}
-use Rattle.robust_rank.proofs.Means.{Premises, stand, either_way, mono}
+use Rattle.robust_rank.proofs.Means.{either_way, row_there}
 
 -- but for rank r itself, below r + 1 is below r
 apart_from : (rank : ℕ → ℕ) (r t : ℕ) → nat_eq (rank t) r ≡ false → ranked_below rank (suc r) t ≡ ranked_below rank r t
@@ -43,14 +44,14 @@ frontier_leads k spans rank r s a leads =
     inr (λ c lt. let here = leads c lt in omega (arith, linear, here, same (corner k.d spans (support row) c))))
     (find rank r row)
 
-pub gap_leads : Premises → GapLeads
-gap_leads laws k spans rank r q s a gap is within choice leads c lt =
+pub gap_leads : SumsRise → GapLeads
+gap_leads rise k spans rank r q s a gap is within choice leads c lt =
     let less : (t : ℕ) → ranked_below rank q t ≤ℤ ranked_below rank r t =
     λ t. either_way (nat_lt (rank t) q)
     (λ l. let below = lt-ltb (rank t) r (gap t (ltb-true (rank t) q l)) in rw (l, below) (omega (arith, linear)))
     (λ n. rw n (least (nat_lt (rank t) r))) in
     let here = leads c lt in
-    omega (arith, linear, here, mono k spans (stand laws k spans is within) s a choice c (ranked_below rank q) (ranked_below rank r) less)
+    omega (arith, linear, here, rise k spans s a c (ranked_below rank q) (ranked_below rank r) is within (row_there k s a choice) less)
   where
     least : (b : Bool) → pos 0 ≤ℤ cond b (pos 1) (pos 0)
     least true = omega (arith, linear)

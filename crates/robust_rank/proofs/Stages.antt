@@ -1,15 +1,16 @@
 -- Stage by stage.
-use Rattle.std.proofs.Common.{◌≡◌, ℕ, suc, ◌^◌, ◌<◌, ◌≤◌, ◌⊎◌, inl, inr, ⊎_elim, false, length, get_or, pos, ◌≤ℤ◌, refl, sym, subst, arith, nat_lt, le-ltb, ltb-true, ltb-false}
+use Rattle.std.proofs.Common.{◌≡◌, ℕ, suc, ◌^◌, ◌<◌, ◌≤◌, ◌⊎◌, inl, inr, ⊎_elim, false, length, get_or, pos, refl, sym, subst, arith, nat_lt, le-ltb, ltb-true, ltb-false}
 use Rattle.std.proofs.lemmas.Nat.{pow_pos}
-use Rattle.lift_poly.proofs.Ring.{linear, mul-zero}
+use Rattle.lift_poly.proofs.Ring.{linear}
 use Rattle.lift_grid.specs.Rectangle.{Spans}
 use Rattle.lift_model.specs.Model.{is_goal, choices, row_at, support, moves_at}
-use Rattle.corner_lift.specs.Corner.{corner, whole, parameter_count, no_entry}
+use Rattle.corner_lift.specs.Corner.{corner, parameter_count, no_entry}
 use Rattle.corner_lift.specs.Case.{CaseData}
 use Rattle.corner_lift.specs.Certificate.{unmarked, ranked_below}
 use Rattle.corner_lift.specs.Stages.{LeadsBelow}
+use Rattle.corner_lift.specs.Laws.{SumsRise}
 use Rattle.robust_rank.specs.Attracting.{IsStaged, IsNextStage, Pass, StartIsStaged, NextIsStaged, EmptyStageEnds, StagesOfTest}
-use Rattle.robust_rank.proofs.Means.{Premises, stand, either_way, sum-same, mono, level}
+use Rattle.robust_rank.proofs.Means.{either_way, sum-same, sum-zero}
 use Rattle.robust_rank.proofs.Frontier.{frontier_leads, gap_leads}
 
 up_or_past : (q r : ℕ) → (q ≤ r) ⊎ (suc r ≤ q)
@@ -18,8 +19,8 @@ up_or_past q r = grind arith
 none_or_ranked : (n : ℕ) → (n < unmarked) ⊎ (unmarked ≤ n)
 none_or_ranked n = either_way (nat_lt n unmarked) (λ l. inl (ltb-true n unmarked l)) (λ g. inr (ltb-false n unmarked g))
 
-pub start_is_staged : Premises → StartIsStaged
-start_is_staged laws k spans test rank is within goals others = record {
+pub start_is_staged : StartIsStaged
+start_is_staged k spans test rank is within goals others = record {
   goal = goals;
   later = λ s g. omega (arith, others s g);
   marks = λ s lt. either_way (is_goal k.model s) (λ g. omega (arith, goals s g)) (λ g. absurd (omega (arith, lt, others s g)));
@@ -30,8 +31,9 @@ start_is_staged laws k spans test rank is within goals others = record {
       let some : 0 < 2 ^ parameter_count spans (support row) = pow_pos (parameter_count spans (support row)) in
       let q_zero : q ≡ 0 = omega (arith, le) in
       let here = leads 0 some in
-      let nothing : (t : ℕ) → ranked_below rank q t ≤ℤ pos 0 = λ t. let below : nat_lt (rank t) q ≡ false = le-ltb (rank t) q (omega (arith, q_zero)) in rw below (omega (arith, linear)) in
-      absurd (omega (arith, linear, here, mono k spans (stand laws k spans is within) s a choice 0 (ranked_below rank q) (λ t. pos 0) nothing, level k spans (stand laws k spans is within) s a choice 0 some (pos 0), mul-zero (whole k.model k.d spans row)));
+      let nothing : (t : ℕ) → ranked_below rank q t ≡ pos 0 = λ t. let below : nat_lt (rank t) q ≡ false = le-ltb (rank t) q (omega (arith, q_zero)) in rw below refl in
+      let moves = moves_at (corner k.d spans (support row) 0) row in
+      absurd (omega (arith, linear, here, sum-same (ranked_below rank q) (λ t. pos 0) moves nothing, sum-zero moves));
 }
 
 module _ (k : CaseData) (spans : Spans) (allowed : ℕ → ℕ → Type 0) (rank new : ℕ → ℕ) (r : ℕ) (small : suc r < unmarked) (old : IsStaged k spans allowed rank r) (next : IsNextStage k spans allowed rank new r) where
@@ -133,8 +135,8 @@ module _ (k : CaseData) (spans : Spans) (allowed : ℕ → ℕ → Type 0) (rank
 pub next_is_staged : NextIsStaged
 next_is_staged k spans test rank new r small old next = next_stage k spans (Pass test) rank new r small old next
 
-pub empty_stage_ends : Premises → EmptyStageEnds
-empty_stage_ends laws k spans test pick rank r is within small staged empty picks = record {
+pub empty_stage_ends : SumsRise → EmptyStageEnds
+empty_stage_ends rise k spans test pick rank r is within small staged empty picks = record {
   goal = staged.goal;
   picked = picks;
   first =
@@ -142,7 +144,7 @@ empty_stage_ends laws k spans test pick rank r is within small staged empty pick
       (λ (low : q ≤ r). staged.first s g a q choice is_allowed low leads)
       (λ (past : suc r ≤ q).
       let gap : (t : ℕ) → rank t < q → rank t < r = λ t below. let le = staged.marks t (omega (arith, below, lt)) in strictly (rank t) r le (empty t) in
-      let le = staged.first s g a r choice is_allowed (omega arith) (gap_leads laws k spans rank r q s a gap is within choice leads) in
+      let le = staged.first s g a r choice is_allowed (omega arith) (gap_leads rise k spans rank r q s a gap is within choice leads) in
       omega (arith, le, past))
       (up_or_past q r);
 }

@@ -1,4 +1,3 @@
 pub mod Attracting
 pub mod Rate
-pub mod Premises
 pub mod Staging

@@ -1,17 +1,13 @@
 -- Ranks and picks as they are found: by a queue of states in the order of their ranks, whose last part holds the last stage.
-use Rattle.std.specs.Prelude.{◌≡◌, ℕ, suc, ◌<◌, ◌≤◌, ◌⊎◌, Bool, true, false, List, ℤ, length, sum_by, count_by, slice_index_or, nat_lt}
+use Rattle.std.specs.Prelude.{◌≡◌, ℕ, suc, ◌<◌, ◌≤◌, ◌⊎◌, Bool, true, false, List, ℤ, length, count_by, slice_index_or, nat_lt}
 use Rattle.lift_grid.specs.Rectangle.{Spans}
-use Rattle.lift_model.specs.Model.{ModelData, is_goal, choices}
+use Rattle.lift_model.specs.Model.{ModelData, is_goal, choices, row_count}
 use Rattle.lift_model.specs.Links.{LinksData, AreLinks, row_number}
 use Rattle.corner_lift.specs.Case.{CaseData}
 use Rattle.corner_lift.specs.Certificate.{unmarked, mark}
 use Rattle.corner_lift.specs.Stages.{LeadsBelow}
 use Rattle.corner_lift.specs.Table.{IsTable}
 use Rattle.robust_rank.specs.Attracting.{Pass, IsStaged}
-
--- how many rows a model has
-abbrev pub row_count : ModelData → ℕ
-row_count m = sum_by length m.states
 
 -- of numbers that there is one of for each row, in reading order, the one of the state's choice isn't 0
 abbrev pub allows : ModelData → List ℕ → ℕ → ℕ → Bool

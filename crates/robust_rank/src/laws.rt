@@ -1,9 +1,8 @@
-//! Laws of ranking stage by stage, for who reasons about it. The functions do nothing.
+//! Laws of ranking stage by stage, for who reasons about it. The function does nothing.
 
 ghost use Rattle.robust_rank.specs.Attracting.{StartIsStaged, NextIsStaged, EmptyStageEnds, StagesOfTest, FrontierLeads, GapLeads};
-ghost use Rattle.robust_rank.specs.Premises.{Premises};
 
-use corner_lift::{corners_bound_weights, rows_at_corners};
+use corner_lift::rows_at_corners;
 
 /// Ranking stage by stage: where the stages begin and end, what the next one has to find, and that it
 /// need only look at what leads into the last one.
@@ -15,13 +14,5 @@ pub fn ranks_go_by_stages()
     ensures frontier { FrontierLeads }
     ensures gap { GapLeads }
 {
-    premises();
-}
-
-/// Holds the laws of the crates below that the proofs here rest on. It does nothing.
-pub(crate) fn premises()
-    ensures { Premises }
-{
-    corners_bound_weights();
     rows_at_corners();
 }

@@ -1,18 +1,17 @@
 ghost use Rattle.std.specs.Prelude.{◌≡◌, ◌+◌, List, ◌≤◌, ◌<◌, ◌↔◌, ◌<ℤ◌, pos, ℕ, suc, length, false, IsTrue, IfSome, IsNone, All, count_by, slice_set};
 ghost use Rattle.lift_grid.specs.Rectangle.{Spans};
-ghost use Rattle.lift_model.specs.Model.{is_goal};
+ghost use Rattle.lift_model.specs.Model.{is_goal, row_count};
 ghost use Rattle.lift_model.specs.Links.{AreLinks, HasChoice, states_before};
 ghost use Rattle.corner_lift.specs.Case.{IsInside};
 ghost use Rattle.corner_lift.specs.Certificate.{mark, unmarked};
 ghost use Rattle.corner_lift.specs.Stages.{LeadsBelow, AreStages};
 ghost use Rattle.corner_lift.specs.Table.{IsTable};
 ghost use Rattle.robust_rank.specs.Attracting.{Pass};
-ghost use Rattle.robust_rank.specs.Staging.{allows, CanRank, IsLeading, IsLeastLeading, HasLeading, HasNoLeading, row_count, OthersHaveNoPick, is_rank, IsReached, IsPickOf, IsStarting, IsComplete, StageData, IsGathering, AreKept, IsLooked};
+ghost use Rattle.robust_rank.specs.Staging.{allows, CanRank, IsLeading, IsLeastLeading, HasLeading, HasNoLeading, OthersHaveNoPick, is_rank, IsReached, IsPickOf, IsStarting, IsComplete, StageData, IsGathering, AreKept, IsLooked};
 
 use crate::corners::corners_of;
-use crate::laws::premises;
 use crate::marks::{NONE, mark_of};
-use corner_lift::{Case, table_into};
+use corner_lift::{Case, rows_at_corners, table_into};
 use lift_model::Links;
 
 /// Whether the weight is above 0.
@@ -336,7 +335,7 @@ pub fn attract(
     ensures stages { AreStages case.now spans (Pass (allows case.now.model allowed.now)) (mark picks.new) (mark ranks.new) }
     ensures others { OthersHaveNoPick case.now picks.new ranks.new }
 {
-    premises();
+    rows_at_corners();
     let _ = case.w();
     let mut from = 0;
     let mut to = start(case, ranks, picks);

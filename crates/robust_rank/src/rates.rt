@@ -1,39 +1,26 @@
-ghost use Rattle.std.specs.Prelude.{◌≡◌, ◌≤◌, ◌<◌, ◌^◌, ◌*ℤ◌, ◌≤ℤ◌, ◌<ℤ◌, ◌↔◌, pos, length, IsTrue};
+ghost use Rattle.std.specs.Prelude.{◌≡◌, ◌≤◌, ◌<◌, ◌^◌, ◌*ℤ◌, ◌≤ℤ◌, ◌<ℤ◌, pos, length};
 ghost use Rattle.lift_grid.specs.Rectangle.{Spans};
 ghost use Rattle.lift_model.specs.Links.{AreLinks, HasChoice};
 ghost use Rattle.corner_lift.specs.Case.{engine_limit};
-ghost use Rattle.corner_lift.specs.Certificate.{mark};
+ghost use Rattle.corner_lift.specs.Certificate.{mark, most_rate};
 ghost use Rattle.corner_lift.specs.Stages.{LeadsBelow};
 ghost use Rattle.corner_lift.specs.Table.{IsTable};
-ghost use Rattle.robust_rank.specs.Rate.{ArePicks, IsFast, IsFastState, IsLeastFrom, IsLeastRate, most_rate};
+ghost use Rattle.robust_rank.specs.Rate.{ArePicks, IsRowRate, IsStateRate, IsFirstFrom, IsLeastRate};
 
 use crate::corners::corners_of;
-use crate::laws::premises;
 use crate::marks::{NONE, mark_of};
-use corner_lift::{Case, table_into, table_whole};
+use corner_lift::{Case, is_enough, rows_at_corners, table_into, table_whole};
 use lift_model::Links;
 
 /// The greatest rate that there is need of.
 const MOST_RATE: u32 = 126;
-
-/// Whether `weight` times 2 to the `e` is at least the whole. That product is never formed, since it
-/// may be too wide.
-fn is_enough(weight: i128, e: u32, whole: i128) -> bool
-    requires weight { pos 0 ≤ℤ weight }
-    requires rate { e ≤ most_rate }
-    requires whole { pos 1 ≤ℤ whole }
-    ensures { IsTrue result ↔ whole ≤ℤ (weight *ℤ pos (2 ^ e)) }
-{
-    let below = (whole - 1).unsigned_abs();
-    below >> e < weight.unsigned_abs()
-}
 
 /// How often `weight` is to be doubled to be at least the whole, but at least `first` times.
 fn doublings(weight: i128, whole: i128, first: u32) -> u32
     requires weight { pos 1 ≤ℤ weight }
     requires whole { (pos 1 ≤ℤ whole) × (whole <ℤ pos engine_limit) }
     requires first { first ≤ most_rate }
-    ensures least { IsLeastFrom (λ e. whole ≤ℤ (weight *ℤ pos (2 ^ e))) first result }
+    ensures least { IsFirstFrom (λ e. whole ≤ℤ (weight *ℤ pos (2 ^ e))) first result }
     ensures most { result ≤ most_rate }
 {
     for e in first..MOST_RATE {
@@ -61,10 +48,10 @@ fn rate_of_row(
     requires ranks { length ranks.now ≡ length case.now.model.states }
     requires leads { LeadsBelow case.now spans (mark ranks.now) (mark ranks.now s) s a }
     requires first { first ≤ most_rate }
-    ensures least { IsLeastFrom (IsFast case.now spans ranks.now s a) first result }
+    ensures least { IsFirstFrom (IsRowRate case.now spans ranks.now s a) first result }
     ensures most { result ≤ most_rate }
 {
-    premises();
+    rows_at_corners();
     let whole = table_whole(case, links, weights, s, a);
     let rank = mark_of(ranks, s as usize);
     let mut e = first;
@@ -91,7 +78,7 @@ fn rate_of_state(
     requires picks { ArePicks case.now spans ranks.now picks.now }
     requires state { s < length case.now.model.states }
     requires first { first ≤ most_rate }
-    ensures least { IsLeastFrom (IsFastState case.now spans ranks.now picks.now s) first result }
+    ensures least { IsFirstFrom (IsStateRate case.now spans ranks.now picks.now s) first result }
     ensures most { result ≤ most_rate }
 {
     let pick = mark_of(picks, s as usize);
@@ -115,7 +102,6 @@ pub fn rate(case: &Case, links: &Links, weights: &[i128], ranks: &[u32], picks: 
     ensures least { IsLeastRate case.now spans ranks.now picks.now result }
     ensures most { result ≤ most_rate }
 {
-    premises();
     let _ = case.w();
     let mut e = 0;
     for s in 0..case.model().states() {

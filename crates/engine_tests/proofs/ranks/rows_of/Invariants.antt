@@ -1,5 +1,5 @@
 use Rattle.std.proofs.Common.{◌≡◌, ◌≤◌, length, take, sum_by}
-use Rattle.robust_rank.specs.Staging.{row_count}
+use Rattle.lift_model.specs.Model.{row_count}
 use Rattle.engine_tests.proofs.ranks.rows_of.Given as goal
 
 -- the rows of the states before this one

@@ -16,7 +16,7 @@ loop-corner-preserved g c =
     let weight_fits : SFits w128 c.table_into-weight.result = search rules in
     let whole_fits : SFits w128 c.table_whole-whole.result = search rules in
     record {
-      least = next_corner c.premises.ensures c.args.case.now g.spans c.corners_of-corner-end.ensures.case c.requires.1.0.inside c.args.ranks.now c.args.s c.args.a c.requires.1.1.0.choice c.loop-corner.corner c.args.first c.loop-corner.e c.doublings-e.result c.table_into-weight.result c.table_whole-whole.result (rw c.mark_of-rank.ensures at c.table_into-weight.ensures) c.table_whole-whole.ensures.value c.loop-corner.invariant.least (simp to_z-of_z at c.doublings-e.ensures.least);
+      least = next_corner c.args.case.now g.spans c.corners_of-corner-end.ensures.case c.args.ranks.now c.rows_at_corners.ensures.parameters c.requires.1.0.inside c.args.s c.args.a c.loop-corner.corner c.args.first c.loop-corner.e c.doublings-e.result c.table_into-weight.result c.table_whole-whole.result (rw c.mark_of-rank.ensures at c.table_into-weight.ensures) c.table_whole-whole.ensures.value c.loop-corner.invariant.least (simp to_z-of_z at c.doublings-e.ensures.least);
       most = c.doublings-e.ensures.most;
     }
 
@@ -27,5 +27,5 @@ returns-clause-least g c =
     record {
       from = found.from;
       holds = λ corner lt. found.holds corner (omega (arith, lt, same, c.loop-corner-test.false));
-      least = λ m le fast. found.least m le (λ corner lt. fast corner (omega (arith, lt, same, c.loop-corner.auto.corner-end)));
+      least = λ m le enough. found.least m le (λ corner lt. enough corner (omega (arith, lt, same, c.loop-corner.auto.corner-end)));
     }

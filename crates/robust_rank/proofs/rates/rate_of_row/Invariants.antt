@@ -1,5 +1,6 @@
 use Rattle.std.proofs.Common.{◌≤◌}
-use Rattle.robust_rank.specs.Rate.{IsFastBefore, IsLeastFrom, most_rate}
+use Rattle.corner_lift.specs.Certificate.{most_rate}
+use Rattle.robust_rank.specs.Rate.{IsRowRateBefore, IsFirstFrom}
 use Rattle.robust_rank.proofs.rates.rate_of_row.Given as goal
 
 abbrev pub ghost-table_whole : goal.ghost-table_whole
@@ -11,6 +12,6 @@ ghost-table_into g a = g.spans
 -- the least rate at the corners before this one
 abbrev pub invariant-loop-corner : goal.invariant-loop-corner
 invariant-loop-corner g l = record {
-  least : IsLeastFrom (IsFastBefore l.case g.spans l.ranks l.s l.a l.corner) l.first l.e;
+  least : IsFirstFrom (IsRowRateBefore l.case g.spans l.ranks l.s l.a l.corner) l.first l.e;
   most : l.e ≤ most_rate;
 }

@@ -2,7 +2,7 @@ use Rattle.std.proofs.Common.{◌<◌, subst, sym, arith}
 use Rattle.lift_model.specs.Links.{HasChoice}
 use Rattle.corner_lift.specs.Certificate.{unmarked, mark}
 use Rattle.corner_lift.specs.Stages.{LeadsBelow}
-use Rattle.robust_rank.specs.Rate.{IsFast}
+use Rattle.robust_rank.specs.Rate.{IsRowRate}
 use Rattle.robust_rank.proofs.rates.rate_of_state.Goals as goal
 
 pub rate_of_row-requires : goal.rate_of_row-requires
@@ -20,6 +20,6 @@ returns-clause-least g c =
     let same = c.mark_of-pick.ensures in
     record {
       from = found.from;
-      holds = λ picked. subst (λ a. IsFast c.args.case.now g.spans c.args.ranks.now c.args.s a c.rate_of_row.result) same found.holds;
-      least = λ m le fast. found.least m le (subst (λ a. IsFast c.args.case.now g.spans c.args.ranks.now c.args.s a m) (sym same) (fast there));
+      holds = λ picked. subst (λ a. IsRowRate c.args.case.now g.spans c.args.ranks.now c.args.s a c.rate_of_row.result) same found.holds;
+      least = λ m le enough. found.least m le (subst (λ a. IsRowRate c.args.case.now g.spans c.args.ranks.now c.args.s a m) (sym same) (enough there));
     }
