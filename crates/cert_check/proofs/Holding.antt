@@ -10,7 +10,7 @@ use Rattle.lift_poly.specs.Polynomial.{Valuation}
 use Rattle.lift_grid.specs.Laws.{HalvesTile}
 use Rattle.lift_grid.specs.Rectangle.{Spans, Inside}
 use Rattle.lift_grid.specs.Splitting.{HasHalvings}
-use Rattle.lift_grid.specs.Tree.{Tree, Tiles, Apart, Leaf, leaves, lower_half, upper_half}
+use Rattle.lift_grid.specs.Tree.{Tree, Tiles, Apart, leaves, lower_half, upper_half}
 use Rattle.lift_grid.specs.Tree.Tree.{split, accept, reject, unknown}
 use Rattle.corner_lift.specs.Case.{CaseData, IsCase, IsInside, Within, greatest_depth}
 use Rattle.corner_lift.specs.Laws.{HalvesAreInside, LiveHasSpan}
@@ -142,14 +142,14 @@ module _ (placed : HalvesArePlaced) (in_root : HalvesAreInside) (halves : Halves
       (leaves_inside upper levels (depth + 1) up up (omega arith) next.2 h.2 (record { rectangle = next.2.inside.rectangle; within = within_itself up })))
 
   -- each leaf holds on its rectangle
-  leaves_hold : (t : Tree) (levels depth : ℕ) (ss : Spans) → depth + levels ≡ greatest_depth k → IsPlaced k levels ss → IsSoundTree k bound ss depth t → All (λ leaf. LeafHolds k bound leaf.spans leaf.node) (leaves ss depth t)
-  leaves_hold (accept u x) levels depth ss e at h = only (λ (leaf : Leaf). LeafHolds k bound leaf.spans leaf.node) (record { spans = ss; depth = depth; node = accept u x }) (accepting k ss bound x is at.inside h)
-  leaves_hold (reject u r) levels depth ss e at h = only (λ (leaf : Leaf). LeafHolds k bound leaf.spans leaf.node) (record { spans = ss; depth = depth; node = reject u r }) (rejecting k ss bound r is at.inside h, h.limit)
-  leaves_hold unknown levels depth ss e at h = only (λ (leaf : Leaf). LeafHolds k bound leaf.spans leaf.node) (record { spans = ss; depth = depth; node = unknown }) tt
+  leaves_hold : (t : Tree) (levels depth : ℕ) (ss : Spans) → depth + levels ≡ greatest_depth k → IsPlaced k levels ss → IsSoundTree k bound ss depth t → All (LeafHolds k bound) (leaves ss depth t)
+  leaves_hold (accept u x) levels depth ss e at h = only (LeafHolds k bound) (record { spans = ss; depth = depth; node = accept u x }) (accepting k ss bound x is at.inside h)
+  leaves_hold (reject u r) levels depth ss e at h = only (LeafHolds k bound) (record { spans = ss; depth = depth; node = reject u r }) (rejecting k ss bound r is at.inside h, h.limit)
+  leaves_hold unknown levels depth ss e at h = only (LeafHolds k bound) (record { spans = ss; depth = depth; node = unknown }) tt
   leaves_hold (split axis lower upper) zero depth ss e at h = absurd (omega (arith, h.0.left))
   leaves_hold (split axis lower upper) (suc levels) depth ss e at h =
       let next = placed k levels axis ss is at h.0.axis_is in
-      All-append (λ (leaf : Leaf). LeafHolds k bound leaf.spans leaf.node) (leaves (lower_half axis ss) (depth + 1) lower) (leaves (upper_half axis ss) (depth + 1) upper)
+      All-append (LeafHolds k bound) (leaves (lower_half axis ss) (depth + 1) lower) (leaves (upper_half axis ss) (depth + 1) upper)
       (leaves_hold lower levels (depth + 1) (lower_half axis ss) (omega arith) next.1 h.1)
       (leaves_hold upper levels (depth + 1) (upper_half axis ss) (omega arith) next.2 h.2)
 
