@@ -3,6 +3,7 @@ use Rattle.std.proofs.Common.{◌≡◌, ℕ, zero, suc, ◌+◌, ◌-◌, ◌*�
 use Rattle.std.specs.Prelude.{ℤ, pos, unsigned_abs, int_lt, ◌==◌}
 use Rattle.std.proofs.lemmas.Bool.{le-ltb}
 use Rattle.std.specs.List.{list_all}
+use Rattle.std.specs.Option.{option_map}
 use Rattle.std.specs.Char.{is_ascii_digit, digit_value}
 use Rattle.std.specs.Str.{bytes_eq}
 use Rattle.std.specs.Str.Parse.{digits_value, digits_value_after}
@@ -96,7 +97,7 @@ some_value (d ∷ []) e other_than =
     grind (arith, k, other)
 some_value (d ∷ c ∷ cs) e other_than = omega (arith, first_some d c cs e, le_value_after (0 * 10 + digit_value d) (c ∷ cs))
 
-pub below_is : (ds : List ℕ) → are_digits ds ≡ true → bytes_eq ds (codes "0") ≡ false → below_zero (natural_of ds) ≡ Some (signed true (digits_value 10 ds))
+below_is : (ds : List ℕ) → are_digits ds ≡ true → bytes_eq ds (codes "0") ≡ false → below_zero (natural_of ds) ≡ Some (signed true (digits_value 10 ds))
 below_is ds e other = ap (λ b. below_zero (cond b (Some (digits_value 10 ds)) None)) e ∙ by_value (digits_value 10 ds) (some_value ds e (λ same. absurd (clash ((bytes_eq-Decides ds (codes "0")).1 same))))
   where
     clash : bytes_eq ds (codes "0") ≡ true → ⊥
@@ -105,6 +106,14 @@ below_is ds e other = ap (λ b. below_zero (cond b (Some (digits_value 10 ds)) N
     by_value : (v : ℕ) → 0 < v → below_zero (Some v) ≡ Some (signed true v)
     by_value zero h = absurd (omega (arith, h))
     by_value (suc n) h = refl
+
+-- the number below 0 of a size that isn't 0
+pub below_size : (ds : List ℕ) → bytes_eq ds (codes "0") ≡ false → option_map (signed true) (natural_of ds) ≡ below_zero (natural_of ds)
+below_size ds other = by_form (are_digits ds) refl
+  where
+    by_form : (b : Bool) → are_digits ds ≡ b → option_map (signed true) (natural_of ds) ≡ below_zero (natural_of ds)
+    by_form true e = ap (λ b. option_map (signed true) (cond b (Some (digits_value 10 ds)) None)) e ∙ sym (below_is ds e other)
+    by_form false e = ap (λ b. option_map (signed true) (cond b (Some (digits_value 10 ds)) None)) e ∙ sym (ap (λ b. below_zero (cond b (Some (digits_value 10 ds)) None)) e)
 
 -- ---- what is left at a division
 

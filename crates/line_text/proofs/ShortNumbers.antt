@@ -1,6 +1,6 @@
 -- Numbers of few digits, read at once with the end of their word.
-use Rattle.std.proofs.Common.{◌≡◌, ◌≢◌, ℕ, zero, suc, ◌+◌, ◌-◌, ◌*◌, ◌^◌, ◌<◌, ◌≤◌, Bool, true, false, cond, not, ◌&&◌, List, [], ◌∷◌, length, take, get_or, Option, Some, None, Ok, Err, refl, sym, ap, ap₂, ◌∙◌, arith, add-one, ◌⊎◌, ⊎_elim, inl, inr}
-use Rattle.std.specs.Prelude.{ℤ, pos, ◌==◌}
+use Rattle.std.proofs.Common.{◌≡◌, ◌≢◌, ℕ, zero, suc, ◌+◌, ◌-◌, ◌*◌, ◌^◌, ◌<◌, ◌≤◌, Bool, true, false, cond, not, ◌&&◌, List, [], ◌∷◌, length, take, get_or, Option, Some, Ok, Err, refl, sym, ap, ap₂, ◌∙◌, arith, add-one, ◌⊎◌, ⊎_elim, inl, inr}
+use Rattle.std.specs.Prelude.{pos, ◌==◌}
 use Rattle.std.specs.List.{list_all, position_or_len}
 use Rattle.std.specs.Option.{option_map}
 use Rattle.std.specs.Char.{is_ascii_digit, digit_value}
@@ -92,3 +92,11 @@ pub first_is : {A : Type 0} (of : List ℕ → Option A) (ws rest : Words) (w : 
 unfolding pair_in
 first_is of [] rest w e = absurd (cc e)
 first_is of (v ∷ vs) rest w e = ap (λ r. option_map (λ x. (x, (pair_in r).1)) (of (pair_in r).0)) e
+
+-- digits up to the end are all of them
+pub whole_digits : (ds : List ℕ) (len : ℕ) → list_all is_ascii_digit (take len ds) ≡ true → length ds ≤ len → list_all is_ascii_digit ds ≡ true
+whole_digits [] len e h = refl
+whole_digits (d ∷ ds) zero e h = absurd (omega (arith, h))
+whole_digits (d ∷ ds) (suc len) e h =
+    let here = and_left (is_ascii_digit d) (list_all is_ascii_digit (take len ds)) e in
+    rw here (whole_digits ds len (and_right (is_ascii_digit d) (list_all is_ascii_digit (take len ds)) e) (omega (arith, h)))

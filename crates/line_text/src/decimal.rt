@@ -42,14 +42,15 @@ fn are_all_digits(word: &[u8]) -> bool
     word.iter().all(|byte| byte.is_ascii_digit())
 }
 
-/// Whether the word is one digit, or several of which the first isn't 0.
-fn are_digits(word: &[u8]) -> bool
-    ensures { result ≡ are_digits word.now }
+/// Whether digits are a number's: one digit, or several of which the first isn't 0.
+fn is_led(digits: &[u8]) -> bool
+    requires { list_all is_ascii_digit digits.now ≡ true }
+    ensures { result ≡ are_digits digits.now }
 {
-    match word {
+    match digits {
         [] => false,
-        [digit] => digit.is_ascii_digit(),
-        [first, ..] => *first != b'0' && are_all_digits(word),
+        [_] => true,
+        [first, ..] => *first != b'0',
     }
 }
 
@@ -61,14 +62,16 @@ pub(crate) fn front_digits(text: &[u8]) -> (u64, usize)
     ensures value { result.0 ≡ digits_value 10 (take result.1 text.now) }
     ensures all { list_all is_ascii_digit text.now ≡ true → length text.now ≤ 18 → result.1 ≡ length text.now }
 {
+    let most = text.len().min(SHORT_DIGITS);
     let mut number: u64 = 0;
-    for (i, byte) in text.iter().enumerate() {
-        if i == SHORT_DIGITS || !byte.is_ascii_digit() {
+    for i in 0..most {
+        let byte = text[i];
+        if !byte.is_ascii_digit() {
             return (number, i);
         }
-        number = number * 10 + u64::from(*byte - b'0');
+        number = number * 10 + u64::from(byte - b'0');
     }
-    (number, text.len())
+    (number, most)
 }
 
 /// The number that at most 31 digits write.
@@ -129,17 +132,23 @@ fn is_less(digits: &[u8], others: &[u8]) -> bool
 }
 
 impl<'t> Decimal<'t> {
-    /// The number that digits write, or the one of that size below 0.
-    fn of_digits(negative: bool, digits: &'t [u8]) -> Self
-        requires { are_digits digits.now ≡ true }
-        ensures { result ≡ signed negative (digits_value 10 digits.now) }
+    /// The number whose size digits write; none where they write none. Few digits are looked at once.
+    #[tactic(auto, using(crate::proofs::LongNumbers::all_digits, crate::proofs::ShortNumbers::whole_digits))]
+    fn of_size(negative: bool, digits: &'t [u8]) -> Option<Self>
+        ensures { result ≡ option_map (signed negative) (natural_of digits.now) }
     {
-        let (short, _) = front_digits(digits);
-        Decimal {
+        let (short, len) = front_digits(digits);
+        if len < digits.len() && !are_all_digits(digits) {
+            return None;
+        }
+        if !is_led(digits) {
+            return None;
+        }
+        Some(Decimal {
             negative,
             digits,
             short,
-        }
+        })
     }
 
     /// The number that few digits write, which is known.
@@ -174,11 +183,7 @@ impl<'t> Decimal<'t> {
     fn natural(digits: &'t [u8]) -> Option<Self>
         ensures { result ≡ option_map pos (natural_of digits.now) }
     {
-        if are_digits(digits) {
-            Some(Decimal::of_digits(false, digits))
-        } else {
-            None
-        }
+        Decimal::of_size(false, digits)
     }
 
     /// The number below 0 of a size that digits write; none where they write none, and for 0.
@@ -188,11 +193,7 @@ impl<'t> Decimal<'t> {
         if digits == b"0".as_slice() {
             return None;
         }
-        if are_digits(digits) {
-            Some(Decimal::of_digits(true, digits))
-        } else {
-            None
-        }
+        Decimal::of_size(true, digits)
     }
 
     /// The number that a word writes; none where it writes none.

@@ -11,4 +11,4 @@ pub use cursor::{Cursor, Place, len_before};
 pub use decimal::Decimal;
 pub use error::{TextCause, TextError};
 pub use numbers::{between, decimals, is_number, is_signed, number_line, numbers_of};
-pub use words::Words;
+pub use words::{Words, pair_of};

@@ -1,8 +1,8 @@
 // The words of a line.
-ghost use Rattle.std.specs.Prelude.{◌≡◌, ◌≤◌, [], true, length, take, IsTrue, OnErr};
+ghost use Rattle.std.specs.Prelude.{◌≡◌, ◌≤◌, [], Some, pos, true, length, take, IsTrue, IfSome, OnErr};
 ghost use Rattle.std.specs.List.{list_all, position_or_len};
 ghost use Rattle.std.specs.Char.{is_ascii_digit};
-ghost use Rattle.line_text.specs.Words.{are_digits, number_of, words};
+ghost use Rattle.line_text.specs.Words.{are_digits, number_of, pair_of, words};
 ghost use Rattle.line_text.specs.Parts.{first, keyed, single};
 ghost use Rattle.line_text.specs.Shown.{Says, is_none_left, is_space, first_of};
 
@@ -61,6 +61,19 @@ fn is_word(text: &[u8], len: usize) -> bool
     len == text.len() || text[len] == b' '
 }
 
+/// The two numbers that a word writes with this byte between them.
+pub fn pair_of(word: &[u8], byte: u8) -> Option<(Decimal, Decimal)>
+    ensures { result ≡ pair_of byte word.now }
+{
+    let len = len_before(word, byte);
+    if len == word.len() {
+        return None;
+    }
+    let first = Decimal::read(&word[..len])?;
+    let second = Decimal::read(&word[len + 1..])?;
+    Some((first, second))
+}
+
 impl<'t> Words<'t> {
     /// The words of a line.
     pub fn of(line: &'t [u8]) -> Self
@@ -99,6 +112,35 @@ impl<'t> Words<'t> {
         let (word, rest) = cut(self.text, len_before(self.text, b' '));
         let number = Decimal::read(word)?;
         Some((number, rest))
+    }
+
+    /// The number of few digits, none of them a sign, that the first word writes, and those behind it;
+    /// none where it writes no such number.
+    pub fn short(&self) -> Option<(u64, Words<'t>)>
+        ensures { IfSome result (λ x. first_of number_of self.now ≡ Some (pos x.0, x.1)) }
+    {
+        if self.ended {
+            return None;
+        }
+        let (short, len) = front_digits(self.text);
+        if !is_word(self.text, len) {
+            return None;
+        }
+        let (_, rest) = cut(self.text, len);
+        Some((short, rest))
+    }
+
+    /// The two numbers that the first word writes with this byte between them, and those behind it;
+    /// none where there is no word, or it writes none.
+    pub fn pair(&self, byte: u8) -> Option<((Decimal<'t>, Decimal<'t>), Words<'t>)>
+        ensures { result ≡ first_of (pair_of byte) self.now }
+    {
+        if self.ended {
+            return None;
+        }
+        let (word, rest) = cut(self.text, len_before(self.text, b' '));
+        let pair = pair_of(word, byte)?;
+        Some((pair, rest))
     }
 
     /// Whether no word is left.

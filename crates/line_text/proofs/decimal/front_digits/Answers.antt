@@ -1,4 +1,4 @@
-use Rattle.std.proofs.Common.{◌∙◌, ◌+◌, ◌*◌, get_or, sym, ap, arith}
+use Rattle.std.proofs.Common.{◌∙◌, ◌+◌, ◌*◌, ◌<◌, length, get_or, sym, ap, arith}
 use Rattle.line_text.proofs.ShortNumbers.{digits_more, digit_of, value_more, front_small}
 use Rattle.line_text.proofs.decimal.front_digits.Goals as goal
 
@@ -11,8 +11,9 @@ overflow_add-number c = omega (arith, front_small c.args.text.now c.loop-i.i c.l
 pub loop-i-preserved : goal.loop-i-preserved
 loop-i-preserved c =
     let digit = sym c.is_ascii_digit.ensures.value ∙ c.if-not-is_ascii_digit.false in
+    let below : c.loop-i.i < length c.args.text.now = omega (arith, c.loop-i-test.true, c.min-most.ensures) in
     record {
-      few = omega (arith, c.if-i-eq-SHORT_DIGITS.false, c.loop-i.invariant.few);
-      digits = digits_more c.args.text.now c.loop-i.i c.loop-i.invariant.digits c.loop-i-test.true digit;
-      value = ap (λ k. c.loop-i.number * 10 + k) c.from.ensures ∙ value_more c.args.text.now c.loop-i.i c.loop-i.number digit c.loop-i-test.true c.loop-i.invariant.value;
+      few = omega (arith, c.loop-i-test.true, c.min-most.ensures);
+      digits = digits_more c.args.text.now c.loop-i.i c.loop-i.invariant.digits below digit;
+      value = ap (λ k. c.loop-i.number * 10 + k) c.from.ensures ∙ value_more c.args.text.now c.loop-i.i c.loop-i.number digit below c.loop-i.invariant.value;
     }

@@ -1,4 +1,4 @@
-use Rattle.std.proofs.Common.{Ok, sym, ap, ◌∙◌}
+use Rattle.std.proofs.Common.{sym, ap, ◌∙◌}
 use Rattle.line_text.specs.Parts.{first}
 use Rattle.line_text.specs.Shown.{words_left}
 use Rattle.line_text.proofs.words.Words.first.Goals as goal
