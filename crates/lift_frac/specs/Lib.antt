@@ -6,3 +6,4 @@ pub mod Limits
 pub mod Literal
 pub mod Parts
 pub mod Ratio
+pub mod Written
