@@ -19,8 +19,8 @@ middle_is low high m h e = omega (arith, ints)
 between : (low high : ℤ) → (low +ℤ pos 2) ≤ℤ high → (low <ℤ middle (low, high)) × (middle (low, high) <ℤ high)
 between low high h = (omega (arith, ints), omega (arith, ints))
 
-within : (low high : ℤ) → low <ℤ high → (low ≤ℤ middle (low, high)) × (middle (low, high) ≤ℤ high)
-within low high h = (omega (arith, ints), omega (arith, ints))
+pub middle_within : (low high : ℤ) → low <ℤ high → (low ≤ℤ middle (low, high)) × (middle (low, high) ≤ℤ high)
+middle_within low high h = (omega (arith, ints), omega (arith, ints))
 
 small_middle : (low high m : ℤ) (n : ℕ) → low <ℤ m → m <ℤ high → unsigned_abs low < n → unsigned_abs high < n → unsigned_abs m < n
 small_middle low high m n h k a b = omega (arith, ints)
@@ -170,7 +170,7 @@ lower_inside d axis [] spans v h = h
 lower_inside d zero (s ∷ ss) spans [] h = absurd h
 lower_inside d (suc axis) (s ∷ ss) spans [] h = absurd h
 lower_inside d zero (s ∷ ss) spans (x ∷ v) h =
-    let most = times (middle s) s.1 x.1 h.0 (within s.0 s.1 spans.0.rising).1 in
+    let most = times (middle s) s.1 x.1 h.0 (middle_within s.0 s.1 spans.0.rising).1 in
     (h.0, h.1, omega (arith, linear, h.2, most), h.3)
 lower_inside d (suc axis) (s ∷ ss) spans (x ∷ v) h = (h.0, h.1, h.2, lower_inside d axis ss spans.1 v h.3)
 
@@ -179,7 +179,7 @@ upper_inside d axis [] spans v h = h
 upper_inside d zero (s ∷ ss) spans [] h = absurd h
 upper_inside d (suc axis) (s ∷ ss) spans [] h = absurd h
 upper_inside d zero (s ∷ ss) spans (x ∷ v) h =
-    let least = times s.0 (middle s) x.1 h.0 (within s.0 s.1 spans.0.rising).0 in
+    let least = times s.0 (middle s) x.1 h.0 (middle_within s.0 s.1 spans.0.rising).0 in
     (h.0, omega (arith, linear, h.1, least), h.2, h.3)
 upper_inside d (suc axis) (s ∷ ss) spans (x ∷ v) h = (h.0, h.1, h.2, upper_inside d axis ss spans.1 v h.3)
 

@@ -8,4 +8,5 @@ pub mod Spans
 pub mod Axis
 pub mod Writes
 pub mod Halves
+pub mod Tiling
 mod Samples

@@ -1,11 +1,11 @@
 -- What holds of grids, of regions and of halves, for who reasons about them.
-use Rattle.std.specs.Prelude.{◌≡◌, Ok, ◌+◌, ◌*◌, ◌^◌, ◌<◌, ℕ, List, [], ◌∷◌, ℤ, pos, ◌+ℤ◌, ◌*ℤ◌, ◌<ℤ◌, unsigned_abs, length, IsBitSet, slice_index_or, All}
+use Rattle.std.specs.Prelude.{◌≡◌, Ok, ◌+◌, ◌*◌, ◌^◌, ◌<◌, ℕ, List, [], ◌∷◌, ℤ, pos, ◌+ℤ◌, ◌*ℤ◌, ◌<ℤ◌, unsigned_abs, length, map, IsBitSet, slice_index_or, All}
 use Rattle.std.specs.Int.{◌∣◌}
 use Rattle.lift_frac.specs.Ratio.{Ratio}
 use Rattle.lift_grid.specs.Rectangle.{Spans, AreSpans, AreSides, IsOnGrid, end_of, sides_of, spans_of}
 use Rattle.lift_grid.specs.Region.{Region, region, Interval, Divides, common_denominator, number_over}
 use Rattle.lift_grid.specs.Splitting.{IsHalvable, HasHalvings}
-use Rattle.lift_grid.specs.Tree.{Tiles, middle, lower_half, upper_half}
+use Rattle.lift_grid.specs.Tree.{Tree, HalvesSpans, Tiles, leaves, middle, lower_half, upper_half}
 
 -- a fraction's number over a grid is worth the fraction, where its denominator divides d
 abbrev pub NumbersAreExact : Type 0
@@ -65,3 +65,7 @@ HalvesKeepCount = (axis : ℕ) (ss : Spans) → (length (lower_half axis ss) ≡
 -- the two halves tile the rectangle, whatever the grid's number is
 abbrev pub HalvesTile : Type 0
 HalvesTile = (d : ℤ) (axis : ℕ) (ss : Spans) → AreSpans ss → axis < length ss → Tiles d ss (lower_half axis ss ∷ upper_half axis ss ∷ [])
+
+-- the leaves of a tree tile its rectangle, where each of its splits halves a span
+abbrev pub TreesTile : Type 0
+TreesTile = (d : ℤ) (ss : Spans) (depth : ℕ) (t : Tree) → HalvesSpans ss t → Tiles d ss (map (λ leaf. leaf.spans) (leaves ss depth t))

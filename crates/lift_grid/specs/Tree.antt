@@ -1,8 +1,8 @@
 -- Trees of rectangles: how a rectangle is halved, which leaves a tree has, and when rectangles tile a root.
-use Rattle.std.specs.Prelude.{◌+◌, ◌/◌, ℕ, zero, suc, List, [], ◌∷◌, ◌++◌, ℤ, pos, ◌+ℤ◌, ◌-ℤ◌, ◌≤ℤ◌, ◌⊎◌, All, Any, unsigned_abs}
+use Rattle.std.specs.Prelude.{◌+◌, ◌/◌, ◌<◌, ⊤, ℕ, zero, suc, List, [], ◌∷◌, ◌++◌, ℤ, pos, ◌+ℤ◌, ◌-ℤ◌, ◌≤ℤ◌, ◌⊎◌, All, Any, length, unsigned_abs}
 use Rattle.std.specs.List.{AllPairs}
 use Rattle.lift_poly.specs.Polynomial.{Valuation}
-use Rattle.lift_grid.specs.Rectangle.{Spans, Inside}
+use Rattle.lift_grid.specs.Rectangle.{Spans, AreSpans, Inside}
 
 -- What a rejecting certificate consists of: for each state a number, the choice that it picks and its rank, and the numbers e and k, from which its rate follows.
 pub record RejectData : Type 0 where
@@ -47,6 +47,11 @@ leaves ss depth (split axis lower upper) = leaves (lower_half axis ss) (depth + 
 leaves ss depth (accept u x) = record { spans = ss; depth = depth; node = accept u x } ∷ []
 leaves ss depth (reject u r) = record { spans = ss; depth = depth; node = reject u r } ∷ []
 leaves ss depth unknown = record { spans = ss; depth = depth; node = unknown } ∷ []
+
+-- each split of a tree over a rectangle halves a span of it
+abbrev pub HalvesSpans : Spans → Tree → Type 0
+HalvesSpans ss (split axis lower upper) = AreSpans ss × (axis < length ss) × HalvesSpans (lower_half axis ss) lower × HalvesSpans (upper_half axis ss) upper
+HalvesSpans ss _ = ⊤
 
 -- some parameter's span of the one ends at or before the place where that of the other begins
 abbrev pub Apart : Spans → Spans → Type 0

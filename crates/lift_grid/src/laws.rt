@@ -13,6 +13,7 @@ ghost use Rattle.lift_grid.specs.Laws.{
   SidesOfSpans,
   SpansAreHalvable,
   SpansOfSides,
+  TreesTile,
 };
 
 use lift_frac::{divisors_and_multiples, fractions_follow};
@@ -58,7 +59,8 @@ pub fn halves_stay_on_grid()
     ensures count { HalvesKeepCount }
 {}
 
-/// The two halves of a rectangle tile it.
-pub fn halves_tile()
-    ensures { HalvesTile }
+/// The two halves of a rectangle tile it, and so do the leaves of a tree of halves.
+pub fn trees_tile()
+    ensures halves { HalvesTile }
+    ensures leaves { TreesTile }
 {}

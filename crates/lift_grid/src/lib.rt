@@ -17,8 +17,8 @@ pub use corner::corner_side;
 pub use error::RegionError;
 pub use halving::{narrow, split_axis};
 pub use laws::{
-    denominators_divide, halves_stay_on_grid, halves_tile, members_are_below, numbers_are_exact,
-    regions_are_on_grid, rows_are_rectangles,
+    denominators_divide, halves_stay_on_grid, members_are_below, numbers_are_exact,
+    regions_are_on_grid, rows_are_rectangles, trees_tile,
 };
 pub use lists::{Marks, Values};
 pub use rect::{Grid, Rect};

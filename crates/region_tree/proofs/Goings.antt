@@ -5,7 +5,7 @@ use Rattle.lift_model.specs.Links.{LinksData, AreLinks}
 use Rattle.lift_model.specs.Model.{ModelData}
 use Rattle.corner_lift.specs.Case.{CaseData, IsCase}
 use Rattle.region_tree.specs.Decided.{CanDecide}
-use Rattle.region_tree.specs.Rooms.{RoomData, HasLanes, IsSameShape, KeepsShape, IsPlaced, IsMadeFor, IsAsMade, StepsDown, room_at_root, room_with_half, room_without_last}
+use Rattle.region_tree.specs.Rooms.{RoomData, HasLanes, IsSameShape, KeepsShape, StandsAtDepth, IsMadeFor, IsAsMade, StepsDown, room_at_root, room_with_half, room_without_last}
 use Rattle.region_tree.proofs.Lanes.{root_ends}
 
 module _ {T : Type 0} where
@@ -39,10 +39,10 @@ lanes_kept m l a b h g = record {
 }
 
 -- where a walk stands hangs on the sides alone
-pub placed_as : (k : CaseData) (depth : ℕ) (a b : RoomData) → b.sides ≡ a.sides → IsPlaced k depth a → IsPlaced k depth b
+pub placed_as : (k : CaseData) (depth : ℕ) (a b : RoomData) → b.sides ≡ a.sides → StandsAtDepth k depth a → StandsAtDepth k depth b
 placed_as k depth a b same h = rw same (record { some = h.some; sides = h.sides; at_depth = h.at_depth; words = h.words; depths = h.depths })
 
-pub can_decide : (k : CaseData) (l : LinksData) (depth : ℕ) (room : RoomData) → AreLinks k.model l → HasLanes k.model l room → IsPlaced k depth room → CanDecide k l room
+pub can_decide : (k : CaseData) (l : LinksData) (depth : ℕ) (room : RoomData) → AreLinks k.model l → HasLanes k.model l room → StandsAtDepth k depth room → CanDecide k l room
 can_decide k l depth room links lanes h = record {
   links = links;
   lanes = lanes;

@@ -11,7 +11,7 @@ use Rattle.corner_lift.specs.Case.{CaseData, IsCase, greatest_depth}
 use Rattle.corner_lift.specs.Laws.{LiveHasSpan}
 use Rattle.region_tree.specs.Laws.{RootIsAtDepth, HalvesAreDeeper}
 use Rattle.region_tree.specs.Right.{IsAtDepth}
-use Rattle.region_tree.specs.Rooms.{RoomData, IsMadeFor, IsPlaced, StepsDown, half_of, last_sides, room_at_root, room_with_half}
+use Rattle.region_tree.specs.Rooms.{RoomData, IsMadeFor, StandsAtDepth, StepsDown, half_of, last_sides, room_at_root, room_with_half}
 use Rattle.region_tree.proofs.Lanes.{length-sides, root_ends}
 
 module _ {T : Type 0} where
@@ -63,7 +63,7 @@ half-length : HalvesKeepCount → (lower : Bool) (axis : ℕ) (old : List ℤ) �
 half-length keep lower axis old paired =
     length-sides (half_of lower axis (spans_of old)) ∙ ap (λ n. 2 * n) (half-count keep lower axis (spans_of old)) ∙ sym (length-sides (spans_of old)) ∙ ap length paired
 
-pub at_root : RootIsAtDepth → SpansOfSides → SidesOfSpans → (k : CaseData) (l : LinksData) (room : RoomData) → IsCase k → IsMadeFor k l room → IsPlaced k 0 (room_at_root k room)
+pub at_root : RootIsAtDepth → SpansOfSides → SidesOfSpans → (k : CaseData) (l : LinksData) (room : RoomData) → IsCase k → IsMadeFor k l room → StandsAtDepth k 0 (room_at_root k room)
 at_root root spans sides k l room is made = record {
   some = omega arith;
   sides = sides k.root is.asked.spans;
@@ -72,7 +72,7 @@ at_root root spans sides k l room is made = record {
   depths = omega (arith, made.depths);
 }
 
-pub step_down : HalvesAreDeeper → HalvesKeepCount → SpansAreHalvable → LiveHasSpan → SpansOfSides → SidesOfSpans → TakesCanBeUndone ℤ → (k : CaseData) (room : RoomData) (depth axis : ℕ) (lower : Bool) → IsCase k → IsPlaced k depth room → depth < greatest_depth k → IsSplitAxis (live k.model) (spans_of (last_sides room)) axis → StepsDown k depth axis lower room
+pub step_down : HalvesAreDeeper → HalvesKeepCount → SpansAreHalvable → LiveHasSpan → SpansOfSides → SidesOfSpans → TakesCanBeUndone ℤ → (k : CaseData) (room : RoomData) (depth axis : ℕ) (lower : Bool) → IsCase k → StandsAtDepth k depth room → depth < greatest_depth k → IsSplitAxis (live k.model) (spans_of (last_sides room)) axis → StepsDown k depth axis lower room
 step_down deeper keep halvable live_spans spans sides undone k room depth axis lower is at more axis_is =
     let old = last_sides room in
     let ss = spans_of old in

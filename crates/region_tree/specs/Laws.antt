@@ -14,7 +14,7 @@ use Rattle.lift_cert.specs.declared.bound.Bound.{Bound}
 use Rattle.lift_model.specs.Links.{LinksData}
 use Rattle.region_tree.specs.Nodes.{Node}
 use Rattle.region_tree.specs.Right.{IsRightTree, IsAtDepth}
-use Rattle.region_tree.specs.Rooms.{RoomData, IsMadeFor, IsPlaced, StepsDown, last_sides, room_at_root}
+use Rattle.region_tree.specs.Rooms.{RoomData, IsMadeFor, StandsAtDepth, StepsDown, last_sides, room_at_root}
 use Rattle.region_tree.specs.Visits.{Walks, entries}
 use Rattle.region_tree.specs.declared.visitor.Seen.{Seen}
 
@@ -51,11 +51,11 @@ HalvesAreDeeper = (k : CaseData) (spans : Spans) (depth axis : ℕ) → IsCase k
 
 -- a room that is made for a case, with the root's sides in its lane of sides, stands at depth 0
 abbrev pub WalksBeginAtRoot : Type 0
-WalksBeginAtRoot = (k : CaseData) (l : LinksData) (room : RoomData) → IsCase k → IsMadeFor k l room → IsPlaced k 0 (room_at_root k room)
+WalksBeginAtRoot = (k : CaseData) (l : LinksData) (room : RoomData) → IsCase k → IsMadeFor k l room → StandsAtDepth k 0 (room_at_root k room)
 
 -- while a halving is left, a walk can step down to both halves on the axis of the split rule
 abbrev pub WalksStepDown : Type 0
-WalksStepDown = (k : CaseData) (room : RoomData) (depth axis : ℕ) (lower : Bool) → IsCase k → IsPlaced k depth room → depth < greatest_depth k → IsSplitAxis (live k.model) (spans_of (last_sides room)) axis
+WalksStepDown = (k : CaseData) (room : RoomData) (depth axis : ℕ) (lower : Bool) → IsCase k → StandsAtDepth k depth room → depth < greatest_depth k → IsSplitAxis (live k.model) (spans_of (last_sides room)) axis
     → StepsDown k depth axis lower room
 
 -- ---- walks

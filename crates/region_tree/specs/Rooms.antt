@@ -1,10 +1,10 @@
 -- The room of a walk: the pools that it works in, when they are made for a case, and what is left of them on the way from the root.
-use Rattle.std.specs.Prelude.{◌≡◌, ℕ, ◌+◌, ◌-◌, ◌*◌, ◌≤◌, ◌<◌, Bool, List, [], ◌∷◌, ℤ, map, length, sum_by, if◌then◌else◌}
+use Rattle.std.specs.Prelude.{◌≡◌, ℕ, ◌+◌, ◌-◌, ◌*◌, ◌≤◌, ◌<◌, Bool, List, [], ◌∷◌, ℤ, map, length, if◌then◌else◌}
 use Rattle.lift_pool.specs.Lanes.{PoolData, last_lane, pool_with, pool_without_last}
 use Rattle.lift_grid.specs.Rectangle.{Spans, AreSides, sides_of, spans_of}
 use Rattle.lift_grid.specs.Splitting.{IsHalvable}
 use Rattle.lift_grid.specs.Tree.{lower_half, upper_half}
-use Rattle.lift_model.specs.Model.{ModelData}
+use Rattle.lift_model.specs.Model.{ModelData, row_count}
 use Rattle.lift_model.specs.Links.{LinksData}
 use Rattle.corner_lift.specs.Case.{CaseData, greatest_depth}
 use Rattle.region_tree.specs.Right.{IsAtDepth}
@@ -22,10 +22,6 @@ pub record RoomData : Type 0 where
 -- the pool has one lane, of so many words
 abbrev pub HasLane : {T : Type 0} → PoolData T → ℕ → Type 0
 HasLane p n = map length p.lanes ≡ n ∷ []
-
--- how many rows the model has
-abbrev pub row_count : ModelData → ℕ
-row_count m = sum_by length m.states
 
 -- how many ends a rectangle of the case has: two for each declared parameter
 abbrev pub end_count : CaseData → ℕ
@@ -78,7 +74,7 @@ abbrev pub half_of : Bool → ℕ → Spans → Spans
 half_of lower axis spans = if lower then lower_half axis spans else upper_half axis spans
 
 -- A walk stands at a depth: the last lane of sides holds a rectangle of that depth, and a lane more can be taken for each halving that is left.
-pub record IsPlaced (k : CaseData) (depth : ℕ) (room : RoomData) : Type 0 where
+pub record StandsAtDepth (k : CaseData) (depth : ℕ) (room : RoomData) : Type 0 where
   pub some : 0 < length room.sides.lanes
   pub sides : AreSides (last_sides room)
   pub at_depth : IsAtDepth k depth (spans_of (last_sides room))
@@ -108,6 +104,6 @@ room_at_root k room = record room { sides = record room.sides { lanes = sides_of
 -- A half can be taken, the walk then stands one deeper, at that half, and giving it back leaves the room as it was.
 pub record StepsDown (k : CaseData) (depth axis : ℕ) (lower : Bool) (room : RoomData) : Type 0 where
   pub can : CanHalve axis room
-  pub placed : IsPlaced k (depth + 1) (room_with_half lower axis room)
+  pub placed : StandsAtDepth k (depth + 1) (room_with_half lower axis room)
   pub half : spans_of (last_sides (room_with_half lower axis room)) ≡ half_of lower axis (spans_of (last_sides room))
   pub back : room_without_last (room_with_half lower axis room) ≡ room

@@ -8,6 +8,7 @@ use Rattle.lift_grid.specs.Rectangle.{Spans}
 use Rattle.lift_grid.specs.Tree.{Tree, RejectData}
 use Rattle.lift_model.specs.Valid.{most_states}
 use Rattle.corner_lift.specs.Case.{CaseData, most_precision}
+use Rattle.corner_lift.specs.Certificate.{most_rate}
 use Rattle.lift_cert.specs.declared.bound.Bound.{Bound}
 use Rattle.region_tree.specs.Nodes.{Node, nodes}
 use Rattle.region_tree.specs.Right.{IsRight}
@@ -24,7 +25,7 @@ pub record IsShown (states : ℕ) (r : RejectData) : Type 0 where
   pub numbers : AreShown states r.numbers
   pub picks : length r.picks ≡ states
   pub ranks : length r.ranks ≡ states
-  pub e : r.e ≤ 126
+  pub e : r.e ≤ most_rate
   pub k : (1 ≤ r.k) × (r.k ≤ most_states)
 
 -- the bytes were appended where the node was kept, and else a part of them, from their front

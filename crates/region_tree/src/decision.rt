@@ -2,12 +2,13 @@
 ghost use Rattle.std.specs.Prelude.{◌≡◌, ◌*◌, ◌<◌, ◌≤◌, ◌+ℤ◌, pos, length, IsTrue, IsFalse, IsNone, IfSome};
 ghost use Rattle.lift_grid.specs.Rectangle.{Spans, spans_of};
 ghost use Rattle.lift_model.specs.Links.{AreLinks};
+ghost use Rattle.lift_model.specs.Model.{row_count};
 ghost use Rattle.lift_cert.specs.Certificate.{IsBeyond, IsWithin, NoneAccepts};
 ghost use Rattle.corner_lift.specs.Case.{AreSidesInside, most_precision};
 ghost use Rattle.corner_lift.specs.Table.{IsTable};
 ghost use Rattle.region_tree.specs.Decided.{CanDecide, IsDecided, IsDecidedBy, IsGreatestBeyond, lane, reject_of};
 ghost use Rattle.region_tree.specs.Right.{IsAccepted, NoneRejects};
-ghost use Rattle.region_tree.specs.Rooms.{HasLane, IsSameShape, KeepsShape, last_sides, row_count};
+ghost use Rattle.region_tree.specs.Rooms.{HasLane, IsSameShape, KeepsShape, last_sides};
 
 use crate::room::Room;
 use crate::verdict::Verdict;

@@ -15,7 +15,7 @@ ghost use Rattle.region_tree.specs.Laws.{
 
 use crate::visitor::Visitor;
 use corner_lift::{halves_are_inside, live_parameters_have_spans, rows_at_corners, rows_inside};
-use lift_grid::{halves_stay_on_grid, halves_tile, rows_are_rectangles};
+use lift_grid::{halves_stay_on_grid, rows_are_rectangles, trees_tile};
 use lift_pool::lanes_stand_alone;
 
 /// What a decided leaf holds and where a rectangle is halved is one: a rectangle has at most one least
@@ -53,9 +53,8 @@ pub fn right_trees_tile()
     ensures { RightTreesTile }
 {
     rectangles_at_depths();
-    halves_are_inside();
-    halves_tile();
     live_parameters_have_spans();
+    trees_tile();
 }
 
 /// A walk begins at the root in a room that is made for the case, and steps down to both halves of a

@@ -2,13 +2,13 @@ ghost use Rattle.std.specs.Prelude.{◌≡◌, ◌<◌, ◌*◌, ◌≤◌, [], 
 ghost use Rattle.std.specs.Prelude.{slice_index_or};
 ghost use Rattle.lift_grid.specs.Rectangle.{sides_of};
 ghost use Rattle.lift_model.specs.Links.{AreLinks};
+ghost use Rattle.lift_model.specs.Model.{row_count};
 ghost use Rattle.corner_lift.specs.Case.{greatest_depth};
 ghost use Rattle.region_tree.specs.Rooms.{
   HasLane,
   IsMadeFor,
   end_count,
   last_sides,
-  row_count,
 };
 
 use corner_lift::Case;

@@ -7,7 +7,7 @@ ghost use Rattle.corner_lift.specs.Case.{IsCase, greatest_depth};
 ghost use Rattle.region_tree.specs.Built.{tree_at};
 ghost use Rattle.region_tree.specs.Decided.{IsDecided};
 ghost use Rattle.region_tree.specs.Right.{IsRight, IsRightTree};
-ghost use Rattle.region_tree.specs.Rooms.{HasLanes, IsPlaced, KeepsShape, last_sides};
+ghost use Rattle.region_tree.specs.Rooms.{HasLanes, KeepsShape, StandsAtDepth, last_sides};
 ghost use Rattle.region_tree.specs.declared.verdict.Verdict.TheVariants.{Unknown};
 
 use crate::decision::decide;
@@ -116,7 +116,7 @@ fn build_at(
     requires greatest { greatest ≡ greatest_depth case.now }
     requires depth { depth ≤ greatest }
     requires lanes { HasLanes case.now.model links.now room.old }
-    requires placed { IsPlaced case.now depth room.old }
+    requires placed { StandsAtDepth case.now depth room.old }
     ensures right { IfOk result (λ b. IsRight case.now (spans_of (last_sides room.old)) bound depth
         (tree_at case.now.w b)) }
     ensures sides { room.new.sides ≡ room.old.sides }

@@ -9,8 +9,8 @@ ghost use Rattle.region_tree.specs.Rooms.{
   HasLanes,
   IsAsMade,
   IsMadeFor,
-  IsPlaced,
   KeepsShape,
+  StandsAtDepth,
   StepsDown,
   last_sides,
 };
@@ -48,7 +48,7 @@ fn is_failed(seen: Seen) -> bool
 /// The axis on which the last rectangle of a room is halved.
 pub(crate) fn axis_of(case: &Case, depth: u32, room: &Room) -> u32
     requires case { IsCase case.now }
-    requires placed { IsPlaced case.now depth room.now }
+    requires placed { StandsAtDepth case.now depth room.now }
     requires left { depth < greatest_depth case.now }
     ensures axis { IsSplitAxis (live case.now.model) (spans_of (last_sides room.now)) result }
 {
@@ -74,7 +74,7 @@ fn walk_at<V: Visitor>(
     requires greatest { greatest ≡ greatest_depth case.now }
     requires depth { depth ≤ greatest }
     requires lanes { HasLanes case.now.model links.now room.old }
-    requires placed { IsPlaced case.now depth room.old }
+    requires placed { StandsAtDepth case.now depth room.old }
     requires states { V.states visitor.old ≡ length case.now.model.states }
     ensures walks { Walks case.now (spans_of (last_sides room.old)) bound depth
         V.taken V.faults (V.entry visitor.old) visitor.old visitor.new result }

@@ -1,5 +1,6 @@
 use Rattle.std.proofs.Common.{rules, ◌≡◌, ◌*◌, length, SFits, w64, to_z, of_z, to_z-of_z, arith}
-use Rattle.region_tree.specs.Rooms.{HasLane, row_count}
+use Rattle.lift_model.specs.Model.{row_count}
+use Rattle.region_tree.specs.Rooms.{HasLane}
 use Rattle.region_tree.proofs.Verdicts.{one_lane, one_length, same_shape, greatest_beyond, none_rejects}
 use Rattle.region_tree.proofs.decision.find_rejecting.Goals as goal
 

@@ -6,7 +6,7 @@ use Rattle.lift_model.specs.Model.{live}
 use Rattle.corner_lift.specs.Case.{greatest_depth}
 use Rattle.region_tree.specs.Built.{tree_at}
 use Rattle.region_tree.specs.Right.{IsOpen, IsHalved}
-use Rattle.region_tree.specs.Rooms.{IsPlaced, half_of, last_sides}
+use Rattle.region_tree.specs.Rooms.{StandsAtDepth, half_of, last_sides}
 use Rattle.region_tree.proofs.Goings.{placed_as, lanes_kept, half_lanes, back_lanes, gone_back}
 use Rattle.region_tree.proofs.Joining.{halves_right}
 use Rattle.region_tree.proofs.tree.+build_at.Goals as goal
@@ -38,7 +38,7 @@ build_at-lower-requires t c =
     let axis_is : IsSplitAxis (live k.model) (spans_of (last_sides here)) axis = c.axis_of-axis.ensures.axis in
     let lower = c.walks_are_placed.ensures.down k here c.args.depth axis true c.requires.case placed more axis_is in
     let lanes = half_lanes k.model c.args.links.now true axis here c.take_half.new.self c.take_half.ensures (lanes_kept k.model c.args.links.now room here c.decide-verdict.ensures.shape c.requires.lanes) in
-    let stands : IsPlaced k (c.args.depth + 1) c.take_half.new.self = rw c.take_half.ensures lower.placed in
+    let stands : StandsAtDepth k (c.args.depth + 1) c.take_half.new.self = rw c.take_half.ensures lower.placed in
     let next : c.args.depth + 1 ≤ c.args.greatest = omega (arith, more, c.requires.greatest) in
     search rules
 
@@ -80,7 +80,7 @@ build_at-upper-requires t c =
     let still : IsSplitAxis (live k.model) (spans_of (last_sides there)) axis = subst (λ p. IsSplitAxis (live k.model) (spans_of (last_lane p.lanes)) axis) (sym back) axis_is in
     let upper = c.walks_are_placed.ensures.down k there c.args.depth axis false c.requires.case again more still in
     let others = half_lanes k.model c.args.links.now false axis there c.take_half-2.new.self c.take_half-2.ensures (back_lanes k.model c.args.links.now c.build_at-lower.new.room there c.give_half.ensures (lanes_kept k.model c.args.links.now c.take_half.new.self c.build_at-lower.new.room c.build_at-lower.ensures.shape lanes)) in
-    let stands : IsPlaced k (c.args.depth + 1) c.take_half-2.new.self = rw c.take_half-2.ensures upper.placed in
+    let stands : StandsAtDepth k (c.args.depth + 1) c.take_half-2.new.self = rw c.take_half-2.ensures upper.placed in
     let next : c.args.depth + 1 ≤ c.args.greatest = omega (arith, more, c.requires.greatest) in
     search rules
 

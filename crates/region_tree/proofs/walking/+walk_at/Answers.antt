@@ -6,7 +6,7 @@ use Rattle.lift_model.specs.Model.{live}
 use Rattle.corner_lift.specs.Case.{greatest_depth}
 use Rattle.region_tree.specs.Nodes.Node.{split as split-node}
 use Rattle.region_tree.specs.Right.{IsOpen, IsHalved}
-use Rattle.region_tree.specs.Rooms.{IsPlaced, half_of, last_sides}
+use Rattle.region_tree.specs.Rooms.{StandsAtDepth, half_of, last_sides}
 use Rattle.region_tree.specs.Visits.{Visits}
 use Rattle.region_tree.specs.declared.visitor.Seen.TheVariants.{Kept}
 use Rattle.region_tree.proofs.Steps.{split_failed, first_failed, both_walked}
@@ -55,7 +55,7 @@ walk_at-first-requires g t c κs lives =
     let axis_is : IsSplitAxis (live k.model) (spans_of (last_sides here)) axis = c.axis_of-axis.ensures.axis in
     let lower = c.walks_are_placed.ensures.down k here c.args.depth axis true c.requires.case placed more axis_is in
     let lanes = half_lanes k.model c.args.links.now true axis here c.take_half.new.self c.take_half.ensures (lanes_kept k.model c.args.links.now room here c.decide-verdict.ensures.shape c.requires.lanes) in
-    let stands : IsPlaced k (c.args.depth + 1) c.take_half.new.self = rw c.take_half.ensures lower.placed in
+    let stands : StandsAtDepth k (c.args.depth + 1) c.take_half.new.self = rw c.take_half.ensures lower.placed in
     let next : c.args.depth + 1 ≤ c.args.greatest = omega (arith, more, c.requires.greatest) in
     search rules
 
@@ -132,7 +132,7 @@ walk_at-second-requires g t c κs lives =
     let still : IsSplitAxis (live k.model) (spans_of (last_sides there)) axis = subst (λ p. IsSplitAxis (live k.model) (spans_of (last_lane p.lanes)) axis) (sym back) axis_is in
     let upper = c.walks_are_placed.ensures.down k there c.args.depth axis false c.requires.case again more still in
     let others = half_lanes k.model c.args.links.now false axis there c.take_half-2.new.self c.take_half-2.ensures (back_lanes k.model c.args.links.now c.walk_at-first.new.room there c.give_half.ensures (lanes_kept k.model c.args.links.now c.take_half.new.self c.walk_at-first.new.room c.walk_at-first.ensures.shape lanes)) in
-    let stands : IsPlaced k (c.args.depth + 1) c.take_half-2.new.self = rw c.take_half-2.ensures upper.placed in
+    let stands : StandsAtDepth k (c.args.depth + 1) c.take_half-2.new.self = rw c.take_half-2.ensures upper.placed in
     let next : c.args.depth + 1 ≤ c.args.greatest = omega (arith, more, c.requires.greatest) in
     search rules
 

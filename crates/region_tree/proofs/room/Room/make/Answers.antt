@@ -1,6 +1,6 @@
 use Rattle.std.proofs.Common.{◌≡◌, ◌*◌, ◌∷◌, [], length, map, ◌∙◌, ap, pos}
 use Rattle.region_tree.proofs.Lanes.{lane_filled, root_ends}
-use Rattle.region_tree.specs.Rooms.{row_count}
+use Rattle.lift_model.specs.Model.{row_count}
 use Rattle.region_tree.proofs.room.Room.make.Goals as goal
 
 pub returns-clause-made : goal.returns-clause-made
