@@ -15,7 +15,8 @@ use Rattle.lift_model.specs.declared.kind.Kind.TheVariants.{Dtmc, Mdp}
 use Rattle.line_text.specs.declared.error.TextCause.{TextCause}
 use Rattle.line_text.specs.declared.error.TextCause.TheVariants.{Syntax, Version, Limit}
 use Rattle.cert_text.specs.Report.{kind_name, kind_words, version_words, numbers_words, parameters_words, goal_words, goal_states, row_words}
-use Rattle.line_text.specs.Words.{number_of, is_name}
+use Rattle.lift_bytes.specs.Bytes.{is_name}
+use Rattle.line_text.specs.Words.{number_of}
 use Rattle.line_text.specs.Parts.{Words, Read, must, first, count_of, counted, natural, is_above}
 use Rattle.cert_text.specs.Lines.{version_of, kind_of, name_of, names_in, parameters_of, goals_in, flags, goal_of, row_of, terms_in}
 use Rattle.cert_text.proofs.Steps.{Reads, Both, ok_is, reads_ok, reads_must, reads_spelled, reads_first, reads_single, reads_so, reads_pass, reads_test}

@@ -17,7 +17,7 @@ use Rattle.corner_lift.specs.Certificate.{unmarked}
 use Rattle.cert_text.specs.Report.{kind_name, kind_words, version_words, number_words, numbers_words, parameters_words, goal_words, goal_states, row_words, entry_words, term_word, bound_words, box_words, mark_word}
 use Rattle.lift_bytes.specs.Bytes.{begins_name}
 use Rattle.cert_text.specs.Forms.{AreMarks}
-use Rattle.line_text.specs.Words.{is_name}
+use Rattle.lift_bytes.specs.Bytes.{is_name}
 use Rattle.line_text.specs.Reading.{is_feed}
 use Rattle.line_text.specs.Parts.{Words}
 use Rattle.cert_text.specs.Lines.{is_value}

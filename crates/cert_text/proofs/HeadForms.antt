@@ -19,7 +19,7 @@ use Rattle.lift_model.specs.declared.kind.Kind.{Kind}
 use Rattle.lift_model.specs.declared.kind.Kind.TheVariants.{Dtmc}
 use Rattle.lift_model.specs.Valid.{IsEntry, IsRow}
 use Rattle.cert_text.specs.Report.{goal_states}
-use Rattle.line_text.specs.Words.{is_name}
+use Rattle.lift_bytes.specs.Bytes.{is_name}
 use Rattle.cert_text.specs.Head.{HeadData}
 use Rattle.line_text.specs.Parts.{Words}
 use Rattle.cert_text.specs.Lines.{is_multiple}

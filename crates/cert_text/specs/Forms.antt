@@ -9,7 +9,7 @@ use Rattle.corner_lift.specs.Case.{CaseData, IsAsked, most_row_parameters}
 use Rattle.corner_lift.specs.Certificate.{AreNumbers, most_rate, unmarked}
 use Rattle.lift_cert.specs.Bound.{IsBound}
 use Rattle.lift_cert.specs.declared.bound.Bound.{Bound}
-use Rattle.line_text.specs.Words.{is_name}
+use Rattle.lift_bytes.specs.Bytes.{is_name}
 use Rattle.lift_cert.specs.RejectMiss.{most_height}
 use Rattle.cert_text.specs.Lines.{most_terms}
 use Rattle.cert_text.specs.Head.{HeadData}

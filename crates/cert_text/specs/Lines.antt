@@ -18,7 +18,8 @@ use Rattle.corner_lift.specs.Certificate.{most_rate, unmarked}
 use Rattle.lift_cert.specs.declared.bound.Bound.{Bound}
 use Rattle.lift_cert.specs.RejectMiss.{most_height}
 use Rattle.line_text.specs.declared.error.TextCause.TheVariants.{Syntax, Version, Limit}
-use Rattle.line_text.specs.Words.{number_of, pair_of, is_name}
+use Rattle.lift_bytes.specs.Bytes.{is_name}
+use Rattle.line_text.specs.Words.{number_of, pair_of}
 use Rattle.line_text.specs.Reading.{◌>>=◌}
 use Rattle.line_text.specs.Parts.{Words, Read, must, spelled, keyed, first, ended, single, each, counted, numbers_of, between, natural, is_above}
 

@@ -4,15 +4,12 @@ ghost use Rattle.cert_text.specs.Lines.{version_of, kind_named, kind_of, name_of
 ghost use Rattle.line_text.specs.Parts.{each, is_above};
 ghost use Rattle.cert_text.specs.Lines.{count_in, row_of, bound_in, bound_of, goals_in, flags, goal_of, parameters_of, names_in};
 ghost use Rattle.line_text.specs.Parts.{count_of};
-ghost use Rattle.std.specs.List.{list_all};
-ghost use Rattle.lift_bytes.specs.Bytes.{is_name_byte};
 ghost use Rattle.lift_frac.specs.Gcd.{gcd};
-ghost use Rattle.line_text.specs.Words.{is_name};
 ghost use Rattle.line_text.specs.Shown.{Says};
 ghost use Rattle.cert_text.specs.Shown.{comes_first};
 
 use crate::rejected::pair_of;
-use lift_bytes::{begins_name, is_name_byte};
+use lift_bytes::is_name;
 use lift_cert::Bound;
 use lift_frac::gcd;
 use lift_model::Kind;
@@ -230,22 +227,6 @@ pub(crate) fn bound_of(words: &Words) -> Result<Bound, TextCause>
         return Err(TextCause::Syntax);
     };
     bound_in(&num, &den)
-}
-
-fn are_name_bytes(word: &[u8]) -> bool
-    ensures { result ≡ list_all is_name_byte word.now }
-{
-    word.iter().all(|byte| is_name_byte(*byte))
-}
-
-/// Whether the word is a name.
-fn is_name(word: &[u8]) -> bool
-    ensures { result ≡ is_name word.now }
-{
-    match word {
-        [] => false,
-        [first, rest @ ..] => begins_name(*first) && are_name_bytes(rest),
-    }
 }
 
 /// The names that words write.

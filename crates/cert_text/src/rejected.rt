@@ -7,7 +7,8 @@ ghost use Rattle.cert_text.specs.Lines.{named, reject_of};
 ghost use Rattle.line_text.specs.Shown.{Says};
 ghost use Rattle.cert_text.specs.Leaf.{rejected_of};
 
-use line_text::{Decimal, TextCause, Words, between, len_before};
+use lift_bytes::len_before;
+use line_text::{Decimal, TextCause, Words, between};
 
 /// What the first line of a rejecting leaf tells: its rate, and the number of the initial state as a
 /// fraction of two numbers.

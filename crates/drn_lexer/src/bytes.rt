@@ -1,5 +1,4 @@
-ghost use Rattle.std.specs.Prelude.{◌≡◌, ◌≤◌, ◌==◌, length};
-ghost use Rattle.std.specs.List.{position_or_len};
+ghost use Rattle.std.specs.Prelude.{◌≡◌};
 ghost use Rattle.drn_lexer.specs.Bytes.{is_text_byte};
 ghost use Rattle.drn_lexer.specs.Spans.{LiesIn, IsOn};
 ghost use Rattle.drn_lexer.specs.Steps.{IsBehindBlanks};
@@ -12,19 +11,6 @@ pub(crate) fn is_text_byte(byte: u8) -> bool
     ensures { result ≡ is_text_byte byte }
 {
     byte == b'\t' || (b' '..=b'~').contains(&byte)
-}
-
-/// How many bytes stand before the first one that is `end`; all of them where there is none.
-pub(crate) fn len_before(text: &[u8], end: u8) -> usize
-    ensures within { result ≤ length text.now }
-    ensures len { result ≡ position_or_len (λ b. b == end) text.now }
-{
-    for (i, byte) in text.iter().enumerate() {
-        if *byte == end {
-            return i;
-        }
-    }
-    text.len()
 }
 
 /// What stands on a line from a place on, without the blanks at its front, and where it begins.

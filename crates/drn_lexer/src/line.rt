@@ -8,9 +8,9 @@ ghost use Rattle.drn_lexer.specs.Lines.{place_behind, place_after};
 ghost use Rattle.drn_lexer.specs.Steps.{text_line, IsAtEnd, IsFirstLine, judged};
 ghost use Rattle.drn_lexer.specs.Spans.{LiesIn, IsNextLine};
 
-use crate::bytes::{is_text_byte, len_before};
+use crate::bytes::is_text_byte;
 use crate::error::LexError;
-use lift_bytes::{blanks_len, trimmed};
+use lift_bytes::{blanks_len, len_before, trimmed};
 
 /// The most bytes of a line without its line feed: `line_limit` in the definitions.
 const LINE_LIMIT: usize = 1 << 20;

@@ -7,10 +7,10 @@ ghost use Rattle.drn_lexer.specs.Spans.{LiesIn, IsOn, first_word, IsNextWord};
 ghost use Rattle.drn_lexer.specs.Steps.{FrontIs};
 ghost use Rattle.drn_lexer.specs.Words.{words, word_front, begins_open_quote, unquoted};
 
-use crate::bytes::{behind_blanks, len_before};
+use crate::bytes::behind_blanks;
 use crate::error::LexError;
 use crate::line::Line;
-use lift_bytes::is_blank;
+use lift_bytes::{is_blank, len_before};
 
 /// What a word is.
 #[derive(Clone, Copy, Debug, PartialEq, Eq)]

@@ -19,7 +19,8 @@ use Rattle.drn_expr.specs.declared.error.ExprError.{ExprError}
 use Rattle.lift_poly.specs.Arithmetic.{support}
 use Rattle.drn_read.specs.Laws.{IsShortName}
 use Rattle.drn_read.specs.Faults.{when, first_of, fault_of, valued}
-use Rattle.drn_read.specs.Text.{most_value_parameters, with_few_parameters, value_of, is_name}
+use Rattle.lift_bytes.specs.Bytes.{is_name}
+use Rattle.drn_read.specs.Text.{most_value_parameters, with_few_parameters, value_of}
 use Rattle.drn_read.specs.Sections.{Header, Placeholder, is_head, section_of, placeholder_name, placeholder_value, placeholder}
 use Rattle.drn_read.specs.Judging.{name_fault, names_fault, count_fault, placeholder_fault, head_fault, header_fault, headed, unless_blank, new_name_fault, most_placeholders, placeholder_name_fault, nameless_fault}
 use Rattle.drn_read.specs.Keeping.{with_section, with_head, headed_with, with_names, with_state_count, with_choice_count, with_placeholder, unless_blank_with, header_with}

@@ -16,7 +16,8 @@ use Rattle.drn_lexer.specs.Words.{WordKind, words}
 use Rattle.drn_lexer.specs.declared.word.WordForm.TheVariants as word
 use Rattle.drn_read.specs.Faults.{when, first_of, word_fault, fault_of, lexed, told}
 use Rattle.drn_read.specs.Parts.{last, is_empty}
-use Rattle.drn_read.specs.Text.{most_digits, is_digits, is_name}
+use Rattle.lift_bytes.specs.Bytes.{is_name}
+use Rattle.drn_read.specs.Text.{most_digits, is_digits}
 use Rattle.drn_read.specs.Sections.{Header, Placeholder, section_of, is_same, is_head, kind_of, type_text, placeholder_name, placeholder_value}
 use Rattle.drn_read.specs.States.{StateText, is_transition, target_text, target_of, entry_value}
 use Rattle.drn_read.specs.declared.error.DrnCause.{DrnCause}

@@ -5,7 +5,8 @@ use Rattle.lift_model.specs.declared.entry.Entry.{Entry}
 use Rattle.lift_model.specs.Model.{ModelData}
 use Rattle.lift_model.specs.Valid.{most_name_bytes, IsModel}
 use Rattle.drn_lexer.specs.Lines.{TextLine, is_comment}
-use Rattle.drn_read.specs.Text.{most_value_parameters, is_name}
+use Rattle.lift_bytes.specs.Bytes.{is_name}
+use Rattle.drn_read.specs.Text.{most_value_parameters}
 use Rattle.drn_read.specs.Judging.{line_fault}
 use Rattle.drn_read.specs.Keeping.{with_line}
 use Rattle.drn_read.specs.Reading.{said, drn}

@@ -4,7 +4,7 @@ use Rattle.std.specs.Prelude.{ℕ, Bool, List, ◌==◌, ◌&&◌, not, nat_lt, 
 use Rattle.std.specs.List.{list_all}
 use Rattle.std.specs.Char.{is_ascii_digit}
 use Rattle.lift_poly.specs.Arithmetic.{support}
-use Rattle.lift_bytes.specs.Bytes.{is_blank, begins_name, is_name_byte, first_passes, behind}
+use Rattle.lift_bytes.specs.Bytes.{is_blank, first_passes, behind}
 use Rattle.drn_expr.specs.Values.{reading}
 use Rattle.drn_expr.specs.RatPolys.{OverOne}
 use Rattle.drn_read.specs.Faults.{valued}
@@ -22,10 +22,6 @@ most_value_parameters = 4
 -- one or more digits
 abbrev pub is_digits : List ℕ → Bool
 is_digits word = list_all is_ascii_digit word && not (length word == 0)
-
--- a name: a letter or `_`, followed by letters, digits and `_`
-abbrev pub is_name : List ℕ → Bool
-is_name word = first_passes begins_name word && list_all is_name_byte word
 
 -- what stands behind a colon, around which blanks are free; none without a colon
 abbrev pub behind_colon : List ℕ → Option (List ℕ)

@@ -17,10 +17,11 @@ use crate::digits::{MOST_DIGITS, number_of};
 use crate::error::DrnCause;
 use crate::front::TransitionFront;
 use crate::placeholders::Placeholders;
-use crate::text::{behind_colon, digits_len};
+use crate::text::behind_colon;
 use crate::value::value_of;
 use drn_expr::RatPoly;
 use drn_lexer::SymbolForm;
+use lift_bytes::digits_len;
 use lift_names::Names;
 use std::alloc::Global;
 

@@ -9,7 +9,7 @@ ghost use Rattle.drn_read.specs.Shown.{Tells, left, piece};
 
 use crate::cursor::{Cursor, LineWord};
 use crate::error::DrnCause;
-use crate::text::is_name;
+use lift_bytes::is_name;
 use lift_names::Names;
 use std::alloc::AllocError;
 

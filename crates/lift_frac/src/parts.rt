@@ -7,6 +7,8 @@ ghost use Rattle.lift_frac.specs.Literal.{decimals_at};
 ghost use Rattle.lift_frac.specs.Literal.{sign_at, exponent_at, literal_at, is_literal};
 ghost use Rattle.lift_frac.specs.Parts.{literal_of, AreDigits};
 
+use lift_bytes::digits_len;
+
 /// The parts of a literal, each a piece of its text. What isn't written is empty.
 #[derive(Clone, Copy)]
 pub(crate) struct Parts<'a> {
@@ -23,19 +25,6 @@ fn begins_digit(text: &[u8]) -> bool
         [first, ..] => first.is_ascii_digit(),
         [] => false,
     }
-}
-
-/// How many digits stand at the front.
-fn digits_len(text: &[u8]) -> usize
-    ensures within { result ≤ length text.now }
-    ensures len { result ≡ prefix_len is_ascii_digit text.now }
-{
-    for (i, byte) in text.iter().enumerate() {
-        if !byte.is_ascii_digit() {
-            return i;
-        }
-    }
-    text.len()
 }
 
 /// The digits at the front, and what stands behind them.

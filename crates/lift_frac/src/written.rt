@@ -16,6 +16,7 @@ pub fn cut_at(text: &str, mark: char) -> Option<(&str, &str)>
     text.split_once(mark)
 }
 
+/// One number over another, of which either may be missing.
 fn divided(above: Result<Frac, FracError>, below: Result<Frac, FracError>) -> Option<Frac>
     ensures { option_map ratio_of result ≡ divided (answer_of above) (answer_of below) }
 {

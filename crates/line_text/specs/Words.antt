@@ -5,7 +5,6 @@ use Rattle.std.specs.Option.{option_map, option_zip}
 use Rattle.std.specs.Char.{is_ascii_digit}
 use Rattle.std.specs.Str.Parse.{digits_value}
 use Prim.Native.Char.{code}
-use Rattle.lift_bytes.specs.Bytes.{begins_name, is_name_byte}
 
 -- the words of a line without its line feed, cut at each space
 abbrev pub words : List ℕ → List (List ℕ)
@@ -35,8 +34,3 @@ number_of (b ∷ digits) = if b == code "-" then below_zero (natural_of digits) 
 -- the two numbers that a word writes with this byte between them
 abbrev pub pair_of : ℕ → List ℕ → Option (ℤ × ℤ)
 pair_of byte word = option_zip (number_of (before_first (λ b. b == byte) word)) (number_of (after_first (λ b. b == byte) word))
-
--- a letter or an underscore, followed by letters, digits and underscores
-abbrev pub is_name : List ℕ → Bool
-is_name [] = false
-is_name (b ∷ bs) = begins_name b && list_all is_name_byte bs

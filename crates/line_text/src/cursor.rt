@@ -36,19 +36,6 @@ impl<'t> std::marker::Model for Cursor<'t> {
     ghost invariant = { λ c. c.number + length c.rest.now < 2 ^ 32 };
 }
 
-/// How many bytes stand before the first one that is `end`; all of them where there is none.
-pub fn len_before(text: &[u8], end: u8) -> usize
-    ensures within { result ≤ length text.now }
-    ensures len { result ≡ position_or_len (λ b. b == end) text.now }
-{
-    for (i, byte) in text.iter().enumerate() {
-        if *byte == end {
-            return i;
-        }
-    }
-    text.len()
-}
-
 /// How many bytes stand before the first line feed; all of them where there is none.
 #[tactic(auto, using(crate::proofs::FirstFeed::no_feed, crate::proofs::FirstFeed::first_feed))]
 fn line_len(text: &[u8]) -> usize

@@ -7,7 +7,7 @@ mod error;
 mod numbers;
 mod words;
 
-pub use cursor::{Cursor, Place, len_before};
+pub use cursor::{Cursor, Place};
 pub use decimal::Decimal;
 pub use error::{TextCause, TextError};
 pub use numbers::{between, decimals, is_number, is_signed, number_line, numbers_of};

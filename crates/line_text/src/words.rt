@@ -6,9 +6,9 @@ ghost use Rattle.line_text.specs.Words.{are_digits, number_of, pair_of, words};
 ghost use Rattle.line_text.specs.Parts.{first, keyed, single};
 ghost use Rattle.line_text.specs.Shown.{Says, is_none_left, is_space, first_of};
 
-use crate::cursor::len_before;
 use crate::decimal::{Decimal, front_digits};
 use crate::error::TextCause;
+use lift_bytes::len_before;
 
 /// The words of a line that are left.
 #[derive(Drop)]

@@ -19,8 +19,7 @@ use Rattle.plift_top.specs.Laws.{RightReportsAreSound}
 
 -- a name that was read is one that can be told
 name : (word : List ℕ) → read.IsShortName word → IsShortName word
-name [] h = absurd (let none = h.named in cc)
-name (b ∷ bs) h = record { form = search (rules, h.named); short = h.short }
+name word h = record { form = h.named; short = h.short }
 
 -- and so is an entry
 entry : (e : Entry) → read.IsSmallEntry e → IsSmallEntry e

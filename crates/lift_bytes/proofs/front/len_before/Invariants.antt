@@ -1,7 +1,7 @@
 use Rattle.std.proofs.Common.{◌≡◌, ◌+◌, drop}
 use Rattle.std.specs.Prelude.{◌==◌}
 use Rattle.std.specs.List.{position_or_len}
-use Rattle.line_text.proofs.cursor.len_before.Given as goal
+use Rattle.lift_bytes.proofs.front.len_before.Given as goal
 
 abbrev pub invariant-loop-i : goal.invariant-loop-i
 invariant-loop-i l = position_or_len (λ b. b == l.end) l.text ≡ l.i + position_or_len (λ b. b == l.end) (drop l.i l.text)

@@ -1,7 +1,0 @@
-use Rattle.std.proofs.Common.{◌≡◌, ◌+◌, drop}
-use Rattle.std.specs.Prelude.{◌==◌}
-use Rattle.std.specs.List.{position_or_len}
-use Rattle.drn_lexer.proofs.bytes.len_before.Given as goal
-
-abbrev pub invariant-loop-i : goal.invariant-loop-i
-invariant-loop-i l = position_or_len (λ b. b == l.end) l.text ≡ l.i + position_or_len (λ b. b == l.end) (drop l.i l.text)
