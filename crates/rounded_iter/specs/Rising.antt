@@ -1,8 +1,8 @@
 -- What the iteration keeps: a vector at or below every bound, which can only rise. A bound is an upper vector where the greatest corner of a row counts, and a value vector where the least does.
 use Rattle.std.specs.Prelude.{◌≡◌, ℕ, ◌+◌, ◌<◌, ◌^◌, ◌⊎◌, true, false, List, [], ◌∷◌, ℤ, pos, ◌-ℤ◌, ◌*ℤ◌, ◌≤ℤ◌, ◌<ℤ◌, nat_abs, length, slice_set}
 use Rattle.lift_grid.specs.Rectangle.{Spans}
-use Rattle.lift_model.specs.Model.{is_goal, choices}
-use Rattle.lift_model.specs.Links.{LinksData, AreLinks, HasChoice}
+use Rattle.lift_model.specs.Model.{is_goal, choices, row_at}
+use Rattle.lift_model.specs.Links.{LinksData, AreLinks, HasChoice, targets_of}
 use Rattle.corner_lift.specs.Case.{CaseData, IsCase, IsGreatest, IsLeast, number, row_value, row_whole, corner_count}
 use Rattle.corner_lift.specs.Certificate.{AreNumbers, AtMost}
 use Rattle.corner_lift.specs.Table.{IsTable}
@@ -86,6 +86,11 @@ pub record CanTry (t : TableData) (spans : Spans) (x : List ℤ) (s a : ℕ) : T
   pub read : IsRead t spans
   pub row : HasChoice t.case.model s a
   pub numbers : AreNumbers t.case x
+
+-- what it needs to try one with these targets
+pub record CanWeigh (t : TableData) (spans : Spans) (x : List ℤ) (s a : ℕ) (targets : List ℕ) : Type 0 where
+  pub can : CanTry t spans x s a
+  pub targets_are : targets ≡ targets_of (row_at t.case.model s a)
 
 -- what it needs to try it at a corner
 pub record CanSolve (t : TableData) (spans : Spans) (x : List ℤ) (s a c : ℕ) : Type 0 where

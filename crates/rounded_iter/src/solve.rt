@@ -6,7 +6,7 @@ ghost use Rattle.lift_model.specs.Links.{AreLinks, HasChoice, targets_of};
 ghost use Rattle.lift_grid.specs.Rectangle.{Spans};
 ghost use Rattle.corner_lift.specs.Case.{row_value, row_whole, corner_count, most_precision, engine_limit};
 ghost use Rattle.corner_lift.specs.Table.{IsWhole};
-ghost use Rattle.rounded_iter.specs.Rising.{CanTry, CanSolve, IsExtreme, IsMoreExtreme, SolvesAt, IsSolved, IsRoundedUp};
+ghost use Rattle.rounded_iter.specs.Rising.{CanTry, CanWeigh, CanSolve, IsExtreme, IsMoreExtreme, SolvesAt, IsSolved, IsRoundedUp};
 
 use crate::table::Table;
 use corner_lift::{
@@ -110,6 +110,31 @@ fn more_extreme(extreme: Extreme, a: i64, b: i64) -> i64
     }
 }
 
+/// Whether a state is one of a row's targets.
+#[inline]
+fn leads_to(targets: &[u32], s: u32) -> bool
+    ensures { IsFalse result → Contains targets.now s → ⊥ }
+{
+    for target in targets {
+        if *target == s {
+            return true;
+        }
+    }
+    false
+}
+
+/// The target of a row that has only one.
+#[inline]
+fn only_target(targets: &[u32]) -> Option<u32>
+    ensures { IfSome result (λ t. targets.now ≡ t ∷ []) }
+{
+    if targets.len() == 1 {
+        Some(targets[0])
+    } else {
+        None
+    }
+}
+
 impl Table<'_> {
     /// The whole of a row, and its weighted sum at the corner that counts.
     #[inline]
@@ -126,34 +151,14 @@ impl Table<'_> {
         }
     }
 
-    /// Whether a row has an entry into its own state.
+    /// The targets of a row.
     #[inline]
-    fn has_loop(&self, s: u32, a: u32) -> bool
+    fn targets(&self, s: u32, a: u32) -> &[u32]
         requires links { AreLinks self.now.case.model self.now.links }
         requires row { HasChoice self.now.case.model s a }
-        ensures { IsFalse result → Contains (targets_of (row_at self.now.case.model s a)) s → ⊥ }
+        ensures { result.now ≡ targets_of (row_at self.now.case.model s a) }
     {
-        for target in self.links.targets(self.links.place(s, a)) {
-            if *target == s {
-                return true;
-            }
-        }
-        false
-    }
-
-    /// The target of a row that has only one.
-    #[inline]
-    fn only_target(&self, s: u32, a: u32) -> Option<u32>
-        requires links { AreLinks self.now.case.model self.now.links }
-        requires row { HasChoice self.now.case.model s a }
-        ensures { IfSome result (λ t. targets_of (row_at self.now.case.model s a) ≡ t ∷ []) }
-    {
-        let targets = self.links.targets(self.links.place(s, a));
-        if targets.len() == 1 {
-            Some(targets[0])
-        } else {
-            None
-        }
+        self.links.targets(self.links.place(s, a))
     }
 
     /// The least number from the state's own on that is enough for a row at one corner. The weight of a
@@ -198,6 +203,27 @@ impl Table<'_> {
         number
     }
 
+    /// The least number from the state's own on that is enough for a row with these targets, by their
+    /// weights.
+    #[inline(never)]
+    fn enough_by_weights(&self, lane: &[i64], s: u32, a: u32, targets: &[u32]) -> i64
+        ghost spans: { Spans }
+        requires { CanWeigh self.now spans lane.now s a targets.now }
+        ensures { IsSolved self.now.extreme self.now.case spans lane.now s a (corner_count self.now.case s a) result }
+    {
+        rows_at_corners();
+        corners_bound_weights();
+        if leads_to(targets, s) {
+            return self.solve(lane, s, a);
+        }
+        let number = lane[s as usize];
+        let Weighed { sum, whole } = self.weigh(lane, s, a);
+        if sum <= times(number, whole) {
+            return number;
+        }
+        rounded_up(sum, whole)
+    }
+
     /// The least number from the state's own on that is enough for a row. A number that is `top`, as a
     /// goal state's is, is always enough. A row with one entry takes its target's number.
     #[inline]
@@ -212,16 +238,10 @@ impl Table<'_> {
         if number == self.top {
             return number;
         }
-        if let Some(target) = self.only_target(s, a) {
+        let targets = self.targets(s, a);
+        if let Some(target) = only_target(targets) {
             return more_extreme(Extreme::Greatest, number, lane[target as usize]);
         }
-        if self.has_loop(s, a) {
-            return self.solve(lane, s, a);
-        }
-        let Weighed { sum, whole } = self.weigh(lane, s, a);
-        if sum <= times(number, whole) {
-            return number;
-        }
-        rounded_up(sum, whole)
+        self.enough_by_weights(lane, s, a, targets)
     }
 }

@@ -1,7 +1,4 @@
 use Rattle.rounded_iter.proofs.table.Table.enough.Given as goal
 
-abbrev pub ghost-weigh : goal.ghost-weigh
-ghost-weigh g a = g.spans
-
-abbrev pub ghost-solve : goal.ghost-solve
-ghost-solve g a = g.spans
+abbrev pub ghost-enough_by_weights : goal.ghost-enough_by_weights
+ghost-enough_by_weights g a = g.spans
