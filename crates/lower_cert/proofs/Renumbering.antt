@@ -7,7 +7,7 @@ use Rattle.corner_lift.specs.Case.{CaseData, number}
 use Rattle.lift_model.specs.Model.{is_goal, row_at, moves_at, support}
 use Rattle.corner_lift.specs.Corner.{corner, corner_sum, whole, AtCorners}
 use Rattle.corner_lift.specs.Certificate.{unmarked, ranked_below, mark, IsLower, IsHeld}
-use Rattle.lower_cert.specs.AnyRanks.{IsLowerUpTo, some_below, RanksFit}
+use Rattle.lower_cert.specs.AnyRanks.{UnboundedReject, IsUnboundedLower, some_below, RanksFit}
 use Rattle.lower_cert.proofs.Means.{either_way, sum-same}
 use Rattle.lower_cert.proofs.Heights.{below-no}
 
@@ -104,9 +104,9 @@ no-choices [] i le = refl
 no-choices (b ∷ states) zero le = absurd (omega (arith, le))
 no-choices (b ∷ states) (suc i) le = no-choices states i (omega (arith, le))
 
-module _ (case : CaseData) (ss : Spans) (y : List ℤ) (pick rank : ℕ → Option ℕ) (e k : ℕ) (some : 1 ≤ length case.model.states) (few : length case.model.states ≤ 65536) (goals : length case.model.goal ≡ length case.model.states) (h : IsLowerUpTo case ss y pick rank e k) where
+module _ (case : CaseData) (ss : Spans) (u : UnboundedReject) (some : 1 ≤ length case.model.states) (few : length case.model.states ≤ 65536) (goals : length case.model.goal ≡ length case.model.states) (h : IsUnboundedLower case ss u) where
   -- a state that has a rank and is no goal is one of the states
-  ranked-in : (s r : ℕ) → is_goal case.model s ≡ false → rank s ≡ Some r → s < length case.model.states
+  ranked-in : (s r : ℕ) → is_goal case.model s ≡ false → u.rank s ≡ Some r → s < length case.model.states
   ranked-in s r g is =
       either_way (nat_lt s (length case.model.states))
       (λ e. ltb-true s (length case.model.states) e)
@@ -115,15 +115,15 @@ module _ (case : CaseData) (ss : Spans) (y : List ℤ) (pick rank : ℕ → Opti
   abbrev by : Bool → Option ℕ → ℕ
   by true o = 0
   by false None = unmarked
-  by false (Some r) = suc (among (is_goal case.model) rank r (length case.model.states))
+  by false (Some r) = suc (among (is_goal case.model) u.rank r (length case.model.states))
 
   abbrev new : ℕ → ℕ
-  new s = by (is_goal case.model s) (rank s)
+  new s = by (is_goal case.model s) (u.rank s)
 
   by-small : (g : Bool) (o : Option ℕ) → by g o ≤ unmarked
   by-small true o = omega arith
   by-small false None = omega arith
-  by-small false (Some r) = let l = among-le (is_goal case.model) rank r (length case.model.states) in omega (arith, l, few)
+  by-small false (Some r) = let l = among-le (is_goal case.model) u.rank r (length case.model.states) in omega (arith, l, few)
 
   abbrev chosen : Bool → Option ℕ → Option ℕ → ℕ
   chosen true o p = unmarked
@@ -132,7 +132,7 @@ module _ (case : CaseData) (ss : Spans) (y : List ℤ) (pick rank : ℕ → Opti
   chosen false (Some r) (Some a) = a
 
   abbrev new_pick : ℕ → ℕ
-  new_pick s = chosen (is_goal case.model s) (rank s) (pick s)
+  new_pick s = chosen (is_goal case.model s) (u.rank s) (u.pick s)
 
   abbrev ranks : List ℕ
   ranks = table new 0 (length case.model.states)
@@ -147,38 +147,38 @@ module _ (case : CaseData) (ss : Spans) (y : List ℤ) (pick rank : ℕ → Opti
   picked s lt = table-mark new_pick 0 (length case.model.states) s lt ∙ ap new_pick (omega arith)
 
   -- the new ranks have the order of the old ones
-  order : (s r : ℕ) → is_goal case.model s ≡ false → rank s ≡ Some r → (t : ℕ) → t < length case.model.states → ranked_below (mark ranks) (suc (among (is_goal case.model) rank r (length case.model.states))) t ≡ some_below rank r t
-  order s r g is t lt = subst (λ n. cond (nat_lt n (suc (among (is_goal case.model) rank r (length case.model.states)))) (pos 1) (pos 0) ≡ some_below rank r t) (sym (marked t lt)) (by_goal (is_goal case.model t) refl)
+  order : (s r : ℕ) → is_goal case.model s ≡ false → u.rank s ≡ Some r → (t : ℕ) → t < length case.model.states → ranked_below (mark ranks) (suc (among (is_goal case.model) u.rank r (length case.model.states))) t ≡ some_below u.rank r t
+  order s r g is t lt = subst (λ n. cond (nat_lt n (suc (among (is_goal case.model) u.rank r (length case.model.states)))) (pos 1) (pos 0) ≡ some_below u.rank r t) (sym (marked t lt)) (by_goal (is_goal case.model t) refl)
     where
       least : 1 ≤ r
       least = (h.held s r g is).range.0
 
-      by_rank : (o : Option ℕ) → is_goal case.model t ≡ false → rank t ≡ o → cond (nat_lt (by false o) (suc (among (is_goal case.model) rank r (length case.model.states)))) (pos 1) (pos 0) ≡ cond (is_below o r) (pos 1) (pos 0)
-      by_rank None gt it = let l = among-le (is_goal case.model) rank r (length case.model.states) in ap (λ b. cond b (pos 1) (pos 0)) (below-no unmarked (suc (among (is_goal case.model) rank r (length case.model.states))) (omega (arith, l, few)))
+      by_rank : (o : Option ℕ) → is_goal case.model t ≡ false → u.rank t ≡ o → cond (nat_lt (by false o) (suc (among (is_goal case.model) u.rank r (length case.model.states)))) (pos 1) (pos 0) ≡ cond (is_below o r) (pos 1) (pos 0)
+      by_rank None gt it = let l = among-le (is_goal case.model) u.rank r (length case.model.states) in ap (λ b. cond b (pos 1) (pos 0)) (below-no unmarked (suc (among (is_goal case.model) u.rank r (length case.model.states))) (omega (arith, l, few)))
       by_rank (Some q) gt it =
           either_way (nat_lt q r)
-          (λ e. let low : counts (is_goal case.model t) (rank t) q ≡ false = rw (gt, it) (below-no q q (omega arith)) in
-          let high : counts (is_goal case.model t) (rank t) r ≡ true = rw (gt, it) e in
-          let less = among-less (is_goal case.model) rank q r (length case.model.states) t (omega (arith, ltb-true q r e)) lt low high in
-          rw (e, lt-ltb (suc (among (is_goal case.model) rank q (length case.model.states))) (suc (among (is_goal case.model) rank r (length case.model.states))) (omega (arith, less))) refl)
-          (λ e. let more = among-more (is_goal case.model) rank r q (length case.model.states) (ltb-false q r e) in
-          rw (e, below-no (suc (among (is_goal case.model) rank q (length case.model.states))) (suc (among (is_goal case.model) rank r (length case.model.states))) (omega (arith, more))) refl)
+          (λ e. let low : counts (is_goal case.model t) (u.rank t) q ≡ false = rw (gt, it) (below-no q q (omega arith)) in
+          let high : counts (is_goal case.model t) (u.rank t) r ≡ true = rw (gt, it) e in
+          let less = among-less (is_goal case.model) u.rank q r (length case.model.states) t (omega (arith, ltb-true q r e)) lt low high in
+          rw (e, lt-ltb (suc (among (is_goal case.model) u.rank q (length case.model.states))) (suc (among (is_goal case.model) u.rank r (length case.model.states))) (omega (arith, less))) refl)
+          (λ e. let more = among-more (is_goal case.model) u.rank r q (length case.model.states) (ltb-false q r e) in
+          rw (e, below-no (suc (among (is_goal case.model) u.rank q (length case.model.states))) (suc (among (is_goal case.model) u.rank r (length case.model.states))) (omega (arith, more))) refl)
 
-      below_is : (o : Option ℕ) → rank t ≡ o → some_below rank r t ≡ cond (is_below o r) (pos 1) (pos 0)
+      below_is : (o : Option ℕ) → u.rank t ≡ o → some_below u.rank r t ≡ cond (is_below o r) (pos 1) (pos 0)
       below_is None it = rw (some_below, it) refl
       below_is (Some q) it = rw (some_below, it) refl
 
-      by_goal : (b : Bool) → is_goal case.model t ≡ b → cond (nat_lt (by (is_goal case.model t) (rank t)) (suc (among (is_goal case.model) rank r (length case.model.states)))) (pos 1) (pos 0) ≡ some_below rank r t
-      by_goal true gt = let zero_rank = (h.goal t gt).1 in rw (gt, below_is (Some 0) zero_rank, lt-ltb 0 r (omega (arith, least)), lt-ltb 0 (suc (among (is_goal case.model) rank r (length case.model.states))) (omega arith)) refl
-      by_goal false gt = rw gt (by_rank (rank t) gt refl ∙ sym (below_is (rank t) refl))
+      by_goal : (b : Bool) → is_goal case.model t ≡ b → cond (nat_lt (by (is_goal case.model t) (u.rank t)) (suc (among (is_goal case.model) u.rank r (length case.model.states)))) (pos 1) (pos 0) ≡ some_below u.rank r t
+      by_goal true gt = let zero_rank = (h.goal t gt).1 in rw (gt, below_is (Some 0) zero_rank, lt-ltb 0 r (omega (arith, least)), lt-ltb 0 (suc (among (is_goal case.model) u.rank r (length case.model.states))) (omega arith)) refl
+      by_goal false gt = rw gt (by_rank (u.rank t) gt refl ∙ sym (below_is (u.rank t) refl))
 
-  order_beyond : (s r : ℕ) → is_goal case.model s ≡ false → rank s ≡ Some r → (t : ℕ) → ranked_below (mark ranks) (suc (among (is_goal case.model) rank r (length case.model.states))) t ≡ some_below rank r t
+  order_beyond : (s r : ℕ) → is_goal case.model s ≡ false → u.rank s ≡ Some r → (t : ℕ) → ranked_below (mark ranks) (suc (among (is_goal case.model) u.rank r (length case.model.states))) t ≡ some_below u.rank r t
   order_beyond s r g is t =
       either_way (nat_lt t (length case.model.states))
       (λ e. order s r g is t (ltb-true t (length case.model.states) e))
-      (λ e. rw (table-beyond new 0 (length case.model.states) t (ltb-false t (length case.model.states) e), below-no unmarked (suc (among (is_goal case.model) rank r (length case.model.states))) (omega (arith, few, among-le (is_goal case.model) rank r (length case.model.states)))) (sym (unranked_zero (ltb-false t (length case.model.states) e) (rank t) refl)))
+      (λ e. rw (table-beyond new 0 (length case.model.states) t (ltb-false t (length case.model.states) e), below-no unmarked (suc (among (is_goal case.model) u.rank r (length case.model.states))) (omega (arith, few, among-le (is_goal case.model) u.rank r (length case.model.states)))) (sym (unranked_zero (ltb-false t (length case.model.states) e) (u.rank t) refl)))
     where
-      unranked_zero : length case.model.states ≤ t → (o : Option ℕ) → rank t ≡ o → some_below rank r t ≡ pos 0
+      unranked_zero : length case.model.states ≤ t → (o : Option ℕ) → u.rank t ≡ o → some_below u.rank r t ≡ pos 0
       unranked_zero le None it = rw (some_below, it) refl
       unranked_zero le (Some q) it =
           either_way (is_goal case.model t)
@@ -186,44 +186,44 @@ module _ (case : CaseData) (ss : Spans) (y : List ℤ) (pick rank : ℕ → Opti
           (λ gt. absurd (omega (arith, le, ranked-in t q gt it)))
 
   abbrev data_of : RejectData
-  data_of = record { numbers = y; picks = picks; ranks = ranks; e = e; k = length case.model.states }
+  data_of = record { numbers = u.numbers; picks = picks; ranks = ranks; e = u.e; k = length case.model.states }
 
-  held_at : (s : ℕ) → s < length case.model.states → is_goal case.model s ≡ false → mark ranks s < unmarked → (o : Option ℕ) → rank s ≡ o → IsHeld case ss data_of s
+  held_at : (s : ℕ) → s < length case.model.states → is_goal case.model s ≡ false → mark ranks s < unmarked → (o : Option ℕ) → u.rank s ≡ o → IsHeld case ss data_of s
   held_at s lt g small None is = absurd (omega (arith, small, marked s lt ∙ ap₂ by g is))
   held_at s lt g small (Some r) is =
       let held = h.held s r g is in
-      let at : mark ranks s ≡ suc (among (is_goal case.model) rank r (length case.model.states)) = marked s lt ∙ ap₂ by g is in
+      let at : mark ranks s ≡ suc (among (is_goal case.model) u.rank r (length case.model.states)) = marked s lt ∙ ap₂ by g is in
       let choice : mark picks s ≡ held.choice = picked s lt ∙ rw (g, is, held.is_pick) refl in
-      let off : counts (is_goal case.model s) (rank s) r ≡ false = rw (g, is) (below-no r r (omega arith)) in
-      let room = among-room (is_goal case.model) rank r (length case.model.states) s lt off in
+      let off : counts (is_goal case.model s) (u.rank s) r ≡ false = rw (g, is) (below-no r r (omega arith)) in
+      let room = among-room (is_goal case.model) u.rank r (length case.model.states) s lt off in
       record {
         rank = (omega (arith, at), omega (arith, at, room));
         pick = omega (arith, choice, held.in_range);
-        means = subst (λ a. AtCorners ss (row_at case.model s a) (λ c. (number y s *ℤ whole case.model case.d ss (row_at case.model s a)) ≤ℤ corner_sum case.d ss (row_at case.model s a) c (number y))) (sym choice) held.means;
+        means = subst (λ a. AtCorners ss (row_at case.model s a) (λ c. (number u.numbers s *ℤ whole case.model case.d ss (row_at case.model s a)) ≤ℤ corner_sum case.d ss (row_at case.model s a) c (number u.numbers))) (sym choice) held.means;
         rates =
-            subst (λ a. AtCorners ss (row_at case.model s a) (λ c. whole case.model case.d ss (row_at case.model s a) ≤ℤ (corner_sum case.d ss (row_at case.model s a) c (ranked_below (mark ranks) (mark ranks s)) *ℤ pos (2 ^ e)))) (sym choice)
-            (λ c lt. subst (λ z. whole case.model case.d ss (row_at case.model s held.choice) ≤ℤ (z *ℤ pos (2 ^ e)))
-            (sum-same (some_below rank r) (ranked_below (mark ranks) (mark ranks s)) (moves_at (corner case.d ss (support (row_at case.model s held.choice)) c) (row_at case.model s held.choice))
+            subst (λ a. AtCorners ss (row_at case.model s a) (λ c. whole case.model case.d ss (row_at case.model s a) ≤ℤ (corner_sum case.d ss (row_at case.model s a) c (ranked_below (mark ranks) (mark ranks s)) *ℤ pos (2 ^ u.e)))) (sym choice)
+            (λ c lt. subst (λ z. whole case.model case.d ss (row_at case.model s held.choice) ≤ℤ (z *ℤ pos (2 ^ u.e)))
+            (sum-same (some_below u.rank r) (ranked_below (mark ranks) (mark ranks s)) (moves_at (corner case.d ss (support (row_at case.model s held.choice)) c) (row_at case.model s held.choice))
             (λ t. sym (ap (λ q. ranked_below (mark ranks) q t) at ∙ order_beyond s r g is t)))
             (held.rates c lt));
       }
 
-  unranked_at : (s : ℕ) → is_goal case.model s ≡ false → unmarked ≤ mark ranks s → (number y s ≡ pos 0) × (mark picks s ≡ unmarked)
+  unranked_at : (s : ℕ) → is_goal case.model s ≡ false → unmarked ≤ mark ranks s → (number u.numbers s ≡ pos 0) × (mark picks s ≡ unmarked)
   unranked_at s g large =
       either_way (nat_lt s (length case.model.states))
-      (λ e. by_rank (ltb-true s (length case.model.states) e) (rank s) refl)
-      (λ e. (number_beyond y s (omega (arith, ltb-false s (length case.model.states) e, h.numbers.size)), table-beyond new_pick 0 (length case.model.states) s (ltb-false s (length case.model.states) e)))
+      (λ e. by_rank (ltb-true s (length case.model.states) e) (u.rank s) refl)
+      (λ e. (number_beyond u.numbers s (omega (arith, ltb-false s (length case.model.states) e, h.numbers.size)), table-beyond new_pick 0 (length case.model.states) s (ltb-false s (length case.model.states) e)))
     where
       number_beyond : (y : List ℤ) (i : ℕ) → length y ≤ i → number y i ≡ pos 0
       number_beyond [] i le = refl
       number_beyond (b ∷ y) zero le = absurd (omega (arith, le))
       number_beyond (b ∷ y) (suc i) le = number_beyond y i (omega (arith, le))
 
-      by_rank : s < length case.model.states → (o : Option ℕ) → rank s ≡ o → (number y s ≡ pos 0) × (mark picks s ≡ unmarked)
+      by_rank : s < length case.model.states → (o : Option ℕ) → u.rank s ≡ o → (number u.numbers s ≡ pos 0) × (mark picks s ≡ unmarked)
       by_rank lt None is = ((h.unranked s g is).0, picked s lt ∙ rw (g, is) refl)
-      by_rank lt (Some r) is = absurd (omega (arith, large, marked s lt ∙ ap₂ by g is, few, among-le (is_goal case.model) rank r (length case.model.states)))
+      by_rank lt (Some r) is = absurd (omega (arith, large, marked s lt ∙ ap₂ by g is, few, among-le (is_goal case.model) u.rank r (length case.model.states)))
 
-  goal_at : (s : ℕ) → is_goal case.model s ≡ true → (number y s ≡ pos (2 ^ case.w)) × (mark ranks s ≡ 0) × (mark picks s ≡ unmarked)
+  goal_at : (s : ℕ) → is_goal case.model s ≡ true → (number u.numbers s ≡ pos (2 ^ case.w)) × (mark ranks s ≡ 0) × (mark picks s ≡ unmarked)
   goal_at s g =
       either_way (nat_lt s (length case.model.states))
       (λ e. let lt = ltb-true s (length case.model.states) e in ((h.goal s g).0, marked s lt ∙ rw g refl, picked s lt ∙ rw g refl))
@@ -234,17 +234,17 @@ module _ (case : CaseData) (ss : Spans) (y : List ℤ) (pick rank : ℕ → Opti
   renumbered = record {
     numbers = h.numbers;
     sizes = (table-length new_pick 0 (length case.model.states), table-length new 0 (length case.model.states));
-    marks = table-small new 0 (length case.model.states) (λ i. by-small (is_goal case.model i) (rank i));
+    marks = table-small new 0 (length case.model.states) (λ i. by-small (is_goal case.model i) (u.rank i));
     bounds = (h.bounds.0, some, omega (arith, few));
     goal = goal_at;
     unranked = unranked_at;
     held =
         λ s g small. either_way (nat_lt s (length case.model.states))
-        (λ e. held_at s (ltb-true s (length case.model.states) e) g small (rank s) refl)
+        (λ e. held_at s (ltb-true s (length case.model.states) e) g small (u.rank s) refl)
         (λ e. absurd (omega (arith, small, table-beyond new 0 (length case.model.states) s (ltb-false s (length case.model.states) e))));
   }
 
 pub ranks_fit : RanksFit
-ranks_fit k spans y pick rank e h is lower =
+ranks_fit k spans u is lower =
     let count = is.asked.model.count in
-    (data_of k spans y pick rank e h count.0 count.1 is.asked.model.goals lower, (refl, refl, refl, renumbered k spans y pick rank e h count.0 count.1 is.asked.model.goals lower))
+    (data_of k spans u count.0 count.1 is.asked.model.goals lower, (refl, refl, refl, renumbered k spans u count.0 count.1 is.asked.model.goals lower))

@@ -6,7 +6,7 @@ use Rattle.lift_model.specs.Model.{support, is_goal, choices, row_at}
 use Rattle.corner_lift.specs.Corner.{parameter_count, corner_sum, whole}
 use Rattle.corner_lift.specs.Case.{CaseData, IsCase, IsInside}
 use Rattle.corner_lift.specs.Case.{number}
-use Rattle.corner_lift.specs.Certificate.{unmarked, mark, AreNumbers, IsLower, IsRate}
+use Rattle.corner_lift.specs.Certificate.{most_rate, unmarked, mark, AreNumbers, IsLower, IsRate}
 use Rattle.corner_lift.specs.Stages.{IsAllowed, AreStages, IsAboveLower, IsGreatestLower}
 use Rattle.lift_cert.specs.Certificate.{IsWithin, IsRejecting}
 use Rattle.lift_cert.specs.declared.bound.Bound.{Bound}
@@ -69,7 +69,7 @@ abbrev pub StagesAreGreatest : Type 0
 StagesAreGreatest = (k : CaseData) (spans : Spans) (r : RejectData) → AreNumbers k r.numbers
     → (length r.picks ≡ length k.model.states) × (length r.ranks ≡ length k.model.states)
     → All (λ rank. rank ≤ unmarked) r.ranks
-    → (r.e ≤ 126) × (1 ≤ r.k) × (r.k < unmarked)
+    → (r.e ≤ most_rate) × (1 ≤ r.k) × (r.k < unmarked)
     → ((s : ℕ) → is_goal k.model s ≡ true → (number r.numbers s ≡ pos (2 ^ k.w)) × (mark r.picks s ≡ unmarked))
     → ((s : ℕ) → is_goal k.model s ≡ false → unmarked ≤ mark r.ranks s → (number r.numbers s ≡ pos 0) × (mark r.picks s ≡ unmarked))
     → AreStages k spans (IsAllowed k spans (number r.numbers)) (mark r.picks) (mark r.ranks)

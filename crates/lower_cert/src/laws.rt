@@ -41,8 +41,8 @@ pub fn vectors_are_lowered()
     rows_at_corners();
 }
 
-/// Ranks stay below the number of states, and no lower vector is left out by it: one with any ranks has
-/// one with such ranks, for the same numbers and rate; and so has the greatest one.
+/// Ranks of at most the number of states leave no lower vector out: one with any ranks has one with such
+/// ranks, for the same numbers and rate; and the greatest one has such ranks.
 pub fn ranks_fit()
     ensures any { RanksFit }
     ensures greatest { HeightFits }
