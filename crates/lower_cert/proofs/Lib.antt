@@ -12,4 +12,3 @@ pub mod Sweeping
 pub mod Exits
 pub mod BestExit
 pub mod Beginning
-mod Counting

@@ -33,6 +33,7 @@ pub(crate) fn start(case: &Case, lane: &mut [i64])
 }
 
 /// A number times a weight.
+#[inline(always)]
 pub(crate) fn times(number: i64, weight: i128) -> i128
     requires room { unsigned_abs number * unsigned_abs weight < engine_limit }
     ensures { result ≡ number *ℤ weight }
@@ -41,6 +42,7 @@ pub(crate) fn times(number: i64, weight: i128) -> i128
 }
 
 /// Whether the one is at most the other.
+#[inline(always)]
 pub(crate) fn is_at_most(a: i128, b: i128) -> bool
     ensures { IsTrue result ↔ a ≤ℤ b }
 {
@@ -48,6 +50,7 @@ pub(crate) fn is_at_most(a: i128, b: i128) -> bool
 }
 
 /// The same for numbers.
+#[inline(always)]
 fn is_no_more(a: i64, b: i64) -> bool
     ensures { IsTrue result ↔ a ≤ℤ b }
 {
@@ -55,6 +58,7 @@ fn is_no_more(a: i64, b: i64) -> bool
 }
 
 /// Whether the state's choice holds its number at each corner.
+#[inline(always)]
 fn is_allowed(case: &Case, links: &Links, weights: &[i128], lane: &[i64], s: u32, a: u32) -> bool
     ghost spans: { Spans }
     requires read { IsRead case.now links.now spans weights.now lane.now }
@@ -77,6 +81,7 @@ fn is_allowed(case: &Case, links: &Links, weights: &[i128], lane: &[i64], s: u32
 }
 
 /// 1 for what is so, and 0 for what isn't.
+#[inline(always)]
 fn flag(is: bool) -> u32
     ensures yes { IsTrue is → nat_lt 0 result ≡ true }
     ensures no { nat_lt 0 result ≡ true → IsTrue is }

@@ -15,6 +15,7 @@ use corner_lift::{
 use lift_model::Links;
 
 /// The quotient of two numbers. Where they fit 64 bits, so does the division.
+#[inline(always)]
 pub(crate) fn quotient(sum: u128, whole: u128) -> u128
     requires { 1 ≤ whole }
     ensures { result ≡ sum / whole }
@@ -27,6 +28,7 @@ pub(crate) fn quotient(sum: u128, whole: u128) -> u128
 }
 
 /// The quotient, rounded down.
+#[inline(always)]
 fn rounded_down(sum: i128, whole: i128) -> i64
     requires sum { pos 0 ≤ℤ sum }
     requires whole { pos 1 ≤ℤ whole }
@@ -38,6 +40,7 @@ fn rounded_down(sum: i128, whole: i128) -> i64
 }
 
 /// What is left of a number without a part of it.
+#[inline(always)]
 fn without(all: i128, part: i128) -> i128
     requires { (pos 0 ≤ℤ part) × (part ≤ℤ all) }
     ensures { result ≡ all -ℤ part }
@@ -48,6 +51,7 @@ fn without(all: i128, part: i128) -> i128
 /// How high a choice holds a set of states that have this number, at a corner at which it has this
 /// sum and this weight into the set: what comes from beyond the set over what leaves it, rounded down,
 /// but at most the number. Where nothing leaves the set, it is 0.
+#[inline(always)]
 pub(crate) fn exit(number: i64, sum: i128, into: i128, whole: i128) -> i64
     requires number { (pos 0 ≤ℤ number) × (number ≤ℤ pos (2 ^ 40)) }
     requires into { (pos 0 ≤ℤ into) × (into ≤ℤ whole) }
@@ -68,6 +72,7 @@ pub(crate) fn exit(number: i64, sum: i128, into: i128, whole: i128) -> i64
 
 /// How high a state is held by a choice at a corner. The weight of a self loop is taken out of the
 /// whole, so that one division finds it.
+#[inline(always)]
 fn exit_at(
     case: &Case,
     links: &Links,
@@ -92,6 +97,7 @@ fn exit_at(
 }
 
 /// The lesser of two numbers.
+#[inline(always)]
 pub(crate) fn lesser(a: i64, b: i64) -> i64
     ensures { (result ≡ a) ⊎ (result ≡ b) }
 {
@@ -99,6 +105,7 @@ pub(crate) fn lesser(a: i64, b: i64) -> i64
 }
 
 /// How high a state is held by a choice: the least of its corners.
+#[inline(always)]
 fn held_at_corners(
     case: &Case,
     links: &Links,
@@ -125,6 +132,7 @@ fn held_at_corners(
 }
 
 /// Whether a row has an entry into its own state.
+#[inline(always)]
 fn has_loop(case: &Case, links: &Links, s: u32, a: u32) -> bool
     requires links { AreLinks case.now.model links.now }
     requires row { HasChoice case.now.model s a }
@@ -140,7 +148,7 @@ fn has_loop(case: &Case, links: &Links, s: u32, a: u32) -> bool
 }
 
 /// The target of a row that has only one.
-#[inline]
+#[inline(always)]
 pub(crate) fn only_target(case: &Case, links: &Links, s: u32, a: u32) -> Option<u32>
     requires links { AreLinks case.now.model links.now }
     requires row { HasChoice case.now.model s a }
@@ -157,6 +165,7 @@ pub(crate) fn only_target(case: &Case, links: &Links, s: u32, a: u32) -> Option<
 
 /// How high a state is held by a choice without a self loop: its least weighted mean over the corners,
 /// rounded down.
+#[inline(always)]
 fn held_by_least(case: &Case, links: &Links, weights: &[i128], lane: &[i64], s: u32, a: u32) -> i64
     ghost spans: { Spans }
     requires can { CanWeigh case.now links.now spans weights.now lane.now }
@@ -175,6 +184,7 @@ fn held_by_least(case: &Case, links: &Links, weights: &[i128], lane: &[i64], s: 
 }
 
 /// How high a state is held by a choice: no number above it can be kept there.
+#[inline(always)]
 fn held(case: &Case, links: &Links, weights: &[i128], lane: &[i64], s: u32, a: u32) -> i64
     ghost spans: { Spans }
     requires can { CanWeigh case.now links.now spans weights.now lane.now }
@@ -198,6 +208,7 @@ fn held(case: &Case, links: &Links, weights: &[i128], lane: &[i64], s: u32, a: u
 }
 
 /// The greater of two numbers.
+#[inline(always)]
 pub(crate) fn greater(a: i64, b: i64) -> i64
     ensures { (a ≤ℤ result) × ((b ≤ℤ result) × ((result ≡ a) ⊎ (result ≡ b))) }
 {
@@ -205,18 +216,18 @@ pub(crate) fn greater(a: i64, b: i64) -> i64
 }
 
 /// How many choices a state has, by the links, whose lists lie closer together than the model's.
-#[inline]
+#[inline(always)]
 pub(crate) fn choice_count(case: &Case, links: &Links, s: u32) -> u32
     requires links { AreLinks case.now.model links.now }
     requires state { s < length case.now.model.states }
     ensures { result ≡ length (choices case.now.model s) }
 {
-    let _ = case.model();
-    links.places(s).len() as u32
+    links.choices(s)
 }
 
 /// The greatest number that a choice of the state holds. Where a choice holds the state's own, it looks at
 /// no further one.
+#[inline(always)]
 fn most_held(case: &Case, links: &Links, weights: &[i128], lane: &[i64], s: u32) -> i64
     ghost spans: { Spans }
     requires can { CanWeigh case.now links.now spans weights.now lane.now }
@@ -238,6 +249,7 @@ fn most_held(case: &Case, links: &Links, weights: &[i128], lane: &[i64], s: u32)
 }
 
 /// Writes the number of a state if it is lower, and tells whether it is.
+#[inline(always)]
 fn write_lower(lane: &mut [i64], s: u32, number: i64) -> bool
     requires { s < length lane.old }
     ensures { IsWrittenLower lane.old lane.new s number result }
@@ -250,6 +262,7 @@ fn write_lower(lane: &mut [i64], s: u32, number: i64) -> bool
 }
 
 /// Lowers a state that is no goal state to what its choices hold, and tells whether that is lower.
+#[inline(always)]
 fn lower_state(case: &Case, links: &Links, weights: &[i128], lane: &mut [i64], s: u32) -> bool
     ghost run: { Run }
     requires can { CanLower case.now links.now run weights.now lane.old }
@@ -265,7 +278,7 @@ fn lower_state(case: &Case, links: &Links, weights: &[i128], lane: &mut [i64], s
 }
 
 /// Lowers a state, if it is no goal state and above 0.
-#[inline]
+#[inline(always)]
 fn try_state(case: &Case, links: &Links, weights: &[i128], lane: &mut [i64], s: u32) -> bool
     ghost run: { Run }
     requires can { CanLower case.now links.now run weights.now lane.old }
@@ -279,7 +292,7 @@ fn try_state(case: &Case, links: &Links, weights: &[i128], lane: &mut [i64], s: 
 }
 
 /// Flags a position that lies before the frontier.
-#[inline]
+#[inline(always)]
 fn set_flag(work: &mut [u32], position: u32, frontier: u32) {
     if position < frontier {
         if let Some(flag) = work.get_mut(position as usize) {
@@ -290,7 +303,7 @@ fn set_flag(work: &mut [u32], position: u32, frontier: u32) {
 
 /// Flags the positions of the states that lead to a state, as far as they lie before the frontier, but for
 /// its own.
-#[inline]
+#[inline(always)]
 pub(crate) fn flag_before(links: &Links, work: &mut [u32], s: u32, own: u32, frontier: u32)
     requires { s < state_count links.now }
 {
@@ -302,7 +315,7 @@ pub(crate) fn flag_before(links: &Links, work: &mut [u32], s: u32, own: u32, fro
 }
 
 /// Takes away the flag of a position, and tells whether there was one.
-#[inline]
+#[inline(always)]
 pub(crate) fn take_flag(work: &mut [u32], position: u32) -> bool
     requires { position < length work.old }
 {
@@ -337,7 +350,7 @@ pub(crate) fn flag_marked(case: &Case, links: &Links, marks: &[u32], work: &mut 
 /// Lowers the state at a position, and where it fell, flags those that lead to it, as far as they lie before
 /// the frontier. The state itself needs no flag: what it was lowered to is held, with its self loops. Tells
 /// whether it fell.
-#[inline]
+#[inline(always)]
 pub(crate) fn visit(
     case: &Case,
     links: &Links,
@@ -364,7 +377,7 @@ pub(crate) fn visit(
 }
 
 /// Visits the state at a position, if it is flagged, and tells whether it fell.
-#[inline]
+#[inline(always)]
 fn turn(
     case: &Case,
     links: &Links,
