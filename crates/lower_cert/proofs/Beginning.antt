@@ -15,7 +15,8 @@ use Rattle.corner_lift.specs.Laws.{NumbersAreInRange, ParametersAreTheRoots}
 use Rattle.float_guess.specs.Part.{StandsAt, is_open, KeepsOthers}
 use Rattle.lower_cert.specs.Laws.{ClosedIsAbove, GuessIsAbove}
 use Rattle.lower_cert.specs.Lowering.{IsHigh, IsHighUnder, from_guess}
-use Rattle.lower_cert.specs.Beginning.{low_word, IsNotedAt, AreNoted, IsOtherAt, AreOther, IsFilledAt, IsEnoughFor, IsEnoughAt, AreEnough, AreAll}
+use Rattle.float_guess.specs.Notes.{low_word}
+use Rattle.lower_cert.specs.Beginning.{IsNotedAt, IsNotedPart, IsOtherAt, AreOther, IsFilledAt, IsClosedChoice, IsClosedPosition, IsClosedPart, AreAll}
 use Rattle.lower_cert.proofs.Means.{either_way}
 use Rattle.lower_cert.proofs.Heights.{below-no}
 
@@ -115,26 +116,26 @@ noted_some k l x at s v noted lt is only = record {
 pub noted_none : (k : CaseData) (l : LinksData) (x : List ℤ) (at : ℕ) (noted : List ℕ) → ((t : ℕ) → StandsAt k l at t → ⊥) → IsNotedAt k l x at noted noted
 noted_none k l x at noted none = record { each = λ t. inl refl; here = λ t h. absurd (none t h) }
 
-pub noted_more : (k : CaseData) (l : LinksData) (x : List ℤ) (low at : ℕ) (old new : List ℕ) → AreNoted k l x old low at → IsNotedAt k l x at old new → AreNoted k l x new low (at + 1)
+pub noted_more : (k : CaseData) (l : LinksData) (x : List ℤ) (low at : ℕ) (old new : List ℕ) → IsNotedPart k l x old low at → IsNotedAt k l x at old new → IsNotedPart k l x new low (at + 1)
 noted_more k l x low at old new all one p from to t stands =
     ⊎_elim
     (λ (less : p < at). ⊎_elim (λ (e : slice_index_or new t 0 ≡ slice_index_or old t 0). e ∙ all p from less t stands) (λ (e : slice_index_or new t 0 ≡ low_word (number x t)). e) (one.each t))
     (λ (e : p ≡ at). one.here t (subst (λ i. StandsAt k l i t) e stands))
     (same_or_less p at to)
 
-pub enough_more : (k : CaseData) (l : LinksData) (spans : Spans) (x : List ℤ) (low at : ℕ) → AreEnough k l spans x low at → IsEnoughAt k l spans x at → AreEnough k l spans x low (at + 1)
-enough_more k l spans x low at all one p from to =
+pub closed_more : (k : CaseData) (l : LinksData) (spans : Spans) (x : List ℤ) (low at : ℕ) → IsClosedPart k l spans x low at → IsClosedPosition k l spans x at → IsClosedPart k l spans x low (at + 1)
+closed_more k l spans x low at all one p from to =
     ⊎_elim
     (λ (less : p < at). all p from less)
-    (λ (e : p ≡ at). subst (λ i. IsEnoughAt k l spans x i) (sym e) one)
+    (λ (e : p ≡ at). subst (λ i. IsClosedPosition k l spans x i) (sym e) one)
     (same_or_less p at to)
 
--- ---- what is enough
+-- ---- what no choice lets rise
 
 -- the least sum tells it
-pub enough_of : ParametersAreTheRoots → (k : CaseData) (spans : Spans) (x : List ℤ) (s a : ℕ) (m : ℤ) → IsInside k.root spans → IsLeast (row_value k spans s a x) (corner_count k s a) m
-    → m ≤ℤ (number x s *ℤ row_whole k s a) → IsEnoughFor k spans x s a
-enough_of parameters k spans x s a m within least le =
+pub closed_of : ParametersAreTheRoots → (k : CaseData) (spans : Spans) (x : List ℤ) (s a : ℕ) (m : ℤ) → IsInside k.root spans → IsLeast (row_value k spans s a x) (corner_count k s a) m
+    → m ≤ℤ (number x s *ℤ row_whole k s a) → IsClosedChoice k spans x s a
+closed_of parameters k spans x s a m within least le =
     let row = row_at k.model s a in
     let same : parameter_count spans (support row) ≡ parameter_count k.root (support row) = parameters k spans row within.within in
     let wholes : number x s *ℤ whole k.model k.d spans row ≡ number x s *ℤ row_whole k s a = ap (λ n. number x s *ℤ (k.model.common *ℤ power k.d n)) same in
@@ -143,8 +144,8 @@ enough_of parameters k spans x s a m within least le =
 -- ---- what stays above
 
 module _ (ranges : NumbersAreInRange) (k : CaseData) (l : LinksData) (spans : Spans) (low high : ℕ) (old new : List ℤ) (is : IsCase k) (within : IsInside k.root spans) (high_old : IsHigh k spans old) (kept : KeepsOthers k l low high old new) where
-  goal_is_closed : (s : ℕ) → is_goal k.model s ≡ true → is_open k l low high s ≡ false
-  goal_is_closed s g = rw g refl
+  goal_is_not_open : (s : ℕ) → is_goal k.model s ≡ true → is_open k l low high s ≡ false
+  goal_is_not_open s g = rw g refl
 
   open_is_no_goal : (s : ℕ) → is_open k l low high s ≡ true → is_goal k.model s ≡ false
   open_is_no_goal s e = (of_open k l low high s e).at.goal
@@ -153,14 +154,14 @@ module _ (ranges : NumbersAreInRange) (k : CaseData) (l : LinksData) (spans : Sp
   most q lower t = (ranges k q.numbers t lower.numbers).1
 
   -- a vector that no choice lets rise in the part
-  pub closed_high : ClosedIsAbove → AreEnough k l spans new low high → IsHigh k spans new
-  closed_high start enough = record {
+  pub closed_high : ClosedIsAbove → IsClosedPart k l spans new low high → IsHigh k spans new
+  closed_high start all = record {
     numbers = kept.numbers;
-    goal = λ s g. kept.others s (goal_is_closed s g) ∙ high_old.goal s g;
+    goal = λ s g. kept.others s (goal_is_not_open s g) ∙ high_old.goal s g;
     above = λ y h under. start k spans (is_open k l low high) (number new) is within open_is_no_goal
         (λ s. (ranges k new s kept.numbers).0)
-        (λ q lower s closed. omega (arith, linear, high_old.above q lower (most q lower) s, kept.others s closed))
-        (λ s a yes choice. let o = of_open k l low high s yes in enough (position l s) o.from o.to s o.at a choice)
+        (λ q lower s shut. omega (arith, linear, high_old.above q lower (most q lower) s, kept.others s shut))
+        (λ s a yes choice. let o = of_open k l low high s yes in all (position l s) o.from o.to s o.at a choice)
         y h;
   }
 
@@ -168,7 +169,7 @@ module _ (ranges : NumbersAreInRange) (k : CaseData) (l : LinksData) (spans : Sp
   pub top_high : AreAll k l new (pos (2 ^ k.w)) low high → IsHigh k spans new
   top_high all = record {
     numbers = kept.numbers;
-    goal = λ s g. kept.others s (goal_is_closed s g) ∙ high_old.goal s g;
+    goal = λ s g. kept.others s (goal_is_not_open s g) ∙ high_old.goal s g;
     above = λ y h under s. either_way (is_open k l low high s)
         (λ e. let o = of_open k l low high s e in omega (arith, linear, all (position l s) o.from o.to s o.at, (ranges k y.numbers s h.numbers).1))
         (λ e. omega (arith, linear, high_old.above y h under s, kept.others s e));
@@ -178,10 +179,10 @@ module _ (ranges : NumbersAreInRange) (k : CaseData) (l : LinksData) (spans : Sp
 
   -- what is guessed in the part is at or above every lower vector at or below it
   pub guess_high : IsHighUnder k (from_guess spans new) new
-  guess_high = record { numbers = kept.numbers; goal = λ s g. kept.others s (goal_is_closed s g) ∙ high_old.goal s g; above = λ y h under. under }
+  guess_high = record { numbers = kept.numbers; goal = λ s g. kept.others s (goal_is_not_open s g) ∙ high_old.goal s g; above = λ y h under. under }
 
   -- where each state of the part fell below the guess, what it fell to is at or above every lower vector
-  pub fallen_high : GuessIsAbove → (z : List ℤ) (noted : List ℕ) → IsHighUnder k (from_guess spans new) z → AtMost z new → AreNoted k l new noted low high → AreOther k l z noted low high → IsHigh k spans z
+  pub fallen_high : GuessIsAbove → (z : List ℤ) (noted : List ℕ) → IsHighUnder k (from_guess spans new) z → AtMost z new → IsNotedPart k l new noted low high → AreOther k l z noted low high → IsHigh k spans z
   fallen_high guess z noted fallen below notes others = record {
     numbers = fallen.numbers;
     goal = fallen.goal;

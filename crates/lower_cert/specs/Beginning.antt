@@ -1,28 +1,29 @@
 -- Where the lowering of a part of the states begins: from 1, from a guess, or from a vector that no choice lets rise. A part has the positions from one on and before another.
-use Rattle.std.specs.Prelude.{◌≡◌, ◌≢◌, ℕ, ◌%◌, ◌<◌, ◌≤◌, ◌⊎◌, List, ℤ, ◌*ℤ◌, ◌≤ℤ◌, unsigned_abs, length, slice_index_or}
+use Rattle.std.specs.Prelude.{◌≡◌, ◌≢◌, ℕ, ◌<◌, ◌≤◌, ◌⊎◌, List, ℤ, ◌*ℤ◌, ◌≤ℤ◌, length, slice_index_or}
 use Rattle.lift_grid.specs.Rectangle.{Spans}
 use Rattle.lift_model.specs.Model.{choices, row_at}
 use Rattle.lift_model.specs.Links.{LinksData}
 use Rattle.corner_lift.specs.Corner.{corner_sum, whole}
 use Rattle.corner_lift.specs.Case.{CaseData, number}
 use Rattle.float_guess.specs.Part.{StandsAt, KeepsOthers}
+use Rattle.float_guess.specs.Notes.{low_word}
 use Rattle.lower_cert.specs.Capping.{AtSomeCorner}
 
--- at some corner the choice's weighted mean is at most the state's number
-abbrev pub IsEnoughFor : CaseData → Spans → List ℤ → ℕ → ℕ → Type 0
-IsEnoughFor k spans x s a = AtSomeCorner k spans s a (λ c. corner_sum k.d spans (row_at k.model s a) c (number x) ≤ℤ (number x s *ℤ whole k.model k.d spans (row_at k.model s a)))
+-- the choice doesn't let its state rise: at some corner its weighted mean is at most the state's number
+abbrev pub IsClosedChoice : CaseData → Spans → List ℤ → ℕ → ℕ → Type 0
+IsClosedChoice k spans x s a = AtSomeCorner k spans s a (λ c. corner_sum k.d spans (row_at k.model s a) c (number x) ≤ℤ (number x s *ℤ whole k.model k.d spans (row_at k.model s a)))
 
--- so it is for each choice of the state
-abbrev pub IsEnough : CaseData → Spans → List ℤ → ℕ → Type 0
-IsEnough k spans x s = (a : ℕ) → a < length (choices k.model s) → IsEnoughFor k spans x s a
+-- no choice lets the state rise
+abbrev pub IsClosedState : CaseData → Spans → List ℤ → ℕ → Type 0
+IsClosedState k spans x s = (a : ℕ) → a < length (choices k.model s) → IsClosedChoice k spans x s a
 
--- so it is for the state at a position
-abbrev pub IsEnoughAt : CaseData → LinksData → Spans → List ℤ → ℕ → Type 0
-IsEnoughAt k l spans x at = (s : ℕ) → StandsAt k l at s → IsEnough k spans x s
+-- no choice lets the state at a position rise
+abbrev pub IsClosedPosition : CaseData → LinksData → Spans → List ℤ → ℕ → Type 0
+IsClosedPosition k l spans x at = (s : ℕ) → StandsAt k l at s → IsClosedState k spans x s
 
--- so it is for the states of a part
-abbrev pub AreEnough : CaseData → LinksData → Spans → List ℤ → ℕ → ℕ → Type 0
-AreEnough k l spans x low high = (at : ℕ) → low ≤ at → at < high → IsEnoughAt k l spans x at
+-- no choice lets a state of a part rise
+abbrev pub IsClosedPart : CaseData → LinksData → Spans → List ℤ → ℕ → ℕ → Type 0
+IsClosedPart k l spans x low high = (at : ℕ) → low ≤ at → at < high → IsClosedPosition k l spans x at
 
 -- the states of a part have that number
 abbrev pub AreAll : CaseData → LinksData → List ℤ → ℤ → ℕ → ℕ → Type 0
@@ -34,18 +35,14 @@ pub record IsFilledAt (k : CaseData) (l : LinksData) (low high at : ℕ) (v : �
   pub each : (s : ℕ) → (number new s ≡ number old s) ⊎ (number new s ≡ v)
   pub here : (s : ℕ) → StandsAt k l at s → number new s ≡ v
 
--- the low 32 bits of a number
-abbrev pub low_word : ℤ → ℕ
-low_word n = unsigned_abs n % 4294967296
-
--- those of the number of the state at a position were noted, and all else is as it was or noted
+-- the low 32 bits of the number of the state at a position were noted, and all else is as it was or noted
 pub record IsNotedAt (k : CaseData) (l : LinksData) (x : List ℤ) (at : ℕ) (old new : List ℕ) : Type 0 where
   pub each : (s : ℕ) → (slice_index_or new s 0 ≡ slice_index_or old s 0) ⊎ (slice_index_or new s 0 ≡ low_word (number x s))
   pub here : (s : ℕ) → StandsAt k l at s → slice_index_or new s 0 ≡ low_word (number x s)
 
 -- those of the states of a part were noted
-abbrev pub AreNoted : CaseData → LinksData → List ℤ → List ℕ → ℕ → ℕ → Type 0
-AreNoted k l x noted low high = (at : ℕ) → low ≤ at → at < high → (s : ℕ) → StandsAt k l at s → slice_index_or noted s 0 ≡ low_word (number x s)
+abbrev pub IsNotedPart : CaseData → LinksData → List ℤ → List ℕ → ℕ → ℕ → Type 0
+IsNotedPart k l x noted low high = (at : ℕ) → low ≤ at → at < high → (s : ℕ) → StandsAt k l at s → slice_index_or noted s 0 ≡ low_word (number x s)
 
 -- the state at a position has another number than the one of which that was noted
 abbrev pub IsOtherAt : CaseData → LinksData → List ℤ → List ℕ → ℕ → Type 0

@@ -10,11 +10,11 @@ ghost use Rattle.lower_cert.specs.Beginning.{IsOtherAt, AreOther};
 
 use crate::laws::vectors_are_lowered;
 use crate::lower::start;
-use crate::part::{fill_part, flag_part, low_word_of, note, open_state};
+use crate::part::{fill_part, flag_part, note, open_state};
 use crate::raise::raise_part;
 use crate::sweep::{clear_flags, component_end, is_single, pass, settle_part, visit};
 use corner_lift::{Case, one_at, rows_at_corners};
-use float_guess::{Extreme, Rounding, Way, guess_part};
+use float_guess::{Extreme, Rounding, Way, guess_part, low_word_of};
 use lift_model::Links;
 
 /// How many passes over a component lower it from 1, before it is begun anew.

@@ -3,21 +3,15 @@
 ghost use Rattle.std.specs.Prelude.{◌≡◌, ◌^◌, ◌<◌, ◌≤◌, ◌≤ℤ◌, ℕ, pos, length, IfSome};
 ghost use Rattle.lift_model.specs.Links.{AreLinks};
 ghost use Rattle.corner_lift.specs.Certificate.{AreNumbers};
-ghost use Rattle.lower_cert.specs.Beginning.{IsFilledAt, AreAll, IsNotedAt, AreNoted, low_word};
+ghost use Rattle.lower_cert.specs.Beginning.{IsFilledAt, AreAll, IsNotedAt, IsNotedPart};
 ghost use Rattle.float_guess.specs.Part.{StandsAt, KeepsOthers};
 
 use corner_lift::Case;
+use float_guess::low_word_of;
 use lift_model::Links;
 
-/// The low 32 bits of a number.
-pub(crate) fn low_word_of(number: i64) -> u32
-    requires { pos 0 ≤ℤ number }
-    ensures { result ≡ low_word number }
-{
-    (number as u64 % 4294967296) as u32
-}
-
 /// The state at a position, if it is no goal state.
+#[inline(always)]
 pub(crate) fn open_state(case: &Case, links: &Links, position: u32) -> Option<u32>
     requires links { AreLinks case.now.model links.now }
     requires position { position < length links.now.order }
@@ -103,7 +97,7 @@ pub(crate) fn note(case: &Case, links: &Links, lane: &[i64], noted: &mut [u32], 
     requires numbers { AreNumbers case.now lane.now }
     requires notes { length noted.old ≡ length case.now.model.states }
     requires high { high ≤ length links.now.order }
-    ensures { AreNoted case.now links.now lane.now noted.new low high }
+    ensures { IsNotedPart case.now links.now lane.now noted.new low high }
 {
     for position in low..high {
         note_at(case, links, lane, noted, position);

@@ -6,13 +6,14 @@ ghost use Rattle.lift_grid.specs.Rectangle.{Spans};
 ghost use Rattle.lift_model.specs.Links.{AreLinks, HasChoice};
 ghost use Rattle.corner_lift.specs.Certificate.{AreNumbers};
 ghost use Rattle.lower_cert.specs.Lowering.{CanWeigh};
-ghost use Rattle.lower_cert.specs.Beginning.{IsEnoughFor, IsEnough, IsEnoughAt, AreEnough};
+ghost use Rattle.lower_cert.specs.Beginning.{IsClosedChoice, IsClosedState, IsClosedPosition, IsClosedPart};
 ghost use Rattle.float_guess.specs.Part.{KeepsOthers};
 
 use crate::lower::{is_at_most, times};
-use crate::part::{fill_at, fill_part, flag_part, low_word_of, note, open_state};
+use crate::part::{fill_at, fill_part, flag_part, note, open_state};
 use crate::sweep::{choice_count, flag_before, greater, only_target, quotient, take_flag};
 use corner_lift::{Case, Weighed, rows_at_corners, table_least};
+use float_guess::low_word_of;
 use lift_model::Links;
 use std::num::{nearest_i64_to_f64, saturating_f64_to_i64};
 
@@ -25,12 +26,20 @@ const SLOW_FALL: f64 = 0.0625;
 /// How far the falls of two blocks may differ that are alike.
 const ALIKE: f64 = 1.2;
 
-/// Whether at some corner the choice's weighted mean is at most the state's number.
-fn is_enough_for(case: &Case, links: &Links, weights: &[i128], lane: &[i64], s: u32, a: u32) -> bool
+/// Whether the choice doesn't let its state rise: at some corner its weighted mean is at most the state's
+/// number.
+fn is_closed_choice(
+    case: &Case,
+    links: &Links,
+    weights: &[i128],
+    lane: &[i64],
+    s: u32,
+    a: u32,
+) -> bool
     ghost spans: { Spans }
     requires can { CanWeigh case.now links.now spans weights.now lane.now }
     requires row { HasChoice case.now.model s a }
-    ensures { IsTrue result → IsEnoughFor case.now spans lane.now s a }
+    ensures { IsTrue result → IsClosedChoice case.now spans lane.now s a }
 {
     rows_at_corners();
     let _ = case.w();
@@ -38,36 +47,42 @@ fn is_enough_for(case: &Case, links: &Links, weights: &[i128], lane: &[i64], s: 
     is_at_most(sum, times(lane[s as usize], whole))
 }
 
-/// Whether it is so for each choice of the state.
-fn is_enough(case: &Case, links: &Links, weights: &[i128], lane: &[i64], s: u32) -> bool
+/// Whether no choice lets the state rise.
+fn is_closed_state(case: &Case, links: &Links, weights: &[i128], lane: &[i64], s: u32) -> bool
     ghost spans: { Spans }
     requires can { CanWeigh case.now links.now spans weights.now lane.now }
     requires state { s < length case.now.model.states }
-    ensures { IsTrue result → IsEnough case.now spans lane.now s }
+    ensures { IsTrue result → IsClosedState case.now spans lane.now s }
 {
     for a in 0..choice_count(case, links, s) {
-        if !is_enough_for(case, links, weights, lane, s, a) {
+        if !is_closed_choice(case, links, weights, lane, s, a) {
             return false;
         }
     }
     true
 }
 
-/// Whether it is so for the state at a position.
-fn is_enough_at(case: &Case, links: &Links, weights: &[i128], lane: &[i64], position: u32) -> bool
+/// Whether no choice lets the state at a position rise.
+fn is_closed_position(
+    case: &Case,
+    links: &Links,
+    weights: &[i128],
+    lane: &[i64],
+    position: u32,
+) -> bool
     ghost spans: { Spans }
     requires can { CanWeigh case.now links.now spans weights.now lane.now }
     requires position { position < length links.now.order }
-    ensures { IsTrue result → IsEnoughAt case.now links.now spans lane.now position }
+    ensures { IsTrue result → IsClosedPosition case.now links.now spans lane.now position }
 {
     match open_state(case, links, position) {
-        Some(s) => is_enough(case, links, weights, lane, s),
+        Some(s) => is_closed_state(case, links, weights, lane, s),
         None => true,
     }
 }
 
-/// Whether it is so for the states of a part.
-fn are_enough(
+/// Whether no choice lets a state of a part rise.
+fn is_closed_part(
     case: &Case,
     links: &Links,
     weights: &[i128],
@@ -78,10 +93,10 @@ fn are_enough(
     ghost spans: { Spans }
     requires can { CanWeigh case.now links.now spans weights.now lane.now }
     requires high { high ≤ length links.now.order }
-    ensures { IsTrue result → AreEnough case.now links.now spans lane.now low high }
+    ensures { IsTrue result → IsClosedPart case.now links.now spans lane.now low high }
 {
     for position in low..high {
-        if !is_enough_at(case, links, weights, lane, position) {
+        if !is_closed_position(case, links, weights, lane, position) {
             return false;
         }
     }
@@ -89,6 +104,7 @@ fn are_enough(
 }
 
 /// The quotient, rounded up, but at most the top.
+#[inline(always)]
 fn rounded_up(sum: i128, whole: i128, top: i64) -> i64
     requires sum { pos 0 ≤ℤ sum }
     requires whole { pos 1 ≤ℤ whole }
@@ -104,7 +120,8 @@ fn rounded_up(sum: i128, whole: i128, top: i64) -> i64
     }
 }
 
-/// The least number that is enough for a choice at one of its corners, or the state's own where that is.
+/// The least number at which a choice doesn't let its state rise, or the state's own where it is at least that.
+#[inline(always)]
 fn raised_for(
     case: &Case,
     links: &Links,
@@ -134,6 +151,7 @@ fn raised_for(
 }
 
 /// A number that is at least what each choice of the state asks for.
+#[inline(always)]
 fn raised(case: &Case, links: &Links, weights: &[i128], lane: &[i64], s: u32, top: i64) -> i64
     ghost spans: { Spans }
     requires can { CanWeigh case.now links.now spans weights.now lane.now }
@@ -151,6 +169,7 @@ fn raised(case: &Case, links: &Links, weights: &[i128], lane: &[i64], s: u32, to
 
 /// Raises the state at a position of the part, if it is flagged, and flags those that lead to it where it
 /// rose. Tells whether it did.
+#[inline(always)]
 fn raise_turn(
     case: &Case,
     links: &Links,
@@ -406,7 +425,7 @@ pub(crate) fn raise_part(
     requires high { (high ≤ length flags.old) × (high ≤ length links.now.order) }
     requires top { top ≡ pos (2 ^ case.now.w) }
     ensures kept { KeepsOthers case.now links.now low high lane.old lane.new }
-    ensures enough { IsTrue result → AreEnough case.now links.now spans lane.new low high }
+    ensures closed { IsTrue result → IsClosedPart case.now links.now spans lane.new low high }
 {
     fill_part(case, links, lane, low, high, 0);
     flag_part(flags, low, high);
@@ -416,7 +435,7 @@ pub(crate) fn raise_part(
     while left > 0 {
         note(case, links, lane, noted, low, high);
         if !raise_block(case, links, weights, lane, flags, low, high, block, top) {
-            return are_enough(case, links, weights, lane, low, high);
+            return is_closed_part(case, links, weights, lane, low, high);
         }
         left = left.saturating_sub(block);
         pace = pace.then(rise_of(case, links, lane, noted, low, high));

@@ -3,7 +3,7 @@ use Rattle.lower_cert.proofs.Beginning.{closed_high, top_high, keeps_both}
 use Rattle.lower_cert.proofs.begin.begin_anew.Goals as goal
 
 pub returns-then-found : goal.returns-then-found
-returns-then-found g c = closed_high c.rows_at_corners.ensures.numbers c.args.case.now c.args.links.now g.spans c.args.low c.args.high c.args.lane.now c.raise_part-found.new.lane c.w.ensures.case c.requires.0.read.table.inside c.requires.0.high c.raise_part-found.ensures.kept c.vectors_are_lowered.ensures.start (c.raise_part-found.ensures.enough c.if-found.true)
+returns-then-found g c = closed_high c.rows_at_corners.ensures.numbers c.args.case.now c.args.links.now g.spans c.args.low c.args.high c.args.lane.now c.raise_part-found.new.lane c.w.ensures.case c.requires.0.read.table.inside c.requires.0.high c.raise_part-found.ensures.kept c.vectors_are_lowered.ensures.start (c.raise_part-found.ensures.closed c.if-found.true)
 
 pub returns : goal.returns
 returns g c =

@@ -1,6 +1,6 @@
-use Rattle.lower_cert.specs.Beginning.{AreNoted}
+use Rattle.lower_cert.specs.Beginning.{IsNotedPart}
 use Rattle.lower_cert.proofs.part.note.Given as goal
 
 -- the positions so far are noted
 abbrev pub invariant-loop-position : goal.invariant-loop-position
-invariant-loop-position l = AreNoted l.case l.links l.lane l.noted l.low l.position
+invariant-loop-position l = IsNotedPart l.case l.links l.lane l.noted l.low l.position

@@ -1,6 +1,6 @@
 use Rattle.std.proofs.Common.{rules, ◌∙◌, ap, SFits, w64, to_z-of_z, arith}
 use Rattle.corner_lift.specs.Case.{number}
-use Rattle.lower_cert.specs.Beginning.{low_word}
+use Rattle.float_guess.specs.Notes.{low_word}
 use Rattle.lower_cert.proofs.Beginning.{some_same, noted_some}
 use Rattle.lower_cert.proofs.part.note_at.Goals as goal
 

@@ -5,8 +5,8 @@ use Rattle.lower_cert.proofs.raise.raise_part.Given as goal
 abbrev pub ghost-raise_block : goal.ghost-raise_block
 ghost-raise_block g a = g.spans
 
-abbrev pub ghost-are_enough : goal.ghost-are_enough
-ghost-are_enough g a = g.spans
+abbrev pub ghost-is_closed_part : goal.ghost-is_closed_part
+ghost-is_closed_part g a = g.spans
 
 -- all else is as it was, and blocks have passes
 abbrev pub invariant-loop-left : goal.invariant-loop-left

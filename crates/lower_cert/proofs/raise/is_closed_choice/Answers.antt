@@ -2,8 +2,8 @@ use Rattle.std.proofs.Common.{rules, ◌^◌, ◌≤◌, ◌∙◌, ◌*ℤ◌, 
 use mir.Syntax.{w128}
 use Rattle.std.proofs.lemmas.Int.{ints}
 use Rattle.corner_lift.specs.Case.{number}
-use Rattle.lower_cert.proofs.Beginning.{enough_of}
-use Rattle.lower_cert.proofs.raise.is_enough_for.Goals as goal
+use Rattle.lower_cert.proofs.Beginning.{closed_of}
+use Rattle.lower_cert.proofs.raise.is_closed_choice.Goals as goal
 
 pub times-requires : goal.times-requires
 times-requires g c =
@@ -21,4 +21,4 @@ returns g c =
     let product_fits : SFits w128 c.times.result = search rules in
     let product = to_z-of_z product_fits ∙ c.times.ensures ∙ ap₂ ◌*ℤ◌ (to_z-of_z number_fits) (to_z-of_z whole_fits ∙ c.table_least-sum.ensures.whole.value) in
     let test = rw (to_z-of_z least_fits, product) at c.is_at_most.ensures in
-    λ e. enough_of c.rows_at_corners.ensures.parameters c.args.case.now g.spans c.args.lane.now c.args.s c.args.a c.table_least-sum.result.sum c.requires.0.read.table.inside c.table_least-sum.ensures.least (test.0 e)
+    λ e. closed_of c.rows_at_corners.ensures.parameters c.args.case.now g.spans c.args.lane.now c.args.s c.args.a c.table_least-sum.result.sum c.requires.0.read.table.inside c.table_least-sum.ensures.least (test.0 e)
