@@ -1,6 +1,7 @@
 //! Which states lead to a state, in parts of one flat list.
 
 ghost use Rattle.std.specs.Prelude.{◌≡◌, ℕ, ◌+◌, ◌<◌, ◌≤◌, ◌^◌, ◌∷◌, [], length, sum, true, false, All, IfOk};
+ghost use Rattle.lift_model.specs.Valid.{most_states};
 ghost use Rattle.lift_model.specs.Before.{at as number_in, count_of, AreSums, ArePlaced, HaveRoom, AreEntered, HasLast, AreCuts, AreListed, AreSources, AreFirst, part};
 
 use std::alloc::{AllocError, Global};
@@ -86,7 +87,7 @@ fn enter_states(starts: &[u32], ends: &mut [u32], states: &mut [u32], targets: &
     requires targets { All (λ t. t < length ends.old) targets.now }
     requires room { HaveRoom starts.now ends.old (length ends.old) targets.now }
     requires cuts { AreCuts cuts.now (length ends.old) (length targets.now) }
-    requires small { length ends.old ≤ 65536 }
+    requires small { length ends.old ≤ most_states }
     ensures placed { ArePlaced starts.now ends.new (length states.new) (length ends.old) }
     ensures listed { AreListed (length ends.old) targets.now cuts.now (part starts.now ends.new states.new) (length ends.old) }
 {
@@ -139,7 +140,7 @@ pub(crate) fn find_sources(
     targets: &[u32],
     cuts: &[u32],
 ) -> Result<Sources, AllocError>
-    requires count { (1 ≤ count) × (count ≤ 65536) }
+    requires count { (1 ≤ count) × (count ≤ most_states) }
     requires small { length targets.now < 2 ^ 32 }
     requires targets { All (λ t. t < count) targets.now }
     requires cuts { AreCuts cuts.now count (length targets.now) }

@@ -2,6 +2,7 @@
 //! does it. Nothing is proved of the search: what it gives is tested at the end.
 
 ghost use Rattle.std.specs.Prelude.{◌≡◌, ◌≤◌, ◌<◌, ℕ, true, length, slice_index_or, IfOk};
+ghost use Rattle.lift_model.specs.Valid.{most_states};
 ghost use Rattle.lift_model.specs.Order.{IsOrder};
 
 use crate::lists::{number_at, put};
@@ -207,7 +208,7 @@ fn place_states(states: &[u32], positions: &mut [u32])
 
 /// Whether each state of the list has the position at which it stands there.
 fn stand_there(states: &[u32], positions: &[u32]) -> bool
-    requires { length states.now ≤ 65536 }
+    requires { length states.now ≤ most_states }
     ensures { result ≡ true → (i : ℕ) → i < length states.now → slice_index_or positions.now (slice_index_or states.now i 0) 0 ≡ i }
 {
     for (i, s) in states.iter().enumerate() {
@@ -220,7 +221,7 @@ fn stand_there(states: &[u32], positions: &[u32]) -> bool
 
 /// Whether each state is found at its position, and no other one is.
 fn are_placed(states: &[u32], positions: &[u32]) -> bool
-    requires { length positions.now ≤ 65536 }
+    requires { length positions.now ≤ most_states }
     ensures { result ≡ true → IsOrder states.now positions.now (length positions.now) }
 {
     if states.len() != positions.len() || !stand_there(states, positions) {

@@ -13,6 +13,9 @@ use lift_poly::{MultiAffine, coefficients_determine};
 /// How many sets are summed at a time, a block of them.
 const BLOCK: usize = 256;
 
+/// The same, to divide a set by.
+const BLOCK_SETS: u16 = 256;
+
 /// Adds the coefficients of a polynomial at the sets of a block to the sums there.
 fn add_terms(sums: &mut [i128; BLOCK], poly: &MultiAffine, block: u16)
     requires small { All (λ term. unsigned_abs term.1 < coefficient_limit) poly.now }
@@ -24,8 +27,8 @@ fn add_terms(sums: &mut [i128; BLOCK], poly: &MultiAffine, block: u16)
     coefficients_determine();
     for i in 0..poly.len() {
         let (set, coefficient) = poly.term(i);
-        if set / 256 == block {
-            sums[(set % 256) as usize] += coefficient;
+        if set / BLOCK_SETS == block {
+            sums[(set % BLOCK_SETS) as usize] += coefficient;
         }
     }
 }
@@ -60,7 +63,7 @@ fn first_wrong(sums: &[i128], block: u16, common: i64) -> Option<(u16, i128)>
         ((i : ℕ) → i < block_size → slice_index_or sums.now i (pos 0) ≡ due common (block * block_size + i))
         (λ fault. IsFirstWrong sums.now block common fault.0 fault.1) }
 {
-    let mut set = block * 256;
+    let mut set = block * BLOCK_SETS;
     for sum in sums {
         if *sum != due(common, set) {
             return Some((set, *sum));
@@ -77,7 +80,7 @@ pub(crate) fn sum_fault(common: i64, row: &Row) -> Option<(u16, i128)>
     ensures fault { MatchOption result (SumsToOne common row.now) (λ fault. IsSumFault common row.now fault.0 fault.1) }
     ensures size { IfSome result (λ fault. unsigned_abs fault.1 < engine_limit) }
 {
-    let support = row.support() / 256;
+    let support = row.support() / BLOCK_SETS;
     for block in 0..=support {
         // Only such blocks have sets of the row's parameters.
         if block | support == support {

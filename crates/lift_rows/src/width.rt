@@ -7,12 +7,15 @@ ghost use Rattle.lift_rows.specs.Sums.{AreSmall};
 use crate::candidate::Candidate;
 use lift_model::Row;
 
+/// Products and sums stay below this.
+const ENGINE_LIMIT: u128 = 1 << 126;
+
 /// The greatest number that stays below 2^126 when it is multiplied by so many of the greatest ends and
 /// by 2^w. It is found by division, so that nothing is formed that could leave 128 bits.
 fn limit_of(asked: &Candidate, count: u32) -> u128
     ensures { (n : ℕ) → (n ≤ result) ↔ (n * greatest_size asked.now.d asked.now.root ^ count * 2 ^ asked.now.w < engine_limit) }
 {
-    let mut limit = ((1u128 << 126) - 1) >> asked.w();
+    let mut limit = (ENGINE_LIMIT - 1) >> asked.w();
     let mut left = count;
     while left > 0 {
         limit /= asked.greatest();
