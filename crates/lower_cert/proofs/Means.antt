@@ -1,26 +1,20 @@
 -- Weighted sums as means, and what a row of a case gives at the corners of a rectangle.
-use Rattle.std.proofs.Common.{◌≡◌, ℕ, zero, suc, ◌^◌, ◌<◌, ◌≤◌, ◌⊎◌, Bool, true, false, List, [], ◌∷◌, length, get_or, All, ℤ, pos, ◌+ℤ◌, ◌*ℤ◌, ◌≤ℤ◌, ◌<ℤ◌, refl, sym, ap, ◌∙◌, arith, nat_lt, ltb-true, ltb-false}
+use Rattle.std.proofs.Common.{◌≡◌, ℕ, zero, suc, ◌^◌, ◌<◌, ◌≤◌, ◌⊎◌, Bool, true, false, List, [], ◌∷◌, length, get_or, All, ℤ, pos, ◌+ℤ◌, ◌*ℤ◌, ◌≤ℤ◌, ◌<ℤ◌, refl, sym, ap, subst, arith, nat_lt, ltb-true, ltb-false}
 use Rattle.std.proofs.lemmas.Int.{by_lt_z}
+use Rattle.std.proofs.lemmas.List.Elements.{All-cons, All-nil}
 use Rattle.lift_poly.proofs.Ring.{linear, mul-comm, mul-assoc, mul-add, add-mul, mul-zero, zero-mul, one-mul, mul-le, mul-lt}
 use Rattle.lift_grid.specs.Rectangle.{Spans}
 use Rattle.lift_grid.specs.Tree.{RejectData}
 use Rattle.lift_model.specs.declared.entry.Entry.{Entry}
-use Rattle.lift_poly.specs.Polynomial.{Valuation, weight}
 use Rattle.lift_model.specs.Links.{targets_of}
 use Rattle.lift_model.specs.Valid.{IsEntry}
 use Rattle.lift_model.specs.Process.{Move, power, weighted_sum}
 use Rattle.lift_model.specs.Model.{ModelData, support, is_goal, choices, row_at, moves_at}
 use Rattle.corner_lift.specs.Corner.{parameter_count, corner, corner_sum, whole}
-use Rattle.corner_lift.specs.Case.{CaseData, IsCase, IsInside, number}
+use Rattle.corner_lift.specs.Case.{CaseData, IsCase, IsInside, row_whole, number}
 use Rattle.corner_lift.specs.Certificate.{mark, unmarked, ranked_below, picked_row, IsLower, IsHeld}
-use Rattle.corner_lift.specs.Laws.{HasRow, NumbersAreInRange, ParametersAreTheRoots, SumsRise, WeightsSumToWhole}
-
--- the laws of rows at corners that all of this rests on
-pub record Premises : Type 0 where
-  pub numbers : NumbersAreInRange
-  pub rise : SumsRise
-  pub sums : WeightsSumToWhole
-  pub parameters : ParametersAreTheRoots
+use Rattle.corner_lift.specs.Laws.{HasRow}
+pub use Rattle.lower_cert.specs.Premises.{Premises}
 
 -- a rectangle inside a case's root, with these laws
 pub record Place (k : CaseData) (spans : Spans) : Type 0 where
@@ -51,10 +45,6 @@ pub sum-times : (q : ℤ) (f : ℕ → ℤ) (moves : List Move) → weighted_sum
 sum-times q f [] = omega (arith, linear, zero-mul q)
 sum-times q f (m ∷ moves) = omega (arith, linear, sum-times q f moves, add-mul (m.1 *ℤ f m.0) (weighted_sum f moves) q, mul-assoc m.1 (f m.0) q)
 
-pub constant : (q : ℤ) (moves : List Move) → weighted_sum (λ t. q) moves ≡ weighted_sum (λ t. pos 1) moves *ℤ q
-constant q [] = sym (zero-mul q)
-constant q (m ∷ moves) = omega (arith, linear, constant q moves, add-mul (m.1 *ℤ pos 1) (weighted_sum (λ t. pos 1) moves) q, mul-assoc m.1 (pos 1) q, ap (λ z. m.1 *ℤ z) (one-mul q))
-
 pub cancel-lt : (a b c : ℤ) → pos 0 <ℤ c → (a *ℤ c) <ℤ (b *ℤ c) → a <ℤ b
 cancel-lt a b c h lt = by_lt_z a b (λ l. l) (λ le. let f = mul-le c b a (omega (arith, linear)) le in absurd (omega (arith, linear, f, lt, mul-comm c a, mul-comm c b)))
 
@@ -77,17 +67,7 @@ state_of m s a lt = either_way (nat_lt s (length m.states)) (λ e. ltb-true s (l
     past_end (state ∷ states) zero a le lt = omega (arith, le)
     past_end (state ∷ states) (suc s) a le lt = past_end states s a (omega (arith, le)) lt
 
--- the sum of a row with one entry
-single : (v : Valuation) (f : ℕ → ℤ) (row : List Entry) (t : ℕ) → targets_of row ≡ t ∷ [] → weighted_sum f (moves_at v row) ≡ weighted_sum (λ i. pos 1) (moves_at v row) *ℤ f t
-single v f [] t e = absurd (omega (arith, ap (length {A = ℕ}) e))
-single v f (x ∷ []) t e =
-    let same : x.target ≡ t = ap (λ l. get_or l 0 0) e in
-    let w = weight v x.poly in
-    let all : w *ℤ pos 1 +ℤ pos 0 ≡ w = omega (arith, linear, mul-comm w (pos 1), one-mul w) in
-    omega (arith, linear, ap (λ i. w *ℤ f i) same, ap (λ n. n *ℤ f t) all)
-single v f (x ∷ (y ∷ row)) t e = absurd (omega (arith, ap (length {A = ℕ}) e))
-
--- and where it leads
+-- where a row with one entry leads
 pub only_inside : (n p : ℕ) (row : List Entry) (t : ℕ) → targets_of row ≡ t ∷ [] → All (IsEntry n p) row → t < n
 only_inside n p [] t e h = absurd (omega (arith, ap (length {A = ℕ}) e))
 only_inside n p (x ∷ row) t e h =
@@ -101,17 +81,24 @@ module _ (k : CaseData) (spans : Spans) (place : Place k spans) (s a : ℕ) (cho
   there : HasRow k s a
   there = record { state = state_of k.model s a choice; choice = choice }
 
-  pub ones : (c : ℕ) → c < 2 ^ parameter_count spans (support (row_at k.model s a)) → corner_sum k.d spans (row_at k.model s a) c (λ t. pos 1) ≡ whole k.model k.d spans (row_at k.model s a)
-  ones c lt = place.laws.sums k spans s a place.case place.within there c lt ∙ ap (λ n. k.model.common *ℤ power k.d n) (sym (place.laws.parameters k spans (row_at k.model s a) place.within.within))
-
   pub positive : pos 0 <ℤ whole k.model k.d spans (row_at k.model s a)
   positive =
       let set = support (row_at k.model s a) in
       product-positive k.model.common (power k.d (parameter_count spans set)) (omega (arith, linear, place.case.asked.model.denominator.0)) (power-positive k.d (parameter_count spans set) (omega (arith, linear, place.case.asked.grid.positive)))
 
-  -- a number that is everywhere the same sums to the whole times it
+  -- where all targets of a row have the same number, its sum is the whole times it
+  weighed : (c : ℕ) → c < 2 ^ parameter_count spans (support (row_at k.model s a)) → (f : ℕ → ℤ) (n : ℤ) → All (λ t. f t ≡ n) (targets_of (row_at k.model s a)) → corner_sum k.d spans (row_at k.model s a) c f ≡ whole k.model k.d spans (row_at k.model s a) *ℤ n
+  weighed c lt f n all =
+      let most = place.laws.most k spans s a f n place.case place.within there (λ i t at. omega (arith, linear, all i t at)) c lt in
+      let least = place.laws.least k spans s a f n place.case place.within there (λ i t at. omega (arith, linear, all i t at)) c lt in
+      let same : whole k.model k.d spans (row_at k.model s a) ≡ row_whole k s a = ap (λ count. k.model.common *ℤ power k.d count) (place.laws.parameters k spans (row_at k.model s a) place.within.within) in
+      omega (arith, linear, most, least, mul-comm n (row_whole k s a), ap (λ z. z *ℤ n) same)
+
   pub level : (c : ℕ) → c < 2 ^ parameter_count spans (support (row_at k.model s a)) → (q : ℤ) → corner_sum k.d spans (row_at k.model s a) c (λ t. q) ≡ whole k.model k.d spans (row_at k.model s a) *ℤ q
-  level c lt q = constant q (moves_at (corner k.d spans (support (row_at k.model s a)) c) (row_at k.model s a)) ∙ ap (λ z. z *ℤ q) (ones c lt)
+  level c lt q = weighed c lt (λ t. q) q (λ i t at. refl)
+
+  pub ones : (c : ℕ) → c < 2 ^ parameter_count spans (support (row_at k.model s a)) → corner_sum k.d spans (row_at k.model s a) c (λ t. pos 1) ≡ whole k.model k.d spans (row_at k.model s a)
+  ones c lt = let whole_is = whole k.model k.d spans (row_at k.model s a) in omega (arith, linear, level c lt (pos 1), mul-comm whole_is (pos 1), one-mul whole_is)
 
   pub mono : (c : ℕ) (f g : ℕ → ℤ) → ((t : ℕ) → f t ≤ℤ g t) → corner_sum k.d spans (row_at k.model s a) c f ≤ℤ corner_sum k.d spans (row_at k.model s a) c g
   mono c f g le = place.laws.rise k spans s a c f g place.case place.within there le
@@ -122,9 +109,8 @@ module _ (k : CaseData) (spans : Spans) (place : Place k spans) (s a : ℕ) (cho
   pub scaled : (c : ℕ) (q : ℤ) (f : ℕ → ℤ) → corner_sum k.d spans (row_at k.model s a) c (λ t. f t *ℤ q) ≡ corner_sum k.d spans (row_at k.model s a) c f *ℤ q
   scaled c q f = sum-times q f (moves_at (corner k.d spans (support (row_at k.model s a)) c) (row_at k.model s a))
 
-  -- a row with one entry weighs its target's number with all its weight
   pub only : (c : ℕ) → c < 2 ^ parameter_count spans (support (row_at k.model s a)) → (t : ℕ) → targets_of (row_at k.model s a) ≡ t ∷ [] → (f : ℕ → ℤ) → corner_sum k.d spans (row_at k.model s a) c f ≡ whole k.model k.d spans (row_at k.model s a) *ℤ f t
-  only c lt t e f = single (corner k.d spans (support (row_at k.model s a)) c) f (row_at k.model s a) t e ∙ ap (λ z. z *ℤ f t) (ones c lt)
+  only c lt t e f = weighed c lt f (f t) (subst (All (λ i. f i ≡ f t)) (sym e) (All-cons (λ i. f i ≡ f t) t [] refl (All-nil (λ i. f i ≡ f t))))
 
 -- ---- a lower vector
 

@@ -5,3 +5,4 @@ pub mod Lowering
 pub mod Exits
 pub mod Limit
 pub mod Beginning
+pub mod Premises

@@ -10,12 +10,10 @@ ghost use Rattle.lower_cert.specs.Capping.{marked};
 ghost use Rattle.lower_cert.specs.Lowering.{IsRead, IsHigh, IsLowered, from_top};
 ghost use Rattle.lower_cert.specs.Exits.{AreLevel, CanExit, ExitsAtMost, ChoicesExitAtMost, StatesExitAtMost, AreLoweredTo};
 
-use crate::laws::vectors_are_lowered;
+use crate::laws::{premises, vectors_are_lowered};
 use crate::lower::{NONE, rank_of};
 use crate::sweep::{choice_count, exit, greater, lesser};
-use corner_lift::{
-    Case, corners_bound_weights, rows_at_corners, table_into, table_value, table_whole,
-};
+use corner_lift::{Case, rows_at_corners, table_into, table_value, table_whole};
 use lift_model::Links;
 
 /// 0 for a state without rank that has the number, and 1 for any other.
@@ -58,8 +56,7 @@ fn exit_at_corner(
     ensures least { pos 0 ≤ℤ result }
     ensures most { ExitsAtMost case.now spans lane.now marks.now level s a result }
 {
-    rows_at_corners();
-    corners_bound_weights();
+    premises();
     let _ = case.w();
     let whole = table_whole(case, links, weights, s, a);
     let into = table_into(case, links, weights, s, a, corner, marks, 1);
@@ -110,8 +107,7 @@ fn exit_of_choices(
     requires state { s < length case.now.model.states }
     ensures { ChoicesExitAtMost case.now spans lane.now marks.now level s (length (choices case.now.model s)) result }
 {
-    rows_at_corners();
-    corners_bound_weights();
+    premises();
     let _ = case.w();
     let mut most = 0;
     for a in 0..choice_count(case, links, s) {
@@ -156,8 +152,7 @@ fn best_exit(
     requires { CanExit case.now links.now spans weights.now lane.now marks.now level }
     ensures { StatesExitAtMost case.now spans lane.now marks.now level (length case.now.model.states) result }
 {
-    rows_at_corners();
-    corners_bound_weights();
+    premises();
     let mut most = 0;
     for s in 0..case.model().states() {
         let other = exit_of_state(case, links, weights, lane, marks, level, s);

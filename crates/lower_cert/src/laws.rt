@@ -16,8 +16,9 @@ ghost use Rattle.lower_cert.specs.Laws.{
   SmallRefutes,
 };
 ghost use Rattle.lower_cert.specs.AnyRanks.{RanksFit, HeightFits};
+ghost use Rattle.lower_cert.specs.Premises.{Premises};
 
-use corner_lift::{corners_bound_weights, rows_at_corners};
+use corner_lift::rows_at_corners;
 
 /// Lowering a vector that is at or above every lower vector: which steps keep it so, from where to
 /// start, and when what is left is the greatest lower vector, which is one. Where it is within the
@@ -37,8 +38,7 @@ pub fn vectors_are_lowered()
     ensures guess { GuessIsAbove }
     ensures refutes { SmallRefutes }
 {
-    corners_bound_weights();
-    rows_at_corners();
+    premises();
 }
 
 /// Ranks of at most the number of states leave no lower vector out: one with any ranks has one with such
@@ -47,3 +47,10 @@ pub fn ranks_fit()
     ensures any { RanksFit }
     ensures greatest { HeightFits }
 {}
+
+/// The laws of rows at corners that the proofs here rest on.
+pub(crate) fn premises()
+    ensures { Premises }
+{
+    rows_at_corners();
+}

@@ -9,9 +9,9 @@ ghost use Rattle.corner_lift.specs.Certificate.{AreNumbers, mark, unmarked};
 ghost use Rattle.corner_lift.specs.Stages.{IsAllowed};
 ghost use Rattle.lower_cert.specs.Lowering.{IsRead, HasPlaces, IsHigh, IsRanked, AreToldBefore, IsStuckLevel, IsLoweredAt, total};
 
-use crate::laws::vectors_are_lowered;
+use crate::laws::{premises, vectors_are_lowered};
 use crate::sweep::{choice_count, only_target};
-use corner_lift::{Case, Weighed, corners_bound_weights, one_at, rows_at_corners, table_least};
+use corner_lift::{Case, Weighed, one_at, rows_at_corners, table_least};
 use lift_model::Links;
 use robust_rank::{attract, ranks_go_by_stages};
 
@@ -66,8 +66,7 @@ fn is_allowed(case: &Case, links: &Links, weights: &[i128], lane: &[i64], s: u32
     requires row { HasChoice case.now.model s a }
     ensures { IsTrue result ↔ IsAllowed case.now spans (number lane.now) s a }
 {
-    rows_at_corners();
-    corners_bound_weights();
+    premises();
     let _ = case.w();
     let number = lane[s as usize];
     if number <= 0 {

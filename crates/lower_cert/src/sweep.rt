@@ -7,11 +7,9 @@ ghost use Rattle.lift_model.specs.Links.{AreLinks, HasChoice, state_count, targe
 ghost use Rattle.corner_lift.specs.Case.{number, corner_count, engine_limit};
 ghost use Rattle.lower_cert.specs.Lowering.{Run, CanWeigh, CanLower, IsExit, HoldsNoMore, HoldNoMore, IsLowered, IsWrittenLower};
 
-use crate::laws::vectors_are_lowered;
+use crate::laws::{premises, vectors_are_lowered};
 use crate::lower::times;
-use corner_lift::{
-    AtCorner, Case, Weighed, corners_bound_weights, rows_at_corners, table_corner, table_least,
-};
+use corner_lift::{AtCorner, Case, Weighed, rows_at_corners, table_corner, table_least};
 use lift_model::Links;
 
 /// The quotient of two numbers. Where they fit 64 bits, so does the division.
@@ -89,8 +87,7 @@ fn exit_at(
     ensures least { pos 0 ≤ℤ result }
     ensures most { HoldsNoMore case.now spans lane.now s a result }
 {
-    rows_at_corners();
-    corners_bound_weights();
+    premises();
     let _ = case.w();
     let AtCorner { sum, whole, own } = table_corner(case, links, weights, s, a, corner, lane);
     exit(lane[s as usize], sum, own, whole)
@@ -192,8 +189,7 @@ fn held(case: &Case, links: &Links, weights: &[i128], lane: &[i64], s: u32, a: u
     ensures least { pos 0 ≤ℤ result }
     ensures most { HoldsNoMore case.now spans lane.now s a result }
 {
-    rows_at_corners();
-    corners_bound_weights();
+    premises();
     let _ = case.w();
     if let Some(target) = only_target(case, links, s, a) {
         if target != s {
@@ -234,8 +230,7 @@ fn most_held(case: &Case, links: &Links, weights: &[i128], lane: &[i64], s: u32)
     requires state { s < length case.now.model.states }
     ensures { HoldNoMore case.now spans lane.now s (length (choices case.now.model s)) result }
 {
-    rows_at_corners();
-    corners_bound_weights();
+    premises();
     let _ = case.w();
     let number = lane[s as usize];
     let mut most = 0;

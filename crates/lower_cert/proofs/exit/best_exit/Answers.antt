@@ -1,13 +1,12 @@
 use Rattle.std.proofs.Common.{rules, ap, length, SFits, w64, to_z, of_z, to_z-of_z, arith}
 use Rattle.lift_model.specs.Model.{ModelData}
-use Rattle.lower_cert.proofs.Means.{Premises, stand}
+use Rattle.lower_cert.proofs.Means.{stand}
 use Rattle.lower_cert.proofs.BestExit.{states_next, states_all}
 use Rattle.lower_cert.proofs.exit.best_exit.Goals as goal
 
 pub loop-s-preserved : goal.loop-s-preserved
 loop-s-preserved g c =
-    let corners = c.rows_at_corners.ensures in
-    let laws : Premises = record { numbers = corners.numbers; rise = corners.rise; sums = c.corners_bound_weights.ensures.sum; parameters = corners.parameters } in
+    let laws = c.premises.ensures in
     let place = stand laws c.args.case.now g.spans c.model.ensures.case c.requires.read.table.inside in
     let fits : SFits w64 c.greater-most.result = search rules in
     let other_fits : SFits w64 c.exit_of_state-other.result = search rules in

@@ -4,14 +4,13 @@ use Rattle.std.proofs.lemmas.Int.{ints}
 use Rattle.lift_poly.proofs.Ring.{linear}
 use Rattle.corner_lift.specs.Case.{number, engine_limit}
 use Rattle.lower_cert.specs.Capping.{marked}
-use Rattle.lower_cert.proofs.Means.{Premises, stand}
+use Rattle.lower_cert.proofs.Means.{stand}
 use Rattle.lower_cert.proofs.Exits.{part_room, into_least, into_most, rest_least, exit_caps, at_spans}
 use Rattle.lower_cert.proofs.exit.exit_at_corner.Goals as goal
 
 pub exit-requires-clause-number : goal.exit-requires-clause-number
 exit-requires-clause-number g c =
-    let corners = c.rows_at_corners.ensures in
-    let laws : Premises = record { numbers = corners.numbers; rise = corners.rise; sums = c.corners_bound_weights.ensures.sum; parameters = corners.parameters } in
+    let laws = c.premises.ensures in
     let place = stand laws c.args.case.now g.spans c.w.ensures.case c.requires.0.read.table.inside in
     let n_is = to_z-of_z c.ranges.level in
     let range = c.requires.0.range in
@@ -20,8 +19,7 @@ exit-requires-clause-number g c =
 
 pub exit-requires-clause-into : goal.exit-requires-clause-into
 exit-requires-clause-into g c =
-    let corners = c.rows_at_corners.ensures in
-    let laws : Premises = record { numbers = corners.numbers; rise = corners.rise; sums = c.corners_bound_weights.ensures.sum; parameters = corners.parameters } in
+    let laws = c.premises.ensures in
     let place = stand laws c.args.case.now g.spans c.w.ensures.case c.requires.0.read.table.inside in
     let o_fits : SFits w128 c.table_into-into.result = search rules in
     let o_is = to_z-of_z o_fits ∙ c.table_into-into.ensures in
@@ -31,8 +29,7 @@ exit-requires-clause-into g c =
 
 pub exit-requires-clause-room : goal.exit-requires-clause-room
 exit-requires-clause-room g c =
-    let corners = c.rows_at_corners.ensures in
-    let laws : Premises = record { numbers = corners.numbers; rise = corners.rise; sums = c.corners_bound_weights.ensures.sum; parameters = corners.parameters } in
+    let laws = c.premises.ensures in
     let place = stand laws c.args.case.now g.spans c.w.ensures.case c.requires.0.read.table.inside in
     let n_is = to_z-of_z c.ranges.level in
     let range = c.requires.0.range in
@@ -43,8 +40,7 @@ exit-requires-clause-room g c =
 
 pub exit-requires-clause-part : goal.exit-requires-clause-part
 exit-requires-clause-part g c =
-    let corners = c.rows_at_corners.ensures in
-    let laws : Premises = record { numbers = corners.numbers; rise = corners.rise; sums = c.corners_bound_weights.ensures.sum; parameters = corners.parameters } in
+    let laws = c.premises.ensures in
     let place = stand laws c.args.case.now g.spans c.w.ensures.case c.requires.0.read.table.inside in
     let n_is = to_z-of_z c.ranges.level in
     let range = c.requires.0.range in
@@ -55,8 +51,7 @@ exit-requires-clause-part g c =
 
 pub exit-requires-clause-sum : goal.exit-requires-clause-sum
 exit-requires-clause-sum g c =
-    let corners = c.rows_at_corners.ensures in
-    let laws : Premises = record { numbers = corners.numbers; rise = corners.rise; sums = c.corners_bound_weights.ensures.sum; parameters = corners.parameters } in
+    let laws = c.premises.ensures in
     let place = stand laws c.args.case.now g.spans c.w.ensures.case c.requires.0.read.table.inside in
     let n_is = to_z-of_z c.ranges.level in
     let range = c.requires.0.range in
@@ -64,12 +59,11 @@ exit-requires-clause-sum g c =
     let o_is = to_z-of_z o_fits ∙ c.table_into-into.ensures in
     let s_fits : SFits w128 c.table_value-sum.result = search rules in
     let s_is = to_z-of_z s_fits ∙ c.table_value-sum.ensures in
-    rw (n_is, o_is, s_is) (rest_least c.args.case.now g.spans place c.args.s c.args.a c.requires.1.0.choice c.args.corner c.requires.1.1 (marked c.args.marks.now) (number c.args.lane.now) c.args.level c.requires.0.level (λ t. (corners.numbers c.args.case.now c.args.lane.now t c.requires.0.high.numbers).0))
+    rw (n_is, o_is, s_is) (rest_least c.args.case.now g.spans place c.args.s c.args.a c.requires.1.0.choice c.args.corner c.requires.1.1 (marked c.args.marks.now) (number c.args.lane.now) c.args.level c.requires.0.level (λ t. (laws.numbers c.args.case.now c.args.lane.now t c.requires.0.high.numbers).0))
 
 pub returns-clause-most : goal.returns-clause-most
 returns-clause-most g c =
-    let corners = c.rows_at_corners.ensures in
-    let laws : Premises = record { numbers = corners.numbers; rise = corners.rise; sums = c.corners_bound_weights.ensures.sum; parameters = corners.parameters } in
+    let laws = c.premises.ensures in
     let place = stand laws c.args.case.now g.spans c.w.ensures.case c.requires.0.read.table.inside in
     let n_is = to_z-of_z c.ranges.level in
     let range = c.requires.0.range in

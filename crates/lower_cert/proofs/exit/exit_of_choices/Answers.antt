@@ -1,12 +1,11 @@
 use Rattle.std.proofs.Common.{rules, SFits, w64, to_z, of_z, to_z-of_z, arith}
-use Rattle.lower_cert.proofs.Means.{Premises, stand}
+use Rattle.lower_cert.proofs.Means.{stand}
 use Rattle.lower_cert.proofs.BestExit.{choices_next, choices_all}
 use Rattle.lower_cert.proofs.exit.exit_of_choices.Goals as goal
 
 pub loop-a-preserved : goal.loop-a-preserved
 loop-a-preserved g c =
-    let corners = c.rows_at_corners.ensures in
-    let laws : Premises = record { numbers = corners.numbers; rise = corners.rise; sums = c.corners_bound_weights.ensures.sum; parameters = corners.parameters } in
+    let laws = c.premises.ensures in
     let place = stand laws c.args.case.now g.spans c.w.ensures.case c.requires.0.read.table.inside in
     let fits : SFits w64 c.greater-most.result = search rules in
     let other_fits : SFits w64 c.exit_of_choice-other.result = search rules in

@@ -1,4 +1,3 @@
-use Rattle.lower_cert.proofs.Means.{Premises}
 use Rattle.lower_cert.proofs.Capped.{capped_is_below, capping_keeps, quotient_caps, staying_caps, caps_more, level_caps, capping_keeps_under}
 use Rattle.lower_cert.proofs.Closed.{closed_is_above}
 use Rattle.lower_cert.proofs.Stuck.{stuck_are_capped, stages_are_greatest, greatest_is_one}
@@ -7,8 +6,7 @@ use Rattle.lower_cert.proofs.laws.vectors_are_lowered.Goals as goal
 
 pub returns : goal.returns
 returns c =
-    let corners = c.rows_at_corners.ensures in
-    let laws : Premises = record { numbers = corners.numbers; rise = corners.rise; sums = c.corners_bound_weights.ensures.sum; parameters = corners.parameters } in
+    let laws = c.premises.ensures in
     record {
       below = capped_is_below laws;
       keeps = capping_keeps laws;

@@ -1,6 +1,6 @@
 use Rattle.std.proofs.Common.{rules, SFits, w64, to_z-of_z}
 use Rattle.corner_lift.specs.Case.{number}
-use Rattle.lower_cert.proofs.Means.{Premises, stand}
+use Rattle.lower_cert.proofs.Means.{stand}
 use Rattle.lower_cert.proofs.Sweeping.{only_holds, target_inside}
 use Rattle.lower_cert.proofs.sweep.held.Goals as goal
 
@@ -10,11 +10,15 @@ bounds-lane-target g c = target_inside c.args.case.now c.args.s c.args.a c.in-So
 pub returns-then-target-s-clause-least : goal.returns-then-target-s-clause-least
 returns-then-target-s-clause-least g c =
     let fits : SFits w64 (number c.args.lane.now c.in-Some.target) = search rules in
-    rw (to_z-of_z fits) ((c.rows_at_corners.ensures.numbers c.args.case.now c.args.lane.now c.in-Some.target c.requires.0.numbers).0)
+    rw (to_z-of_z fits) ((c.premises.ensures.numbers c.args.case.now c.args.lane.now c.in-Some.target c.requires.0.numbers).0)
 
 pub returns-then-target-s-clause-most : goal.returns-then-target-s-clause-most
 returns-then-target-s-clause-most g c =
-    let corners = c.rows_at_corners.ensures in
-    let laws : Premises = record { numbers = corners.numbers; rise = corners.rise; sums = c.corners_bound_weights.ensures.sum; parameters = corners.parameters } in
+    let laws = c.premises.ensures in
     let fits : SFits w64 (number c.args.lane.now c.in-Some.target) = search rules in
     rw (to_z-of_z fits) (only_holds c.args.case.now g.spans (stand laws c.args.case.now g.spans c.w.ensures.case c.requires.0.read.table.inside) c.args.lane.now c.args.s c.args.a c.in-Some.target c.requires.1.choice c.in-Some.ensures)
+
+pub returns-else-has_loop-clause-most : goal.returns-else-has_loop-clause-most
+returns-else-has_loop-clause-most g c =
+    let fits : SFits w64 c.held_by_least.result = search rules in
+    rw (to_z-of_z fits) c.held_by_least.ensures.most

@@ -1,14 +1,13 @@
 use Rattle.std.proofs.Common.{rules, SFits, w64, to_z, of_z, to_z-of_z, arith}
 use Rattle.lift_poly.proofs.Ring.{linear, le_from_test}
 use Rattle.corner_lift.specs.Case.{number}
-use Rattle.lower_cert.proofs.Means.{Premises, stand}
+use Rattle.lower_cert.proofs.Means.{stand}
 use Rattle.lower_cert.proofs.Sweeping.{hold_next}
 use Rattle.lower_cert.proofs.sweep.most_held.Goals as goal
 
 pub loop-a-preserved : goal.loop-a-preserved
 loop-a-preserved g c =
-    let corners = c.rows_at_corners.ensures in
-    let laws : Premises = record { numbers = corners.numbers; rise = corners.rise; sums = c.corners_bound_weights.ensures.sum; parameters = corners.parameters } in
+    let laws = c.premises.ensures in
     let fits : SFits w64 c.greater-most.result = search rules in
     let held_fits : SFits w64 c.held.result = search rules in
     let up = rw (to_z-of_z held_fits) at c.greater-most.ensures in
