@@ -6,6 +6,7 @@ use Rattle.std.specs.List.{list_any}
 use Rattle.std.proofs.lemmas.List.{get_or-set_same, get_or-set_other, length-set, map-append, reverse-append}
 use Rattle.std.proofs.lemmas.Bool.{ltb-true, eqb-true, eqb-false}
 use Rattle.lift_model.specs.declared.entry.Entry.{Entry}
+use Rattle.lift_poly.specs.Polynomial.{Term}
 use Rattle.line_text.specs.declared.error.TextError.{TextError}
 use Rattle.line_text.specs.declared.error.TextCause.TheVariants.{Syntax, Limit}
 use Rattle.line_text.specs.Reading.{◌>>=◌, Cursor, line_at, at, due}
@@ -13,31 +14,45 @@ use Rattle.line_text.specs.Words.{words, number_of, pair_of}
 use Rattle.line_text.specs.Parts.{Words, Read, must, first, spelled, keyed, each, between, count_of}
 use Rattle.cert_text.specs.Lines.{entry_of, most_terms, terms_in}
 use Rattle.cert_text.specs.Head.{entries_at}
-use Rattle.cert_text.specs.Shown.{entry_in, entry_by, has_mark, AreMarked, targets_back}
+use Rattle.cert_text.specs.Shown.{entry_in, entry_by, terms_of, has_mark, AreMarked, targets_back}
 
 and_right : (a b : Bool) → (a && b) ≡ true → b ≡ true
 and_right true b e = e
 and_right false b e = absurd cc
 
--- tests that agree below the number of states read the same
-same_target : (states parameters : ℕ) (f g : ℕ → Bool) (z : ℤ) (terms : List (ℤ × ℤ)) → ((s : ℕ) → s < states → f s ≡ g s) → ◌≡◌ {A = Read Entry} (between 0 states z >>= λ target. must (not (f target)) Syntax >>= λ _. terms_in parameters 0 None terms >>= λ poly. Ok (record { target = target; poly = poly })) (between 0 states z >>= λ target. must (not (g target)) Syntax >>= λ _. terms_in parameters 0 None terms >>= λ poly. Ok (record { target = target; poly = poly }))
-same_target states parameters f g (negsuc n) terms same = refl
-same_target states parameters f g (pos n) terms same = by_test (nat_le 0 n && nat_lt n states) refl
-  where
-    by_test : (t : Bool) → (nat_le 0 n && nat_lt n states) ≡ t → ◌≡◌ {A = Read Entry} ((must t Limit >>= λ _. Ok n) >>= λ target. must (not (f target)) Syntax >>= λ _. terms_in parameters 0 None terms >>= λ poly. Ok (record { target = target; poly = poly })) ((must t Limit >>= λ _. Ok n) >>= λ target. must (not (g target)) Syntax >>= λ _. terms_in parameters 0 None terms >>= λ poly. Ok (record { target = target; poly = poly }))
-    by_test false e = refl
-    by_test true e = ap (λ b. must (not b) Syntax >>= λ _. terms_in parameters 0 None terms >>= λ poly. Ok (record { target = n; poly = poly })) (same n (ltb-true n states (and_right (nat_le 0 n) (nat_lt n states) e)))
+-- the entry of a target and what was read of its terms
+with_target : (ℕ → Bool) → Read (List Term) → ℕ → Read Entry
+with_target taken read target = must (not (taken target)) Syntax >>= λ _. read >>= λ poly. Ok (record { target = target; poly = poly })
 
-from_terms : ℕ → ℕ → (ℕ → Bool) → ℤ → List (ℤ × ℤ) → Read Entry
-from_terms states parameters taken z terms = must (nat_le (length terms) most_terms) Syntax >>= λ _. between 0 states z >>= λ target. must (not (taken target)) Syntax >>= λ _. terms_in parameters 0 None terms >>= λ poly. Ok (record { target = target; poly = poly })
+-- tests that agree below the number of states read the same
+same_target : (states : ℕ) (f g : ℕ → Bool) (z : ℤ) (read : Read (List Term)) → ((s : ℕ) → s < states → f s ≡ g s) → (between 0 states z >>= with_target f read) ≡ (between 0 states z >>= with_target g read)
+unfolding with_target
+same_target states f g (negsuc n) read same = refl
+same_target states f g (pos n) read same = by_test (nat_le 0 n && nat_lt n states) refl
+  where
+    by_test : (t : Bool) → (nat_le 0 n && nat_lt n states) ≡ t → ((must t Limit >>= λ _. Ok n) >>= with_target f read) ≡ ((must t Limit >>= λ _. Ok n) >>= with_target g read)
+    by_test false e = refl
+    by_test true e = ap (λ b. must (not b) Syntax >>= λ _. read >>= λ poly. Ok (record { target = n; poly = poly })) (same n (ltb-true n states (and_right (nat_le 0 n) (nat_lt n states) e)))
 
 same_entry : (states parameters : ℕ) (f g : ℕ → Bool) (z : ℤ) (ws : Words) → ((s : ℕ) → s < states → f s ≡ g s) → entry_in states parameters f z ws ≡ entry_in states parameters g z ws
-unfolding from_terms
-same_entry states parameters f g z ws same = by_terms (each (pair_of 58) ws)
+unfolding with_target
+same_entry states parameters f g z ws same = by_read (terms_of parameters ws)
   where
-    by_terms : (r : Read (List (ℤ × ℤ))) → (r >>= from_terms states parameters f z) ≡ (r >>= from_terms states parameters g z)
-    by_terms (Err e) = refl
-    by_terms (Ok terms) = ap (λ r. must (nat_le (length terms) most_terms) Syntax >>= λ _. r) (same_target states parameters f g z terms same)
+    by_read : (r : Read (Read (List Term))) → (r >>= λ read. between 0 states z >>= with_target f read) ≡ (r >>= λ read. between 0 states z >>= with_target g read)
+    by_read (Err e) = refl
+    by_read (Ok read) = same_target states f g z read same
+
+-- the entry of a target and terms, behind the form of all
+entry_of_terms : (states parameters : ℕ) (taken : ℕ → Bool) (z : ℤ) (ws : Words) → ◌≡◌ {A = Read Entry} (each (pair_of 58) ws >>= λ terms. must (nat_le (length terms) most_terms) Syntax >>= λ _. between 0 states z >>= λ target. must (not (taken target)) Syntax >>= λ _. terms_in parameters 0 None terms >>= λ poly. Ok (record { target = target; poly = poly })) (entry_in states parameters taken z ws)
+entry_of_terms states parameters taken z ws = by_pairs (each (pair_of 58) ws)
+  where
+    by_size : (b : Bool) (terms : List (ℤ × ℤ)) → ◌≡◌ {A = Read Entry} (must b Syntax >>= λ _. between 0 states z >>= λ target. must (not (taken target)) Syntax >>= λ _. terms_in parameters 0 None terms >>= λ poly. Ok (record { target = target; poly = poly })) ((must b Syntax >>= λ _. Ok (terms_in parameters 0 None terms)) >>= λ read. between 0 states z >>= λ target. must (not (taken target)) Syntax >>= λ _. read >>= λ poly. Ok (record { target = target; poly = poly }))
+    by_size true terms = refl
+    by_size false terms = refl
+
+    by_pairs : (r : Read (List (ℤ × ℤ))) → ◌≡◌ {A = Read Entry} (r >>= λ terms. must (nat_le (length terms) most_terms) Syntax >>= λ _. between 0 states z >>= λ target. must (not (taken target)) Syntax >>= λ _. terms_in parameters 0 None terms >>= λ poly. Ok (record { target = target; poly = poly })) ((r >>= λ terms. must (nat_le (length terms) most_terms) Syntax >>= λ _. Ok (terms_in parameters 0 None terms)) >>= λ read. between 0 states z >>= λ target. must (not (taken target)) Syntax >>= λ _. read >>= λ poly. Ok (record { target = target; poly = poly }))
+    by_pairs (Err e) = refl
+    by_pairs (Ok terms) = by_size (nat_le (length terms) most_terms) terms
 
 -- the words of an entry's line, by its first number and the rest
 with_rest : Words → ℤ → Read (ℤ × Words)
@@ -50,11 +65,14 @@ entry_parts : (states parameters : ℕ) (before : List ℕ) (ws : Words) → ent
 unfolding with_rest parts_of
 entry_parts states parameters before ws = by_keyed (keyed (codes "to") ws)
   where
-    by_spelled : (o : Option ℤ) (rest : Words) → (spelled o >>= λ z. entry_in states parameters (λ s. list_any (nat_eq s) before) z rest) ≡ ((spelled o >>= with_rest rest) >>= λ c. entry_in states parameters (λ s. list_any (nat_eq s) before) c.0 c.1)
-    by_spelled None rest = refl
-    by_spelled (Some z) rest = refl
+    pairs_entry : ℤ → Words → Read Entry
+    pairs_entry z rest = each (pair_of 58) rest >>= λ terms. must (nat_le (length terms) most_terms) Syntax >>= λ _. between 0 states z >>= λ target. must (not (list_any (nat_eq target) before)) Syntax >>= λ _. terms_in parameters 0 None terms >>= λ poly. Ok (record { target = target; poly = poly })
 
-    by_keyed : (k : Read Words) → (k >>= λ rest. first rest >>= λ parts. spelled (number_of parts.0) >>= λ z. entry_in states parameters (λ s. list_any (nat_eq s) before) z parts.1) ≡ ((k >>= parts_of) >>= λ c. entry_in states parameters (λ s. list_any (nat_eq s) before) c.0 c.1)
+    by_spelled : (o : Option ℤ) (rest : Words) → (spelled o >>= λ z. pairs_entry z rest) ≡ ((spelled o >>= with_rest rest) >>= λ c. entry_in states parameters (λ s. list_any (nat_eq s) before) c.0 c.1)
+    by_spelled None rest = refl
+    by_spelled (Some z) rest = entry_of_terms states parameters (λ s. list_any (nat_eq s) before) z rest
+
+    by_keyed : (k : Read Words) → (k >>= λ rest. first rest >>= λ parts. spelled (number_of parts.0) >>= λ z. pairs_entry z parts.1) ≡ ((k >>= parts_of) >>= λ c. entry_in states parameters (λ s. list_any (nat_eq s) before) c.0 c.1)
     by_keyed (Err e) = refl
     by_keyed (Ok []) = refl
     by_keyed (Ok (w ∷ rest)) = by_spelled (number_of w) rest

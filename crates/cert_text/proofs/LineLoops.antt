@@ -13,7 +13,7 @@ use Rattle.line_text.specs.Parts.{Words, Read, must, spelled, each}
 use Rattle.line_text.specs.Shown.{first_of, is_none_left}
 use Rattle.cert_text.specs.Lines.{is_value, mark_of, mark_in, marks_in}
 use Rattle.cert_text.specs.Shown.{in_values}
-use Rattle.cert_text.specs.Left.{marks_by, values_left, in_marks, marks_so, marks_left}
+use Rattle.cert_text.specs.Left.{value_first, mark_first, marks_by, values_left, in_marks, marks_so, marks_left}
 
 -- ---- word by word
 
@@ -45,6 +45,16 @@ pub each_end : {A : Type 0} (of : List ℕ → Option A) (rest : Words) → is_n
 each_end of [] e = refl
 each_end of (w ∷ ws) e = absurd cc
 
+first_map : {A B : Type 0} (f : A → B) (o : Option (A × Words)) (y : B) (behind : Words) → option_map {U = B × Words} (λ x. (f x.0, x.1)) o ≡ Some (y, behind) → (x : A) × (o ≡ Some (x, behind)) × (f x ≡ y)
+first_map f None y behind e = absurd (cc e)
+first_map {A} {B} f (Some x) y behind e =
+    let pair : ◌≡◌ {A = B × Words} (f x.0, x.1) (y, behind) = ap (pair_in (f x.0, x.1)) e in
+    (x.0, ap (λ ws. Some (x.0, ws)) (ap (λ p. p.1) pair), ap (λ p. p.0) pair)
+
+map_none : {A B : Type 0} (f : A → B) (o : Option (A × Words)) → option_map {U = B × Words} (λ x. (f x.0, x.1)) o ≡ None → o ≡ None
+map_none f None e = refl
+map_none f (Some x) e = absurd cc
+
 -- ---- numbers
 
 and_false : (b : Bool) → b && false ≡ false
@@ -69,32 +79,43 @@ regroup (Ok xs) x f g same = same xs
 regroup (Err e) x f g same = refl
 
 -- what the test of a number says
-pub value_fits : (u : ℕ) (z n : ℤ) → in_values u z ≡ Some n → (is_value u z ≡ true) × (z ≡ n)
+value_fits : (u : ℕ) (z n : ℤ) → in_values u z ≡ Some n → (is_value u z ≡ true) × (z ≡ n)
 value_fits u z n e = by_test (is_value u z) refl e
   where
     by_test : (b : Bool) → is_value u z ≡ b → cond b (Some z) None ≡ Some n → (is_value u z ≡ true) × (z ≡ n)
     by_test true t e = (t, cc)
     by_test false t e = absurd (cc e)
 
-pub value_misses : (u : ℕ) (z : ℤ) → in_values u z ≡ None → is_value u z ≡ false
+value_misses : (u : ℕ) (z : ℤ) → in_values u z ≡ None → is_value u z ≡ false
 value_misses u z e = by_test (is_value u z) refl e
   where
     by_test : (b : Bool) → is_value u z ≡ b → cond b (Some z) None ≡ None → is_value u z ≡ false
     by_test true t e = absurd (cc e)
     by_test false t e = t
 
-pub value_in : (count u : ℕ) (done : List ℤ) (fit : Bool) (rest behind : Words) (z : ℤ) → first_of number_of rest ≡ Some (z, behind) → is_value u z ≡ true → values_left count u done fit rest ≡ values_left count u (done ++ z ∷ []) fit behind
+value_in : (count u : ℕ) (done : List ℤ) (fit : Bool) (rest behind : Words) (z : ℤ) → first_of number_of rest ≡ Some (z, behind) → is_value u z ≡ true → values_left count u done fit rest ≡ values_left count u (done ++ z ∷ []) fit behind
 value_in count u done fit rest behind z e is =
     ap (λ r. r >>= finish_with count u done fit) (each_first number_of rest behind z e)
     ∙ regroup (each number_of behind) z (finish_with count u done fit) (finish_with count u (done ++ z ∷ []) fit) (λ zs. one_in count u done fit z zs is)
 
-pub value_out : (count u : ℕ) (done : List ℤ) (fit : Bool) (rest behind : Words) (z w : ℤ) → first_of number_of rest ≡ Some (z, behind) → is_value u z ≡ false → values_left count u done fit rest ≡ values_left count u (done ++ w ∷ []) false behind
+value_out : (count u : ℕ) (done : List ℤ) (fit : Bool) (rest behind : Words) (z w : ℤ) → first_of number_of rest ≡ Some (z, behind) → is_value u z ≡ false → values_left count u done fit rest ≡ values_left count u (done ++ w ∷ []) false behind
 value_out count u done fit rest behind z w e is =
     ap (λ r. r >>= finish_with count u done fit) (each_first number_of rest behind z e)
     ∙ regroup (each number_of behind) z (finish_with count u done fit) (finish_with count u (done ++ w ∷ []) false) (λ zs. one_out count u done fit z w zs is)
 
-pub value_none : (count u : ℕ) (done : List ℤ) (fit : Bool) (rest : Words) → first_of number_of rest ≡ None → is_none_left rest ≡ false → values_left count u done fit rest ≡ Err Syntax
-value_none count u done fit rest e some = ap (λ r. r >>= finish_with count u done fit) (each_none number_of rest e some)
+pub value_none : (count u : ℕ) (done : List ℤ) (fit : Bool) (rest : Words) → value_first u rest ≡ None → is_none_left rest ≡ false → values_left count u done fit rest ≡ Err Syntax
+value_none count u done fit rest e some = ap (λ r. r >>= finish_with count u done fit) (each_none number_of rest (map_none (in_values u) (first_of number_of rest) e) some)
+
+pub value_kept : (count u : ℕ) (done : List ℤ) (fit : Bool) (rest behind : Words) (n : ℤ) → value_first u rest ≡ Some (Some n, behind) → values_left count u done fit rest ≡ values_left count u (done ++ n ∷ []) fit behind
+value_kept count u done fit rest behind n e =
+    let one = first_map (in_values u) (first_of number_of rest) (Some n) behind e in
+    let fits = value_fits u one.0 n one.2 in
+    value_in count u done fit rest behind one.0 one.1 fits.0 ∙ ap (λ m. values_left count u (done ++ m ∷ []) fit behind) fits.1
+
+pub value_lost : (count u : ℕ) (done : List ℤ) (fit : Bool) (rest behind : Words) (w : ℤ) → value_first u rest ≡ Some (None, behind) → values_left count u done fit rest ≡ values_left count u (done ++ w ∷ []) false behind
+value_lost count u done fit rest behind w e =
+    let one = first_map (in_values u) (first_of number_of rest) None behind e in
+    value_out count u done fit rest behind one.0 w one.1 (value_misses u one.0 one.2)
 
 pub value_end : (count u : ℕ) (done : List ℤ) (fit : Bool) (rest : Words) → is_none_left rest ≡ true → values_left count u done fit rest ≡ (must (length done == count) Syntax >>= λ _. must fit Limit >>= λ _. Ok done)
 value_end count u done fit rest e = ap (λ r. r >>= finish_with count u done fit) (each_end number_of rest e) ∙ rw (append-nil done, and_true fit) refl
@@ -174,20 +195,30 @@ mark_past ends done fit now m k ms le =
 in_or_past : (i n : ℕ) → (i < n) ⊎ (n ≤ i)
 in_or_past i n = grind arith
 
-pub marks_in_end : (ends done : List ℕ) (fit : Bool) (rest behind : Words) (m : Option ℤ) (k : ℕ) → first_of mark_of rest ≡ Some (m, behind) → (length done < length ends → in_marks (get_or ends (length done) 0) m ≡ Some k) → marks_left ends done fit rest ≡ marks_left ends (done ++ k ∷ []) fit behind
+marks_in_end : (ends done : List ℕ) (fit : Bool) (rest behind : Words) (m : Option ℤ) (k : ℕ) → first_of mark_of rest ≡ Some (m, behind) → (length done < length ends → in_marks (get_or ends (length done) 0) m ≡ Some k) → marks_left ends done fit rest ≡ marks_left ends (done ++ k ∷ []) fit behind
 marks_in_end ends done fit rest behind m k e is =
     ap (λ r. r >>= marks_with ends done fit) (each_first mark_of rest behind m e)
     ∙ regroup (each mark_of behind) m (marks_with ends done fit) (marks_with ends (done ++ k ∷ []) fit)
     (λ ms. ⊎_elim (λ (lt : length done < length ends). mark_kept ends done fit m k ms lt (is lt)) (λ (le : length ends ≤ length done). mark_past ends done fit fit m k ms le) (in_or_past (length done) (length ends)))
 
-pub marks_out_end : (ends done : List ℕ) (fit : Bool) (rest behind : Words) (m : Option ℤ) (k : ℕ) → first_of mark_of rest ≡ Some (m, behind) → (length done < length ends → in_marks (get_or ends (length done) 0) m ≡ None) → marks_left ends done fit rest ≡ marks_left ends (done ++ k ∷ []) false behind
+marks_out_end : (ends done : List ℕ) (fit : Bool) (rest behind : Words) (m : Option ℤ) (k : ℕ) → first_of mark_of rest ≡ Some (m, behind) → (length done < length ends → in_marks (get_or ends (length done) 0) m ≡ None) → marks_left ends done fit rest ≡ marks_left ends (done ++ k ∷ []) false behind
 marks_out_end ends done fit rest behind m k e is =
     ap (λ r. r >>= marks_with ends done fit) (each_first mark_of rest behind m e)
     ∙ regroup (each mark_of behind) m (marks_with ends done fit) (marks_with ends (done ++ k ∷ []) false)
     (λ ms. ⊎_elim (λ (lt : length done < length ends). mark_missed ends done fit m k ms lt (is lt)) (λ (le : length ends ≤ length done). mark_past ends done fit false m k ms le) (in_or_past (length done) (length ends)))
 
-pub marks_none : (ends done : List ℕ) (fit : Bool) (rest : Words) → first_of mark_of rest ≡ None → is_none_left rest ≡ false → marks_left ends done fit rest ≡ Err Syntax
-marks_none ends done fit rest e some = ap (λ r. r >>= marks_with ends done fit) (each_none mark_of rest e some)
+pub marks_none : (ends done : List ℕ) (fit : Bool) (rest : Words) (end : ℕ) → mark_first end rest ≡ None → is_none_left rest ≡ false → marks_left ends done fit rest ≡ Err Syntax
+marks_none ends done fit rest end e some = ap (λ r. r >>= marks_with ends done fit) (each_none mark_of rest (map_none (in_marks end) (first_of mark_of rest) e) some)
+
+pub one_mark : (ends done : List ℕ) (fit : Bool) (rest behind : Words) (k : ℕ) → mark_first (get_or ends (length done) 0) rest ≡ Some (Some k, behind) → marks_left ends done fit rest ≡ marks_left ends (done ++ k ∷ []) fit behind
+one_mark ends done fit rest behind k e =
+    let one = first_map (in_marks (get_or ends (length done) 0)) (first_of mark_of rest) (Some k) behind e in
+    marks_in_end ends done fit rest behind one.0 k one.1 (λ _. one.2)
+
+pub no_mark : (ends done : List ℕ) (fit : Bool) (rest behind : Words) (k : ℕ) → mark_first (get_or ends (length done) 0) rest ≡ Some (None, behind) → marks_left ends done fit rest ≡ marks_left ends (done ++ k ∷ []) false behind
+no_mark ends done fit rest behind k e =
+    let one = first_map (in_marks (get_or ends (length done) 0)) (first_of mark_of rest) None behind e in
+    marks_out_end ends done fit rest behind one.0 k one.1 (λ _. one.2)
 
 pub marks_end : (ends done : List ℕ) (fit : Bool) (rest : Words) → is_none_left rest ≡ true → marks_left ends done fit rest ≡ (must (length done == length ends) Syntax >>= λ _. must fit Limit >>= λ _. Ok done)
 marks_end ends done fit rest e = ap (λ r. r >>= marks_with ends done fit) (each_end mark_of rest e) ∙ rw (add-zero (length done)) (by_size (length done == length ends) refl)

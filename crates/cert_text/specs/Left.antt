@@ -6,7 +6,10 @@ use Rattle.line_text.specs.declared.error.TextCause.TheVariants.{Syntax, Limit}
 use Rattle.line_text.specs.Words.{number_of}
 use Rattle.line_text.specs.Reading.{◌>>=◌}
 use Rattle.line_text.specs.Parts.{Words, Read, must, each}
+use Rattle.line_text.specs.Shown.{first_of}
+use Rattle.std.specs.Option.{option_map}
 use Rattle.cert_text.specs.Lines.{is_value, mark_of, marks_in}
+use Rattle.cert_text.specs.Shown.{in_values}
 
 -- what is read of numbers that are left behind these, of which each fits or not
 abbrev pub values_left : ℕ → ℕ → List ℤ → Bool → Words → Read (List ℤ)
@@ -21,6 +24,14 @@ abbrev pub in_marks : ℕ → Option ℤ → Option ℕ
 in_marks end None = Some unmarked
 in_marks end (Some (pos n)) = if nat_lt n end then Some n else None
 in_marks end (Some (negsuc n)) = None
+
+-- the number that the first word writes, if it is from 0 to 2 ^ u, and the words behind it
+abbrev pub value_first : ℕ → Words → Option (Option ℤ × Words)
+value_first u words = option_map (λ x. (in_values u x.0, x.1)) (first_of number_of words)
+
+-- the mark that the first word writes, if it is none or below its end, and the words behind it
+abbrev pub mark_first : ℕ → Words → Option (Option ℕ × Words)
+mark_first end words = option_map (λ x. (in_marks end x.0, x.1)) (first_of mark_of words)
 
 -- marks, if there is one for each of the ends, and each is none or below its end
 abbrev pub marks_so : List ℕ → List (Option ℤ) → Read (List ℕ)

@@ -1,8 +1,9 @@
 -- What the code's functions answer.
-use Rattle.std.specs.Prelude.{ℕ, ℤ, pos, ◌^◌, count_ones, bit_or, slice_index_or, codes, reverse, map, nat_eq, ◌≡◌, ◌<◌, ◌==◌, nat_le, nat_lt, int_lt, unsigned_abs, not, Bool, false, List, [], ◌∷◌, length, Option, Some, None, Ok, if◌then◌else◌}
+use Rattle.std.specs.Prelude.{ℕ, ℤ, pos, ◌^◌, count_ones, bit_or, slice_index_or, codes, reverse, map, nat_eq, ◌≡◌, ◌<◌, ◌==◌, nat_le, nat_lt, int_lt, unsigned_abs, not, Bool, false, List, [], ◌∷◌, length, Option, Some, None, Ok, Err, if◌then◌else◌}
 use Rattle.std.specs.List.{list_any}
 use Rattle.std.specs.Str.{bytes_eq}
 use Rattle.lift_model.specs.Valid.{most_name_bytes, coefficient_limit}
+use Rattle.line_text.specs.declared.error.TextCause.{TextCause}
 use Rattle.line_text.specs.declared.error.TextCause.TheVariants.{Syntax, Limit}
 use Rattle.line_text.specs.Reading.{◌>>=◌}
 use Rattle.line_text.specs.Parts.{Words, Read, must, each, count_of, between, is_above}
@@ -69,14 +70,25 @@ coefficient_in z = must (not (int_eq z (pos 0))) Syntax >>= λ _. must (nat_lt (
 abbrev pub term_in : ℕ → ℕ → Option ℕ → ℤ × ℤ → Read Term
 term_in parameters seen before term = set_in parameters seen before term.0 >>= λ set. coefficient_in term.1 >>= λ c. Ok (set, c)
 
+-- a term behind others, or the fault that these have
+abbrev pub next_term : Option TextCause → ℕ → ℕ → Option ℕ → ℤ × ℤ → Read Term
+next_term (Some cause) parameters seen before term = Err cause
+next_term None parameters seen before term = term_in parameters seen before term
+
+-- what is read of the few pairs that words write, behind the form of all
+abbrev pub terms_of : ℕ → Words → Read (Read (List Term))
+terms_of parameters words = do
+  terms ← each (pair_of (code ":")) words
+  _ ← must (nat_le (length terms) most_terms) Syntax
+  Ok (terms_in parameters 0 None terms)
+
 -- an entry with that target and the terms that words write, where a test tells which targets are taken
 abbrev pub entry_in : ℕ → ℕ → (ℕ → Bool) → ℤ → Words → Read Entry
 entry_in states parameters taken z words = do
-  terms ← each (pair_of (code ":")) words
-  _ ← must (nat_le (length terms) most_terms) Syntax
+  read ← terms_of parameters words
   target ← between 0 states z
   _ ← must (not (taken target)) Syntax
-  poly ← terms_in parameters 0 None terms
+  poly ← read
   Ok (record { target = target; poly = poly })
 
 -- whether the state's mark is that one

@@ -1,16 +1,12 @@
 // The terms of an entry.
-ghost use Rattle.std.specs.Prelude.{◌≡◌, ◌≤◌, ◌<◌, ◌^◌, ◌++◌, ◌∷◌, [], None, length, not, All, IfOk};
+ghost use Rattle.std.specs.Prelude.{◌≡◌, ◌≤◌, ◌<◌, ◌^◌, ◌++◌, ◌∷◌, [], length, not, All, IfOk};
 ghost use Rattle.line_text.specs.Reading.{line_at};
 ghost use Rattle.cert_text.specs.Head.{entries_at};
-ghost use Rattle.line_text.specs.Words.{pair_of};
-ghost use Rattle.line_text.specs.Parts.{each};
 ghost use Rattle.line_text.specs.Shown.{Says, Gives};
 ghost use Rattle.lift_model.specs.Valid.{most_parameters, most_states};
-ghost use Rattle.cert_text.specs.Lines.{terms_in};
-ghost use Rattle.cert_text.specs.Shown.{AreMarked, coefficient_in, entry_by, entry_in, has_mark, targets_back, set_in, term_in};
+ghost use Rattle.cert_text.specs.Shown.{AreMarked, coefficient_in, entry_by, entry_in, has_mark, next_term, targets_back, terms_of, set_in, term_in};
 
 use crate::head_lines::{counted, is_above};
-use crate::rejected::pair_of;
 use lift_model::Entry;
 use lift_poly::MultiAffine;
 use line_text::{Cursor, Decimal, TextCause, TextError, Words, between};
@@ -25,32 +21,9 @@ const MOST_TERMS: usize = 16;
 /// Below this size each coefficient lies.
 const COEFFICIENT_LIMIT: u128 = 1 << 100;
 
-/// The pairs of numbers that words write with this byte between the two.
-fn pairs<'t>(
-    alloc: Global,
-    words: Words<'t>,
-    byte: u8,
-) -> Result<Vec<(Decimal<'t>, Decimal<'t>)>, TextCause>
-    ensures { Says (λ v. v.items) result (each (pair_of byte) words.entry) }
-{
-    let mut pairs = Vec::new(alloc);
-    let mut rest = words;
-    while !rest.is_empty() {
-        let Ok((word, behind)) = rest.first() else {
-            return Err(TextCause::Syntax);
-        };
-        let Some(pair) = pair_of(word, byte) else {
-            return Err(TextCause::Syntax);
-        };
-        pairs.push(pair)?;
-        rest = behind;
-    }
-    Ok(pairs)
-}
-
 /// The coefficient, if it isn't 0 and below the limit in size.
 fn coefficient_in(number: &Decimal) -> Result<i128, TextCause>
-    ensures { Says (λ n. n) result (coefficient_in number.now) }
+    ensures { result ≡ coefficient_in number.now }
 {
     match number.narrow() {
         Some(0) => Err(TextCause::Syntax),
@@ -67,16 +40,21 @@ fn set_in(
     before: Option<u64>,
 ) -> Result<u16, TextCause>
     requires { parameters ≤ most_parameters }
-    ensures value { Says (λ n. n) result (set_in parameters seen before number.now) }
+    ensures value { result ≡ set_in parameters seen before number.now }
 {
     if !is_above(before, number) {
         return Err(TextCause::Syntax);
     }
-    let set = between(number, 0, 2_u64.pow(parameters))? as u16;
-    if (seen | set).count_ones() > MOST_ROW_PARAMETERS {
-        return Err(TextCause::Limit);
+    match number.narrow() {
+        Some(n) if 0 <= n && n < i128::from(2_u64.pow(parameters)) => {
+            let set = n as u16;
+            if (seen | set).count_ones() > MOST_ROW_PARAMETERS {
+                return Err(TextCause::Limit);
+            }
+            Ok(set)
+        }
+        _ => Err(TextCause::Limit),
     }
-    Ok(set)
 }
 
 /// The term of a set and a coefficient.
@@ -88,51 +66,74 @@ fn term_in(
     before: Option<u64>,
 ) -> Result<(u16, i128), TextCause>
     requires { parameters ≤ most_parameters }
-    ensures { Says (λ t. t) result (term_in parameters seen before (set.now, coefficient.now)) }
+    ensures { result ≡ term_in parameters seen before (set.now, coefficient.now) }
 {
-    let set = set_in(set, parameters, seen, before)?;
-    let coefficient = coefficient_in(coefficient)?;
-    Ok((set, coefficient))
+    match set_in(set, parameters, seen, before) {
+        Ok(set) => match coefficient_in(coefficient) {
+            Ok(coefficient) => Ok((set, coefficient)),
+            Err(cause) => Err(cause),
+        },
+        Err(cause) => Err(cause),
+    }
 }
 
-/// The terms of these pairs, by ascending set.
-fn terms_in(
-    alloc: Global,
-    pairs: &[(Decimal, Decimal)],
+/// The term of a set and a coefficient, behind terms that have no fault; or their fault.
+fn next_term(
+    fault: Option<TextCause>,
+    pair: &(Decimal, Decimal),
     parameters: u32,
-) -> Result<Vec<(u16, i128)>, TextCause>
+    seen: u16,
+    before: Option<u64>,
+) -> Result<(u16, i128), TextCause>
     requires { parameters ≤ most_parameters }
-    ensures { Says (λ v. v.items) result (terms_in parameters 0 None pairs.now) }
+    ensures { result ≡ next_term fault parameters seen before pair.now }
 {
-    let mut terms = Vec::new(alloc);
+    match fault {
+        Some(cause) => Err(cause),
+        None => term_in(&pair.0, &pair.1, parameters, seen, before),
+    }
+}
+
+/// The polynomial that words write by its terms, by ascending set; or the cause that is told behind the
+/// form of all.
+#[tactic(auto, using(crate::proofs::EntryTerms::read_terms))]
+fn terms_of(
+    alloc: Global,
+    words: Words,
+    parameters: u32,
+) -> Result<Result<MultiAffine, TextCause>, TextCause>
+    requires { parameters ≤ most_parameters }
+    ensures { Says (λ read. read) result (terms_of parameters words.entry) }
+{
+    let mut terms = Vec::with_capacity(alloc, words.count_of(b':').min(MOST_TERMS))?;
     let mut seen = 0;
     let mut before = None;
-    for (set, coefficient) in pairs {
-        match term_in(set, coefficient, parameters, seen, before) {
+    let mut fault = None;
+    let mut rest = words;
+    while !rest.is_empty() {
+        let Some((pair, behind)) = rest.pair(b':') else {
+            return Err(TextCause::Syntax);
+        };
+        match next_term(fault, &pair, parameters, seen, before) {
             Ok(term) => {
                 terms.push(term)?;
                 seen |= term.0;
                 before = Some(u64::from(term.0));
             }
-            Err(cause) => return Err(cause),
+            Err(cause) => {
+                terms.push((0, 0))?;
+                fault = Some(cause);
+            }
         }
+        rest = behind;
     }
-    Ok(terms)
-}
-
-/// The polynomial of these pairs.
-#[tactic(auto, using(crate::proofs::EntryTerms::are_terms))]
-fn polynomial_in(
-    alloc: Global,
-    pairs: &[(Decimal, Decimal)],
-    parameters: u32,
-) -> Result<MultiAffine, TextCause>
-    requires { parameters ≤ most_parameters }
-    ensures { Says (λ p. p) result (terms_in parameters 0 None pairs.now) }
-{
-    let terms = terms_in(alloc, pairs, parameters)?;
-    let polynomial = MultiAffine::from_terms(alloc, &terms)?;
-    Ok(polynomial)
+    if terms.len() > MOST_TERMS {
+        return Err(TextCause::Syntax);
+    }
+    match fault {
+        None => Ok(Ok(MultiAffine::from_vec(terms))),
+        Some(cause) => Ok(Err(cause)),
+    }
 }
 
 /// Whether the state's mark is another one.
@@ -158,19 +159,18 @@ fn entry_in(
         (entry_in (length marks.now) parameters (has_mark mark marks.now) target.now words.entry) }
     ensures range { IfOk result (λ e. e.target < length marks.now) }
 {
-    let pairs = pairs(alloc, words, b':')?;
-    if pairs.len() > MOST_TERMS {
-        return Err(TextCause::Syntax);
-    }
+    let poly = terms_of(alloc, words, parameters)?;
     let target = between(target, 0, marks.len() as u64)?;
     if !is_free(marks, mark, target) {
         return Err(TextCause::Syntax);
     }
-    let poly = polynomial_in(alloc, &pairs, parameters)?;
-    Ok(Entry {
-        target: target as u32,
-        poly,
-    })
+    match poly {
+        Ok(poly) => Ok(Entry {
+            target: target as u32,
+            poly,
+        }),
+        Err(cause) => Err(cause),
+    }
 }
 
 /// The entry that the words of its line tell.
@@ -230,7 +230,9 @@ pub(crate) fn entries<'t>(
     ensures size { length marks.new ≡ length marks.old }
     ensures marks { All (λ m. m ≤ mark) marks.new }
 {
-    let mut entries = Vec::new(alloc);
+    let Ok(mut entries) = Vec::with_capacity(alloc, count as usize) else {
+        return Err(cursor.fault(TextCause::Memory));
+    };
     let mut rest = cursor;
     for _ in 0..count {
         match entry_line(alloc, &rest, marks, mark, parameters) {

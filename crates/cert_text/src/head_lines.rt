@@ -8,12 +8,11 @@ ghost use Rattle.lift_frac.specs.Gcd.{gcd};
 ghost use Rattle.line_text.specs.Shown.{Says};
 ghost use Rattle.cert_text.specs.Shown.{comes_first};
 
-use crate::rejected::pair_of;
-use lift_bytes::is_name;
+use lift_bytes::{begins_name, is_name_byte};
 use lift_cert::Bound;
 use lift_frac::gcd;
 use lift_model::Kind;
-use line_text::{Decimal, TextCause, Words, between, decimals, is_number, numbers_of};
+use line_text::{Decimal, TextCause, Words, between, decimals, is_number, numbers_of, pair_of};
 use std::alloc::{AllocError, Global};
 
 /// The version, which has to be 1.

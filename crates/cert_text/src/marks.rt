@@ -1,8 +1,8 @@
 // Marks of states: picks and ranks.
-ghost use Rattle.std.specs.Prelude.{◌≡◌, ◌≤◌, ◌<◌, ◌^◌, length, map, slice_index_or, IfOk};
+ghost use Rattle.std.specs.Prelude.{◌≡◌, ◌≤◌, ◌<◌, ◌^◌, Some, pos, length, map, slice_index_or, IfOk};
 ghost use Rattle.cert_text.specs.Lines.{mark_of, marks_of};
 ghost use Rattle.cert_text.specs.Nodes.{fits_state, fit_states};
-ghost use Rattle.cert_text.specs.Left.{in_marks, marks_by};
+ghost use Rattle.cert_text.specs.Left.{in_marks, mark_first, marks_by};
 ghost use Rattle.line_text.specs.Shown.{Says, first_of};
 
 use lift_model::Model;
@@ -10,7 +10,7 @@ use line_text::{Decimal, TextCause, Words};
 use std::alloc::{AllocError, Global};
 
 /// The mark that the first word writes, `-` for none or a number, and those behind it.
-fn mark_first<'t>(words: &Words<'t>) -> Option<(Option<Decimal<'t>>, Words<'t>)>
+fn mark_word<'t>(words: &Words<'t>) -> Option<(Option<Decimal<'t>>, Words<'t>)>
     ensures { result ≡ first_of mark_of words.now }
 {
     if let Some((number, rest)) = words.number() {
@@ -38,15 +38,33 @@ fn mark_in(mark: &Option<Decimal>, end: u32) -> Option<u32>
     }
 }
 
-/// The mark, if there is an end for it and it is none or below that.
-fn mark_at(mark: &Option<Decimal>, ends: &[u32], i: usize) -> Option<u32>
-    ensures { i < length ends.now → result ≡ in_marks (slice_index_or ends.now i 0) mark.now }
+/// The number, if it is below that end.
+fn short_mark(n: u64, end: u32) -> Option<u32>
+    ensures { result ≡ in_marks end (Some (pos n)) }
 {
-    if i < ends.len() {
-        mark_in(mark, ends[i])
+    if n < u64::from(end) {
+        Some(n as u32)
     } else {
         None
     }
+}
+
+/// The mark that the first word writes, if it is none or below its end, and the words behind it.
+fn mark_first<'t>(words: &Words<'t>, end: u32) -> Option<(Option<u32>, Words<'t>)>
+    ensures { result ≡ mark_first end words.now }
+{
+    if let Some((n, rest)) = words.short() {
+        return Some((short_mark(n, end), rest));
+    }
+    let (mark, rest) = mark_word(words)?;
+    Some((mark_in(&mark, end), rest))
+}
+
+/// The end of that mark; 0 behind the last one.
+fn end_at(ends: &[u32], i: usize) -> u32
+    ensures { result ≡ slice_index_or ends.now i 0 }
+{
+    if i < ends.len() { ends[i] } else { 0 }
 }
 
 /// The marks that words write, if there is one for each of the ends, and each is none or below its end.
@@ -59,10 +77,11 @@ fn marks<'t>(alloc: Global, words: Words<'t>, ends: &[u32]) -> Result<Vec<u32>, 
     let mut fit = true;
     let mut rest = words;
     while !rest.is_empty() {
-        let Some((mark, behind)) = mark_first(&rest) else {
+        let end = end_at(ends, marks.len());
+        let Some((mark, behind)) = mark_first(&rest, end) else {
             return Err(TextCause::Syntax);
         };
-        match mark_at(&mark, ends, marks.len()) {
+        match mark {
             Some(n) => marks.push(n)?,
             None => {
                 marks.push(0)?;

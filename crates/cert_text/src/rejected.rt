@@ -1,14 +1,12 @@
 // The first line of a rejecting leaf.
 ghost use Rattle.std.specs.Prelude.{◌≡◌, ◌≤◌, IfOk};
-ghost use Rattle.line_text.specs.Words.{pair_of};
 ghost use Rattle.lift_cert.specs.RejectMiss.{most_height};
 ghost use Rattle.corner_lift.specs.Certificate.{most_rate};
 ghost use Rattle.cert_text.specs.Lines.{named, reject_of};
 ghost use Rattle.line_text.specs.Shown.{Says};
 ghost use Rattle.cert_text.specs.Leaf.{rejected_of};
 
-use lift_bytes::len_before;
-use line_text::{Decimal, TextCause, Words, between};
+use line_text::{Decimal, TextCause, Words, between, pair_of};
 
 /// What the first line of a rejecting leaf tells: its rate, and the number of the initial state as a
 /// fraction of two numbers.
@@ -19,19 +17,6 @@ pub(crate) struct Rejected<'t> {
     pub m: Decimal<'t>,
     pub y: Decimal<'t>,
     pub z: Decimal<'t>,
-}
-
-/// The two numbers that a word writes with this byte between them.
-pub(crate) fn pair_of(word: &[u8], byte: u8) -> Option<(Decimal, Decimal)>
-    ensures { result ≡ pair_of byte word.now }
-{
-    let len = len_before(word, byte);
-    if len == word.len() {
-        return None;
-    }
-    let first = Decimal::read(&word[..len])?;
-    let second = Decimal::read(&word[len + 1..])?;
-    Some((first, second))
 }
 
 /// A word that has to stand next, and the one behind it.

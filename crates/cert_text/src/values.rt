@@ -1,8 +1,8 @@
 // Numbers of a leaf.
-ghost use Rattle.std.specs.Prelude.{◌≡◌, ◌≤◌, [], true, length, IfOk};
+ghost use Rattle.std.specs.Prelude.{◌≡◌, ◌≤◌, [], pos, true, length, IfOk};
 ghost use Rattle.cert_text.specs.Lines.{values_of};
 ghost use Rattle.line_text.specs.Shown.{Says};
-ghost use Rattle.cert_text.specs.Left.{values_left};
+ghost use Rattle.cert_text.specs.Left.{value_first, values_left};
 ghost use Rattle.cert_text.specs.Shown.{in_values};
 
 use corner_lift::one_at;
@@ -21,6 +21,27 @@ fn value(number: &Decimal, u: u32) -> Option<i64>
     }
 }
 
+/// The number, if it is at most 2 to the `u`.
+fn short_value(n: u64, u: u32) -> Option<i64>
+    requires { u ≤ 40 }
+    ensures { result ≡ in_values u (pos n) }
+{
+    let most = one_at(u) as u64;
+    if n <= most { Some(n as i64) } else { None }
+}
+
+/// The number that the first word writes, if it is in that range, and the words behind it.
+fn value_first<'t>(words: &Words<'t>, u: u32) -> Option<(Option<i64>, Words<'t>)>
+    requires { u ≤ 40 }
+    ensures { result ≡ value_first u words.now }
+{
+    if let Some((n, rest)) = words.short() {
+        return Some((short_value(n, u), rest));
+    }
+    let (number, rest) = words.number()?;
+    Some((value(&number, u), rest))
+}
+
 /// The numbers that words write, if there are so many, and each is from 0 to 2 to the `u`. The form of
 /// all of them is told first.
 fn values<'t>(alloc: Global, words: Words<'t>, count: u32, u: u32) -> Result<Vec<i64>, TextCause>
@@ -32,10 +53,10 @@ fn values<'t>(alloc: Global, words: Words<'t>, count: u32, u: u32) -> Result<Vec
     let mut fit = true;
     let mut rest = words;
     while !rest.is_empty() {
-        let Some((number, behind)) = rest.number() else {
+        let Some((value, behind)) = value_first(&rest, u) else {
             return Err(TextCause::Syntax);
         };
-        match value(&number, u) {
+        match value {
             Some(n) => values.push(n)?,
             None => {
                 values.push(0)?;

@@ -143,6 +143,17 @@ impl<'t> Words<'t> {
         Some((pair, rest))
     }
 
+    /// How often that byte stands in the words.
+    pub fn count_of(&self, byte: u8) -> usize {
+        let mut count = 0;
+        for here in self.text {
+            if *here == byte {
+                count += 1;
+            }
+        }
+        count
+    }
+
     /// Whether no word is left.
     pub fn is_empty(&self) -> bool
         ensures { result ≡ is_none_left self.now }
