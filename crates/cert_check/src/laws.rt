@@ -13,7 +13,7 @@ ghost use Rattle.cert_check.specs.Shown.{HalvesArePlaced, RootIsPlaced};
 use cert_text::{heads_are_read, nodes_are_read, prefixes_are_truncated, reports_are_read};
 use corner_lift::{halves_are_inside, live_parameters_have_spans, rows_inside};
 use lift_cert::{certificates_decide, first_miss_is_one, rejecting_certificates_reach};
-use lift_grid::{halves_stay_on_grid, halves_tile};
+use lift_grid::{halves_stay_on_grid, trees_tile};
 use lift_rows::first_fault_is_one;
 
 /// At most one answer is given to a text.
@@ -51,9 +51,8 @@ pub fn sound_reports_hold()
     ensures { SoundReportsHold }
 {
     rectangles_are_placed();
-    halves_are_inside();
     live_parameters_have_spans();
-    halves_tile();
+    trees_tile();
     certificates_decide();
     rejecting_certificates_reach();
 }
