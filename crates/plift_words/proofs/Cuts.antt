@@ -1,19 +1,18 @@
 -- Texts that are cut at a byte, and how the options of words begin.
 use Prim.Native.Char.{code}
-use Rattle.std.proofs.Common.{◌≡◌, ◌==◌, ◌||◌, ◌<◌, ℕ, List, [], ◌∷◌, ◌++◌, length, get_or, Option, Some, None, Bool, true, false, refl, ap, ap₂, ◌∙◌, arith, option_map}
-use Rattle.std.specs.Prelude.{MatchOption}
-use Rattle.std.specs.Borrow.{Bor}
+use Rattle.std.proofs.Common.{◌≡◌, ◌==◌, ◌||◌, ◌<◌, ℕ, List, [], ◌∷◌, ◌++◌, length, get_or, Some, None, Bool, true, false, refl, ap, ◌∙◌, arith}
 use Rattle.std.specs.List.{list_any, position_or_len, before_first, after_first}
 use Rattle.std.proofs.lemmas.Bool.Decides.{nat_tests}
 use Rattle.std.proofs.lemmas.List.Sums.{split_at_first, passes_at_first}
-use Rattle.plift_words.specs.Line.{cut_at, attached, options}
+use Rattle.lift_frac.specs.Written.{cut_at}
+use Rattle.plift_words.specs.Line.{attached, options}
 
 pub neither : (a b : Bool) → (a || b) ≡ false → (a ≡ false) × (b ≡ false)
 neither false b e = (refl, e)
 neither true b e = absurd (cc)
 
--- where a text has the byte, and where it doesn't
-pub cut_within : (c : ℕ) (text : List ℕ) → list_any (λ b. b == c) text ≡ true → position_or_len (λ b. b == c) text < length text
+-- where a text has the byte
+cut_within : (c : ℕ) (text : List ℕ) → list_any (λ b. b == c) text ≡ true → position_or_len (λ b. b == c) text < length text
 cut_within c [] e = absurd (cc)
 cut_within c (b ∷ text) e = go (cut_within c text) (b == c) refl
   where
@@ -21,13 +20,6 @@ cut_within c (b ∷ text) e = go (cut_within c text) (b == c) refl
         → position_or_len (λ b. b == c) (b ∷ text) < length (b ∷ text)
     go rest true is = rw is (omega arith)
     go rest false is = let h = rest (rw is at e) in rw is (omega arith)
-
-pub cut_nowhere : (c : ℕ) (text : List ℕ) → list_any (λ b. b == c) text ≡ false → position_or_len (λ b. b == c) text ≡ length text
-cut_nowhere c [] e = refl
-cut_nowhere c (b ∷ text) e =
-    let parts = neither (b == c) _ e in
-    let rest = cut_nowhere c text parts.1 in
-    rw parts.0 (omega arith)
 
 -- a text that has the byte is what stands before its first one, that byte, and what stands behind
 cut_is : (c : ℕ) (text : List ℕ) → list_any (λ b. b == c) text ≡ true → text ≡ before_first (λ b. b == c) text ++ c ∷ after_first (λ b. b == c) text
@@ -54,18 +46,3 @@ options_two word next words e = rw (e, options) refl
 
 pub options_lone : (word : List ℕ) → cut_at (code "=") word ≡ None → options (word ∷ []) ≡ record { name = word; value = None } ∷ []
 options_lone word e = rw (e, options) refl
-
--- what a text split at its first such byte says
-pub cut_from : (c : ℕ) (text : List ℕ) (r : Option (Bor (List ℕ) × Bor (List ℕ)))
-    → MatchOption r (position_or_len (λ b. b == c) text ≡ length text)
-    (λ x. (x.0.now ≡ before_first (λ b. b == c) text) × (x.1.now ≡ after_first (λ b. b == c) text) × (position_or_len (λ b. b == c) text < length text))
-    → option_map (λ parts. (parts.0.now, parts.1.now)) r ≡ cut_at c text
-cut_from c text r h = go (list_any (λ b. b == c) text) refl r h
-  where
-    go : (t : Bool) → list_any (λ b. b == c) text ≡ t → (r : Option (Bor (List ℕ) × Bor (List ℕ))) → MatchOption r (position_or_len (λ b. b == c) text ≡ length text)
-        (λ x. (x.0.now ≡ before_first (λ b. b == c) text) × (x.1.now ≡ after_first (λ b. b == c) text) × (position_or_len (λ b. b == c) text < length text))
-        → option_map (λ parts. (parts.0.now, parts.1.now)) r ≡ cut_at c text
-    go true is None h = absurd (omega (arith, h, cut_within c text is))
-    go true is (Some x) h = rw is (ap₂ (λ (a b : List ℕ). Some (a, b)) h.0 h.1)
-    go false is None h = rw is refl
-    go false is (Some x) h = absurd (omega (arith, h.2, cut_nowhere c text is))

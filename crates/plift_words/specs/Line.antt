@@ -1,12 +1,9 @@
 -- The words of the command line, and which lines are plain.
 use Prim.Native.Char.{code}
-use Rattle.std.specs.Prelude.{◌==◌, ◌&&◌, ◌||◌, is_some, ℕ, List, [], ◌∷◌, codes, Option, Some, None, Bool, true, false, not, option_and_then, if◌then◌else◌, nat_eq}
-use Rattle.std.specs.List.{starts_with, list_any, find, before_first, after_first}
+use Rattle.std.specs.Prelude.{◌&&◌, ◌||◌, is_some, ℕ, List, [], ◌∷◌, codes, Option, Some, None, Bool, true, false, not, option_and_then, if◌then◌else◌, nat_eq}
+use Rattle.std.specs.List.{starts_with, list_any, find}
 use Rattle.std.specs.Str.{bytes_eq}
-
--- what stands before and behind the first byte c of a text, where it has one
-abbrev pub cut_at : ℕ → List ℕ → Option (List ℕ × List ℕ)
-cut_at c text = if list_any (λ b. b == c) text then Some (before_first (λ b. b == c) text, after_first (λ b. b == c) text) else None
+use Rattle.lift_frac.specs.Written.{cut_at}
 
 -- an option as it stands in a line: its name, and its value where it has one
 pub record Setting : Type 0 where

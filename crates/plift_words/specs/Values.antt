@@ -1,16 +1,14 @@
 -- The values of the command line: their grammars and ranges.
 use Prim.Native.Char.{code}
-use Rattle.std.specs.Prelude.{◌==◌, ◌&&◌, ◌^◌, ◌*ℤ◌, ℕ, pos, unsigned_abs, int_le, int_lt, List, length, Option, Some, None, Result, Ok, Bool, not, nat_le, if◌then◌else◌, option_and_then}
+use Rattle.std.specs.Prelude.{◌==◌, ◌&&◌, ℕ, pos, unsigned_abs, int_le, int_lt, List, length, Option, Some, None, Bool, not, nat_le, if◌then◌else◌, option_and_then}
 use Rattle.std.specs.List.{list_all}
-use Rattle.std.specs.Result.{result_ok}
 use Rattle.std.specs.Char.{is_ascii_digit}
 use Rattle.std.specs.Str.Parse.{digits_value}
-use Rattle.lift_frac.specs.Literal.{reading}
-use Rattle.lift_frac.specs.Ratio.{Ratio, fraction}
-use Rattle.lift_frac.specs.declared.error.FracError.{FracError}
+use Rattle.lift_frac.specs.Ratio.{Ratio}
+use Rattle.lift_frac.specs.Written.{written_ratio}
+use Rattle.lift_cert.specs.Bound.{part_limit}
 use Rattle.lift_cert.specs.declared.bound.Bound.{Bound}
 use Rattle.model_gen.specs.Ladder.{most_blocks}
-use Rattle.plift_words.specs.Line.{cut_at}
 
 -- a byte of a label: a visible one, or the space
 abbrev pub is_label_byte : ℕ → Bool
@@ -44,24 +42,11 @@ most_block_digits = 5
 abbrev pub blocks_of : List ℕ → Option ℕ
 blocks_of word = number_within most_block_digits 1 most_blocks word
 
--- One number over another, in lowest terms. None where one of them is no literal or too wide, where the divisor is 0, or where the result is too wide.
-abbrev pub quotient : Result Ratio FracError → Result Ratio FracError → Option Ratio
-quotient (Ok a) (Ok b) = if unsigned_abs b.num == 0 then None else result_ok (fraction (a.num *ℤ b.den) (a.den *ℤ b.num))
-quotient _ _ = None
-
--- a fraction, written `literal` or `literal/literal`
-abbrev pub ratio_of : List ℕ → Option Ratio
-ratio_of word = elim (cut_at (code "/") word) [ None ↦ result_ok (reading word) | Some parts ↦ quotient (reading parts.0) (reading parts.1) ]
-
--- a bound's denominator in lowest terms is below this, by our own profile
-abbrev pub denominator_limit : ℕ
-denominator_limit = 2 ^ 32
-
--- a fraction in lowest terms, where it is from 0 to 1 and its denominator is below the limit
+-- a fraction in lowest terms, where it is from 0 to 1 and its denominator is below the limit of a bound's parts
 abbrev pub bound_by : Ratio → Option Bound
-bound_by q = if int_le (pos 0) q.num && int_le q.num q.den && int_lt q.den (pos denominator_limit)
+bound_by q = if int_le (pos 0) q.num && int_le q.num q.den && int_lt q.den (pos part_limit)
     then Some (record { num = unsigned_abs q.num; den = unsigned_abs q.den }) else None
 
 -- a bound: a fraction from 0 to 1 whose denominator in lowest terms is below the limit
 abbrev pub bound_of : List ℕ → Option Bound
-bound_of word = option_and_then bound_by (ratio_of word)
+bound_of word = option_and_then bound_by (written_ratio word)

@@ -3,24 +3,19 @@ ghost use Rattle.std.specs.Prelude.{◌≡◌, ◌&&◌, ◌<◌, ◌≤◌, ◌
 ghost use Rattle.std.specs.Prelude.{string_bytes, IfSome, MatchOption};
 ghost use Rattle.std.specs.Option.{option_map};
 ghost use Rattle.lift_bytes.specs.Bytes.{code};
-ghost use Rattle.plift_words.specs.Line.{cut_at, attached, options, stands};
+ghost use Rattle.lift_frac.specs.Written.{cut_at};
+ghost use Rattle.plift_words.specs.Line.{attached, options, stands};
 ghost use Rattle.plift_words.specs.Line.{is_option, is_value, are_options};
 ghost use Rattle.plift_words.specs.Line.{is_verify, is_check, word_behind};
 ghost use Rattle.plift_words.specs.Given.{setting_of};
+
+use lift_frac::cut_at;
 
 /// An option as it stands in a line.
 #[derive(Clone, Copy)]
 struct Setting<'a> {
     name: &'a str,
     value: Option<&'a str>,
-}
-
-/// What stands before and behind the first `mark`, an ASCII character.
-pub fn cut_at(text: &str, mark: char) -> Option<(&str, &str)>
-    requires { mark < 128 }
-    ensures { option_map (λ parts. (parts.0.now, parts.1.now)) result ≡ cut_at mark text.now }
-{
-    text.split_once(mark)
 }
 
 // The value behind `=` in one word.

@@ -3,14 +3,12 @@ ghost use Rattle.std.specs.Prelude.{◌≡◌, ◌≤◌, IfSome};
 ghost use Rattle.std.specs.Option.{option_map};
 ghost use Rattle.std.specs.List.{list_all};
 ghost use Rattle.std.specs.Char.{is_ascii_digit};
-ghost use Rattle.lift_frac.specs.Frac.{answer_of, ratio_of as ratio};
+ghost use Rattle.lift_frac.specs.Frac.{ratio_of};
 ghost use Rattle.plift_words.specs.Values.{is_label_byte, goal_of, number_of, number_within};
-ghost use Rattle.plift_words.specs.Values.{option_number, blocks_of};
-ghost use Rattle.plift_words.specs.Values.{quotient, ratio_of, bound_by, bound_of};
+ghost use Rattle.plift_words.specs.Values.{option_number, blocks_of, bound_by, bound_of};
 
-use crate::line::cut_at;
 use lift_cert::Bound;
-use lift_frac::{Frac, FracError, read_literal};
+use lift_frac::{Frac, read_ratio};
 use model_gen::Ladder;
 
 /// How many digits the number of an option has at most.
@@ -22,8 +20,8 @@ const MOST_BLOCK_DIGITS: usize = 5;
 /// How many blocks a ladder has at most.
 const MOST_BLOCKS: u32 = 32_767;
 
-/// A bound's denominator in lowest terms is below this.
-const DENOMINATOR_LIMIT: i128 = 1 << 32;
+/// Each part of a bound is below this.
+const PART_LIMIT: i128 = 1 << 32;
 
 fn are_label_bytes(word: &[u8]) -> bool
     ensures { result ≡ list_all is_label_byte word.now }
@@ -89,30 +87,11 @@ pub fn ladder_of(word: &str) -> Option<Ladder>
     Some(Ladder { blocks })
 }
 
-fn quotient(above: Result<Frac, FracError>, below: Result<Frac, FracError>) -> Option<Frac>
-    ensures { option_map ratio result ≡ quotient (answer_of above) (answer_of below) }
-{
-    above.ok()?.div(below.ok()?).ok()
-}
-
-// A fraction, written `literal` or `literal/literal`.
-fn fraction_of(word: &str) -> Option<Frac>
-    ensures { option_map ratio result ≡ ratio_of word.now }
-{
-    match cut_at(word, '/') {
-        Some((above, below)) => quotient(
-            read_literal(above.as_bytes()),
-            read_literal(below.as_bytes()),
-        ),
-        None => read_literal(word.as_bytes()).ok(),
-    }
-}
-
 fn bound_by(fraction: Frac) -> Option<Bound>
-    ensures { result ≡ bound_by (ratio fraction) }
+    ensures { result ≡ bound_by (ratio_of fraction) }
 {
     let Frac { num, den } = fraction;
-    if 0 <= num && num <= den && den < DENOMINATOR_LIMIT {
+    if 0 <= num && num <= den && den < PART_LIMIT {
         Some(Bound {
             num: num as u32,
             den: den as u32,
@@ -127,5 +106,5 @@ fn bound_by(fraction: Frac) -> Option<Bound>
 pub fn bound_of(word: &str) -> Option<Bound>
     ensures { result ≡ bound_of word.now }
 {
-    bound_by(fraction_of(word)?)
+    bound_by(read_ratio(word)?)
 }
