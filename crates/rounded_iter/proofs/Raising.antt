@@ -3,7 +3,7 @@ use Rattle.std.proofs.Common.{◌≡◌, ◌≢◌, ℕ, zero, suc, ◌+◌, ◌
 use Rattle.std.specs.List.{concat}
 use Rattle.std.proofs.lemmas.Bool.{both_ways}
 use Rattle.std.proofs.lemmas.Int.{ints, by_lt_z}
-use Rattle.std.proofs.lemmas.List.{get_or_past, get_or_default}
+use Rattle.std.proofs.lemmas.List.{get_or_past, get_or_default, set-get_or}
 use Rattle.std.proofs.lemmas.List.Elements.{All-from_get_or, Contains-append_left, Contains-append_right}
 use Rattle.lift_poly.proofs.Ring.{linear, mul-zero, mul-comm, one-mul}
 use Rattle.lift_grid.specs.Rectangle.{Spans}
@@ -106,6 +106,11 @@ module _ (laws : RowLaws) (t : TableData) (run : Run) (x : List ℤ) (s a : ℕ)
       enough = subst (λ m. Across e (corner_count k s a) (IsEnoughAt k run.spans (set x s v) s a m)) (sym at_s) h.enough;
     }
 
+  -- the number becomes what is enough, whether or not it rises
+  pub raised_to : (v : ℤ) → IsSolved e k run.spans x s a (corner_count k s a) v → (rose : Bool) → (rose ≡ true → v ≢ number x s) → (rose ≡ false → v ≡ number x s) → IsRaised t run x (set x s v) s a rose
+  raised_to v h true ne same = raised_up v h (ne refl)
+  raised_to v h false ne same = subst (λ l. IsRaised t run x l s a false) (sym (ap (set x s) (same refl) ∙ set-get_or x s (pos 0))) (raised_none v h (same refl))
+
 -- ---- the choices of a state
 
 pub raised_by_none : (t : TableData) (run : Run) (x : List ℤ) (s : ℕ) → CanRaise t run x s → IsRaisedBy t run x x s 0 false
@@ -164,6 +169,16 @@ raised_by_all t run old x s a rose all h = record {
   less = h.less;
   other = h.other;
   enough = λ b lt. h.enough b (omega (arith, lt, all));
+}
+
+-- the only choice of a state
+pub raised_only : (t : TableData) (run : Run) (old x : List ℤ) (s : ℕ) (rose : Bool) → length (choices t.case.model s) ≡ 1 → IsRaised t run old x s 0 rose → IsRaisedState t run old x s rose
+raised_only t run old x s rose one h = record {
+  below = h.below;
+  kept = h.kept;
+  less = h.less;
+  other = h.other;
+  enough = λ b lt. subst (λ i. IsEnoughFor t.extreme t.case run.spans x s i) (let first : 0 ≡ b = omega (arith, lt, one) in first) h.enough;
 }
 
 -- ---- other states

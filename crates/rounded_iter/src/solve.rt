@@ -226,7 +226,7 @@ impl Table<'_> {
 
     /// The least number from the state's own on that is enough for a row. A number that is `top`, as a
     /// goal state's is, is always enough. A row with one entry takes its target's number.
-    #[inline]
+    #[inline(always)]
     pub(crate) fn enough(&self, lane: &[i64], s: u32, a: u32) -> i64
         ghost spans: { Spans }
         requires { CanTry self.now spans lane.now s a }

@@ -39,6 +39,18 @@ fn take_flag(work: &mut [u32], position: u32) -> bool
     true
 }
 
+/// Whether no position is flagged.
+#[inline]
+fn is_clear(work: &[u32]) -> bool
+    ensures { IsTrue result → (j : ℕ) → j < length work.now → flag work.now j ≡ 0 }
+{
+    let mut most = 0;
+    for flag in work {
+        most = most.max(*flag);
+    }
+    most == 0
+}
+
 /// Whether more passes were made than there is patience for.
 #[inline]
 fn is_over(passes: u32, patience: Option<u32>) -> bool
@@ -63,7 +75,7 @@ impl Table<'_> {
     }
 
     /// Raises the number of a state to what is enough for one of its choices, and tells whether it rose.
-    #[inline]
+    #[inline(always)]
     fn raise_choice(&self, lane: &mut [i64], s: u32, a: u32) -> bool
         ghost run: { Run }
         requires { CanRaiseBy self.now run lane.old s a }
@@ -72,15 +84,13 @@ impl Table<'_> {
         rows_at_corners();
         corners_bound_weights();
         let number = self.enough(lane, s, a);
-        if number == lane[s as usize] {
-            return false;
-        }
+        let rose = number != lane[s as usize];
         lane[s as usize] = number;
-        true
+        rose
     }
 
     /// Raises the number of a state to what is enough for all its choices, and tells whether it rose.
-    #[inline(always)]
+    #[inline(never)]
     fn raise(&self, lane: &mut [i64], s: u32) -> bool
         ghost run: { Run }
         requires { CanRaise self.now run lane.old s }
@@ -95,6 +105,20 @@ impl Table<'_> {
             }
         }
         rose
+    }
+
+    /// The same, by a short path where the state has a single choice.
+    #[inline(always)]
+    fn raise_lone(&self, lane: &mut [i64], s: u32) -> bool
+        ghost run: { Run }
+        requires { CanRaise self.now run lane.old s }
+        ensures { IsRaisedState self.now run lane.old lane.new s result }
+    {
+        if self.choice_count(s) == 1 {
+            self.raise_choice(lane, s, 0)
+        } else {
+            self.raise(lane, s)
+        }
     }
 
     /// Flags the states that lead to the one at a position, as far as they stand before the frontier.
@@ -234,7 +258,7 @@ impl Table<'_> {
             return;
         }
         if self.links.is_lone(s) {
-            self.raise(lane, s);
+            self.raise_lone(lane, s);
         } else {
             self.visit(lane, work, s, position, position + 1);
         }
@@ -265,6 +289,9 @@ impl Table<'_> {
                     Ended::Slow => return Ended::Slow,
                 }
             }
+        }
+        if is_clear(work) {
+            return Ended::Settled;
         }
         self.settle(lane, work, 0, states, patience)
     }

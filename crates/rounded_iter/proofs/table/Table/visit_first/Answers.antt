@@ -10,4 +10,4 @@ returns-then-is_lone g c =
     let at = ap (λ list. get_or list c.args.position 0) (sym c.order.ensures) in
     let lone = r.read.links.lone s state (sym c.is_lone.ensures ∙ c.if-is_lone.true) in
     rw (← c.self.view_is)
-    (kept_lone _ g.run r.read c.args.lane.now c.raise.new.lane c.args.work.now c.args.position s c.raise.result state lone at r.inside r.keeps (rw (← c.self.view_is) at c.raise.ensures))
+    (kept_lone _ g.run r.read c.args.lane.now c.raise_lone.new.lane c.args.work.now c.args.position s c.raise_lone.result state lone at r.inside r.keeps (rw (← c.self.view_is) at c.raise_lone.ensures))
