@@ -90,7 +90,7 @@ impl Table<'_> {
     }
 
     /// Raises the number of a state to what is enough for all its choices, and tells whether it rose.
-    #[inline(never)]
+    #[inline(always)]
     fn raise(&self, lane: &mut [i64], s: u32) -> bool
         ghost run: { Run }
         requires { CanRaise self.now run lane.old s }
