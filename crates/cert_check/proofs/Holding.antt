@@ -27,11 +27,11 @@ module _ (placed : HalvesArePlaced) (live_spans : LiveHasSpan) (accepting : Acce
   halves_spans unknown levels depth ss e at h = tt
   halves_spans (split axis lower upper) zero depth ss e at h = absurd (omega (arith, h.0.left))
   halves_spans (split axis lower upper) (suc levels) depth ss e at h = (let next = placed k levels axis ss is at h.0.axis_is in (
-      at.left.spans,
-      live_spans k ss axis is at.inside h.0.axis_is.is_live,
-      halves_spans lower levels (depth + 1) (lower_half axis ss) (omega arith) next.1 h.1,
-      halves_spans upper levels (depth + 1) (upper_half axis ss) (omega arith) next.2 h.2,
-    ))
+    at.left.spans,
+    live_spans k ss axis is at.inside h.0.axis_is.is_live,
+    halves_spans lower levels (depth + 1) (lower_half axis ss) (omega arith) next.1 h.1,
+    halves_spans upper levels (depth + 1) (upper_half axis ss) (omega arith) next.2 h.2,
+  ))
 
   -- each leaf holds on its rectangle
   leaves_hold : (t : Tree) (levels depth : ℕ) (ss : Spans) → depth + levels ≡ greatest_depth k → IsPlaced k levels ss → IsSoundTree k bound ss depth t → All (LeafHolds k bound) (leaves ss depth t)

@@ -6,7 +6,6 @@ use Rattle.std.proofs.lemmas.Nat.{div_below, le-div, pow_pos}
 use Rattle.lift_poly.proofs.Ring.{linear}
 use Rattle.corner_lift.proofs.Rows.{in_or_past}
 
-
 either : {P : Type 0} (b : Bool) → (b ≡ true → P) → (b ≡ false → P) → P
 either true f g = f refl
 either false f g = g refl
