@@ -4,12 +4,13 @@ use Rattle.std.specs.Prelude.{ℕ, ◌+◌, ◌==◌, ◌||◌, Bool, false, Lis
 use Rattle.std.specs.List.{list_any}
 use Rattle.std.specs.Str.{bytes_eq}
 use Rattle.lift_frac.specs.Ratio.{Ratio}
+use Rattle.lift_frac.specs.Written.{cut_at}
 use Rattle.lift_model.specs.Model.{live}
 use Rattle.cert_text.specs.Head.{HeadData}
 use Rattle.view_map.specs.Slice.{CutData, SliceData, span_at}
 use Rattle.view_map.specs.Choice.{axes_of, slice_of}
 use Rattle.view_words.specs.Words.{WishData}
-use Rattle.view_words.specs.Value.{cut_at, value_of, is_inside}
+use Rattle.view_words.specs.Value.{value_of, is_inside}
 use Rattle.view_words.specs.declared.job.Cause.{Cause}
 use Rattle.view_words.specs.declared.job.Cause.TheVariants.{Syntax, UnknownName, Repeated, Outside}
 use Rattle.view_words.specs.declared.job.Usage.{Usage}
@@ -51,8 +52,8 @@ cut_with (Some parameter) None = Err Syntax
 cut_with (Some parameter) (Some q) = Ok (record { parameter = parameter; num = q.num; den = q.den })
 
 -- the value that a text NAME=VALUE gives to a parameter
-abbrev pub cut_of : List (List ℕ) → List ℕ → Result CutData Cause
-cut_of names text = elim (cut_at (code "=") text) [ None ↦ Err Syntax | Some parts ↦ cut_with (position (bytes_eq parts.0) names) (value_of parts.1) ]
+abbrev pub cut_named : List (List ℕ) → List ℕ → Result CutData Cause
+cut_named names text = elim (cut_at (code "=") text) [ None ↦ Err Syntax | Some parts ↦ cut_with (position (bytes_eq parts.0) names) (value_of parts.1) ]
 
 -- a parameter lies on an axis, or has a value already
 abbrev pub is_taken : Axes → List CutData → ℕ → Bool
@@ -71,7 +72,7 @@ admitted_from h axes given (Ok c) = admitted h axes given c
 
 -- the value that a text gives to a parameter, beside those that are given already
 abbrev pub cut_for : HeadData → Axes → List CutData → List ℕ → Result CutData Cause
-cut_for h axes given text = admitted_from h axes given (cut_of h.asked.model.names text)
+cut_for h axes given text = admitted_from h axes given (cut_named h.asked.model.names text)
 
 -- the values that are given, with those of these texts behind them, of which the first is that number
 abbrev pub cuts_for : HeadData → Axes → List CutData → ℕ → List (List ℕ) → Result (List CutData) Usage

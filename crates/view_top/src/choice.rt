@@ -5,18 +5,18 @@ ghost use Rattle.std.specs.Option.{option_map};
 ghost use Rattle.lift_frac.specs.Frac.{ratio_of};
 ghost use Rattle.view_map.specs.Choice.{axes_of};
 ghost use Rattle.view_top.specs.Choice.{admitted, apart, axes_for, axis_for, both_axes, cut_for};
-ghost use Rattle.view_top.specs.Choice.{cut_of, cut_with, cuts_for, is_taken, lies_on, slice_for};
+ghost use Rattle.view_top.specs.Choice.{cut_named, cut_with, cuts_for, is_taken, lies_on, slice_for};
 ghost use Rattle.view_top.specs.Given.{Gives};
 ghost use Rattle.view_words.specs.Given.{wish_data};
 ghost use Rattle.lift_model.specs.Model.{live};
 
 use crate::refusal::Refusal;
 use cert_text::Head;
-use lift_frac::Frac;
+use lift_frac::{Frac, cut_at};
 use lift_names::Names;
 use std::alloc::{AllocError, Global};
 use view_map::{Cut, Slice, slice_of, span_at};
-use view_words::{Cause, Usage, Wish, cut_at, is_inside, value_of};
+use view_words::{Cause, Usage, Wish, is_inside, value_of};
 
 /// The parameters on both axes, where one lies there.
 type Axes = (Option<u32>, Option<u32>);
@@ -80,8 +80,8 @@ fn cut_with(parameter: Option<u32>, value: Option<Frac>) -> Result<Cut, Cause>
 }
 
 // The value that a text `NAME=VALUE` gives to a parameter.
-fn cut_of(names: &Names, text: &str) -> Result<Cut, Cause>
-    ensures { result ≡ cut_of names.now text.now }
+fn cut_named(names: &Names, text: &str) -> Result<Cut, Cause>
+    ensures { result ≡ cut_named names.now text.now }
 {
     match cut_at(text, '=') {
         None => Err(Cause::Syntax),
@@ -122,7 +122,7 @@ fn admitted(head: &Head, axes: Axes, given: &[Cut], cut: Cut) -> Result<Cut, Cau
 fn cut_for(head: &Head, axes: Axes, given: &[Cut], text: &str) -> Result<Cut, Cause>
     ensures { result ≡ cut_for head.now axes given.now text.now }
 {
-    match cut_of(head.model().names(), text) {
+    match cut_named(head.model().names(), text) {
         Ok(cut) => admitted(head, axes, given, cut),
         Err(cause) => Err(cause),
     }

@@ -1,3 +1,3 @@
 pub mod Parsing
 pub mod Found
-pub mod Cuts
+pub mod Tests

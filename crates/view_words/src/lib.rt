@@ -10,4 +10,4 @@ mod value;
 pub use command::job_of;
 pub use error::WordsError;
 pub use job::{Cause, Job, Usage, View, Wish};
-pub use value::{cut_at, is_inside, value_of};
+pub use value::{is_inside, value_of};

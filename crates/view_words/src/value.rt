@@ -1,37 +1,10 @@
 // A value on the command line.
-ghost use Rattle.std.specs.Prelude.{◌≡◌, ◌<◌, ◌*ℤ◌, ◌<ℤ◌, int_le, pos};
+ghost use Rattle.std.specs.Prelude.{◌≡◌, ◌*ℤ◌, int_le};
 ghost use Rattle.std.specs.Option.{option_map};
-ghost use Rattle.lift_frac.specs.Frac.{answer_of, ratio_of};
-ghost use Rattle.view_words.specs.Value.{cut_at, is_inside, opposite, quotient, signed, size_of, value_of};
+ghost use Rattle.lift_frac.specs.Frac.{ratio_of};
+ghost use Rattle.view_words.specs.Value.{is_inside, opposite, signed, value_of};
 
-use lift_frac::{Frac, FracError, read_literal};
-
-/// What stands before and behind the first `mark`, an ASCII character.
-pub fn cut_at(text: &str, mark: char) -> Option<(&str, &str)>
-    requires { mark < 128 }
-    ensures { option_map (λ parts. (parts.0.now, parts.1.now)) result ≡ cut_at mark text.now }
-{
-    text.split_once(mark)
-}
-
-fn quotient(above: Result<Frac, FracError>, below: Result<Frac, FracError>) -> Option<Frac>
-    ensures { option_map ratio_of result ≡ quotient (answer_of above) (answer_of below) }
-{
-    above.ok()?.div(below.ok()?).ok()
-}
-
-// A fraction, written `literal` or `literal/literal`.
-fn size_of(word: &str) -> Option<Frac>
-    ensures { option_map ratio_of result ≡ size_of word.now }
-{
-    match cut_at(word, '/') {
-        Some((above, below)) => quotient(
-            read_literal(above.as_bytes()),
-            read_literal(below.as_bytes()),
-        ),
-        None => read_literal(word.as_bytes()).ok(),
-    }
-}
+use lift_frac::{Frac, cut_at, read_ratio};
 
 fn opposite(value: Option<Frac>) -> Option<Frac>
     ensures { option_map ratio_of result ≡ opposite (option_map ratio_of value) }
@@ -44,9 +17,9 @@ fn signed(word: &str, before: &str, behind: &str) -> Option<Frac>
     ensures { option_map ratio_of result ≡ signed word.now (before.now, behind.now) }
 {
     if before.is_empty() {
-        opposite(size_of(behind))
+        opposite(read_ratio(behind))
     } else {
-        size_of(word)
+        read_ratio(word)
     }
 }
 
@@ -56,7 +29,7 @@ pub fn value_of(word: &str) -> Option<Frac>
 {
     match cut_at(word, '-') {
         Some((before, behind)) => signed(word, before, behind),
-        None => size_of(word),
+        None => read_ratio(word),
     }
 }
 

@@ -1,7 +1,7 @@
 use Rattle.std.proofs.Common.{◌≡◌, ◌*ℤ◌, sym, ◌∙◌, rules, SFits, w64, to_z-of_z}
 use Rattle.std.specs.Int.{w128}
 use Rattle.std.specs.Prelude.{int_le}
-use Rattle.view_words.proofs.Cuts.{second_of}
+use Rattle.view_words.proofs.Tests.{second_of}
 use Rattle.view_words.proofs.value.is_inside.Goals as goal
 
 pub returns-then-is_at_most : goal.returns-then-is_at_most

@@ -1,5 +1,0 @@
-use Rattle.view_words.proofs.Cuts.{cut_from}
-use Rattle.view_words.proofs.value.cut_at.Goals as goal
-
-pub returns : goal.returns
-returns c = cut_from c.args.mark c.args.text.now c.split_once.result (c.split_once.ensures.byte c.requires (λ w o h. h))
