@@ -5,8 +5,8 @@ use Rattle.lift_rows.specs.declared.error.RowError.{RowError}
 use Rattle.lift_rows.specs.declared.error.RowError.TheVariants.{RowSum, Negative, RowParameters, TooWide}
 
 -- a row, by its state and choice
-abbrev pub row_place : ℕ × ℕ → List ℕ
-row_place row = codes "state " ++ decimal row.0 ++ codes " choice " ++ decimal row.1 ++ codes ": "
+abbrev pub row_text : ℕ × ℕ → List ℕ
+row_text row = codes "state " ++ decimal row.0 ++ codes " choice " ++ decimal row.1 ++ codes ": "
 
 -- what is wrong with a row, with its numbers
 abbrev pub row_fault : RowError → List ℕ

@@ -8,7 +8,7 @@ use Rattle.line_text.specs.declared.error.TextCause.{TextCause}
 use Rattle.line_text.specs.declared.error.TextCause.TheVariants as cause
 use Rattle.cert_check.specs.declared.error.CheckError.{CheckError}
 use Rattle.cert_check.specs.declared.error.CheckError.TheVariants.{Text, Rows, Missed, Depth, Axis, Rest}
-use Rattle.check_notes.specs.Rows.{row_place, row_fault}
+use Rattle.check_notes.specs.Rows.{row_text, row_fault}
 
 -- the name of a text's fault
 abbrev pub text_cause_name : TextCause → List ℕ
@@ -45,7 +45,7 @@ node_fault node fault = codes "node " ++ decimal node ++ fault
 -- a file's first fault. Of a source that wasn't read there is none.
 abbrev pub fault_text : CheckError → List ℕ
 fault_text (Text error) = codes "line " ++ decimal error.line ++ codes ": " ++ text_cause_name error.cause
-fault_text (Rows error) = row_place (error_row error) ++ row_fault error
+fault_text (Rows error) = row_text (error_row error) ++ row_fault error
 fault_text (Missed node miss) = node_place node ++ miss_text miss
 fault_text (Depth node) = node_fault node (codes " depth")
 fault_text (Axis node) = node_fault node (codes " axis")

@@ -2,7 +2,7 @@
 ghost use Rattle.std.specs.Prelude.{◌≡◌, ◌++◌};
 ghost use Rattle.lift_base.specs.Outside.{Wrote};
 ghost use Rattle.lift_rows.specs.Number.{error_row};
-ghost use Rattle.check_notes.specs.Rows.{row_place, row_fault};
+ghost use Rattle.check_notes.specs.Rows.{row_text, row_fault};
 
 use lift_base::{Sink, Word, WriteFault, write_all, write_words, writes_in_turn};
 use lift_rows::RowError;
@@ -47,7 +47,7 @@ fn write_row_fault<E: Sink>(notes: &mut E, error: RowError) -> Result<(), WriteF
 /// Writes which row it is, and what is wrong with it.
 pub fn write_row_words<E: Sink>(notes: &mut E, error: RowError) -> Result<(), WriteFault>
     ensures { Wrote E.taken E.faults notes.old notes.new result
-        (row_place (error_row error) ++ row_fault error) }
+        (row_text (error_row error) ++ row_fault error) }
 {
     writes_in_turn::<E>();
     let (state, choice) = error.row();

@@ -6,10 +6,8 @@ use Rattle.lift_base.specs.Outside.{Rose, AppendsFront, TakenHas, Wrote}
 use Rattle.lift_grid.specs.Region.{Region, region}
 use Rattle.lift_grid.specs.Tree.{Tree}
 use Rattle.lift_model.specs.Model.{ModelData}
-use Rattle.corner_lift.specs.Case.{CaseData, IsCase, IsAdmitted, case_of}
-use Rattle.lift_cert.specs.declared.bound.Bound.{Bound}
+use Rattle.corner_lift.specs.Case.{IsCase, IsAdmitted, case_of}
 use Rattle.lift_rows.specs.Laws.{AdmittedHasNoFault}
-use Rattle.region_tree.specs.Right.{IsRightTree}
 use Rattle.region_tree.specs.Laws.{RightTreesAreOne}
 use Rattle.cert_text.specs.Report.{report_text}
 use Rattle.drn_read.specs.Reading.{drn}
@@ -24,17 +22,18 @@ use Rattle.plift_words.specs.declared.job.Field.TheVariants as field
 use Rattle.plift_words.specs.declared.error.WordsError.{WordsError}
 use Rattle.plift_words.specs.declared.error.WordsError.TheVariants as words
 use Rattle.plift_top.specs.Refused.{words_refusal}
-use Rattle.plift_top.specs.Verify.{WasRead, Reports, ReportsFront, IsRefused, KeepsLimit, text_limit}
+use Rattle.plift_top.specs.Verify.{WasRead, Reports, ReportsFront, IsRefused, KeepsLimit}
 use Rattle.cert_text.specs.Forms.{IsToldBound}
 use Rattle.cert_check.specs.Sound.{IsSoundFile, leaf_counts}
 use Rattle.cert_check.specs.Answer.{Answers}
 use Rattle.cert_check.specs.Laws.{AnswersAreOne, SoundFilesPass}
+use Rattle.cert_check.specs.Source.{NoFault, file_limit}
 use Rattle.cert_check.specs.declared.summary.Summary.{Summary}
 use Rattle.cert_check.specs.declared.error.CheckError.{CheckError}
 use Rattle.plift_top.specs.Laws.{RightReportsAreSound}
 use Rattle.plift_top.specs.Check.{IsFoundSound, IsFoundInPart, IsUnsound}
 use Rattle.plift_top.specs.Selftest.{one_half, IsLadderTree, ladder_report, tested_line, IsTestedTree, HasLongReport, TellsTested, Selftests}
-use Rattle.plift_top.specs.Answers.{Acts, Generates, wanted, AsksToVerify, AsksToCheck, AsksToGenerate, AsksToSelftest, IsTooLong, NoFault, WroteNote, IsNoted, HasNote, status_of, answered, note_of}
+use Rattle.plift_top.specs.Answers.{Acts, Generates, wanted, AsksToVerify, AsksToCheck, AsksToGenerate, AsksToSelftest, IsTooLong, WroteNote, IsNoted, HasNote, status_of, answered, note_of}
 use Rattle.check_notes.specs.declared.status.Status.{Status}
 use Rattle.check_notes.specs.declared.status.Status.TheVariants as status
 use Rattle.plift_top.specs.declared.refusal.Refusal.{Refusal}
@@ -87,15 +86,6 @@ module _ {S K : Type 0} (left : S → Option (List ℕ)) (faults : S → ℕ) (t
   reads_nothing (Ok check) answer a n is = absurd (cc)
   reads_nothing (Ok (selftest m)) answer a n is = absurd (cc)
   reads_nothing (Err f) answer a n is = absurd (cc)
-
-  pub reported : (asked : Result JobData Field) (answer : Result (Unit {0}) Refusal) → Acts left faults taken counts asked source source' out out' answer → answered answer ≡ status.Done
-      → (j : VerifyData) → AsksToVerify asked j → (k : CaseData) × (bound : Bound) × (tree : Tree) × IsCase k × IsRightTree k bound tree × Appends (taken out) (taken out') (report_text k bound tree)
-  reported (Ok (verify i)) (Ok x) a e j is = (let h = a.has.has in (case_of a.has.model a.has.root i.precision, i.bound, h.tree, h.case, h.right, h.report))
-  reported (Ok (generate n)) (Ok x) a e j is = absurd (cc)
-  reported (Ok check) (Ok x) a e j is = absurd (cc)
-  reported (Ok (selftest n)) (Ok x) a e j is = absurd (cc)
-  reported (Err f) (Ok x) a e j is = absurd a.0
-  reported asked (Err r) a e j is = absurd (never_done r e)
 
   -- what was written for a job is a sound file
   pub sound : RightReportsAreSound → (asked : Result JobData Field) (answer : Result (Unit {0}) Refusal) → Acts left faults taken counts asked source source' out out' answer
@@ -308,22 +298,22 @@ module _ {S K : Type 0} (left : S → Option (List ℕ)) (faults : S → ℕ) (t
   tests = by_test (λ n (s : Status). (s ≡ status.Done) ⊎ ((s ≡ status.WriteFault) ⊎ ((s ≡ status.TooLong) ⊎ (s ≡ status.Memory)))) (λ n h. inl refl) (λ n h rose. inr (inl refl)) (λ n h. inr (inr (inl refl))) (λ n. inr (inr (inr refl)))
 
   pub short_tested : NoFault (counts out) (counts out') → (tree : Tree) (asked : Result JobData Field) (answer : Result (Unit {0}) Refusal) → Acts left faults taken counts asked source source' out out' answer → (n : ℕ) → AsksToSelftest asked n
-      → IsLadderTree n tree → length (ladder_report n tree) ≤ text_limit → (answered answer ≡ status.Done) ⊎ (answered answer ≡ status.Memory)
+      → IsLadderTree n tree → length (ladder_report n tree) ≤ file_limit → (answered answer ≡ status.Done) ⊎ (answered answer ≡ status.Memory)
   short_tested sure tree =
-      by_test (λ n (s : Status). IsLadderTree n tree → length (ladder_report n tree) ≤ text_limit → (s ≡ status.Done) ⊎ (s ≡ status.Memory))
+      by_test (λ n (s : Status). IsLadderTree n tree → length (ladder_report n tree) ≤ file_limit → (s ≡ status.Done) ⊎ (s ≡ status.Memory))
       (λ n h right few. inl refl) (λ n h rose right few. absurd (sure rose)) (λ n long right few. absurd (let more = long tree right in omega arith)) (λ n right few. inr refl)
 
   -- a tree that was tested isn't one of a long report
-  not_long : RightTreesAreOne → (n : ℕ) (tree other : Tree) → IsTestedTree n other → IsLadderTree n tree → text_limit < length (ladder_report n tree) → ⊥
+  not_long : RightTreesAreOne → (n : ℕ) (tree other : Tree) → IsTestedTree n other → IsLadderTree n tree → file_limit < length (ladder_report n tree) → ⊥
   not_long one n tree other tested right long =
       let same : other ≡ tree = one (ladder_case n) one_half other tree tested.case tested.right right in
       let short = tested.short in
       omega (arith, ap (λ (t : Tree). length (ladder_report n t)) same)
 
   pub long_tested : RightTreesAreOne → (tree : Tree) (asked : Result JobData Field) (answer : Result (Unit {0}) Refusal) → Acts left faults taken counts asked source source' out out' answer → (n : ℕ) → AsksToSelftest asked n
-      → IsLadderTree n tree → text_limit < length (ladder_report n tree) → (answered answer ≡ status.TooLong) ⊎ (answered answer ≡ status.Memory)
+      → IsLadderTree n tree → file_limit < length (ladder_report n tree) → (answered answer ≡ status.TooLong) ⊎ (answered answer ≡ status.Memory)
   long_tested one tree =
-      by_test (λ n (s : Status). IsLadderTree n tree → text_limit < length (ladder_report n tree) → (s ≡ status.TooLong) ⊎ (s ≡ status.Memory))
+      by_test (λ n (s : Status). IsLadderTree n tree → file_limit < length (ladder_report n tree) → (s ≡ status.TooLong) ⊎ (s ≡ status.Memory))
       (λ n h right long. absurd (not_long one n tree h.0 h.1 right long)) (λ n h rose right long. absurd (not_long one n tree h.0 h.1 right long)) (λ n h right long. inl refl) (λ n right long. inr refl)
 
   pub unread : (asked : Result JobData Field) (answer : Result (Unit {0}) Refusal) → Acts left faults taken counts asked source source' out out' answer → IsErr asked
@@ -339,17 +329,17 @@ silent kept lost notes notes' (Err r) n e = absurd (never_done r e)
 -- ---- how much is too much
 
 -- nothing was taken
-untouched : (left : Option (List ℕ)) → TakenHas (λ bytes. length bytes ≤ text_limit) left left
+untouched : (left : Option (List ℕ)) → TakenHas (λ bytes. length bytes ≤ file_limit) left left
 untouched None = ([], tt, omega arith)
 untouched (Some text) = ([], refl, omega arith)
 
 -- more bytes than a text may have were taken at TooLong, and only there
-took_more : (answer : Result (Unit {0}) Refusal) (old new : Option (List ℕ)) → KeepsLimit answer old new → answered answer ≡ status.TooLong → TakenHas (λ bytes. text_limit < length bytes) old new
+took_more : (answer : Result (Unit {0}) Refusal) (old new : Option (List ℕ)) → KeepsLimit answer old new → answered answer ≡ status.TooLong → TakenHas (λ bytes. file_limit < length bytes) old new
 took_more (Ok x) old new h e = absurd (cc)
 took_more (Err refusal.TooLong) old new h e = h
 took_more (Err _) old new h e = absurd (cc)
 
-took_few : (answer : Result (Unit {0}) Refusal) (old new : Option (List ℕ)) → KeepsLimit answer old new → answered answer ≢ status.TooLong → TakenHas (λ bytes. length bytes ≤ text_limit) old new
+took_few : (answer : Result (Unit {0}) Refusal) (old new : Option (List ℕ)) → KeepsLimit answer old new → answered answer ≢ status.TooLong → TakenHas (λ bytes. length bytes ≤ file_limit) old new
 took_few (Ok x) old new h e = h
 took_few (Err refusal.TooLong) old new h e = absurd (e refl)
 took_few (Err _) old new h e = h
@@ -366,8 +356,8 @@ module _ {S K : Type 0} (left : S → Option (List ℕ)) (faults : S → ℕ) (t
   too_long (Err f) answer a limit e = took_more answer (left source) (left source') (limit (λ n is. absurd (cc))) e
 
   pub within : (asked : Result JobData Field) (answer : Result (Unit {0}) Refusal) → Acts left faults taken counts asked source source' out out' answer → (((n : ℕ) → AsksToSelftest asked n → ⊥) → KeepsLimit answer (left source) (left source'))
-      → answered answer ≢ status.TooLong → TakenHas (λ bytes. length bytes ≤ text_limit) (left source) (left source')
-  within (Ok (selftest n)) answer a limit e = subst (λ (s : S). TakenHas (λ bytes. length bytes ≤ text_limit) (left source) (left s)) (sym a.1) (untouched (left source))
+      → answered answer ≢ status.TooLong → TakenHas (λ bytes. length bytes ≤ file_limit) (left source) (left source')
+  within (Ok (selftest n)) answer a limit e = subst (λ (s : S). TakenHas (λ bytes. length bytes ≤ file_limit) (left source) (left s)) (sym a.1) (untouched (left source))
   within (Ok (verify j)) answer a limit e = took_few answer (left source) (left source') (limit (λ n is. absurd (cc))) e
   within (Ok (generate n)) answer a limit e = took_few answer (left source) (left source') (limit (λ n is. absurd (cc))) e
   within (Ok check) answer a limit e = took_few answer (left source) (left source') (limit (λ n is. absurd (cc))) e
@@ -375,7 +365,7 @@ module _ {S K : Type 0} (left : S → Option (List ℕ)) (faults : S → ℕ) (t
 
 -- where a text was given and nothing failed
 module _ {S K : Type 0} (left : S → Option (List ℕ)) (faults : S → ℕ) (taken : K → Option (List ℕ)) (counts : K → ℕ) (source source' : S) (out out' : K) (j : VerifyData) (text : List ℕ) (told : left source ≡ Some text)
-    (len : length text ≤ text_limit) (sure1 : NoFault (faults source) (faults source')) (sure2 : NoFault (counts out) (counts out')) where
+    (len : length text ≤ file_limit) (sure1 : NoFault (faults source) (faults source')) (sure2 : NoFault (counts out) (counts out')) where
   -- an answer is one to the report of the job, or to what refuses it at its text, or for want of memory
   by_answer : (Q : Status → Type 0) → (Reports (taken out) (taken out') j text → Q status.Done) → ((why : Refusal) → IsRefused j why text → Q (status_of why)) → Q status.Memory
       → (asked : Result JobData Field) (answer : Result (Unit {0}) Refusal) → Acts left faults taken counts asked source source' out out' answer → AsksToVerify asked j → Q (answered answer)
@@ -431,7 +421,7 @@ module _ {S K : Type 0} (left : S → Option (List ℕ)) (faults : S → ℕ) (t
 
 -- where a check was asked for, bytes were given and nothing failed
 module _ {S K : Type 0} (left : S → Option (List ℕ)) (faults : S → ℕ) (taken : K → Option (List ℕ)) (counts : K → ℕ) (source source' : S) (out out' : K) (bytes : List ℕ) (told : left source ≡ Some bytes)
-    (len : length bytes ≤ text_limit) (sure1 : NoFault (faults source) (faults source')) (sure2 : NoFault (counts out) (counts out')) where
+    (len : length bytes ≤ file_limit) (sure1 : NoFault (faults source) (faults source')) (sure2 : NoFault (counts out) (counts out')) where
   -- an answer is that the bytes are sound, or their first fault, or for want of memory
   by_check : (Q : Status → Type 0) → (IsFoundSound (taken out) (taken out') bytes → Q status.Done) → ((error : CheckError) → Answers bytes (Err error) → Q status.NotSound) → Q status.Memory
       → (asked : Result JobData Field) (answer : Result (Unit {0}) Refusal) → Acts left faults taken counts asked source source' out out' answer → AsksToCheck asked → Q (answered answer)

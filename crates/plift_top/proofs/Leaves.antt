@@ -16,23 +16,23 @@ use Rattle.region_tree.specs.Nodes.{nodes}
 use Rattle.region_tree.specs.Right.{IsRight, IsAtDepth}
 use Rattle.region_tree.specs.Visits.{entries}
 use Rattle.cert_text.specs.Report.{tree_lines, reject_lines, split_line}
-use Rattle.plift_top.specs.Leaf.{BoundsSchedulers}
-use Rattle.plift_top.specs.Told.{node_text}
+use Rattle.cert_check.specs.Trust.{LeafHolds}
+use Rattle.plift_top.specs.RightReport.{node_text}
 
 only : {X : Type 0} (P : X → Type 0) (a : X) → P a → All P (a ∷ [])
 only P a p zero d h = p
 only P a p (suc i) d h = absurd (omega arith)
 
--- each leaf bounds the schedulers
+-- what each leaf says holds
 module _ (accepting : AcceptingBounds) (reached : RejectingReaches) (deeper : HalvesAreDeeper) (k : CaseData) (bound : Bound) (case : IsCase k) where
-  pub leaves_bound : (spans : Spans) (depth : ℕ) (tree : Tree) → IsAtDepth k depth spans → IsRight k spans bound depth tree → All (BoundsSchedulers k bound) (leaves spans depth tree)
-  leaves_bound spans depth (accept u x) at h = only (BoundsSchedulers k bound) _ (accepting k spans bound x case at.inside h.1.accepting)
-  leaves_bound spans depth (reject u r) at h = only (BoundsSchedulers k bound) _ (reached k spans bound r case at.inside h.1.rejecting, h.1.rejecting.limit)
-  leaves_bound spans depth unknown at h = only (BoundsSchedulers k bound) _ tt
-  leaves_bound spans depth (split axis lower upper) at h =
+  pub leaves_hold : (spans : Spans) (depth : ℕ) (tree : Tree) → IsAtDepth k depth spans → IsRight k spans bound depth tree → All (LeafHolds k bound) (leaves spans depth tree)
+  leaves_hold spans depth (accept u x) at h = only (LeafHolds k bound) _ (accepting k spans bound x case at.inside h.1.accepting)
+  leaves_hold spans depth (reject u r) at h = only (LeafHolds k bound) _ (reached k spans bound r case at.inside h.1.rejecting, h.1.rejecting.limit)
+  leaves_hold spans depth unknown at h = only (LeafHolds k bound) _ tt
+  leaves_hold spans depth (split axis lower upper) at h =
       let halves = deeper k spans depth axis case at h.0.left h.0.axis_is in
-      All-append (BoundsSchedulers k bound) (leaves (lower_half axis spans) (depth + 1) lower) (leaves (upper_half axis spans) (depth + 1) upper)
-      (leaves_bound (lower_half axis spans) (depth + 1) lower halves.0 h.1) (leaves_bound (upper_half axis spans) (depth + 1) upper halves.1 h.2)
+      All-append (LeafHolds k bound) (leaves (lower_half axis spans) (depth + 1) lower) (leaves (upper_half axis spans) (depth + 1) upper)
+      (leaves_hold (lower_half axis spans) (depth + 1) lower halves.0 h.1) (leaves_hold (upper_half axis spans) (depth + 1) upper halves.1 h.2)
 
 -- the entries of a right tree's nodes are its lines
 pub entries_are : (k : CaseData) (bound : Bound) (spans : Spans) (depth : ℕ) (tree : Tree) → IsRight k spans bound depth tree → entries (node_text k) tree ≡ concat (tree_lines k.model.init tree)

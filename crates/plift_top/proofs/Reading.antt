@@ -14,9 +14,10 @@ use Rattle.drn_read.specs.Reading.{drn}
 use Rattle.drn_read.specs.declared.error.DrnCause.{DrnCause}
 use Rattle.drn_read.specs.declared.error.DrnCause.TheVariants as cause
 use Rattle.drn_read.specs.declared.error.DrnError.{DrnError}
+use Rattle.cert_check.specs.Source.{file_limit}
 use Rattle.plift_words.specs.Job.{VerifyData}
 use Rattle.plift_top.specs.Refused.{model_refusal, region_refusal}
-use Rattle.plift_top.specs.Verify.{WasRead, text_limit, Makes, IsReported, IsCutOff, IsRefused, IsRefusedAt, IsRefusedOver, Stops, Verifies}
+use Rattle.plift_top.specs.Verify.{WasRead, Makes, IsReported, IsCutOff, IsRefused, IsRefusedAt, IsRefusedOver, Stops, Verifies}
 use Rattle.plift_top.specs.Steps.{ReadsModel, NamesRoot, AdmitsCase, WritesOver}
 use Rattle.plift_top.specs.declared.refusal.Refusal.{Refusal}
 use Rattle.plift_top.specs.declared.refusal.Refusal.TheVariants as refusal
@@ -26,7 +27,7 @@ pub read_as : {P Q : List ℕ → Type 0} {old new : Option (List ℕ)} → ((te
 read_as f h = record { text = h.text; consumed = h.consumed; ended = h.ended; has = f h.text h.has }
 
 -- a text that was given isn't too long where it is short
-pub short : (text : List ℕ) (rest : Option (List ℕ)) → length text ≤ text_limit → TakenHas (λ bytes. text_limit < length bytes) (Some text) rest → ⊥
+pub short : (text : List ℕ) (rest : Option (List ℕ)) → length text ≤ file_limit → TakenHas (λ bytes. file_limit < length bytes) (Some text) rest → ⊥
 short text None h long = absurd long.1
 short text (Some ys) h (bytes, is, more) = omega (arith, ap length is, length-append bytes ys)
 

@@ -15,9 +15,9 @@ use Rattle.region_tree.specs.Visits.{Visits, Walks, entries}
 use Rattle.region_tree.specs.declared.visitor.Seen.{Seen}
 use Rattle.region_tree.specs.declared.visitor.Seen.TheVariants.{Kept, Failed}
 use Rattle.cert_text.specs.Report.{head_lines, report_text}
-use Rattle.plift_top.specs.Told.{IsRightReport, node_text}
+use Rattle.plift_top.specs.RightReport.{IsRightReport, node_text}
 use Rattle.plift_top.specs.Steps.{IsTestedCase, WritesCase}
-use Rattle.plift_top.proofs.Leaves.{entries_are, leaves_bound}
+use Rattle.plift_top.proofs.Leaves.{entries_are, leaves_hold}
 
 -- what a visitor did, by what was written
 pub visited : {K T E : Type 0} (taken : K → Option (List ℕ)) (faults : K → ℕ) (old new : K) (result : Result T E) (seen : Seen) (bytes : List ℕ)
@@ -89,7 +89,7 @@ reported accepting reached root deeper tile taken faults k bound old new (Ok x) 
       sums = case.sums;
       right = right;
       tiles = tile k bound tree case.case right;
-      schedulers = leaves_bound accepting reached deeper k bound case.case k.root 0 tree (root k case.case) right;
+      schedulers = leaves_hold accepting reached deeper k bound case.case k.root 0 tree (root k case.case) right;
       report = w.whole (report_text k bound tree) (tree, right, refl);
     }
 reported accepting reached root deeper tile taken faults k bound old new (Err e) case w =

@@ -19,13 +19,13 @@ use Rattle.model_gen.specs.Laws.{TextIsShort, TextIsLadder, LadderIsCase, TextNa
 use Rattle.cert_text.specs.Forms.{IsToldBound}
 use Rattle.cert_check.specs.Sound.{IsSoundFile, leaf_counts}
 use Rattle.cert_check.specs.Laws.{SoundFilesPass}
-use Rattle.cert_check.specs.Source.{AnswersTold}
+use Rattle.cert_check.specs.Source.{AnswersTold, file_limit}
 use Rattle.cert_check.specs.declared.summary.Summary.{Summary}
 use Rattle.cert_check.specs.declared.error.CheckError.{CheckError}
 use Rattle.cert_check.specs.declared.error.CheckError.TheVariants as check
 use Rattle.plift_words.specs.Job.{VerifyData}
 use Rattle.plift_top.specs.Refused.{check_refusal}
-use Rattle.plift_top.specs.Verify.{Makes, IsReported, IsCutOff, IsRefused, Verifies, text_limit}
+use Rattle.plift_top.specs.Verify.{Makes, IsReported, IsCutOff, IsRefused, Verifies}
 use Rattle.plift_top.specs.Laws.{RightReportsAreSound}
 use Rattle.plift_top.specs.Selftest.{one_half, ladder_job, IsLadderTree, ladder_report, tested_line, HasLongReport, IsLadderReport, GivesWithin, ReportsLadder, Selftests}
 use Rattle.plift_top.specs.declared.refusal.Refusal.{Refusal}
@@ -72,7 +72,7 @@ module _ (n : ℕ) (some : 1 ≤ n) (few : n ≤ most_blocks) (texts : TextIsSho
   is_sound law tree right = law (ladder_text n) (codes "done") (ladder n) ladder_region ladder_precision one_half tree (reads n some few) (cases n some few) half_is_told right
 
   -- what was written, whole: a report that fits
-  pub whole_report : RightReportsAreSound → (bytes : List ℕ) → Makes (IsReported (Some []) (Some bytes) one_half) ladder_job (ladder_text n) → length bytes ≤ text_limit → IsLadderReport n bytes
+  pub whole_report : RightReportsAreSound → (bytes : List ℕ) → Makes (IsReported (Some []) (Some bytes) one_half) ladder_job (ladder_text n) → length bytes ≤ file_limit → IsLadderReport n bytes
   whole_report law bytes m fits =
       let h = ladder_case_is (IsReported (Some []) (Some bytes) one_half) m in
       let is : bytes ≡ ladder_report n h.tree = h.report in
@@ -84,7 +84,7 @@ module _ (n : ℕ) (some : 1 ≤ n) (few : n ≤ most_blocks) (texts : TextIsSho
       }
 
   -- or one that doesn't
-  pub long_report : RightTreesAreOne → (bytes : List ℕ) → Makes (IsReported (Some []) (Some bytes) one_half) ladder_job (ladder_text n) → text_limit < length bytes → HasLongReport n
+  pub long_report : RightTreesAreOne → (bytes : List ℕ) → Makes (IsReported (Some []) (Some bytes) one_half) ladder_job (ladder_text n) → file_limit < length bytes → HasLongReport n
   long_report one bytes m long tree right =
       let h = ladder_case_is (IsReported (Some []) (Some bytes) one_half) m in
       let is : bytes ≡ ladder_report n h.tree = h.report in
@@ -92,14 +92,14 @@ module _ (n : ℕ) (some : 1 ≤ n) (few : n ≤ most_blocks) (texts : TextIsSho
       omega (arith, ap length is, ap (λ (t : Tree). length (ladder_report n t)) same)
 
   -- where the room was filled, the report is longer than a text may be
-  pub cut_report : (bytes : List ℕ) → Makes (IsCutOff (Some []) (Some bytes) one_half) ladder_job (ladder_text n) → length bytes ≡ text_limit + 1 → HasLongReport n
+  pub cut_report : (bytes : List ℕ) → Makes (IsCutOff (Some []) (Some bytes) one_half) ladder_job (ladder_text n) → length bytes ≡ file_limit + 1 → HasLongReport n
   cut_report bytes m full tree right =
       let h = ladder_case_is (IsCutOff (Some []) (Some bytes) one_half) m in
       let least = front_is_short bytes (ladder_report n tree) (h.front tree right) in
       omega arith
 
   -- so what is given back of it is the report, or that it is too long
-  pub within_report : RightReportsAreSound → RightTreesAreOne → (bytes : Vec ℕ Global) (result : Result (Vec ℕ Global) Refusal) → Makes (IsReported (Some []) (Some bytes.items) one_half) ladder_job (ladder_text n) → GivesWithin text_limit bytes result → ReportsLadder n result
+  pub within_report : RightReportsAreSound → RightTreesAreOne → (bytes : Vec ℕ Global) (result : Result (Vec ℕ Global) Refusal) → Makes (IsReported (Some []) (Some bytes.items) one_half) ladder_job (ladder_text n) → GivesWithin file_limit bytes result → ReportsLadder n result
   within_report law one bytes (Ok same) m h = subst (λ (b : Vec ℕ Global). IsLadderReport n b.items) (sym h.0) (whole_report law bytes.items m h.1)
   within_report law one bytes (Err refusal.TooLong) m h = long_report one bytes.items m h
   within_report law one bytes (Err _) m h = absurd h
@@ -129,13 +129,13 @@ module _ (n : ℕ) (some : 1 ≤ n) (few : n ≤ most_blocks) (texts : TextIsSho
     stopped_short law begin why other v = absurd (never law why (given (IsRefused ladder_job why) (ladder_text n) (left source') (rw told at v.0)))
 
     -- verifying the ladder failed: its report is too long, or memory ran out
-    pub failed : AdmittedHasNoFault → (faults source ≡ 0) → (0 < counts out' → length bytes ≡ text_limit + 1) → (why : Refusal) → Verifies {T = Unit {0}} left faults taken counts ladder_job source source' out out' (Err why)
+    pub failed : AdmittedHasNoFault → (faults source ≡ 0) → (0 < counts out' → length bytes ≡ file_limit + 1) → (why : Refusal) → Verifies {T = Unit {0}} left faults taken counts ladder_job source source' out out' (Err why)
         → ((why ≡ refusal.WriteFault) × HasLongReport n) ⊎ (why ≡ refusal.Memory)
     failed law begin full refusal.WriteFault v = (let h = overflowed v in inl (refl, cut_report bytes h.0 (full h.1)))
     failed law begin full why v = inr (stopped_short law begin why (λ e. absurd (cc)) v)
 
     -- so there is no report to give
-    pub failed_report : AdmittedHasNoFault → (faults source ≡ 0) → (0 < counts out' → length bytes ≡ text_limit + 1) → (job : VerifyData) → job ≡ ladder_job → (why : Refusal) → Verifies {T = Unit {0}} left faults taken counts job source source' out out' (Err why)
+    pub failed_report : AdmittedHasNoFault → (faults source ≡ 0) → (0 < counts out' → length bytes ≡ file_limit + 1) → (job : VerifyData) → job ≡ ladder_job → (why : Refusal) → Verifies {T = Unit {0}} left faults taken counts job source source' out out' (Err why)
         → (why ≡ refusal.WriteFault → ReportsLadder n (Err refusal.TooLong)) × ((why ≡ refusal.WriteFault → ⊥) → ReportsLadder n (Err why))
     failed_report law begin full job same why v = by (failed law begin full why (subst (λ (j : VerifyData). Verifies {T = Unit {0}} left faults taken counts j source source' out out' (Err why)) same v))
       where
@@ -145,7 +145,7 @@ module _ (n : ℕ) (some : 1 ≤ n) (few : n ≤ most_blocks) (texts : TextIsSho
 
     -- the report that was written, where it fits
     pub given_report : RightReportsAreSound → RightTreesAreOne → (job : VerifyData) → job ≡ ladder_job → Verifies {T = Unit {0}} left faults taken counts job source source' out out' (Ok tt)
-        → (kept : Vec ℕ Global) → kept.items ≡ bytes → (result : Result (Vec ℕ Global) Refusal) → GivesWithin text_limit kept result → ReportsLadder n result
+        → (kept : Vec ℕ Global) → kept.items ≡ bytes → (result : Result (Vec ℕ Global) Refusal) → GivesWithin file_limit kept result → ReportsLadder n result
     given_report law one job same v kept is result h =
         let m = verified_ladder (subst (λ (j : VerifyData). Verifies {T = Unit {0}} left faults taken counts j source source' out out' (Ok tt)) same v) in
         within_report law one kept result (subst (λ (b : List ℕ). Makes (IsReported (Some []) (Some b) one_half) ladder_job (ladder_text n)) (sym is) m) h
@@ -153,7 +153,7 @@ module _ (n : ℕ) (some : 1 ≤ n) (few : n ≤ most_blocks) (texts : TextIsSho
 -- ---- its check
 
 -- a sound file is found so, or memory runs out
-pub found : (bytes : List ℕ) (old new : ℕ) → SoundFilesPass → length bytes ≤ text_limit → (new ≡ 0) → (old ≡ 0) → (result : Result Summary CheckError) → AnswersTold (Some bytes) old new result → (leaves : Summary) → IsSoundFile bytes leaves
+pub found : (bytes : List ℕ) (old new : ℕ) → SoundFilesPass → length bytes ≤ file_limit → (new ≡ 0) → (old ≡ 0) → (result : Result Summary CheckError) → AnswersTold (Some bytes) old new result → (leaves : Summary) → IsSoundFile bytes leaves
     → (result ≡ Ok leaves) ⊎ (result ≡ Err check.Memory)
 found bytes old new pass fits calm begin result told leaves sound = told bytes (Ok leaves) refl (pass bytes leaves sound) fits (λ rose. omega arith)
 

@@ -17,12 +17,13 @@ use Rattle.plift_words.specs.Given.{asked}
 use Rattle.model_gen.specs.Ladder.{ladder_text}
 use Rattle.plift_words.specs.declared.job.Field.{Field}
 use Rattle.plift_words.specs.declared.job.Field.TheVariants as field
-use Rattle.check_notes.specs.Rows.{row_place, row_fault}
+use Rattle.check_notes.specs.Rows.{row_text, row_fault}
 use Rattle.check_notes.specs.Unsound.{unsound_note}
-use Rattle.plift_top.specs.Verify.{Verifies, WasRead, IsRefused, text_limit}
+use Rattle.plift_top.specs.Verify.{Verifies, WasRead, IsRefused}
 use Rattle.plift_top.specs.Check.{Checks}
 use Rattle.plift_top.specs.Selftest.{HasLongReport, Selftests}
 use Rattle.cert_check.specs.Answer.{Answers}
+use Rattle.cert_check.specs.Source.{NoFault, file_limit}
 use Rattle.check_notes.specs.declared.status.Status.{Status}
 use Rattle.check_notes.specs.declared.status.Status.TheVariants as status
 use Rattle.plift_top.specs.declared.refusal.Refusal.{Refusal}
@@ -59,7 +60,7 @@ model_note error = codes "model: line " ++ decimal error.line ++ codes ": " ++ c
 
 -- the note of a row that isn't admitted: which row it is, and what is wrong with it
 abbrev pub rows_note : RowError → List ℕ
-rows_note error = codes "rows: " ++ (row_place (error_row error) ++ row_fault error) ++ codes "\n"
+rows_note error = codes "rows: " ++ (row_text (error_row error) ++ row_fault error) ++ codes "\n"
 
 -- the note of a refusal: one line
 abbrev pub note_of : Refusal → List ℕ
@@ -101,11 +102,7 @@ AsksToSelftest asked blocks = asked ≡ Ok (selftest blocks)
 -- What is too long: the report of the ladder that is tested, and else the text that was read.
 abbrev pub IsTooLong : Result JobData Field → Option (List ℕ) → Option (List ℕ) → Type 0
 IsTooLong (Ok (selftest blocks)) old new = HasLongReport blocks
-IsTooLong asked old new = TakenHas (λ bytes. text_limit < length bytes) old new
-
--- no fault was counted
-abbrev pub NoFault : ℕ → ℕ → Type 0
-NoFault before now = Rose before now → ⊥
+IsTooLong asked old new = TakenHas (λ bytes. file_limit < length bytes) old new
 
 -- The words, and what was read of a source, give cause for a refusal: the words are at fault in this part, or they ask to verify and the job is refused at the text that was read, or they ask to check and this is the first fault of the bytes that were read. Of a fault, a text that is too long and want of memory nothing is asked here.
 abbrev pub HasCause : Refusal → Result JobData Field → Option (List ℕ) → Option (List ℕ) → Type 0

@@ -1,5 +1,4 @@
-pub mod Leaf
-pub mod Told
+pub mod RightReport
 pub mod Verify
 pub mod Check
 pub mod Steps

@@ -13,8 +13,8 @@ use Rattle.model_gen.specs.Ladder.{ladder_case, ladder_region_text, ladder_depth
 use Rattle.cert_text.specs.Report.{report_text}
 use Rattle.cert_check.specs.Sound.{IsSoundFile, leaf_counts}
 use Rattle.cert_check.specs.declared.summary.Summary.{Summary}
+use Rattle.cert_check.specs.Source.{file_limit}
 use Rattle.plift_words.specs.Job.{VerifyData}
-use Rattle.plift_top.specs.Verify.{text_limit}
 use Rattle.plift_top.specs.declared.refusal.Refusal.{Refusal}
 use Rattle.plift_top.specs.declared.refusal.Refusal.TheVariants as refusal
 
@@ -48,11 +48,11 @@ tested_line blocks leaves =
 pub record IsTestedTree (blocks : ℕ) (tree : Tree) : Type 0 where
   pub case : IsCase (ladder_case blocks)
   pub right : IsLadderTree blocks tree
-  pub short : length (ladder_report blocks tree) ≤ text_limit
+  pub short : length (ladder_report blocks tree) ≤ file_limit
 
 -- the report of a ladder has more bytes than a text may have
 abbrev pub HasLongReport : ℕ → Type 0
-HasLongReport blocks = (tree : Tree) → IsLadderTree blocks tree → text_limit < length (ladder_report blocks tree)
+HasLongReport blocks = (tree : Tree) → IsLadderTree blocks tree → file_limit < length (ladder_report blocks tree)
 
 -- the bytes are the report of a ladder's right tree, and a sound file
 pub record IsLadderReport (blocks : ℕ) (bytes : List ℕ) : Type 0 where

@@ -12,8 +12,9 @@ use Rattle.corner_lift.specs.Case.{CaseData, IsCase, case_of}
 use Rattle.lift_cert.specs.declared.bound.Bound.{Bound}
 use Rattle.lift_rows.specs.Admitted.{HasWeightsFromZero, HasSumsOfTotal}
 use Rattle.drn_read.specs.Reading.{drn}
+use Rattle.cert_check.specs.Source.{file_limit}
 use Rattle.plift_words.specs.Job.{VerifyData}
-use Rattle.plift_top.specs.Verify.{WasRead, IsRefusedOver, IsReported, IsCutOff, text_limit}
+use Rattle.plift_top.specs.Verify.{WasRead, IsRefusedOver, IsReported, IsCutOff}
 use Rattle.plift_top.specs.declared.refusal.Refusal.{Refusal}
 use Rattle.plift_top.specs.declared.refusal.Refusal.TheVariants as refusal
 
@@ -22,7 +23,7 @@ abbrev pub ReadsModel : {S : Type 0} → (S → Option (List ℕ)) → (S → �
 ReadsModel left faults goal source source' (Ok m) = WasRead (λ text. drn text goal ≡ Ok m) (left source) (left source')
 ReadsModel left faults goal source source' (Err (refusal.Model error)) = WasRead (λ text. drn text goal ≡ Err error) (left source) (left source')
 ReadsModel left faults goal source source' (Err refusal.ReadFault) = Rose (faults source) (faults source')
-ReadsModel left faults goal source source' (Err refusal.TooLong) = TakenHas (λ bytes. text_limit < length bytes) (left source) (left source')
+ReadsModel left faults goal source source' (Err refusal.TooLong) = TakenHas (λ bytes. file_limit < length bytes) (left source) (left source')
 ReadsModel left faults goal source source' (Err refusal.Memory) = ⊤
 ReadsModel left faults goal source source' (Err _) = ⊥
 

@@ -1,5 +1,5 @@
 -- What `verify` answers, and what stands after it.
-use Rattle.std.specs.Prelude.{◌≡◌, ◌^◌, ◌<◌, ◌≤◌, ℕ, List, All, length, map, Ok, Err, Result, ⊤}
+use Rattle.std.specs.Prelude.{◌≡◌, ◌<◌, ◌≤◌, ℕ, List, All, length, map, Ok, Err, Result, ⊤}
 use Rattle.std.specs.declared.option.Option.{Option}
 use Rattle.std.specs.Io.KnownBytes.{Appends, Consumes, IsAtEnd}
 use Rattle.lift_base.specs.Outside.{Rose, TakenHas, AppendsFront}
@@ -15,14 +15,11 @@ use Rattle.drn_read.specs.Reading.{drn}
 use Rattle.drn_read.specs.declared.error.DrnError.{DrnError}
 use Rattle.region_tree.specs.Right.{IsRightTree}
 use Rattle.cert_text.specs.Report.{report_text}
+use Rattle.cert_check.specs.Source.{file_limit}
+use Rattle.cert_check.specs.Trust.{LeafHolds}
 use Rattle.plift_words.specs.Job.{VerifyData}
-use Rattle.plift_top.specs.Leaf.{BoundsSchedulers}
 use Rattle.plift_top.specs.declared.refusal.Refusal.{Refusal}
 use Rattle.plift_top.specs.declared.refusal.Refusal.TheVariants as refusal
-
--- how many bytes a text may have
-abbrev pub text_limit : ℕ
-text_limit = 2 ^ 26
 
 -- A source was read to its end, and the text that it gave has P. Where the source doesn't tell its content, some text has it.
 pub record WasRead (P : List ℕ → Type 0) (old new : Option (List ℕ)) : Type 0 where
@@ -47,7 +44,7 @@ IsRefusedAt job (Ok m) why = IsRefusedOver job m (region m.names job.depth job.r
 abbrev pub IsRefused : VerifyData → Refusal → List ℕ → Type 0
 IsRefused job why text = IsRefusedAt job (drn text job.goal) why
 
--- The report of a case was appended, whole: that of its right tree. The tree's leaves tile the root, and each bounds the schedulers inside its rectangle. At each valuation inside the root each row of the case is a distribution.
+-- The report of a case was appended, whole: that of its right tree. The tree's leaves tile the root, and what each says holds everywhere inside its rectangle. At each valuation inside the root each row of the case is a distribution.
 pub record IsReported (old new : Option (List ℕ)) (bound : Bound) (k : CaseData) : Type 0 where
   pub tree : Tree
   pub case : IsCase k
@@ -55,7 +52,7 @@ pub record IsReported (old new : Option (List ℕ)) (bound : Bound) (k : CaseDat
   pub sums : HasSumsOfTotal k
   pub right : IsRightTree k bound tree
   pub tiles : Tiles k.d k.root (map (λ leaf. leaf.spans) (leaves k.root 0 tree))
-  pub schedulers : All (BoundsSchedulers k bound) (leaves k.root 0 tree)
+  pub schedulers : All (LeafHolds k bound) (leaves k.root 0 tree)
   pub report : Appends old new (report_text k bound tree)
 
 -- A front of the report of a case was appended: whichever tree is right, a front of its report.
@@ -84,7 +81,7 @@ ReportsFront old new job text = Makes (IsCutOff old new job.bound) job text
 -- why a job stopped before anything was written
 abbrev pub Stops : {S : Type 0} → (S → Option (List ℕ)) → (S → ℕ) → VerifyData → S → S → Refusal → Type 0
 Stops left faults job source source' refusal.ReadFault = Rose (faults source) (faults source')
-Stops left faults job source source' refusal.TooLong = TakenHas (λ bytes. text_limit < length bytes) (left source) (left source')
+Stops left faults job source source' refusal.TooLong = TakenHas (λ bytes. file_limit < length bytes) (left source) (left source')
 Stops left faults job source source' refusal.Memory = ⊤
 Stops left faults job source source' (refusal.Usage f) = ⊥
 Stops left faults job source source' refusal.WriteFault = ⊥
@@ -101,5 +98,5 @@ Verifies left faults taken counts job source source' out out' (Err why) = Stops 
 
 -- more bytes than the limit were taken at TooLong, and only there
 abbrev pub KeepsLimit : {T : Type 0} → Result T Refusal → Option (List ℕ) → Option (List ℕ) → Type 0
-KeepsLimit (Err refusal.TooLong) old new = TakenHas (λ bytes. text_limit < length bytes) old new
-KeepsLimit _ old new = TakenHas (λ bytes. length bytes ≤ text_limit) old new
+KeepsLimit (Err refusal.TooLong) old new = TakenHas (λ bytes. file_limit < length bytes) old new
+KeepsLimit _ old new = TakenHas (λ bytes. length bytes ≤ file_limit) old new

@@ -1,9 +1,7 @@
 // Notes of refusals.
-ghost use Rattle.std.specs.Prelude.{◌≡◌, ◌++◌};
+ghost use Rattle.std.specs.Prelude.{◌≡◌};
 ghost use Rattle.lift_base.specs.Outside.{Wrote};
-ghost use Rattle.lift_rows.specs.Number.{error_row};
 ghost use Rattle.plift_top.specs.Answers.{status_of, usage_note, region_note, model_note};
-ghost use Rattle.check_notes.specs.Rows.{row_place, row_fault};
 ghost use Rattle.plift_top.specs.Answers.{rows_note, note_of, answered, IsNoted};
 
 use crate::refusal::Refusal;

@@ -6,8 +6,7 @@ ghost use Rattle.lift_base.specs.Outside.{Rose, AppendsFront, TakenHas};
 ghost use Rattle.lift_grid.specs.Region.{Region, region};
 ghost use Rattle.lift_grid.specs.Tree.{Tree};
 ghost use Rattle.lift_model.specs.Model.{ModelData};
-ghost use Rattle.corner_lift.specs.Case.{CaseData, IsCase, IsAdmitted, case_of};
-ghost use Rattle.lift_cert.specs.declared.bound.Bound.{Bound};
+ghost use Rattle.corner_lift.specs.Case.{IsCase, IsAdmitted, case_of};
 ghost use Rattle.region_tree.specs.Right.{IsRightTree};
 ghost use Rattle.cert_text.specs.Report.{report_text};
 ghost use Rattle.cert_text.specs.Forms.{IsToldBound};
@@ -15,16 +14,16 @@ ghost use Rattle.drn_read.specs.Reading.{drn};
 ghost use Rattle.plift_words.specs.Job.{VerifyData};
 ghost use Rattle.plift_words.specs.declared.job.Field.TheVariants.{Words};
 ghost use Rattle.plift_top.specs.Verify.{WasRead, Reports, ReportsFront};
-ghost use Rattle.plift_top.specs.Verify.{IsRefused, KeepsLimit, text_limit};
+ghost use Rattle.plift_top.specs.Verify.{IsRefused, KeepsLimit};
 ghost use Rattle.model_gen.specs.Ladder.{ladder_text, ladder_case};
 ghost use Rattle.plift_top.specs.Answers.{status_of, wanted, AsksToVerify, AsksToCheck};
 ghost use Rattle.plift_top.specs.Answers.{AsksToGenerate, AsksToSelftest, IsTooLong};
 ghost use Rattle.plift_top.specs.Selftest.{one_half, tested_line};
 ghost use Rattle.cert_check.specs.Sound.{IsSoundFile, leaf_counts};
+ghost use Rattle.cert_check.specs.Source.{NoFault, file_limit};
 ghost use Rattle.cert_check.specs.declared.summary.Summary.{Summary};
 ghost use Rattle.plift_top.specs.Check.{IsFoundSound, IsFoundInPart, IsUnsound};
-ghost use Rattle.plift_top.specs.Answers.{NoFault, Generates};
-ghost use Rattle.plift_top.specs.Answers.{HasNote, WroteNote, Acts};
+ghost use Rattle.plift_top.specs.Answers.{HasNote, WroteNote, Acts, Generates};
 
 use crate::checking::check_report;
 use crate::laws::right_reports_are_sound;
@@ -82,25 +81,19 @@ pub fn run<S: Source, K: Sink, E: Sink>(
     out: &mut K,
     notes: &mut E,
 ) -> Status
-    // Done of `verify`: out took the report of a case, whole, and that of its right tree.
-    ensures report { result ≡ Status.Done
+    // Done of `verify`: the source gave a text that stands for a model, which with the job's region
+    // makes a case, and out took the report of this case, whole, and that of its right tree. The
+    // tree's leaves tile the root, and each bounds the schedulers inside its rectangle.
+    ensures done { result ≡ Status.Done
         → (j : VerifyData) → AsksToVerify (wanted words.now.items) j
-        → (k : CaseData) × (bound : Bound) × (tree : Tree)
-        × IsCase k × IsRightTree k bound tree
-        × Appends (K.taken out.old) (K.taken out.new) (report_text k bound tree) }
+        → WasRead (Reports (K.taken out.old) (K.taken out.new) j)
+        (S.left source.old) (S.left source.new) }
 
     // What out took is a sound file.
     ensures sound { result ≡ Status.Done
         → (j : VerifyData) → AsksToVerify (wanted words.now.items) j
         → (report : List ℕ) × (leaves : Summary) × IsSoundFile report leaves
         × Appends (K.taken out.old) (K.taken out.new) report }
-
-    // The source gave a text that stands for a model, which with the job's region makes that case.
-    // The tree's leaves tile the root, and each bounds the schedulers inside its rectangle.
-    ensures done { result ≡ Status.Done
-        → (j : VerifyData) → AsksToVerify (wanted words.now.items) j
-        → WasRead (Reports (K.taken out.old) (K.taken out.new) j)
-        (S.left source.old) (S.left source.new) }
 
     // Done of `check`: the source gave a sound file, and out took its line. The leaves of its report
     // tile its region, and each holds inside its rectangle, for the model and the bound in the file.
@@ -129,7 +122,7 @@ pub fn run<S: Source, K: Sink, E: Sink>(
     ensures too_long { result ≡ Status.TooLong
         → IsTooLong (wanted words.now.items) (S.left source.old) (S.left source.new) }
     ensures within { result ≢ Status.TooLong
-        → TakenHas (λ bytes. length bytes ≤ text_limit) (S.left source.old) (S.left source.new) }
+        → TakenHas (λ bytes. length bytes ≤ file_limit) (S.left source.old) (S.left source.new) }
 
     // Only `check` answers NotSound, and only to bytes that are no sound file.
     ensures not_sound { result ≡ Status.NotSound → AsksToCheck (wanted words.now.items)
@@ -139,13 +132,13 @@ pub fn run<S: Source, K: Sink, E: Sink>(
     // fault is counted.
     ensures check_complete { (bytes : List ℕ) (leaves : Summary)
         → AsksToCheck (wanted words.now.items) → S.left source.old ≡ Some bytes
-        → IsSoundFile bytes leaves → length bytes ≤ text_limit
+        → IsSoundFile bytes leaves → length bytes ≤ file_limit
         → NoFault (S.faults source.old) (S.faults source.new)
         → NoFault (K.faults out.old) (K.faults out.new)
         → (result ≡ Status.Done) ⊎ (result ≡ Status.Memory) }
     ensures check_refused { (bytes : List ℕ)
         → AsksToCheck (wanted words.now.items) → S.left source.old ≡ Some bytes
-        → IsUnsound bytes → length bytes ≤ text_limit
+        → IsUnsound bytes → length bytes ≤ file_limit
         → NoFault (S.faults source.old) (S.faults source.new)
         → NoFault (K.faults out.old) (K.faults out.new)
         → (result ≡ Status.NotSound) ⊎ (result ≡ Status.Memory) }
@@ -155,7 +148,7 @@ pub fn run<S: Source, K: Sink, E: Sink>(
     ensures complete { (j : VerifyData) (text : List ℕ) (m : ModelData) (root : Region)
         → AsksToVerify (wanted words.now.items) j → S.left source.old ≡ Some text
         → drn text j.goal ≡ Ok m → region m.names j.depth j.region ≡ Ok root
-        → IsAdmitted (case_of m root j.precision) → length text ≤ text_limit
+        → IsAdmitted (case_of m root j.precision) → length text ≤ file_limit
         → NoFault (S.faults source.old) (S.faults source.new)
         → NoFault (K.faults out.old) (K.faults out.new)
         → (result ≡ Status.Done) ⊎ (result ≡ Status.Memory) }
@@ -164,7 +157,7 @@ pub fn run<S: Source, K: Sink, E: Sink>(
     // counted.
     ensures refused { (j : VerifyData) (text : List ℕ) (why : Refusal)
         → AsksToVerify (wanted words.now.items) j → S.left source.old ≡ Some text
-        → IsRefused j why text → length text ≤ text_limit
+        → IsRefused j why text → length text ≤ file_limit
         → NoFault (S.faults source.old) (S.faults source.new)
         → NoFault (K.faults out.old) (K.faults out.new)
         → (result ≡ status_of why) ⊎ (result ≡ Status.Memory) }
@@ -174,7 +167,7 @@ pub fn run<S: Source, K: Sink, E: Sink>(
     ensures unadmitted { (j : VerifyData) (text : List ℕ) (m : ModelData) (root : Region)
         → AsksToVerify (wanted words.now.items) j → S.left source.old ≡ Some text
         → drn text j.goal ≡ Ok m → region m.names j.depth j.region ≡ Ok root
-        → (IsAdmitted (case_of m root j.precision) → ⊥) → length text ≤ text_limit
+        → (IsAdmitted (case_of m root j.precision) → ⊥) → length text ≤ file_limit
         → NoFault (S.faults source.old) (S.faults source.new)
         → NoFault (K.faults out.old) (K.faults out.new)
         → (result ≡ Status.RowsRefused) ⊎ (result ≡ Status.Memory) }
@@ -193,12 +186,12 @@ pub fn run<S: Source, K: Sink, E: Sink>(
         → source.new ≡ source.old }
     ensures short_tested { (n : ℕ) (tree : Tree)
         → AsksToSelftest (wanted words.now.items) n → IsRightTree (ladder_case n) one_half tree
-        → length (report_text (ladder_case n) one_half tree) ≤ text_limit
+        → length (report_text (ladder_case n) one_half tree) ≤ file_limit
         → NoFault (K.faults out.old) (K.faults out.new)
         → (result ≡ Status.Done) ⊎ (result ≡ Status.Memory) }
     ensures long_tested { (n : ℕ) (tree : Tree)
         → AsksToSelftest (wanted words.now.items) n → IsRightTree (ladder_case n) one_half tree
-        → text_limit < length (report_text (ladder_case n) one_half tree)
+        → file_limit < length (report_text (ladder_case n) one_half tree)
         → (result ≡ Status.TooLong) ⊎ (result ≡ Status.Memory) }
 
     // What stands after a refusal: a front of what was asked for after a write fault, else out as it

@@ -5,7 +5,7 @@ ghost use Rattle.lift_model.specs.Links.{AreLinks};
 ghost use Rattle.region_tree.specs.Rooms.{IsAsMade, IsMadeFor};
 ghost use Rattle.region_tree.specs.Visits.{Walks};
 ghost use Rattle.region_tree.specs.declared.visitor.Seen.TheVariants.{Failed, Kept};
-ghost use Rattle.plift_top.specs.Told.{IsRightReport, node_text};
+ghost use Rattle.plift_top.specs.RightReport.{IsRightReport, node_text};
 
 use cert_text::{write_accept, write_head, write_reject, write_split, write_unknown};
 use corner_lift::Case;

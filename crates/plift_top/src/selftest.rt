@@ -4,7 +4,7 @@ ghost use Rattle.lift_base.specs.Outside.{Wrote};
 ghost use Rattle.model_gen.specs.Ladder.{ladder_text};
 ghost use Rattle.cert_check.specs.Sound.{IsSoundFile};
 ghost use Rattle.cert_check.specs.declared.summary.Summary.{Summary};
-ghost use Rattle.plift_top.specs.Verify.{text_limit};
+ghost use Rattle.cert_check.specs.Source.{file_limit};
 ghost use Rattle.plift_words.specs.Given.{verify_data};
 ghost use Rattle.plift_top.specs.Selftest.{ladder_job, tested_line, GivesWithin};
 ghost use Rattle.plift_top.specs.Selftest.{ReportsLadder, Selftests};
@@ -56,7 +56,7 @@ fn job() -> VerifyJob<'static>
 
 // Gives the bytes back, where they aren't more than a text may have.
 fn within_limit(bytes: Vec<u8>) -> Result<Vec<u8>, Refusal>
-    ensures { GivesWithin text_limit bytes result }
+    ensures { GivesWithin file_limit bytes result }
 {
     if bytes.len() > TEXT_LIMIT {
         return Err(Refusal::TooLong);
@@ -84,7 +84,7 @@ fn report_of(alloc: Global, ladder: &Ladder) -> Result<Vec<u8>, Refusal>
 
 // Checks a report, and counts its leaves.
 fn leaves_of(alloc: Global, report: Vec<u8>) -> Result<Summary, Refusal>
-    requires { vec_len report ≤ text_limit }
+    requires { vec_len report ≤ file_limit }
     ensures { (leaves : Summary) → IsSoundFile report.items leaves
         → (result ≡ Ok leaves) ⊎ (result ≡ Err Memory) }
 {

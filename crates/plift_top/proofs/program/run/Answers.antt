@@ -2,9 +2,6 @@ use Rattle.std.proofs.Common.{◌∙◌, sym}
 use Rattle.plift_top.proofs.Acts as acts
 use Rattle.plift_top.proofs.program.run.Goals as goal
 
-pub returns-clause-report : goal.returns-clause-report
-returns-clause-report g c e = acts.reported g.S.Source.left g.S.Source.faults g.K.Sink.taken g.K.Sink.faults _ _ _ _ _ _ (rw c.deref.ensures.value at c.act-answer.ensures.answer) (sym c.end.ensures.status ∙ e)
-
 pub returns-clause-sound : goal.returns-clause-sound
 returns-clause-sound g c e = acts.sound g.S.Source.left g.S.Source.faults g.K.Sink.taken g.K.Sink.faults _ _ _ _ c.right_reports_are_sound.ensures _ _ (rw c.deref.ensures.value at c.act-answer.ensures.answer) (rw c.deref.ensures.value at c.act-answer.ensures.bound) (sym c.end.ensures.status ∙ e)
 

@@ -1,6 +1,6 @@
 use Rattle.lift_grid.specs.Tree.{RejectData}
 use Rattle.region_tree.specs.Nodes.Node.{reject}
-use Rattle.plift_top.specs.Told.{node_text}
+use Rattle.plift_top.specs.RightReport.{node_text}
 use Rattle.plift_top.proofs.Telling.{visited}
 use Rattle.plift_top.proofs.report.ReporterVisitor.reject.Goals as goal
 

@@ -1,5 +1,5 @@
 use Rattle.region_tree.specs.Nodes.Node.{split}
-use Rattle.plift_top.specs.Told.{node_text}
+use Rattle.plift_top.specs.RightReport.{node_text}
 use Rattle.plift_top.proofs.Telling.{visited}
 use Rattle.plift_top.proofs.report.ReporterVisitor.split.Goals as goal
 
