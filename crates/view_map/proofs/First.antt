@@ -14,7 +14,7 @@ use Rattle.cert_text.specs.Forms.{IsHead, IsNode, IsTree}
 use Rattle.cert_text.specs.Laws.{told_lines, HeadsAreReadBack, NodesAreReadBack}
 use Rattle.cert_check.specs.Sound.{IsSoundSplit, IsSoundTree}
 use Rattle.view_map.specs.Parts.{PartData, part_with, parts_over}
-use Rattle.view_map.specs.Told.{Adds, BeginsWith}
+use Rattle.view_map.specs.Mapping.{Adds, BeginsWithTree}
 use Rattle.view_map.specs.declared.part.LeafKind.TheVariants.{Accept, Reject, Unknown}
 use Rattle.view_map.proofs.Shares.{parts_split}
 
@@ -57,7 +57,7 @@ ok_is : {A : Type 0} (x y : A) → ◌≡◌ {A = Result A TextError} (Ok x) (Ok
 ok_is x y e = cc
 
 -- the node that is read is the first
-pub first_read : NodesAreReadBack → (h : HeadData) (ss : Spans) (depth n m : ℕ) (text left rest : List ℕ) (t : Tree) (node : Node) → IsHead h → BeginsWith h ss depth text t rest → node_at h (n, text) ≡ Ok (node, (m, left))
+pub first_read : NodesAreReadBack → (h : HeadData) (ss : Spans) (depth n m : ℕ) (text left rest : List ℕ) (t : Tree) (node : Node) → IsHead h → BeginsWithTree h ss depth text t rest → node_at h (n, text) ≡ Ok (node, (m, left))
     → (node ≡ first t) × (left ≡ behind h.asked.model.init t rest)
 first_read back h ss depth n m text left rest t node head b read =
     let init = h.asked.model.init in
@@ -75,10 +75,10 @@ pub record Halves (h : HeadData) (ss : Spans) (depth axis : ℕ) (left : List �
   pub is : t ≡ splits axis lower upper
   pub some : axis < length h.asked.model.names
   pub may : IsSoundSplit h.asked ss depth axis
-  pub low : BeginsWith h (lower_half axis ss) (depth + 1) left lower between
-  pub high : (text : List ℕ) → text ≡ between → BeginsWith h (upper_half axis ss) (depth + 1) text upper rest
+  pub low : BeginsWithTree h (lower_half axis ss) (depth + 1) left lower between
+  pub high : (text : List ℕ) → text ≡ between → BeginsWithTree h (upper_half axis ss) (depth + 1) text upper rest
 
-pub halves : (h : HeadData) (ss : Spans) (depth axis : ℕ) (text left rest : List ℕ) (t : Tree) → BeginsWith h ss depth text t rest → (split axis ≡ first t) × (left ≡ behind h.asked.model.init t rest) → Halves h ss depth axis left t rest
+pub halves : (h : HeadData) (ss : Spans) (depth axis : ℕ) (text left rest : List ℕ) (t : Tree) → BeginsWithTree h ss depth text t rest → (split axis ≡ first t) × (left ≡ behind h.asked.model.init t rest) → Halves h ss depth axis left t rest
 unfolding first behind
 halves h ss depth axis text left rest (splits a lower upper) b (node, left_is) =
     let same : a ≡ axis = cc in
@@ -116,7 +116,7 @@ pub adds_accept : NodesAreReadBack → (h : HeadData) (ss : Spans) (depth u n m 
 unfolding first behind
 adds_accept back h ss depth u n m x text left old new head read is t rest b = by t b (first_read back h ss depth n m text left rest t (accept u x) head b read)
   where
-    by : (t : Tree) → BeginsWith h ss depth text t rest → (accept u x ≡ first t) × (left ≡ behind h.asked.model.init t rest) → (left ≡ rest) × (new ≡ old ++ parts_over ss depth t)
+    by : (t : Tree) → BeginsWithTree h ss depth text t rest → (accept u x ≡ first t) × (left ≡ behind h.asked.model.init t rest) → (left ≡ rest) × (new ≡ old ++ parts_over ss depth t)
     by (accepts v y) b (node, left_is) = (left_is, is)
     by (rejects v r) b (node, left_is) = absurd cc
     by unknowns b (node, left_is) = absurd cc
@@ -127,7 +127,7 @@ pub adds_reject : NodesAreReadBack → (h : HeadData) (ss : Spans) (depth u n m 
 unfolding first behind
 adds_reject back h ss depth u n m r text left old new head read is t rest b = by t b (first_read back h ss depth n m text left rest t (reject u r) head b read)
   where
-    by : (t : Tree) → BeginsWith h ss depth text t rest → (reject u r ≡ first t) × (left ≡ behind h.asked.model.init t rest) → (left ≡ rest) × (new ≡ old ++ parts_over ss depth t)
+    by : (t : Tree) → BeginsWithTree h ss depth text t rest → (reject u r ≡ first t) × (left ≡ behind h.asked.model.init t rest) → (left ≡ rest) × (new ≡ old ++ parts_over ss depth t)
     by (rejects v s) b (node, left_is) = (left_is, is)
     by (accepts v y) b (node, left_is) = absurd cc
     by unknowns b (node, left_is) = absurd cc
@@ -138,7 +138,7 @@ pub adds_unknown : NodesAreReadBack → (h : HeadData) (ss : Spans) (depth n m :
 unfolding first behind
 adds_unknown back h ss depth n m text left old new head read is t rest b = by t b (first_read back h ss depth n m text left rest t unknown head b read)
   where
-    by : (t : Tree) → BeginsWith h ss depth text t rest → (unknown ≡ first t) × (left ≡ behind h.asked.model.init t rest) → (left ≡ rest) × (new ≡ old ++ parts_over ss depth t)
+    by : (t : Tree) → BeginsWithTree h ss depth text t rest → (unknown ≡ first t) × (left ≡ behind h.asked.model.init t rest) → (left ≡ rest) × (new ≡ old ++ parts_over ss depth t)
     by unknowns b (node, left_is) = (left_is, is)
     by (accepts v y) b (node, left_is) = absurd cc
     by (rejects v s) b (node, left_is) = absurd cc

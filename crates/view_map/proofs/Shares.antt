@@ -10,10 +10,10 @@ use Rattle.lift_cert.specs.declared.bound.Bound.{Bound}
 use Rattle.corner_lift.specs.Case.{CaseData, greatest_depth}
 use Rattle.cert_check.specs.Sound.{IsSoundTree}
 use Rattle.view_map.specs.Parts.{PartData, part_of, parts_over}
-use Rattle.view_map.specs.Share.{is_kind, share, share_as, share_of, total, whole}
+use Rattle.view_map.specs.Share.{is_kind, share, share_as, share_of, total_share, whole_volume}
 use Rattle.view_map.specs.declared.part.LeafKind.{LeafKind}
 
-total_append : (ps qs : List PartData) → total (ps ++ qs) ≡ total ps + total qs
+total_append : (ps qs : List PartData) → total_share (ps ++ qs) ≡ total_share ps + total_share qs
 total_append ps qs = sum_by-append share ps qs
 
 pub map_append : {A B : Type 0} (f : A → B) (xs ys : List A) → map f (xs ++ ys) ≡ map f xs ++ map f ys
@@ -29,7 +29,7 @@ one_leaf : (n depth : ℕ) → depth + n ≡ 20 → 0 + 2 ^ (20 - depth) ≡ 2 ^
 one_leaf n depth e = let left : 20 - depth ≡ n = omega (arith, e) in rw left (omega arith)
 
 -- the leaves of a sound tree share what its rectangle has
-total_over : (k : CaseData) (bound : Bound) (t : Tree) (ss : Spans) (depth n : ℕ) → greatest_depth k ≤ 20 → IsSoundTree k bound ss depth t → depth + n ≡ 20 → total (parts_over ss depth t) ≡ 2 ^ n
+total_over : (k : CaseData) (bound : Bound) (t : Tree) (ss : Spans) (depth n : ℕ) → greatest_depth k ≤ 20 → IsSoundTree k bound ss depth t → depth + n ≡ 20 → total_share (parts_over ss depth t) ≡ 2 ^ n
 total_over k bound (accepts u x) ss depth n few s e = one_leaf n depth e
 total_over k bound (rejects u r) ss depth n few s e = one_leaf n depth e
 total_over k bound unknowns ss depth n few s e = one_leaf n depth e
@@ -48,7 +48,7 @@ pub greatest_is_few : (k : CaseData) → k.depth ≤ 20 → greatest_depth k ≤
 greatest_is_few k h = few_halvings (live k.model == 0) k.depth h
 
 -- the leaves of a sound report share the whole
-pub total_of_sound : (k : CaseData) (bound : Bound) (t : Tree) → k.depth ≤ 20 → IsSoundTree k bound k.root 0 t → total (parts_over k.root 0 t) ≡ whole
+pub total_of_sound : (k : CaseData) (bound : Bound) (t : Tree) → k.depth ≤ 20 → IsSoundTree k bound k.root 0 t → total_share (parts_over k.root 0 t) ≡ whole_volume
 total_of_sound k bound t few s = total_over k bound t k.root 0 20 (greatest_is_few k few) s refl
 
 at_most : (b : Bool) (n : ℕ) → cond b n 0 ≤ n
@@ -63,7 +63,7 @@ pub sum_cons : (f : PartData → ℕ) (p : PartData) (ps : List PartData) → su
 sum_cons f p ps = let e = sum_by-append f (p ∷ []) ps in omega (arith, e)
 
 -- a kind's share is at most all leaves' share
-pub share_at_most : (kind : LeafKind) (ps : List PartData) → share_of kind ps ≤ total ps
+pub share_at_most : (kind : LeafKind) (ps : List PartData) → share_of kind ps ≤ total_share ps
 share_at_most kind [] = omega arith
 share_at_most kind (p ∷ ps) =
     let one = part_share kind p in
@@ -73,7 +73,7 @@ share_at_most kind (p ∷ ps) =
     omega (arith, one, more, a, b)
 
 -- so is the share of the first leaves and one more
-pub share_within : (kind : LeafKind) (ps : List PartData) (i : ℕ) (d : PartData) → i < length ps → share_of kind (take i ps) + share_as kind (get_or ps i d) ≤ total ps
+pub share_within : (kind : LeafKind) (ps : List PartData) (i : ℕ) (d : PartData) → i < length ps → share_of kind (take i ps) + share_as kind (get_or ps i d) ≤ total_share ps
 share_within kind ps i d h =
     let one = part_share kind (get_or ps i d) in
     let more = sum_by_more_le_part (share_as kind) share ps i d h (part_share kind) in

@@ -14,8 +14,8 @@ use Rattle.cert_text.specs.Forms.{IsHead}
 use Rattle.cert_text.specs.Laws.{NodesAreReadBack}
 use Rattle.std.specs.List.{concat}
 use Rattle.view_map.specs.Parts.{PartData, parts}
-use Rattle.view_map.specs.Share.{total, whole}
-use Rattle.view_map.specs.Told.{Adds, AreNodes, BeginsWith, BeginsWithSome, HasNodes, StandsAt}
+use Rattle.view_map.specs.Share.{total_share, whole_volume}
+use Rattle.view_map.specs.Mapping.{Adds, AreNodes, BeginsWithTree, BeginsWithSomeTree, HasNodes, StandsAt}
 use Rattle.view_map.proofs.First.{first_read, halves}
 use Rattle.view_map.proofs.Shares.{total_of_sound}
 
@@ -58,11 +58,11 @@ pub record Parted (h : HeadData) (ss : Spans) (depth axis : ℕ) (left : List �
   pub halvable : IsHalvable axis ss
   pub lower : StandsAt h.asked (depth + 1) (lower_half axis ss)
   pub upper : StandsAt h.asked (depth + 1) (upper_half axis ss)
-  pub low : BeginsWithSome h (lower_half axis ss) (depth + 1) left
-  pub high : (between : List ℕ) (old mid : List PartData) → Adds h (lower_half axis ss) (depth + 1) left between old mid → BeginsWithSome h (upper_half axis ss) (depth + 1) between
+  pub low : BeginsWithSomeTree h (lower_half axis ss) (depth + 1) left
+  pub high : (between : List ℕ) (old mid : List PartData) → Adds h (lower_half axis ss) (depth + 1) left between old mid → BeginsWithSomeTree h (upper_half axis ss) (depth + 1) between
 
 pub parted : NodesAreReadBack → HalvesHaveOneLess → HalvesKeepCount → SpansAreHalvable → (h : HeadData) (ss : Spans) (depth axis n m : ℕ) (text left : List ℕ) → IsHead h → node_at h (n, text) ≡ Ok (split axis, (m, left))
-    → StandsAt h.asked depth ss → BeginsWithSome h ss depth text → Parted h ss depth axis left
+    → StandsAt h.asked depth ss → BeginsWithSomeTree h ss depth text → Parted h ss depth axis left
 parted back less keep halvable h ss depth axis n m text left head read at (t, rest, b) =
     let halved = halves h ss depth axis text left rest t b (first_read back h ss depth n m text left rest t (split axis) head b read) in
     let more = above h.asked ss depth axis halved.may in
@@ -81,12 +81,12 @@ if_ok_as (Ok x) P Q f h = f x h
 if_ok_as (Err e) P Q f h = tt
 
 -- the nodes of a whole report
-pub begins_whole : (h : HeadData) (text : List ℕ) (t : Tree) → AreNodes h text t → BeginsWith h h.asked.root 0 text t []
+pub begins_whole : (h : HeadData) (text : List ℕ) (t : Tree) → AreNodes h text t → BeginsWithTree h h.asked.root 0 text t []
 begins_whole h text t a = record { tree = a.sound.tree; nodes = a.sound.report.nodes; lines = a.lines ∙ sym (append-nil _) }
 
 pub mapped : (h : HeadData) (text left : List ℕ) (ps : List PartData) → Adds h h.asked.root 0 text left [] ps → (t : Tree) → AreNodes h text t → ps ≡ parts h t
 mapped h text left ps adds t a = (adds t [] (begins_whole h text t a)).1
 
 -- their shares sum to the whole
-pub mapped_total : (h : HeadData) (text left : List ℕ) (ps : List PartData) → IsHead h → Adds h h.asked.root 0 text left [] ps → HasNodes h text → total ps ≡ whole
-mapped_total h text left ps head adds (t, a) = ap (λ (qs : List PartData). total qs) (mapped h text left ps adds t a) ∙ total_of_sound h.asked h.bound t head.asked.depth a.sound.tree
+pub mapped_total : (h : HeadData) (text left : List ℕ) (ps : List PartData) → IsHead h → Adds h h.asked.root 0 text left [] ps → HasNodes h text → total_share ps ≡ whole_volume
+mapped_total h text left ps head adds (t, a) = ap (λ (qs : List PartData). total_share qs) (mapped h text left ps adds t a) ∙ total_of_sound h.asked h.bound t head.asked.depth a.sound.tree

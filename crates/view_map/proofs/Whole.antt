@@ -9,8 +9,8 @@ use Rattle.cert_text.specs.Laws.{told_lines, text_of, HeadsAreReadBack}
 use Rattle.cert_check.specs.Sound.{IsSound, IsSoundFile}
 use Rattle.cert_check.specs.declared.summary.Summary.{Summary}
 use Rattle.view_map.specs.Parts.{MapData, PartData, parts}
-use Rattle.view_map.specs.Share.{total, whole}
-use Rattle.view_map.specs.Told.{AreNodes, HasNodes, IsMapOf, IsMapped}
+use Rattle.view_map.specs.Share.{total_share, whole_volume}
+use Rattle.view_map.specs.Mapping.{AreNodes, HasNodes, IsMapOf, IsMapped}
 use Rattle.view_map.proofs.Shares.{total_of_sound}
 
 ok_is : {A : Type 0} (x y : A) → ◌≡◌ {A = Result A TextError} (Ok x) (Ok y) → x ≡ y
@@ -48,6 +48,6 @@ made back text leaves file h m left read map is =
       sound = nodes.sound;
       text = file.text ∙ ap (λ g. text_of g file.tree) (sym same);
       leaves = ps;
-      shares = ap (λ (qs : List PartData). total qs) ps ∙ total_of_sound h.asked h.bound file.tree nodes.sound.report.head.asked.depth nodes.sound.tree;
+      shares = ap (λ (qs : List PartData). total_share qs) ps ∙ total_of_sound h.asked h.bound file.tree nodes.sound.report.head.asked.depth nodes.sound.tree;
     } in
     subst (λ g. IsMapOf text g map.parts) (sym is.head) of

@@ -41,8 +41,8 @@ abbrev pub axes_of : ℕ → Option ℕ → Option ℕ → Option ℕ × Option 
 axes_of set x y = let across = or_else x (first_live set y) in (across, or_else y (first_live set across))
 
 -- the midpoint of a parameter's span
-abbrev pub middle : Spans → ℤ → ℕ → CutData
-middle root d parameter = let s = span_at root parameter in record { parameter = parameter; num = s.0 +ℤ s.1; den = pos 2 *ℤ d }
+abbrev pub middle_cut : Spans → ℤ → ℕ → CutData
+middle_cut root d parameter = let s = span_at root parameter in record { parameter = parameter; num = s.0 +ℤ s.1; den = pos 2 *ℤ d }
 
 -- the value that is given to a parameter
 abbrev pub given_to : List CutData → ℕ → Option CutData
@@ -50,7 +50,7 @@ given_to given parameter = find (λ cut. cut.parameter == parameter) given
 
 -- a parameter's value: the one that is given, and else the midpoint
 abbrev pub cut_of : Spans → ℤ → List CutData → ℕ → CutData
-cut_of root d given parameter = elim (given_to given parameter) [ None ↦ middle root d parameter | Some cut ↦ cut ]
+cut_of root d given parameter = elim (given_to given parameter) [ None ↦ middle_cut root d parameter | Some cut ↦ cut ]
 
 -- the value of a parameter that lies on no axis, and of another none
 abbrev pub cut_on : HeadData → Option ℕ × Option ℕ → List CutData → ℕ → List CutData

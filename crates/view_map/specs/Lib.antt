@@ -1,5 +1,5 @@
 pub mod Parts
 pub mod Share
-pub mod Told
+pub mod Mapping
 pub mod Slice
 pub mod Choice

@@ -14,15 +14,15 @@ pub record PartData : Type 0 where
   pub kind : LeafKind
 
 -- what is said of a leaf; nothing of a split
-abbrev pub kind_of : Tree → LeafKind
-kind_of (accept u x) = Accept
-kind_of (reject u r) = Reject
-kind_of unknown = Unknown
-kind_of (split axis lower upper) = Unknown
+abbrev pub leaf_kind : Tree → LeafKind
+leaf_kind (accept u x) = Accept
+leaf_kind (reject u r) = Reject
+leaf_kind unknown = Unknown
+leaf_kind (split axis lower upper) = Unknown
 
 -- a leaf of a tree, without its certificate
 abbrev pub part_of : Leaf → PartData
-part_of leaf = record { spans = leaf.spans; depth = leaf.depth; kind = kind_of leaf.node }
+part_of leaf = record { spans = leaf.spans; depth = leaf.depth; kind = leaf_kind leaf.node }
 
 -- the leaves of a tree over a rectangle at a depth, the lower half's first
 abbrev pub parts_over : Spans → ℕ → Tree → List PartData

@@ -5,8 +5,8 @@ use Rattle.view_map.specs.declared.part.LeafKind.{LeafKind}
 use Rattle.view_map.specs.declared.part.LeafKind.TheVariants.{Accept, Reject, Unknown}
 
 -- the whole volume, in units
-abbrev pub whole : ℕ
-whole = 2 ^ 20
+abbrev pub whole_volume : ℕ
+whole_volume = 2 ^ 20
 
 -- a leaf's share
 abbrev pub share : PartData → ℕ
@@ -28,13 +28,13 @@ abbrev pub share_of : LeafKind → List PartData → ℕ
 share_of kind ps = sum_by (share_as kind) ps
 
 -- the share of all leaves
-abbrev pub total : List PartData → ℕ
-total ps = sum_by share ps
+abbrev pub total_share : List PartData → ℕ
+total_share ps = sum_by share ps
 
 -- how many leaves there are of a kind
-abbrev pub count_of : LeafKind → List PartData → ℕ
-count_of kind ps = count_by (λ p. is_kind kind p.kind) ps
+abbrev pub leaf_count : LeafKind → List PartData → ℕ
+leaf_count kind ps = count_by (λ p. is_kind kind p.kind) ps
 
 -- how many leaves there are of a kind at a depth
-abbrev pub count_at : LeafKind → ℕ → List PartData → ℕ
-count_at kind depth ps = count_by (λ p. is_kind kind p.kind && (p.depth == depth)) ps
+abbrev pub leaf_count_at : LeafKind → ℕ → List PartData → ℕ
+leaf_count_at kind depth ps = count_by (λ p. is_kind kind p.kind && (p.depth == depth)) ps

@@ -2,7 +2,7 @@
 ghost use Rattle.std.specs.Prelude.{◌≡◌, ◌<◌, ◌≤◌, ◌++◌, ◌+ℤ◌, ◌*ℤ◌, ◌<ℤ◌, ◌^◌, pos, length, unsigned_abs, IfOk};
 ghost use Rattle.lift_grid.specs.Rectangle.{AreSpans, spans_of};
 ghost use Rattle.lift_frac.specs.Limits.{size_limit};
-ghost use Rattle.view_map.specs.Choice.{axes_of, cut_of, cut_on, cuts_of, first_live, given_to, is_choice, is_free, is_live, is_off, middle, slice_of};
+ghost use Rattle.view_map.specs.Choice.{axes_of, cut_of, cut_on, cuts_of, first_live, given_to, is_choice, is_free, is_live, is_off, middle_cut, slice_of};
 
 use crate::part::span_at;
 use crate::slice::{Cut, Slice};
@@ -58,11 +58,11 @@ fn axes_of(live: u16, x: Option<u32>, y: Option<u32>) -> (Option<u32>, Option<u3
 }
 
 /// The midpoint of a parameter's span.
-fn middle(root: &[i64], d: i64, parameter: u32) -> Cut
+fn middle_cut(root: &[i64], d: i64, parameter: u32) -> Cut
     requires spans { AreSpans (spans_of root.now) }
     requires positive { pos 0 <ℤ d }
     requires small { unsigned_abs d < size_limit }
-    ensures { result ≡ middle (spans_of root.now) d parameter }
+    ensures { result ≡ middle_cut (spans_of root.now) d parameter }
 {
     let (low, high) = span_at(root, parameter);
     Cut::new(parameter, low + high, 2 * d)
@@ -87,7 +87,7 @@ fn cut_of(root: &[i64], d: i64, given: &[Cut], parameter: u32) -> Cut
 {
     match given_to(given, parameter) {
         Some(cut) => cut,
-        None => middle(root, d, parameter),
+        None => middle_cut(root, d, parameter),
     }
 }
 

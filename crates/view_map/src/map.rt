@@ -1,7 +1,7 @@
 // A report's head and leaves.
 ghost use Rattle.std.specs.Prelude.{◌≡◌, ◌≤◌};
 ghost use Rattle.view_map.specs.Parts.{MapData};
-ghost use Rattle.view_map.specs.Share.{count_at, count_of, share_as, share_of, total, whole};
+ghost use Rattle.view_map.specs.Share.{leaf_count_at, leaf_count, share_as, share_of, total_share, whole_volume};
 
 use crate::part::{LeafKind, Part};
 use cert_text::Head;
@@ -18,13 +18,13 @@ pub struct ReportMap {
 impl Model for ReportMap {
     ghost use Rattle.std.specs.Prelude.{◌≡◌};
     ghost use Rattle.view_map.specs.Parts.{MapData};
-    ghost use Rattle.view_map.specs.Share.{total, whole};
+    ghost use Rattle.view_map.specs.Share.{total_share, whole_volume};
 
     ghost Value = { MapData };
 
     ghost view = { λ m. record { head = m.head; parts = m.parts.items } };
 
-    ghost invariant = { λ m. total m.parts.items ≡ whole };
+    ghost invariant = { λ m. total_share m.parts.items ≡ whole_volume };
 }
 
 /// The share of a leaf, where it is of that kind, in units of 1/2^20 of the region's volume.
@@ -41,7 +41,7 @@ fn share_as(kind: LeafKind, part: &Part) -> u32
 impl ReportMap {
     /// The map of these leaves.
     pub(crate) fn new(head: Head, parts: Vec<Part>) -> Self
-        requires { total parts.items ≡ whole }
+        requires { total_share parts.items ≡ whole_volume }
         ensures { result ≡ record { head = head; parts = parts.items } }
     {
         ReportMap { head, parts }
@@ -64,7 +64,7 @@ impl ReportMap {
     /// The share of the leaves of a kind, in units of 1/2^20 of the region's volume.
     pub fn share_of(&self, kind: LeafKind) -> u32
         ensures share { result ≡ share_of kind self.now.parts }
-        ensures within { result ≤ whole }
+        ensures within { result ≤ whole_volume }
     {
         let mut share = 0;
         for part in &self.parts {
@@ -74,15 +74,15 @@ impl ReportMap {
     }
 
     /// How many leaves there are of a kind.
-    pub fn count_of(&self, kind: LeafKind) -> u64
-        ensures { result ≡ count_of kind self.now.parts }
+    pub fn leaf_count(&self, kind: LeafKind) -> u64
+        ensures { result ≡ leaf_count kind self.now.parts }
     {
         self.parts.iter().filter(|part| part.kind() == kind).count() as u64
     }
 
     /// How many leaves there are of a kind at a depth.
-    pub fn count_at(&self, kind: LeafKind, depth: u32) -> u64
-        ensures { result ≡ count_at kind depth self.now.parts }
+    pub fn leaf_count_at(&self, kind: LeafKind, depth: u32) -> u64
+        ensures { result ≡ leaf_count_at kind depth self.now.parts }
     {
         let is_there = |part: &&Part| part.kind() == kind && part.depth() == depth;
         self.parts.iter().filter(is_there).count() as u64

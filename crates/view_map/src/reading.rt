@@ -7,7 +7,7 @@ ghost use Rattle.cert_check.specs.Answer.{Answers};
 ghost use Rattle.cert_check.specs.Source.{file_limit};
 ghost use Rattle.cert_check.specs.Shown.{IsToldOfFile};
 ghost use Rattle.view_map.specs.Parts.{part_with};
-ghost use Rattle.view_map.specs.Told.{Adds, BeginsWithSome, HasNodes, IsMapOf, IsMapped, StandsAt};
+ghost use Rattle.view_map.specs.Mapping.{Adds, BeginsWithSomeTree, HasNodes, IsMapOf, IsMapped, StandsAt};
 
 use crate::map::ReportMap;
 use crate::part::{LeafKind, Part};
@@ -62,7 +62,7 @@ fn add_parts(
     requires number { place.number ≤ place.at + 1 }
     requires stands { StandsAt head.now.asked depth (spans_of sides.old) }
     requires paired { sides_of (spans_of sides.old) ≡ sides.old }
-    requires begins { BeginsWithSome head.now (spans_of sides.old) depth (drop place.at text.now) }
+    requires begins { BeginsWithSomeTree head.now (spans_of sides.old) depth (drop place.at text.now) }
     ensures at { IfOk result (λ p. p.at ≤ length text.now) }
     ensures number { IfOk result (λ p. p.number ≤ p.at + 1) }
     ensures adds { IfOk result (λ p. Adds head.now (spans_of sides.old) depth

@@ -2,7 +2,7 @@
 use Rattle.std.proofs.Common.{◌≡◌, ℕ, zero, suc, ◌+◌, ◌-◌, ◌<◌, List, [], ◌++◌, Some, None, find, refl, arith}
 use Rattle.cert_text.specs.Head.{HeadData}
 use Rattle.view_map.specs.Parts.{PartData, MapData}
-use Rattle.view_text.specs.Summary.{depth_line, depths_from, interval_text, intervals_from, greatest_from, least_below, is_decided_at}
+use Rattle.view_text.specs.Summary.{depth_line, depths_from, interval_text, interval_texts_from, greatest_from, least_below, is_decided_at}
 
 one_more : (i n : ℕ) → i < n → n - i ≡ suc (n - (i + 1))
 one_more i n h = omega (arith, h)
@@ -20,12 +20,12 @@ unfolding depths_from
 depths_end m n = rw (none_left n) refl
 
 -- the interval of the next parameter
-pub intervals_next : (h : HeadData) (p : PartData) (i n : ℕ) → i < n → intervals_from h p i (n - i) ≡ interval_text h p i ++ intervals_from h p (i + 1) (n - (i + 1))
-unfolding intervals_from
+pub intervals_next : (h : HeadData) (p : PartData) (i n : ℕ) → i < n → interval_texts_from h p i (n - i) ≡ interval_text h p i ++ interval_texts_from h p (i + 1) (n - (i + 1))
+unfolding interval_texts_from
 intervals_next h p i n less = rw (one_more i n less) refl
 
-pub intervals_end : (h : HeadData) (p : PartData) (n : ℕ) → intervals_from h p n (n - n) ≡ []
-unfolding intervals_from
+pub intervals_end : (h : HeadData) (p : PartData) (n : ℕ) → interval_texts_from h p n (n - n) ≡ []
+unfolding interval_texts_from
 intervals_end h p n = rw (none_left n) refl
 
 -- a depth with a decided leaf is the first, and one without is passed over

@@ -12,18 +12,23 @@ abbrev pub canvas : ℕ
 canvas = 2 ^ 20
 
 -- where a number of the root's span stands on the canvas
-abbrev pub place : ℤ × ℤ → ℤ → ℕ
-place span z = min (unsigned_abs (z -ℤ span.0) * canvas / max (unsigned_abs (span.1 -ℤ span.0)) 1) canvas
+abbrev pub canvas_place : ℤ × ℤ → ℤ → ℕ
+canvas_place span z = min (unsigned_abs (z -ℤ span.0) * canvas / max (unsigned_abs (span.1 -ℤ span.0)) 1) canvas
 
 -- from where to where a leaf reaches along an axis: all along where no parameter lies on it
 abbrev pub band : Spans → Option ℕ → PartData → ℕ × ℕ
 band root None p = (0, canvas)
-band root (Some axis) p = (place (span_at root axis) (span_at p.spans axis).0, place (span_at root axis) (span_at p.spans axis).1)
+band root (Some axis) p = let root_span = span_at root axis in
+    let span = span_at p.spans axis in
+    (canvas_place root_span span.0, canvas_place root_span span.1)
 
 -- a rectangle: its left and right end, and its lower and upper end; the canvas counts from above down
 abbrev pub outline : ℕ × ℕ → ℕ × ℕ → List ℕ
 outline x y =
-    codes "M" ++ decimal x.0 ++ codes " " ++ decimal (canvas - y.0) ++ codes "H" ++ decimal x.1 ++ codes "V" ++ decimal (canvas - y.1) ++ codes "H" ++ decimal x.0 ++ codes "z"
+    codes "M" ++ decimal x.0 ++ codes " " ++ decimal (canvas - y.0)
+    ++ codes "H" ++ decimal x.1
+    ++ codes "V" ++ decimal (canvas - y.1)
+    ++ codes "H" ++ decimal x.0 ++ codes "z"
 
 -- a leaf's rectangle
 abbrev pub leaf_outline : Spans → Option ℕ → Option ℕ → PartData → List ℕ
@@ -44,5 +49,5 @@ outlines m s kind = flat_map (leaf_outline m.head.asked.root s.x s.y) (shown m s
 -- ---- for the contract of a private function
 
 -- a leaf's rectangle where it is of that kind and meets the slice, and else nothing
-abbrev pub piece : MapData → SliceData → LeafKind → PartData → List ℕ
-piece m s kind p = if is_shown m s kind p then leaf_outline m.head.asked.root s.x s.y p else []
+abbrev pub shown_outline : MapData → SliceData → LeafKind → PartData → List ℕ
+shown_outline m s kind p = if is_shown m s kind p then leaf_outline m.head.asked.root s.x s.y p else []

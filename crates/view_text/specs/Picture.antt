@@ -12,11 +12,17 @@ use Rattle.view_text.specs.declared.style.TheConstants as style
 
 -- what was asked
 abbrev pub title_text : HeadData → List ℕ
-title_text h = codes "bound " ++ decimal h.bound.num ++ codes "/" ++ decimal h.bound.den ++ codes ", precision " ++ decimal h.asked.w ++ codes ", depth " ++ decimal h.asked.depth
+title_text h =
+    codes "bound " ++ decimal h.bound.num ++ codes "/" ++ decimal h.bound.den
+    ++ codes ", precision " ++ decimal h.asked.w
+    ++ codes ", depth " ++ decimal h.asked.depth
 
 -- the shares of the kinds of leaves
 abbrev pub shares_text : List PartData → List ℕ
-shares_text ps = codes "accepted " ++ percent_text (share_of Accept ps) ++ (codes ", rejected " ++ percent_text (share_of Reject ps) ++ (codes ", unknown " ++ percent_text (share_of Unknown ps)))
+shares_text ps =
+    codes "accepted " ++ percent_text (share_of Accept ps)
+    ++ (codes ", rejected " ++ percent_text (share_of Reject ps)
+    ++ (codes ", unknown " ++ percent_text (share_of Unknown ps)))
 
 -- the title
 abbrev pub top_text : MapData → List ℕ
@@ -37,8 +43,8 @@ field_text m s =
     ++ style.FIELD_END.now)))
 
 -- the name of a parameter
-abbrev pub name_of : HeadData → ℕ → List ℕ
-name_of h parameter = slice_index_or h.asked.model.names parameter []
+abbrev pub parameter_name : HeadData → ℕ → List ℕ
+parameter_name h parameter = slice_index_or h.asked.model.names parameter []
 
 -- an end of a parameter's span, as a fraction
 abbrev pub end_text : HeadData → ℤ → List ℕ
@@ -54,7 +60,10 @@ high_text h parameter = end_text h (span_at h.asked.root parameter).1
 
 -- the low end, the name and the high end of a parameter, each behind its own mark
 abbrev pub span_text : HeadData → ℕ → List ℕ → List ℕ → List ℕ → List ℕ
-span_text h parameter low name high = low ++ (low_text h parameter ++ (name ++ (name_of h parameter ++ (high ++ (high_text h parameter ++ style.TEXT_END.now)))))
+span_text h parameter low name high =
+    low ++ (low_text h parameter
+    ++ (name ++ (parameter_name h parameter
+    ++ (high ++ (high_text h parameter ++ style.TEXT_END.now)))))
 
 -- the same of the parameter on an axis, where there is one
 abbrev pub axis_text : HeadData → Option ℕ → List ℕ → List ℕ → List ℕ → List ℕ
@@ -63,7 +72,7 @@ axis_text h (Some axis) low name high = span_text h axis low name high
 
 -- a value of a parameter
 abbrev pub cut_text : HeadData → CutData → List ℕ
-cut_text h cut = name_of h cut.parameter ++ (codes " = " ++ (fraction_text cut.num (unsigned_abs cut.den) ++ codes "  "))
+cut_text h cut = parameter_name h cut.parameter ++ (codes " = " ++ (fraction_text cut.num (unsigned_abs cut.den) ++ codes "  "))
 
 -- both axes, and the values of the other parameters
 abbrev pub axes_text : HeadData → SliceData → List ℕ

@@ -2,7 +2,7 @@
 ghost use Rattle.std.specs.Prelude.{◌≡◌, [], flat_map, slice_index_or, unsigned_abs};
 ghost use Rattle.lift_base.specs.Outside.{Wrote};
 ghost use Rattle.view_text.specs.Numbers.{fraction_text};
-ghost use Rattle.view_text.specs.Picture.{axes_text, axis_text, cut_text, end_text, high_text, low_text, name_of, span_text};
+ghost use Rattle.view_text.specs.Picture.{axes_text, axis_text, cut_text, end_text, high_text, low_text, parameter_name, span_text};
 
 use crate::fraction::write_fraction;
 use crate::style::{CUTS, TEXT_END, X_HIGH, X_LOW, X_NAME, Y_HIGH, Y_LOW, Y_NAME};
@@ -11,8 +11,8 @@ use lift_base::{Sink, WriteFault, write_all, writes_in_turn};
 use view_map::{Cut, Slice, span_at};
 
 /// The name of a parameter.
-pub(crate) fn name_of(head: &Head, parameter: u32) -> &[u8]
-    ensures { result.now ≡ name_of head.now parameter }
+pub(crate) fn parameter_name(head: &Head, parameter: u32) -> &[u8]
+    ensures { result.now ≡ parameter_name head.now parameter }
 {
     let names = head.model().names();
     if parameter < names.len() {
@@ -63,7 +63,7 @@ fn write_span<K: Sink>(
     write_all(out, low_mark)?;
     write_low(out, head, parameter)?;
     write_all(out, name_mark)?;
-    write_all(out, name_of(head, parameter))?;
+    write_all(out, parameter_name(head, parameter))?;
     write_all(out, high_mark)?;
     write_high(out, head, parameter)?;
     write_all(out, TEXT_END)
@@ -102,7 +102,7 @@ fn write_cut<K: Sink>(out: &mut K, head: &Head, cut: Cut) -> Result<(), WriteFau
     ensures { Wrote K.taken K.faults out.old out.new result (cut_text head.now cut) }
 {
     writes_in_turn::<K>();
-    write_all(out, name_of(head, cut.parameter()))?;
+    write_all(out, parameter_name(head, cut.parameter()))?;
     write_all(out, b" = ")?;
     write_value(out, cut)?;
     write_all(out, b"  ")

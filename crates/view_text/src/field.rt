@@ -4,7 +4,7 @@ ghost use Rattle.lift_base.specs.Outside.{Wrote};
 ghost use Rattle.lift_grid.specs.Rectangle.{spans_of};
 ghost use Rattle.view_map.specs.Share.{is_kind};
 ghost use Rattle.view_map.specs.Slice.{meets_all};
-ghost use Rattle.view_text.specs.Field.{band, canvas, is_shown, leaf_outline, outline, outlines, piece, place};
+ghost use Rattle.view_text.specs.Field.{band, canvas, is_shown, leaf_outline, outline, outlines, shown_outline, canvas_place};
 ghost use Rattle.view_text.specs.Picture.{field_start, field_text};
 ghost use Rattle.view_text.specs.declared.style.TheConstants.{PATH_END};
 
@@ -41,8 +41,8 @@ fn at_most_canvas(n: u128) -> u64
 }
 
 // Where a number of a span stands on the canvas.
-fn place(low: i64, high: i64, z: i64) -> u64
-    ensures place { result ≡ place (low, high) z }
+fn canvas_place(low: i64, high: i64, z: i64) -> u64
+    ensures place { result ≡ canvas_place (low, high) z }
     ensures within { result ≤ canvas }
 {
     let width = at_least_one(distance(high, low));
@@ -62,8 +62,8 @@ fn band(root: &[i64], axis: Option<u32>, part: &Part) -> (u64, u64)
             let whole = span_at(root, parameter);
             let span = part.span(parameter);
             (
-                place(whole.0, whole.1, span.0),
-                place(whole.0, whole.1, span.1),
+                canvas_place(whole.0, whole.1, span.0),
+                canvas_place(whole.0, whole.1, span.1),
             )
         }
     }
@@ -134,7 +134,7 @@ fn write_part<K: Sink>(
     kind: LeafKind,
     part: &Part,
 ) -> Result<(), WriteFault>
-    ensures { Wrote K.taken K.faults out.old out.new result (piece map.now slice.now kind part.now) }
+    ensures { Wrote K.taken K.faults out.old out.new result (shown_outline map.now slice.now kind part.now) }
 {
     writes_in_turn::<K>();
     if is_shown(map, slice, kind, part) {

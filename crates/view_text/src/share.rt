@@ -6,7 +6,7 @@ ghost use Rattle.view_text.specs.Numbers.{percent_text};
 use lift_base::{Sink, Word, WriteFault, write_words};
 
 /// The whole volume, in the units of shares.
-const WHOLE: u64 = 1 << 20;
+pub(crate) const WHOLE: u64 = 1 << 20;
 
 /// Writes a share in percent with four digits, rounded down, behind a label.
 pub(crate) fn write_percent<K: Sink>(

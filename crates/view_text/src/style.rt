@@ -4,15 +4,22 @@
 pub const START: &[u8] =
     b"<svg xmlns=\"http://www.w3.org/2000/svg\" viewBox=\"0 0 720 720\" font-family=\"sans-serif\" font-size=\"14\">
 <defs>
-<pattern id=\"accepted\" width=\"20000\" height=\"20000\" patternUnits=\"userSpaceOnUse\"><path d=\"M0 0h20000v20000H0z\" fill=\"#56b4e9\"/></pattern>
-<pattern id=\"rejected\" width=\"20000\" height=\"20000\" patternUnits=\"userSpaceOnUse\"><path d=\"M0 0h20000v20000H0z\" fill=\"#b04a00\"/><path d=\"M0 20000L20000 0M-5000 5000L5000 -5000M15000 25000L25000 15000\" stroke=\"#fff\" stroke-width=\"3000\"/></pattern>
-<pattern id=\"unknown\" width=\"20000\" height=\"20000\" patternUnits=\"userSpaceOnUse\"><path d=\"M0 0h20000v20000H0z\" fill=\"#fff\"/><circle cx=\"10000\" cy=\"10000\" r=\"2500\" fill=\"#555\"/></pattern>
+<pattern id=\"accepted\" width=\"20000\" height=\"20000\" patternUnits=\"userSpaceOnUse\">\
+    <path d=\"M0 0h20000v20000H0z\" fill=\"#56b4e9\"/></pattern>
+<pattern id=\"rejected\" width=\"20000\" height=\"20000\" patternUnits=\"userSpaceOnUse\">\
+    <path d=\"M0 0h20000v20000H0z\" fill=\"#b04a00\"/><path d=\"M0 20000L20000 0M-5000 5000L5000 -5000M15000 25000L25000 15000\" \
+    stroke=\"#fff\" stroke-width=\"3000\"/></pattern>
+<pattern id=\"unknown\" width=\"20000\" height=\"20000\" patternUnits=\"userSpaceOnUse\">\
+    <path d=\"M0 0h20000v20000H0z\" fill=\"#fff\"/><circle cx=\"10000\" cy=\"10000\" r=\"2500\" fill=\"#555\"/></pattern>
 </defs>
 <rect width=\"720\" height=\"720\" fill=\"#fff\"/>
 <g stroke=\"#000\" stroke-width=\"1500\">
-<svg x=\"120\" y=\"68\" width=\"26\" height=\"18\" viewBox=\"0 0 52429 36298\"><path d=\"M0 0h52429v36298H0z\" fill=\"url(#accepted)\"/></svg>
-<svg x=\"260\" y=\"68\" width=\"26\" height=\"18\" viewBox=\"0 0 52429 36298\"><path d=\"M0 0h52429v36298H0z\" fill=\"url(#rejected)\"/></svg>
-<svg x=\"400\" y=\"68\" width=\"26\" height=\"18\" viewBox=\"0 0 52429 36298\"><path d=\"M0 0h52429v36298H0z\" fill=\"url(#unknown)\"/></svg>
+<svg x=\"120\" y=\"68\" width=\"26\" height=\"18\" viewBox=\"0 0 52429 36298\"><path d=\"M0 0h52429v36298H0z\" \
+    fill=\"url(#accepted)\"/></svg>
+<svg x=\"260\" y=\"68\" width=\"26\" height=\"18\" viewBox=\"0 0 52429 36298\"><path d=\"M0 0h52429v36298H0z\" \
+    fill=\"url(#rejected)\"/></svg>
+<svg x=\"400\" y=\"68\" width=\"26\" height=\"18\" viewBox=\"0 0 52429 36298\"><path d=\"M0 0h52429v36298H0z\" \
+    fill=\"url(#unknown)\"/></svg>
 </g>
 <text x=\"154\" y=\"82\">accepted</text>
 <text x=\"294\" y=\"82\">rejected</text>
@@ -27,11 +34,13 @@ pub const SHARES_END: &[u8] = b" of the volume, rounded down</text>\n";
 
 /// Before the field of two parameters.
 pub const SQUARE: &[u8] =
-    b"<svg x=\"120\" y=\"132\" width=\"520\" height=\"520\" viewBox=\"0 0 1048576 1048576\" preserveAspectRatio=\"xMinYMin slice\" stroke=\"#000\" stroke-width=\"1000\">\n";
+    b"<svg x=\"120\" y=\"132\" width=\"520\" height=\"520\" viewBox=\"0 0 1048576 1048576\" \
+    preserveAspectRatio=\"xMinYMin slice\" stroke=\"#000\" stroke-width=\"1000\">\n";
 
 /// Before the field of one parameter or none.
 pub const BAR: &[u8] =
-    b"<svg x=\"120\" y=\"132\" width=\"520\" height=\"80\" viewBox=\"0 0 1048576 1048576\" preserveAspectRatio=\"xMinYMin slice\" stroke=\"#000\" stroke-width=\"1000\">\n";
+    b"<svg x=\"120\" y=\"132\" width=\"520\" height=\"80\" viewBox=\"0 0 1048576 1048576\" \
+    preserveAspectRatio=\"xMinYMin slice\" stroke=\"#000\" stroke-width=\"1000\">\n";
 
 /// Before the leaves of each kind.
 pub const ACCEPTED: &[u8] = b"<path fill=\"url(#accepted)\" d=\"";

@@ -3,13 +3,13 @@ ghost use Rattle.std.specs.Prelude.{◌≡◌, ◌++◌, ◌≤◌, find, length
 ghost use Rattle.std.specs.Option.{option_map};
 ghost use Rattle.lift_base.specs.Outside.{Wrote};
 ghost use Rattle.view_text.specs.Summary.{depth_line, depths, extremes, greatest_from};
-ghost use Rattle.view_text.specs.Summary.{intervals_from, interval_text, is_decided_at, kind_name, kind_text};
+ghost use Rattle.view_text.specs.Summary.{interval_texts_from, interval_text, is_decided_at, leaf_kind_name, kind_text};
 ghost use Rattle.view_text.specs.Summary.{leaf_line, leaf_text, least_below, leaves_line};
 ghost use Rattle.view_text.specs.Summary.{share_line, shares_lines, summary_text};
 
-use crate::axes::{name_of, write_end};
+use crate::axes::{parameter_name, write_end};
 use crate::fraction::write_fraction;
-use crate::share::write_percent;
+use crate::share::{WHOLE, write_percent};
 use cert_text::Head;
 use lift_base::{Sink, Text, Word, WriteFault, write_all, write_words, writes_in_turn};
 use view_map::{LeafKind, Part, ReportMap};
@@ -20,9 +20,6 @@ use view_map::{LeafKind, Part, ReportMap};
 pub struct SummaryText<'a> {
     pub map: &'a ReportMap,
 }
-
-/// The whole volume, in the units of shares.
-const WHOLE: u64 = 1 << 20;
 
 /// Depths are below this.
 const DEPTHS: u32 = 21;
@@ -35,11 +32,11 @@ fn write_leaves<K: Sink>(out: &mut K, map: &ReportMap) -> Result<(), WriteFault>
         out,
         &[
             Word::Text(b"leaves accept "),
-            Word::Count(map.count_of(LeafKind::Accept)),
+            Word::Count(map.leaf_count(LeafKind::Accept)),
             Word::Text(b" reject "),
-            Word::Count(map.count_of(LeafKind::Reject)),
+            Word::Count(map.leaf_count(LeafKind::Reject)),
             Word::Text(b" unknown "),
-            Word::Count(map.count_of(LeafKind::Unknown)),
+            Word::Count(map.leaf_count(LeafKind::Unknown)),
             Word::Text(b"\n"),
         ],
     )
@@ -122,7 +119,7 @@ fn write_interval<K: Sink>(
     writes_in_turn::<K>();
     let (low, high) = part.span(parameter);
     write_all(out, b" ")?;
-    write_all(out, name_of(head, parameter))?;
+    write_all(out, parameter_name(head, parameter))?;
     write_all(out, b" ")?;
     write_end(out, head, low)?;
     write_all(out, b" ")?;
@@ -132,7 +129,7 @@ fn write_interval<K: Sink>(
 // Writes each parameter's interval in a leaf.
 fn write_intervals<K: Sink>(out: &mut K, head: &Head, part: &Part) -> Result<(), WriteFault>
     ensures { Wrote K.taken K.faults out.old out.new result
-        (intervals_from head.now part.now 0 (length head.now.asked.model.names)) }
+        (interval_texts_from head.now part.now 0 (length head.now.asked.model.names)) }
 {
     writes_in_turn::<K>();
     for parameter in 0..head.model().names().len() {
@@ -141,8 +138,8 @@ fn write_intervals<K: Sink>(out: &mut K, head: &Head, part: &Part) -> Result<(),
     Ok(())
 }
 
-fn kind_name(kind: LeafKind) -> &'static [u8]
-    ensures { result.now ≡ kind_name kind }
+fn leaf_kind_name(kind: LeafKind) -> &'static [u8]
+    ensures { result.now ≡ leaf_kind_name kind }
 {
     match kind {
         LeafKind::Accept => b"accept",
@@ -159,7 +156,7 @@ fn write_kind<K: Sink>(out: &mut K, label: &[u8], part: &Part) -> Result<(), Wri
         out,
         &[
             Word::Text(label),
-            Word::Text(kind_name(part.kind())),
+            Word::Text(leaf_kind_name(part.kind())),
             Word::Text(b" depth "),
             Word::Count(u64::from(part.depth())),
         ],
@@ -216,11 +213,11 @@ fn write_depth<K: Sink>(out: &mut K, map: &ReportMap, depth: u32) -> Result<(), 
             Word::Text(b"depth "),
             Word::Count(u64::from(depth)),
             Word::Text(b" accept "),
-            Word::Count(map.count_at(LeafKind::Accept, depth)),
+            Word::Count(map.leaf_count_at(LeafKind::Accept, depth)),
             Word::Text(b" reject "),
-            Word::Count(map.count_at(LeafKind::Reject, depth)),
+            Word::Count(map.leaf_count_at(LeafKind::Reject, depth)),
             Word::Text(b" unknown "),
-            Word::Count(map.count_at(LeafKind::Unknown, depth)),
+            Word::Count(map.leaf_count_at(LeafKind::Unknown, depth)),
             Word::Text(b"\n"),
         ],
     )

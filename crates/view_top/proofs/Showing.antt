@@ -11,7 +11,7 @@ use Rattle.cert_check.specs.Shown.{IsToldOfFile}
 use Rattle.cert_check.specs.declared.error.CheckError.{CheckError}
 use Rattle.cert_check.specs.declared.error.CheckError.TheVariants as check
 use Rattle.view_map.specs.Parts.{MapData}
-use Rattle.view_map.specs.Told.{IsMapOf}
+use Rattle.view_map.specs.Mapping.{IsMapOf}
 use Rattle.view_words.specs.Words.{ViewData, WishData}
 use Rattle.view_words.specs.declared.job.Usage.{Usage}
 use Rattle.std.proofs.Common.{Vec}

@@ -7,7 +7,7 @@ use Rattle.cert_check.specs.Answer.{Answers}
 use Rattle.cert_check.specs.Source.{WasRead, file_limit}
 use Rattle.view_map.specs.Parts.{MapData}
 use Rattle.view_map.specs.Slice.{SliceData}
-use Rattle.view_map.specs.Told.{IsMapOf}
+use Rattle.view_map.specs.Mapping.{IsMapOf}
 use Rattle.view_text.specs.Picture.{svg_text}
 use Rattle.view_text.specs.Summary.{summary_text}
 use Rattle.view_words.specs.Words.{ViewData, picture, summary}

@@ -2,7 +2,7 @@ use Rattle.std.proofs.Common.{◌≡◌, ◌+◌, ◌≤◌, List, ℤ, drop, Ok
 use Rattle.lift_grid.specs.Rectangle.{sides_of, spans_of}
 use Rattle.lift_grid.specs.Tree.{RejectData, lower_half, upper_half}
 use Rattle.cert_text.specs.Nodes.{split, accept, reject, unknown, node_at}
-use Rattle.view_map.specs.Told.{Adds, BeginsWithSome, StandsAt}
+use Rattle.view_map.specs.Mapping.{Adds, BeginsWithSomeTree, StandsAt}
 use Rattle.view_map.proofs.First.{adds_accept, adds_both, adds_reject, adds_unknown}
 use Rattle.view_map.proofs.Standing.{if_ok_as, parted}
 use Rattle.view_map.proofs.reading.+add_parts.Goals as goal
@@ -35,7 +35,7 @@ add_parts-requires t c =
     let stands : StandsAt h.asked (c.args.depth + 1) (spans_of c.deref_mut.result.now) = rw (same, c.in_ok-lower-in-Split.ensures.half) p.lower in
     let paired : sides_of (spans_of c.deref_mut.result.now) ≡ c.deref_mut.result.now = rw same c.in_ok-lower-in-Split.ensures.paired in
     let lower : spans_of c.deref_mut.result.now ≡ lower_half c.in-Split.axis (spans_of c.args.sides.now) = ap (λ (s : List ℤ). spans_of s) same ∙ c.in_ok-lower-in-Split.ensures.half in
-    let begins : BeginsWithSome h (spans_of c.deref_mut.result.now) (c.args.depth + 1) (drop place.at text) = rw lower p.low in
+    let begins : BeginsWithSomeTree h (spans_of c.deref_mut.result.now) (c.args.depth + 1) (drop place.at text) = rw lower p.low in
     let more = p.more in
     let few = c.w.ensures.head.asked.depth in
     (omega (arith, more, few), (c.requires.text, (c.in-Ok.ensures.at, (c.in-Ok.ensures.number, (stands, (paired, begins))))))
@@ -54,7 +54,7 @@ add_parts-requires-in-Split t c =
     let between = drop c.in_ok-between-in-Split.between.at text in
     let low : Adds h (lower_half axis ss) (c.args.depth + 1) (drop place.at text) between c.args.parts.now.items c.add_parts.new.parts.items = rw lower at c.in_ok-between-in-Split.ensures.adds in
     let stands : StandsAt h.asked (c.args.depth + 1) (spans_of c.narrow.new.sides) = rw c.narrow.ensures.half p.upper in
-    let begins : BeginsWithSome h (spans_of c.narrow.new.sides) (c.args.depth + 1) between = rw c.narrow.ensures.half (p.high between _ _ low) in
+    let begins : BeginsWithSomeTree h (spans_of c.narrow.new.sides) (c.args.depth + 1) between = rw c.narrow.ensures.half (p.high between _ _ low) in
     let more = p.more in
     let few = c.w.ensures.head.asked.depth in
     (omega (arith, more, few), (c.requires.text, (c.in_ok-between-in-Split.ensures.at, (c.in_ok-between-in-Split.ensures.number, (stands, (c.narrow.ensures.pairs c.requires.paired, begins))))))

@@ -1,6 +1,6 @@
 use Rattle.std.proofs.Common.{◌≡◌, List, ℤ, [], drop, ap, ◌∙◌, sym, subst, refl}
 use Rattle.lift_grid.specs.Rectangle.{spans_of}
-use Rattle.view_map.specs.Told.{Adds, BeginsWithSome, IsMapped}
+use Rattle.view_map.specs.Mapping.{Adds, BeginsWithSomeTree, IsMapped}
 use Rattle.view_map.proofs.Standing.{begins_whole, mapped, mapped_total, root_stands}
 use Rattle.view_map.proofs.reading.read_parts.Goals as goal
 
@@ -12,7 +12,7 @@ add_parts-requires-clause-stands c =
 pub add_parts-requires-clause-begins : goal.add_parts-requires-clause-begins
 add_parts-requires-clause-begins c =
     let root : spans_of c.deref_mut.result.now ≡ c.args.head.asked.root = ap (λ (s : List ℤ). spans_of s) (c.deref_mut.ensures.value ∙ c.in_ok-sides.ensures.items) ∙ c.sides.ensures.same ∙ c.root.ensures in
-    let begins : BeginsWithSome c.args.head c.args.head.asked.root 0 (drop c.args.place.at c.args.text.now) = (c.requires.nodes.0, [], begins_whole c.args.head (drop c.args.place.at c.args.text.now) c.requires.nodes.0 c.requires.nodes.1) in
+    let begins : BeginsWithSomeTree c.args.head c.args.head.asked.root 0 (drop c.args.place.at c.args.text.now) = (c.requires.nodes.0, [], begins_whole c.args.head (drop c.args.place.at c.args.text.now) c.requires.nodes.0 c.requires.nodes.1) in
     rw root begins
 
 pub new-requires : goal.new-requires

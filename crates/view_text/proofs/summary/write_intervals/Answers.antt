@@ -1,5 +1,5 @@
 use Rattle.std.proofs.Common.{◌≡◌, ◌-◌, ℕ, ap, ◌∙◌, arith}
-use Rattle.view_text.specs.Summary.{intervals_from}
+use Rattle.view_text.specs.Summary.{interval_texts_from}
 use Rattle.view_text.proofs.Counting.{intervals_next, intervals_end}
 use Rattle.view_text.proofs.summary.write_intervals.Goals as goal
 
@@ -13,5 +13,5 @@ pub returns : goal.returns
 returns g c =
     let n = c.len-parameter-end.result in
     let end : c.loop-parameter.parameter ≡ n = omega arith in
-    let none = ap (λ (i : ℕ). intervals_from c.args.head.now c.args.part.now i (n - i)) end ∙ intervals_end c.args.head.now c.args.part.now n in
+    let none = ap (λ (i : ℕ). interval_texts_from c.args.head.now c.args.part.now i (n - i)) end ∙ intervals_end c.args.head.now c.args.part.now n in
     c.writes_in_turn.ensures.ends _ _ _ (rw none at c.loop-parameter.invariant)

@@ -11,7 +11,7 @@ use Rattle.cert_text.specs.Laws.{text_of}
 use Rattle.cert_text.specs.Report.{tree_lines}
 use Rattle.cert_check.specs.Sound.{IsSound, IsSoundTree}
 use Rattle.view_map.specs.Parts.{PartData, MapData, parts, parts_over}
-use Rattle.view_map.specs.Share.{total, whole}
+use Rattle.view_map.specs.Share.{total_share, whole_volume}
 
 -- The bytes are the text of a sound report, and these are its head and the leaves of its tree. The shares of the leaves sum to the whole.
 pub record IsMapOf (bytes : List ℕ) (h : HeadData) (ps : List PartData) : Type 0 where
@@ -19,7 +19,7 @@ pub record IsMapOf (bytes : List ℕ) (h : HeadData) (ps : List PartData) : Type
   pub sound : IsSound h tree
   pub text : bytes ≡ text_of h tree
   pub leaves : ps ≡ parts h tree
-  pub shares : total ps ≡ whole
+  pub shares : total_share ps ≡ whole_volume
 
 -- ---- for the contracts of private functions
 
@@ -30,18 +30,18 @@ pub record StandsAt (k : CaseData) (depth : ℕ) (ss : Spans) : Type 0 where
   pub one_each : length ss ≡ length k.model.names
 
 -- the text begins with the lines of a sound tree over a rectangle at a depth, and this rest follows them
-pub record BeginsWith (h : HeadData) (ss : Spans) (depth : ℕ) (text : List ℕ) (t : Tree) (rest : List ℕ) : Type 0 where
+pub record BeginsWithTree (h : HeadData) (ss : Spans) (depth : ℕ) (text : List ℕ) (t : Tree) (rest : List ℕ) : Type 0 where
   pub tree : IsSoundTree h.asked h.bound ss depth t
   pub nodes : IsTree h.asked t
   pub lines : text ≡ concat (tree_lines h.asked.model.init t) ++ rest
 
 -- the text begins with the lines of some sound tree
-abbrev pub BeginsWithSome : HeadData → Spans → ℕ → List ℕ → Type 0
-BeginsWithSome h ss depth text = (t : Tree) × (rest : List ℕ) × BeginsWith h ss depth text t rest
+abbrev pub BeginsWithSomeTree : HeadData → Spans → ℕ → List ℕ → Type 0
+BeginsWithSomeTree h ss depth text = (t : Tree) × (rest : List ℕ) × BeginsWithTree h ss depth text t rest
 
 -- whichever sound tree's lines the text begins with, its leaves were added, and the rest is left
 abbrev pub Adds : HeadData → Spans → ℕ → List ℕ → List ℕ → List PartData → List PartData → Type 0
-Adds h ss depth text left old new = (t : Tree) (rest : List ℕ) → BeginsWith h ss depth text t rest → (left ≡ rest) × (new ≡ old ++ parts_over ss depth t)
+Adds h ss depth text left old new = (t : Tree) (rest : List ℕ) → BeginsWithTree h ss depth text t rest → (left ≡ rest) × (new ≡ old ++ parts_over ss depth t)
 
 -- the text is that of the nodes of a sound report with that head and tree
 pub record AreNodes (h : HeadData) (text : List ℕ) (t : Tree) : Type 0 where

@@ -1,5 +1,5 @@
 use Rattle.std.proofs.Common.{◌≡◌, ◌-ℤ◌, rules, SFits, w64, to_z-of_z, unsigned_abs}
-use Rattle.view_text.proofs.field.place.Goals as goal
+use Rattle.view_text.proofs.field.canvas_place.Goals as goal
 
 pub returns-clause-place : goal.returns-clause-place
 returns-clause-place c =

@@ -3,7 +3,7 @@ use Rattle.std.proofs.lemmas.Int.{ints}
 use Rattle.lift_grid.specs.Rectangle.{spans_of}
 use Rattle.view_map.specs.Slice.{CutData}
 use Rattle.view_map.proofs.Choosing.{ends_fit}
-use Rattle.view_map.proofs.choice.middle.Goals as goal
+use Rattle.view_map.proofs.choice.middle_cut.Goals as goal
 
 pub overflow_add-low : goal.overflow_add-low
 overflow_add-low c =
