@@ -8,12 +8,18 @@ use std::test::Fail;
 
 // The heads of reports, each by its name. A semicolon stands for the end of a line.
 const HEADS: &str = "\
-LOW = plift 1;kind dtmc;parameters 1 p;common 1;states 3;init 0;goal 1 1;row 0 0 2;to 1 1:1;to 2 0:1 1:-1;row 1 0 1;to 1 0:1;row 2 0 1;to 2 0:1;bound 1/2;precision 4;depth 0;grid 10;box 1 4;
-HIGH = plift 1;kind dtmc;parameters 1 p;common 1;states 3;init 0;goal 1 1;row 0 0 2;to 1 1:1;to 2 0:1 1:-1;row 1 0 1;to 1 0:1;row 2 0 1;to 2 0:1;bound 1/2;precision 4;depth 0;grid 10;box 6 9;
-ABOVE = plift 1;kind dtmc;parameters 1 p;common 1;states 3;init 0;goal 1 1;row 0 0 2;to 1 1:1;to 2 0:1 1:-1;row 1 0 1;to 1 0:1;row 2 0 1;to 2 0:1;bound 3/4;precision 4;depth 0;grid 10;box 6 9;
-WIDE = plift 1;kind dtmc;parameters 1 p;common 1;states 3;init 0;goal 1 1;row 0 0 2;to 1 1:1;to 2 0:1 1:-1;row 1 0 1;to 1 0:1;row 2 0 1;to 2 0:1;bound 1/2;precision 4;depth 2;grid 40;box 4 36;
-IDLE = plift 1;kind dtmc;parameters 2 p q;common 1;states 3;init 0;goal 1 1;row 0 0 2;to 1 1:1;to 2 0:1 1:-1;row 1 0 1;to 1 0:1;row 2 0 1;to 2 0:1;bound 1/2;precision 4;depth 1;grid 10;box 4 6 0 10;
-UNEVEN = plift 1;kind dtmc;parameters 1 p;common 1;states 3;init 0;goal 1 1;row 0 0 2;to 1 1:1;to 2 0:1 1:-2;row 1 0 1;to 1 0:1;row 2 0 1;to 2 0:1;bound 1/2;precision 4;depth 0;grid 10;box 1 4;
+LOW = plift 1;kind dtmc;parameters 1 p;common 1;states 3;init 0;goal 1 1;row 0 0 2;to 1 1:1;to 2 0:1 1:-1;row 1 0 1;\
+    to 1 0:1;row 2 0 1;to 2 0:1;bound 1/2;precision 4;depth 0;grid 10;box 1 4;
+HIGH = plift 1;kind dtmc;parameters 1 p;common 1;states 3;init 0;goal 1 1;row 0 0 2;to 1 1:1;to 2 0:1 1:-1;row 1 0 1;\
+    to 1 0:1;row 2 0 1;to 2 0:1;bound 1/2;precision 4;depth 0;grid 10;box 6 9;
+ABOVE = plift 1;kind dtmc;parameters 1 p;common 1;states 3;init 0;goal 1 1;row 0 0 2;to 1 1:1;to 2 0:1 1:-1;row 1 0 1;\
+    to 1 0:1;row 2 0 1;to 2 0:1;bound 3/4;precision 4;depth 0;grid 10;box 6 9;
+WIDE = plift 1;kind dtmc;parameters 1 p;common 1;states 3;init 0;goal 1 1;row 0 0 2;to 1 1:1;to 2 0:1 1:-1;row 1 0 1;\
+    to 1 0:1;row 2 0 1;to 2 0:1;bound 1/2;precision 4;depth 2;grid 40;box 4 36;
+IDLE = plift 1;kind dtmc;parameters 2 p q;common 1;states 3;init 0;goal 1 1;row 0 0 2;to 1 1:1;to 2 0:1 1:-1;\
+    row 1 0 1;to 1 0:1;row 2 0 1;to 2 0:1;bound 1/2;precision 4;depth 1;grid 10;box 4 6 0 10;
+UNEVEN = plift 1;kind dtmc;parameters 1 p;common 1;states 3;init 0;goal 1 1;row 0 0 2;to 1 1:1;to 2 0:1 1:-2;\
+    row 1 0 1;to 1 0:1;row 2 0 1;to 2 0:1;bound 1/2;precision 4;depth 0;grid 10;box 1 4;
 NEXT = plift 2;
 FAR = plift 1;kind dtmc;parameters 1 p;common 1;states 3;init 3;
 NOTHING = -
@@ -24,7 +30,8 @@ const FILES: &str = "\
 LOW | accept 7 16 0; | Done | sound accept 1 reject 0 unknown 0; | -
 LOW | accept 8 16 0; | Done | sound accept 1 reject 0 unknown 0; | -
 HIGH | reject e 1 k 1 m 1 b 9/16;y 9 16 0;choice 0 - -;rank 1 0 -; | Done | sound accept 0 reject 1 unknown 0; | -
-WIDE | split 0;accept 8 16 0;split 0;unknown;reject e 1 k 1 m 1 b 11/16;y 11 16 0;choice 0 - -;rank 1 0 -; | Done | sound accept 1 reject 1 unknown 1; | -
+WIDE | split 0;accept 8 16 0;split 0;unknown;reject e 1 k 1 m 1 b 11/16;y 11 16 0;choice 0 - -;rank 1 0 -; | Done | \
+    sound accept 1 reject 1 unknown 1; | -
 LOW | accept 6 16 0; | NotSound | - | not sound: node 0 state 0 choice 0 corner 1: 64 > 60;
 LOW | accept 7 15 0; | NotSound | - | not sound: node 0 goal state 1 value 15;
 LOW | accept 9 16 0; | NotSound | - | not sound: node 0 bound: 18 > 16;
@@ -37,7 +44,8 @@ FAR | accept 7 16 0; | NotSound | - | not sound: line 6: Limit;
 NOTHING | - | NotSound | - | not sound: line 1: Truncated;
 UNEVEN | accept 7 16 0; | NotSound | - | not sound: state 0 choice 0: set 1 sums to -1;
 HIGH | reject e 1 k 1 m 1 b 10/16;y 10 16 0;choice 0 - -;rank 1 0 -; | NotSound | - | not sound: node 0 state 0 choice 0 corner 0: 100 > 96;
-HIGH | reject e 0 k 1 m 0 b 9/16;y 9 16 0;choice 0 - -;rank 1 0 -; | NotSound | - | not sound: node 0 state 0 choice 0 corner 0: weight 6 times 2^0 < 10;
+HIGH | reject e 0 k 1 m 0 b 9/16;y 9 16 0;choice 0 - -;rank 1 0 -; | NotSound | - | \
+    not sound: node 0 state 0 choice 0 corner 0: weight 6 times 2^0 < 10;
 HIGH | reject e 1 k 1 m 1 b 9/16;y 9 16 0;choice - - -;rank - 0 -; | NotSound | - | not sound: node 0 unranked state 0 value 9;
 ABOVE | reject e 1 k 1 m 1 b 9/16;y 9 16 0;choice 0 - -;rank 1 0 -; | NotSound | - | not sound: node 0 bound: 36 <= 48;
 IDLE | unknown; | NotSound | - | not sound: node 0 depth;

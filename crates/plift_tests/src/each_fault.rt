@@ -11,14 +11,16 @@ use std::test::Fail;
 const FAULTS: &str = "\
 verify --goal heads --bound 1/2 --precision 4 --depth 0 --region 1/10<=p<=2/5 | COIN | 16 | read | 1 | 7 | ReadFault | nothing | read fault;
 verify --goal heads --bound 1/2 --precision 4 --depth 0 --region 1/10<=p<=2/5 | COIN | 16 | read | 8 | 8 | Done | report | -
-verify --goal heads --bound 1/2 --precision 4 --depth 0 --region 1/10<=p<=2/5 | COIN | 16 | write | 1 | 198 | WriteFault | front | write fault;
+verify --goal heads --bound 1/2 --precision 4 --depth 0 --region 1/10<=p<=2/5 | COIN | 16 | write | 1 | 198 | \
+    WriteFault | front | write fault;
 verify --goal heads --bound 1/2 --precision 4 --depth 0 --region 1/10<=p<=2/5 | COIN | 16 | write | 199 | 199 | Done | report | -
 check | REPORT | 7 | read | 1 | 30 | ReadFault | nothing | read fault;
 ";
 
 // The coin's report over that region.
 const REPORT: &str =
-    "plift 1;kind dtmc;parameters 1 p;common 1;states 3;init 0;goal 1 1;row 0 0 2;to 1 1:1;to 2 0:1 1:-1;row 1 0 1;to 1 0:1;row 2 0 1;to 2 0:1;bound 1/2;precision 4;depth 0;grid 10;box 1 4;accept 7 16 0;";
+    "plift 1;kind dtmc;parameters 1 p;common 1;states 3;init 0;goal 1 1;row 0 0 2;to 1 1:1;to 2 0:1 1:-1;row 1 0 1;\
+    to 1 0:1;row 2 0 1;to 2 0:1;bound 1/2;precision 4;depth 0;grid 10;box 1 4;accept 7 16 0;";
 
 // Runs, and how each ends.
 #[derive(Clone, Copy)]

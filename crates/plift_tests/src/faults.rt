@@ -12,13 +12,21 @@ const FAULTS: &str = "\
 verify --goal heads --bound 1/2 --precision 4 | PLAIN | 3 | 0 | 0 | 1000 | ReadFault | - | read fault;
 verify --goal heads --bound 1/2 --precision 4 | PLAIN | 0 | 2 | 0 | 1000 | WriteFault | p | write fault;
 verify --goal heads --bound 1/2 --precision 4 | PLAIN | 0 | 0 | 0 | 10 | WriteFault | plift 1;ki | write fault;
-verify --goal heads --bound 1/2 --precision 4 | PLAIN | 8 | 0 | 0 | 1000 | Done | plift 1;kind dtmc;parameters 0;common 4;states 3;init 0;goal 1 1;row 0 0 2;to 1 0:1;to 2 0:3;row 1 0 1;to 1 0:4;row 2 0 1;to 2 0:4;bound 1/2;precision 4;depth 0;grid 1;box;accept 4 16 0; | -
+verify --goal heads --bound 1/2 --precision 4 | PLAIN | 8 | 0 | 0 | 1000 | Done | plift 1;kind dtmc;parameters 0;\
+    common 4;states 3;init 0;goal 1 1;row 0 0 2;to 1 0:1;to 2 0:3;row 1 0 1;to 1 0:4;row 2 0 1;to 2 0:4;bound 1/2;\
+    precision 4;depth 0;grid 1;box;accept 4 16 0; | -
 verify --goal heads --bound 1/2 --precision 4 | CTMC | 0 | 0 | 1 | 1000 | ModelRefused | - | -
 verify --goal heads --bound 1/2 --precision 4 --depth 0 --region 1/10<=p<=2/5 | COIN | 3 | 0 | 0 | 1000 | ReadFault | - | read fault;
 verify --goal heads --bound 1/2 --precision 4 --depth 0 --region 1/10<=p<=2/5 | COIN | 0 | 2 | 0 | 1000 | WriteFault | p | write fault;
-verify --goal heads --bound 1/2 --precision 4 --depth 0 --region 1/10<=p<=2/5 | COIN | 0 | 0 | 0 | 198 | Done | plift 1;kind dtmc;parameters 1 p;common 1;states 3;init 0;goal 1 1;row 0 0 2;to 1 1:1;to 2 0:1 1:-1;row 1 0 1;to 1 0:1;row 2 0 1;to 2 0:1;bound 1/2;precision 4;depth 0;grid 10;box 1 4;accept 7 16 0; | -
-verify --goal heads --bound 1/2 --precision 4 --depth 0 --region 1/10<=p<=2/5 | COIN | 0 | 0 | 0 | 197 | WriteFault | plift 1;kind dtmc;parameters 1 p;common 1;states 3;init 0;goal 1 1;row 0 0 2;to 1 1:1;to 2 0:1 1:-1;row 1 0 1;to 1 0:1;row 2 0 1;to 2 0:1;bound 1/2;precision 4;depth 0;grid 10;box 1 4;accept 7 16 0 | write fault;
-verify --goal heads --bound 1/2 --precision 4 --depth 0 --region 1/10<=p<=2/5 | COIN | 0 | 0 | 0 | 100 | WriteFault | plift 1;kind dtmc;parameters 1 p;common 1;states 3;init 0;goal 1 1;row 0 0 2;to 1 1:1;to 2 0:1 1:-1; | write fault;
+verify --goal heads --bound 1/2 --precision 4 --depth 0 --region 1/10<=p<=2/5 | COIN | 0 | 0 | 0 | 198 | Done | \
+    plift 1;kind dtmc;parameters 1 p;common 1;states 3;init 0;goal 1 1;row 0 0 2;to 1 1:1;to 2 0:1 1:-1;row 1 0 1;\
+    to 1 0:1;row 2 0 1;to 2 0:1;bound 1/2;precision 4;depth 0;grid 10;box 1 4;accept 7 16 0; | -
+verify --goal heads --bound 1/2 --precision 4 --depth 0 --region 1/10<=p<=2/5 | COIN | 0 | 0 | 0 | 197 | WriteFault | \
+    plift 1;kind dtmc;parameters 1 p;common 1;states 3;init 0;goal 1 1;row 0 0 2;to 1 1:1;to 2 0:1 1:-1;row 1 0 1;\
+    to 1 0:1;row 2 0 1;to 2 0:1;bound 1/2;precision 4;depth 0;grid 10;box 1 4;accept 7 16 0 | write fault;
+verify --goal heads --bound 1/2 --precision 4 --depth 0 --region 1/10<=p<=2/5 | COIN | 0 | 0 | 0 | 100 | WriteFault | \
+    plift 1;kind dtmc;parameters 1 p;common 1;states 3;init 0;goal 1 1;row 0 0 2;to 1 1:1;to 2 0:1 1:-1; | \
+    write fault;
 verify --goal heads --bound 1/2 --precision 4 --depth 0 --region 1/2<=p<=3/2 | COIN | 0 | 0 | 1 | 1000 | RowsRefused | - | -
 ";
 

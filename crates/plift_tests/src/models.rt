@@ -9,7 +9,8 @@ use std::test::Fail;
 // and EXPORT stand in the folder examples too.
 const MODELS: &str = "\
 COIN = @type: DTMC;@parameters;p;@model;state 0 init;1 : p;2 : 1-p;state 1 heads;1 : 1;state 2;2 : 1;
-NOTED_COIN = \t// a coin\r;\t@type: DTMC\r;\t@parameters\r;\tp\r;\t@model\r;\tstate 0 init\r;\t1 : p\r;\t2 : 1-p\r;\tstate 1 heads\r;\t1 : 1\r;\tstate 2\r;\t2 : 1\r;
+NOTED_COIN = \t// a coin\r;\t@type: DTMC\r;\t@parameters\r;\tp\r;\t@model\r;\tstate 0 init\r;\t1 : p\r;\t2 : 1-p\r;\
+    \tstate 1 heads\r;\t1 : 1\r;\tstate 2\r;\t2 : 1\r;
 TWIN = @type: MDP;@parameters;p;@model;state 0 init;action a;1 : p;2 : 1-p;action b;1 : 1-p;2 : p;state 1 heads;1 : 1;state 2;2 : 1;
 SQUARE = @type: DTMC;@parameters;p;@model;state 0 init;1 : p*p;2 : 1-p;state 1 heads;1 : 1;state 2;2 : 1;
 DIVISOR = @type: DTMC;@parameters;p q;@model;state 0 init;1 : (p+1)/q;2 : 1-p;state 1 heads;1 : 1;state 2;2 : 1;
@@ -22,13 +23,23 @@ DECIMALS = @type: DTMC;@model;state 0 init;1 : 0.3333;2 : 0.6666;state 1 heads;1
 APART_COIN = @type: DTMC;@parameters;p q;@model;state 0 init;1 : p;2 : 1-q;state 1 heads;1 : 1;state 2;2 : 1;
 TWO = @type: DTMC;@parameters;p q;@model;state 0 init;1 : p*q;2 : 1-p*q;state 1 heads;1 : 1;state 2;2 : 1;
 FOUR = @type: DTMC;@parameters;p q r s;@model;state 0 init;1 : p*q*r*s;2 : 1-p*q*r*s;state 1 heads;1 : 1;state 2;2 : 1;
-FIVE = @type: DTMC;@parameters;a b c d e;@model;state 0 init;1 : 1/8*a+1/8*b+1/8*c;2 : 1/8*d+1/8*e;0 : 1/2-1/8*a-1/8*b-1/8*c;3 : 1/2-1/8*d-1/8*e;state 1 heads;1 : 1;state 2;2 : 1;state 3;3 : 1;
+FIVE = @type: DTMC;@parameters;a b c d e;@model;state 0 init;1 : 1/8*a+1/8*b+1/8*c;2 : 1/8*d+1/8*e;\
+    0 : 1/2-1/8*a-1/8*b-1/8*c;3 : 1/2-1/8*d-1/8*e;state 1 heads;1 : 1;state 2;2 : 1;state 3;3 : 1;
 BELOW = @type: DTMC;@model;state 0 init;1 : -1/4;2 : 5/4;state 1 heads;1 : 1;state 2;2 : 1;
 LOOP = @type: DTMC;@parameters;p;@model;state 0 init;0 : 1/2;1 : 1/2*p;2 : 1/2-1/2*p;state 1 heads;1 : 1;state 2;2 : 1;
 LADDER = @type: DTMC;@parameters;p q;@model;state 0 init;2 : p;1 : 1-p;state 1;0 : q;3 : 1-q;state 2 done;2 : 1;state 3;3 : 1;
-DIE = // Exported model;// Original model type: DTMC;@type: DTMC;@parameters;p;@reward_models;;@nr_states;13;@nr_choices;13;@model;state 0 init;\taction 0;\t\t1 : p;\t\t2 : 1-p;state 1;\taction 0;\t\t3 : p;\t\t4 : 1-p;state 2;\taction 0;\t\t5 : p;\t\t6 : 1-p;state 3;\taction 0;\t\t1 : p;\t\t7 : 1-p;state 4;\taction 0;\t\t8 : p;\t\t9 : 1-p;state 5;\taction 0;\t\t10 : p;\t\t11 : 1-p;state 6;\taction 0;\t\t2 : p;\t\t12 : 1-p;state 7 one done;\taction 0;\t\t7 : 1;state 8 two done;\taction 0;\t\t8 : 1;state 9 three done;\taction 0;\t\t9 : 1;state 10 four done;\taction 0;\t\t10 : 1;state 11 five done;\taction 0;\t\t11 : 1;state 12 six done;\taction 0;\t\t12 : 1;
-EXPORT = // Exported model;@type: MDP;@value_type: fractions;@parameters;p;@placeholders;$rest : 1-p;@reward_models;steps;@nr_states;3;@nr_choices;4;@model;state 0 [1] init;\taction stay [0];\t\t0 : 1;\taction flip [0];\t\t1 : p;\t\t2 : $rest;state 1 [0] heads \"all done\";\taction 0 [0];\t\t1 : 1;state 2 [0];\taction 0 [0];\t\t2 : 1;
-LADDER2 = @type: DTMC;@parameters;p q;@model;state 0 init;2 : p;1 : 1-p;state 1;0 : q;5 : 1-q;state 2;4 : p;3 : 1-p;state 3;2 : q;5 : 1-q;state 4 done;4 : 1;state 5;5 : 1;
+DIE = // Exported model;// Original model type: DTMC;@type: DTMC;@parameters;p;@reward_models;;@nr_states;13;\
+    @nr_choices;13;@model;state 0 init;\taction 0;\t\t1 : p;\t\t2 : 1-p;state 1;\taction 0;\t\t3 : p;\t\t4 : 1-p;\
+    state 2;\taction 0;\t\t5 : p;\t\t6 : 1-p;state 3;\taction 0;\t\t1 : p;\t\t7 : 1-p;state 4;\taction 0;\t\t8 : p;\
+    \t\t9 : 1-p;state 5;\taction 0;\t\t10 : p;\t\t11 : 1-p;state 6;\taction 0;\t\t2 : p;\t\t12 : 1-p;state 7 one done;\
+    \taction 0;\t\t7 : 1;state 8 two done;\taction 0;\t\t8 : 1;state 9 three done;\taction 0;\t\t9 : 1;\
+    state 10 four done;\taction 0;\t\t10 : 1;state 11 five done;\taction 0;\t\t11 : 1;state 12 six done;\taction 0;\
+    \t\t12 : 1;
+EXPORT = // Exported model;@type: MDP;@value_type: fractions;@parameters;p;@placeholders;$rest : 1-p;@reward_models;\
+    steps;@nr_states;3;@nr_choices;4;@model;state 0 [1] init;\taction stay [0];\t\t0 : 1;\taction flip [0];\t\t1 : p;\
+    \t\t2 : $rest;state 1 [0] heads \"all done\";\taction 0 [0];\t\t1 : 1;state 2 [0];\taction 0 [0];\t\t2 : 1;
+LADDER2 = @type: DTMC;@parameters;p q;@model;state 0 init;2 : p;1 : 1-p;state 1;0 : q;5 : 1-q;state 2;4 : p;3 : 1-p;\
+    state 3;2 : q;5 : 1-q;state 4 done;4 : 1;state 5;5 : 1;
 UNUSED = @type: DTMC;@parameters;p q;@model;state 0 init;1 : p;2 : 1-p;state 1 heads;1 : 1;state 2;2 : 1;
 APART = @type: DTMC;@model;state 0 init;0 : 1;state 1 heads;1 : 1;
 ZERO = @type: DTMC;@model;state 0 heads;0 : 1;1 : 0;state 1 init;0 : 1;

@@ -10,11 +10,20 @@ use view_text::Picture;
 // parameters, each step of a chain taken with one of them, accepted up to 1/4. UNSOUND: its
 // certificate is too low.
 const REPORTS: &str = "\
-WIDE = plift 1;kind dtmc;parameters 1 p;common 1;states 3;init 0;goal 1 1;row 0 0 2;to 1 1:1;to 2 0:1 1:-1;row 1 0 1;to 1 0:1;row 2 0 1;to 2 0:1;bound 1/2;precision 4;depth 2;grid 40;box 4 36;split 0;accept 8 16 0;split 0;unknown;reject e 1 k 1 m 1 b 11/16;y 11 16 0;choice 0 - -;rank 1 0 -;
-PLAIN = plift 1;kind dtmc;parameters 0;common 4;states 3;init 0;goal 1 1;row 0 0 2;to 1 0:1;to 2 0:3;row 1 0 1;to 1 0:4;row 2 0 1;to 2 0:4;bound 1/2;precision 4;depth 0;grid 1;box;accept 4 16 0;
-TWO = plift 1;kind dtmc;parameters 2 p q;common 1;states 4;init 0;goal 1 3;row 0 0 2;to 1 1:1;to 2 0:1 1:-1;row 1 0 2;to 3 2:1;to 2 0:1 2:-1;row 2 0 1;to 2 0:1;row 3 0 1;to 3 0:1;bound 1/4;precision 4;depth 2;grid 4;box 0 4 0 4;split 0;split 1;accept 4 8 0 16;unknown;split 1;unknown;unknown;
-THREE = plift 1;kind dtmc;parameters 3 p q r;common 1;states 5;init 0;goal 1 4;row 0 0 2;to 1 1:1;to 3 0:1 1:-1;row 1 0 2;to 2 2:1;to 3 0:1 2:-1;row 2 0 2;to 4 4:1;to 3 0:1 4:-1;row 3 0 1;to 3 0:1;row 4 0 1;to 4 0:1;bound 1/4;precision 4;depth 3;grid 8;box 0 8 0 8 0 8;split 0;split 1;accept 4 8 16 0 16;split 2;accept 4 8 8 0 16;unknown;split 1;split 2;accept 4 4 8 0 16;unknown;split 2;unknown;unknown;
-UNSOUND = plift 1;kind dtmc;parameters 0;common 4;states 3;init 0;goal 1 1;row 0 0 2;to 1 0:1;to 2 0:3;row 1 0 1;to 1 0:4;row 2 0 1;to 2 0:4;bound 1/2;precision 4;depth 0;grid 1;box;accept 3 16 0;
+WIDE = plift 1;kind dtmc;parameters 1 p;common 1;states 3;init 0;goal 1 1;row 0 0 2;to 1 1:1;to 2 0:1 1:-1;row 1 0 1;\
+    to 1 0:1;row 2 0 1;to 2 0:1;bound 1/2;precision 4;depth 2;grid 40;box 4 36;split 0;accept 8 16 0;split 0;unknown;\
+    reject e 1 k 1 m 1 b 11/16;y 11 16 0;choice 0 - -;rank 1 0 -;
+PLAIN = plift 1;kind dtmc;parameters 0;common 4;states 3;init 0;goal 1 1;row 0 0 2;to 1 0:1;to 2 0:3;row 1 0 1;\
+    to 1 0:4;row 2 0 1;to 2 0:4;bound 1/2;precision 4;depth 0;grid 1;box;accept 4 16 0;
+TWO = plift 1;kind dtmc;parameters 2 p q;common 1;states 4;init 0;goal 1 3;row 0 0 2;to 1 1:1;to 2 0:1 1:-1;row 1 0 2;\
+    to 3 2:1;to 2 0:1 2:-1;row 2 0 1;to 2 0:1;row 3 0 1;to 3 0:1;bound 1/4;precision 4;depth 2;grid 4;box 0 4 0 4;\
+    split 0;split 1;accept 4 8 0 16;unknown;split 1;unknown;unknown;
+THREE = plift 1;kind dtmc;parameters 3 p q r;common 1;states 5;init 0;goal 1 4;row 0 0 2;to 1 1:1;to 3 0:1 1:-1;\
+    row 1 0 2;to 2 2:1;to 3 0:1 2:-1;row 2 0 2;to 4 4:1;to 3 0:1 4:-1;row 3 0 1;to 3 0:1;row 4 0 1;to 4 0:1;bound 1/4;\
+    precision 4;depth 3;grid 8;box 0 8 0 8 0 8;split 0;split 1;accept 4 8 16 0 16;split 2;accept 4 8 8 0 16;unknown;\
+    split 1;split 2;accept 4 4 8 0 16;unknown;split 2;unknown;unknown;
+UNSOUND = plift 1;kind dtmc;parameters 0;common 4;states 3;init 0;goal 1 1;row 0 0 2;to 1 0:1;to 2 0:3;row 1 0 1;\
+    to 1 0:4;row 2 0 1;to 2 0:4;bound 1/2;precision 4;depth 0;grid 1;box;accept 3 16 0;
 ";
 
 // Each row: the report, and a part of its picture. The canvas has 1048576 units in each direction.

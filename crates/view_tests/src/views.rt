@@ -16,15 +16,28 @@ const VIEWS: &str = "\
 --x q | TWO | Done | url(#unknown)\" d=\"M524288 1048576H1048576V524288H524288z | -
  | THREE | Done | r = 1/2 | -
 --at r=0 | THREE | Done | url(#accepted)\" d=\"M0 1048576H524288V524288H0zM0 524288H524288V0H0zM524288 1048576H1048576V524288H524288z | -
---at=r=1/2 | THREE | Done | url(#unknown)\" d=\"M0 524288H524288V0H0zM524288 1048576H1048576V524288H524288zM524288 524288H1048576V0H524288z | -
+--at=r=1/2 | THREE | Done | url(#unknown)\" d=\"M0 524288H524288V0H0zM524288 1048576H1048576V524288H524288zM524288 \
+    524288H1048576V0H524288z | -
 --x p --y r --at q=0.5 | THREE | Done | url(#accepted)\" d=\"M0 1048576H524288V524288H0z\" | -
 --x p --y r --at q=49e-2 | THREE | Done | url(#accepted)\" d=\"M0 1048576H524288V0H0zM524288 1048576H1048576V524288H524288z\" | -
  | WIDE | Done | width=\"520\" height=\"80\" | -
  | PLAIN | Done | url(#accepted)\" d=\"M0 1048576H1048576V0H0z\" | -
---summary | THREE | Done | leaves accept 3 reject 0 unknown 4;share accept 1/2 50.0000 %;share reject 0 0.0000 %;share unknown 1/2 50.0000 %;greatest accept depth 2 p 0 1/2 q 0 1/2 r 0 1;least accept depth 3 p 0 1/2 q 1/2 1 r 0 1/2;depth 0 accept 0 reject 0 unknown 0;depth 1 accept 0 reject 0 unknown 0;depth 2 accept 1 reject 0 unknown 0;depth 3 accept 2 reject 0 unknown 4; | -
+--summary | THREE | Done | leaves accept 3 reject 0 unknown 4;share accept 1/2 50.0000 %;share reject 0 0.0000 %;\
+    share unknown 1/2 50.0000 %;greatest accept depth 2 p 0 1/2 q 0 1/2 r 0 1;\
+    least accept depth 3 p 0 1/2 q 1/2 1 r 0 1/2;depth 0 accept 0 reject 0 unknown 0;\
+    depth 1 accept 0 reject 0 unknown 0;depth 2 accept 1 reject 0 unknown 0;depth 3 accept 2 reject 0 unknown 4; | -
 --summary | WIDE | Done | greatest accept depth 1 p 1/10 1/2;least reject depth 2 p 7/10 9/10; | -
---follow | THREE | Done | split 0;split 1;accept 4 8 16 0 16;split 2;accept 4 8 8 0 16;unknown; | decided 25 %, accepted 25 %, rejected 0 %, unknown 0 %, leaves 1;decided 37 %, accepted 37 %, rejected 0 %, unknown 0 %, leaves 2;decided 37 %, accepted 37 %, rejected 0 %, unknown 12 %, leaves 3;decided 50 %, accepted 50 %, rejected 0 %, unknown 12 %, leaves 4;decided 50 %, accepted 50 %, rejected 0 %, unknown 25 %, leaves 5;decided 50 %, accepted 50 %, rejected 0 %, unknown 37 %, leaves 6;decided 50 %, accepted 50 %, rejected 0 %, unknown 50 %, leaves 7;decided 50 %, accepted 50 %, rejected 0 %, unknown 50 %, leaves 7;
---follow | UNSOUND | Done | accept 3 16 0; | decided 100 %, accepted 100 %, rejected 0 %, unknown 0 %, leaves 1;decided 100 %, accepted 100 %, rejected 0 %, unknown 0 %, leaves 1;
+--follow | THREE | Done | split 0;split 1;accept 4 8 16 0 16;split 2;accept 4 8 8 0 16;unknown; | \
+    decided 25 %, accepted 25 %, rejected 0 %, unknown 0 %, leaves 1;\
+    decided 37 %, accepted 37 %, rejected 0 %, unknown 0 %, leaves 2;\
+    decided 37 %, accepted 37 %, rejected 0 %, unknown 12 %, leaves 3;\
+    decided 50 %, accepted 50 %, rejected 0 %, unknown 12 %, leaves 4;\
+    decided 50 %, accepted 50 %, rejected 0 %, unknown 25 %, leaves 5;\
+    decided 50 %, accepted 50 %, rejected 0 %, unknown 37 %, leaves 6;\
+    decided 50 %, accepted 50 %, rejected 0 %, unknown 50 %, leaves 7;\
+    decided 50 %, accepted 50 %, rejected 0 %, unknown 50 %, leaves 7;
+--follow | UNSOUND | Done | accept 3 16 0; | decided 100 %, accepted 100 %, rejected 0 %, unknown 0 %, leaves 1;\
+    decided 100 %, accepted 100 %, rejected 0 %, unknown 0 %, leaves 1;
  | UNSOUND | NotSound | - | not sound: node 0 state 0 choice 0 corner 0: 16 > 12;
 --summary | UNSOUND | NotSound | - | not sound: node 0 state 0 choice 0 corner 0: 16 > 12;
 --x s | TWO | Usage | - | usage: --x UnknownName;
@@ -48,7 +61,8 @@ check | TWO | Usage | - | usage: words;
 // 0; how many bytes the sink holds; the status, the output, and the note. The report is PLAIN, of
 // which a read gives 16 bytes and a write takes one.
 const FAULTS: &str = "\
---follow | 3 | 0 | 0 | 1000 | ReadFault | plift 1;kind dtmc;parameters 0;c | decided 0 %, accepted 0 %, rejected 0 %, unknown 0 %, leaves 0;read fault;
+--follow | 3 | 0 | 0 | 1000 | ReadFault | plift 1;kind dtmc;parameters 0;c | \
+    decided 0 %, accepted 0 %, rejected 0 %, unknown 0 %, leaves 0;read fault;
 --follow | 0 | 0 | 0 | 10 | WriteFault | plift 1;ki | decided 0 %, accepted 0 %, rejected 0 %, unknown 0 %, leaves 0;write fault;
 --follow | 0 | 2 | 1 | 1000 | WriteFault | p | write fault;
 --summary | 3 | 0 | 0 | 1000 | ReadFault | - | read fault;
