@@ -1,5 +1,5 @@
 -- What is known of a head that was read.
-use Rattle.std.proofs.Common.{◌≡◌, ℕ, ◌≤◌, List, length, Ok}
+use Rattle.std.proofs.Common.{◌≡◌, ◌≤◌, length, Ok}
 use Rattle.line_text.specs.Reading.{Cursor}
 use Rattle.line_text.specs.Parts.{Words}
 use Rattle.cert_text.specs.Lines.{parameters_of}

@@ -1,6 +1,5 @@
-use Rattle.std.proofs.Common.{rules, ◌≡◌, ◌∙◌, ◌≤◌, ◌++◌, ◌∷◌, [], length, bit_or, ℤ, ℕ, true, false, Option, Ok, None, Some, sym, ap, arith}
+use Rattle.std.proofs.Common.{rules, ◌∙◌, ◌≤◌, ◌++◌, ◌∷◌, [], length, bit_or, Ok, None, Some, sym, ap}
 use Rattle.std.specs.Prelude.{pos}
-use Rattle.cert_text.specs.Shown.{next_term, terms_of, term_in}
 use Rattle.cert_text.proofs.EntryTerms.{terms_left, terms_begin, terms_go, terms_fail, terms_none, terms_whole, verdict, read_terms}
 use Rattle.cert_text.proofs.entry_line.terms_of.Goals as goal
 

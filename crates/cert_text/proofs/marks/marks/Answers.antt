@@ -1,4 +1,4 @@
-use Rattle.std.proofs.Common.{rules, ◌≡◌, ◌∙◌, ◌++◌, ◌∷◌, [], true, false, length, get_or, Option, Some, None, sym, ap}
+use Rattle.std.proofs.Common.{rules, ◌≡◌, ◌∙◌, true, false, length, get_or, Some, sym, ap}
 use Rattle.cert_text.specs.Left.{mark_first, marks_left}
 use Rattle.cert_text.proofs.LineLoops.{marks_begin, one_mark, no_mark}
 use Rattle.cert_text.proofs.marks.marks.Goals as goal

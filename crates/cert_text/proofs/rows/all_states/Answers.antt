@@ -1,4 +1,4 @@
-use Rattle.std.proofs.Common.{◌≡◌, ◌-◌, ◌+◌, length, map, sym, ap, ◌∙◌, arith}
+use Rattle.std.proofs.Common.{◌-◌, ◌+◌, length, map, sym, ap, ◌∙◌, arith}
 use Rattle.cert_text.specs.Head.{state_at}
 use Rattle.cert_text.proofs.RowLoops.{state_goes, state_fails, states_done}
 use Rattle.cert_text.proofs.rows.all_states.Goals as goal

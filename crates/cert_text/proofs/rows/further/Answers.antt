@@ -1,4 +1,4 @@
-use Rattle.std.proofs.Common.{◌≡◌, ◌<◌, ◌-◌, length, Ok, sym, ap, ◌∙◌, arith}
+use Rattle.std.proofs.Common.{◌<◌, ◌-◌, length, Ok, sym, ap, ◌∙◌, arith}
 use Rattle.cert_text.specs.Head.{row_at}
 use Rattle.cert_text.proofs.RowLoops.{no_more, due_fails, row_fails, one_row, leaves_more}
 use Rattle.cert_text.proofs.rows.further.Goals as goal

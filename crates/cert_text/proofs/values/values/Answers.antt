@@ -1,6 +1,5 @@
-use Rattle.std.proofs.Common.{rules, to_z-of_z, SFits, w64, ◌≡◌, ◌∙◌, ◌++◌, ◌∷◌, [], false, ℤ, pos, Option, Some, None, sym, ap}
-use Rattle.line_text.specs.Parts.{Words}
-use Rattle.cert_text.specs.Left.{value_first, values_left}
+use Rattle.std.proofs.Common.{rules, to_z-of_z, SFits, w64, ◌∙◌, ◌++◌, ◌∷◌, [], false, pos, Some, sym, ap}
+use Rattle.cert_text.specs.Left.{values_left}
 use Rattle.cert_text.proofs.LineLoops.{value_kept, value_lost}
 use Rattle.cert_text.proofs.values.values.Goals as goal
 
