@@ -9,7 +9,8 @@ use Rattle.lift_model.specs.declared.entry.Entry.{Entry}
 use Rattle.lift_model.specs.Model.{ModelData}
 use Rattle.lift_model.specs.Valid.{most_states, most_choices, most_transitions, common_limit}
 use Rattle.lift_frac.specs.Limits.{size_limit}
-use Rattle.corner_lift.specs.Case.{CaseData, most_halvings, most_precision}
+use Rattle.lift_grid.specs.Region.{Region}
+use Rattle.corner_lift.specs.Case.{CaseData, case_of, most_halvings, most_precision}
 use Rattle.lift_cert.specs.declared.bound.Bound.{Bound}
 use Rattle.line_text.specs.Words.{words}
 use Rattle.line_text.specs.Reading.{◌>>=◌, Reader, due, line_at}
@@ -93,5 +94,5 @@ head_at c = do
   grid ← line_at (number_in (codes "grid") 1 size_limit) depth.1
   root ← line_at (box_of (length names.0) depth.0) grid.1
   let model : ModelData = record { kind = kind.0; common = pos common.0; names = names.0; goal = goal.0; init = init.0; states = rows.0 }
-  let asked : CaseData = record { model = model; root = root.0; d = pos grid.0; depth = depth.0; w = w.0 }
-  Ok (record { asked = asked; bound = bound.0 }, root.1)
+  let region : Region = record { d = pos grid.0; depth = depth.0; spans = root.0 }
+  Ok (record { asked = case_of model region w.0; bound = bound.0 }, root.1)

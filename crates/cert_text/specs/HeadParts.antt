@@ -1,17 +1,15 @@
 -- How the parts of a head are seen.
 use Rattle.std.specs.Prelude.{map}
+use Rattle.corner_lift.specs.Case.{case_of}
 use Rattle.cert_text.specs.declared.head_parts.Parts.{Parts}
 use Rattle.cert_text.specs.Head.{HeadData}
 
 -- the head of these parts
 abbrev pub head_of : Parts → HeadData
 head_of p = record {
-  asked = record {
-    model = record { kind = p.kind; common = p.common; names = p.names; goal = p.goal.items; init = p.init; states = map (λ v. v.items) p.states.items };
-    root = p.root;
-    d = p.grid.d;
-    depth = p.grid.depth;
-    w = p.w;
-  };
+  asked = case_of
+      (record { kind = p.kind; common = p.common; names = p.names; goal = p.goal.items; init = p.init; states = map (λ v. v.items) p.states.items })
+      (record { d = p.grid.d; depth = p.grid.depth; spans = p.root })
+      p.w;
   bound = p.bound;
 }

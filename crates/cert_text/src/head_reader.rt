@@ -1,6 +1,7 @@
 // What a report says before its nodes, as it is read.
 ghost use Rattle.std.specs.Prelude.{◌≡◌, ◌≤◌, ◌<◌, ◌+◌, ◌^◌, drop, length, IfOk};
 ghost use Rattle.line_text.specs.Shown.{Gives};
+ghost use Rattle.corner_lift.specs.Case.{case_of};
 ghost use Rattle.cert_text.specs.Forms.{IsHead};
 ghost use Rattle.cert_text.specs.Head.{head_at};
 
@@ -22,18 +23,19 @@ pub struct Head {
 }
 
 impl std::marker::Model for Head {
+    ghost use Rattle.corner_lift.specs.Case.{case_of};
     ghost use Rattle.cert_text.specs.Head.{HeadData};
     ghost use Rattle.cert_text.specs.Forms.{IsHead};
 
     ghost Value = { HeadData };
 
     ghost view = { λ h. record {
-      asked = record { model = h.model; root = h.root; d = h.grid.d; depth = h.grid.depth; w = h.w };
+      asked = case_of h.model (record { d = h.grid.d; depth = h.grid.depth; spans = h.root }) h.w;
       bound = h.bound;
     } };
 
     ghost invariant = { λ h. IsHead (record {
-      asked = record { model = h.model; root = h.root; d = h.grid.d; depth = h.grid.depth; w = h.w };
+      asked = case_of h.model (record { d = h.grid.d; depth = h.grid.depth; spans = h.root }) h.w;
       bound = h.bound;
     }) };
 }
@@ -42,11 +44,11 @@ impl Head {
     /// The head of these parts.
     pub(crate) fn new(model: Model, root: Rect, grid: Grid, w: u32, bound: Bound) -> Self
         requires { IsHead (record {
-          asked = record { model = model; root = root; d = grid.d; depth = grid.depth; w = w };
+          asked = case_of model (record { d = grid.d; depth = grid.depth; spans = root }) w;
           bound = bound;
         }) }
         ensures { result ≡ record {
-          asked = record { model = model; root = root; d = grid.d; depth = grid.depth; w = w };
+          asked = case_of model (record { d = grid.d; depth = grid.depth; spans = root }) w;
           bound = bound;
         } }
     {

@@ -8,6 +8,12 @@ ghost use Rattle.cert_text.specs.Leaf.{rejected_of};
 
 use line_text::{Decimal, TextCause, Words, between, pair_of};
 
+/// The greatest number e of a rate.
+const MOST_RATE: u64 = 126;
+
+/// The greatest number k: a rank for each state that a model may have.
+const MOST_HEIGHT: u64 = 65_536;
+
 /// What the first line of a rejecting leaf tells: its rate, and the number of the initial state as a
 /// fraction of two numbers.
 #[derive(Drop)]
@@ -53,8 +59,8 @@ pub(crate) fn reject_of<'t>(words: &Words<'t>) -> Result<Rejected<'t>, TextCause
     if !rest.is_empty() {
         return Err(TextCause::Syntax);
     }
-    let e = between(&e, 0, 127)?;
-    let k = between(&k, 1, 65537)?;
+    let e = between(&e, 0, MOST_RATE + 1)?;
+    let k = between(&k, 1, MOST_HEIGHT + 1)?;
     Ok(Rejected {
         e: e as u32,
         k: k as u32,

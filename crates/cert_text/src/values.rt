@@ -1,5 +1,6 @@
 // Numbers of a leaf.
 ghost use Rattle.std.specs.Prelude.{◌≡◌, ◌≤◌, [], pos, true, length, IfOk};
+ghost use Rattle.corner_lift.specs.Case.{most_precision};
 ghost use Rattle.cert_text.specs.Lines.{values_of};
 ghost use Rattle.line_text.specs.Shown.{Says};
 ghost use Rattle.cert_text.specs.Left.{value_first, values_left};
@@ -11,7 +12,7 @@ use std::alloc::Global;
 
 /// The number, if it is from 0 to 2 to the `u`.
 fn value(number: &Decimal, u: u32) -> Option<i64>
-    requires { u ≤ 40 }
+    requires { u ≤ most_precision }
     ensures { result ≡ in_values u number.now }
 {
     let most = one_at(u);
@@ -23,7 +24,7 @@ fn value(number: &Decimal, u: u32) -> Option<i64>
 
 /// The number, if it is at most 2 to the `u`.
 fn short_value(n: u64, u: u32) -> Option<i64>
-    requires { u ≤ 40 }
+    requires { u ≤ most_precision }
     ensures { result ≡ in_values u (pos n) }
 {
     let most = one_at(u) as u64;
@@ -32,7 +33,7 @@ fn short_value(n: u64, u: u32) -> Option<i64>
 
 /// The number that the first word writes, if it is in that range, and the words behind it.
 fn value_first<'t>(words: &Words<'t>, u: u32) -> Option<(Option<i64>, Words<'t>)>
-    requires { u ≤ 40 }
+    requires { u ≤ most_precision }
     ensures { result ≡ value_first u words.now }
 {
     if let Some((n, rest)) = words.short() {
@@ -45,7 +46,7 @@ fn value_first<'t>(words: &Words<'t>, u: u32) -> Option<(Option<i64>, Words<'t>)
 /// The numbers that words write, if there are so many, and each is from 0 to 2 to the `u`. The form of
 /// all of them is told first.
 fn values<'t>(alloc: Global, words: Words<'t>, count: u32, u: u32) -> Result<Vec<i64>, TextCause>
-    requires { u ≤ 40 }
+    requires { u ≤ most_precision }
     ensures value { Says (λ v. v.items) result (values_left count u [] true words.entry) }
     ensures size { IfOk result (λ v. length v.items ≡ count) }
 {
@@ -82,7 +83,7 @@ pub(crate) fn values_of(
     count: u32,
     u: u32,
 ) -> Result<Vec<i64>, TextCause>
-    requires { u ≤ 40 }
+    requires { u ≤ most_precision }
     ensures value { Says (λ v. v.items) result (values_of key.now count u words.now) }
     ensures size { IfOk result (λ v. length v.items ≡ count) }
 {

@@ -1,6 +1,6 @@
 -- How what the code holds is seen, and what its functions answer.
 use Prim.Native.Char.{code}
-use Rattle.std.specs.Prelude.{◌≡◌, ◌≢◌, ◌==◌, ◌≤◌, ℕ, ℤ, pos, neg_ℤ, Bool, true, false, List, [], ◌∷◌, ◌++◌, length, Option, None, Result, Ok, Err}
+use Rattle.std.specs.Prelude.{◌≡◌, ◌≢◌, ◌==◌, ◌≤◌, ◌^◌, ℕ, ℤ, pos, neg_ℤ, Bool, true, false, List, [], ◌∷◌, ◌++◌, length, Option, None, Result, Ok, Err}
 use Rattle.std.specs.Option.{option_map}
 use Rattle.std.specs.Str.Parse.{digits_value}
 use Rattle.line_text.specs.declared.error.TextCause.{TextCause}
@@ -34,6 +34,10 @@ is_none_left (w ∷ ws) = false
 abbrev pub signed : Bool → ℕ → ℤ
 signed true n = neg_ℤ (pos n)
 signed false n = pos n
+
+-- a number of at least this size may be called wide
+abbrev pub wide_limit : ℕ
+wide_limit = 2 ^ 100
 
 -- the digits of a number without leading zeros, and the number that they write where they are few
 pub record IsDecimal (ds : List ℕ) (short : ℕ) : Type 0 where

@@ -6,7 +6,7 @@ ghost use Rattle.std.specs.Char.{is_ascii_digit};
 ghost use Rattle.std.specs.Ordering.{nat_cmp};
 ghost use Rattle.std.specs.Str.Parse.{digits_value};
 ghost use Rattle.line_text.specs.Words.{are_digits, natural_of, below_zero, number_of};
-ghost use Rattle.line_text.specs.Shown.{signed};
+ghost use Rattle.line_text.specs.Shown.{signed, wide_limit};
 
 use std::cmp::Ordering;
 
@@ -167,7 +167,7 @@ impl<'t> Decimal<'t> {
     /// The size, unless it is wide.
     fn size(&self) -> Option<u128>
         ensures some { IfSome result (λ n. (n ≡ unsigned_abs self.now) × (n < 10 ^ 31)) }
-        ensures none { IfNone result (2 ^ 100 ≤ unsigned_abs self.now) }
+        ensures none { IfNone result (wide_limit ≤ unsigned_abs self.now) }
     {
         let count = self.digits.len();
         if count > MOST_DIGITS {
@@ -233,7 +233,7 @@ impl<'t> Decimal<'t> {
     /// The number, unless it is wide.
     pub fn narrow(&self) -> Option<i128>
         ensures some { IfSome result (λ n. n ≡ self.now) }
-        ensures none { IfNone result (2 ^ 100 ≤ unsigned_abs self.now) }
+        ensures none { IfNone result (wide_limit ≤ unsigned_abs self.now) }
     {
         let size = self.size()? as i128;
         Some(if self.negative { -size } else { size })
