@@ -4,7 +4,8 @@ use Rattle.std.proofs.Common.{◌∙◌}
 use Rattle.lift_pool.specs.Lanes.{PoolData}
 use Rattle.lift_model.specs.Links.{LinksData}
 use Rattle.corner_lift.specs.Case.{CaseData}
-use Rattle.region_tree.specs.Rooms.{RoomData, HasLane, IsMadeFor, IsAsMade, IsSameShape, end_count, row_count}
+use Rattle.lift_model.specs.Model.{row_count}
+use Rattle.region_tree.specs.Rooms.{RoomData, HasLane, IsMadeFor, IsAsMade, IsSameShape, end_count}
 
 keeps_lane : {T : Type 0} (old new : PoolData T) (n : ℕ) → IsSameShape old new → HasLane old n → HasLane new n
 keeps_lane old new n same lane = same.lanes ∙ lane
