@@ -8,12 +8,15 @@ ghost use Rattle.lift_frac.specs.Gcd.{gcd};
 ghost use Rattle.line_text.specs.Shown.{Says};
 ghost use Rattle.cert_text.specs.Shown.{comes_first};
 
-use lift_bytes::{begins_name, is_name_byte};
+use lift_bytes::is_name;
 use lift_cert::Bound;
 use lift_frac::gcd;
 use lift_model::Kind;
 use line_text::{Decimal, TextCause, Words, between, decimals, is_number, numbers_of, pair_of};
 use std::alloc::{AllocError, Global};
+
+/// Above each part of a bound.
+const PART_LIMIT: u64 = 1 << 32;
 
 /// The version, which has to be 1.
 pub(crate) fn version_of(alloc: Global, words: &Words) -> Result<(), TextCause>
@@ -203,7 +206,7 @@ fn is_lowest(num: u32, den: &Decimal) -> bool
 fn bound_in(num: &Decimal, den: &Decimal) -> Result<Bound, TextCause>
     ensures { Says (λ b. b) result (bound_in (num.now, den.now)) }
 {
-    let num = between(num, 0, 1 << 32)? as u32;
+    let num = between(num, 0, PART_LIMIT)? as u32;
     if den.is_below_zero() || is_number(den, 0) {
         return Err(TextCause::Limit);
     }
@@ -211,7 +214,10 @@ fn bound_in(num: &Decimal, den: &Decimal) -> Result<Bound, TextCause>
         return Err(TextCause::Syntax);
     }
     match den.narrow() {
-        Some(n) if n < 1 << 32 && i128::from(num) <= n => Ok(Bound { num, den: n as u32 }),
+        Some(n) if n < i128::from(PART_LIMIT) && i128::from(num) <= n => Ok(Bound {
+            num,
+            den: n as u32,
+        }),
         _ => Err(TextCause::Limit),
     }
 }

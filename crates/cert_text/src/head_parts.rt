@@ -24,6 +24,15 @@ use std::alloc::Global;
 /// Above each common denominator and each number of a grid.
 const NUMBER_LIMIT: u64 = 1 << 62;
 
+/// How many states a model has at most.
+const MOST_STATES: u64 = 65_536;
+
+/// The greatest precision: numbers are over 2 to this power.
+const MOST_PRECISION: u64 = 40;
+
+/// How often the root may be halved, one half below another.
+const MOST_HALVINGS: u64 = 20;
+
 /// What the lines of a head tell.
 #[derive(Drop)]
 pub(crate) struct Parts {
@@ -153,13 +162,13 @@ pub(crate) fn parts_at<'t>(
     let (names, rest) = parameters_line(alloc, &rest)?;
     let parameters = names.len();
     let (common, rest) = number_line(alloc, &rest, b"common", 1, NUMBER_LIMIT)?;
-    let (count, rest) = number_line(alloc, &rest, b"states", 1, 65_537)?;
+    let (count, rest) = number_line(alloc, &rest, b"states", 1, MOST_STATES + 1)?;
     let (init, rest) = number_line(alloc, &rest, b"init", 0, count)?;
     let (goal, rest) = goal_line(alloc, &rest, count as u32)?;
     let (states, rest) = states(alloc, rest, kind, count as u32, parameters)?;
     let (bound, rest) = bound_line(&rest)?;
-    let (w, rest) = number_line(alloc, &rest, b"precision", 1, 41)?;
-    let (depth, rest) = number_line(alloc, &rest, b"depth", 0, 21)?;
+    let (w, rest) = number_line(alloc, &rest, b"precision", 1, MOST_PRECISION + 1)?;
+    let (depth, rest) = number_line(alloc, &rest, b"depth", 0, MOST_HALVINGS + 1)?;
     let (d, rest) = number_line(alloc, &rest, b"grid", 1, NUMBER_LIMIT)?;
     let (root, rest) = box_line(alloc, &rest, parameters, depth as u32)?;
     let parts = Parts {

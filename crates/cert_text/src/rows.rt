@@ -219,10 +219,15 @@ fn behind_first<'t>(
     }
 }
 
-/// A row before others.
-fn with_first(first: Row, others: Vec<Row>) -> Result<Vec<Row>, AllocError>
+/// A row before others. One alone takes no more memory than it needs.
+fn with_first(alloc: Global, first: Row, others: Vec<Row>) -> Result<Vec<Row>, AllocError>
     ensures { IfOk result (λ v. v.items ≡ first ∷ others.items) }
 {
+    if others.is_empty() {
+        let mut rows = Vec::with_capacity(alloc, 1)?;
+        rows.push(first)?;
+        return Ok(rows);
+    }
     let mut rows = others;
     rows.insert(0, first)?;
     Ok(rows)
@@ -256,7 +261,7 @@ fn state<'t>(
             let now = behind_row(left, first.entries());
             match behind_first(alloc, rest, kind, marks, parameters, s, now) {
                 Err(fault) => Err(fault),
-                Ok((others, after, behind)) => match with_first(first, others) {
+                Ok((others, after, behind)) => match with_first(alloc, first, others) {
                     Ok(rows) => Ok((rows, after, behind)),
                     Err(_) => Err(cursor.fault(TextCause::Memory)),
                 },
