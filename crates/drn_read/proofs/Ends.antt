@@ -233,7 +233,7 @@ large_rows c states =
     any-same (λ (s : StateText). list_any (list_any (is_large c)) s.choices) (λ s. list_any (is_large c) (flat_map (λ choice. choice) s.choices)) states (λ s. any-flat (is_large c) (λ (choice : List Transition). choice) s.choices)
     ∙ any-flat (is_large c) (λ (s : StateText). flat_map (λ choice. choice) s.choices) states
 
-capped_some : (limit c n : ℕ) → Some n ≡ capped limit c → (n ≡ c) × (nat_le limit c ≡ false)
+pub capped_some : (limit c n : ℕ) → Some n ≡ capped limit c → (n ≡ c) × (nat_le limit c ≡ false)
 capped_some limit c n e = by_test limit c n (nat_lt c limit) refl e
   where
     by_test : (limit c n : ℕ) (b : Bool) → nat_lt c limit ≡ b → Some n ≡ cond b (Some c) None → (n ≡ c) × (nat_le limit c ≡ false)
@@ -265,17 +265,16 @@ same_data : (k l : Kind) (a b : ℤ) (ns ms : List (List ℕ)) (gs hs : List Boo
     → parts k a ns gs i rs ≡ parts l b ms hs j ts
 same_data k l a b ns ms gs hs i j rs ts e f g h m n = cc
 
--- the model from its parts, where the states were seen twice
-pub model_is : (header : Header) (states two three : List StateText) (kind : Option Kind) (k : Kind) (c : ℕ) (ns : List (List ℕ)) (gs : List Bool) (i : ℕ) (rs : List (List (List Entry)))
-    → two ≡ states → three ≡ states → kind ≡ header.kind → k ≡ unwrap_or kind Dtmc → c ≡ common two → c < common_limit → ns ≡ header.names → gs ≡ map (λ s. s.goal) two → i ≡ position_or_len (λ s. s.init) three
-    → rs ≡ map (λ s. map (map (entry (common two))) s.choices) two → model (record { header = header; states = states }) ≡ parts k (to_z w64 c) ns gs i rs
+-- the model from its parts
+pub model_is : (header : Header) (states : List StateText) (kind : Option Kind) (k : Kind) (c : ℕ) (ns : List (List ℕ)) (gs : List Bool) (i : ℕ) (rs : List (List (List Entry)))
+    → kind ≡ header.kind → k ≡ unwrap_or kind Dtmc → c ≡ common states → c < common_limit → ns ≡ header.names → gs ≡ map (λ s. s.goal) states → i ≡ position_or_len (λ s. s.init) states
+    → rs ≡ map (λ s. map (map (entry (common states))) s.choices) states → model (record { header = header; states = states }) ≡ parts k (to_z w64 c) ns gs i rs
 unfolding model
-model_is header states two three kind k c ns gs i rs d e f g same small h m n o =
+model_is header states kind k c ns gs i rs f g same small h m n o =
     let number : to_z w64 c ≡ pos c = to_z_pos w64 c (omega (arith, small)) in
     same_data (unwrap_or header.kind Dtmc) k (pos (common states)) (to_z w64 c) header.names ns (map (λ (s : StateText). s.goal) states) gs (position_or_len (λ (s : StateText). s.init) states) i
     (map (λ (s : StateText). map (map (entry (common states))) s.choices) states) rs
-    (sym (g ∙ ap (λ (k : Option Kind). unwrap_or k Dtmc) f)) (sym (number ∙ ap pos (same ∙ ap common d))) (sym h) (sym (m ∙ ap (map (λ (s : StateText). s.goal)) d)) (sym (n ∙ ap (position_or_len (λ (s : StateText). s.init)) e))
-    (sym (o ∙ ap (λ (ss : List StateText). map (λ (s : StateText). map (map (entry (common ss))) s.choices) ss) d))
+    (sym (g ∙ ap (λ (k : Option Kind). unwrap_or k Dtmc) f)) (sym (number ∙ ap pos same)) (sym h) (sym m) (sym n) (sym o)
 
 -- where the last test finds nothing either, the whole text is without fault
 pub no_fault : (fault : Option DrnError) (first : Option DrnError) (number : ℕ) (states : List StateText) → fault ≡ first_of (first ∷ told number (common_fault states) ∷ []) → first ≡ None → common_fault states ≡ None → fault ≡ None

@@ -10,3 +10,4 @@ pub mod Laws
 pub mod Shown
 pub mod ModelSteps
 pub mod Recent
+pub mod Scaling

@@ -227,31 +227,41 @@ fn kind_or_chain(kind: Option<Kind>) -> Kind
     kind.unwrap_or(Kind::Dtmc)
 }
 
-/// What the states say of the model: the common denominator, the goal states, and the rows.
+/// What the states say of the model: the common denominator, the goal states, the initial state,
+/// and the rows.
 #[derive(Drop)]
 struct Parts {
     common: u64,
     goal: Vec<bool>,
+    init: u32,
     rows: Vec<Vec<Row>>,
 }
 
 /// The parts of the model. `CommonDenominator` exactly where the common denominator is 2^62 or
 /// more, or a coefficient over it has a size of 2^100 or more.
-fn parts_of(alloc: Global, states: &[State]) -> Result<Parts, DrnCause>
-    requires { All (λ s. All (TargetsBelow most_states) s.choices) states.now }
-    ensures fault { Tells result (common_fault states.now) }
-    ensures common { IfOk result (λ parts. parts.common ≡ common states.now) }
+fn parts_of(alloc: Global, states: Vec<State>) -> Result<Parts, DrnCause>
+    requires few { length states.items ≤ most_states }
+    requires targets { All (λ s. All (TargetsBelow most_states) s.choices) states.items }
+    ensures fault { Tells result (common_fault states.items) }
+    ensures common { IfOk result (λ parts. parts.common ≡ common states.items) }
     ensures small { IfOk result (λ parts. parts.common < common_limit) }
-    ensures goal { IfOk result (λ parts. parts.goal.items ≡ map (λ s. s.goal) states.now) }
+    ensures goal { IfOk result (λ parts. parts.goal.items ≡ map (λ s. s.goal) states.items) }
+    ensures init { IfOk result (λ parts. parts.init ≡ position_or_len (λ s. s.init) states.items) }
     ensures rows { IfOk result (λ parts. map (λ v. v.items) parts.rows.items
-        ≡ map (λ s. map (map (entry (common states.now))) s.choices) states.now) }
+        ≡ map (λ s. map (map (entry (common states.items))) s.choices) states.items) }
 {
-    let Some(common) = common_denominator(states) else {
+    let Some(common) = common_denominator(&states) else {
         return Err(DrnCause::CommonDenominator);
     };
+    let goal = goals(alloc, &states)?;
+    let init = first_init(&states);
     let rows = all_rows(alloc, common, states)?;
-    let goal = goals(alloc, states)?;
-    Ok(Parts { common, goal, rows })
+    Ok(Parts {
+        common,
+        goal,
+        init,
+        rows,
+    })
 }
 
 /// The model that a text stands for whose lines are without fault, or the first fault that its end
@@ -265,7 +275,7 @@ pub(crate) fn finish(alloc: Global, number: u32, reader: Reader) -> Result<Model
     let choices = model.choices();
     let states = model.into_states();
     test_whole(number, &header, &states, choices)?;
-    let parts = match parts_of(alloc, &states) {
+    let parts = match parts_of(alloc, states) {
         Ok(parts) => parts,
         Err(cause) => return Err(DrnError {
             line: number,
@@ -277,7 +287,7 @@ pub(crate) fn finish(alloc: Global, number: u32, reader: Reader) -> Result<Model
         parts.common as i64,
         header.into_names(),
         parts.goal,
-        first_init(&states),
+        parts.init,
         parts.rows,
     ))
 }

@@ -17,9 +17,9 @@ use crate::digits::{MOST_DIGITS, number_of};
 use crate::error::DrnCause;
 use crate::front::TransitionFront;
 use crate::placeholders::Placeholders;
+use crate::shared::SharedValue;
 use crate::text::behind_colon;
 use crate::value::value_of;
-use drn_expr::RatPoly;
 use drn_lexer::SymbolForm;
 use lift_bytes::digits_len;
 use lift_names::Names;
@@ -73,16 +73,12 @@ fn lone_name(value: Cursor<'_>) -> Option<&[u8]>
 }
 
 /// The value of a placeholder by its name.
-fn value_of_placeholder(
-    alloc: Global,
-    placeholders: &Placeholders,
-    name: &[u8],
-) -> Result<RatPoly, DrnCause>
+fn value_of_placeholder(placeholders: &Placeholders, name: &[u8]) -> Result<SharedValue, DrnCause>
     ensures { result ≢ Err DrnCause.Memory
         → result ≡ value_of_placeholder placeholders.now name.now }
 {
     match placeholders.find(name) {
-        Some(value) => Ok(value.copy(alloc)?),
+        Some(value) => Ok(value.share()?),
         None => Err(DrnCause::UnknownPlace),
     }
 }
@@ -93,13 +89,13 @@ pub(crate) fn named_value(
     value: Cursor<'_>,
     names: &Names,
     placeholders: &Placeholders,
-) -> Result<RatPoly, DrnCause>
+) -> Result<SharedValue, DrnCause>
     requires { length names.now ≤ most_parameters }
     ensures { result ≢ Err DrnCause.Memory
         → result ≡ named_value names.now placeholders.now (rest value.entry) }
 {
     match lone_name(value) {
-        Some(name) => value_of_placeholder(alloc, placeholders, name),
-        None => value_of(alloc, value, names),
+        Some(name) => value_of_placeholder(placeholders, name),
+        None => Ok(SharedValue::new(alloc, value_of(alloc, value, names)?)?),
     }
 }

@@ -19,6 +19,7 @@ use crate::parameters::read_names;
 use crate::placeholder_line::read_placeholder_name;
 use crate::placeholders::Placeholders;
 use crate::section::{Phase, Section, section_of};
+use crate::shared::SharedValue;
 use crate::text::is_head;
 use crate::type_line::kind_in;
 use crate::value::value_behind;
@@ -274,7 +275,8 @@ impl HeaderReader {
     {
         let name = read_placeholder_name(&self.placeholders, line.rest())?;
         let value = value_behind(self.alloc, line.forward(1 + name.len()), &self.names)?;
-        self.placeholders.push(name, value)?;
+        self.placeholders
+            .push(name, SharedValue::new(self.alloc, value)?)?;
         Ok(())
     }
 

@@ -11,7 +11,7 @@ use crate::cursor::Cursor;
 use crate::entry::named_value;
 use crate::error::DrnCause;
 use crate::placeholders::Placeholders;
-use drn_expr::RatPoly;
+use crate::shared::SharedValue;
 use lift_names::Names;
 use std::alloc::{AllocError, Global};
 
@@ -25,7 +25,7 @@ const MOST_BYTES: usize = 256;
 #[derive(Drop)]
 pub(crate) struct Known {
     pub text: Vec<u8>,
-    pub value: RatPoly,
+    pub value: SharedValue,
 }
 
 /// Values that were read, and for each hash of a text the place where its value is looked for.
@@ -45,13 +45,13 @@ fn hash_of(text: &[u8]) -> u8 {
 }
 
 /// The value of a text as one to be kept.
-fn to_keep(alloc: Global, text: &[u8], value: &RatPoly) -> Result<Known, AllocError>
+fn to_keep(alloc: Global, text: &[u8], value: &SharedValue) -> Result<Known, AllocError>
     ensures text { IfOk result (λ known. known.text.items ≡ text.now) }
     ensures value { IfOk result (λ known. known.value ≡ value.now) }
 {
     Ok(Known {
         text: Vec::from_slice(alloc, text)?,
-        value: value.copy(alloc)?,
+        value: value.share()?,
     })
 }
 
@@ -74,7 +74,7 @@ impl KnownValues {
     }
 
     /// The value at a place, where it is that of this text.
-    fn find(&self, place: usize, text: &[u8]) -> Option<&RatPoly>
+    fn find(&self, place: usize, text: &[u8]) -> Option<&SharedValue>
         ensures { IfSome result (λ value. option_map text_and_value (slice_get self.now.values.items place)
             ≡ Some (text.now, value.now)) }
     {
@@ -110,7 +110,7 @@ impl KnownValues {
         value: Cursor<'_>,
         names: &Names,
         placeholders: &Placeholders,
-    ) -> Result<RatPoly, DrnCause>
+    ) -> Result<SharedValue, DrnCause>
         requires names { length names.now ≤ most_parameters }
         requires known { AreKnown names.now placeholders.now self.old.values.items }
         ensures value { result ≢ Err DrnCause.Memory
@@ -124,7 +124,7 @@ impl KnownValues {
         let hash = hash_of(text);
         let place = self.places[hash as usize] as usize;
         if let Some(value) = self.find(place, text) {
-            return Ok(value.copy(alloc)?);
+            return Ok(value.share()?);
         }
         let read = named_value(alloc, value, names, placeholders)?;
         let known = to_keep(alloc, text, &read)?;

@@ -27,7 +27,9 @@ mod placeholder_line;
 mod placeholders;
 mod reader;
 mod rows;
+mod scaled;
 mod section;
+mod shared;
 mod state;
 mod text;
 mod type_line;
@@ -41,6 +43,7 @@ pub use laws::{lines_say_more, texts_are_valid};
 use lift_model::Model;
 use reader::Reader;
 pub use section::{Phase, Section};
+pub use shared::SharedValue;
 pub use state::Transition;
 use std::alloc::Global;
 

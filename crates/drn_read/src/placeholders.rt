@@ -5,7 +5,7 @@ ghost use Rattle.std.specs.Option.{option_map};
 ghost use Rattle.std.specs.Str.{bytes_eq};
 ghost use Rattle.drn_read.specs.Judging.{most_placeholders};
 
-use drn_expr::RatPoly;
+use crate::shared::SharedValue;
 use lift_names::Names;
 use std::alloc::{AllocError, Global};
 use std::marker::Model;
@@ -14,7 +14,7 @@ use std::marker::Model;
 #[derive(Drop)]
 pub(crate) struct Placeholders {
     names: Names,
-    values: Vec<RatPoly>,
+    values: Vec<SharedValue>,
 }
 
 impl Model for Placeholders {
@@ -57,7 +57,7 @@ impl Placeholders {
     }
 
     /// The value of the placeholder of this name.
-    pub fn find(&self, name: &[u8]) -> Option<&RatPoly>
+    pub fn find(&self, name: &[u8]) -> Option<&SharedValue>
         ensures { option_map (λ value. value.now) result
             ≡ option_map (λ p. p.value) (find (λ p. bytes_eq name.now p.name) self.now) }
     {
@@ -66,7 +66,7 @@ impl Placeholders {
     }
 
     /// One more, whose name isn't there yet.
-    pub fn push(&mut self, name: &[u8], value: RatPoly) -> Result<(), AllocError>
+    pub fn push(&mut self, name: &[u8], value: SharedValue) -> Result<(), AllocError>
         requires room { length self.old < most_placeholders }
         requires new { list_any (λ p. bytes_eq name.now p.name) self.old ≡ false }
         ensures { OnOk result (self.new

@@ -1,4 +1,4 @@
-use drn_expr::RatPoly;
+use crate::shared::SharedValue;
 use std::marker::Model;
 
 /// A transition of a choice: its line, its target and its value.
@@ -6,7 +6,7 @@ use std::marker::Model;
 pub struct Transition {
     pub line: u32,
     pub target: u128,
-    pub value: RatPoly,
+    pub value: SharedValue,
 }
 
 /// A state: its line, whether it carries `init` and whether the goal's label, and its choices.

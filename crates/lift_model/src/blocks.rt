@@ -8,7 +8,7 @@ ghost use Rattle.lift_model.specs.Layout.{AreFirsts, AreBlocks, IsPlaced};
 use crate::lists::number_at;
 use crate::model::Model;
 use crate::row::Row;
-use lift_poly::MultiAffine;
+use crate::shared::is_same;
 use std::alloc::{AllocError, Global};
 
 /// How many slots are looked at for a row.
@@ -37,23 +37,6 @@ pub struct Blocks {
     pub places: Vec<u32>,
     /// How many weights they have.
     pub weights: u32,
-}
-
-/// Whether two polynomials are the same.
-fn is_same(left: &MultiAffine, right: &MultiAffine) -> bool
-    ensures { IsTrue result → left.now ≡ right.now }
-{
-    if left.len() != right.len() {
-        return false;
-    }
-    for index in 0..left.len() {
-        let (left_set, left_number) = left.term(index);
-        let (right_set, right_number) = right.term(index);
-        if left_set != right_set || left_number != right_number {
-            return false;
-        }
-    }
-    true
 }
 
 /// Whether two rows have the same polynomials, entry for entry.

@@ -12,6 +12,7 @@ mod lists;
 mod model;
 mod order;
 mod row;
+mod shared;
 
 pub use blocks::FirstRow;
 pub use entry::Entry;
@@ -21,3 +22,4 @@ pub use layout::RowPlace;
 pub use links::Links;
 pub use model::Model;
 pub use row::Row;
+pub use shared::{SharedPoly, is_same};

@@ -5,6 +5,7 @@ mod report;
 
 use lift_base::StdSink;
 use lift_cert::Bound;
+use lift_collapse::Collapse;
 use lift_model::Links;
 use region_tree::Room;
 use rstd::alloc::Global;
@@ -108,6 +109,16 @@ fn main() {
     let upper = least(runs, || {
         rounded_iter::least_upper(&case, &links, &weights, &mut lane, &mut work)
     });
+    let collapse = least(runs, || drop(black_box(Collapse::build(alloc, &model, &links))));
+    let mut collapsed = found(Collapse::build(alloc, &model, &links), "collapse");
+    let top = 1i64 << case.w();
+    let (mut table, mut spread) = (0.0, 0.0);
+    if let Some(collapsed) = &mut collapsed {
+        table = least(runs, || collapsed.fill(&case, &sides));
+        spread = least(runs, || {
+            black_box(collapsed.least_upper_within(&case, top, &mut lane));
+        });
+    }
     let value = least(runs, || {
         rounded_iter::least_value(&case, &links, &weights, &mut lane, &mut work)
     });
@@ -125,4 +136,5 @@ fn main() {
         ));
     });
     println!("read {read:.3} links {link:.3} fill {fill:.3} upper {upper:.4} value {value:.4} reject {reject:.4}");
+    println!("collapse {collapse:.3} fill {table:.3} upper {spread:.4}");
 }

@@ -52,6 +52,26 @@ pub mod num {
         x as u64
     }
 }
+pub mod rc {
+    use crate::alloc::{AllocError, Global};
+    pub struct Rc<T>(std::rc::Rc<T>);
+    impl<T> Rc<T> {
+        pub fn new(_: Global, value: T) -> Result<Self, AllocError> {
+            Ok(Rc(std::rc::Rc::new(value)))
+        }
+        #[inline]
+        pub fn clone(&self) -> Result<Self, AllocError> {
+            Ok(Rc(self.0.clone()))
+        }
+    }
+    impl<T> std::ops::Deref for Rc<T> {
+        type Target = T;
+        #[inline]
+        fn deref(&self) -> &T {
+            &self.0
+        }
+    }
+}
 pub mod thiserror {
     pub trait Error {}
 }

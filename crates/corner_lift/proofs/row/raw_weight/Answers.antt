@@ -45,7 +45,7 @@ weight-requires-clause-room c =
     let row_is = c.entries-entries.ensures ∙ c.row-row.ensures.value in
     let is = rw row_is at c.index-entries-entry.is in
     let count = rw (c.support.ensures, c.row-row.ensures.value) at c.at-ends.ensures.count in
-    rw (to_z-of_z d_fits) (fits row c.index-entries-entry.result c.args.entry _ _ _ _ c.requires.entry is (c.at-ends.ensures.sizes c.args.d) count c.requires.narrow)
+    rw (to_z-of_z d_fits, c.deref.ensures) (fits row c.index-entries-entry.result c.args.entry _ _ _ _ c.requires.entry is (c.at-ends.ensures.sizes c.args.d) count c.requires.narrow)
 
 pub returns-clause-value : goal.returns-clause-value
 unfolding PartOf
@@ -61,7 +61,7 @@ returns-clause-value c =
     let v = corner c.args.d (spans_of c.args.sides.now) (support row) c.args.corner in
     let stand = subst (λ set. StandFor c.args.d c.at-ends.result (corner c.args.d (spans_of c.args.sides.now) set c.args.corner) set) set_is (c.at-ends.ensures.stand c.args.d) in
     let part : PartOf (polynomial.support e.poly) (support row) = subst (λ (x : Entry). PartOf (polynomial.support x.poly) (support row)) (sym place) (entry_part row c.args.entry no_entry c.requires.entry) in
-    to_z-of_z w_fits ∙ simp to_z-of_z at c.weight.ensures.value
+    to_z-of_z w_fits ∙ (rw c.deref.ensures at (simp to_z-of_z at c.weight.ensures.value))
     ∙ weight_stands c.args.d c.at-ends.result v (support row) e.poly stand part
     ∙ ap (λ (x : Entry). weight v x.poly) place
 
@@ -74,5 +74,5 @@ returns-clause-size c =
     let is = rw row_is at c.index-entries-entry.is in
     let count = rw (c.support.ensures, c.row-row.ensures.value) at c.at-ends.ensures.count in
     let room = fits row c.index-entries-entry.result c.args.entry _ _ _ _ c.requires.entry is (c.at-ends.ensures.sizes c.args.d) count c.requires.narrow in
-    let size = simp to_z-of_z at c.weight.ensures.size in
+    let size = rw c.deref.ensures at (simp to_z-of_z at c.weight.ensures.size) in
     rw (to_z-of_z w_fits) (omega (arith, size, room))

@@ -17,7 +17,7 @@ parts-present-requires-clause-room c =
     let one = entry_size c.entries-entry-items.result.now c.loop-entry.entry-index c.entry-item.result c.loop-entry-test.true c.entry-item.is in
     let room : abs_sum c.entries-entry-items.result.now * (greatest_end c.args.case.now.d c.args.low.now ^ length c.args.low.now * 2 ^ c.args.case.now.w) < engine_limit = rw c.entries-entry-items.ensures c.requires.low_room in
     let narrow = rw c.requires.pair.low_is at (entry_room _ _ _ c.args.case.now.w one room) in
-    rw (d_is, rest_is) (rest_room c.args.case.now.d c.requires.pair.parameter c.requires.pair.ends.0 c.requires.pair.rest (polynomial.abs_sum c.entry-item.result.poly) c.grid-d.ensures.case.asked.grid.positive narrow)
+    rw (d_is, rest_is, c.deref.ensures) (rest_room c.args.case.now.d c.requires.pair.parameter c.requires.pair.ends.0 c.requires.pair.rest (polynomial.abs_sum c.entry-item.result.poly) c.grid-d.ensures.case.asked.grid.positive narrow)
 
 pub joined-requires-clause-present : goal.joined-requires-clause-present
 joined-requires-clause-present c =
@@ -31,8 +31,8 @@ joined-requires-clause-present c =
     let end_is : to_z w64 (of_z w64 c.first-parameter.result.1) ≡ c.requires.pair.ends.0 = to_z-of_z end_fits ∙ ap (λ (end : End). end.1) (c.first-parameter.ensures.value ∙ ap (λ (ends : List End). slice_index_or ends 0 (0, pos 0)) c.requires.pair.low_is) in
     let present_fits : SFits w128 c.parts-present.result.0 = search rules in
     let absent_fits : SFits w128 c.parts-present.result.1 = search rules in
-    let present_is = c.parts-present.ensures.present ∙ ap₂ (λ (d : ℤ) (rest : List End). present_part d c.first-parameter.result.0 rest c.entry-item.result.poly) d_is rest_is in
-    let absent_is = c.parts-present.ensures.absent ∙ ap₂ (λ (d : ℤ) (rest : List End). absent_part d c.first-parameter.result.0 rest c.entry-item.result.poly) d_is rest_is in
+    let present_is = (rw c.deref.ensures at c.parts-present.ensures.present) ∙ ap₂ (λ (d : ℤ) (rest : List End). present_part d c.first-parameter.result.0 rest c.entry-item.result.poly) d_is rest_is in
+    let absent_is = (rw c.deref.ensures at c.parts-present.ensures.absent) ∙ ap₂ (λ (d : ℤ) (rest : List End). absent_part d c.first-parameter.result.0 rest c.entry-item.result.poly) d_is rest_is in
     let sizes = parts_size c.args.case.now.d c.first-parameter.result.0 c.requires.pair.rest c.entry-item.result.poly in
     rw (to_z-of_z present_fits, end_is) (end_room c.args.case.now.d c.requires.pair.parameter c.requires.pair.ends.0 c.requires.pair.rest (polynomial.abs_sum c.entry-item.result.poly) c.parts-present.result.0 c.requires.pair.ends.0 narrow (rw present_is (omega (arith, sizes))) (omega arith))
 
@@ -48,8 +48,8 @@ joined-requires-clause-absent c =
     let end_is : to_z w64 (of_z w64 c.first-parameter.result.1) ≡ c.requires.pair.ends.0 = to_z-of_z end_fits ∙ ap (λ (end : End). end.1) (c.first-parameter.ensures.value ∙ ap (λ (ends : List End). slice_index_or ends 0 (0, pos 0)) c.requires.pair.low_is) in
     let present_fits : SFits w128 c.parts-present.result.0 = search rules in
     let absent_fits : SFits w128 c.parts-present.result.1 = search rules in
-    let present_is = c.parts-present.ensures.present ∙ ap₂ (λ (d : ℤ) (rest : List End). present_part d c.first-parameter.result.0 rest c.entry-item.result.poly) d_is rest_is in
-    let absent_is = c.parts-present.ensures.absent ∙ ap₂ (λ (d : ℤ) (rest : List End). absent_part d c.first-parameter.result.0 rest c.entry-item.result.poly) d_is rest_is in
+    let present_is = (rw c.deref.ensures at c.parts-present.ensures.present) ∙ ap₂ (λ (d : ℤ) (rest : List End). present_part d c.first-parameter.result.0 rest c.entry-item.result.poly) d_is rest_is in
+    let absent_is = (rw c.deref.ensures at c.parts-present.ensures.absent) ∙ ap₂ (λ (d : ℤ) (rest : List End). absent_part d c.first-parameter.result.0 rest c.entry-item.result.poly) d_is rest_is in
     let sizes = parts_size c.args.case.now.d c.first-parameter.result.0 c.requires.pair.rest c.entry-item.result.poly in
     rw (to_z-of_z absent_fits, d_is) (end_room c.args.case.now.d c.requires.pair.parameter c.requires.pair.ends.0 c.requires.pair.rest (polynomial.abs_sum c.entry-item.result.poly) c.parts-present.result.1 c.args.case.now.d narrow (rw absent_is (omega (arith, sizes))) (omega (arith, grid_size c.args.case.now.d c.requires.pair.rest)))
 
@@ -65,8 +65,8 @@ joined-requires-in-loop-entry-clause-present c =
     let end_is : to_z w64 (of_z w64 c.first-high_end.result.1) ≡ c.requires.pair.ends.1 = to_z-of_z end_fits ∙ ap (λ (end : End). end.1) (c.first-high_end.ensures.value ∙ ap (λ (ends : List End). slice_index_or ends 0 (0, pos 0)) c.requires.pair.high_is) in
     let present_fits : SFits w128 c.parts-present.result.0 = search rules in
     let absent_fits : SFits w128 c.parts-present.result.1 = search rules in
-    let present_is = c.parts-present.ensures.present ∙ ap₂ (λ (d : ℤ) (rest : List End). present_part d c.first-parameter.result.0 rest c.entry-item.result.poly) d_is rest_is in
-    let absent_is = c.parts-present.ensures.absent ∙ ap₂ (λ (d : ℤ) (rest : List End). absent_part d c.first-parameter.result.0 rest c.entry-item.result.poly) d_is rest_is in
+    let present_is = (rw c.deref.ensures at c.parts-present.ensures.present) ∙ ap₂ (λ (d : ℤ) (rest : List End). present_part d c.first-parameter.result.0 rest c.entry-item.result.poly) d_is rest_is in
+    let absent_is = (rw c.deref.ensures at c.parts-present.ensures.absent) ∙ ap₂ (λ (d : ℤ) (rest : List End). absent_part d c.first-parameter.result.0 rest c.entry-item.result.poly) d_is rest_is in
     let sizes = parts_size c.args.case.now.d c.first-parameter.result.0 c.requires.pair.rest c.entry-item.result.poly in
     rw (to_z-of_z present_fits, end_is) (end_room c.args.case.now.d c.requires.pair.parameter c.requires.pair.ends.1 c.requires.pair.rest (polynomial.abs_sum c.entry-item.result.poly) c.parts-present.result.0 c.requires.pair.ends.1 narrow (rw present_is (omega (arith, sizes))) (omega arith))
 
@@ -82,8 +82,8 @@ joined-requires-in-loop-entry-clause-absent c =
     let end_is : to_z w64 (of_z w64 c.first-high_end.result.1) ≡ c.requires.pair.ends.1 = to_z-of_z end_fits ∙ ap (λ (end : End). end.1) (c.first-high_end.ensures.value ∙ ap (λ (ends : List End). slice_index_or ends 0 (0, pos 0)) c.requires.pair.high_is) in
     let present_fits : SFits w128 c.parts-present.result.0 = search rules in
     let absent_fits : SFits w128 c.parts-present.result.1 = search rules in
-    let present_is = c.parts-present.ensures.present ∙ ap₂ (λ (d : ℤ) (rest : List End). present_part d c.first-parameter.result.0 rest c.entry-item.result.poly) d_is rest_is in
-    let absent_is = c.parts-present.ensures.absent ∙ ap₂ (λ (d : ℤ) (rest : List End). absent_part d c.first-parameter.result.0 rest c.entry-item.result.poly) d_is rest_is in
+    let present_is = (rw c.deref.ensures at c.parts-present.ensures.present) ∙ ap₂ (λ (d : ℤ) (rest : List End). present_part d c.first-parameter.result.0 rest c.entry-item.result.poly) d_is rest_is in
+    let absent_is = (rw c.deref.ensures at c.parts-present.ensures.absent) ∙ ap₂ (λ (d : ℤ) (rest : List End). absent_part d c.first-parameter.result.0 rest c.entry-item.result.poly) d_is rest_is in
     let sizes = parts_size c.args.case.now.d c.first-parameter.result.0 c.requires.pair.rest c.entry-item.result.poly in
     rw (to_z-of_z absent_fits, d_is) (end_room c.args.case.now.d c.requires.pair.parameter c.requires.pair.ends.1 c.requires.pair.rest (polynomial.abs_sum c.entry-item.result.poly) c.parts-present.result.1 c.args.case.now.d narrow (rw absent_is (omega (arith, sizes))) (omega (arith, grid_size c.args.case.now.d c.requires.pair.rest)))
 
@@ -99,8 +99,8 @@ loop-entry-preserved c =
     let high_is : to_z w64 (of_z w64 c.first-high_end.result.1) ≡ c.requires.pair.ends.1 = to_z-of_z high_fits ∙ ap (λ (end : End). end.1) (c.first-high_end.ensures.value ∙ ap (λ (ends : List End). slice_index_or ends 0 (0, pos 0)) c.requires.pair.high_is) in
     let present_fits : SFits w128 c.parts-present.result.0 = search rules in
     let absent_fits : SFits w128 c.parts-present.result.1 = search rules in
-    let present_is = c.parts-present.ensures.present ∙ ap₂ (λ (d : ℤ) (rest : List End). present_part d c.first-parameter.result.0 rest c.entry-item.result.poly) d_is rest_is ∙ ap (λ (p : ℕ). present_part c.args.case.now.d p c.requires.pair.rest c.entry-item.result.poly) parameter_is in
-    let absent_is = c.parts-present.ensures.absent ∙ ap₂ (λ (d : ℤ) (rest : List End). absent_part d c.first-parameter.result.0 rest c.entry-item.result.poly) d_is rest_is ∙ ap (λ (p : ℕ). absent_part c.args.case.now.d p c.requires.pair.rest c.entry-item.result.poly) parameter_is in
+    let present_is = (rw c.deref.ensures at c.parts-present.ensures.present) ∙ ap₂ (λ (d : ℤ) (rest : List End). present_part d c.first-parameter.result.0 rest c.entry-item.result.poly) d_is rest_is ∙ ap (λ (p : ℕ). present_part c.args.case.now.d p c.requires.pair.rest c.entry-item.result.poly) parameter_is in
+    let absent_is = (rw c.deref.ensures at c.parts-present.ensures.absent) ∙ ap₂ (λ (d : ℤ) (rest : List End). absent_part d c.first-parameter.result.0 rest c.entry-item.result.poly) d_is rest_is ∙ ap (λ (p : ℕ). absent_part c.args.case.now.d p c.requires.pair.rest c.entry-item.result.poly) parameter_is in
     let written_fits : SFits w128 c.joined.result = search rules in
     let other_fits : SFits w128 c.joined-in-loop-entry.result = search rules in
     let size : length c.entries-entry-items.result.now ≡ length c.args.row.now = ap (length {A = Entry}) c.entries-entry-items.ensures in

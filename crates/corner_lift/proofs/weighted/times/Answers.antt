@@ -15,7 +15,7 @@ left_is : (c : After-from) → to_z w128 (of_z w128 c.weight.result) ≡ weight_
 left_is c =
     let d_fits : SFits w64 c.args.d = c.ranges.d in
     let w_fits : SFits w128 c.weight.result = search rules in
-    to_z-of_z w_fits ∙ simp to_z-of_z at c.weight.ensures.value
+    to_z-of_z w_fits ∙ (rw c.deref.ensures at (simp to_z-of_z at c.weight.ensures.value))
 
 right_is : (c : After-from) → to_z w128 (of_z w128 c.from.result) ≡ c.args.number
 right_is c =
@@ -27,7 +27,7 @@ size_is : (c : After-from) → unsigned_abs (weight_at c.args.d c.args.ends.now 
 size_is c =
     let d_fits : SFits w64 c.args.d = c.ranges.d in
     let w_fits : SFits w128 c.weight.result = search rules in
-    let size = simp to_z-of_z at c.weight.ensures.size in
+    let size = rw c.deref.ensures at (simp to_z-of_z at c.weight.ensures.size) in
     product_size _ c.args.number (polynomial.abs_sum c.args.entry.now.poly) _ (rw (← left_is c, to_z-of_z w_fits) size)
 
 fits : (c : After-from) → FitsSigned w128 (weight_at c.args.d c.args.ends.now c.args.entry.now.poly *ℤ c.args.number)

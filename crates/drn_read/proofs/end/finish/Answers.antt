@@ -14,8 +14,8 @@ new-requires c =
     let tests : end_fault c.args.number said ≡ first_of (None ∷ told c.args.number (common_fault c.into_states-states.result.items) ∷ []) = search rules in
     let last : common_fault c.into_states-states.result.items ≡ None = search rules in
     let whole = no_fault (end_fault c.args.number said) None c.args.number c.into_states-states.result.items tests refl last in
-    let is = model_is c.reader.inside.header c.into_states-states.result.items c.deref-2.result.now c.deref-3.result.now c.kind.result c.kind_or_chain.result c.in-Ok.parts.common c.into_names.result c.in-Ok.parts.goal.items c.first_init.result (map (λ v. v.items) c.in-Ok.parts.rows.items)
-    c.deref-2.ensures.value c.deref-3.ensures.value c.kind.ensures c.kind_or_chain.ensures c.in-Ok.ensures.common c.in-Ok.ensures.small c.into_names.ensures c.in-Ok.ensures.goal c.first_init.ensures c.in-Ok.ensures.rows in
+    let is = model_is c.reader.inside.header c.into_states-states.result.items c.kind.result c.kind_or_chain.result c.in-Ok.parts.common c.into_names.result c.in-Ok.parts.goal.items c.in-Ok.parts.init (map (λ v. v.items) c.in-Ok.parts.rows.items)
+    c.kind.ensures c.kind_or_chain.ensures c.in-Ok.ensures.common c.in-Ok.ensures.small c.into_names.ensures c.in-Ok.ensures.goal c.in-Ok.ensures.init c.in-Ok.ensures.rows in
     let valid = c.requires (subst (λ (k : Said). end_fault c.args.number k ≡ None) same whole) in
     subst IsModel is (subst (λ (k : Said). IsModel (model k)) (sym same) valid)
 
@@ -23,6 +23,6 @@ pub returns-clause-model : goal.returns-clause-model
 returns-clause-model c =
     let said : Said = record { header = c.reader.inside.header; states = c.into_states-states.result.items } in
     let same : said ≡ c.args.reader = ap (λ (ss : List StateText). record { header = c.reader.inside.header; states = ss }) c.into_states-states.ensures.states ∙ c.reader.view_is in
-    let is = model_is c.reader.inside.header c.into_states-states.result.items c.deref-2.result.now c.deref-3.result.now c.kind.result c.kind_or_chain.result c.in-Ok.parts.common c.into_names.result c.in-Ok.parts.goal.items c.first_init.result (map (λ v. v.items) c.in-Ok.parts.rows.items)
-    c.deref-2.ensures.value c.deref-3.ensures.value c.kind.ensures c.kind_or_chain.ensures c.in-Ok.ensures.common c.in-Ok.ensures.small c.into_names.ensures c.in-Ok.ensures.goal c.first_init.ensures c.in-Ok.ensures.rows in
+    let is = model_is c.reader.inside.header c.into_states-states.result.items c.kind.result c.kind_or_chain.result c.in-Ok.parts.common c.into_names.result c.in-Ok.parts.goal.items c.in-Ok.parts.init (map (λ v. v.items) c.in-Ok.parts.rows.items)
+    c.kind.ensures c.kind_or_chain.ensures c.in-Ok.ensures.common c.in-Ok.ensures.small c.into_names.ensures c.in-Ok.ensures.goal c.in-Ok.ensures.init c.in-Ok.ensures.rows in
     c.new.ensures ∙ sym is ∙ ap model same

@@ -8,10 +8,10 @@ use Rattle.drn_read.proofs.Building.{fault_kept_over, each_row, all_built}
 use Rattle.lift_model.specs.Valid.{most_states}
 use Rattle.drn_read.proofs.rows.rows_of.Goals as goal
 
-pub row_of-requires : goal.row_of-requires
-row_of-requires c =
+pub row_of-requires-clause-targets : goal.row_of-requires-clause-targets
+row_of-requires-clause-targets c =
     let Inside : Transition → Type 0 = λ t. t.target < most_states in
-    subst (All Inside) (sym c.deref.ensures.value) (each_row Inside (λ row. row.items) c.args.choices.now c.loop-choice.choice-index c.choice-item.result c.requires c.loop-choice-test.true c.choice-item.is)
+    subst (All Inside) (sym c.deref.ensures.value) (each_row Inside (λ row. row.items) c.args.choices.now c.loop-choice.choice-index c.choice-item.result c.requires.targets c.loop-choice-test.true c.choice-item.is)
 
 pub returns-in_err-row_of-clause-fault : goal.returns-in_err-row_of-clause-fault
 returns-in_err-row_of-clause-fault c =
@@ -21,8 +21,8 @@ returns-in_err-row_of-clause-fault c =
 pub returns-clause-fault : goal.returns-clause-fault
 returns-clause-fault c =
     ap (λ large. when large CommonDenominator)
-    (all_built (list_any (is_large c.args.common)) (map (entry c.args.common)) (λ row. row.items) c.args.choices.now c.loop-choice.choice-index c.loop-choice.rows.items c.loop-choice.invariant (omega arith)).none
+    (all_built (list_any (is_large c.args.common)) (map (entry c.args.common)) (λ row. row.items) c.args.choices.now c.loop-choice.choice-index c.loop-choice.rows.items c.loop-choice.invariant.0 (omega arith)).none
 
 pub returns-clause-rows : goal.returns-clause-rows
 returns-clause-rows c =
-    (all_built (list_any (is_large c.args.common)) (map (entry c.args.common)) (λ row. row.items) c.args.choices.now c.loop-choice.choice-index c.loop-choice.rows.items c.loop-choice.invariant (omega arith)).are
+    (all_built (list_any (is_large c.args.common)) (map (entry c.args.common)) (λ row. row.items) c.args.choices.now c.loop-choice.choice-index c.loop-choice.rows.items c.loop-choice.invariant.0 (omega arith)).are

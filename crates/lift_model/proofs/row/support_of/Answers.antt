@@ -6,7 +6,7 @@ use Rattle.lift_model.proofs.row.support_of.Goals as goal
 
 pub loop-entry-preserved : goal.loop-entry-preserved
 loop-entry-preserved c =
-    rw c.support-set.ensures (union_more (λ (entry : Entry). polynomial.support entry.poly) c.loop-entry.set c.loop-entry.entry-index c.args.entries.now c.entry-item.result c.loop-entry-test.true c.entry-item.is ∙ c.loop-entry.invariant)
+    rw (c.support-set.ensures, c.deref.ensures) (union_more (λ (entry : Entry). polynomial.support entry.poly) c.loop-entry.set c.loop-entry.entry-index c.args.entries.now c.entry-item.result c.loop-entry-test.true c.entry-item.is ∙ c.loop-entry.invariant)
 
 pub returns : goal.returns
 returns c = union_all (λ (entry : Entry). polynomial.support entry.poly) c.loop-entry.set c.loop-entry.entry-index c.args.entries.now c.loop-entry-test.false c.loop-entry.invariant

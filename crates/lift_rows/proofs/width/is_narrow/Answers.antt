@@ -21,7 +21,7 @@ pub returns-then-size-left : goal.returns-then-size-left
 returns-then-size-left c =
     let row = c.args.row.now in
     let row_is = c.entries-entry-items.ensures in
-    let more = summed row _ _ _ (search rules) (rw row_is at c.loop-entry-test.true) (rw row_is at c.entry-item.is) c.abs_sum-size.ensures in
+    let more = summed row _ _ _ (search rules) (rw row_is at c.loop-entry-test.true) (rw row_is at c.entry-item.is) (rw c.deref.ensures at c.abs_sum-size.ensures) in
     let within = sum_by-take-le (λ (x : Entry). polynomial.abs_sum x.poly) row (c.loop-entry.entry-index + 1) in
     (λ never. absurd (false≢true never), λ narrow. absurd (omega (arith, more, within, (c.loop-entry.invariant (abs_sum row)).1 (rw c.requires.count narrow))))
 
@@ -29,7 +29,7 @@ pub loop-entry-preserved : goal.loop-entry-preserved
 loop-entry-preserved c =
     let row = c.args.row.now in
     let row_is = c.entries-entry-items.ensures in
-    let more = summed row _ _ _ (search rules) (rw row_is at c.loop-entry-test.true) (rw row_is at c.entry-item.is) c.abs_sum-size.ensures in
+    let more = summed row _ _ _ (search rules) (rw row_is at c.loop-entry-test.true) (rw row_is at c.entry-item.is) (rw c.deref.ensures at c.abs_sum-size.ensures) in
     let same : abs_sum (take (c.loop-entry.entry-index + 1) row) + (c.loop-entry.left - unsigned_abs (to_z w128 (of_z w128 c.abs_sum-size.result))) ≡ abs_sum (take c.loop-entry.entry-index row) + c.loop-entry.left =
     omega (arith, more) in
     rw same c.loop-entry.invariant

@@ -37,5 +37,5 @@ returns-clause-after c =
     let line = rest c.args.line in
     let new : IsNewName c.self.inside.placeholders line c.in_ok-name.name.now = subst (λ (l : List ℕ). IsNewName c.self.inside.placeholders l c.in_ok-name.name.now) c.rest.ensures c.in_ok-name.ensures.name in
     let value = value_read (the_view c.self.inside) line _ (Ok c.in_ok-value.value) c.in_ok-value.value (c.forward.ensures ∙ new.behind) refl c.in_ok-value.ensures in
-    let kept = placed (the_view c.self.inside) line c.in_ok-name.name.now c.in_ok-value.value c.push.new.self new.name value c.in_ok-push.ensures in
+    let kept = placed (the_view c.self.inside) line c.in_ok-name.name.now c.in_ok-value.value c.push.new.self new.name value (rw c.in_ok-new.ensures at c.in_ok-push.ensures) in
     subst (λ (h : Header). the_view (record c.self.inside { placeholders = c.push.new.self }) ≡ with_placeholder h line) c.self.view_is kept

@@ -2,7 +2,7 @@ use Rattle.std.proofs.Common.{FitsSigned, unsigned_abs, ap, arith, rules}
 use Rattle.std.specs.Int.{w128}
 use Rattle.std.proofs.lemmas.Int.{to_z-of_z}
 use Rattle.drn_read.proofs.Building.{large_at, small_more}
-use Rattle.drn_read.proofs.rows.has_large.Goals as goal
+use Rattle.drn_read.proofs.scaled.has_large.Goals as goal
 
 pub returns-then-unsigned_abs-ge-COEFFICIENT_LIMIT : goal.returns-then-unsigned_abs-ge-COEFFICIENT_LIMIT
 returns-then-unsigned_abs-ge-COEFFICIENT_LIMIT c =

@@ -1,7 +1,7 @@
 use Rattle.std.proofs.Common.{◌≡◌, ◌<◌, length, arith, rules, sym, ◌∙◌, ap₂, pos}
 use Rattle.std.proofs.lemmas.List.{take_more_same}
 use Rattle.std.proofs.lemmas.Option.{get_or_from_slice_get}
-use Rattle.lift_model.proofs.blocks.is_same.Goals as goal
+use Rattle.lift_model.proofs.shared.is_same.Goals as goal
 
 pub loop-index-preserved : goal.loop-index-preserved
 loop-index-preserved c =

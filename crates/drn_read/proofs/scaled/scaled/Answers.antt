@@ -5,7 +5,7 @@ use Rattle.lift_poly.specs.Arithmetic as poly
 use Rattle.lift_poly.specs.MultiAffine.{narrow}
 use Rattle.drn_read.specs.Reading.{scaled}
 use Rattle.drn_read.proofs.Building.{wide_told}
-use Rattle.drn_read.proofs.rows.scaled.Goals as goal
+use Rattle.drn_read.proofs.scaled.scaled.Goals as goal
 
 pub returns-in-Err : goal.returns-in-Err
 returns-in-Err c =

@@ -1,5 +1,5 @@
 use Rattle.std.proofs.Common.{◌≡◌, take}
-use Rattle.lift_model.proofs.blocks.is_same.Given as goal
+use Rattle.lift_model.proofs.shared.is_same.Given as goal
 
 -- the terms so far are the same
 abbrev pub invariant-loop-index : goal.invariant-loop-index
