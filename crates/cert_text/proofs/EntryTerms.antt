@@ -17,8 +17,8 @@ use Rattle.line_text.specs.Reading.{◌>>=◌}
 use Rattle.line_text.specs.Parts.{Words, Read, must, each, between, is_above}
 use Rattle.line_text.specs.Shown.{first_of, is_none_left}
 use Rattle.cert_text.specs.Lines.{most_terms, terms_in}
-use Rattle.cert_text.specs.Shown.{next_term, terms_of, term_in}
-use Rattle.cert_text.proofs.LineLoops.{each_first, each_none, each_end, regroup}
+use Rattle.cert_text.specs.Shown.{next_term, term_first, terms_of, term_in}
+use Rattle.cert_text.proofs.LineLoops.{first_map, first_shorter, map_none, each_first, each_none, each_end, regroup}
 use Rattle.cert_text.proofs.FirstLines.{reads_terms, AreTerms}
 use Rattle.cert_text.proofs.ModelOf.{polynomial_of, all_low, all_small}
 
@@ -122,18 +122,33 @@ kept_fault None done now parameters seen before z cause zs e = ap (λ r. r >>= �
 sizes : (done : List Term) (t : Term) (zs : List (ℤ × ℤ)) (z : ℤ × ℤ) → length done + length (z ∷ zs) ≡ length (done ++ t ∷ []) + length zs
 sizes done t zs z = omega (arith, length-append done (t ∷ []))
 
-pub terms_go : (fault : Option TextCause) (done : List Term) (parameters seen : ℕ) (before : Option ℕ) (z : ℤ × ℤ) (t : Term) (rest behind : Words) → first_of (pair_of 58) rest ≡ Some (z, behind) → next_term fault parameters seen before z ≡ Ok t → terms_left fault done parameters seen before rest ≡ terms_left fault (done ++ t ∷ []) parameters (bit_or seen t.0) (Some t.0) behind
+terms_go : (fault : Option TextCause) (done : List Term) (parameters seen : ℕ) (before : Option ℕ) (z : ℤ × ℤ) (t : Term) (rest behind : Words) → first_of (pair_of 58) rest ≡ Some (z, behind) → next_term fault parameters seen before z ≡ Ok t → terms_left fault done parameters seen before rest ≡ terms_left fault (done ++ t ∷ []) parameters (bit_or seen t.0) (Some t.0) behind
 terms_go fault done parameters seen before z t rest behind e is =
     ap (λ r. r >>= few_in fault done parameters seen before) (each_first (pair_of 58) rest behind z e)
     ∙ regroup (each (pair_of 58) behind) z (few_in fault done parameters seen before) (few_in fault (done ++ t ∷ []) parameters (bit_or seen t.0) (Some t.0)) (λ zs. rw (sizes done t zs z, kept_more fault done parameters seen before z t zs is) refl)
 
-pub terms_fail : (fault : Option TextCause) (done : List Term) (parameters seen : ℕ) (before : Option ℕ) (z : ℤ × ℤ) (t : Term) (cause : TextCause) (rest behind : Words) → first_of (pair_of 58) rest ≡ Some (z, behind) → next_term fault parameters seen before z ≡ Err cause → terms_left fault done parameters seen before rest ≡ terms_left (Some cause) (done ++ t ∷ []) parameters seen before behind
+terms_fail : (fault : Option TextCause) (done : List Term) (parameters seen : ℕ) (before : Option ℕ) (z : ℤ × ℤ) (t : Term) (cause : TextCause) (rest behind : Words) → first_of (pair_of 58) rest ≡ Some (z, behind) → next_term fault parameters seen before z ≡ Err cause → terms_left fault done parameters seen before rest ≡ terms_left (Some cause) (done ++ t ∷ []) parameters seen before behind
 terms_fail fault done parameters seen before z t cause rest behind e is =
     ap (λ r. r >>= few_in fault done parameters seen before) (each_first (pair_of 58) rest behind z e)
     ∙ regroup (each (pair_of 58) behind) z (few_in fault done parameters seen before) (few_in (Some cause) (done ++ t ∷ []) parameters seen before) (λ zs. rw (sizes done t zs z, kept_fault fault done (done ++ t ∷ []) parameters seen before z cause zs is) refl)
 
-pub terms_none : (fault : Option TextCause) (done : List Term) (parameters seen : ℕ) (before : Option ℕ) (rest : Words) → first_of (pair_of 58) rest ≡ None → is_none_left rest ≡ false → terms_left fault done parameters seen before rest ≡ Err Syntax
-terms_none fault done parameters seen before rest e some = ap (λ r. r >>= few_in fault done parameters seen before) (each_none (pair_of 58) rest e some)
+pub term_goes : (fault : Option TextCause) (done : List Term) (parameters seen : ℕ) (before : Option ℕ) (t : Term) (rest behind : Words) → term_first fault parameters seen before rest ≡ Some (Ok t, behind) → terms_left fault done parameters seen before rest ≡ terms_left fault (done ++ t ∷ []) parameters (bit_or seen t.0) (Some t.0) behind
+term_goes fault done parameters seen before t rest behind e =
+    let one = first_map (next_term fault parameters seen before) (first_of (pair_of 58) rest) (Ok t) behind e in
+    terms_go fault done parameters seen before one.0 t rest behind one.1 one.2
+
+pub term_fails : (fault : Option TextCause) (done : List Term) (parameters seen : ℕ) (before : Option ℕ) (t : Term) (cause : TextCause) (rest behind : Words) → term_first fault parameters seen before rest ≡ Some (Err cause, behind) → terms_left fault done parameters seen before rest ≡ terms_left (Some cause) (done ++ t ∷ []) parameters seen before behind
+term_fails fault done parameters seen before t cause rest behind e =
+    let one = first_map (next_term fault parameters seen before) (first_of (pair_of 58) rest) (Err cause) behind e in
+    terms_fail fault done parameters seen before one.0 t cause rest behind one.1 one.2
+
+pub term_shorter : (fault : Option TextCause) (parameters seen : ℕ) (before : Option ℕ) (read : Read Term) (rest behind : Words) → term_first fault parameters seen before rest ≡ Some (read, behind) → length behind < length rest
+term_shorter fault parameters seen before read rest behind e =
+    let one = first_map (next_term fault parameters seen before) (first_of (pair_of 58) rest) read behind e in
+    first_shorter (pair_of 58) rest behind one.0 one.1
+
+pub terms_none : (fault : Option TextCause) (done : List Term) (parameters seen : ℕ) (before : Option ℕ) (rest : Words) → term_first fault parameters seen before rest ≡ None → is_none_left rest ≡ false → terms_left fault done parameters seen before rest ≡ Err Syntax
+terms_none fault done parameters seen before rest e some = ap (λ r. r >>= few_in fault done parameters seen before) (each_none (pair_of 58) rest (map_none (next_term fault parameters seen before) (first_of (pair_of 58) rest) e) some)
 
 -- what was read, or the fault
 abbrev pub verdict : Option TextCause → List Term → Read (List Term)

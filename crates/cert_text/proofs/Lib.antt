@@ -28,5 +28,6 @@ mod BoxLoop
 mod Places
 mod Remainders
 mod RowWords
+mod FirstNumbers
 mod RowLoops
 mod HeadSteps

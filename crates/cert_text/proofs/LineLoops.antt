@@ -32,6 +32,11 @@ each_first of (w ∷ ws) behind x e =
     let parts = option_first (of w) ws behind x e in
     ap (λ o. spelled o >>= λ y. each of ws >>= λ xs. Ok (y ∷ xs)) parts.0 ∙ ap (λ vs. each of vs >>= λ xs. Ok (x ∷ xs)) parts.1
 
+-- behind the first word fewer are left
+pub first_shorter : {A : Type 0} (of : List ℕ → Option A) (rest behind : Words) (x : A) → first_of of rest ≡ Some (x, behind) → length behind < length rest
+first_shorter of [] behind x e = absurd (cc e)
+first_shorter of (w ∷ ws) behind x e = let same = ap length (option_first (of w) ws behind x e).1 in omega (arith, same)
+
 option_none : {A : Type 0} (o : Option A) (ws : Words) → option_map {U = A × Words} (λ y. (y, ws)) o ≡ None → o ≡ None
 option_none None ws e = refl
 option_none (Some y) ws e = absurd cc
@@ -44,13 +49,13 @@ pub each_end : {A : Type 0} (of : List ℕ → Option A) (rest : Words) → is_n
 each_end of [] e = refl
 each_end of (w ∷ ws) e = absurd cc
 
-first_map : {A B : Type 0} (f : A → B) (o : Option (A × Words)) (y : B) (behind : Words) → option_map {U = B × Words} (λ x. (f x.0, x.1)) o ≡ Some (y, behind) → (x : A) × (o ≡ Some (x, behind)) × (f x ≡ y)
+pub first_map : {A B : Type 0} (f : A → B) (o : Option (A × Words)) (y : B) (behind : Words) → option_map {U = B × Words} (λ x. (f x.0, x.1)) o ≡ Some (y, behind) → (x : A) × (o ≡ Some (x, behind)) × (f x ≡ y)
 first_map f None y behind e = absurd (cc e)
 first_map {A} {B} f (Some x) y behind e =
     let pair : ◌≡◌ {A = B × Words} (f x.0, x.1) (y, behind) = ap (pair_in (f x.0, x.1)) e in
     (x.0, ap (λ ws. Some (x.0, ws)) (ap (λ p. p.1) pair), ap (λ p. p.0) pair)
 
-map_none : {A B : Type 0} (f : A → B) (o : Option (A × Words)) → option_map {U = B × Words} (λ x. (f x.0, x.1)) o ≡ None → o ≡ None
+pub map_none : {A B : Type 0} (f : A → B) (o : Option (A × Words)) → option_map {U = B × Words} (λ x. (f x.0, x.1)) o ≡ None → o ≡ None
 map_none f None e = refl
 map_none f (Some x) e = absurd cc
 

@@ -10,3 +10,4 @@ pub mod Leaf
 pub mod Rows
 pub mod HeadParts
 pub mod Left
+pub mod Recent

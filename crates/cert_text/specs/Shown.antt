@@ -1,6 +1,8 @@
 -- What the code's functions answer.
 use Rattle.std.specs.Prelude.{ℕ, ℤ, pos, ◌^◌, count_ones, bit_or, slice_index_or, codes, reverse, map, nat_eq, ◌≡◌, ◌<◌, ◌==◌, nat_le, nat_lt, int_lt, unsigned_abs, not, Bool, false, List, [], ◌∷◌, length, Option, Some, None, Ok, Err, if◌then◌else◌}
 use Rattle.std.specs.List.{list_any}
+use Rattle.std.specs.Option.{option_map}
+use Rattle.line_text.specs.Shown.{first_of}
 use Rattle.std.specs.Str.{bytes_eq}
 use Rattle.lift_model.specs.Valid.{most_name_bytes, coefficient_limit}
 use Rattle.line_text.specs.declared.error.TextCause.{TextCause}
@@ -74,6 +76,10 @@ term_in parameters seen before term = set_in parameters seen before term.0 >>= �
 abbrev pub next_term : Option TextCause → ℕ → ℕ → Option ℕ → ℤ × ℤ → Read Term
 next_term (Some cause) parameters seen before term = Err cause
 next_term None parameters seen before term = term_in parameters seen before term
+
+-- what the first word says of a term behind others, or the fault that these have, and the words behind it
+abbrev pub term_first : Option TextCause → ℕ → ℕ → Option ℕ → Words → Option (Read Term × Words)
+term_first fault parameters seen before words = option_map (λ x. (next_term fault parameters seen before x.0, x.1)) (first_of (pair_of (code ":")) words)
 
 -- what is read of the few pairs that words write, behind the form of all
 abbrev pub terms_of : ℕ → Words → Read (Read (List Term))

@@ -1,13 +1,15 @@
 // The terms of an entry.
-ghost use Rattle.std.specs.Prelude.{◌≡◌, ◌≤◌, ◌<◌, ◌^◌, ◌++◌, ◌∷◌, [], length, not, All, IfOk};
+ghost use Rattle.std.specs.Prelude.{◌≡◌, ◌≤◌, ◌<◌, ◌^◌, ◌++◌, ◌∷◌, [], Ok, None, Some, pos, length, not, All, IfOk, IfSome};
 ghost use Rattle.line_text.specs.Reading.{line_at};
 ghost use Rattle.cert_text.specs.Head.{entries_at};
 ghost use Rattle.line_text.specs.Shown.{Says, Gives};
 ghost use Rattle.lift_model.specs.Valid.{most_parameters, most_states};
-ghost use Rattle.cert_text.specs.Shown.{AreMarked, coefficient_in, entry_by, entry_in, has_mark, next_term, targets_back, terms_of, set_in, term_in};
+ghost use Rattle.cert_text.specs.Recent.{AreKnown};
+ghost use Rattle.cert_text.specs.Shown.{AreMarked, coefficient_in, entry_by, entry_in, has_mark, targets_back, terms_of, set_in, term_first, term_in};
 
 use crate::head_lines::{counted, is_above};
-use lift_model::Entry;
+use crate::known::KnownTerms;
+use lift_model::{Entry, SharedPoly};
 use lift_poly::MultiAffine;
 use line_text::{Cursor, Decimal, TextCause, TextError, Words, between};
 use std::alloc::Global;
@@ -77,31 +79,96 @@ fn term_in(
     }
 }
 
-/// The term of a set and a coefficient, behind terms that have no fault; or their fault.
-fn next_term(
-    fault: Option<TextCause>,
-    pair: &(Decimal, Decimal),
+/// The term of a set of few digits and such a coefficient.
+fn short_term(
+    set: u64,
+    coefficient: i128,
     parameters: u32,
     seen: u16,
     before: Option<u64>,
-) -> Result<(u16, i128), TextCause>
+) -> Option<(u16, i128)>
     requires { parameters ≤ most_parameters }
-    ensures { result ≡ next_term fault parameters seen before pair.now }
+    ensures { IfSome result (λ t. term_in parameters seen before (pos set, coefficient) ≡ Ok t) }
+{
+    let is_above = match before {
+        None => true,
+        Some(n) => n < set,
+    };
+    if !is_above || set >= 2_u64.pow(parameters) {
+        return None;
+    }
+    let set = set as u16;
+    if (seen | set).count_ones() > MOST_ROW_PARAMETERS {
+        return None;
+    }
+    if coefficient == 0 || coefficient.unsigned_abs() >= COEFFICIENT_LIMIT {
+        return None;
+    }
+    Some((set, coefficient))
+}
+
+/// The term of numbers of few digits that the first word writes, and those behind it; none where it
+/// writes no such term.
+fn short_first<'t>(
+    words: &Words<'t>,
+    parameters: u32,
+    seen: u16,
+    before: Option<u64>,
+) -> Option<((u16, i128), Words<'t>)>
+    requires { parameters ≤ most_parameters }
+    ensures { IfSome result (λ x. term_first None parameters seen before words.now ≡ Some (Ok x.0, x.1)) }
+{
+    let (set, coefficient, rest) = words.short_pair(b':')?;
+    let term = short_term(set, coefficient, parameters, seen, before)?;
+    Some((term, rest))
+}
+
+/// What the first word says of a term, and the words behind it; none where there is no word, or it
+/// writes no pair.
+fn read_first<'t>(
+    words: &Words<'t>,
+    parameters: u32,
+    seen: u16,
+    before: Option<u64>,
+) -> Option<(Result<(u16, i128), TextCause>, Words<'t>)>
+    requires { parameters ≤ most_parameters }
+    ensures { result ≡ term_first None parameters seen before words.now }
+{
+    if let Some((term, rest)) = short_first(words, parameters, seen, before) {
+        return Some((Ok(term), rest));
+    }
+    let (pair, rest) = words.pair(b':')?;
+    Some((term_in(&pair.0, &pair.1, parameters, seen, before), rest))
+}
+
+/// The same behind terms that may have a fault, which is told then.
+fn term_first<'t>(
+    fault: Option<TextCause>,
+    words: &Words<'t>,
+    parameters: u32,
+    seen: u16,
+    before: Option<u64>,
+) -> Option<(Result<(u16, i128), TextCause>, Words<'t>)>
+    requires { parameters ≤ most_parameters }
+    ensures { result ≡ term_first fault parameters seen before words.now }
 {
     match fault {
-        Some(cause) => Err(cause),
-        None => term_in(&pair.0, &pair.1, parameters, seen, before),
+        None => read_first(words, parameters, seen, before),
+        Some(cause) => {
+            let (_, rest) = words.pair(b':')?;
+            Some((Err(cause), rest))
+        }
     }
 }
 
 /// The polynomial that words write by its terms, by ascending set; or the cause that is told behind the
 /// form of all.
 #[tactic(auto, using(crate::proofs::EntryTerms::read_terms))]
-fn terms_of(
+pub(crate) fn terms_of(
     alloc: Global,
     words: Words,
     parameters: u32,
-) -> Result<Result<MultiAffine, TextCause>, TextCause>
+) -> Result<Result<SharedPoly, TextCause>, TextCause>
     requires { parameters ≤ most_parameters }
     ensures { Says (λ read. read) result (terms_of parameters words.entry) }
 {
@@ -111,10 +178,10 @@ fn terms_of(
     let mut fault = None;
     let mut rest = words;
     while !rest.is_empty() {
-        let Some((pair, behind)) = rest.pair(b':') else {
+        let Some((read, behind)) = term_first(fault, &rest, parameters, seen, before) else {
             return Err(TextCause::Syntax);
         };
-        match next_term(fault, &pair, parameters, seen, before) {
+        match read {
             Ok(term) => {
                 terms.push(term)?;
                 seen |= term.0;
@@ -131,7 +198,10 @@ fn terms_of(
         return Err(TextCause::Syntax);
     }
     match fault {
-        None => Ok(Ok(MultiAffine::from_vec(terms))),
+        None => {
+            let poly = SharedPoly::new(alloc, MultiAffine::from_vec(terms))?;
+            Ok(Ok(poly))
+        }
         Some(cause) => Ok(Err(cause)),
     }
 }
@@ -145,21 +215,24 @@ fn is_free(marks: &[u32], mark: u32, s: u64) -> bool
 }
 
 /// The entry with that target and the terms that words write. A state with that mark is taken.
-fn entry_in(
+fn entry_in<'t>(
     alloc: Global,
+    known: &mut KnownTerms<'t>,
     target: &Decimal,
-    words: Words,
+    words: Words<'t>,
     marks: &[u32],
     mark: u32,
     parameters: u32,
 ) -> Result<Entry, TextCause>
     requires states { length marks.now ≤ most_states }
     requires parameters { parameters ≤ most_parameters }
+    requires known { AreKnown parameters known.old.texts.items }
     ensures value { Says (λ e. e) result
         (entry_in (length marks.now) parameters (has_mark mark marks.now) target.now words.entry) }
     ensures range { IfOk result (λ e. e.target < length marks.now) }
+    ensures known { AreKnown parameters known.new.texts.items }
 {
-    let poly = terms_of(alloc, words, parameters)?;
+    let poly = known.terms(alloc, words, parameters)?;
     let target = between(target, 0, marks.len() as u64)?;
     if !is_free(marks, mark, target) {
         return Err(TextCause::Syntax);
@@ -174,27 +247,31 @@ fn entry_in(
 }
 
 /// The entry that the words of its line tell.
-fn entry_by(
+fn entry_by<'t>(
     alloc: Global,
-    words: &Words,
+    known: &mut KnownTerms<'t>,
+    words: &Words<'t>,
     marks: &[u32],
     mark: u32,
     parameters: u32,
 ) -> Result<Entry, TextCause>
     requires states { length marks.now ≤ most_states }
     requires parameters { parameters ≤ most_parameters }
+    requires known { AreKnown parameters known.old.texts.items }
     ensures value { Says (λ e. e) result
         (entry_by (length marks.now) parameters (has_mark mark marks.now) words.now) }
     ensures range { IfOk result (λ e. e.target < length marks.now) }
+    ensures known { AreKnown parameters known.new.texts.items }
 {
     let (target, rest) = counted(words, b"to")?;
-    entry_in(alloc, &target, rest, marks, mark, parameters)
+    entry_in(alloc, known, &target, rest, marks, mark, parameters)
 }
 
 /// The line that is due, as an entry.
 #[tactic(auto, unfolding(line_text::specs::Reading::line_at))]
 fn entry_line<'t>(
     alloc: Global,
+    known: &mut KnownTerms<'t>,
     cursor: &Cursor<'t>,
     marks: &[u32],
     mark: u32,
@@ -202,12 +279,14 @@ fn entry_line<'t>(
 ) -> Result<(Entry, Cursor<'t>), TextError>
     requires states { length marks.now ≤ most_states }
     requires parameters { parameters ≤ most_parameters }
+    requires known { AreKnown parameters known.old.texts.items }
     ensures value { Gives (λ x. x) result
         (line_at (entry_by (length marks.now) parameters (has_mark mark marks.now)) cursor.now) }
     ensures range { IfOk result (λ x. x.0.target < length marks.now) }
+    ensures known { AreKnown parameters known.new.texts.items }
 {
     let (line, behind) = cursor.due()?;
-    match entry_by(alloc, &Words::of(line), marks, mark, parameters) {
+    match entry_by(alloc, known, &Words::of(line), marks, mark, parameters) {
         Ok(entry) => Ok((entry, behind)),
         Err(cause) => Err(cursor.fault(cause)),
     }
@@ -216,6 +295,7 @@ fn entry_line<'t>(
 /// So many entries, whose targets differ. Their marks are set, where no mark was so great.
 pub(crate) fn entries<'t>(
     alloc: Global,
+    known: &mut KnownTerms<'t>,
     cursor: Cursor<'t>,
     marks: &mut [u32],
     mark: u32,
@@ -224,18 +304,20 @@ pub(crate) fn entries<'t>(
 ) -> Result<(Vec<Entry>, Cursor<'t>), TextError>
     requires states { length marks.old ≤ most_states }
     requires parameters { parameters ≤ most_parameters }
+    requires known { AreKnown parameters known.old.texts.items }
     requires free { All (λ m. m < mark) marks.old }
     ensures value { Gives (λ x. (x.0.items, x.1)) result
         (entries_at (length marks.old) parameters [] count cursor.entry) }
     ensures size { length marks.new ≡ length marks.old }
     ensures marks { All (λ m. m ≤ mark) marks.new }
+    ensures known { AreKnown parameters known.new.texts.items }
 {
     let Ok(mut entries) = Vec::with_capacity(alloc, count as usize) else {
         return Err(cursor.fault(TextCause::Memory));
     };
     let mut rest = cursor;
     for _ in 0..count {
-        match entry_line(alloc, &rest, marks, mark, parameters) {
+        match entry_line(alloc, known, &rest, marks, mark, parameters) {
             Ok((entry, behind)) => {
                 marks[entry.target as usize] = mark;
                 match entries.push(entry) {

@@ -1,9 +1,9 @@
 // Lines of a head.
-ghost use Rattle.std.specs.Prelude.{◌≡◌, ◌≤◌, ◌<◌, ◌+◌, ◌^◌, ◌%◌, length, map, pos, ◌==◌, ◌<ℤ◌, unsigned_abs, drop, true, None, IfOk};
+ghost use Rattle.std.specs.Prelude.{◌≡◌, ◌≤◌, ◌<◌, ◌+◌, ◌^◌, ◌%◌, ◌∷◌, [], length, map, pos, codes, ◌==◌, ◌<ℤ◌, unsigned_abs, drop, true, None, Ok, IfOk, IfSome};
 ghost use Rattle.cert_text.specs.Lines.{version_of, kind_named, kind_of, name_of};
 ghost use Rattle.line_text.specs.Parts.{each, is_above};
 ghost use Rattle.cert_text.specs.Lines.{count_in, row_of, bound_in, bound_of, goals_in, flags, goal_of, parameters_of, names_in};
-ghost use Rattle.line_text.specs.Parts.{count_of};
+ghost use Rattle.line_text.specs.Parts.{count_of, numbers_of};
 ghost use Rattle.lift_frac.specs.Gcd.{gcd};
 ghost use Rattle.line_text.specs.Shown.{Says};
 ghost use Rattle.cert_text.specs.Shown.{comes_first};
@@ -125,9 +125,8 @@ pub(crate) fn counted<'t>(
     ensures { Says (λ x. x) result (count_of key.now words.now) }
 {
     let rest = words.keyed(key)?;
-    let (count, rest) = rest.first()?;
-    match Decimal::read(count) {
-        Some(count) => Ok((count, rest)),
+    match rest.number() {
+        Some(count) => Ok(count),
         None => Err(TextCause::Syntax),
     }
 }
@@ -163,6 +162,40 @@ fn count_in(number: &Decimal, choices: u32, transitions: u32) -> Result<u32, Tex
     }
 }
 
+/// The three numbers of few digits that a row's line tells behind its name; none where it tells others.
+fn short_numbers(words: &Words) -> Option<(u64, u64, u64)>
+    ensures { IfSome result (λ x. numbers_of (codes "row") words.now ≡ Ok (pos x.0 ∷ pos x.1 ∷ pos x.2 ∷ [])) }
+{
+    let Ok(rest) = words.keyed(b"row") else {
+        return None;
+    };
+    let (state, rest) = rest.short()?;
+    let (choice, rest) = rest.short()?;
+    let (count, rest) = rest.short()?;
+    if rest.is_empty() {
+        Some((state, choice, count))
+    } else {
+        None
+    }
+}
+
+/// How many entries the row of state s and choice a has, by numbers of few digits; none where its line
+/// doesn't tell it so.
+#[tactic(auto, using(crate::proofs::FirstNumbers::row_is))]
+fn short_row(words: &Words, s: u32, a: u32, choices: u32, transitions: u32) -> Option<u32>
+    ensures value { IfSome result (λ n. row_of s a choices transitions words.now ≡ Ok n) }
+    ensures some { IfSome result (λ _. 0 < choices) }
+{
+    let (state, choice, count) = short_numbers(words)?;
+    if state != u64::from(s) || choice != u64::from(a) {
+        return None;
+    }
+    if choices == 0 || count > u64::from(transitions) {
+        return None;
+    }
+    Some(count as u32)
+}
+
 /// How many entries the row of state s and choice a has, where so many choices and transitions are
 /// left.
 pub(crate) fn row_of(
@@ -176,6 +209,9 @@ pub(crate) fn row_of(
     ensures value { Says (λ n. n) result (row_of s a choices transitions words.now) }
     ensures some { IfOk result (λ _. 0 < choices) }
 {
+    if let Some(count) = short_row(words, s, a, choices, transitions) {
+        return Ok(count);
+    }
     let numbers = numbers_of(alloc, words, b"row")?;
     match numbers.as_slice() {
         [state, choice, count] => {

@@ -8,6 +8,7 @@ mod head;
 mod head_lines;
 mod head_parts;
 mod head_reader;
+mod known;
 mod laws;
 mod marks;
 mod model;

@@ -117,7 +117,7 @@ pub(crate) fn marks_of(
 pub(crate) fn choice_counts(alloc: Global, model: &Model) -> Result<Vec<u32>, AllocError>
     ensures { IfOk result (λ v. v.items ≡ map length model.now.states) }
 {
-    let mut counts = Vec::new(alloc);
+    let mut counts = Vec::with_capacity(alloc, model.states() as usize)?;
     for s in 0..model.states() {
         counts.push(model.choices(s))?;
     }
@@ -128,7 +128,7 @@ pub(crate) fn choice_counts(alloc: Global, model: &Model) -> Result<Vec<u32>, Al
 pub(crate) fn rank_ends(alloc: Global, model: &Model, limit: u32) -> Result<Vec<u32>, AllocError>
     ensures { IfOk result (λ v. v.items ≡ map (λ _. limit) model.now.states) }
 {
-    let mut ends = Vec::new(alloc);
+    let mut ends = Vec::with_capacity(alloc, model.states() as usize)?;
     for _ in 0..model.states() {
         ends.push(limit)?;
     }

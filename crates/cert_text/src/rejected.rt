@@ -2,7 +2,7 @@
 ghost use Rattle.std.specs.Prelude.{◌≡◌, ◌≤◌, IfOk};
 ghost use Rattle.lift_cert.specs.RejectMiss.{most_height};
 ghost use Rattle.corner_lift.specs.Certificate.{most_rate};
-ghost use Rattle.cert_text.specs.Lines.{named, reject_of};
+ghost use Rattle.cert_text.specs.Lines.{named, rejected, reject_of};
 ghost use Rattle.line_text.specs.Shown.{Says};
 ghost use Rattle.cert_text.specs.Leaf.{rejected_of};
 
@@ -33,6 +33,29 @@ fn named<'t>(words: &Words<'t>, key: &[u8]) -> Result<(&'t [u8], Words<'t>), Tex
     rest.first()
 }
 
+/// What these numbers tell of a rejecting leaf, where e and k are in their ranges.
+fn told<'t>(
+    e: Decimal,
+    k: Decimal,
+    m: Decimal<'t>,
+    y: Decimal<'t>,
+    z: Decimal<'t>,
+) -> Result<Rejected<'t>, TextCause>
+    ensures value { Says rejected_of result (rejected e.entry k.entry m.entry (y.entry, z.entry)) }
+    ensures e { IfOk result (λ r. r.e ≤ most_rate) }
+    ensures k { IfOk result (λ r. r.k ≤ most_height) }
+{
+    let e = between(&e, 0, MOST_RATE + 1)?;
+    let k = between(&k, 1, MOST_HEIGHT + 1)?;
+    Ok(Rejected {
+        e: e as u32,
+        k: k as u32,
+        m,
+        y,
+        z,
+    })
+}
+
 /// What the first line of a rejecting leaf tells.
 pub(crate) fn reject_of<'t>(words: &Words<'t>) -> Result<Rejected<'t>, TextCause>
     ensures value { Says rejected_of result (reject_of words.now) }
@@ -59,13 +82,5 @@ pub(crate) fn reject_of<'t>(words: &Words<'t>) -> Result<Rejected<'t>, TextCause
     if !rest.is_empty() {
         return Err(TextCause::Syntax);
     }
-    let e = between(&e, 0, MOST_RATE + 1)?;
-    let k = between(&k, 1, MOST_HEIGHT + 1)?;
-    Ok(Rejected {
-        e: e as u32,
-        k: k as u32,
-        m,
-        y,
-        z,
-    })
+    told(e, k, m, y, z)
 }

@@ -9,10 +9,12 @@ ghost use Rattle.line_text.specs.Shown.{Gives};
 ghost use Rattle.lift_model.specs.Valid.{most_parameters, most_states, most_choices, most_transitions};
 ghost use Rattle.cert_text.specs.Lines.{row_of};
 ghost use Rattle.cert_text.specs.Head.{row_at, is_row_of, further_at, behind_first, state_at, states_at};
+ghost use Rattle.cert_text.specs.Recent.{AreKnown};
 ghost use Rattle.cert_text.specs.Rows.{row_due, row_mark, Leaves};
 
 use crate::entry_line::entries;
 use crate::head_lines::row_of;
+use crate::known::KnownTerms;
 use lift_model::{Entry, Kind, Row};
 use line_text::{Cursor, Decimal, TextCause, TextError, Words, is_number};
 use std::alloc::{AllocError, Global};
@@ -69,6 +71,7 @@ fn row_mark(choices: u32) -> u32
 #[tactic(auto, unfolding(crate::specs::Head::row_at), using(crate::proofs::RowLoops::marks_below))]
 fn row<'t>(
     alloc: Global,
+    known: &mut KnownTerms<'t>,
     cursor: &Cursor<'t>,
     marks: &mut [u32],
     parameters: u32,
@@ -78,18 +81,20 @@ fn row<'t>(
 ) -> Result<(Row, Cursor<'t>), TextError>
     requires states { length marks.old ≤ most_states }
     requires parameters { parameters ≤ most_parameters }
+    requires known { AreKnown parameters known.old.texts.items }
     requires choices { left.choices ≤ most_choices }
     requires free { All (λ m. m < row_mark left.choices) marks.old }
     ensures value { Gives (λ x. x) result
         (row_at (length marks.old) parameters left.choices left.transitions s a cursor.now) }
     ensures size { length marks.new ≡ length marks.old }
+    ensures known { AreKnown parameters known.new.texts.items }
     ensures some { IfOk result (λ _. 0 < left.choices) }
     ensures marks { IfOk result (λ _. All (λ m. m < row_mark (left.choices - 1)) marks.new) }
 {
     match row_line(alloc, cursor, s, a, left) {
         Ok((count, rest)) => {
             let mark = row_mark(left.choices);
-            match entries(alloc, rest, marks, mark, parameters, count) {
+            match entries(alloc, known, rest, marks, mark, parameters, count) {
                 Ok((entries, behind)) => Ok((Row::new(entries), behind)),
                 Err(fault) => Err(fault),
             }
@@ -151,6 +156,7 @@ fn behind_row(left: Left, row: &[Entry]) -> Left
 /// The rows of state s behind its first, and what they leave.
 fn further<'t>(
     alloc: Global,
+    known: &mut KnownTerms<'t>,
     cursor: Cursor<'t>,
     marks: &mut [u32],
     parameters: u32,
@@ -159,6 +165,7 @@ fn further<'t>(
 ) -> Result<(Vec<Row>, Left, Cursor<'t>), TextError>
     requires states { length marks.old ≤ most_states }
     requires parameters { parameters ≤ most_parameters }
+    requires known { AreKnown parameters known.old.texts.items }
     requires choices { left.choices ≤ most_choices }
     requires transitions { left.transitions ≤ most_transitions }
     requires free { All (λ m. m < row_mark left.choices) marks.old }
@@ -166,6 +173,7 @@ fn further<'t>(
         (further_at (length marks.old) parameters left.choices left.transitions s 1 cursor.entry) }
     ensures left { IfOk result (λ x. Leaves left x.1 (length x.0.items) (sum_by length x.0.items)) }
     ensures size { length marks.new ≡ length marks.old }
+    ensures known { AreKnown parameters known.new.texts.items }
     ensures marks { IfOk result (λ x. All (λ m. m < row_mark x.1.choices) marks.new) }
 {
     let mut rows = Vec::new(alloc);
@@ -176,7 +184,7 @@ fn further<'t>(
         match row_due(&rest, s) {
             Err(fault) => return Err(fault),
             Ok(false) => return Ok((rows, now, rest)),
-            Ok(true) => match row(alloc, &rest, marks, parameters, s, a, now) {
+            Ok(true) => match row(alloc, known, &rest, marks, parameters, s, a, now) {
                 Err(fault) => return Err(fault),
                 Ok((row, behind)) => {
                     now = behind_row(now, row.entries());
@@ -195,6 +203,7 @@ fn further<'t>(
 #[tactic(auto, unfolding(crate::specs::Head::behind_first))]
 fn behind_first<'t>(
     alloc: Global,
+    known: &mut KnownTerms<'t>,
     cursor: Cursor<'t>,
     kind: Kind,
     marks: &mut [u32],
@@ -204,6 +213,7 @@ fn behind_first<'t>(
 ) -> Result<(Vec<Row>, Left, Cursor<'t>), TextError>
     requires states { length marks.old ≤ most_states }
     requires parameters { parameters ≤ most_parameters }
+    requires known { AreKnown parameters known.old.texts.items }
     requires choices { left.choices ≤ most_choices }
     requires transitions { left.transitions ≤ most_transitions }
     requires free { All (λ m. m < row_mark left.choices) marks.old }
@@ -211,11 +221,12 @@ fn behind_first<'t>(
         (behind_first kind (length marks.old) parameters left.choices left.transitions s cursor.entry) }
     ensures left { IfOk result (λ x. Leaves left x.1 (length x.0.items) (sum_by length x.0.items)) }
     ensures size { length marks.new ≡ length marks.old }
+    ensures known { AreKnown parameters known.new.texts.items }
     ensures marks { IfOk result (λ x. All (λ m. m < row_mark x.1.choices) marks.new) }
 {
     match kind {
         Kind::Dtmc => Ok((Vec::new(alloc), left, cursor)),
-        Kind::Mdp => further(alloc, cursor, marks, parameters, s, left),
+        Kind::Mdp => further(alloc, known, cursor, marks, parameters, s, left),
     }
 }
 
@@ -237,6 +248,7 @@ fn with_first(alloc: Global, first: Row, others: Vec<Row>) -> Result<Vec<Row>, A
 #[tactic(auto, unfolding(crate::specs::Head::state_at))]
 fn state<'t>(
     alloc: Global,
+    known: &mut KnownTerms<'t>,
     cursor: &Cursor<'t>,
     kind: Kind,
     marks: &mut [u32],
@@ -246,6 +258,7 @@ fn state<'t>(
 ) -> Result<(Vec<Row>, Left, Cursor<'t>), TextError>
     requires states { length marks.old ≤ most_states }
     requires parameters { parameters ≤ most_parameters }
+    requires known { AreKnown parameters known.old.texts.items }
     requires choices { left.choices ≤ most_choices }
     requires transitions { left.transitions ≤ most_transitions }
     requires free { All (λ m. m < row_mark left.choices) marks.old }
@@ -253,13 +266,14 @@ fn state<'t>(
         (state_at kind (length marks.old) parameters left.choices left.transitions s cursor.now) }
     ensures left { IfOk result (λ x. Leaves left x.1 (length x.0.items) (sum_by length x.0.items)) }
     ensures size { length marks.new ≡ length marks.old }
+    ensures known { AreKnown parameters known.new.texts.items }
     ensures marks { IfOk result (λ x. All (λ m. m < row_mark x.1.choices) marks.new) }
 {
-    match row(alloc, cursor, marks, parameters, s, 0, left) {
+    match row(alloc, known, cursor, marks, parameters, s, 0, left) {
         Err(fault) => Err(fault),
         Ok((first, rest)) => {
             let now = behind_row(left, first.entries());
-            match behind_first(alloc, rest, kind, marks, parameters, s, now) {
+            match behind_first(alloc, known, rest, kind, marks, parameters, s, now) {
                 Err(fault) => Err(fault),
                 Ok((others, after, behind)) => match with_first(alloc, first, others) {
                     Ok(rows) => Ok((rows, after, behind)),
@@ -281,6 +295,7 @@ fn keep_state(all: &mut Vec<Vec<Row>>, rows: Vec<Row>) -> Result<(), AllocError>
 /// The rows of as many states as there are marks.
 fn all_states<'t>(
     alloc: Global,
+    known: &mut KnownTerms<'t>,
     cursor: Cursor<'t>,
     kind: Kind,
     marks: &mut [u32],
@@ -289,6 +304,7 @@ fn all_states<'t>(
 ) -> Result<(Vec<Vec<Row>>, Cursor<'t>), TextError>
     requires states { length marks.old ≤ most_states }
     requires parameters { parameters ≤ most_parameters }
+    requires known { AreKnown parameters known.old.texts.items }
     requires choices { left.choices ≤ most_choices }
     requires transitions { left.transitions ≤ most_transitions }
     requires free { All (λ m. m < row_mark left.choices) marks.old }
@@ -299,7 +315,7 @@ fn all_states<'t>(
     let mut rest = cursor;
     let mut now = left;
     for s in 0..marks.len() as u32 {
-        match state(alloc, &rest, kind, marks, parameters, s, now) {
+        match state(alloc, known, &rest, kind, marks, parameters, s, now) {
             Err(fault) => return Err(fault),
             Ok((rows, after, behind)) => match keep_state(&mut all, rows) {
                 Ok(()) => {
@@ -332,7 +348,12 @@ pub(crate) fn states<'t>(
         transitions: MOST_TRANSITIONS,
     };
     match vec![in alloc; 0u32; states as usize] {
-        Ok(mut marks) => all_states(alloc, cursor, kind, &mut marks, parameters, left),
+        Ok(mut marks) => {
+            let mut known = KnownTerms::new(alloc);
+            all_states(
+                alloc, &mut known, cursor, kind, &mut marks, parameters, left,
+            )
+        }
         Err(_) => Err(cursor.fault(TextCause::Memory)),
     }
 }

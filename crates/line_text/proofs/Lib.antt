@@ -1,5 +1,6 @@
 mod Digits
 mod WordsLeft
+mod Pairs
 mod LongNumbers
 mod ShortNumbers
 mod Comparing

@@ -1,5 +1,5 @@
 -- Numbers of few digits, read at once with the end of their word.
-use Rattle.std.proofs.Common.{◌≡◌, ◌≢◌, ℕ, zero, suc, ◌+◌, ◌-◌, ◌*◌, ◌^◌, ◌<◌, ◌≤◌, Bool, true, false, cond, not, ◌&&◌, List, [], ◌∷◌, length, take, get_or, Option, Some, Ok, Err, refl, sym, ap, ap₂, ◌∙◌, arith, add-one, ◌⊎◌, ⊎_elim, inl, inr}
+use Rattle.std.proofs.Common.{◌≡◌, ℕ, zero, suc, ◌+◌, ◌-◌, ◌*◌, ◌^◌, ◌<◌, ◌≤◌, Bool, true, false, cond, not, List, [], ◌∷◌, length, take, get_or, Option, Some, Ok, Err, refl, sym, ap, ◌∙◌, arith, add-one, ◌⊎◌, ⊎_elim, inl, inr}
 use Rattle.std.specs.Prelude.{pos, ◌==◌}
 use Rattle.std.specs.List.{list_all, position_or_len}
 use Rattle.std.specs.Option.{option_map}
@@ -41,23 +41,13 @@ front_small ds i n e le is = omega (arith, is, value_short (take i ds) e (omega 
 
 -- ---- the first word
 
--- so many digits without a leading zero
-pub word_digits : (text : List ℕ) (len : ℕ) → 0 < len → len ≤ length text → list_all is_ascii_digit (take len text) ≡ true → (len ≡ 1) ⊎ (get_or text 0 0 ≢ 48) → are_digits (take len text) ≡ true
-word_digits text zero some le e lead = absurd (omega (arith, some))
-word_digits [] (suc n) some le e lead = absurd (omega (arith, le))
-word_digits (d ∷ ds) (suc zero) some le e lead = and_left (is_ascii_digit d) true e
-word_digits (d ∷ []) (suc (suc n)) some le e lead = absurd (omega (arith, le))
-word_digits (d ∷ c ∷ cs) (suc (suc n)) some le e lead =
-    ⊎_elim (λ (one : suc (suc n) ≡ 1). absurd (omega (arith, one)))
-    (λ (other : d ≢ 48). ap₂ ◌&&◌ (ap not (ne_eqb d 48 other)) e) lead
-
-no_space : (d : ℕ) → is_ascii_digit d ≡ true → (d == 32) ≡ false
+pub no_space : (d : ℕ) → is_ascii_digit d ≡ true → (d == 32) ≡ false
 no_space d e = ne_eqb d 32 (λ same. let r = digit_in d e in omega (arith, r, same))
 
-position_at : (p : ℕ → Bool) (d : ℕ) (ds : List ℕ) → p d ≡ true → position_or_len p (d ∷ ds) ≡ 0
+pub position_at : (p : ℕ → Bool) (d : ℕ) (ds : List ℕ) → p d ≡ true → position_or_len p (d ∷ ds) ≡ 0
 position_at p d ds e = ap (λ b. cond (not b) (1 + position_or_len p ds) 0) e
 
-position_past : (p : ℕ → Bool) (d : ℕ) (ds : List ℕ) → p d ≡ false → position_or_len p (d ∷ ds) ≡ 1 + position_or_len p ds
+pub position_past : (p : ℕ → Bool) (d : ℕ) (ds : List ℕ) → p d ≡ false → position_or_len p (d ∷ ds) ≡ 1 + position_or_len p ds
 position_past p d ds e = ap (λ b. cond (not b) (1 + position_or_len p ds) 0) e
 
 -- so many digits, behind which a space stands, or nothing

@@ -1,6 +1,6 @@
 -- How what the code holds is seen, and what its functions answer.
 use Prim.Native.Char.{code}
-use Rattle.std.specs.Prelude.{◌≡◌, ◌≢◌, ◌==◌, ◌≤◌, ◌^◌, ℕ, ℤ, pos, neg_ℤ, Bool, true, false, List, [], ◌∷◌, ◌++◌, length, Option, None, Result, Ok, Err}
+use Rattle.std.specs.Prelude.{◌≡◌, ◌≢◌, ◌==◌, ◌≤◌, ◌^◌, ℕ, ℤ, pos, neg_ℤ, Bool, true, false, List, [], ◌∷◌, ◌++◌, length, Option, Some, None, Result, Ok, Err}
 use Rattle.std.specs.Option.{option_map}
 use Rattle.std.specs.Str.Parse.{digits_value}
 use Rattle.line_text.specs.declared.error.TextCause.{TextCause}
@@ -21,9 +21,9 @@ Says view (Ok x) read = read ≡ Ok (view x)
 Says view (Err e) read = e ≢ Memory → read ≡ Err e
 
 -- the words of a text, or none behind its end
-abbrev pub words_left : List ℕ → Bool → Words
-words_left text true = []
-words_left text false = words text
+abbrev pub words_left : Option (List ℕ) → Words
+words_left None = []
+words_left (Some text) = words text
 
 -- no word is left
 abbrev pub is_none_left : Words → Bool

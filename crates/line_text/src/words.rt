@@ -1,5 +1,5 @@
 // The words of a line.
-ghost use Rattle.std.specs.Prelude.{◌≡◌, ◌≤◌, [], Some, pos, true, length, take, IsTrue, IfSome, OnErr};
+ghost use Rattle.std.specs.Prelude.{◌≡◌, ◌≢◌, ◌≤◌, ◌<◌, [], Some, pos, true, false, length, take, slice_index_or, IsTrue, IfSome, IfNone, OnErr};
 ghost use Rattle.std.specs.List.{list_all, position_or_len};
 ghost use Rattle.std.specs.Char.{is_ascii_digit};
 ghost use Rattle.line_text.specs.Words.{are_digits, number_of, pair_of, words};
@@ -10,20 +10,20 @@ use crate::decimal::{Decimal, front_digits};
 use crate::error::TextCause;
 use lift_bytes::len_before;
 
-/// The words of a line that are left.
+/// The words of a line that are left: those of a text, or none.
 #[derive(Drop)]
 pub struct Words<'t> {
-    text: &'t [u8],
-    ended: bool,
+    text: Option<&'t [u8]>,
 }
 
 impl<'t> std::marker::Model for Words<'t> {
     ghost use Rattle.line_text.specs.Parts.{Words as WordList};
+    ghost use Rattle.std.specs.Option.{option_map};
     ghost use Rattle.line_text.specs.Shown.{words_left};
 
     ghost Value = { WordList };
 
-    ghost view = { λ w. words_left w.text.now w.ended };
+    ghost view = { λ w. words_left (option_map (λ text. text.now) w.text) };
 }
 
 /// The first word of a text, which has so many bytes, and those behind it.
@@ -35,17 +35,19 @@ fn cut(text: &[u8], len: usize) -> (&[u8], Words)
 {
     let word = &text[..len];
     if len == text.len() {
-        let none = Words {
-            text: word,
-            ended: true,
-        };
-        return (word, none);
+        return (word, Words { text: None });
     }
-    let rest = Words {
-        text: &text[len + 1..],
-        ended: false,
-    };
-    (word, rest)
+    (word, Words::of(&text[len + 1..]))
+}
+
+/// Whether so many digits, at the front of a text, are a number's: one, or several of which the first
+/// isn't 0.
+fn is_front_number(text: &[u8], len: usize) -> bool
+    requires within { len ≤ length text.now }
+    requires digits { list_all is_ascii_digit (take len text.now) ≡ true }
+    ensures { IsTrue result → are_digits (take len text.now) ≡ true }
+{
+    len != 0 && (len == 1 || text[0] != b'0')
 }
 
 /// Whether so many digits, at the front of a text, are its first word, and that without leading zeros.
@@ -55,10 +57,27 @@ fn is_word(text: &[u8], len: usize) -> bool
     ensures digits { IsTrue result → are_digits (take len text.now) ≡ true }
     ensures len { IsTrue result → len ≡ position_or_len is_space text.now }
 {
-    if len == 0 || (len > 1 && text[0] == b'0') {
+    if !is_front_number(text, len) {
         return false;
     }
     len == text.len() || text[len] == b' '
+}
+
+/// Whether so many digits, at the front of a text, are without leading zeros, and that byte ends them,
+/// which is no digit and no space.
+fn is_before(text: &[u8], len: usize, byte: u8) -> bool
+    requires within { len ≤ length text.now }
+    requires digits { list_all is_ascii_digit (take len text.now) ≡ true }
+    ensures digits { IsTrue result → are_digits (take len text.now) ≡ true }
+    ensures within { IsTrue result → len < length text.now }
+    ensures there { IsTrue result → slice_index_or text.now len 0 ≡ byte }
+    ensures space { IsTrue result → byte ≢ 32 }
+    ensures byte { IsTrue result → is_ascii_digit byte ≡ false }
+{
+    if !is_front_number(text, len) {
+        return false;
+    }
+    len < text.len() && text[len] == byte && byte != b' ' && !byte.is_ascii_digit()
 }
 
 /// The two numbers that a word writes with this byte between them.
@@ -79,10 +98,16 @@ impl<'t> Words<'t> {
     pub fn of(line: &'t [u8]) -> Self
         ensures { result ≡ words line.now }
     {
-        Words {
-            text: line,
-            ended: false,
-        }
+        Words { text: Some(line) }
+    }
+
+    /// The text of the words that are left; none where no word is left.
+    #[inline]
+    pub fn text(&self) -> Option<&'t [u8]>
+        ensures some { IfSome result (λ text. self.now ≡ words text.now) }
+        ensures none { IfNone result (self.now ≡ []) }
+    {
+        self.text
     }
 
     /// The first word, and those behind it; Syntax where there is none.
@@ -90,10 +115,10 @@ impl<'t> Words<'t> {
         ensures value { Says (λ x. (x.0.now, x.1)) result (first self.now) }
         ensures none { OnErr result (self.now ≡ []) }
     {
-        if self.ended {
+        let Some(text) = self.text() else {
             return Err(TextCause::Syntax);
-        }
-        Ok(cut(self.text, len_before(self.text, b' ')))
+        };
+        Ok(cut(text, len_before(text, b' ')))
     }
 
     /// The number that the first word writes, and those behind it; none where there is no word, or it
@@ -101,15 +126,13 @@ impl<'t> Words<'t> {
     pub fn number(&self) -> Option<(Decimal<'t>, Words<'t>)>
         ensures { result ≡ first_of number_of self.now }
     {
-        if self.ended {
-            return None;
-        }
-        let (short, len) = front_digits(self.text);
-        if is_word(self.text, len) {
-            let (word, rest) = cut(self.text, len);
+        let text = self.text()?;
+        let (short, len) = front_digits(text);
+        if is_word(text, len) {
+            let (word, rest) = cut(text, len);
             return Some((Decimal::of_few(word, short), rest));
         }
-        let (word, rest) = cut(self.text, len_before(self.text, b' '));
+        let (word, rest) = cut(text, len_before(text, b' '));
         let number = Decimal::read(word)?;
         Some((number, rest))
     }
@@ -119,15 +142,49 @@ impl<'t> Words<'t> {
     pub fn short(&self) -> Option<(u64, Words<'t>)>
         ensures { IfSome result (λ x. first_of number_of self.now ≡ Some (pos x.0, x.1)) }
     {
-        if self.ended {
+        let text = self.text()?;
+        let (short, len) = front_digits(text);
+        if !is_word(text, len) {
             return None;
         }
-        let (short, len) = front_digits(self.text);
-        if !is_word(self.text, len) {
-            return None;
-        }
-        let (_, rest) = cut(self.text, len);
+        let (_, rest) = cut(text, len);
         Some((short, rest))
+    }
+
+    /// The number of few digits that the first word writes, and those behind it; none where it writes no
+    /// such number.
+    #[tactic(auto, using(crate::proofs::Pairs::minus_front))]
+    fn signed(&self) -> Option<(i128, Words<'t>)>
+        ensures { IfSome result (λ x. first_of number_of self.now ≡ Some (x.0, x.1)) }
+    {
+        let text = self.text()?;
+        match text {
+            [b'-', digits @ ..] => {
+                let (n, rest) = Words::of(digits).short()?;
+                if n == 0 {
+                    return None;
+                }
+                Some((-i128::from(n), rest))
+            }
+            _ => {
+                let (n, rest) = self.short()?;
+                Some((i128::from(n), rest))
+            }
+        }
+    }
+
+    /// The two numbers of few digits that the first word writes with this byte between them, the first one
+    /// without a sign, and those behind it; none where it writes no such numbers.
+    pub fn short_pair(&self, byte: u8) -> Option<(u64, i128, Words<'t>)>
+        ensures { IfSome result (λ x. first_of (pair_of byte) self.now ≡ Some ((pos x.0, x.1), x.2)) }
+    {
+        let text = self.text()?;
+        let (first, len) = front_digits(text);
+        if !is_before(text, len, byte) {
+            return None;
+        }
+        let (second, rest) = Words::of(&text[len + 1..]).signed()?;
+        Some((first, second, rest))
     }
 
     /// The two numbers that the first word writes with this byte between them, and those behind it;
@@ -135,18 +192,19 @@ impl<'t> Words<'t> {
     pub fn pair(&self, byte: u8) -> Option<((Decimal<'t>, Decimal<'t>), Words<'t>)>
         ensures { result ≡ first_of (pair_of byte) self.now }
     {
-        if self.ended {
-            return None;
-        }
-        let (word, rest) = cut(self.text, len_before(self.text, b' '));
+        let text = self.text()?;
+        let (word, rest) = cut(text, len_before(text, b' '));
         let pair = pair_of(word, byte)?;
         Some((pair, rest))
     }
 
     /// How often that byte stands in the words.
     pub fn count_of(&self, byte: u8) -> usize {
+        let Some(text) = self.text() else {
+            return 0;
+        };
         let mut count = 0;
-        for here in self.text {
+        for here in text {
             if *here == byte {
                 count += 1;
             }
@@ -158,7 +216,7 @@ impl<'t> Words<'t> {
     pub fn is_empty(&self) -> bool
         ensures { result ≡ is_none_left self.now }
     {
-        self.ended
+        self.text.is_none()
     }
 
     /// What stands behind a word that has to stand first.

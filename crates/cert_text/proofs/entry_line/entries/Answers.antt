@@ -25,6 +25,7 @@ loop-preserved c =
     record {
       size = length-set c.loop.marks c.in-Ok-entry_line.entry.target c.args.mark ∙ c.loop.invariant.size;
       low = All-set (λ m. m ≤ c.args.mark) c.loop.marks c.in-Ok-entry_line.entry.target c.args.mark (omega arith) c.loop.invariant.low;
+      known = c.in-Ok-entry_line.ensures.known;
       marked = subst (λ es. AreMarked c.args.mark (set c.loop.marks c.in-Ok-entry_line.entry.target c.args.mark) (targets_back es)) (sym items) (subst (AreMarked c.args.mark (set c.loop.marks c.in-Ok-entry_line.entry.target c.args.mark)) (sym (targets_more c.loop.entries.items c.in-Ok-entry_line.entry)) (marked_more c.args.mark c.loop.marks before c.in-Ok-entry_line.entry.target c.in-Ok-entry_line.ensures.range c.loop.invariant.marked));
       same = subst (λ es. with_front es (entries_at (length c.args.marks.now) c.args.parameters (targets_back es) (c.args.count - (c.loop.counter + 1)) c.in-Ok-entry_line.behind) ≡ entries_at (length c.args.marks.now) c.args.parameters [] c.args.count c.args.cursor) (sym items) (ap (λ b. with_front (c.loop.entries.items ++ c.in-Ok-entry_line.entry ∷ []) (entries_at (length c.args.marks.now) c.args.parameters b (c.args.count - (c.loop.counter + 1)) c.in-Ok-entry_line.behind)) (targets_more c.loop.entries.items c.in-Ok-entry_line.entry) ∙ entries_go (length c.args.marks.now) c.args.parameters before c.loop.entries.items c.args.count c.loop.counter c.loop.rest c.in-Ok-entry_line.behind c.in-Ok-entry_line.entry _ c.loop-test.true (line ∙ c.in-Ok-entry_line.ensures.value) c.loop.invariant.same);
     }

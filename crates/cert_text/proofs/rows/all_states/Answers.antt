@@ -17,6 +17,7 @@ loop-s-preserved c =
       choices = omega (arith, l.choices, c.loop-s.invariant.choices);
       transitions = omega (arith, l.transitions, c.loop-s.invariant.transitions);
       free = c.in-Ok.ensures.marks;
+      known = c.in-Ok.ensures.known;
       same = rw c.in-Ok-keep_state.ensures (state_goes c.args.kind (length c.args.marks.now) c.args.parameters (length c.args.marks.now - c.loop-s.s) c.loop-s.now.choices c.loop-s.now.transitions c.loop-s.s (map (λ v. v.items) c.loop-s.all.items) c.loop-s.rest c.in-Ok.behind c.in-Ok.rows.items (length c.args.marks.now - (c.loop-s.s + 1)) c.in-Ok.after.choices c.in-Ok.after.transitions _ (omega arith) (ap (λ n. state_at c.args.kind n c.args.parameters c.loop-s.now.choices c.loop-s.now.transitions c.loop-s.s c.loop-s.rest) (sym c.loop-s.invariant.size) ∙ c.in-Ok.ensures.value) l.choices l.transitions c.loop-s.invariant.same);
     }
 

@@ -26,6 +26,7 @@ loop-fault-preserved c =
       size = omega arith;
       few = omega (arith, c.behind_row-now.ensures.choices, some, c.loop-fault.invariant.few);
       free = rw c.behind_row-now.ensures.choices c.in-Ok.ensures.marks;
+      known = c.in-Ok.ensures.known;
       left = leaves_more c.args.left c.loop-fault.now c.behind_row-now.result c.loop-fault.rows.items c.keep_row.new.rows.items c.in-Ok.row c.loop-fault.invariant.left c.behind_row-now.ensures.choices (c.behind_row-now.ensures.transitions ∙ ap (λ r. c.loop-fault.now.transitions - length r) c.entries.ensures) c.in-Ok-keep_row.ensures;
       same = rw (c.in-Ok-keep_row.ensures, c.behind_row-now.ensures.choices, c.behind_row-now.ensures.transitions, c.entries.ensures) (one_row (length c.args.marks.now) c.args.parameters c.loop-fault.now.choices c.loop-fault.now.transitions c.args.s c.loop-fault.a c.loop-fault.rows.items c.loop-fault.rest c.in-Ok.behind c.in-Ok.row _ some (c.in-Ok-true.ensures ∙ ap (λ b. Ok b) c.in-Ok-true.field-0-test) (ap (λ n. row_at n c.args.parameters c.loop-fault.now.choices c.loop-fault.now.transitions c.args.s c.loop-fault.a c.loop-fault.rest) (sym c.loop-fault.invariant.size) ∙ c.in-Ok.ensures.value) c.loop-fault.invariant.same);
     }
