@@ -13,8 +13,8 @@ use std::num::{
     f64_from_bits_with_nan, f64_to_bits_with_nan, nearest_i64_to_f64, saturating_f64_to_u32,
 };
 
-/// What stands for 1 where a step's mean is kept.
-const MEAN_ONE: f64 = 2147483648.0;
+/// What stands for 1 where a step's mean is kept, from -1 on.
+const MEAN_ONE: f64 = 1073741824.0;
 
 /// How often the choices and corners that count are found anew.
 const ROUNDS: u32 = 24;
@@ -42,7 +42,7 @@ impl Part<'_> {
         let mean = i64::from(means.get(position as usize).copied().unwrap_or(0));
         Step {
             leak: f64_from_bits_with_nan(bits),
-            mean: nearest_i64_to_f64(mean) / MEAN_ONE,
+            mean: nearest_i64_to_f64(mean) / MEAN_ONE - 1.0,
             to: targets.get(position as usize).copied().unwrap_or(NOWHERE),
         }
     }
@@ -61,7 +61,7 @@ impl Part<'_> {
         ensures { IsSameBeyond self.now.case.now self.now.links.now self.now.low self.now.high lane.old lane.new }
     {
         if let Some(mean) = means.get_mut(position as usize) {
-            *mean = saturating_f64_to_u32(step.mean * MEAN_ONE + 0.5);
+            *mean = saturating_f64_to_u32((step.mean + 1.0) * MEAN_ONE + 0.5);
         }
         if let Some(to) = targets.get_mut(position as usize) {
             *to = step.to;
@@ -127,7 +127,7 @@ impl Part<'_> {
         let step = self.follow(lane, means, targets, at, position);
         let outlook = outlook.leave(weight * step.leak, step.mean);
         if step.to == position {
-            return outlook;
+            return outlook.come_back(weight * (1.0 - step.leak));
         }
         let worth = self.worth_at(lane, step.to);
         outlook.come(weight * (1.0 - step.leak), worth, step.to)
@@ -232,7 +232,7 @@ impl Part<'_> {
         let mut marks: u64 = 1;
         for position in self.low..self.high {
             let counted = self.counted_at(lane, means, targets, position);
-            let Some(step) = counted.outlook.step() else {
+            let Some(step) = counted.outlook.step(self.extra) else {
                 return Eliminated::Before(position);
             };
             self.write_step(lane, means, targets, position, step);

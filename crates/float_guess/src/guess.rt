@@ -6,14 +6,16 @@ ghost use Rattle.float_guess.specs.Part.{CanGuess, KeepsOthers, IsSameBeyond, Ar
 
 use crate::floats::ONE;
 use crate::part::{Extreme, Part};
+use crate::shares::SHARES_IN_A_UNIT;
 use corner_lift::{Case, one_at, rows_at_corners};
 use lift_model::Links;
+use std::num::nearest_i64_to_f64;
 
 /// By a unit over this a guess differs from what the floats say, so that errors of rounding don't matter.
 const MARGINS_IN_A_UNIT: i64 = 64;
 
-/// It differs by this at least, since an elimination keeps some numbers to 31 bits.
-const LEAST_MARGIN: i64 = 1 << 31;
+/// It differs by this at least, since an elimination keeps some numbers to 30 bits.
+const LEAST_MARGIN: i64 = 1 << 32;
 
 /// On which side of what the floats say a guess lies.
 #[derive(Clone, Copy)]
@@ -27,10 +29,13 @@ pub enum Rounding {
 /// How a guess is made.
 #[derive(Clone, Copy)]
 pub enum Way {
-    /// By elimination.
-    Elimination,
+    /// By elimination, and beyond what it says on the side of the rounding's opposite, by so many
+    /// `SHARES_IN_A_UNIT`th parts of a unit for each expected step.
+    Elimination(u32),
     /// By so many sweeps at most.
     Sweeps(u32),
+    /// Not at all: they are 0, rounded.
+    Nothing,
 }
 
 impl Rounding {
@@ -42,6 +47,21 @@ impl Rounding {
             Rounding::Up => (number.saturating_add(margin), 1),
         };
         number.checked_div(unit).unwrap_or(0).saturating_add(more)
+    }
+}
+
+impl Way {
+    /// What each expected step brings besides, where `top` stands for 1: what rounding makes of it.
+    fn extra(self, rounding: Rounding, top: i64) -> f64 {
+        let share = match self {
+            Way::Elimination(share) => nearest_i64_to_f64(i64::from(share)) / SHARES_IN_A_UNIT,
+            Way::Sweeps(_) | Way::Nothing => 0.0,
+        };
+        let extra = share / nearest_i64_to_f64(top);
+        match rounding {
+            Rounding::Down => extra,
+            Rounding::Up => -extra,
+        }
     }
 }
 
@@ -65,8 +85,12 @@ impl Part<'_> {
         ensures { IsSameBeyond self.now.case.now self.now.links.now self.now.low self.now.high lane.old lane.new }
     {
         match way {
-            Way::Elimination => self.eliminate(lane, means, targets),
+            Way::Elimination(_) => self.eliminate(lane, means, targets),
             Way::Sweeps(most) => self.approach(lane, means, most),
+            Way::Nothing => {
+                self.scale(lane, 0);
+                true
+            }
         }
     }
 
@@ -128,6 +152,7 @@ pub fn guess_part(
         weights: &*weights,
         extreme,
         top,
+        extra: way.extra(rounding, top),
         low,
         high,
     };

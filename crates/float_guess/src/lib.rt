@@ -7,9 +7,11 @@ mod floats;
 mod guess;
 mod notes;
 mod part;
+mod shares;
 mod step;
 mod sweep;
 
 pub use guess::{Rounding, Way, guess_part};
 pub use notes::low_word_of;
 pub use part::Extreme;
+pub use shares::Shares;

@@ -28,6 +28,8 @@ pub(crate) struct Part<'a> {
     pub(crate) weights: &'a [i128],
     pub(crate) extreme: Extreme,
     pub(crate) top: i64,
+    // what each expected step brings besides
+    pub(crate) extra: f64,
     pub(crate) low: u32,
     pub(crate) high: u32,
 }

@@ -37,6 +37,8 @@ pub(crate) struct Outlook {
     // the weight that leaves the part, and what it is worth there
     leaving: f64,
     gain: f64,
+    // the weight that comes back by earlier states
+    back: f64,
     // the weight that comes to later states, and what it is worth there now
     coming: f64,
     hope: f64,
@@ -50,6 +52,7 @@ impl Outlook {
     pub(crate) const NONE: Outlook = Outlook {
         leaving: 0.0,
         gain: 0.0,
+        back: 0.0,
         coming: 0.0,
         hope: 0.0,
         to: NOWHERE,
@@ -61,6 +64,13 @@ impl Outlook {
         let mut next = self;
         next.leaving += weight;
         next.gain += weight * worth;
+        next
+    }
+
+    /// With a weight that comes back to the row's own state by earlier ones.
+    pub(crate) fn come_back(self, weight: f64) -> Outlook {
+        let mut next = self;
+        next.back += weight;
         next
     }
 
@@ -87,8 +97,9 @@ impl Outlook {
         }
     }
 
-    /// The row's step, if it comes to one later state at most.
-    pub(crate) fn step(self) -> Option<Step> {
+    /// The row's step, if it comes to one later state at most. Each time that the row is taken brings so
+    /// much besides.
+    pub(crate) fn step(self, extra: f64) -> Option<Step> {
         if self.more {
             return None;
         }
@@ -101,7 +112,7 @@ impl Outlook {
             });
         }
         let mean = if self.leaving > 0.0 {
-            self.gain / self.leaving
+            (self.gain + extra * (all + self.back)) / self.leaving
         } else {
             0.0
         };

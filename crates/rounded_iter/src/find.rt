@@ -1,7 +1,7 @@
 //! The least bound: by an iteration from below, which where it takes long is begun again from a guess. A
 //! guess is tested at the end, so nothing is known of how it is made.
 
-ghost use Rattle.std.specs.Prelude.{◌≡◌, ◌≤ℤ◌, ◌^◌, ◌<◌, ℕ, pos, length, IsTrue, IfSome, IsSome};
+ghost use Rattle.std.specs.Prelude.{◌≡◌, ◌≤ℤ◌, ◌^◌, ◌<◌, ℕ, pos, length, IsTrue, IfSome, IsSome, Bool, true, false};
 ghost use Rattle.lift_grid.specs.Rectangle.{Spans};
 ghost use Rattle.corner_lift.specs.Case.{number};
 ghost use Rattle.rounded_iter.specs.Rising.{IsBelow, IsLeastBound};
@@ -9,7 +9,7 @@ ghost use Rattle.rounded_iter.specs.Watching.{CanStart, HasGoals, CanClimb, CanR
 
 use crate::table::{Ended, Table};
 use corner_lift::{corners_bound_weights, rows_at_corners};
-use float_guess::{Rounding, Way, guess_part, low_word_of};
+use float_guess::{Rounding, Shares, Way, guess_part, low_word_of};
 
 /// How many passes over a component are made before the first guess.
 const FIRST_PATIENCE: u32 = 32;
@@ -26,8 +26,47 @@ const RAISES_A_PASS: u32 = 32;
 /// How many passes raise a guess by elimination.
 const RAISES: u32 = 16384;
 
+/// How many guesses by elimination are tried, to find one from which it takes few passes, and so many.
+const TRIES: u32 = 12;
+
+const TRY_RAISES: u32 = 64;
+
 /// How many guesses are made.
 const GUESSES: u32 = 5;
+
+/// Of which components there is a guess.
+#[derive(Clone, Copy)]
+enum Guessed {
+    Nothing,
+    Some,
+    All,
+}
+
+/// What came of a guess that was raised.
+#[derive(Clone, Copy)]
+pub(crate) enum Raised {
+    /// The least bound.
+    Least,
+    /// The initial state's number is above the limit, in every bound.
+    Past,
+    /// Nothing certain: it may have been too high.
+    High,
+    /// It took too many passes.
+    Slow,
+    /// There was none, or none that is worth another try.
+    Nothing,
+}
+
+/// What came of some tries.
+#[derive(Clone, Copy)]
+enum Tried {
+    /// The least bound: whether the initial state's number is within the limit.
+    Found(bool),
+    /// The share to move a guess by.
+    Share(u32),
+    /// Nothing.
+    Nothing,
+}
 
 /// Notes the low bits of each number.
 fn note(lane: &[i64], noted: &mut [u32])
@@ -94,19 +133,23 @@ impl Table<'_> {
         true
     }
 
-    /// Raises a guess, and tells whether the least bound came of it for certain.
-    fn confirm(&self, lane: &mut [i64], flags: &mut [u32], noted: &mut [u32], passes: u32) -> bool
+    /// Raises a guess in so many passes at most, and tells what came of it.
+    fn confirm(&self, lane: &mut [i64], flags: &mut [u32], noted: &mut [u32], passes: u32) -> Raised
         ghost spans: { Spans }
         requires { CanConfirm self.now spans lane.old flags.old noted.old }
-        ensures least { IsTrue result → IsLeastBound self.now.extreme self.now.case spans lane.new }
+        ensures least { result ≡ Raised.Least → IsLeastBound self.now.extreme self.now.case spans lane.new }
+        ensures past { result ≡ Raised.Past → IsFound self.now spans lane.new false }
         ensures guess { IsGuess self.now.case lane.new }
     {
         rows_at_corners();
         corners_bound_weights();
         note(lane, noted);
-        match self.climb(lane, flags, Some(passes)) {
-            Ended::Settled => self.is_sure(lane, noted),
-            Ended::Past | Ended::Slow => false,
+        let ended = self.climb(lane, flags, Some(passes));
+        let sure = self.is_sure(lane, noted);
+        match ended {
+            Ended::Settled => if sure { Raised::Least } else { Raised::High },
+            Ended::Past => if sure { Raised::Past } else { Raised::High },
+            Ended::Slow => Raised::Slow,
         }
     }
 
@@ -173,43 +216,53 @@ impl Table<'_> {
         )
     }
 
-    /// Guesses the least bound, component by component from those below. False: it is not worth much.
-    fn guess(&self, lane: &mut [i64], flags: &mut [u32], noted: &mut [u32], way: Way) -> bool
+    /// Guesses the least bound, component by component from those below. From the first one on where the way
+    /// doesn't do, the guess is 0.
+    fn guess(&self, lane: &mut [i64], flags: &mut [u32], noted: &mut [u32], way: Way) -> Guessed
         requires { CanGuess self.now lane.old }
         ensures { IsGuess self.now.case lane.new }
     {
+        let mut way = way;
+        let mut some = false;
+        let mut all = true;
         let mut low = 0;
         for position in 0..self.case.model().states() {
             let next = position + 1;
             if self.is_end(next) {
                 if !self.guess_component(lane, flags, noted, low, next, way) {
-                    return false;
+                    if !some {
+                        return Guessed::Nothing;
+                    }
+                    way = Way::Nothing;
+                    all = false;
+                    self.guess_component(lane, flags, noted, low, next, way);
                 }
+                some = some || (all && low < position);
                 low = next;
             }
         }
-        true
+        match (some, all) {
+            (false, _) => Guessed::Nothing,
+            (true, false) => Guessed::Some,
+            (true, true) => Guessed::All,
+        }
     }
 
-    /// Makes a guess and raises it. None: no least bound came of it for certain.
-    fn rise_from_guess(
+    /// Raises a guess of all components. The limit is no matter, since states above it may not have been
+    /// raised where it is passed.
+    fn confirm_all(
         &self,
         lane: &mut [i64],
         flags: &mut [u32],
         noted: &mut [u32],
-        way: Way,
-        raises: u32,
-    ) -> Option<bool>
+        passes: u32,
+    ) -> Raised
         ghost spans: { Spans }
         requires { CanConfirm self.now spans lane.old flags.old noted.old }
-        ensures found { IfSome result (λ found. IsFound self.now spans lane.new found) }
+        ensures least { result ≡ Raised.Least → IsLeastBound self.now.extreme self.now.case spans lane.new }
+        ensures past { result ≡ Raised.Past → ⊥ }
         ensures guess { IsGuess self.now.case lane.new }
     {
-        rows_at_corners();
-        corners_bound_weights();
-        if !self.guess(lane, flags, noted, way) {
-            return None;
-        }
         let boundless = Table {
             case: self.case,
             links: self.links,
@@ -218,10 +271,114 @@ impl Table<'_> {
             top: self.top,
             limit: self.top,
         };
-        if !boundless.confirm(lane, flags, noted, raises) {
-            return None;
+        match boundless.confirm(lane, flags, noted, passes) {
+            Raised::Least => Raised::Least,
+            Raised::Slow => Raised::Slow,
+            Raised::Past | Raised::High | Raised::Nothing => Raised::High,
         }
-        Some(!self.is_past(lane))
+    }
+
+    /// Makes a guess and raises it, in so many passes at most if it is one of all components.
+    fn rise_from_guess(
+        &self,
+        lane: &mut [i64],
+        flags: &mut [u32],
+        noted: &mut [u32],
+        way: Way,
+        passes: u32,
+    ) -> Raised
+        ghost spans: { Spans }
+        requires { CanConfirm self.now spans lane.old flags.old noted.old }
+        ensures least { result ≡ Raised.Least → IsLeastBound self.now.extreme self.now.case spans lane.new }
+        ensures past { result ≡ Raised.Past → IsFound self.now spans lane.new false }
+        ensures guess { IsGuess self.now.case lane.new }
+    {
+        match self.guess(lane, flags, noted, way) {
+            Guessed::Nothing => Raised::Nothing,
+            Guessed::Some => match self.confirm(lane, flags, noted, RAISES) {
+                Raised::Least => Raised::Least,
+                Raised::Past => Raised::Past,
+                Raised::High | Raised::Slow | Raised::Nothing => Raised::Nothing,
+            },
+            Guessed::All => self.confirm_all(lane, flags, noted, passes),
+        }
+    }
+
+    /// The same, and tells whether the initial state's number is within the limit. None: no least bound came
+    /// of it for certain.
+    fn find_from_guess(
+        &self,
+        lane: &mut [i64],
+        flags: &mut [u32],
+        noted: &mut [u32],
+        way: Way,
+        passes: u32,
+    ) -> Option<bool>
+        ghost spans: { Spans }
+        requires { CanConfirm self.now spans lane.old flags.old noted.old }
+        ensures found { IfSome result (λ found. IsFound self.now spans lane.new found) }
+        ensures guess { IsGuess self.now.case lane.new }
+    {
+        rows_at_corners();
+        corners_bound_weights();
+        match self.rise_from_guess(lane, flags, noted, way, passes) {
+            Raised::Least => Some(!self.is_past(lane)),
+            Raised::Past => Some(false),
+            Raised::High | Raised::Slow | Raised::Nothing => None,
+        }
+    }
+
+    /// The share of a unit for each step by which a guess by elimination is best moved, as far as a few tries
+    /// tell; or what the least bound is found to be by one of them.
+    fn try_shares(&self, lane: &mut [i64], flags: &mut [u32], noted: &mut [u32]) -> Tried
+        ghost spans: { Spans }
+        requires { CanConfirm self.now spans lane.old flags.old noted.old }
+        ensures found { (found : Bool) → result ≡ Tried.Found found → IsFound self.now spans lane.new found }
+        ensures guess { IsGuess self.now.case lane.new }
+    {
+        rows_at_corners();
+        corners_bound_weights();
+        let mut shares = Shares::unknown();
+        let mut share = 0;
+        for _ in 0..TRIES {
+            let way = Way::Elimination(share);
+            match self.rise_from_guess(lane, flags, noted, way, TRY_RAISES) {
+                Raised::Least => return Tried::Found(!self.is_past(lane)),
+                Raised::Past => return Tried::Found(false),
+                Raised::High => shares = shares.below(share),
+                Raised::Slow => shares = shares.above(share),
+                Raised::Nothing => return Tried::Nothing,
+            }
+            match shares.next() {
+                Some(next) => share = next,
+                None => return Tried::Share(shares.safe()),
+            }
+        }
+        Tried::Share(shares.safe())
+    }
+
+    /// Raises guesses by elimination. None: no least bound came of them for certain.
+    fn rise_from_guesses(
+        &self,
+        lane: &mut [i64],
+        flags: &mut [u32],
+        noted: &mut [u32],
+    ) -> Option<bool>
+        ghost spans: { Spans }
+        requires { CanConfirm self.now spans lane.old flags.old noted.old }
+        ensures found { IfSome result (λ found. IsFound self.now spans lane.new found) }
+        ensures guess { IsGuess self.now.case lane.new }
+    {
+        let share = match self.try_shares(lane, flags, noted) {
+            Tried::Found(found) => return Some(found),
+            Tried::Share(share) => share,
+            Tried::Nothing => return None,
+        };
+        let way = Way::Elimination(share);
+        if let Some(found) = self.find_from_guess(lane, flags, noted, way, RAISES) {
+            return Some(found);
+        }
+        self.find_from_guess(lane, flags, noted, Way::Elimination(0), RAISES)
     }
 
     /// Finds the least bound where that takes long, and tells whether the initial state's number in it is
@@ -231,15 +388,14 @@ impl Table<'_> {
         requires { CanConfirm self.now spans lane.old flags.old noted.old }
         ensures { IsFound self.now spans lane.new result }
     {
-        let way = Way::Elimination;
-        if let Some(found) = self.rise_from_guess(lane, flags, noted, way, RAISES) {
+        if let Some(found) = self.rise_from_guesses(lane, flags, noted) {
             return found;
         }
         let mut patience = FIRST_PATIENCE;
         for _ in 0..GUESSES {
             let way = Way::Sweeps(patience.saturating_mul(SWEEPS_A_PASS));
             let raises = patience.saturating_mul(RAISES_A_PASS);
-            if let Some(found) = self.rise_from_guess(lane, flags, noted, way, raises) {
+            if let Some(found) = self.find_from_guess(lane, flags, noted, way, raises) {
                 return found;
             }
             patience = patience.saturating_mul(PATIENCE_STEP);

@@ -1,0 +1,9 @@
+use Rattle.rounded_iter.specs.Watching.{IsGuess}
+use Rattle.rounded_iter.proofs.table.Table.try_shares.Given as goal
+
+abbrev pub ghost-rise_from_guess : goal.ghost-rise_from_guess
+ghost-rise_from_guess g a = g.spans
+
+-- the vector may be guessed anew
+abbrev pub invariant-loop : goal.invariant-loop
+invariant-loop g l = IsGuess l.self.case l.lane
