@@ -69,6 +69,29 @@ keeps_same k l low high x numbers = record { numbers = numbers; others = λ s e.
 pub keeps_both : (k : CaseData) (l : LinksData) (low high : ℕ) (x y z : List ℤ) → KeepsOthers k l low high x y → KeepsOthers k l low high y z → KeepsOthers k l low high x z
 keeps_both k l low high x y z f g = record { numbers = g.numbers; others = λ s e. g.others s e ∙ f.others s e }
 
+-- where only the number of the state at a position changed, and not if it is a goal state
+pub keeps_at : (k : CaseData) (l : LinksData) (at s : ℕ) (x y : List ℤ) → AreNumbers k y → position l s ≡ at → s < length k.model.states → (is_goal k.model s ≡ true → number y s ≡ number x s) → ((t : ℕ) → t ≢ s → number y t ≡ number x t) → KeepsOthers k l at (at + 1) x y
+keeps_at k l at s x y numbers is state goal other = record {
+  numbers = numbers;
+  others = λ t closed. ⊎_elim
+      (λ (e : t ≡ s). either_way (is_goal k.model s)
+      (λ (g : is_goal k.model s ≡ true). subst (λ i. number y i ≡ number x i) (sym e) (goal g))
+      (λ (g : is_goal k.model s ≡ false). absurd (true≢false (sym (open_of k l at (at + 1) at s (omega arith) (omega arith) (record { state = state; goal = g; is = is })) ∙ subst (λ i. is_open k l at (at + 1) i ≡ false) e closed))))
+      (λ (ne : t ≢ s). other t ne)
+      (same_or_not t s);
+}
+
+-- a part that lies in another
+pub keeps_wider : (k : CaseData) (l : LinksData) (low high at : ℕ) (x y : List ℤ) → low ≤ at → at < high → KeepsOthers k l at (at + 1) x y → KeepsOthers k l low high x y
+keeps_wider k l low high at x y from to h = record {
+  numbers = h.numbers;
+  others = λ t closed. either_way (is_open k l at (at + 1) t)
+      (λ (e : is_open k l at (at + 1) t ≡ true).
+      let o = of_open k l at (at + 1) t e in
+      absurd (true≢false (sym (open_of k l low high (position l t) t (omega (arith, from, o.from)) (omega (arith, to, o.to)) o.at) ∙ closed)))
+      (λ (e : is_open k l at (at + 1) t ≡ false). h.others t e);
+}
+
 module _ (k : CaseData) (l : LinksData) (low high at s : ℕ) (x : List ℤ) (v : ℤ) (numbers : AreNumbers k x) (from : low ≤ at) (to : at < high) (stands : StandsAt k l at s) (least : pos 0 ≤ℤ v) (most : v ≤ℤ pos (2 ^ k.w)) where
   in_lane : s < length x
   in_lane = omega (arith, stands.state, numbers.size)

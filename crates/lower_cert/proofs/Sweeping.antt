@@ -158,6 +158,11 @@ module _ (keeps : CappingKeepsUnder) (ranges : NumbersAreInRange) (k : CaseData)
       (record { high = set_high y.1; below = set_below y.1; most = let lt = total_set x s r in_lane most.least y.1 in omega (arith, lt); less = λ b. total_set x s r in_lane most.least y.1 })
   lowered_state new false w = subst (λ l. IsLowered k run x l false) (sym (w.no refl)) (record { high = high; below = λ t. omega (arith, linear); most = omega arith; less = λ b. absurd (true≢false (sym b)) })
 
+-- what is as it was where another state's number was written
+pub written_other : (old new : List ℤ) (s : ℕ) (v : ℤ) (lower : Bool) → IsWrittenLower old new s v lower → (t : ℕ) → t ≢ s → number new t ≡ number old t
+written_other old new s v true w t ne = subst (λ x. number x t ≡ number old t) (sym (w.yes refl).0) (rw get_or-set_other refl)
+written_other old new s v false w t ne = ap (λ x. number x t) (w.no refl)
+
 -- what was lowered twice
 pub lowered_both : (k : CaseData) (run : Run) (x y z : List ℤ) (a b : Bool) → IsLowered k run x y a → IsLowered k run y z b → IsLowered k run x z false
 lowered_both k run x y z a b f g = record {

@@ -7,6 +7,7 @@ ghost use Rattle.lift_model.specs.Links.{AreLinks};
 ghost use Rattle.corner_lift.specs.Certificate.{AreNumbers};
 ghost use Rattle.lower_cert.specs.Lowering.{Run, IsRead, from_top, CanLower, IsHigh, IsLowered};
 ghost use Rattle.lower_cert.specs.Beginning.{IsOtherAt, AreOther};
+ghost use Rattle.float_guess.specs.Part.{KeepsOthers};
 
 use crate::laws::vectors_are_lowered;
 use crate::lower::start;
@@ -14,14 +15,25 @@ use crate::part::{fill_part, flag_part, note, open_state};
 use crate::raise::raise_part;
 use crate::sweep::{clear_flags, component_end, is_single, pass, settle_part, visit};
 use corner_lift::{Case, one_at, rows_at_corners};
-use float_guess::{Extreme, Rounding, Way, guess_part, low_word_of};
+use float_guess::{Extreme, Rounding, Shares, Way, guess_part, low_word_of};
 use lift_model::Links;
 
-/// How many passes over a component lower it from 1, before it is begun anew.
-const FIRST_PATIENCE: u32 = 16;
+/// How many passes over a small component lower it from 1, before it is guessed.
+const FIRST_PASSES: u32 = 4;
 
-/// How many passes lower it from a guess.
+/// How many states a small component has at most.
+const SMALL: u32 = 64;
+
+/// How many guesses are made, to find one from which it takes few passes, and so many at most.
+const GUESSES: u32 = 12;
+
+const GUESS_PASSES: u32 = 64;
+
+/// How many passes lower it from the last guesses.
 const GUESS_PATIENCE: u32 = 16384;
+
+/// How many passes are made before it is begun anew, the first time.
+const FIRST_PATIENCE: u32 = 16;
 
 /// How many times as many passes may raise the vector that it is begun from.
 const RAISES: u32 = 64;
@@ -81,7 +93,8 @@ fn settle_within(
     ghost run: { Run }
     requires can { CanLower case.now links.now run weights.now lane.old }
     requires high { (high ≤ length work.old) × (high ≤ length links.now.order) }
-    ensures { IsLowered case.now run lane.old lane.new false }
+    ensures lowered { IsLowered case.now run lane.old lane.new false }
+    ensures kept { KeepsOthers case.now links.now low high lane.old lane.new }
 {
     let init = case.model().init() as usize;
     for _ in 0..passes {
@@ -145,15 +158,28 @@ fn are_other(case: &Case, links: &Links, lane: &[i64], noted: &[u32], low: u32, 
 /// What came of a guess.
 #[derive(Clone, Copy)]
 enum Guessed {
-    /// There was none, and the part is at 1 again.
-    Nothing,
     /// Each state of the part fell below it, so that it was a good one.
     Good,
-    /// Nobody knows.
-    Bad,
+    /// Some state didn't, though the part is settled: it was too low.
+    Low,
+    /// It took too many passes.
+    Slow,
+    /// There was none.
+    Nothing,
 }
 
-/// Begins a part at a guess, and lowers it from there.
+impl Guessed {
+    /// Whether it was a good one.
+    fn is_good(self) -> bool {
+        match self {
+            Guessed::Good => true,
+            Guessed::Low | Guessed::Slow | Guessed::Nothing => false,
+        }
+    }
+}
+
+/// Lowers a part from a guess that is moved by a share of a unit for each step, in so many passes at most.
+/// Unless it was a good one, the part is at 1 again.
 fn lower_from_guess(
     case: &Case,
     links: &Links,
@@ -163,18 +189,20 @@ fn lower_from_guess(
     noted: &mut [u32],
     low: u32,
     high: u32,
+    share: u32,
+    passes: u32,
 ) -> Guessed
     ghost spans: { Spans }
     requires can { CanLower case.now links.now (from_top case.now spans) weights.now lane.old }
     requires flags { high ≤ length flags.old }
     requires notes { length noted.old ≡ length case.now.model.states }
     requires high { high ≤ length links.now.order }
-    ensures { (result ≡ Guessed.Bad → ⊥) → IsHigh case.now spans lane.new }
+    ensures { IsHigh case.now spans lane.new }
 {
     vectors_are_lowered();
     rows_at_corners();
     let top = one_at(case.w());
-    let (extreme, rounding, way) = (Extreme::Least, Rounding::Up, Way::Elimination);
+    let (extreme, rounding, way) = (Extreme::Least, Rounding::Up, Way::Elimination(share));
     let guessed = guess_part(
         case, links, weights, extreme, rounding, lane, flags, noted, low, high, way,
     );
@@ -184,25 +212,115 @@ fn lower_from_guess(
         return Guessed::Nothing;
     }
     note(case, links, lane, noted, low, high);
-    let settled = settle_within(
-        case,
-        links,
-        weights,
-        -1,
-        lane,
-        flags,
-        low,
-        high,
-        GUESS_PATIENCE,
-    );
+    let settled = settle_within(case, links, weights, -1, lane, flags, low, high, passes);
     if settled && are_other(case, links, lane, noted, low, high) {
         return Guessed::Good;
     }
-    Guessed::Bad
+    flag_part(flags, low, high);
+    fill_part(case, links, lane, low, high, top);
+    if settled { Guessed::Low } else { Guessed::Slow }
 }
 
-/// Lowers the states of a component from 1, from a guess, or from where it is begun anew. False: a guess
-/// was a bad one.
+/// Lowers a part from guesses, until one is good. False: none was, and the part is at 1 again.
+fn lower_from_guesses(
+    case: &Case,
+    links: &Links,
+    weights: &[i128],
+    lane: &mut [i64],
+    flags: &mut [u32],
+    noted: &mut [u32],
+    low: u32,
+    high: u32,
+) -> bool
+    ghost spans: { Spans }
+    requires can { CanLower case.now links.now (from_top case.now spans) weights.now lane.old }
+    requires flags { high ≤ length flags.old }
+    requires notes { length noted.old ≡ length case.now.model.states }
+    requires high { high ≤ length links.now.order }
+    ensures { IsHigh case.now spans lane.new }
+{
+    let mut shares = Shares::unknown();
+    let mut share = 0;
+    for _ in 0..GUESSES {
+        match lower_from_guess(
+            case,
+            links,
+            weights,
+            lane,
+            flags,
+            noted,
+            low,
+            high,
+            share,
+            GUESS_PASSES,
+        ) {
+            Guessed::Good => return true,
+            Guessed::Nothing => return false,
+            Guessed::Low => shares = shares.below(share),
+            Guessed::Slow => shares = shares.above(share),
+        }
+        match shares.next() {
+            Some(next) => share = next,
+            None => break,
+        }
+    }
+    let (safe, passes) = (shares.safe(), GUESS_PATIENCE);
+    let guessed = lower_from_guess(
+        case, links, weights, lane, flags, noted, low, high, safe, passes,
+    );
+    if guessed.is_good() {
+        return true;
+    }
+    let guessed = lower_from_guess(
+        case, links, weights, lane, flags, noted, low, high, 0, passes,
+    );
+    guessed.is_good()
+}
+
+/// Lowers the states of a part from where it is begun anew.
+fn lower_anew(
+    case: &Case,
+    links: &Links,
+    weights: &[i128],
+    limit: i64,
+    lane: &mut [i64],
+    work: &mut [u32],
+    low: u32,
+    high: u32,
+)
+    ghost spans: { Spans }
+    requires can { CanLower case.now links.now (from_top case.now spans) weights.now lane.old }
+    requires work { length work.old ≡ 2 * length case.now.model.states }
+    requires high { (high ≤ length case.now.model.states) × (high ≤ length links.now.order) }
+    ensures { IsHigh case.now spans lane.new }
+{
+    let mut patience = FIRST_PATIENCE;
+    for _ in 0..TRIES {
+        let passes = patience.saturating_mul(RAISES);
+        let (flags, noted) = work.split_at_mut(case.model().states() as usize);
+        if begin_anew(case, links, weights, lane, flags, noted, low, high, passes) {
+            break;
+        }
+        patience = patience.saturating_mul(PATIENCE_STEP);
+        if settle_within(case, links, weights, limit, lane, work, low, high, patience) {
+            return;
+        }
+    }
+    settle_part(case, links, weights, limit, lane, work, low, high, high);
+}
+
+/// How many passes lower a part from 1 before it is guessed. Two states settle in less time than it takes to
+/// guess them, and large parts often can't be.
+fn first_passes(low: u32, high: u32) -> u32 {
+    let states = high.saturating_sub(low);
+    if states > 2 && states <= SMALL {
+        FIRST_PASSES
+    } else {
+        FIRST_PATIENCE
+    }
+}
+
+/// Lowers the states of a component from 1, from a guess, or from where it is begun anew.
 fn begin_part(
     case: &Case,
     links: &Links,
@@ -212,74 +330,26 @@ fn begin_part(
     work: &mut [u32],
     low: u32,
     high: u32,
-    guess: bool,
-) -> bool
+)
     ghost spans: { Spans }
     requires can { CanLower case.now links.now (from_top case.now spans) weights.now lane.old }
     requires work { length work.old ≡ 2 * length case.now.model.states }
     requires high { (high ≤ length case.now.model.states) × (high ≤ length links.now.order) }
-    ensures high { IsTrue result → IsHigh case.now spans lane.new }
-    ensures sure { guess ≡ false → IsTrue result }
+    ensures { IsHigh case.now spans lane.new }
 {
     visit_first(case, links, weights, lane, work, low, high);
     if is_single(low, high) {
-        return true;
+        return;
     }
-    let mut patience = FIRST_PATIENCE;
-    if settle_within(case, links, weights, limit, lane, work, low, high, patience) {
-        return true;
+    let first = first_passes(low, high);
+    if settle_within(case, links, weights, limit, lane, work, low, high, first) {
+        return;
     }
-    if guess {
-        let (flags, noted) = work.split_at_mut(case.model().states() as usize);
-        match lower_from_guess(case, links, weights, lane, flags, noted, low, high) {
-            Guessed::Good => return true,
-            Guessed::Bad => return false,
-            Guessed::Nothing => {}
-        }
+    let (flags, noted) = work.split_at_mut(case.model().states() as usize);
+    if lower_from_guesses(case, links, weights, lane, flags, noted, low, high) {
+        return;
     }
-    for _ in 0..TRIES {
-        let passes = patience.saturating_mul(RAISES);
-        let (flags, noted) = work.split_at_mut(case.model().states() as usize);
-        if begin_anew(case, links, weights, lane, flags, noted, low, high, passes) {
-            break;
-        }
-        patience = patience.saturating_mul(PATIENCE_STEP);
-        if settle_within(case, links, weights, limit, lane, work, low, high, patience) {
-            return true;
-        }
-    }
-    settle_part(case, links, weights, limit, lane, work, low, high, high);
-    true
-}
-
-/// Lowers a vector that is 1 everywhere, component by component from those below, until none of its states
-/// is flagged, or the initial state's number isn't above the limit. False: a guess was a bad one.
-fn begin_parts(
-    case: &Case,
-    links: &Links,
-    weights: &[i128],
-    limit: i64,
-    lane: &mut [i64],
-    work: &mut [u32],
-    guess: bool,
-) -> bool
-    ghost spans: { Spans }
-    requires can { CanLower case.now links.now (from_top case.now spans) weights.now lane.old }
-    requires work { length work.old ≡ 2 * length case.now.model.states }
-    ensures high { IsTrue result → IsHigh case.now spans lane.new }
-    ensures sure { guess ≡ false → IsTrue result }
-{
-    let states = case.model().states();
-    let init = case.model().init() as usize;
-    let mut low = 0;
-    while low < states && lane[init] > limit {
-        let high = component_end(links, low, states);
-        if !begin_part(case, links, weights, limit, lane, work, low, high, guess) {
-            return false;
-        }
-        low = high;
-    }
-    true
+    lower_anew(case, links, weights, limit, lane, work, low, high);
 }
 
 /// Lowers a vector from 1, component by component from those below, until none of its states is flagged, or
@@ -299,10 +369,12 @@ pub(crate) fn begin(
 {
     start(case, lane);
     clear_flags(work);
-    if begin_parts(case, links, weights, limit, lane, work, true) {
-        return;
+    let states = case.model().states();
+    let init = case.model().init() as usize;
+    let mut low = 0;
+    while low < states && lane[init] > limit {
+        let high = component_end(links, low, states);
+        begin_part(case, links, weights, limit, lane, work, low, high);
+        low = high;
     }
-    start(case, lane);
-    clear_flags(work);
-    begin_parts(case, links, weights, limit, lane, work, false);
 }

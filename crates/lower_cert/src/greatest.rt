@@ -86,8 +86,8 @@ fn height(ranks: &[u32]) -> u32
     height
 }
 
-/// Lowers a vector from 1 until it is the greatest lower one, or until the initial state's number isn't
-/// above the limit.
+/// Lowers a vector that lies at or above each lower vector until it is the greatest lower one, or until the
+/// initial state's number isn't above the limit.
 fn descend(
     case: &Case,
     links: &Links,
@@ -101,12 +101,12 @@ fn descend(
 )
     ghost spans: { Spans }
     requires read { IsRead case.now links.now spans weights.now lane.old }
+    requires high { IsHigh case.now spans lane.old }
     requires places { HasPlaces case.now allowed.old ranks.old picks.old }
     requires work { length work.old ≡ 2 * length case.now.model.states }
     ensures high { IsHigh case.now spans lane.new }
     ensures settled { limit <ℤ number lane.new case.now.model.init → IsSettled case.now spans lane.new picks.new ranks.new }
 {
-    begin(case, links, weights, limit, lane, work);
     while lower_once(
         case, links, weights, limit, lane, allowed, ranks, picks, work,
     ) {}
@@ -160,6 +160,7 @@ pub fn greatest_reject(
 {
     rows_at_corners();
     let limit = -1;
+    begin(case, links, weights, limit, lane, work);
     descend(
         case, links, weights, limit, lane, allowed, ranks, picks, work,
     );
@@ -182,6 +183,32 @@ pub fn greatest_reject_above(
 ) -> Option<Rate>
     ghost spans: { Spans }
     requires read { IsRead case.now links.now spans weights.now lane.old }
+    requires places { HasPlaces case.now allowed.old ranks.old picks.old }
+    requires work { length work.old ≡ 2 * length case.now.model.states }
+    ensures some { IfSome result (λ rate. IsGreatestAbove case.now spans limit (record { numbers = lane.new; picks = picks.new; ranks = ranks.new; e = rate.e; k = rate.k })) }
+    ensures none { IsNone result → NoneIsAbove case.now spans limit }
+{
+    begin(case, links, weights, limit, lane, work);
+    greatest_reject_from(
+        case, links, weights, limit, lane, allowed, ranks, picks, work,
+    )
+}
+
+/// As `greatest_reject_above`, but begins from the vector in `lane`, which lies at or above each lower vector.
+pub fn greatest_reject_from(
+    case: &Case,
+    links: &Links,
+    weights: &[i128],
+    limit: i64,
+    lane: &mut [i64],
+    allowed: &mut [u32],
+    ranks: &mut [u32],
+    picks: &mut [u32],
+    work: &mut [u32],
+) -> Option<Rate>
+    ghost spans: { Spans }
+    requires read { IsRead case.now links.now spans weights.now lane.old }
+    requires high { IsHigh case.now spans lane.old }
     requires places { HasPlaces case.now allowed.old ranks.old picks.old }
     requires work { length work.old ≡ 2 * length case.now.model.states }
     ensures some { IfSome result (λ rate. IsGreatestAbove case.now spans limit (record { numbers = lane.new; picks = picks.new; ranks = ranks.new; e = rate.e; k = rate.k })) }

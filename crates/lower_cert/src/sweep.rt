@@ -1,10 +1,11 @@
 //! Lowering states one by one to what their choices hold.
 
-ghost use Rattle.std.specs.Prelude.{◌≡◌, ◌^◌, ◌*◌, ◌/◌, ◌<◌, ◌≤◌, ◌⊎◌, ◌≤ℤ◌, ◌<ℤ◌, ◌+ℤ◌, ◌-ℤ◌, ◌*ℤ◌, pos, length, unsigned_abs, Contains, IfSome, [], ◌∷◌, IsFalse, true, false};
+ghost use Rattle.std.specs.Prelude.{◌≡◌, ◌≢◌, ℕ, ◌+◌, ◌^◌, ◌*◌, ◌/◌, ◌<◌, ◌≤◌, ◌⊎◌, ◌≤ℤ◌, ◌<ℤ◌, ◌+ℤ◌, ◌-ℤ◌, ◌*ℤ◌, pos, length, unsigned_abs, Contains, IfSome, [], ◌∷◌, IsFalse, true, false};
 ghost use Rattle.lift_grid.specs.Rectangle.{Spans};
 ghost use Rattle.lift_model.specs.Model.{is_goal, choices, row_at};
 ghost use Rattle.lift_model.specs.Links.{AreLinks, HasChoice, state_count, targets_of};
 ghost use Rattle.corner_lift.specs.Case.{number, corner_count, engine_limit};
+ghost use Rattle.float_guess.specs.Part.{KeepsOthers};
 ghost use Rattle.lower_cert.specs.Lowering.{Run, CanWeigh, CanLower, IsExit, HoldsNoMore, HoldNoMore, IsLowered, IsWrittenLower};
 
 use crate::laws::{premises, vectors_are_lowered};
@@ -263,7 +264,8 @@ fn lower_state(case: &Case, links: &Links, weights: &[i128], lane: &mut [i64], s
     requires can { CanLower case.now links.now run weights.now lane.old }
     requires state { s < length case.now.model.states }
     requires goal { is_goal case.now.model s ≡ false }
-    ensures { IsLowered case.now run lane.old lane.new result }
+    ensures lowered { IsLowered case.now run lane.old lane.new result }
+    ensures other { (t : ℕ) → t ≢ s → number lane.new t ≡ number lane.old t }
 {
     vectors_are_lowered();
     rows_at_corners();
@@ -278,7 +280,8 @@ fn try_state(case: &Case, links: &Links, weights: &[i128], lane: &mut [i64], s: 
     ghost run: { Run }
     requires can { CanLower case.now links.now run weights.now lane.old }
     requires state { s < length case.now.model.states }
-    ensures { IsLowered case.now run lane.old lane.new result }
+    ensures lowered { IsLowered case.now run lane.old lane.new result }
+    ensures other { (t : ℕ) → t ≢ s → number lane.new t ≡ number lane.old t }
 {
     if lane[s as usize] <= 0 || case.model().is_goal(s) {
         return false;
@@ -358,7 +361,8 @@ pub(crate) fn visit(
     ghost run: { Run }
     requires can { CanLower case.now links.now run weights.now lane.old }
     requires position { position < length links.now.order }
-    ensures { IsLowered case.now run lane.old lane.new result }
+    ensures lowered { IsLowered case.now run lane.old lane.new result }
+    ensures kept { KeepsOthers case.now links.now position (position + 1) lane.old lane.new }
 {
     let s = links.order()[position as usize];
     if s >= case.model().states() {
@@ -385,7 +389,8 @@ fn turn(
     ghost run: { Run }
     requires can { CanLower case.now links.now run weights.now lane.old }
     requires position { (position < length work.old) × (position < length links.now.order) }
-    ensures { IsLowered case.now run lane.old lane.new result }
+    ensures lowered { IsLowered case.now run lane.old lane.new result }
+    ensures kept { KeepsOthers case.now links.now position (position + 1) lane.old lane.new }
 {
     if !take_flag(work, position) {
         return false;
@@ -407,7 +412,8 @@ pub(crate) fn pass(
     ghost run: { Run }
     requires can { CanLower case.now links.now run weights.now lane.old }
     requires high { (high ≤ length work.old) × (high ≤ length links.now.order) }
-    ensures { IsLowered case.now run lane.old lane.new result }
+    ensures lowered { IsLowered case.now run lane.old lane.new result }
+    ensures kept { KeepsOthers case.now links.now low high lane.old lane.new }
 {
     let mut fell = false;
     for position in low..high {

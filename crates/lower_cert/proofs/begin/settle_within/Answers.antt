@@ -1,6 +1,10 @@
 use Rattle.std.proofs.Common.{false}
+use Rattle.lower_cert.proofs.Beginning.{keeps_both}
 use Rattle.lower_cert.proofs.Sweeping.{lowered_both}
 use Rattle.lower_cert.proofs.begin.settle_within.Goals as goal
 
 pub loop-preserved : goal.loop-preserved
-loop-preserved g c = lowered_both c.args.case.now g.run c.args.lane.now c.loop.lane c.pass.new.lane false c.pass.result c.loop.invariant c.pass.ensures
+loop-preserved g c = record {
+  lowered = lowered_both c.args.case.now g.run c.args.lane.now c.loop.lane c.pass.new.lane false c.pass.result c.loop.invariant.lowered c.pass.ensures.lowered;
+  kept = keeps_both c.args.case.now c.args.links.now c.args.low c.args.high c.args.lane.now c.loop.lane c.pass.new.lane c.loop.invariant.kept c.pass.ensures.kept;
+}

@@ -1,4 +1,5 @@
 use Rattle.std.proofs.Common.{false}
+use Rattle.float_guess.specs.Part.{KeepsOthers}
 use Rattle.lower_cert.specs.Lowering.{IsLowered}
 use Rattle.lower_cert.proofs.begin.settle_within.Given as goal
 
@@ -6,4 +7,7 @@ abbrev pub ghost-pass : goal.ghost-pass
 ghost-pass g a = g.run
 
 abbrev pub invariant-loop : goal.invariant-loop
-invariant-loop g l = IsLowered l.case g.run l.initial.lane l.lane false
+invariant-loop g l = record {
+  lowered : IsLowered l.case g.run l.initial.lane l.lane false;
+  kept : KeepsOthers l.case l.links l.low l.high l.initial.lane l.lane;
+}

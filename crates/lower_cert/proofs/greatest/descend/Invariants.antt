@@ -9,6 +9,3 @@ invariant-loop g l = IsHigh l.case g.spans l.lane
 
 abbrev pub decreases-loop : goal.decreases-loop
 decreases-loop g l = total l.lane
-
-abbrev pub ghost-begin : goal.ghost-begin
-ghost-begin g a = g.spans

@@ -1,3 +1,4 @@
+use Rattle.float_guess.specs.Part.{KeepsOthers}
 use Rattle.lower_cert.specs.Lowering.{IsLowered}
 use Rattle.lower_cert.proofs.sweep.pass.Given as goal
 
@@ -5,4 +6,7 @@ abbrev pub ghost-turn : goal.ghost-turn
 ghost-turn g a = g.run
 
 abbrev pub invariant-loop-position : goal.invariant-loop-position
-invariant-loop-position g l = IsLowered l.case g.run l.initial.lane l.lane l.fell
+invariant-loop-position g l = record {
+  lowered : IsLowered l.case g.run l.initial.lane l.lane l.fell;
+  kept : KeepsOthers l.case l.links l.low l.high l.initial.lane l.lane;
+}
