@@ -1,0 +1,4 @@
+use Rattle.lift_collapse.proofs.collapse.find_lower.Given as goal
+
+abbrev pub ghost-greatest_reject_above : goal.ghost-greatest_reject_above
+ghost-greatest_reject_above g a = g.spans

@@ -1,0 +1,4 @@
+pub mod Building
+pub mod Collapse
+pub mod Filled
+pub mod Laws

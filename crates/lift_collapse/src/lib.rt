@@ -1,0 +1,12 @@
+//! Collapsed models: what is found on fewer states, and read at the places of all.
+#![tactic(auto)]
+
+mod build;
+mod collapse;
+mod collapsed;
+mod holds;
+mod laws;
+mod search;
+
+pub use collapse::Collapse;
+pub use laws::collapses_spread;
