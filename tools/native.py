@@ -24,7 +24,7 @@ ROOT = os.path.dirname(os.path.dirname(os.path.abspath(__file__)))
 HERE = os.path.join(ROOT, "tools", "native")
 CRATES = (
     "lift_bytes lift_base lift_names lift_frac lift_poly lift_pool drn_lexer drn_expr lift_grid lift_model corner_lift"
-    " lift_cert robust_rank lower_cert lift_rows float_guess rounded_iter region_tree drn_read line_text cert_text cert_check"
+    " lift_cert robust_rank lower_cert lift_rows float_guess rounded_iter lift_collapse region_tree drn_read line_text cert_text cert_check"
 ).split()
 CLAUSE = re.compile(
     r"^[ \t]*(?:(?P<ghost>ghost)|(?P<clause>requires|ensures)|(?P<attribute>#\[(?:tactic|cycle))"
@@ -74,7 +74,7 @@ def as_rust(text):
     """The same in Rust, over the shim."""
     text = re.sub(r"^\s*pub ghost [^\n]*\n", "", without_contracts(text), flags=re.M)
     text = re.sub(r"^\s*#!?\[(?:tactic|error)\([^\n]*\n", "", text, flags=re.M)
-    text = re.sub(r"\bstd::(alloc|num|collections|io|marker)\b", r"rstd::\1", text)
+    text = re.sub(r"\bstd::(alloc|num|collections|io|marker|rc)\b", r"rstd::\1", text)
     text = re.sub(r"\buse (itoa|indexmap|thiserror|memchr)::", r"use rstd::\1::", text)
     text = re.sub(r"(?:, )?\b(?:Drop|Error)\b(?=[^(\n]*\)\])", "", text)
     text = text.replace("#[derive()]\n", "").replace("#[derive(, ", "#[derive(").replace("#[from] ", "")

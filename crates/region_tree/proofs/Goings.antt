@@ -1,9 +1,10 @@
 -- How a walk goes on: what stays of a room, and how it goes down to the halves.
-use Rattle.std.proofs.Common.{◌≡◌, ℕ, Bool, [], ◌∷◌, length, map, refl, sym, ap, ◌∙◌, subst}
+use Rattle.std.proofs.Common.{◌≡◌, ℕ, Bool, [], ◌∷◌, length, map, IfSome, refl, sym, ap, ◌∙◌, subst}
 use Rattle.lift_pool.specs.Lanes.{PoolData, pool_without_last}
 use Rattle.lift_model.specs.Links.{LinksData, AreLinks}
 use Rattle.lift_model.specs.Model.{ModelData}
 use Rattle.corner_lift.specs.Case.{CaseData, IsCase}
+use Rattle.lift_collapse.specs.Collapse.{IsCollapse}
 use Rattle.region_tree.specs.Decided.{CanDecide}
 use Rattle.region_tree.specs.Rooms.{RoomData, HasLanes, IsSameShape, KeepsShape, StandsAtDepth, IsMadeFor, IsAsMade, StepsDown, room_at_root, room_with_half, room_without_last}
 use Rattle.region_tree.proofs.Lanes.{root_ends}
@@ -16,10 +17,11 @@ module _ {T : Type 0} where
   pool_then p q r a b = record { lanes = b.lanes ∙ a.lanes; spare = b.spare ∙ a.spare; spare_lanes = b.spare_lanes ∙ a.spare_lanes }
 
 pub same_room : (a : RoomData) → KeepsShape a a
-same_room a = record { weights = same_pool a.weights; values = same_pool a.values; allowed = same_pool a.allowed; ranks = same_pool a.ranks; picks = same_pool a.picks; work = same_pool a.work }
+same_room a = record { collapse = refl; weights = same_pool a.weights; values = same_pool a.values; allowed = same_pool a.allowed; ranks = same_pool a.ranks; picks = same_pool a.picks; work = same_pool a.work }
 
 pub room_then : (a b c : RoomData) → KeepsShape a b → KeepsShape b c → KeepsShape a c
 room_then a b c h g = record {
+  collapse = g.collapse ∙ h.collapse;
   weights = pool_then a.weights b.weights c.weights h.weights g.weights;
   values = pool_then a.values b.values c.values h.values g.values;
   allowed = pool_then a.allowed b.allowed c.allowed h.allowed g.allowed;
@@ -30,6 +32,7 @@ room_then a b c h g = record {
 
 pub lanes_kept : (m : ModelData) (l : LinksData) (a b : RoomData) → KeepsShape a b → HasLanes m l a → HasLanes m l b
 lanes_kept m l a b h g = record {
+  collapse = subst (λ found. IfSome found (IsCollapse m)) (sym h.collapse) g.collapse;
   weights = h.weights.lanes ∙ g.weights;
   values = h.values.lanes ∙ g.values;
   allowed = h.allowed.lanes ∙ g.allowed;
@@ -57,14 +60,14 @@ gone_back k depth axis lower room down up h same e =
 
 -- the other lanes stay where a lane of sides is taken or given back
 pub half_lanes : (m : ModelData) (l : LinksData) (lower : Bool) (axis : ℕ) (room half : RoomData) → half ≡ room_with_half lower axis room → HasLanes m l room → HasLanes m l half
-half_lanes m l lower axis room half e h = rw e (record { weights = h.weights; values = h.values; allowed = h.allowed; ranks = h.ranks; picks = h.picks; work = h.work })
+half_lanes m l lower axis room half e h = rw e (record { collapse = h.collapse; weights = h.weights; values = h.values; allowed = h.allowed; ranks = h.ranks; picks = h.picks; work = h.work })
 
 pub back_lanes : (m : ModelData) (l : LinksData) (room up : RoomData) → up ≡ room_without_last room → HasLanes m l room → HasLanes m l up
-back_lanes m l room up e h = rw e (record { weights = h.weights; values = h.values; allowed = h.allowed; ranks = h.ranks; picks = h.picks; work = h.work })
+back_lanes m l room up e h = rw e (record { collapse = h.collapse; weights = h.weights; values = h.values; allowed = h.allowed; ranks = h.ranks; picks = h.picks; work = h.work })
 
 -- after a walk the room is as made
 root_kept : (k : CaseData) (room : RoomData) → KeepsShape room (room_at_root k room)
-root_kept k room = record { weights = same_pool room.weights; values = same_pool room.values; allowed = same_pool room.allowed; ranks = same_pool room.ranks; picks = same_pool room.picks; work = same_pool room.work }
+root_kept k room = record { collapse = refl; weights = same_pool room.weights; values = same_pool room.values; allowed = same_pool room.allowed; ranks = same_pool room.ranks; picks = same_pool room.picks; work = same_pool room.work }
 
 pub as_made : (k : CaseData) (l : LinksData) (room begun new : RoomData) → IsCase k → IsMadeFor k l room → begun ≡ room_at_root k room → new.sides ≡ begun.sides → KeepsShape begun new → IsAsMade room new
 as_made k l room begun new is made e sides shape =

@@ -5,6 +5,7 @@ pub mod Lanes
 pub mod Stepping
 pub mod Steps
 pub mod Verdicts
+pub mod Found
 pub mod Goings
 mod Samples
 pub mod Joining

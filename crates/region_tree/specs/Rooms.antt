@@ -1,5 +1,5 @@
--- The room of a walk: the pools that it works in, when they are made for a case, and what is left of them on the way from the root.
-use Rattle.std.specs.Prelude.{◌≡◌, ℕ, ◌+◌, ◌-◌, ◌*◌, ◌≤◌, ◌<◌, Bool, List, [], ◌∷◌, ℤ, map, length, if◌then◌else◌}
+-- The room of a walk: the pools and the collapsed model that it works in, when they are made for a case, and what is left of them on the way from the root.
+use Rattle.std.specs.Prelude.{◌≡◌, ℕ, ◌+◌, ◌-◌, ◌*◌, ◌≤◌, ◌<◌, Bool, List, [], ◌∷◌, ℤ, map, length, if◌then◌else◌, Option, option_map, IfSome}
 use Rattle.lift_pool.specs.Lanes.{PoolData, last_lane, pool_with, pool_without_last}
 use Rattle.lift_grid.specs.Rectangle.{Spans, AreSides, sides_of, spans_of}
 use Rattle.lift_grid.specs.Splitting.{IsHalvable}
@@ -7,10 +7,13 @@ use Rattle.lift_grid.specs.Tree.{lower_half, upper_half}
 use Rattle.lift_model.specs.Model.{ModelData, row_count}
 use Rattle.lift_model.specs.Links.{LinksData}
 use Rattle.corner_lift.specs.Case.{CaseData, greatest_depth}
+use Rattle.lift_collapse.specs.Collapse.{CollapseData, IsCollapse}
+use Rattle.lift_collapse.specs.Filled.{LinkedCollapse}
 use Rattle.region_tree.specs.Right.{IsAtDepth}
 
--- the pools of a room: the sides of the rectangles on the way from the root, the table of corner weights, the numbers of the states, which rows are allowed, the ranks and the picks of the states, and work space
+-- the collapsed model of the case, if it is worth one, and the pools of a room: the sides of the rectangles on the way from the root, the table of corner weights, the numbers of the states, which rows are allowed, the ranks and the picks of the states, and work space
 pub record RoomData : Type 0 where
+  pub collapse : Option LinkedCollapse
   pub sides : PoolData ℤ
   pub weights : PoolData ℤ
   pub values : PoolData ℤ
@@ -27,8 +30,13 @@ HasLane p n = map length p.lanes ≡ n ∷ []
 abbrev pub end_count : CaseData → ℕ
 end_count k = 2 * length k.model.names
 
--- the lanes of a room but the sides, for a model and its links: one for each purpose
+-- the collapsed model alone, without links and table
+abbrev pub collapse_of : Option LinkedCollapse → Option CollapseData
+collapse_of found = option_map (λ c. c.collapse) found
+
+-- the lanes of a room but the sides, for a model and its links: one for each purpose; and a collapsed model, if there is one, of that model
 pub record HasLanes (m : ModelData) (l : LinksData) (room : RoomData) : Type 0 where
+  pub collapse : IfSome (collapse_of room.collapse) (IsCollapse m)
   pub weights : HasLane room.weights l.weights
   pub values : HasLane room.values (length m.states)
   pub allowed : HasLane room.allowed (row_count m)
@@ -49,8 +57,9 @@ pub record IsSameShape {T : Type 0} (old new : PoolData T) : Type 0 where
   pub spare : new.spare ≡ old.spare
   pub spare_lanes : new.spare_lanes ≡ old.spare_lanes
 
--- all pools but the sides have the shape that they had
+-- the collapsed model is as it was, and all pools but the sides have the shape that they had
 pub record KeepsShape (old new : RoomData) : Type 0 where
+  pub collapse : collapse_of new.collapse ≡ collapse_of old.collapse
   pub weights : IsSameShape old.weights new.weights
   pub values : IsSameShape old.values new.values
   pub allowed : IsSameShape old.allowed new.allowed
@@ -58,7 +67,7 @@ pub record KeepsShape (old new : RoomData) : Type 0 where
   pub picks : IsSameShape old.picks new.picks
   pub work : IsSameShape old.work new.work
 
--- the room is as made: every pool has the shape that it had, and what its lanes hold is free
+-- the room is as made: every pool has the shape that it had, and what its lanes hold is free, as is the table of the collapsed model
 pub record IsAsMade (old new : RoomData) : Type 0 where
   pub sides : IsSameShape old.sides new.sides
   pub rest : KeepsShape old new

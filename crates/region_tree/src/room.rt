@@ -12,15 +12,19 @@ ghost use Rattle.region_tree.specs.Rooms.{
 };
 
 use corner_lift::Case;
+use lift_collapse::Collapse;
 use lift_model::{Links, Model};
 use lift_pool::{Pool, lanes_stand_alone};
 use std::alloc::{AllocError, Global};
 
 /// All memory that a walk over the tree of a case needs.
 ///
-/// A room is seen as its pools. What the lanes hold between two walks is free.
+/// A room is seen as its collapsed model and its pools. What the lanes and the collapsed model's table hold
+/// between two walks is free.
 #[derive(Drop)]
 pub struct Room {
+    /// The case's model with fewer states, where that is worth it.
+    pub(crate) collapse: Option<Collapse>,
     pub(crate) sides: Pool<i64>,
     pub(crate) weights: Pool<i128>,
     pub(crate) values: Pool<i64>,
@@ -38,6 +42,7 @@ impl std::marker::Model for Room {
     ghost Value = { RoomData };
 
     ghost view = { λ r. record {
+      collapse = r.collapse;
       sides = r.sides;
       weights = r.weights;
       values = r.values;
@@ -91,8 +96,8 @@ fn sides_of_case(alloc: Global, case: &Case) -> Result<Pool<i64>, AllocError>
 }
 
 impl Room {
-    /// Makes all pools that a walk over the case's tree needs, so that what follows takes no memory. The
-    /// one lane of sides holds the root's.
+    /// Makes all pools that a walk over the case's tree needs, and collapses its model, so that what follows
+    /// takes no memory. The one lane of sides holds the root's.
     pub fn make(alloc: Global, case: &Case, links: &Links) -> Result<Self, AllocError>
         requires { AreLinks case.now.model links.now }
         ensures made { IfOk result (IsMadeFor case.now links.now) }
@@ -100,6 +105,7 @@ impl Room {
     {
         let states = case.model().states() as usize;
         Ok(Room {
+            collapse: Collapse::build(alloc, case.model(), links)?,
             sides: sides_of_case(alloc, case)?,
             weights: lane_of(alloc, links.weights_len(), 0)?,
             values: lane_of(alloc, states, 0)?,
