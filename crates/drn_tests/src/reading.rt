@@ -13,7 +13,8 @@ use std::test::Fail;
 // line, a second one without transitions, and leading zeros; a label twice on one line, and entries
 // of value 0; no parameters; quarters; 12 as the least common multiple of 4 and 6; five parameters;
 // a decision process in the manner of an export; a die by coins; sections in another order, and one
-// that is empty.
+// that is empty; and values that are written twice, that are written in several ways, and that differ
+// in a sign, a parameter or the denominator alone.
 const MODELS: &str = "\
     @type: DTMC;@parameters;p;@model;state 0 init;1 : p;2 : 1-p;state 1 heads;1 : 1;state 2;2 : 1; \
     | heads | dtmc 1 p init 0 goal 1 row 0.0 to 1 1:1 to 2 0:1 1:-1 row 1.0 to 1 0:1 row 2.0 to 2 \
@@ -63,6 +64,12 @@ const MODELS: &str = "\
     0:1\n\
     @nr_choices;;1;@placeholders;$h:1/2;@parameters;@type:   DTMC;@value_type:;;@model;;state 0 \
     init;0 : $h; | init | dtmc 2 init 0 goal 0 row 0.0 to 0 0:1\n\
+    @type: MDP;@parameters;p q;@placeholders;$h : 1/2*p;@model;state 0 init;action a;1 : 1/2*p;2 : \
+    1-p;action b;1 : p/2;2 : 1+p;action c;1 : $h;2 : 1-p;action d;1 : 1/2*q;2 : 1-q;action e;1 : \
+    p;2 : 2*p/4;0 : 1/2*p;state 1 heads;action a;1 : 1;state 2;action a;2 : -1/2*p; | heads | mdp 2 \
+    p q init 0 goal 1 row 0.0 to 1 1:1 to 2 0:2 1:-2 row 0.1 to 1 1:1 to 2 0:2 1:2 row 0.2 to 1 1:1 \
+    to 2 0:2 1:-2 row 0.3 to 1 2:1 to 2 0:2 2:-2 row 0.4 to 1 1:2 to 2 1:1 to 0 1:1 row 1.0 to 1 \
+    0:2 row 2.0 to 2 1:-1\n\
 ";
 
 // The coin, some of whose lines change.

@@ -135,6 +135,10 @@ COIN 9=to 1 1:0 2:1 | 9 Syntax
 COIN 9=to 1 1:-1267650600228229401496703205376 | 9 Limit
 COIN 10=to 2 1:1 1:1 | 10 Syntax
 COIN 10=to 1 2:1 | 10 Syntax
+COIN 10=to 1 1:1 | 10 Syntax
+COIN 10=to 3 1:1 | 10 Limit
+COIN 10=to 2 1:1  | 10 Syntax
+COIN 10=to 2  1:1 | 10 Syntax
 COIN 3=parameters 5 a b c d e / 9=to 1 31:1 | 9 Limit
 COIN 3=parameters 5 a b c d e / 9=to 1 3:1 5:1 9:1 17:1 | 9 Limit
 COIN 3=parameters 5 a b c d e / 9=to 1 3:1 5:1 9:1 | 19 Syntax
@@ -172,10 +176,16 @@ PAIR 19=box 4 36 4611686018427387904 -8 | 19 Syntax
 PAIR 15=bound 1/1;precision 10 | 17 Syntax
 ";
 
-// Each row: the report, and its rows.
+// Each row: the report, and its rows. Terms stand there twice as well, and once with another number.
 const ROWS: &str = "\
 COIN - | row 0 0 to 1 1:1 to 2 0:1 1:-1 row 1 0 to 1 0:1 row 2 0 to 2 0:1
 COIN 9=to 1 | row 0 0 to 1 to 2 0:1 1:-1 row 1 0 to 1 0:1 row 2 0 to 2 0:1
+COIN 8=row 0 0 3 / 9=to 1 0:1 1:-1 / 10=to 2 0:1 1:-1;to 0 0:1 1:1 | row 0 0 to 1 0:1 1:-1 to 2 0:1 1:-1 to 0 0:1 1:1 \
+row 1 0 to 1 0:1 row 2 0 to 2 0:1
+COIN 8=row 0 0 3 / 9=to 1 1:9999999999999999999 / 10=to 2 1:9999999999999999999;to 0 1:-9999999999999999999 | row 0 0 \
+to 1 1:9999999999999999999 to 2 1:9999999999999999999 to 0 1:-9999999999999999999 row 1 0 to 1 0:1 row 2 0 to 2 0:1
+COIN 8=row 0 0 3 / 9=to 1 1:10000000000000000000 / 10=to 2 1:10000000000000000000;to 0 1:100000000000000000000 | row 0 0 \
+to 1 1:10000000000000000000 to 2 1:10000000000000000000 to 0 1:100000000000000000000 row 1 0 to 1 0:1 row 2 0 to 2 0:1
 PAIR - | row 0 0 to 1 1:2 to 0 0:2 1:-2 row 0 1 to 0 0:2 row 1 0 to 1 0:2
 PAIR 8=row 0 0 0;row 0 1 2 / 11=row 0 2 1 | row 0 0 row 0 1 to 1 1:2 to 0 0:2 1:-2 row 0 2 to 0 0:2 row 1 0 to 1 0:2
 ";
