@@ -4,6 +4,7 @@ use Rattle.std.specs.List.{flat_map}
 use Rattle.std.specs.declared.option.Option.{Option}
 use Rattle.std.specs.Io.KnownBytes.{Appends}
 use Rattle.std.proofs.KnownBytes.{Appends-nil, Appends-trans}
+use Rattle.std.proofs.lemmas.Grind.{flat_map-append}
 use Rattle.lift_base.specs.Outside.{Rose, Wrote}
 use Rattle.lift_base.specs.Laws.{WroteUpTo}
 use Rattle.lift_base.specs.declared.output.WriteFault.{WriteFault}
@@ -95,6 +96,10 @@ pub stopped_at : {X K T U V E F G : Type 0} {taken : K → Option (List ℕ)} {f
     → Wrote {T = V} taken faults mid new (Err e) (f (get_or xs i d)) → Wrote taken faults old new result (flat_map f xs)
 stopped_at {taken = taken} {faults = faults} {old = old} {new = new} f xs i d result bad h p q =
     subst (λ (text : List ℕ). Wrote taken faults old new result text) (sym (flat_map_at f xs i d h)) (stopped _ _ result bad (wrote_then p q))
+
+-- the pieces of the first items, and those of the others
+pub flat_map_parts : {X : Type 0} (f : X → List ℕ) (xs front back : List X) → xs ≡ front ++ back → flat_map f xs ≡ flat_map f front ++ flat_map f back
+flat_map_parts {X = X} f xs front back is = ap (λ (l : List X). flat_map f l) is ∙ flat_map-append f front back
 
 -- a call wrote the next piece of what is to come
 pub next_piece : {K T E : Type 0} {taken : K → Option (List ℕ)} {faults : K → ℕ} {old mid new : K} {x : T} {all rest : List ℕ} (piece more : List ℕ)

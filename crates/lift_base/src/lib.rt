@@ -8,10 +8,13 @@ mod laws;
 mod memory;
 mod output;
 mod standard;
+mod tail;
 
 pub use buffered::{BufferedSink, Origin, Telling, Text, tell_buffered, write_buffered};
 pub use input::{Got, ReadError, Source, read_all};
 pub use laws::writes_in_turn;
 pub use memory::{MemSink, MemSource, SureSink, SureSource};
-pub use output::{Put, Sink, Word, WriteFault, put_number, write_all, write_numbers, write_words};
+pub use output::{
+    Put, Sink, Word, WriteFault, put_number, write_all, write_marks, write_numbers, write_words,
+};
 pub use standard::{StdSink, StdSource};

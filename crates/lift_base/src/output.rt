@@ -5,8 +5,10 @@ ghost use Rattle.std.specs.Io.KnownBytes.{Appends};
 ghost use Rattle.std.specs.Fmt.{decimal, signed_decimal};
 ghost use Rattle.std.specs.List.{flat_map};
 ghost use Rattle.lift_base.specs.Outside.{Puts, Rose, Wrote};
-ghost use Rattle.lift_base.specs.Word.{spaced, word_text};
+ghost use Rattle.lift_base.specs.Word.{spaced, spaced_mark, word_text};
+ghost use Rattle.lift_base.specs.declared.tail.TheConstants.{GROUP};
 
+use crate::tail::{GROUP, Tail};
 use itoa::Buffer;
 
 /// What one write did.
@@ -106,20 +108,43 @@ pub enum Word<'a> {
     Numbers(&'a [i64]),
 }
 
-// Writes a number behind a blank.
-fn put_spaced<K: Sink>(out: &mut K, number: &i64) -> Result<(), WriteFault>
-    ensures { Wrote K.taken K.faults out.old out.new result (spaced number.now) }
+// Writes a few numbers, each behind a blank, at once.
+fn write_group<K: Sink>(out: &mut K, numbers: &[i64]) -> Result<(), WriteFault>
+    requires { length numbers.now ≤ GROUP }
+    ensures { Wrote K.taken K.faults out.old out.new result (flat_map spaced numbers.now) }
 {
-    write_all(out, b" ")?;
-    put_number(out, i128::from(*number))
+    let mut text = Tail::new();
+    text.put_numbers(numbers);
+    write_all(out, text.as_slice())
 }
 
 /// Writes each number behind a blank. Takes no memory.
 pub fn write_numbers<K: Sink>(out: &mut K, numbers: &[i64]) -> Result<(), WriteFault>
     ensures { Wrote K.taken K.faults out.old out.new result (flat_map spaced numbers.now) }
 {
-    for number in numbers {
-        put_spaced(out, number)?;
+    for group in numbers.chunks(GROUP) {
+        write_group(out, group)?;
+    }
+    Ok(())
+}
+
+// Writes a few marks, each behind a blank, at once.
+fn write_few_marks<K: Sink>(out: &mut K, marks: &[u32], none: u32) -> Result<(), WriteFault>
+    requires { length marks.now ≤ GROUP }
+    ensures { Wrote K.taken K.faults out.old out.new result (flat_map (spaced_mark none) marks.now) }
+{
+    let mut text = Tail::new();
+    text.put_marks(marks, none);
+    write_all(out, text.as_slice())
+}
+
+/// Writes the decimal text of each mark behind a blank, and `-` in place of one that is `none`. Takes
+/// no memory.
+pub fn write_marks<K: Sink>(out: &mut K, marks: &[u32], none: u32) -> Result<(), WriteFault>
+    ensures { Wrote K.taken K.faults out.old out.new result (flat_map (spaced_mark none) marks.now) }
+{
+    for group in marks.chunks(GROUP) {
+        write_few_marks(out, group, none)?;
     }
     Ok(())
 }
@@ -144,12 +169,24 @@ fn put_word<K: Sink>(out: &mut K, word: &Word) -> Result<(), WriteFault>
     }
 }
 
-/// Writes texts and numbers, one after the other. Takes no memory.
-pub fn write_words<K: Sink>(out: &mut K, words: &[Word]) -> Result<(), WriteFault>
+// Writes one part after the other.
+fn write_each<K: Sink>(out: &mut K, words: &[Word]) -> Result<(), WriteFault>
     ensures { Wrote K.taken K.faults out.old out.new result (flat_map word_text words.now) }
 {
     for word in words {
         put_word(out, word)?;
     }
     Ok(())
+}
+
+/// Writes texts and numbers, one after the other, at once where they are short. Takes no memory.
+pub fn write_words<K: Sink>(out: &mut K, words: &[Word]) -> Result<(), WriteFault>
+    ensures { Wrote K.taken K.faults out.old out.new result (flat_map word_text words.now) }
+{
+    let mut text = Tail::new();
+    if text.try_words(words) {
+        write_all(out, text.as_slice())
+    } else {
+        write_each(out, words)
+    }
 }

@@ -98,6 +98,37 @@ pub mod itoa {
     }
     macro_rules! ints { ($($t:ty)*) => { $(impl Int for $t { fn wide(self) -> i128 { self as i128 } })* } }
     ints!(i8 u8 i16 u16 i32 u32 i64 u64 isize usize i128 u128);
+    #[inline(always)]
+    fn write_pair(pair: u64, buf: &mut [u8], at: usize) {
+        let from = pair as usize * 2;
+        buf[at] = D[from];
+        buf[at + 1] = D[from + 1];
+    }
+    #[inline(always)]
+    fn write_first(n: u64, buf: &mut [u8], end: usize) -> usize {
+        if n < 10 {
+            buf[end - 1] = b'0' + n as u8;
+            return end - 1;
+        }
+        write_pair(n, buf, end - 2);
+        end - 2
+    }
+    #[inline]
+    pub fn write_digits(n: u64, buf: &mut [u8], end: usize) -> usize {
+        let (mut left, mut at) = (n, end);
+        while left >= 10_000 {
+            let four = left % 10_000;
+            left /= 10_000;
+            write_pair(four % 100, buf, at - 2);
+            write_pair(four / 100, buf, at - 4);
+            at -= 4;
+        }
+        if left < 100 {
+            return write_first(left, buf, at);
+        }
+        write_pair(left % 100, buf, at - 2);
+        write_first(left / 100, buf, at - 2)
+    }
     const D: &[u8; 200] = b"00010203040506070809101112131415161718192021222324252627282930313233343536373839404142434445464748495051525354555657585960616263646566676869707172737475767778798081828384858687888990919293949596979899";
     impl Buffer {
         #[inline]
