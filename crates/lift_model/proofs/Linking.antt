@@ -1,14 +1,14 @@
 -- The parts of the links of a model, put together.
-use Rattle.std.proofs.Common.{◌≡◌, ℕ, zero, suc, ◌+◌, ◌-◌, ◌<◌, ◌≤◌, List, [], ◌∷◌, length, map, take, drop, slice_range, sum_by, slice_index_or, All, Contains, refl, sym, ap, subst, ◌∙◌, arith, ◌⊎◌, ⊎_elim, inl}
+use Rattle.std.proofs.Common.{◌≡◌, ℕ, zero, suc, ◌+◌, ◌-◌, ◌<◌, ◌≤◌, List, [], ◌∷◌, length, map, take, drop, slice_range, sum_by, slice_index_or, replicate, All, Contains, refl, sym, ap, subst, ◌∙◌, arith, ◌⊎◌, ⊎_elim, inl}
 use Rattle.std.specs.List.{concat}
-use Rattle.std.proofs.lemmas.List.{take_all, get_or_past}
+use Rattle.std.proofs.lemmas.List.{take_all, get_or_past, length-replicate, get_or-replicate}
 use Rattle.std.proofs.lemmas.List.Elements.{All-contains}
 use Rattle.std.proofs.lemmas.List.Sums.{sum_by_more, sum_by_more_le}
 use Rattle.lift_model.specs.declared.layout.RowPlace.{RowPlace}
 use Rattle.lift_model.specs.declared.layout.Layout.{Layout}
 use Rattle.lift_model.specs.Model.{ModelData, choices}
 use Rattle.lift_model.specs.Order.{IsOrder}
-use Rattle.lift_model.specs.Links.{LinksData, AreLinks, AreBefore, row_number, targets_of, position}
+use Rattle.lift_model.specs.Links.{LinksData, ArePlaces, AreLinks, AreBefore, state_count, row_number, targets_of, position}
 use Rattle.lift_model.specs.Layout.{IsLaid, AreRowStarts, AreCut}
 use Rattle.lift_model.specs.Before.{at, part, AreCuts, AreSources, AreListed, AreFirst}
 use Rattle.lift_model.specs.Stored.{AreStored}
@@ -77,6 +77,45 @@ next_row m s lt = omega (arith, sum_by_more length m.states s [] lt)
 rows_inside : (m : ModelData) (s : ℕ) → s < length m.states → row_number m (s + 1) 0 ≤ row_number m (length m.states) 0
 rows_inside m s lt = omega (arith, rows_all m, next_row m s lt, sum_by_more_le length m.states s [] lt)
 
+-- ---- the places of the rows
+
+module _ (m : ModelData) (l : LinksData) (layout : Layout) (states : state_count l ≡ length m.states)
+    (rows : l.rows ≡ layout.rows.items) (targets : l.targets ≡ layout.targets.items) (firsts : l.firsts ≡ layout.blocks.firsts.items) (weights : l.weights ≡ layout.blocks.weights)
+    (laid : IsLaid m layout (length m.states) 0) (numbered : AreRowStarts m l.row_starts (length m.states)) where
+  pub places_built : ArePlaces m l
+  places_built = record {
+    states = states;
+    choices = λ s lt. omega (arith, numbered.numbers s (omega (arith, lt)), numbered.numbers (s + 1) (omega (arith, lt)), next_row m s lt);
+    numbers = λ s lt. numbered.numbers s (omega (arith, lt));
+    places = λ s a has.
+        let number : at l.row_starts s + a ≡ row_number m s a = omega (arith, numbered.numbers s (omega (arith, has.state))) in
+        rw (rows, targets, firsts, number) (laid.places s a (inl (has.state, has.choice)));
+    firsts = rw firsts (laid.blocks.rows);
+    weights = rw (weights, firsts) (laid.blocks.total);
+  }
+
+  rows_stored : (s : ℕ) → s < state_count l → (at l.row_starts s ≤ at l.row_starts (s + 1)) × (at l.row_starts (s + 1) ≤ length l.rows)
+  rows_stored s lt =
+      let inside : s < length m.states = omega (arith, lt, states) in
+      (omega (arith, numbered.numbers s (omega (arith, inside)), numbered.numbers (s + 1) (omega (arith, inside)), next_row m s inside), omega (arith, numbered.numbers (s + 1) (omega (arith, inside)), rows_inside m s inside, laid.count, ap (length {A = RowPlace}) rows))
+
+  -- with nothing before any state
+  pub places_stored : l.starts ≡ replicate (length m.states) 0 → l.ends ≡ replicate (length m.states) 0 → length l.before_positions ≡ length l.before → l.order ≡ replicate (length m.states) 0 → l.component_ends ≡ replicate (length m.states) 0 → AreStored l
+  places_stored starts ends positions order component_ends = record {
+    row_starts = omega (arith, states, numbered.count);
+    rows = rows_stored;
+    lists = (omega (arith, states, size l.starts starts), omega (arith, states, size l.ends ends));
+    parts = λ s lt. let inside : s < length m.states = omega (arith, lt, states) in (omega (arith, none l.starts starts s inside), omega (arith, none l.ends ends s inside));
+    positions = positions;
+    order = (omega (arith, states, size l.order order), omega (arith, states, size l.component_ends component_ends));
+  }
+    where
+      size : (list : List ℕ) → list ≡ replicate (length m.states) 0 → length list ≡ length m.states
+      size list is = ap (length {A = ℕ}) is ∙ length-replicate (length m.states) 0
+
+      none : (list : List ℕ) → list ≡ replicate (length m.states) 0 → (s : ℕ) → s < length m.states → at list s ≡ 0
+      none list is s lt = ap (λ l. at l s) is ∙ get_or-replicate (length m.states) s 0 0 lt
+
 -- ---- all
 
 module _ (m : ModelData) (l : LinksData) (layout : Layout) (starts : List ℕ)
@@ -90,14 +129,7 @@ module _ (m : ModelData) (l : LinksData) (layout : Layout) (starts : List ℕ)
 
   pub links_built : AreLinks m l
   links_built = record {
-    states = ordered.counts.1;
-    choices = λ s lt. omega (arith, numbered.numbers s (omega (arith, lt)), numbered.numbers (s + 1) (omega (arith, lt)), next_row m s lt);
-    numbers = λ s lt. numbered.numbers s (omega (arith, lt));
-    places = λ s a has.
-        let number : at l.row_starts s + a ≡ row_number m s a = omega (arith, numbered.numbers s (omega (arith, has.state))) in
-        rw (rows, targets, firsts, number) (laid.places s a (inl (has.state, has.choice)));
-    firsts = rw firsts (laid.blocks.rows);
-    weights = rw (weights, firsts) (laid.blocks.total);
+    laid = places_built m l layout ordered.counts.1 rows targets firsts weights laid numbered;
     before = listed_all m starts layout.targets.items (part l.starts l.ends l.before) cut sources.listed;
     before_positions = λ s lt. before_placed s;
     order = ordered;
@@ -107,9 +139,7 @@ module _ (m : ModelData) (l : LinksData) (layout : Layout) (starts : List ℕ)
   pub links_stored : length l.component_ends ≡ length m.states → AreStored l
   links_stored ends = record {
     row_starts = omega (arith, ordered.counts.1, numbered.count);
-    rows = λ s lt.
-        let inside : s < length m.states = omega (arith, lt, ordered.counts.1) in
-        (omega (arith, numbered.numbers s (omega (arith, inside)), numbered.numbers (s + 1) (omega (arith, inside)), next_row m s inside), omega (arith, numbered.numbers (s + 1) (omega (arith, inside)), rows_inside m s inside, laid.count, ap (length {A = RowPlace}) rows));
+    rows = rows_stored m l layout ordered.counts.1 rows targets firsts weights laid numbered;
     lists = (omega (arith, ordered.counts.1, sources.placed.counts.0), omega (arith, ordered.counts.1, sources.placed.counts.1));
     parts = λ s lt.
         let inside : s < length m.states = omega (arith, lt, ordered.counts.1) in

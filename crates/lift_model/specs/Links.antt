@@ -133,14 +133,18 @@ pub record IsRowPlace (m : ModelData) (targets : List ℕ) (firsts : Firsts) (ro
   pub entries : slice_range targets place.entries (place.entries + place.count) ≡ targets_of row
   pub block : HasBlock m firsts row place.weights
 
--- the links of a model
-pub record AreLinks (m : ModelData) (l : LinksData) : Type 0 where
+-- where the rows of a model and their weights stand
+pub record ArePlaces (m : ModelData) (l : LinksData) : Type 0 where
   pub states : state_count l ≡ length m.states
   pub choices : (s : ℕ) → s < length m.states → choice_count l s ≡ length (choices m s)
   pub numbers : (s : ℕ) → s < length m.states → slice_index_or l.row_starts s 0 ≡ row_number m s 0
   pub places : (s a : ℕ) → HasChoice m s a → IsRowPlace m l.targets l.firsts (row_at m s a) (place l s a)
   pub firsts : (block : ℕ) → block < length l.firsts → HasChoice m (slice_index_or l.firsts block no_first).state (slice_index_or l.firsts block no_first).choice
   pub weights : l.weights ≡ block_place m l.firsts (length l.firsts)
+
+-- the links of a model: the places of its rows, the states before each state, and an order
+pub record AreLinks (m : ModelData) (l : LinksData) : Type 0 where
+  pub laid : ArePlaces m l
   pub before : (s : ℕ) → s < length m.states → AreBefore m s (states_before l s)
   pub before_positions : (s : ℕ) → s < length m.states → positions_before l s ≡ map (position l) (states_before l s)
   pub order : IsOrder l.order l.positions (length m.states)

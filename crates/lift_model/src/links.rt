@@ -2,12 +2,12 @@
 //! state, and an order of the states.
 
 ghost use Rattle.std.specs.Prelude.{◌≡◌, ◌+◌, ◌<◌, ◌≤◌, false, length, map, slice_index_or, slice_range, IfOk};
-ghost use Rattle.lift_model.specs.Links.{LinksData, AreLinks, state_count, choice_count, row_place, place, states_before, positions_before, position};
+ghost use Rattle.lift_model.specs.Links.{LinksData, ArePlaces, AreLinks, state_count, choice_count, row_place, place, states_before, positions_before, position};
 
 use crate::before::{find_first, find_sources};
 use crate::blocks::FirstRow;
 use crate::layout::{RowPlace, lay_out};
-use crate::lists::number_at;
+use crate::lists::{number_at, zeros};
 use crate::model::Model;
 use crate::order::order_states;
 use std::alloc::{AllocError, Global};
@@ -85,6 +85,32 @@ impl Links {
             component_ends: order.ends,
             positions: order.positions,
             lone,
+        })
+    }
+
+    /// The places of a model's rows alone, for who looks up nothing else: the states before each state
+    /// and the order are left out, which take most of the time. Nothing is promised then of `before`,
+    /// `positions_before`, `order`, `component_ends`, `position` and `is_lone`.
+    pub fn build_places(alloc: Global, model: &Model) -> Result<Links, AllocError>
+        ensures { IfOk result (λ links. ArePlaces model.now links) }
+    {
+        let (layout, starts) = lay_out(alloc, model)?;
+        let (firsts, weights) = layout.blocks.into_firsts();
+        let count = model.states() as usize;
+        Ok(Links {
+            row_starts: starts.rows,
+            rows: layout.rows,
+            targets: layout.targets,
+            firsts,
+            weights,
+            starts: zeros(alloc, count)?,
+            ends: zeros(alloc, count)?,
+            before: Vec::new(alloc),
+            before_positions: Vec::new(alloc),
+            order: zeros(alloc, count)?,
+            component_ends: zeros(alloc, count)?,
+            positions: zeros(alloc, count)?,
+            lone: Vec::new(alloc),
         })
     }
 

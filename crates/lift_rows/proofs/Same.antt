@@ -6,7 +6,7 @@ use Rattle.std.proofs.lemmas.List.{get_or-map, get_or_default, length-map}
 use Rattle.lift_poly.specs.Polynomial.{Term, weight}
 use Rattle.lift_poly.specs.Arithmetic as polynomial
 use Rattle.lift_model.specs.declared.entry.Entry.{Entry}
-use Rattle.lift_model.specs.Links.{LinksData, AreLinks, HasChoice, polynomials, first_row, no_first}
+use Rattle.lift_model.specs.Links.{LinksData, ArePlaces, HasChoice, polynomials, first_row, no_first}
 use Rattle.lift_model.specs.Model.{union, support, choices, row_at}
 use Rattle.corner_lift.specs.Corner.{corner, parameter_count}
 use Rattle.corner_lift.specs.Case.{CaseData, IsAdmittedRow, IsAdmitted, row_coefficient, row_parameters, abs_sum, greatest_size, engine_limit, most_row_parameters}
@@ -73,7 +73,7 @@ module _ (one other : List Entry) (same : polynomials one ≡ polynomials other)
 abbrev pub AreFirstsAdmitted : CaseData → LinksData → ℕ → Type 0
 AreFirstsAdmitted k links count = (block : ℕ) → block < count → IsAdmittedRow k (first_row k.model (get_or links.firsts block no_first))
 
-pub all_admitted : (k : CaseData) (links : LinksData) → AreLinks k.model links → AreFirstsAdmitted k links (length links.firsts) → IsAdmitted k
+pub all_admitted : (k : CaseData) (links : LinksData) → ArePlaces k.model links → AreFirstsAdmitted k links (length links.firsts) → IsAdmitted k
 all_admitted k links are firsts s rows state a row choice =
     let at : a < length (choices k.model s) = rw (get_or_default k.model.states s [] rows state) choice in
     let has : HasChoice k.model s a = record { state = state; choice = at } in

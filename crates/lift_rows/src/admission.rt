@@ -3,7 +3,7 @@ ghost use Rattle.std.specs.Bool.{OnTrue};
 ghost use Rattle.lift_grid.specs.Rectangle.{IsOnGrid};
 ghost use Rattle.lift_grid.specs.Parts.{region_of};
 ghost use Rattle.lift_model.specs.Model.{choices, row_at};
-ghost use Rattle.lift_model.specs.Links.{AreLinks};
+ghost use Rattle.lift_model.specs.Links.{ArePlaces};
 ghost use Rattle.corner_lift.specs.Case.{SumsToOne, IsNarrow, IsNowhereNegative, IsAdmittedRow, IsAdmitted, case_of, row_parameters, most_row_parameters, most_halvings, most_precision};
 ghost use Rattle.lift_rows.specs.Admitted.{HasWeightsFromZero, HasSumsOfTotal};
 ghost use Rattle.lift_rows.specs.Fault.{IsRowFault, IsFirstFault, HasSmallNumber};
@@ -122,7 +122,7 @@ fn test_row(asked: &Candidate, state: u32, choice: u32) -> Result<(), RowError>
 /// Whether the first row of each block is admitted, and so is every row, since rows of a block have the
 /// same polynomials.
 fn firsts_pass(asked: &Candidate, links: &Links) -> bool
-    requires { AreLinks asked.now.model links.now }
+    requires { ArePlaces asked.now.model links.now }
     ensures { OnTrue result (IsAdmitted asked.now) }
 {
     for first in links.firsts() {
@@ -183,7 +183,7 @@ pub fn admit_linked<'m>(
     requires grid { IsOnGrid grid.d grid.depth (length model.now.names) root.now }
     requires depth { grid.depth ≤ most_halvings }
     requires precision { (1 ≤ w) × (w ≤ most_precision) }
-    requires links { AreLinks model.now links.now }
+    requires places { ArePlaces model.now links.now }
     ensures case { IfOk result (λ c. c ≡ case_of model.now (region_of (grid, root.now)) w) }
 
     // Ok exactly where each row is admitted, and else the first fault.
