@@ -14,3 +14,6 @@ pub mod Filling
 pub mod Reading
 pub mod LiveSpans
 pub mod Parting
+pub mod PairSums
+pub mod PairRows
+pub mod ReadRows

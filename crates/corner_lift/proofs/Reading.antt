@@ -64,6 +64,10 @@ count_mapped : {X Y : Type 0} (f : X → Y) (xs : List X) → length (map f xs) 
 count_mapped f [] = refl
 count_mapped f (x ∷ xs) = ap suc (count_mapped f xs)
 
+-- a row has as many targets as entries
+pub targets_count : (row : List Entry) → length row ≡ length (targets_of row)
+targets_count row = sym (count_mapped (λ (entry : Entry). entry.target) row)
+
 last_or_before : (c m : ℕ) → c < suc m → (c < m) ⊎ (c ≡ m)
 last_or_before c m lt = grind arith
 
@@ -146,7 +150,7 @@ module _ (laws : Premises) (k : CaseData) (l : LinksData) (spans : Spans) (weigh
       let lt : b < length l.firsts = omega (arith, le) in
       let next : suc b ≡ b + 1 = omega arith in
       let first = first_row k.model (get_or l.firsts b no_first) in
-      let has = can.links.firsts b lt in
+      let has = can.places.firsts b lt in
       let wide : parameter_count spans (support first) ≡ count_ones (support first) = parameter_count-within spans k.root (support first) can.table.inside.within ∙ sym (parameters_in_root k _ _ is has.state has.choice) in
       let size : length (block k.d spans first) ≡ weight_count first = length_corners k.d spans first (2 ^ parameter_count spans (support first)) ∙ ap (λ n. length first * 2 ^ n) wide in
       rw (next, blocks_more k.model k.d spans l.firsts b lt, length-append, place_more k.model l.firsts b lt) (omega (arith, blocks_length b (omega (arith, lt)), size))
@@ -155,7 +159,7 @@ module _ (laws : Premises) (k : CaseData) (l : LinksData) (spans : Spans) (weigh
   table_length = ap (length {A = ℤ}) (can.table.same ∙ sym (ap (blocks k.model k.d spans) (take_all (length l.firsts) l.firsts (omega arith)))) ∙ blocks_length (length l.firsts) (omega arith)
 
   -- the row's weights end before the table does
-  block_ends : place.weights + place.count * place.corners ≤ length weights
+  pub block_ends : place.weights + place.count * place.corners ≤ length weights
   block_ends =
       let b = placed.block.block in
       omega (arith, size_of, placed.block.begins, table_length, block_inside k.model l.firsts b placed.block.inside, same_size k.d spans (first_row k.model (get_or l.firsts b no_first)) row placed.block.same)
@@ -316,4 +320,4 @@ module _ (laws : Premises) (k : CaseData) (s a : ℕ) (spans : Spans) (x : List 
 
 -- the links know where a row stands
 pub row_placed : (k : CaseData) (l : LinksData) (spans : Spans) (weights : List ℤ) (s a : ℕ) (p : RowPlace) → CanRead k l spans weights s a → p ≡ place_in_links l s a → IsRowPlace k.model l.targets l.firsts (row_at k.model s a) p
-row_placed k l spans weights s a p can e = rw e (can.links.places s a can.row)
+row_placed k l spans weights s a p can e = rw e (can.places.places s a can.row)

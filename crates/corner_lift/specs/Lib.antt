@@ -6,4 +6,6 @@ pub mod Ends
 pub mod Laws
 pub mod Table
 pub mod Dot
+pub mod Pairs
+pub mod ReadRow
 pub mod Premises

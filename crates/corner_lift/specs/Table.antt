@@ -4,7 +4,7 @@ use Rattle.lift_poly.specs.Polynomial.{weight}
 use Rattle.lift_grid.specs.Rectangle.{Spans}
 use Rattle.lift_model.specs.declared.entry.Entry.{Entry}
 use Rattle.lift_model.specs.Model.{ModelData, support}
-use Rattle.lift_model.specs.Links.{LinksData, AreLinks, HasChoice, Firsts, first_row}
+use Rattle.lift_model.specs.Links.{LinksData, ArePlaces, HasChoice, Firsts, first_row}
 use Rattle.corner_lift.specs.Corner.{corner, parameter_count}
 use Rattle.corner_lift.specs.Case.{CaseData, IsInside, row_whole, engine_limit}
 
@@ -35,9 +35,9 @@ pub record IsTable (k : CaseData) (l : LinksData) (spans : Spans) (weights : Lis
   pub inside : IsInside k.root spans
   pub same : weights ≡ table k l spans
 
--- A row's weights can be read: the links are those of the case's model, the weights are the table of a rectangle, and there is such a row.
+-- A row's weights can be read: the places are those of the case's model, the weights are the table of a rectangle, and there is such a row.
 pub record CanRead (k : CaseData) (l : LinksData) (spans : Spans) (weights : List ℤ) (s a : ℕ) : Type 0 where
-  pub links : AreLinks k.model l
+  pub places : ArePlaces k.model l
   pub table : IsTable k l spans weights
   pub row : HasChoice k.model s a
 

@@ -4,11 +4,13 @@
 mod case;
 mod ends;
 mod laws;
+mod pairs;
 mod precision;
 mod rate;
 mod row;
 mod table;
 mod weighted;
+mod within;
 
 pub use case::Case;
 pub use laws::{
@@ -22,3 +24,4 @@ pub use table::{
     AtCorner, Weighed, fill, table_corner, table_greatest, table_into, table_least, table_loop,
     table_max, table_min, table_value, table_whole,
 };
+pub use within::{is_capped, is_held, least_into};

@@ -3,7 +3,7 @@
 ghost use Rattle.std.specs.Prelude.{◌≡◌, ℕ, ◌+◌, ◌*◌, ◌^◌, ◌<◌, ◌≤◌, ◌++◌, ◌≤ℤ◌, ◌<ℤ◌, ◌+ℤ◌, ◌*ℤ◌, ◌-◌, pos, length, All, map, take, count_ones, unsigned_abs, IsTrue, if◌then◌else◌};
 ghost use Rattle.lift_grid.specs.Rectangle.{Spans, spans_of};
 ghost use Rattle.lift_model.specs.Model.{row_at, support};
-ghost use Rattle.lift_model.specs.Links.{AreLinks, weight_count};
+ghost use Rattle.lift_model.specs.Links.{ArePlaces, weight_count};
 ghost use Rattle.corner_lift.specs.Corner.{corner_sum};
 ghost use Rattle.corner_lift.specs.Certificate.{AreNumbers, mark, ranked_below};
 ghost use Rattle.corner_lift.specs.Case.{number, IsCase, IsRowOf, AreSidesInside, IsGreatest, IsLeast, BoundsAbove, BoundsBelow, row_value, row_whole, corner_count, abs_sum, engine_limit, most_precision, most_row_parameters};
@@ -14,6 +14,7 @@ ghost use Rattle.corner_lift.specs.Dot.{dot, total, corner_part, only_at, CanSum
 use crate::case::Case;
 use crate::ends::Ends;
 use crate::laws::premises;
+use crate::pairs::{block_of, greatest_of_pairs, least_of_pairs};
 use crate::row::{greater, lesser};
 use lift_model::{Links, Row, RowPlace};
 
@@ -173,7 +174,7 @@ fn fill_row(case: &Case, sides: &[i64], row: &Row, place: usize, weights: &mut [
 /// Makes the table of a rectangle inside the root. What the weights are before is of no account. Rows
 /// with the same polynomials have one block, which is made once.
 pub fn fill(case: &Case, links: &Links, sides: &[i64], weights: &mut [i128])
-    requires links { AreLinks case.now.model links.now }
+    requires places { ArePlaces case.now.model links.now }
     requires sides { AreSidesInside case.now.root sides.now }
     requires size { length weights.old ≡ links.now.weights }
     ensures { IsTable case.now links.now (spans_of sides.now) weights.new }
@@ -193,7 +194,7 @@ pub fn fill(case: &Case, links: &Links, sides: &[i64], weights: &mut [i128])
 
 /// The weights of a corner of the row that stands at that place.
 #[inline]
-fn corner_of(weights: &[i128], place: RowPlace, corner: u32) -> &[i128]
+pub(crate) fn corner_of(weights: &[i128], place: RowPlace, corner: u32) -> &[i128]
     requires { place.weights + place.count * corner + place.count ≤ length weights.now }
     ensures { result.now ≡ corner_part weights.now place corner }
 {
@@ -204,7 +205,7 @@ fn corner_of(weights: &[i128], place: RowPlace, corner: u32) -> &[i128]
 
 /// A weight times a number.
 #[inline]
-fn times(weight: i128, number: i64) -> i128
+pub(crate) fn times(weight: i128, number: i64) -> i128
     requires { unsigned_abs weight * unsigned_abs number < engine_limit }
     ensures { result ≡ weight *ℤ number }
 {
@@ -263,7 +264,7 @@ fn counted(weight: i128, counts: bool) -> i128
 }
 
 /// The sum of the weights whose target's rank is less than `below`.
-fn sum_below(weights: &[i128], targets: &[u32], ranks: &[u32], below: u32) -> i128
+pub(crate) fn sum_below(weights: &[i128], targets: &[u32], ranks: &[u32], below: u32) -> i128
     requires targets { All (λ t. t < length ranks.now) targets.now }
     requires room { CanSum (ranked_below (mark ranks.now) below) weights.now targets.now }
     ensures { result ≡ dot (ranked_below (mark ranks.now) below) weights.now targets.now }
@@ -289,7 +290,7 @@ fn sum_at(weights: &[i128], targets: &[u32], s: u32) -> i128
 
 /// The sum of the weights.
 #[inline]
-fn total_of(weights: &[i128]) -> i128
+pub(crate) fn total_of(weights: &[i128]) -> i128
     requires weights { All (λ w. pos 0 ≤ℤ w) weights.now }
     requires room { total weights.now <ℤ pos engine_limit }
     ensures { result ≡ total weights.now }
@@ -304,7 +305,7 @@ fn total_of(weights: &[i128]) -> i128
 /// Whether weights that sum to the whole can be summed in numbers of 64 bits, each times a number of at
 /// most 2 to the `w`.
 #[inline]
-fn is_narrow(whole: i128, w: u32) -> bool
+pub(crate) fn is_narrow(whole: i128, w: u32) -> bool
     requires { w ≤ most_precision }
     ensures { IsTrue result → whole <ℤ pos (2 ^ (63 - w)) }
 {
@@ -312,7 +313,7 @@ fn is_narrow(whole: i128, w: u32) -> bool
 }
 
 /// The greatest sum over the corners of the row that stands at that place.
-fn greatest_of(
+pub(crate) fn greatest_of(
     weights: &[i128],
     place: RowPlace,
     targets: &[u32],
@@ -324,6 +325,11 @@ fn greatest_of(
     requires lane { IsTrue narrow → FitsLaneAtCorners (number vec.now) weights.now targets.now place }
     ensures { IsGreatest (λ c. dot (number vec.now) (corner_part weights.now place c) targets.now) place.corners result }
 {
+    if targets.len() == 2 {
+        let first = vec[targets[0] as usize];
+        let second = vec[targets[1] as usize];
+        return greatest_of_pairs(block_of(weights, place), first, second);
+    }
     let mut greatest = sum_of(corner_of(weights, place, 0), targets, vec, narrow);
     for corner in 1..place.corners {
         let sum = sum_of(corner_of(weights, place, corner), targets, vec, narrow);
@@ -333,12 +339,23 @@ fn greatest_of(
 }
 
 /// The least sum over the corners of the row that stands at that place.
-fn least_of(weights: &[i128], place: RowPlace, targets: &[u32], vec: &[i64], narrow: bool) -> i128
+pub(crate) fn least_of(
+    weights: &[i128],
+    place: RowPlace,
+    targets: &[u32],
+    vec: &[i64],
+    narrow: bool,
+) -> i128
     requires targets { All (λ t. t < length vec.now) targets.now }
     requires room { CanCompare (number vec.now) weights.now targets.now place }
     requires lane { IsTrue narrow → FitsLaneAtCorners (number vec.now) weights.now targets.now place }
     ensures { IsLeast (λ c. dot (number vec.now) (corner_part weights.now place c) targets.now) place.corners result }
 {
+    if targets.len() == 2 {
+        let first = vec[targets[0] as usize];
+        let second = vec[targets[1] as usize];
+        return least_of_pairs(block_of(weights, place), first, second);
+    }
     let mut least = sum_of(corner_of(weights, place, 0), targets, vec, narrow);
     for corner in 1..place.corners {
         let sum = sum_of(corner_of(weights, place, corner), targets, vec, narrow);

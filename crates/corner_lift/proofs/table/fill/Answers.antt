@@ -11,7 +11,7 @@ fill_row-at-requires-clause-space c =
     let firsts = ap (length {A = FirstRow}) c.firsts-first-items.ensures in
     let lt : c.loop-first.first-index < length c.args.links.now.firsts = omega (arith, firsts, c.loop-first-test.true) in
     let is = c.row.ensures.value ∙ ap₂ (λ (m : ModelData) (firsts : Firsts). first_row m (slice_index_or firsts c.loop-first.first-index no_first)) c.model-model.ensures.value c.firsts-first-items.ensures in
-    omega (arith, c.loop-first.invariant.at, ap weight_count is, block_inside c.args.case.now.model c.args.links.now.firsts c.loop-first.first-index lt, c.requires.links.weights, c.requires.size, c.loop-first.auto.weights)
+    omega (arith, c.loop-first.invariant.at, ap weight_count is, block_inside c.args.case.now.model c.args.links.now.firsts c.loop-first.first-index lt, c.requires.places.weights, c.requires.size, c.loop-first.auto.weights)
 
 pub loop-first-preserved : goal.loop-first-preserved
 loop-first-preserved c =
@@ -28,4 +28,4 @@ returns c =
     let firsts = ap (length {A = FirstRow}) c.firsts-first-items.ensures in
     let end : c.loop-first.first-index ≡ length c.args.links.now.firsts = omega (arith, firsts, c.loop-first-test.false, c.loop-first.auto.first-index-end) in
     filled_all c.args.case.now c.args.links.now c.args.sides.now c.loop-first.weights c.loop-first.at c.loop-first.first-index c.requires.sides (omega (arith, end))
-    (omega (arith, c.loop-first.invariant.at, ap (block_place c.args.case.now.model c.args.links.now.firsts) end, c.requires.links.weights, c.requires.size, c.loop-first.auto.weights)) c.loop-first.invariant.filled
+    (omega (arith, c.loop-first.invariant.at, ap (block_place c.args.case.now.model c.args.links.now.firsts) end, c.requires.places.weights, c.requires.size, c.loop-first.auto.weights)) c.loop-first.invariant.filled

@@ -1,0 +1,11 @@
+use Rattle.std.proofs.Common.{◌*◌, ◌-◌, ◌≤◌, length}
+use Rattle.corner_lift.specs.Case.{IsLeast}
+use Rattle.corner_lift.specs.Pairs.{pair_sum}
+use Rattle.corner_lift.proofs.pairs.least_of_pairs.Given as goal
+
+-- the least of the corners before this one
+abbrev pub invariant-loop-corner : goal.invariant-loop-corner
+invariant-loop-corner l = (2 * l.corner ≤ length l.block) × IsLeast (λ c. pair_sum l.block c l.first l.second) l.corner l.least
+
+abbrev pub decreases-loop-corner : goal.decreases-loop-corner
+decreases-loop-corner l = length l.block - l.corner
