@@ -1,10 +1,10 @@
 -- Quick tests of certificates: what they say, and why they say it of certificates.
-use Rattle.std.proofs.Common.{◌≡◌, ◌<◌, ℕ, Bool, true, false, List, [], ℤ, ◌≤ℤ◌, refl, arith, IsTrue}
-use Rattle.std.specs.Prelude.{◌↔◌, not, int_le}
+use Rattle.std.proofs.Common.{◌≡◌, ◌<◌, ℕ, Bool, true, false, List, [], ℤ, pos, ◌^◌, ◌*ℤ◌, ◌≤ℤ◌, refl, sym, subst, arith, IsTrue}
+use Rattle.std.specs.Prelude.{◌↔◌, not}
 use Rattle.std.proofs.lemmas.Int.{by_lt_z}
-use Rattle.lift_poly.proofs.Ring.{linear, test_from_le, le_from_test}
+use Rattle.lift_poly.proofs.Ring.{linear, mul-le, mul-comm}
 use Rattle.lift_grid.specs.Rectangle.{Spans}
-use Rattle.corner_lift.specs.Case.{CaseData, Within, IsGreatest, IsLeast}
+use Rattle.corner_lift.specs.Case.{CaseData, Within, IsLeast}
 use Rattle.corner_lift.specs.Certificate.{IsUpper}
 use Rattle.corner_lift.specs.Laws.{ParametersAreTheRoots}
 use Rattle.lift_cert.specs.Certificate.{IsBeyond, IsWithin}
@@ -12,18 +12,13 @@ use Rattle.lift_cert.specs.Miss.{IsAcceptedState}
 use Rattle.lift_cert.specs.declared.bound.Bound.{Bound}
 use Rattle.lift_cert.proofs.Misses.{row_from_means}
 
--- ---- the greatest and the least of values
+-- ---- the least of values
 
-pub greatest_passes : (value : ℕ → ℤ) (count : ℕ) (z right : ℤ) → IsGreatest value count z → (z ≤ℤ right) ↔ ((c : ℕ) → c < count → value c ≤ℤ right)
-greatest_passes value count z right g = (
-  λ le c lt. let at = g.most c lt in omega (arith, linear, at, le),
-  λ all. let at = all g.attained.0 g.attained.1.0 in omega (arith, linear, at, g.attained.1.1),
-)
-
-pub least_passes : (value : ℕ → ℤ) (count : ℕ) (z left : ℤ) → IsLeast value count z → (left ≤ℤ z) ↔ ((c : ℕ) → c < count → left ≤ℤ value c)
-least_passes value count z left g = (
-  λ le c lt. let at = g.least c lt in omega (arith, linear, at, le),
-  λ all. let at = all g.attained.0 g.attained.1.0 in omega (arith, linear, at, g.attained.1.1),
+-- the least of values is enough exactly where each of them is
+pub enough_at_least : (value : ℕ → ℤ) (count : ℕ) (z whole : ℤ) (e : ℕ) → IsLeast value count z → (whole ≤ℤ (z *ℤ pos (2 ^ e))) ↔ ((c : ℕ) → c < count → whole ≤ℤ (value c *ℤ pos (2 ^ e)))
+enough_at_least value count z whole e g = (
+  λ le c lt. let more = mul-le (pos (2 ^ e)) z (value c) (omega (arith, linear)) (g.least c lt) in omega (arith, linear, le, more, mul-comm z (pos (2 ^ e)), mul-comm (value c) (pos (2 ^ e))),
+  λ all. let at = all g.attained.0 g.attained.1.0 in subst (λ (v : ℤ). whole ≤ℤ (v *ℤ pos (2 ^ e))) (sym g.attained.1.1) at,
 )
 
 -- ---- answers
@@ -53,16 +48,3 @@ module _ (parameters : ParametersAreTheRoots) (k : CaseData) (spans : Spans) (wi
     goal = upper.goal s;
     rows = λ inner a lt. row_from_means parameters k spans within x s a (upper.means s inner a [] lt);
   }
-
--- ---- tests of numbers
-
--- a test of two numbers, of which one is the greatest of values
-pub greatest_tested : (value : ℕ → ℤ) (count : ℕ) (z right a b : ℤ) → IsGreatest value count z → a ≡ z → b ≡ right → IsTrue (int_le a b) ↔ ((c : ℕ) → c < count → value c ≤ℤ right)
-greatest_tested value count z right a b g e f =
-    let same = greatest_passes value count z right g in
-    (λ is. same.0 (let le = le_from_test a b is in omega (arith, linear, le, e, f)), λ all. test_from_le a b (let le = same.1 all in omega (arith, linear, le, e, f)))
-
-pub least_tested : (value : ℕ → ℤ) (count : ℕ) (z left a b : ℤ) → IsLeast value count z → a ≡ left → b ≡ z → IsTrue (int_le a b) ↔ ((c : ℕ) → c < count → left ≤ℤ value c)
-least_tested value count z left a b g e f =
-    let same = least_passes value count z left g in
-    (λ is. same.0 (let le = le_from_test a b is in omega (arith, linear, le, e, f)), λ all. test_from_le a b (let le = same.1 all in omega (arith, linear, le, e, f)))

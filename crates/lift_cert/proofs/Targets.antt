@@ -1,5 +1,5 @@
 -- The targets of a row, one after another.
-use Rattle.std.proofs.Common.{◌≡◌, ◌<◌, ◌≤◌, ◌+◌, ◌^◌, ℕ, true, List, length, get_or, slice_range, ℤ, pos, ◌≤ℤ◌, All, nat_lt, subst, ap, ◌∙◌, arith}
+use Rattle.std.proofs.Common.{◌≡◌, ◌<◌, ◌≤◌, ◌+◌, ◌^◌, ℕ, true, List, length, get_or, slice_range, pos, ◌≤ℤ◌, All, nat_lt, subst, ap, ◌∙◌, arith}
 use Rattle.std.proofs.lemmas.List.{get_or_default}
 use Rattle.std.proofs.lemmas.Bool.{lt-ltb}
 use Rattle.std.proofs.lemmas.Nat.{pow_pos}
@@ -8,16 +8,15 @@ use Rattle.lift_grid.specs.Rectangle.{Spans}
 use Rattle.lift_grid.specs.Tree.{RejectData}
 use Rattle.lift_model.specs.declared.layout.RowPlace.{RowPlace}
 use Rattle.lift_model.specs.Model.{ModelData, support, row_at}
-use Rattle.lift_model.specs.Links.{LinksData, AreLinks, HasChoice, place, targets_of}
+use Rattle.lift_model.specs.Links.{LinksData, ArePlaces, HasChoice, place, targets_of}
 use Rattle.corner_lift.specs.Corner.{parameter_count}
-use Rattle.corner_lift.specs.Case.{CaseData, IsCase, IsInside, number, row_whole, corner_count}
+use Rattle.corner_lift.specs.Case.{CaseData, IsCase, IsInside, row_whole, corner_count}
 use Rattle.corner_lift.specs.Certificate.{mark, ranked_below}
-use Rattle.corner_lift.specs.Laws.{HasRow, ParametersAreTheRoots, SumsAreAtMost, SumsAreAtLeast}
-use Rattle.lift_cert.specs.Miss.{IsAcceptedRow}
-use Rattle.lift_cert.specs.RejectMiss.{IsSupported, IsFast, weight_below}
+use Rattle.corner_lift.specs.Laws.{HasRow, ParametersAreTheRoots, SumsAreAtLeast}
+use Rattle.lift_cert.specs.RejectMiss.{IsFast, weight_below}
 
 -- what holds of those that the links tell holds of the row's
-pub all_targets : (P : ℕ → Type 0) (m : ModelData) (l : LinksData) (s a count : ℕ) (at : RowPlace) (items : List ℕ) → AreLinks m l → HasChoice m s a → at ≡ place l s a → items ≡ slice_range l.targets at.entries (at.entries + at.count) → length items ≤ count → ((i : ℕ) → i < count → P (get_or items i 0)) → All P (targets_of (row_at m s a))
+pub all_targets : (P : ℕ → Type 0) (m : ModelData) (l : LinksData) (s a count : ℕ) (at : RowPlace) (items : List ℕ) → ArePlaces m l → HasChoice m s a → at ≡ place l s a → items ≡ slice_range l.targets at.entries (at.entries + at.count) → length items ≤ count → ((i : ℕ) → i < count → P (get_or items i 0)) → All P (targets_of (row_at m s a))
 all_targets P m l s a count at items links choice at_is items_are end holds k d lt =
     let same : items ≡ targets_of (row_at m s a) = items_are ∙ ap (λ (p : RowPlace). slice_range l.targets p.entries (p.entries + p.count)) at_is ∙ (links.places s a choice).entries in
     let inside : k < count = omega (arith, lt, end, ap length same) in
@@ -33,12 +32,6 @@ module _ (parameters : ParametersAreTheRoots) (k : CaseData) (spans : Spans) (is
   corner_there c lt =
       let same : 2 ^ parameter_count spans (support (row_at k.model s a)) ≡ corner_count k s a = ap (λ n. 2 ^ n) (parameters k spans (row_at k.model s a) inside.within) in
       omega (arith, lt, same)
-
-  pub accepted : SumsAreAtMost → (x : List ℤ) → All (λ t. number x t ≤ℤ number x s) (targets_of (row_at k.model s a)) → IsAcceptedRow k spans x s a
-  accepted most x all c lt = most k spans s a (number x) (number x s) is inside there all c (corner_there c lt)
-
-  pub supported : SumsAreAtLeast → (r : RejectData) → All (λ t. number r.numbers s ≤ℤ number r.numbers t) (targets_of (row_at k.model s a)) → (c : ℕ) → c < corner_count k s a → IsSupported k spans r s a c
-  supported least r all c lt = least k spans s a (number r.numbers) (number r.numbers s) is inside there all c (corner_there c lt)
 
   -- a target of lower rank counts
   counts : (ranks : List ℕ) (rank t : ℕ) → mark ranks t < rank → pos 1 ≤ℤ ranked_below (mark ranks) rank t

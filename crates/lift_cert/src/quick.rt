@@ -2,7 +2,7 @@
 
 ghost use Rattle.std.specs.Prelude.{◌≡◌, ◌<◌, ◌≤ℤ◌, ◌↔◌, ℕ, false, length, All, IsTrue};
 ghost use Rattle.lift_grid.specs.Rectangle.{Spans};
-ghost use Rattle.lift_model.specs.Links.{AreLinks, HasChoice, targets_of};
+ghost use Rattle.lift_model.specs.Links.{ArePlaces, HasChoice, targets_of};
 ghost use Rattle.lift_model.specs.Model.{is_goal, row_at};
 ghost use Rattle.corner_lift.specs.Case.{IsCase, corner_count, number};
 ghost use Rattle.corner_lift.specs.Certificate.{AreNumbers, mark};
@@ -11,51 +11,18 @@ ghost use Rattle.lift_cert.specs.Certificate.{IsAccepting, IsRejecting};
 ghost use Rattle.lift_cert.specs.Miss.{IsAcceptedRow, IsAcceptedState};
 ghost use Rattle.lift_cert.specs.RejectMiss.{HasRejectForm, IsSupported, IsFast, IsHeldRow, IsHeldState};
 
-use crate::accept::times;
 use crate::bound::Bound;
 use crate::certificate::Certificate;
 use corner_lift::{
-    Case, Weighed, corners_bound_weights, is_enough, one_at, rows_at_corners, table_greatest,
-    table_into, table_least, table_whole,
+    Case, Weighed, corners_bound_weights, is_capped, is_enough, is_held, least_into, one_at,
+    rows_at_corners,
 };
 use lift_model::Links;
-
-/// Whether no target of a row has a number above this one.
-#[inline]
-fn are_at_most(case: &Case, links: &Links, x: &[i64], state: u32, choice: u32, most: i64) -> bool
-    requires links { AreLinks case.now.model links.now }
-    requires row { HasChoice case.now.model state choice }
-    ensures { IsTrue result → All (λ t. number x.now t ≤ℤ most) (targets_of (row_at case.now.model state choice)) }
-{
-    for target in links.targets(links.place(state, choice)) {
-        let place = *target as usize;
-        if place >= x.len() || x[place] > most {
-            return false;
-        }
-    }
-    true
-}
-
-/// Whether no target of a row has a number below this one.
-#[inline]
-fn are_at_least(case: &Case, links: &Links, y: &[i64], state: u32, choice: u32, least: i64) -> bool
-    requires links { AreLinks case.now.model links.now }
-    requires row { HasChoice case.now.model state choice }
-    ensures { IsTrue result → All (λ t. least ≤ℤ number y.now t) (targets_of (row_at case.now.model state choice)) }
-{
-    for target in links.targets(links.place(state, choice)) {
-        let place = *target as usize;
-        if place >= y.len() || y[place] < least {
-            return false;
-        }
-    }
-    true
-}
 
 /// Whether each target of a row has a lower rank than this one.
 #[inline]
 fn are_below(case: &Case, links: &Links, ranks: &[u32], state: u32, choice: u32, below: u32) -> bool
-    requires links { AreLinks case.now.model links.now }
+    requires places { ArePlaces case.now.model links.now }
     requires row { HasChoice case.now.model state choice }
     ensures { IsTrue result → All (λ t. mark ranks.now t < below) (targets_of (row_at case.now.model state choice)) }
 {
@@ -68,8 +35,7 @@ fn are_below(case: &Case, links: &Links, ranks: &[u32], state: u32, choice: u32,
     true
 }
 
-/// Whether the row of the state's choice passes at each of its corners. Where no target has a greater number
-/// than the state, nothing is weighed.
+/// Whether the row of the state's choice passes at each of its corners.
 fn is_row_accepted(
     case: &Case,
     links: &Links,
@@ -85,18 +51,13 @@ fn is_row_accepted(
 {
     rows_at_corners();
     let _ = case.w();
-    let number = x[state as usize];
-    if are_at_most(case, links, x, state, choice, number) {
-        return true;
-    }
-    let Weighed { sum, whole } = table_greatest(case, links, weights, state, choice, x);
-    sum <= times(number, whole)
+    is_capped(case, links, weights, state, choice, x, x[state as usize])
 }
 
 /// Whether each row of an inner state passes.
 fn are_rows_accepted(case: &Case, links: &Links, weights: &[i128], x: &[i64], state: u32) -> bool
     ghost spans: { Spans }
-    requires links { AreLinks case.now.model links.now }
+    requires places { ArePlaces case.now.model links.now }
     requires table { IsTable case.now links.now spans weights.now }
     requires numbers { AreNumbers case.now x.now }
     requires state { state < length case.now.model.states }
@@ -114,7 +75,7 @@ fn are_rows_accepted(case: &Case, links: &Links, weights: &[i128], x: &[i64], st
 /// Whether the state passes.
 fn is_state_accepted(case: &Case, links: &Links, weights: &[i128], x: &[i64], state: u32) -> bool
     ghost spans: { Spans }
-    requires links { AreLinks case.now.model links.now }
+    requires places { ArePlaces case.now.model links.now }
     requires table { IsTable case.now links.now spans weights.now }
     requires numbers { AreNumbers case.now x.now }
     requires state { state < length case.now.model.states }
@@ -134,7 +95,7 @@ fn is_state_accepted(case: &Case, links: &Links, weights: &[i128], x: &[i64], st
 /// 0 to 2^w for each state. Takes no memory. The rows of goal states aren't looked at.
 pub fn is_accepting(case: &Case, links: &Links, weights: &[i128], bound: Bound, x: &[i64]) -> bool
     ghost spans: { Spans }
-    requires links { AreLinks case.now.model links.now }
+    requires places { ArePlaces case.now.model links.now }
     requires table { IsTable case.now links.now spans weights.now }
     requires numbers { AreNumbers case.now x.now }
     ensures { IsTrue result ↔ IsAccepting case.now spans bound x.now }
@@ -149,8 +110,7 @@ pub fn is_accepting(case: &Case, links: &Links, weights: &[i128], bound: Bound, 
     bound.admits(x[model.init() as usize], case.w())
 }
 
-/// Whether a ranked state's number is at most the mean at each corner of the row that it picks. Where no target
-/// has a lesser number, nothing is weighed.
+/// Whether a ranked state's number is at most the mean at each corner of the row that it picks.
 fn is_row_supported(
     case: &Case,
     links: &Links,
@@ -168,24 +128,7 @@ fn is_row_supported(
     rows_at_corners();
     let _ = case.w();
     let number = r.number(case, state);
-    let numbers = r.numbers();
-    if are_at_least(case, links, numbers, state, choice, number) {
-        return true;
-    }
-    let Weighed { sum, whole } = table_least(case, links, weights, state, choice, numbers);
-    times(number, whole) <= sum
-}
-
-/// How many corners the row of the state's choice has.
-fn corners_at(case: &Case, links: &Links, state: u32, choice: u32) -> u32
-    requires links { AreLinks case.now.model links.now }
-    requires row { HasChoice case.now.model state choice }
-    ensures count { result ≡ corner_count case.now state choice }
-    ensures case { IsCase case.now }
-{
-    rows_at_corners();
-    let _ = case.w();
-    links.place(state, choice).corners
+    is_held(case, links, weights, state, choice, r.numbers(), number)
 }
 
 /// Whether each corner of the row that a ranked state picks has enough weight into lower ranks. Where all
@@ -212,14 +155,8 @@ fn is_row_fast(
     if are_below(case, links, ranks, state, choice, rank) {
         return true;
     }
-    let whole = table_whole(case, links, weights, state, choice);
-    for corner in 0..corners_at(case, links, state, choice) {
-        let weight = table_into(case, links, weights, state, choice, corner, ranks, rank);
-        if !is_enough(weight, r.e(), whole) {
-            return false;
-        }
-    }
-    true
+    let Weighed { sum, whole } = least_into(case, links, weights, state, choice, ranks, rank);
+    is_enough(sum, r.e(), whole)
 }
 
 /// Whether the row that a ranked state picks passes at each of its corners.
@@ -245,7 +182,7 @@ fn is_row_held(
 /// Whether the state passes.
 fn is_state_held(case: &Case, links: &Links, weights: &[i128], r: &Certificate, state: u32) -> bool
     ghost spans: { Spans }
-    requires links { AreLinks case.now.model links.now }
+    requires places { ArePlaces case.now.model links.now }
     requires table { IsTable case.now links.now spans weights.now }
     requires form { HasRejectForm case.now r.now }
     requires state { state < length case.now.model.states }
@@ -281,7 +218,7 @@ pub fn is_rejecting(
     k: u32,
 ) -> bool
     ghost spans: { Spans }
-    requires links { AreLinks case.now.model links.now }
+    requires places { ArePlaces case.now.model links.now }
     requires table { IsTable case.now links.now spans weights.now }
     requires form { HasRejectForm case.now
         (record { numbers = y.now; picks = picks.now; ranks = ranks.now; e = e; k = k }) }

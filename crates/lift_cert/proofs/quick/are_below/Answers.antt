@@ -13,4 +13,4 @@ loop-target-preserved c =
 
 pub returns : goal.returns
 returns c = λ is.
-    all_targets (λ t. mark c.args.ranks.now t < c.args.below) c.args.case.now.model c.args.links.now c.args.state c.args.choice c.loop-target.target-index c.place.result c.targets-target-items.result.now c.requires.links c.requires.row c.place.ensures c.targets-target-items.ensures c.loop-target-test.false c.loop-target.invariant
+    all_targets (λ t. mark c.args.ranks.now t < c.args.below) c.args.case.now.model c.args.links.now c.args.state c.args.choice c.loop-target.target-index c.place.result c.targets-target-items.result.now c.requires.places c.requires.row c.place.ensures c.targets-target-items.ensures c.loop-target-test.false c.loop-target.invariant

@@ -1,4 +1,4 @@
 use Rattle.lift_cert.proofs.quick.is_row_accepted.Given as goal
 
-abbrev pub ghost-table_greatest : goal.ghost-table_greatest
-ghost-table_greatest g a = g.spans
+abbrev pub ghost-is_capped : goal.ghost-is_capped
+ghost-is_capped g a = g.spans

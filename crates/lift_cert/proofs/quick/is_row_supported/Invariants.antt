@@ -1,4 +1,4 @@
 use Rattle.lift_cert.proofs.quick.is_row_supported.Given as goal
 
-abbrev pub ghost-table_least : goal.ghost-table_least
-ghost-table_least g a = g.spans
+abbrev pub ghost-is_held : goal.ghost-is_held
+ghost-is_held g a = g.spans

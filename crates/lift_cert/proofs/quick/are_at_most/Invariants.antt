@@ -1,7 +1,0 @@
-use Rattle.std.proofs.Common.{ℕ, ◌<◌, ◌≤ℤ◌, slice_index_or}
-use Rattle.corner_lift.specs.Case.{number}
-use Rattle.lift_cert.proofs.quick.are_at_most.Given as goal
-
--- so it is with the targets so far
-abbrev pub invariant-loop-target : goal.invariant-loop-target
-invariant-loop-target l = (i : ℕ) → i < l.target-index → number l.x (slice_index_or l.target-items i 0) ≤ℤ l.most
