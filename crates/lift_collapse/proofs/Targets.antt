@@ -5,10 +5,10 @@ use Rattle.std.proofs.lemmas.List.Elements.{All-push}
 use Rattle.std.proofs.Math.Seq.{take-suc}
 use Rattle.lift_model.specs.declared.layout.RowPlace.{RowPlace}
 use Rattle.lift_model.specs.Model.{ModelData, row_at}
-use Rattle.lift_model.specs.Links.{LinksData, AreLinks, HasChoice, place, targets_of}
+use Rattle.lift_model.specs.Links.{LinksData, ArePlaces, HasChoice, place, targets_of}
 
 -- what holds of those that the links tell holds of the row's
-pub all_targets : (P : ℕ → Type 0) (m : ModelData) (l : LinksData) (s a count : ℕ) (at : RowPlace) (items : List ℕ) → AreLinks m l → HasChoice m s a → at ≡ place l s a → items ≡ slice_range l.targets at.entries (at.entries + at.count) → length items ≤ count → ((i : ℕ) → i < count → P (get_or items i 0)) → All P (targets_of (row_at m s a))
+pub all_targets : (P : ℕ → Type 0) (m : ModelData) (l : LinksData) (s a count : ℕ) (at : RowPlace) (items : List ℕ) → ArePlaces m l → HasChoice m s a → at ≡ place l s a → items ≡ slice_range l.targets at.entries (at.entries + at.count) → length items ≤ count → ((i : ℕ) → i < count → P (get_or items i 0)) → All P (targets_of (row_at m s a))
 all_targets P m l s a count at items links choice at_is items_are end holds k d lt =
     let same : items ≡ targets_of (row_at m s a) = items_are ∙ ap (λ (p : RowPlace). slice_range l.targets p.entries (p.entries + p.count)) at_is ∙ (links.places s a choice).entries in
     let inside : k < count = omega (arith, lt, end, ap length same) in

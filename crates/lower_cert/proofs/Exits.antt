@@ -83,7 +83,7 @@ module _ (k : CaseData) (spans : Spans) (place : Place k spans) (s a : ℕ) (cho
 
 pub corners_is : BitsAreParameters → (k : CaseData) (l : LinksData) (s a : ℕ) (p : RowPlace) → IsCase k → AreLinks k.model l → HasChoice k.model s a → p ≡ place l s a → p.corners ≡ corner_count k s a
 corners_is bits k l s a p is are has at =
-    ap (λ (q : RowPlace). q.corners) at ∙ (are.places s a has).corners ∙ ap (λ n. 2 ^ n) (bits k s a is.asked (record { state = has.state; choice = has.choice }))
+    ap (λ (q : RowPlace). q.corners) at ∙ (are.laid.places s a has).corners ∙ ap (λ n. 2 ^ n) (bits k s a is.asked (record { state = has.state; choice = has.choice }))
 
 pub some_corner : (k : CaseData) (s a : ℕ) → 1 ≤ corner_count k s a
 some_corner k s a = pow_pos (row_parameters k (row_at k.model s a))

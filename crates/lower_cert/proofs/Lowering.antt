@@ -1,23 +1,22 @@
 -- How a vector is lowered to the greatest lower vector.
 use Rattle.std.proofs.Common.{◌≡◌, ◌≢◌, ℕ, zero, suc, ◌+◌, ◌^◌, ◌<◌, ◌≤◌, ◌⊎◌, inl, inr, ⊎_elim, Bool, true, false, List, [], ◌∷◌, length, get_or, set, take, sum_by, All, ℤ, pos, ◌-ℤ◌, ◌*ℤ◌, ◌≤ℤ◌, ◌<ℤ◌, refl, sym, ap, subst, ◌∙◌, arith, nat_lt, true≢false, ltb-true, ltb-false, length-set, get_or-set_same, get_or-set_other}
 use Rattle.std.proofs.lemmas.Int.{ints}
-use Rattle.std.proofs.lemmas.Nat.{pow_pos}
 use Rattle.std.proofs.lemmas.List.Elements.{All-nil, All-cons}
 use Rattle.std.proofs.lemmas.List.Sums.{sum_by-cons}
-use Rattle.lift_poly.proofs.Ring.{linear, mul-comm, mul-zero, mul-le, mul-le_cancel}
+use Rattle.lift_poly.proofs.Ring.{linear, mul-comm, mul-zero, mul-le}
 use Rattle.lift_grid.specs.Rectangle.{Spans}
 use Rattle.lift_model.specs.declared.entry.Entry.{Entry}
 use Rattle.lift_model.specs.Process.{power}
 use Rattle.lift_model.specs.Model.{is_goal, choices, row_at, support}
-use Rattle.lift_model.specs.Links.{row_number, targets_of}
+use Rattle.lift_model.specs.Links.{row_number}
 use Rattle.corner_lift.specs.Corner.{whole, parameter_count}
-use Rattle.corner_lift.specs.Case.{CaseData, IsCase, IsInside, IsLeast, number, row_value, row_whole, corner_count}
+use Rattle.corner_lift.specs.Case.{CaseData, IsCase, IsInside, number, row_value, row_whole, corner_count}
 use Rattle.corner_lift.specs.Certificate.{unmarked, mark}
 use Rattle.corner_lift.specs.Laws.{NumbersAreInRange, ParametersAreTheRoots}
 use Rattle.corner_lift.specs.Stages.{IsAllowed}
 use Rattle.lower_cert.specs.Lowering.{IsHigh, IsRanked, AreToldBefore, IsTold, IsStuckLevel, IsLoweredAt, total}
 use Rattle.lower_cert.specs.Laws.{is_stuck, CappingKeepsUnder, StuckAreCapped}
-use Rattle.lower_cert.proofs.Means.{Place, either_way, level, mono, only, positive}
+use Rattle.lower_cert.proofs.Means.{Place, either_way, level, mono, positive}
 use Rattle.lower_cert.proofs.Stuck.{stuck_parts}
 use Rattle.lower_cert.proofs.Heights.{rank-fits, below-no, mark-beyond}
 
@@ -51,15 +50,16 @@ start_high ranges k spans x is size all =
 
 -- ---- what is allowed
 
--- the least sum tells whether a choice is allowed
-pub allowed_is : ParametersAreTheRoots → (k : CaseData) (spans : Spans) (x : List ℤ) (s a : ℕ) (m : ℤ) → IsInside k.root spans → IsLeast (row_value k spans s a x) (corner_count k s a) m
-    → ((number x s *ℤ row_whole k s a) ≤ℤ m → IsAllowed k spans (number x) s a) × (IsAllowed k spans (number x) s a → (number x s *ℤ row_whole k s a) ≤ℤ m)
-allowed_is parameters k spans x s a m within least =
+-- a choice is allowed where its mean is at least the state's number at each corner
+pub held_is : ParametersAreTheRoots → (k : CaseData) (spans : Spans) (x : List ℤ) (s a : ℕ) → IsInside k.root spans
+    → (((c : ℕ) → c < corner_count k s a → (number x s *ℤ row_whole k s a) ≤ℤ row_value k spans s a x c) → IsAllowed k spans (number x) s a)
+    × (IsAllowed k spans (number x) s a → (c : ℕ) → c < corner_count k s a → (number x s *ℤ row_whole k s a) ≤ℤ row_value k spans s a x c)
+held_is parameters k spans x s a within =
     let row = row_at k.model s a in
     let same : parameter_count spans (support row) ≡ parameter_count k.root (support row) = parameters k spans row within.within in
     let wholes : number x s *ℤ whole k.model k.d spans row ≡ number x s *ℤ row_whole k s a = ap (λ n. number x s *ℤ (k.model.common *ℤ power k.d n)) same in (
-      λ le c lt. omega (arith, linear, le, least.least c (subst (λ n. c < 2 ^ n) same lt), wholes),
-      λ h. omega (arith, linear, h least.attained.0 (subst (λ n. least.attained.0 < 2 ^ n) (sym same) least.attained.1.0), least.attained.1.1, wholes),
+      λ held c lt. omega (arith, linear, held c (subst (λ n. c < 2 ^ n) same lt), wholes),
+      λ h c lt. omega (arith, linear, h c (subst (λ n. c < 2 ^ n) (sym same) lt), wholes),
     )
 
 module _ (k : CaseData) (spans : Spans) (place : Place k spans) (x : List ℤ) (s a : ℕ) (choice : a < length (choices k.model s)) where
@@ -69,15 +69,6 @@ module _ (k : CaseData) (spans : Spans) (place : Place k spans) (x : List ℤ) (
   -- each choice holds 0
   pub zero_allowed : ((t : ℕ) → pos 0 ≤ℤ number x t) → number x s ≤ℤ pos 0 → IsAllowed k spans (number x) s a
   zero_allowed least le c lt = omega (arith, linear, mono k spans place s a choice c (λ t. pos 0) (number x) least, level k spans place s a choice c lt (pos 0), mul-zero full, mul-le full (number x s) (pos 0) (let p = positive k spans place s a choice in omega (arith, linear, p)) le, mul-comm full (number x s))
-
-  -- a choice whose row has one entry holds what its target has
-  pub only_allowed : (t : ℕ) → targets_of (row_at k.model s a) ≡ t ∷ [] → (number x s ≤ℤ number x t → IsAllowed k spans (number x) s a) × (IsAllowed k spans (number x) s a → number x s ≤ℤ number x t)
-  only_allowed t one =
-      let p = positive k spans place s a choice in
-      let some = pow_pos (parameter_count spans (support (row_at k.model s a))) in (
-        λ le c lt. omega (arith, linear, only k spans place s a choice c lt t one (number x), mul-le full (number x s) (number x t) (omega (arith, linear, p)) le, mul-comm full (number x s)),
-        λ h. mul-le_cancel full (number x s) (number x t) (omega (arith, linear, p)) (omega (arith, linear, h 0 some, only k spans place s a choice 0 some t one (number x), mul-comm full (number x s))),
-      )
 
 first_more : (x : List (List Entry)) (rows : List (List (List Entry))) (s : ℕ) → sum_by length (take (suc s) (x ∷ rows)) ≡ length x + sum_by length (take s rows)
 first_more x rows s = sum_by-cons length x (take s rows)

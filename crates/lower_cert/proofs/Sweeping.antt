@@ -67,10 +67,6 @@ only_holds k spans place x s a t choice one low =
     let some = pow_pos (parameter_count spans (support (row_at k.model s a))) in
     (0, (some, inr (inr (omega (arith, linear, only k spans place s a choice 0 some t one (number x), positive k spans place s a choice, add-mul (number x t) (pos 1) full, one-mul full, mul-comm full (number x t))))))
 
--- of a choice that holds the state's own number there is nothing to say
-pub holds_itself : (k : CaseData) (spans : Spans) (x : List ℤ) (s a : ℕ) → HoldsNoMore k spans x s a (number x s)
-holds_itself k spans x s a = λ low. absurd (omega (arith, linear, low))
-
 pub same_or_less : (b a : ℕ) → b < a + 1 → (b < a) ⊎ (b ≡ a)
 same_or_less b a lt = grind arith
 

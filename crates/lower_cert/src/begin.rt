@@ -13,7 +13,7 @@ use crate::laws::vectors_are_lowered;
 use crate::lower::start;
 use crate::part::{fill_part, flag_part, note, open_state};
 use crate::raise::raise_part;
-use crate::sweep::{clear_flags, component_end, is_single, pass, settle_part, visit};
+use crate::sweep::{clear_flags, component_end, is_single, pass, settle_part, visit, visit_alone};
 use corner_lift::{Case, one_at, rows_at_corners};
 use float_guess::{Extreme, Rounding, Shares, Way, guess_part, low_word_of};
 use lift_model::Links;
@@ -320,7 +320,8 @@ fn first_passes(low: u32, high: u32) -> u32 {
     }
 }
 
-/// Lowers the states of a component from 1, from a guess, or from where it is begun anew.
+/// Lowers the states of a component from 1, from a guess, or from where it is begun anew. A single state
+/// needs one visit, and what leads to it comes later.
 fn begin_part(
     case: &Case,
     links: &Links,
@@ -335,12 +336,14 @@ fn begin_part(
     requires can { CanLower case.now links.now (from_top case.now spans) weights.now lane.old }
     requires work { length work.old ≡ 2 * length case.now.model.states }
     requires high { (high ≤ length case.now.model.states) × (high ≤ length links.now.order) }
+    requires low { low < high }
     ensures { IsHigh case.now spans lane.new }
 {
-    visit_first(case, links, weights, lane, work, low, high);
     if is_single(low, high) {
+        visit_alone(case, links, weights, lane, low);
         return;
     }
+    visit_first(case, links, weights, lane, work, low, high);
     let first = first_passes(low, high);
     if settle_within(case, links, weights, limit, lane, work, low, high, first) {
         return;

@@ -10,8 +10,8 @@ ghost use Rattle.corner_lift.specs.Stages.{IsAllowed};
 ghost use Rattle.lower_cert.specs.Lowering.{IsRead, HasPlaces, IsHigh, IsRanked, AreToldBefore, IsStuckLevel, IsLoweredAt, total};
 
 use crate::laws::{premises, vectors_are_lowered};
-use crate::sweep::{choice_count, only_target};
-use corner_lift::{Case, Weighed, one_at, rows_at_corners, table_least};
+use crate::sweep::choice_count;
+use corner_lift::{Case, is_held, one_at, rows_at_corners};
 use lift_model::Links;
 use robust_rank::{attract, ranks_go_by_stages};
 
@@ -49,14 +49,6 @@ pub(crate) fn is_at_most(a: i128, b: i128) -> bool
     a <= b
 }
 
-/// The same for numbers.
-#[inline(always)]
-fn is_no_more(a: i64, b: i64) -> bool
-    ensures { IsTrue result ↔ a ≤ℤ b }
-{
-    a <= b
-}
-
 /// Whether the state's choice holds its number at each corner.
 #[inline(always)]
 fn is_allowed(case: &Case, links: &Links, weights: &[i128], lane: &[i64], s: u32, a: u32) -> bool
@@ -72,11 +64,7 @@ fn is_allowed(case: &Case, links: &Links, weights: &[i128], lane: &[i64], s: u32
     if number <= 0 {
         return true;
     }
-    if let Some(target) = only_target(case, links, s, a) {
-        return is_no_more(number, lane[target as usize]);
-    }
-    let Weighed { sum, whole } = table_least(case, links, weights, s, a, lane);
-    is_at_most(times(number, whole), sum)
+    is_held(case, links, weights, s, a, lane, number)
 }
 
 /// 1 for what is so, and 0 for what isn't.

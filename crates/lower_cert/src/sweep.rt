@@ -173,11 +173,7 @@ fn held_by_least(case: &Case, links: &Links, weights: &[i128], lane: &[i64], s: 
 {
     rows_at_corners();
     let _ = case.w();
-    let number = lane[s as usize];
     let Weighed { sum, whole } = table_least(case, links, weights, s, a, lane);
-    if times(number, whole) <= sum {
-        return number;
-    }
     rounded_down(sum, whole)
 }
 
@@ -289,13 +285,11 @@ fn try_state(case: &Case, links: &Links, weights: &[i128], lane: &mut [i64], s: 
     lower_state(case, links, weights, lane, s)
 }
 
-/// Flags a position that lies before the frontier.
+/// Flags a position, if it is one of these.
 #[inline(always)]
-fn set_flag(work: &mut [u32], position: u32, frontier: u32) {
-    if position < frontier {
-        if let Some(flag) = work.get_mut(position as usize) {
-            *flag = 1;
-        }
+fn set_flag(flags: &mut [u32], position: u32) {
+    if let Some(flag) = flags.get_mut(position as usize) {
+        *flag = 1;
     }
 }
 
@@ -305,9 +299,11 @@ fn set_flag(work: &mut [u32], position: u32, frontier: u32) {
 pub(crate) fn flag_before(links: &Links, work: &mut [u32], s: u32, own: u32, frontier: u32)
     requires { s < state_count links.now }
 {
+    let end = work.len().min(frontier as usize);
+    let flags = &mut work[..end];
     for position in links.positions_before(s) {
         if *position != own {
-            set_flag(work, *position, frontier);
+            set_flag(flags, *position);
         }
     }
 }
@@ -339,10 +335,31 @@ pub(crate) fn flag_marked(case: &Case, links: &Links, marks: &[u32], work: &mut 
 {
     for s in 0..case.model().states() {
         if marks[s as usize] == 0 {
-            set_flag(work, links.position(s), u32::MAX);
+            set_flag(work, links.position(s));
             flag_before(links, work, s, u32::MAX, u32::MAX);
         }
     }
+}
+
+/// Lowers the state at a position, and tells whether it fell. No state is flagged.
+#[inline(always)]
+pub(crate) fn visit_alone(
+    case: &Case,
+    links: &Links,
+    weights: &[i128],
+    lane: &mut [i64],
+    position: u32,
+) -> bool
+    ghost run: { Run }
+    requires can { CanLower case.now links.now run weights.now lane.old }
+    requires position { position < length links.now.order }
+    ensures { IsLowered case.now run lane.old lane.new result }
+{
+    let s = links.order()[position as usize];
+    if s >= case.model().states() {
+        return false;
+    }
+    try_state(case, links, weights, lane, s)
 }
 
 /// Lowers the state at a position, and where it fell, flags those that lead to it, as far as they lie before

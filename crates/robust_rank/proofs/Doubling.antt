@@ -1,15 +1,16 @@
 -- Rates: how often a weight is doubled to be enough, at all corners of a row and for all picks.
-use Rattle.std.proofs.Common.{◌≡◌, ◌+◌, ◌-◌, ◌*◌, ◌^◌, ◌<◌, ◌≤◌, ℕ, List, ℤ, pos, ◌*ℤ◌, ◌≤ℤ◌, ◌<ℤ◌, ap, arith, ⊎_elim}
+use Rattle.std.proofs.Common.{◌≡◌, ◌+◌, ◌-◌, ◌*◌, ◌^◌, ◌<◌, ◌≤◌, ℕ, List, ℤ, pos, ◌*ℤ◌, ◌≤ℤ◌, ◌<ℤ◌, ap, subst, sym, arith, ⊎_elim}
 use Rattle.std.proofs.lemmas.Nat.{pow_pos, pow-add}
 use Rattle.lift_poly.proofs.Ring.{linear, mul-comm, mul-le}
 use Rattle.lift_grid.specs.Rectangle.{Spans}
 use Rattle.lift_model.specs.Process.{power}
-use Rattle.lift_model.specs.Model.{row_at}
-use Rattle.corner_lift.specs.Corner.{corner_sum, whole}
-use Rattle.corner_lift.specs.Case.{CaseData, IsCase, IsInside, row_whole}
+use Rattle.lift_model.specs.Model.{row_at, support}
+use Rattle.corner_lift.specs.Corner.{corner_sum, parameter_count, whole}
+use Rattle.corner_lift.specs.Case.{CaseData, IsCase, IsInside, IsLeast, corner_count, row_whole}
 use Rattle.corner_lift.specs.Certificate.{mark, ranked_below}
+use Rattle.corner_lift.specs.Stages.{LeadsBelow}
 use Rattle.corner_lift.specs.Laws.{ParametersAreTheRoots}
-use Rattle.robust_rank.specs.Rate.{IsRowRateBefore, IsStateRate, IsStateRateBefore, IsFirstFrom}
+use Rattle.robust_rank.specs.Rate.{IsRowRate, IsStateRate, IsStateRateBefore, IsFirstFrom}
 use Rattle.robust_rank.proofs.Means.{in_or_past, positive_part, whole-positive}
 
 -- ---- the first from a given one on
@@ -55,20 +56,38 @@ module _ (k : CaseData) (spans : Spans) (is : IsCase k) (ranks : List ℕ) where
   corner_more : (s a c m n : ℕ) → m ≤ n → (whole k.model k.d spans (row_at k.model s a) ≤ℤ (corner_sum k.d spans (row_at k.model s a) c (ranked_below (mark ranks) (mark ranks s)) *ℤ pos (2 ^ m))) → whole k.model k.d spans (row_at k.model s a) ≤ℤ (corner_sum k.d spans (row_at k.model s a) c (ranked_below (mark ranks) (mark ranks s)) *ℤ pos (2 ^ n))
   corner_more s a c m n le enough = enough_more (corner_sum k.d spans (row_at k.model s a) c (ranked_below (mark ranks) (mark ranks s))) (whole k.model k.d spans (row_at k.model s a)) m n (whole-positive k spans (row_at k.model s a) is) le enough
 
-  pub next_corner : ParametersAreTheRoots → IsInside k.root spans → (s a c first e next : ℕ) (weight all : ℤ) → weight ≡ corner_sum k.d spans (row_at k.model s a) c (ranked_below (mark ranks) (mark ranks s)) → all ≡ row_whole k s a
-      → IsFirstFrom (IsRowRateBefore k spans ranks s a c) first e → IsFirstFrom (λ e. all ≤ℤ (weight *ℤ pos (2 ^ e))) e next → IsFirstFrom (IsRowRateBefore k spans ranks s a (c + 1)) first next
-  next_corner parameters within s a c first e next weight all weight_is all_is =
-      let P = IsRowRateBefore k spans ranks s a c in
-      let Q = λ (e : ℕ). all ≤ℤ (weight *ℤ pos (2 ^ e)) in
-      let same : whole k.model k.d spans (row_at k.model s a) ≡ row_whole k s a = ap (λ n. k.model.common *ℤ power k.d n) (parameters k spans (row_at k.model s a) within.within) in
-      joined P Q (IsRowRateBefore k spans ranks s a (c + 1)) first e next
-      (λ m n le p b lt. corner_more s a b m n le (p b lt))
-      (λ m p q b lt. ⊎_elim (λ (l : b < c). p b l) (λ (past : c ≤ b). let here : b ≡ c = omega (arith, past, lt) in rw here (rw (same, ← all_is, ← weight_is) q)) (in_or_past b c))
-      (λ m r. (λ b lt. r b (omega (arith, lt)), rw (all_is, weight_is, ← same) (r c (omega arith))))
-
   pub next_state : (picks : List ℕ) (s first e next : ℕ) → IsFirstFrom (IsStateRateBefore k spans ranks picks s) first e → IsFirstFrom (IsStateRate k spans ranks picks s) e next → IsFirstFrom (IsStateRateBefore k spans ranks picks (s + 1)) first next
   next_state picks s first e next =
       joined (IsStateRateBefore k spans ranks picks s) (IsStateRate k spans ranks picks s) (IsStateRateBefore k spans ranks picks (s + 1)) first e next
       (λ m n le p t lt picked c small. corner_more t (mark picks t) c m n le (p t lt picked c small))
       (λ m p q t lt. ⊎_elim (λ (l : t < s). p t l) (λ (past : s ≤ t). let same : t ≡ s = omega (arith, past, lt) in rw same q) (in_or_past t s))
       (λ m r. (λ t lt. r t (omega (arith, lt)), r s (omega arith)))
+
+-- the rate at the corner with the least weight is that of the row
+module _ (k : CaseData) (spans : Spans) (within : IsInside k.root spans) (ranks : List ℕ) (s a : ℕ) where
+  pub row_rate : ParametersAreTheRoots → (first e : ℕ) (weight all : ℤ) → IsLeast (λ c. corner_sum k.d spans (row_at k.model s a) c (ranked_below (mark ranks) (mark ranks s))) (corner_count k s a) weight → all ≡ row_whole k s a
+      → IsFirstFrom (λ e. all ≤ℤ (weight *ℤ pos (2 ^ e))) first e → IsFirstFrom (IsRowRate k spans ranks s a) first e
+  row_rate parameters first e weight all is all_is found =
+      let row = row_at k.model s a in
+      let same : parameter_count spans (support row) ≡ parameter_count k.root (support row) = parameters k spans row within.within in
+      let wholes : whole k.model k.d spans row ≡ row_whole k s a = ap (λ n. k.model.common *ℤ power k.d n) same in
+      let there = is.attained in
+      record {
+        from = found.from;
+        holds = λ c lt.
+            let sum = corner_sum k.d spans row c (ranked_below (mark ranks) (mark ranks s)) in
+            let more = mul-le (pos (2 ^ e)) weight sum (omega (arith, linear)) (is.least c (subst (λ n. c < 2 ^ n) same lt)) in
+            omega (arith, linear, found.holds, more, mul-comm (pos (2 ^ e)) weight, mul-comm (pos (2 ^ e)) sum, wholes, all_is);
+        least = λ m le enough. found.least m le (rw (there.1.1, all_is, ← wholes) (enough there.0 (subst (λ n. there.0 < 2 ^ n) (sym same) there.1.0)));
+      }
+
+  -- the least weight tells whether the choice leads below
+  pub leads_is : ParametersAreTheRoots → (below : ℕ) (weight : ℤ) → IsLeast (λ c. corner_sum k.d spans (row_at k.model s a) c (ranked_below (mark ranks) below)) (corner_count k s a) weight
+      → (pos 0 <ℤ weight → LeadsBelow k spans (mark ranks) below s a) × (LeadsBelow k spans (mark ranks) below s a → pos 0 <ℤ weight)
+  leads_is parameters below weight is =
+      let row = row_at k.model s a in
+      let same : parameter_count spans (support row) ≡ parameter_count k.root (support row) = parameters k spans row within.within in
+      let there = is.attained in (
+        λ some c lt. omega (arith, linear, some, is.least c (subst (λ n. c < 2 ^ n) same lt)),
+        λ leads. omega (arith, linear, leads there.0 (subst (λ n. there.0 < 2 ^ n) (sym same) there.1.0), there.1.1),
+      )

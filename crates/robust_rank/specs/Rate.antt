@@ -18,11 +18,6 @@ abbrev pub IsRowRate : CaseData → Spans → List ℕ → ℕ → ℕ → ℕ �
 IsRowRate k spans ranks s a e = let row = row_at k.model s a in
     AtCorners spans row (λ c. whole k.model k.d spans row ≤ℤ (corner_sum k.d spans row c (ranked_below (mark ranks) (mark ranks s)) *ℤ pos (2 ^ e)))
 
--- so it is at the row's first corners, so many
-abbrev pub IsRowRateBefore : CaseData → Spans → List ℕ → ℕ → ℕ → ℕ → ℕ → Type 0
-IsRowRateBefore k spans ranks s a count e = let row = row_at k.model s a in
-    (c : ℕ) → c < count → whole k.model k.d spans row ≤ℤ (corner_sum k.d spans row c (ranked_below (mark ranks) (mark ranks s)) *ℤ pos (2 ^ e))
-
 -- a rate of the state's pick, if it has one
 abbrev pub IsStateRate : CaseData → Spans → List ℕ → List ℕ → ℕ → ℕ → Type 0
 IsStateRate k spans ranks picks s e = mark picks s < unmarked → IsRowRate k spans ranks s (mark picks s) e

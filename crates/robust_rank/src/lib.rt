@@ -1,7 +1,6 @@
 //! Ranks by stages, and the rate of picks.
 #![tactic(auto)]
 
-mod corners;
 mod laws;
 mod marks;
 mod ranking;

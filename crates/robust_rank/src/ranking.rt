@@ -1,6 +1,6 @@
 ghost use Rattle.std.specs.Prelude.{◌≡◌, ◌+◌, List, ◌≤◌, ◌<◌, ◌↔◌, ◌<ℤ◌, pos, ℕ, suc, length, false, IsTrue, IfSome, IsNone, All, count_by, slice_set};
 ghost use Rattle.lift_grid.specs.Rectangle.{Spans};
-ghost use Rattle.lift_model.specs.Model.{is_goal, row_count};
+ghost use Rattle.lift_model.specs.Model.{is_goal, choices, row_count};
 ghost use Rattle.lift_model.specs.Links.{AreLinks, HasChoice, states_before};
 ghost use Rattle.corner_lift.specs.Case.{IsInside};
 ghost use Rattle.corner_lift.specs.Certificate.{mark, unmarked};
@@ -9,9 +9,8 @@ ghost use Rattle.corner_lift.specs.Table.{IsTable};
 ghost use Rattle.robust_rank.specs.Attracting.{Pass};
 ghost use Rattle.robust_rank.specs.Staging.{allows, CanRank, IsLeading, IsLeastLeading, HasLeading, HasNoLeading, OthersHaveNoPick, is_rank, IsReached, IsPickOf, IsStarting, IsComplete, StageData, IsGathering, AreKept, IsLooked};
 
-use crate::corners::corners_of;
 use crate::marks::{NONE, mark_of};
-use corner_lift::{Case, rows_at_corners, table_into};
+use corner_lift::{Case, least_into, rows_at_corners};
 use lift_model::Links;
 
 /// Whether the weight is above 0.
@@ -39,12 +38,8 @@ fn leads_below(
     requires ranks { length ranks.now ≡ length case.now.model.states }
     ensures { IsTrue result ↔ LeadsBelow case.now spans (mark ranks.now) below s a }
 {
-    for corner in 0..corners_of(case, links, s, a) {
-        if !is_positive(table_into(case, links, weights, s, a, corner, ranks, below)) {
-            return false;
-        }
-    }
-    true
+    rows_at_corners();
+    is_positive(least_into(case, links, weights, s, a, ranks, below).sum)
 }
 
 /// Whether the state's choice is allowed.
@@ -77,6 +72,15 @@ fn is_leading(
     is_allowed(case, links, allowed, s, a) && leads_below(case, links, weights, s, a, ranks, below)
 }
 
+/// How many choices a state has, by the links, whose lists lie closer together than the model's.
+fn choice_count(case: &Case, links: &Links, s: u32) -> u32
+    requires links { AreLinks case.now.model links.now }
+    requires state { s < length case.now.model.states }
+    ensures { result ≡ length (choices case.now.model s) }
+{
+    links.choices(s)
+}
+
 /// The least allowed choice of the state that leads below.
 fn leading_choice(
     case: &Case,
@@ -94,7 +98,7 @@ fn leading_choice(
     ensures some { IfSome result (IsLeastLeading case.now spans allowed.now (mark ranks.now) below s) }
     ensures none { IsNone result → HasNoLeading case.now spans allowed.now (mark ranks.now) below s }
 {
-    for a in 0..case.model().choices(s) {
+    for a in 0..choice_count(case, links, s) {
         if is_leading(case, links, weights, allowed, s, a, ranks, below) {
             return Some(a);
         }
@@ -258,7 +262,7 @@ fn known_choice(
     requires some { HasLeading case.now spans allowed.now (mark ranks.now) below s }
     ensures { IsLeastLeading case.now spans allowed.now (mark ranks.now) below s result }
 {
-    let last = case.model().choices(s) - 1;
+    let last = choice_count(case, links, s) - 1;
     for choice in 0..last {
         if is_leading(case, links, weights, allowed, s, choice, ranks, below) {
             return choice;

@@ -7,9 +7,8 @@ ghost use Rattle.corner_lift.specs.Stages.{LeadsBelow};
 ghost use Rattle.corner_lift.specs.Table.{IsTable};
 ghost use Rattle.robust_rank.specs.Rate.{ArePicks, IsRowRate, IsStateRate, IsFirstFrom, IsLeastRate};
 
-use crate::corners::corners_of;
 use crate::marks::{NONE, mark_of};
-use corner_lift::{Case, is_enough, rows_at_corners, table_into, table_whole};
+use corner_lift::{Case, Weighed, is_enough, least_into, rows_at_corners};
 use lift_model::Links;
 
 /// The greatest rate that there is need of.
@@ -52,14 +51,10 @@ fn rate_of_row(
     ensures most { result ≤ most_rate }
 {
     rows_at_corners();
-    let whole = table_whole(case, links, weights, s, a);
+    let _ = case.w();
     let rank = mark_of(ranks, s as usize);
-    let mut e = first;
-    for corner in 0..corners_of(case, links, s, a) {
-        let weight = table_into(case, links, weights, s, a, corner, ranks, rank);
-        e = doublings(weight, whole, e);
-    }
-    e
+    let Weighed { sum, whole } = least_into(case, links, weights, s, a, ranks, rank);
+    doublings(sum, whole, first)
 }
 
 /// The least rate of the state's pick, but at least `first`, which it is where the state has no pick.

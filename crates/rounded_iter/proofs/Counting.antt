@@ -7,10 +7,10 @@ use Rattle.std.proofs.lemmas.Nat.{pow_pos}
 use Rattle.lift_model.specs.declared.layout.RowPlace.{RowPlace}
 use Rattle.lift_model.specs.Model.{ModelData, choices, row_at, support}
 use Rattle.lift_model.specs.Valid.{IsModel}
-use Rattle.lift_model.specs.Links.{LinksData, AreLinks, HasChoice, place, row_place, choice_count, no_place}
+use Rattle.lift_model.specs.Links.{LinksData, ArePlaces, HasChoice, place, row_place, choice_count, no_place}
 use Rattle.rounded_iter.proofs.Raising.{in_or_past}
 
-module _ (m : ModelData) (l : LinksData) (are : AreLinks m l) (s : ℕ) (state : s < length m.states) where
+module _ (m : ModelData) (l : LinksData) (are : ArePlaces m l) (s : ℕ) (state : s < length m.states) where
   -- a row stands among the rows, as it has a corner
   row_inside : (a : ℕ) → HasChoice m s a → row_place l s a < length l.rows
   row_inside a has = ⊎_elim

@@ -10,7 +10,7 @@ use Rattle.lift_grid.specs.Rectangle.{Spans}
 use Rattle.lift_model.specs.declared.entry.Entry.{Entry}
 use Rattle.lift_model.specs.Process.{Move, power, weighted_sum}
 use Rattle.lift_model.specs.Model.{row_at, support, moves_at}
-use Rattle.lift_model.specs.Links.{LinksData, AreLinks, HasChoice, targets_of, place}
+use Rattle.lift_model.specs.Links.{LinksData, ArePlaces, HasChoice, targets_of, place}
 use Rattle.lift_model.specs.declared.layout.RowPlace.{RowPlace}
 use Rattle.lift_poly.specs.Polynomial.{Valuation, weight}
 use Rattle.lift_model.specs.Valid.{IsEntry}
@@ -176,7 +176,7 @@ pub laws_of : ParametersAreTheRoots → NumbersAreInRange → SumsAreInRange →
 laws_of parameters numbers range rise sum = record { parameters = parameters; numbers = numbers; range = range; rise = rise; sum = sum }
 
 -- a row has as many corners as its place says
-pub corners_is : BitsAreParameters → (k : CaseData) (l : LinksData) (s a : ℕ) (p : RowPlace) → IsCase k → AreLinks k.model l → HasChoice k.model s a → p ≡ place l s a → p.corners ≡ corner_count k s a
+pub corners_is : BitsAreParameters → (k : CaseData) (l : LinksData) (s a : ℕ) (p : RowPlace) → IsCase k → ArePlaces k.model l → HasChoice k.model s a → p ≡ place l s a → p.corners ≡ corner_count k s a
 corners_is bits k l s a p is are has at =
     ap (λ (q : RowPlace). q.corners) at ∙ (are.places s a has).corners ∙ ap (λ n. 2 ^ n) (bits k s a is.asked (record { state = has.state; choice = has.choice }))
 

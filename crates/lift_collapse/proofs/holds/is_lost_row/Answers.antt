@@ -12,4 +12,4 @@ loop-target-preserved c =
 
 pub returns : goal.returns
 returns c = λ is.
-    all_targets (λ t. (slice_index_or c.args.lost.now t false ≡ true) × (place c.args.collapsed.now t ≡ place c.args.collapsed.now c.args.s)) c.args.model.now c.args.links.now c.args.s c.args.a c.loop-target.target-index c.place.result c.targets-target-items.result.now c.requires.links c.requires.row c.place.ensures c.targets-target-items.ensures c.loop-target-test.false c.loop-target.invariant
+    all_targets (λ t. (slice_index_or c.args.lost.now t false ≡ true) × (place c.args.collapsed.now t ≡ place c.args.collapsed.now c.args.s)) c.args.model.now c.args.links.now c.args.s c.args.a c.loop-target.target-index c.place.result c.targets-target-items.result.now c.requires.links.laid c.requires.row c.place.ensures c.targets-target-items.ensures c.loop-target-test.false c.loop-target.invariant

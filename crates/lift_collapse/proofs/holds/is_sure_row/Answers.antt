@@ -13,4 +13,4 @@ loop-target-preserved c =
 
 pub returns : goal.returns
 returns c = λ is.
-    all_targets (λ t. (place c.args.collapsed.now t ≡ place c.args.collapsed.now c.args.s) × (position c.args.links.now t < position c.args.links.now c.args.s)) c.args.model.now c.args.links.now c.args.s c.args.a c.loop-target.target-index c.place.result c.targets-target-items.result.now c.requires.links c.requires.row c.place.ensures c.targets-target-items.ensures c.loop-target-test.false c.loop-target.invariant
+    all_targets (λ t. (place c.args.collapsed.now t ≡ place c.args.collapsed.now c.args.s) × (position c.args.links.now t < position c.args.links.now c.args.s)) c.args.model.now c.args.links.now c.args.s c.args.a c.loop-target.target-index c.place.result c.targets-target-items.result.now c.requires.links.laid c.requires.row c.place.ensures c.targets-target-items.ensures c.loop-target-test.false c.loop-target.invariant

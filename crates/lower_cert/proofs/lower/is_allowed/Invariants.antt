@@ -1,4 +1,4 @@
 use Rattle.lower_cert.proofs.lower.is_allowed.Given as goal
 
-abbrev pub ghost-table_least : goal.ghost-table_least
-ghost-table_least g a = g.spans
+abbrev pub ghost-is_held : goal.ghost-is_held
+ghost-is_held g a = g.spans

@@ -1,5 +1,5 @@
-use Rattle.std.proofs.Common.{◌≡◌, ◌-◌, ◌<◌, ◌≤◌, length, true, false, ap, subst, arith, ⊎_elim}
-use Rattle.lift_model.specs.Model.{ModelData, choices}
+use Rattle.std.proofs.Common.{◌≡◌, ◌-◌, ◌<◌, ◌≤◌, length, true, false, subst, arith, ⊎_elim}
+use Rattle.lift_model.specs.Model.{choices}
 use Rattle.corner_lift.specs.Certificate.{mark}
 use Rattle.robust_rank.specs.Staging.{IsLeading}
 use Rattle.robust_rank.proofs.Means.{in_or_past, one_more}
@@ -10,19 +10,19 @@ loop-choice-preserved g c = one_more (λ b. IsLeading c.args.case.now g.spans c.
 
 pub returns-then-is_leading : goal.returns-then-is_leading
 returns-then-is_leading g c = record {
-  in_range = omega (arith, c.loop-choice-test.true, c.choices-last.ensures, ap (λ (m : ModelData). length (choices m c.args.s)) c.model.ensures.value);
+  in_range = omega (arith, c.loop-choice-test.true, c.choice_count-last.ensures);
   holds = c.is_leading.ensures.0 c.if-is_leading.true;
   least = c.loop-choice.invariant;
 }
 
 pub returns : goal.returns
 returns g c =
-    let last = c.choices-last.result - 1 in
+    let last = c.choice_count-last.result - 1 in
     let there = c.requires.1.1.1 in
     let same : there.0 ≡ last =
     ⊎_elim
     (λ (lt : there.0 < last). absurd (c.loop-choice.invariant there.0 (omega (arith, lt, c.loop-choice-test.false)) there.1.1))
-    (λ (le : last ≤ there.0). omega (arith, le, there.1.0, c.choices-last.ensures, ap (λ (m : ModelData). length (choices m c.args.s)) c.model.ensures.value))
+    (λ (le : last ≤ there.0). omega (arith, le, there.1.0, c.choice_count-last.ensures))
     (in_or_past there.0 last) in
     record {
       in_range = subst (λ b. b < length (choices c.args.case.now.model c.args.s)) same there.1.0;
