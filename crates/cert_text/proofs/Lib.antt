@@ -29,5 +29,7 @@ mod Places
 mod Remainders
 mod RowWords
 mod FirstNumbers
+mod FirstMarks
+mod Ends
 mod RowLoops
 mod HeadSteps

@@ -20,7 +20,7 @@ abbrev pair_in : {A : Type 0} → A × Words → Option (A × Words) → A × Wo
 pair_in d None = d
 pair_in d (Some p) = p
 
-option_first : {A : Type 0} (o : Option A) (ws behind : Words) (x : A) → option_map {U = A × Words} (λ y. (y, ws)) o ≡ Some (x, behind) → (o ≡ Some x) × (ws ≡ behind)
+pub option_first : {A : Type 0} (o : Option A) (ws behind : Words) (x : A) → option_map {U = A × Words} (λ y. (y, ws)) o ≡ Some (x, behind) → (o ≡ Some x) × (ws ≡ behind)
 option_first None ws behind x e = absurd (cc e)
 option_first {A} (Some y) ws behind x e =
     let pair : ◌≡◌ {A = A × Words} (y, ws) (x, behind) = ap (pair_in (y, ws)) e in

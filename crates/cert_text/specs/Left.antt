@@ -1,5 +1,5 @@
 -- What is read of the words of a line that are left, behind those that were read. What is out of range is told behind the form of all.
-use Rattle.std.specs.Prelude.{ℕ, ℤ, pos, negsuc, ◌+◌, ◌==◌, ◌&&◌, ◌++◌, drop, nat_lt, Bool, List, length, Option, Some, None, Ok, if◌then◌else◌}
+use Rattle.std.specs.Prelude.{ℕ, ℤ, pos, negsuc, ◌+◌, ◌==◌, ◌&&◌, ◌++◌, drop, nat_lt, Bool, List, length, map, Option, Some, None, Ok, if◌then◌else◌}
 use Rattle.std.specs.List.{list_all}
 use Rattle.corner_lift.specs.Certificate.{unmarked}
 use Rattle.line_text.specs.declared.error.TextCause.TheVariants.{Syntax, Limit}
@@ -32,6 +32,11 @@ value_first u words = option_map (λ x. (in_values u x.0, x.1)) (first_of number
 -- the mark that the first word writes, if it is none or below its end, and the words behind it
 abbrev pub mark_first : ℕ → Words → Option (Option ℕ × Words)
 mark_first end words = option_map (λ x. (in_marks end x.0, x.1)) (first_of mark_of words)
+
+-- what the marks of states stay below: one limit for all, or the number of each one's choices
+abbrev pub ends_of : {A : Type 0} → Option ℕ → List (List A) → List ℕ
+ends_of None states = map length states
+ends_of (Some limit) states = map (λ _. limit) states
 
 -- marks, if there is one for each of the ends, and each is none or below its end
 abbrev pub marks_so : List ℕ → List (Option ℤ) → Read (List ℕ)

@@ -1,11 +1,18 @@
 -- What the code's functions on rows answer.
-use Rattle.std.specs.Prelude.{◌≡◌, ℕ, ◌+◌, ◌-◌, Bool, Result, Ok}
+use Rattle.std.specs.Prelude.{◌≡◌, ℕ, ◌+◌, ◌-◌, Bool, false, List, [], ◌∷◌, Result, Ok}
+use Rattle.std.specs.Str.{bytes_eq}
+use Rattle.std.specs.Fmt.{decimal}
 use Rattle.lift_model.specs.Valid.{most_choices}
 use Rattle.line_text.specs.declared.error.TextError.{TextError}
 use Rattle.line_text.specs.Words.{words}
 use Rattle.line_text.specs.Reading.{◌>>=◌, Cursor, due}
 use Rattle.cert_text.specs.Head.{is_row_of}
 use Rattle.cert_text.specs.declared.rows.Left.{Left}
+
+-- the first word is that number's decimal text
+abbrev pub tells : ℕ → List (List ℕ) → Bool
+tells n [] = false
+tells n (word ∷ words) = bytes_eq word (decimal n)
 
 -- whether the line that is due is one of a row of state s
 abbrev pub row_due : ℕ → Cursor → Result Bool TextError

@@ -118,6 +118,7 @@ fn flags(alloc: Global, states: u32, goals: &[u64]) -> Result<Vec<bool>, AllocEr
 }
 
 /// The first of the words behind a word, as the number of those that follow it, and these.
+#[inline(always)]
 pub(crate) fn counted<'t>(
     words: &Words<'t>,
     key: &[u8],

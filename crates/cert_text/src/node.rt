@@ -1,15 +1,15 @@
 // Writes the lines of nodes.
 ghost use Rattle.std.specs.Prelude.{◌≡◌, ◌≤◌, ◌^◌, ◌∷◌, map, length, codes};
-ghost use Rattle.std.specs.List.{concat, flat_map};
+ghost use Rattle.std.specs.List.{concat};
 ghost use Rattle.lift_base.specs.Outside.{Wrote};
 ghost use Rattle.corner_lift.specs.Case.{number};
 ghost use Rattle.lift_cert.specs.RejectMiss.{most_height};
 ghost use Rattle.corner_lift.specs.Certificate.{most_rate};
-ghost use Rattle.cert_text.specs.Report.{line, spaced, numbers_words, split_line, accept_line};
+ghost use Rattle.cert_text.specs.Report.{line, numbers_words, split_line, accept_line};
 ghost use Rattle.cert_text.specs.Report.{mark_word, reject_words, reject_lines, unknown_line};
 
 use corner_lift::{Case, one_at};
-use lift_base::{Sink, Word, WriteFault, write_all, write_words, writes_in_turn};
+use lift_base::{Sink, Word, WriteFault, write_all, write_marks, write_words, writes_in_turn};
 
 /// Writes the line of a split on that parameter. The nodes of the two halves follow it, those of the
 /// lower half first.
@@ -36,34 +36,13 @@ pub fn write_accept<K: Sink>(out: &mut K, x: &[i64]) -> Result<(), WriteFault>
     )
 }
 
-fn write_mark<K: Sink>(out: &mut K, mark: u32) -> Result<(), WriteFault>
-    ensures { Wrote K.taken K.faults out.old out.new result (spaced (mark_word mark)) }
-{
-    if mark == u32::MAX {
-        write_all(out, b" -")
-    } else {
-        write_words(out, &[Word::Text(b" "), Word::Count(u64::from(mark))])
-    }
-}
-
-fn write_each_mark<K: Sink>(out: &mut K, marks: &[u32]) -> Result<(), WriteFault>
-    ensures { Wrote K.taken K.faults out.old out.new result
-        (flat_map (λ mark. spaced (mark_word mark)) marks.now) }
-{
-    writes_in_turn::<K>();
-    for mark in marks {
-        write_mark(out, *mark)?;
-    }
-    Ok(())
-}
-
-fn write_marks<K: Sink>(out: &mut K, key: &[u8], marks: &[u32]) -> Result<(), WriteFault>
+fn write_mark_line<K: Sink>(out: &mut K, key: &[u8], marks: &[u32]) -> Result<(), WriteFault>
     ensures { Wrote K.taken K.faults out.old out.new result
         (line (key.now ∷ map mark_word marks.now)) }
 {
     writes_in_turn::<K>();
     write_all(out, key)?;
-    write_each_mark(out, marks)?;
+    write_marks(out, marks, u32::MAX)?;
     write_all(out, b"\n")
 }
 
@@ -143,8 +122,8 @@ pub fn write_reject<K: Sink>(
     writes_in_turn::<K>();
     write_rate(out, case, e, k, y)?;
     write_numbers(out, y)?;
-    write_marks(out, b"choice", picks)?;
-    write_marks(out, b"rank", ranks)
+    write_mark_line(out, b"choice", picks)?;
+    write_mark_line(out, b"rank", ranks)
 }
 
 /// Writes an unknown leaf. Takes no memory.

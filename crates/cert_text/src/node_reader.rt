@@ -10,13 +10,13 @@ ghost use Rattle.line_text.specs.Shown.{Gives};
 ghost use Rattle.cert_text.specs.Leaf.{rejected_of, node_of};
 
 use crate::head_reader::Head;
-use crate::marks::{choice_counts, fit_states, marks_of, rank_ends};
+use crate::marks::{Ends, fit_states, marks_of};
 use crate::rejected::{Rejected, reject_of};
 use crate::values::values_of;
 use corner_lift::one_at;
 use lift_grid::{Marks, Values};
 use line_text::{Cursor, Place, TextCause, TextError, Words, is_number, is_signed, number_line};
-use std::alloc::{AllocError, Global};
+use std::alloc::Global;
 
 /// A node of a report, without its halves.
 #[derive(Drop)]
@@ -83,7 +83,7 @@ fn marks_line<'t>(
     alloc: Global,
     cursor: &Cursor<'t>,
     key: &[u8],
-    ends: &[u32],
+    ends: &Ends,
 ) -> Result<(Vec<u32>, Cursor<'t>), TextError>
     ensures value { Gives (λ x. (x.0.items, x.1)) result
         (line_at (marks_of key.now ends.now) cursor.now) }
@@ -134,10 +134,8 @@ fn accept_at<'t>(
     ensures { Gives (λ x. (node_of head.now.asked.w x.0, x.1)) result (accept_at head.now cursor.now) }
 {
     let (numbers, behind) = values_line(alloc, cursor, b"accept", head)?;
-    match Values::from_slice(alloc, &numbers) {
-        Ok(x) => Ok((Node::Accept { x }, behind)),
-        Err(_) => Err(cursor.fault(TextCause::Memory)),
-    }
+    let x = Values::from_vec(numbers);
+    Ok((Node::Accept { x }, behind))
 }
 
 /// What is tested of a rejecting leaf after its four lines.
@@ -185,10 +183,7 @@ fn picks_line<'t>(
         (line_at (marks_of (codes "choice") (map length head.now.asked.model.states)) cursor.now) }
     ensures size { IfOk result (λ x. length x.0.items ≡ length head.now.asked.model.states) }
 {
-    match choice_counts(alloc, head.model()) {
-        Ok(counts) => marks_line(alloc, cursor, b"choice", &counts),
-        Err(_) => Err(cursor.fault(TextCause::Memory)),
-    }
+    marks_line(alloc, cursor, b"choice", &Ends::choices(head.model()))
 }
 
 /// The line that is due, as the rank of each state.
@@ -203,10 +198,7 @@ fn ranks_line<'t>(
         (line_at (marks_of (codes "rank") (map (λ _. k + 1) head.now.asked.model.states)) cursor.now) }
     ensures size { IfOk result (λ x. length x.0.items ≡ length head.now.asked.model.states) }
 {
-    match rank_ends(alloc, head.model(), k + 1) {
-        Ok(limits) => marks_line(alloc, cursor, b"rank", &limits),
-        Err(_) => Err(cursor.fault(TextCause::Memory)),
-    }
+    marks_line(alloc, cursor, b"rank", &Ends::limit(head.model(), k + 1))
 }
 
 /// A rejecting leaf from its second line on, of which the first is read.
@@ -228,35 +220,26 @@ fn rejecting<'t>(
     if !fits_leaf(head, rejected, &y, &picks, &ranks) {
         return Err(behind.fault_above(4, TextCause::Syntax));
     }
-    match leaf(alloc, rejected, &y, &picks, &ranks) {
-        Ok(node) => Ok((node, behind)),
-        Err(_) => Err(cursor.fault(TextCause::Memory)),
-    }
+    Ok((leaf(rejected, y, picks, ranks), behind))
 }
 
 /// A rejecting leaf of these parts.
-fn leaf(
-    alloc: Global,
-    rejected: &Rejected,
-    y: &[i64],
-    picks: &[u32],
-    ranks: &[u32],
-) -> Result<Node, AllocError>
-    ensures { IfOk result (λ n. (w : ℕ) → node_of w n ≡ reject w (record {
-      numbers = y.now;
-      picks = picks.now;
-      ranks = ranks.now;
+fn leaf(rejected: &Rejected, y: Vec<i64>, picks: Vec<u32>, ranks: Vec<u32>) -> Node
+    ensures { (w : ℕ) → node_of w result ≡ reject w (record {
+      numbers = y.items;
+      picks = picks.items;
+      ranks = ranks.items;
       e = rejected.now.e;
       k = rejected.now.k;
-    })) }
+    }) }
 {
-    Ok(Node::Reject {
+    Node::Reject {
         e: rejected.e,
         k: rejected.k,
-        y: Values::from_slice(alloc, y)?,
-        picks: Marks::from_slice(alloc, picks)?,
-        ranks: Marks::from_slice(alloc, ranks)?,
-    })
+        y: Values::from_vec(y),
+        picks: Marks::from_vec(picks),
+        ranks: Marks::from_vec(ranks),
+    }
 }
 
 /// A rejecting leaf, whose first line is due.

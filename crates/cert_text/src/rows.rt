@@ -10,7 +10,7 @@ ghost use Rattle.lift_model.specs.Valid.{most_parameters, most_states, most_choi
 ghost use Rattle.cert_text.specs.Lines.{row_of};
 ghost use Rattle.cert_text.specs.Head.{row_at, is_row_of, further_at, behind_first, state_at, states_at};
 ghost use Rattle.cert_text.specs.Recent.{AreKnown};
-ghost use Rattle.cert_text.specs.Rows.{row_due, row_mark, Leaves};
+ghost use Rattle.cert_text.specs.Rows.{row_due, tells, row_mark, Leaves};
 
 use crate::entry_line::entries;
 use crate::head_lines::row_of;
@@ -113,16 +113,28 @@ fn writes(word: &[u8], n: u32) -> bool
     }
 }
 
+/// Whether the first word writes that number.
+#[tactic(auto, using(crate::proofs::RowWords::short_tells))]
+fn tells(words: &Words, n: u32) -> bool
+    ensures { result ≡ tells n words.now }
+{
+    if let Some((number, _)) = words.short() {
+        return number == u64::from(n);
+    }
+    match words.first() {
+        Err(_) => false,
+        Ok((word, _)) => writes(word, n),
+    }
+}
+
 /// Whether a line is one of a row of state s.
+#[tactic(auto, using(crate::proofs::RowWords::row_tells))]
 fn is_row_of(line: &[u8], s: u32) -> bool
     ensures { result ≡ is_row_of s (words line.now) }
 {
     match Words::of(line).first() {
         Err(_) => false,
-        Ok((key, rest)) => match rest.first() {
-            Err(_) => false,
-            Ok((state, _)) => key == b"row".as_slice() && writes(state, s),
-        },
+        Ok((key, rest)) => key == b"row".as_slice() && tells(&rest, s),
     }
 }
 

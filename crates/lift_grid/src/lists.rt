@@ -19,6 +19,13 @@ impl Model for Values {
 }
 
 impl Values {
+    /// These numbers.
+    pub fn from_vec(numbers: Vec<i64>) -> Self
+        ensures { result ≡ numbers.items }
+    {
+        Values { numbers }
+    }
+
     /// A copy of the numbers.
     pub fn from_slice(alloc: Global, numbers: &[i64]) -> Result<Self, AllocError>
         ensures { IfOk result (λ v. v ≡ numbers.now) }
@@ -50,6 +57,13 @@ impl Model for Marks {
 }
 
 impl Marks {
+    /// These numbers.
+    pub fn from_vec(numbers: Vec<u32>) -> Self
+        ensures { result ≡ numbers.items }
+    {
+        Marks { numbers }
+    }
+
     /// A copy of the numbers.
     pub fn from_slice(alloc: Global, numbers: &[u32]) -> Result<Self, AllocError>
         ensures { IfOk result (λ m. m ≡ numbers.now) }

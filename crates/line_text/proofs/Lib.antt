@@ -1,5 +1,6 @@
 mod Digits
 mod WordsLeft
+mod Alone
 mod Pairs
 mod LongNumbers
 mod ShortNumbers

@@ -1,7 +1,8 @@
 -- How what the code holds is seen, and what its functions answer.
 use Prim.Native.Char.{code}
-use Rattle.std.specs.Prelude.{◌≡◌, ◌≢◌, ◌==◌, ◌≤◌, ◌^◌, ℕ, ℤ, pos, neg_ℤ, Bool, true, false, List, [], ◌∷◌, ◌++◌, length, Option, Some, None, Result, Ok, Err}
+use Rattle.std.specs.Prelude.{◌≡◌, ◌≢◌, ◌==◌, ◌≤◌, ◌^◌, ℕ, ℤ, pos, neg_ℤ, Bool, true, false, List, [], ◌∷◌, ◌++◌, length, Option, Some, None, Result, Ok, Err, if◌then◌else◌}
 use Rattle.std.specs.Option.{option_map}
+use Rattle.std.specs.Str.{bytes_eq}
 use Rattle.std.specs.Str.Parse.{digits_value}
 use Rattle.line_text.specs.declared.error.TextCause.{TextCause}
 use Rattle.line_text.specs.declared.error.TextCause.TheVariants.{Memory}
@@ -52,6 +53,16 @@ is_space b = b == code " "
 abbrev pub first_of : {A : Type 0} → (List ℕ → Option A) → Words → Option (A × Words)
 first_of of [] = None
 first_of of (word ∷ words) = option_map (λ x. (x, words)) (of word)
+
+-- the first word is this byte alone
+abbrev pub begins_alone : ℕ → Words → Bool
+begins_alone byte [] = false
+begins_alone byte (word ∷ words) = bytes_eq word (byte ∷ [])
+
+-- the words behind the first one, where that is this byte alone
+abbrev pub behind_byte : ℕ → Words → Option Words
+behind_byte byte [] = None
+behind_byte byte (word ∷ words) = if bytes_eq word (byte ∷ []) then Some words else None
 
 -- what all words write is what is done, and what those write that are left
 abbrev pub Goes : {A : Type 0} → (List ℕ → Option A) → Words → List A → Words → Type 0

@@ -165,6 +165,7 @@ impl<'t> Decimal<'t> {
     }
 
     /// The size, unless it is wide.
+    #[inline]
     fn size(&self) -> Option<u128>
         ensures some { IfSome result (λ n. (n ≡ unsigned_abs self.now) × (n < 10 ^ 31)) }
         ensures none { IfNone result (wide_limit ≤ unsigned_abs self.now) }
@@ -231,6 +232,7 @@ impl<'t> Decimal<'t> {
     }
 
     /// The number, unless it is wide.
+    #[inline]
     pub fn narrow(&self) -> Option<i128>
         ensures some { IfSome result (λ n. n ≡ self.now) }
         ensures none { IfNone result (wide_limit ≤ unsigned_abs self.now) }

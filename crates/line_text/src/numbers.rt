@@ -44,6 +44,7 @@ pub fn numbers_of<'t>(
 }
 
 /// The number, from low to below end.
+#[inline]
 pub fn between(number: &Decimal, low: u64, end: u64) -> Result<u64, TextCause>
     requires { end ≤ 2 ^ 62 }
     ensures value { Says (λ n. n) result (between low end number.now) }

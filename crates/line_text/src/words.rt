@@ -4,7 +4,7 @@ ghost use Rattle.std.specs.List.{list_all, position_or_len};
 ghost use Rattle.std.specs.Char.{is_ascii_digit};
 ghost use Rattle.line_text.specs.Words.{are_digits, number_of, pair_of, words};
 ghost use Rattle.line_text.specs.Parts.{first, keyed, single};
-ghost use Rattle.line_text.specs.Shown.{Says, is_none_left, is_space, first_of};
+ghost use Rattle.line_text.specs.Shown.{Says, begins_alone, behind_byte, is_none_left, is_space, first_of};
 
 use crate::decimal::{Decimal, front_digits};
 use crate::error::TextCause;
@@ -27,6 +27,7 @@ impl<'t> std::marker::Model for Words<'t> {
 }
 
 /// The first word of a text, which has so many bytes, and those behind it.
+#[inline(always)]
 fn cut(text: &[u8], len: usize) -> (&[u8], Words)
     requires within { len ≤ length text.now }
     requires len { len ≡ position_or_len is_space text.now }
@@ -80,6 +81,28 @@ fn is_before(text: &[u8], len: usize, byte: u8) -> bool
     len < text.len() && text[len] == byte && byte != b' ' && !byte.is_ascii_digit()
 }
 
+/// Whether the first word of a text is that byte alone.
+#[inline]
+fn is_alone(text: &[u8], byte: u8) -> bool
+    ensures value { result ≡ begins_alone byte (words text.now) }
+    ensures within { IsTrue result → 1 ≤ length text.now }
+    ensures len { IsTrue result → 1 ≡ position_or_len is_space text.now }
+{
+    if byte == b' ' || text.is_empty() || text[0] != byte {
+        return false;
+    }
+    text.len() == 1 || text[1] == b' '
+}
+
+/// The number that the first word of a text writes, and those behind it; none where it writes none.
+fn first_number(text: &[u8]) -> Option<(Decimal, Words)>
+    ensures { result ≡ first_of number_of (words text.now) }
+{
+    let (word, rest) = cut(text, len_before(text, b' '));
+    let number = Decimal::read(word)?;
+    Some((number, rest))
+}
+
 /// The two numbers that a word writes with this byte between them.
 pub fn pair_of(word: &[u8], byte: u8) -> Option<(Decimal, Decimal)>
     ensures { result ≡ pair_of byte word.now }
@@ -111,6 +134,7 @@ impl<'t> Words<'t> {
     }
 
     /// The first word, and those behind it; Syntax where there is none.
+    #[inline(always)]
     pub fn first(&self) -> Result<(&'t [u8], Words<'t>), TextCause>
         ensures value { Says (λ x. (x.0.now, x.1)) result (first self.now) }
         ensures none { OnErr result (self.now ≡ []) }
@@ -123,6 +147,7 @@ impl<'t> Words<'t> {
 
     /// The number that the first word writes, and those behind it; none where there is no word, or it
     /// writes none. A short number is read at once with its word's end.
+    #[inline(always)]
     pub fn number(&self) -> Option<(Decimal<'t>, Words<'t>)>
         ensures { result ≡ first_of number_of self.now }
     {
@@ -132,9 +157,20 @@ impl<'t> Words<'t> {
             let (word, rest) = cut(text, len);
             return Some((Decimal::of_few(word, short), rest));
         }
-        let (word, rest) = cut(text, len_before(text, b' '));
-        let number = Decimal::read(word)?;
-        Some((number, rest))
+        first_number(text)
+    }
+
+    /// The words behind the first one, where that is this byte alone; none where it isn't.
+    #[inline]
+    pub fn behind(&self, byte: u8) -> Option<Words<'t>>
+        ensures { result ≡ behind_byte byte self.now }
+    {
+        let text = self.text()?;
+        if !is_alone(text, byte) {
+            return None;
+        }
+        let (_, rest) = cut(text, 1);
+        Some(rest)
     }
 
     /// The number of few digits, none of them a sign, that the first word writes, and those behind it;
@@ -220,6 +256,7 @@ impl<'t> Words<'t> {
     }
 
     /// What stands behind a word that has to stand first.
+    #[inline(always)]
     pub fn keyed(&self, key: &[u8]) -> Result<Words<'t>, TextCause>
         ensures { Says (λ x. x) result (keyed key.now self.now) }
     {

@@ -11,7 +11,7 @@ loop-rest-preserved-in_ok-push-in-Some-mark c =
     let ends = c.args.ends.now in
     let done = c.loop-rest.marks.items in
     let size : c.len.result ≡ length done = search rules in
-    let end = c.end_at-end.ensures ∙ ap (λ i. get_or ends i 0) size in
+    let end = c.at-end.ensures ∙ ap (λ i. get_or ends i 0) size in
     ap (λ xs. marks_left ends xs c.loop-rest.fit c.in-Some.behind) c.in_ok-push-in-Some-mark.ensures.items
     ∙ sym (one_mark ends done c.loop-rest.fit c.loop-rest.rest c.in-Some.behind _ (ap (λ e. mark_first e c.loop-rest.rest) (sym end) ∙ sym c.in-Some.ensures ∙ ap (λ v. Some (v, c.in-Some.behind)) c.in-Some-mark.is)) ∙ c.loop-rest.invariant
 
@@ -20,6 +20,6 @@ loop-rest-preserved c =
     let ends = c.args.ends.now in
     let done = c.loop-rest.marks.items in
     let size : c.len.result ≡ length done = search rules in
-    let end = c.end_at-end.ensures ∙ ap (λ i. get_or ends i 0) size in
+    let end = c.at-end.ensures ∙ ap (λ i. get_or ends i 0) size in
     ap (λ xs. marks_left ends xs false c.in-Some.behind) c.in_ok-push-in-None.ensures.items
     ∙ sym (no_mark ends done c.loop-rest.fit c.loop-rest.rest c.in-Some.behind 0 (ap (λ e. mark_first e c.loop-rest.rest) (sym end) ∙ sym c.in-Some.ensures ∙ ap (λ v. Some (v, c.in-Some.behind)) c.in-None.is)) ∙ c.loop-rest.invariant
