@@ -37,7 +37,7 @@ fn check_head(alloc: Global, text: &[u8], head: &Head, place: Place) -> Result<S
 {
     rectangles_are_placed();
     let _ = head.w();
-    let Ok(links) = Links::build(alloc, head.model()) else {
+    let Ok(links) = Links::build_places(alloc, head.model()) else {
         // A row that isn't admitted is told all the same.
         admit(head.model(), head.root(), head.grid(), head.w())?;
         return Err(CheckError::Memory);

@@ -4,7 +4,7 @@ ghost use Rattle.lift_grid.specs.Rectangle.{Spans, spans_of};
 ghost use Rattle.lift_grid.specs.Splitting.{IsSplitAxis};
 ghost use Rattle.lift_grid.specs.Tree.{RejectData};
 ghost use Rattle.lift_model.specs.Model.{live};
-ghost use Rattle.lift_model.specs.Links.{AreLinks};
+ghost use Rattle.lift_model.specs.Links.{ArePlaces};
 ghost use Rattle.corner_lift.specs.Case.{AreSidesInside};
 ghost use Rattle.corner_lift.specs.Certificate.{AreNumbers};
 ghost use Rattle.lift_cert.specs.Certificate.{IsAccepting, IsRejecting};
@@ -30,7 +30,7 @@ fn accepts(
 ) -> bool
     ghost spans: { Spans }
     requires spans { spans ≡ spans_of sides.now }
-    requires links { AreLinks case.now.model links.now }
+    requires places { ArePlaces case.now.model links.now }
     requires weights { length weights.old ≡ links.now.weights }
     requires sides { AreSidesInside case.now.root sides.now }
     requires numbers { AreNumbers case.now x.now }
@@ -50,7 +50,7 @@ pub(crate) fn test_accept(
     node: u32,
     x: &[i64],
 ) -> Result<(), CheckError>
-    requires links { AreLinks case.now.model links.now }
+    requires places { ArePlaces case.now.model links.now }
     requires weights { length weights.old ≡ links.now.weights }
     requires sides { AreSidesInside case.now.root sides.now }
     requires numbers { AreNumbers case.now x.now }
@@ -84,7 +84,7 @@ fn rejects(
 ) -> bool
     ghost spans: { Spans }
     requires spans { spans ≡ spans_of sides.now }
-    requires links { AreLinks case.now.model links.now }
+    requires places { ArePlaces case.now.model links.now }
     requires weights { length weights.old ≡ links.now.weights }
     requires sides { AreSidesInside case.now.root sides.now }
     requires form { HasRejectForm case.now
@@ -110,7 +110,7 @@ pub(crate) fn test_reject(
     e: u32,
     k: u32,
 ) -> Result<(), CheckError>
-    requires links { AreLinks case.now.model links.now }
+    requires places { ArePlaces case.now.model links.now }
     requires weights { length weights.old ≡ links.now.weights }
     requires sides { AreSidesInside case.now.root sides.now }
     requires form { HasRejectForm case.now

@@ -3,7 +3,7 @@ ghost use Rattle.std.specs.Prelude.{◌≡◌, ◌<◌, ◌≤◌, ◌^◌, ℕ,
 ghost use Rattle.lift_grid.specs.Rectangle.{sides_of, spans_of};
 ghost use Rattle.lift_grid.specs.Splitting.{IsHalvable};
 ghost use Rattle.lift_grid.specs.Tree.{lower_half};
-ghost use Rattle.lift_model.specs.Links.{AreLinks};
+ghost use Rattle.lift_model.specs.Links.{ArePlaces};
 ghost use Rattle.corner_lift.specs.Case.{IsCase};
 ghost use Rattle.cert_check.specs.Answer.{TreeEnds};
 ghost use Rattle.cert_check.specs.Source.{file_limit};
@@ -47,7 +47,7 @@ pub(crate) fn check_tree(
 ) -> Result<Came, CheckError>
     requires text { length text.now ≤ file_limit }
     requires asked { case.now ≡ head.now.asked }
-    requires links { AreLinks case.now.model links.now }
+    requires places { ArePlaces case.now.model links.now }
     requires weights { length weights.old ≡ links.now.weights }
     requires placed { IsPlaced case.now levels (spans_of sides.old) }
     requires paired { sides_of (spans_of sides.old) ≡ sides.old }

@@ -34,7 +34,7 @@ check_tree-requires t c =
     let paired : sides_of (spans_of c.deref_mut.result.now) ≡ c.deref_mut.result.now = rw same c.in_ok-lower-in-Split.ensures.paired in
     let inside : IsIn text c.behind-behind.result = in_behind text c.args.came c.behind-behind.result place c.requires.came past c.in_ok-node.ensures.at c.in_ok-node.ensures.number c.behind-behind.ensures.node c.behind-behind.ensures.place (met_same c.behind-behind.result.leaves c.args.came.leaves c.behind-behind.ensures.leaves) in
     let some = may.0 in
-    (omega (arith, some), (c.requires.text, (c.requires.asked, (c.requires.links, (c.requires.weights, (stands, (paired, inside)))))))
+    (omega (arith, some), (c.requires.text, (c.requires.asked, (c.requires.places, (c.requires.weights, (stands, (paired, inside)))))))
 
 pub returns-in_err-between-in-Split-clause-end : goal.returns-in_err-between-in-Split-clause-end
 returns-in_err-between-in-Split-clause-end t c =
@@ -69,7 +69,7 @@ check_tree-requires-in-Split t c =
     let halves = halves_of c.rectangles_are_placed.ensures.halves k c.args.levels axis ss c.w-2.ensures.case c.requires.placed may.0 may.1 in
     let stands : IsPlaced k (c.args.levels - 1) (spans_of c.narrow.new.sides) = rw c.narrow.ensures.half halves.2 in
     let some = may.0 in
-    (omega (arith, some), (c.requires.text, (c.requires.asked, (c.requires.links, (search rules, (stands, (c.narrow.ensures.pairs c.requires.paired, c.in_ok-between-in-Split.ensures.came)))))))
+    (omega (arith, some), (c.requires.text, (c.requires.asked, (c.requires.places, (search rules, (stands, (c.narrow.ensures.pairs c.requires.paired, c.in_ok-between-in-Split.ensures.came)))))))
 
 pub test_reject-requires-clause-form : goal.test_reject-requires-clause-form
 test_reject-requires-clause-form t c =
