@@ -1,13 +1,13 @@
 -- Rows of two entries: sums at their corners, in numbers of 64 and of 128 bits.
-use Rattle.std.proofs.Common.{suc, Bool, true, false, cond, mul-le-mul_left, mul-le-mul_right, sym, ◌≡◌, ℕ, ◌+◌, ◌-◌, ◌*◌, ◌^◌, ◌<◌, ◌≤◌, List, ℤ, pos, ◌+ℤ◌, ◌*ℤ◌, ◌≤ℤ◌, ◌<ℤ◌, unsigned_abs, FitsSigned, SFits, w64, to_z, of_z, to_z-of_z, ap, ap₂, ◌∙◌, arith, subst, ⊎_elim}
-use Rattle.std.proofs.lemmas.Int.{fits_signed_from_abs, unsigned_abs-mul, ints}
+use Rattle.std.proofs.Common.{suc, Bool, true, false, cond, mul-le-mul, mul-le-mul_left, mul-le-mul_right, sym, ◌≡◌, ◌⊎◌, inl, inr, ℕ, ◌+◌, ◌-◌, ◌*◌, ◌^◌, ◌<◌, ◌≤◌, List, ℤ, pos, neg_ℤ, ◌+ℤ◌, ◌-ℤ◌, ◌*ℤ◌, ◌≤ℤ◌, ◌<ℤ◌, unsigned_abs, FitsSigned, SFits, w64, to_z, of_z, to_z-of_z, ap, ap₂, ◌∙◌, arith, subst, ⊎_elim}
+use Rattle.std.proofs.lemmas.Int.{fits_signed_from_abs, unsigned_abs-mul, ints, by_lt_z}
 use Rattle.std.proofs.lemmas.Nat.{pow_pos, pow-add}
 use mir.Syntax.{w128}
-use Rattle.lift_poly.proofs.Ring.{linear}
+use Rattle.lift_poly.proofs.Ring.{linear, mul-comm, mul-add, add-mul, mul-neg, one-mul, mul-zero, mul-le}
 use Rattle.corner_lift.specs.Case.{number, IsGreatest, IsLeast, engine_limit}
 use Rattle.corner_lift.specs.Dot.{lane_limit}
 use Rattle.corner_lift.proofs.Rows.{in_or_past}
-use Rattle.corner_lift.specs.Pairs.{pair_sum, ArePairs, FitsProducts, FitsPair, FitPairs}
+use Rattle.corner_lift.specs.Pairs.{HasPair, pair_sum, AreCorners, ArePairs, IsLeastFirst, IsGreatestFirst, IsLeastPair, IsGreatestPair, IsPairNumber, HasRoom, FitsProducts, FitsPair, FitPairs}
 
 abs-add : (a b : ℤ) → unsigned_abs (a +ℤ b) ≤ unsigned_abs a + unsigned_abs b
 abs-add a b = omega (arith, ints)
@@ -62,7 +62,7 @@ one_more P n before here c lt = ⊎_elim (λ (less : c < n). before c less) (λ 
 
 module _ (w : ℕ) (block : List ℤ) (whole : ℤ) (pairs : ArePairs w block whole) where
   whole_is : number block 0 +ℤ number block 1 ≡ whole
-  whole_is = pairs.sums 0 pairs.some
+  whole_is = pairs.corners.sums 0 pairs.corners.some
 
   pub whole_times : unsigned_abs whole ≤ 2 ^ w * unsigned_abs whole
   whole_times = let more : 1 * unsigned_abs whole ≤ 2 ^ w * unsigned_abs whole = mul-le-mul_right (unsigned_abs whole) (pow_pos w) in omega (arith, more)
@@ -81,8 +81,8 @@ module _ (w : ℕ) (block : List ℤ) (whole : ℤ) (pairs : ArePairs w block wh
   fit_pairs limit first second one two room c has =
       let w0 = number block (2 * c) in
       let w1 = number block (2 * c + 1) in
-      let least = pairs.least c has in
-      let sizes : unsigned_abs w0 + unsigned_abs w1 ≡ unsigned_abs whole = omega (arith, ints, least.0, least.1, pairs.sums c has) in
+      let least = pairs.corners.least c has in
+      let sizes : unsigned_abs w0 + unsigned_abs w1 ≡ unsigned_abs whole = omega (arith, ints, least.0, least.1, pairs.corners.sums c has) in
       let p0 : unsigned_abs w0 * unsigned_abs first ≤ unsigned_abs w0 * 2 ^ w = mul-le-mul_left (unsigned_abs w0) one in
       let p1 : unsigned_abs w1 * unsigned_abs second ≤ unsigned_abs w1 * 2 ^ w = mul-le-mul_left (unsigned_abs w1) two in
       let all : (unsigned_abs w0 + unsigned_abs w1) * 2 ^ w ≡ unsigned_abs whole * 2 ^ w = ap (λ n. n * 2 ^ w) sizes in
@@ -109,6 +109,131 @@ module _ (w : ℕ) (block : List ℤ) (whole : ℤ) (pairs : ArePairs w block wh
 
   pub most_in_lane : w ≤ 63 → whole <ℤ pos (2 ^ (63 - w)) → (n : ℤ) → unsigned_abs n ≤ 2 ^ w → FitsSigned w64 (whole *ℤ n)
   most_in_lane le small n size = fits_signed_from_abs w64 (whole *ℤ n) (omega (arith, unsigned_abs-mul whole n, most_size n size, lane_fits le small))
+
+  -- a number that stands for a part of 1
+  pub has_room : (n : ℤ) → IsPairNumber w n → HasRoom whole n
+  has_room n range = (range.0, omega (arith, most_size n (omega (arith, ints, range.0, range.1)), pairs.room))
+
+-- ---- what a pair sums to by the weight of its first entry
+
+mul-sub : (a b c : ℤ) → a *ℤ (b -ℤ c) ≡ a *ℤ b -ℤ a *ℤ c
+mul-sub a b c =
+    let minus : b -ℤ c ≡ b +ℤ neg_ℤ c = omega (arith, linear) in
+    omega (arith, linear, ap (λ z. a *ℤ z) minus, mul-add a b (neg_ℤ c), mul-neg a c)
+
+mul-one : (a : ℤ) → a *ℤ pos 1 ≡ a
+mul-one a = mul-comm a (pos 1) ∙ one-mul a
+
+-- the greater weight has the greater part, where the first number is the greater one
+rises : (a b first second : ℤ) → second ≤ℤ first → a ≤ℤ b → (a *ℤ (first -ℤ second)) ≤ℤ (b *ℤ (first -ℤ second))
+rises a b first second more le = omega (arith, linear, mul-le (first -ℤ second) a b (omega (arith, linear, more)) le, mul-comm a (first -ℤ second), mul-comm b (first -ℤ second))
+
+-- and else the lesser one
+falls : (a b first second : ℤ) → first ≤ℤ second → a ≤ℤ b → (b *ℤ (first -ℤ second)) ≤ℤ (a *ℤ (first -ℤ second))
+falls a b first second more le = omega (arith, linear, rises a b second first more le, mul-sub a first second, mul-sub b first second, mul-sub a second first, mul-sub b second first)
+
+module _ (block : List ℤ) (whole : ℤ) (corners : AreCorners block whole) where
+  pub rise_is : (c : ℕ) → HasPair block c → (first second : ℤ) → pair_sum block c first second ≡ (whole *ℤ second) +ℤ (number block (2 * c) *ℤ (first -ℤ second))
+  rise_is c has first second =
+      let w0 = number block (2 * c) in
+      let w1 = number block (2 * c + 1) in
+      omega (arith, linear, ap (λ z. z *ℤ second) (corners.sums c has), add-mul w0 w1 second, mul-sub w0 first second)
+
+  -- a weight of the first entry is a part of the whole
+  pub first_range : (z : ℤ) → (c : ℕ) × (HasPair block c × (z ≡ number block (2 * c))) → (pos 0 ≤ℤ z) × (z ≤ℤ whole)
+  first_range z at = let least = corners.least at.0 at.1.0 in (omega (arith, linear, least.0, at.1.1), omega (arith, linear, least.1, at.1.1, corners.sums at.0 at.1.0))
+
+  -- the other weight, in the code
+  pub rest_fits : (z : ℤ) → (c : ℕ) × (HasPair block c × (z ≡ number block (2 * c))) → unsigned_abs whole < engine_limit → FitsSigned w128 (whole -ℤ z)
+  rest_fits z at room = let range = first_range z at in fits_signed_from_abs w128 (whole -ℤ z) (omega (arith, ints, range.0, range.1, room))
+
+  module _ (first second : ℤ) where
+    abbrev sum_with : ℤ → ℤ
+    sum_with z = (whole *ℤ second) +ℤ (z *ℤ (first -ℤ second))
+
+    attained : (z : ℤ) → (c : ℕ) × (HasPair block c × (z ≡ number block (2 * c))) → (c : ℕ) × (HasPair block c × ((whole *ℤ second) +ℤ (z *ℤ (first -ℤ second)) ≡ pair_sum block c first second))
+    attained z at = (at.0, (at.1.0, ap sum_with at.1.1 ∙ sym (rise_is at.0 at.1.0 first second)))
+
+    pub least_by_least : second ≤ℤ first → (z : ℤ) → IsLeastFirst block z → IsLeastPair block first second ((whole *ℤ second) +ℤ (z *ℤ (first -ℤ second)))
+    least_by_least more z is = record {
+      least = λ c has. omega (arith, linear, rise_is c has first second, rises z (number block (2 * c)) first second more (is.least c has));
+      attained = attained z is.attained;
+    }
+
+    pub least_by_greatest : first ≤ℤ second → (z : ℤ) → IsGreatestFirst block z → IsLeastPair block first second ((whole *ℤ second) +ℤ (z *ℤ (first -ℤ second)))
+    least_by_greatest more z is = record {
+      least = λ c has. omega (arith, linear, rise_is c has first second, falls (number block (2 * c)) z first second more (is.most c has));
+      attained = attained z is.attained;
+    }
+
+    pub greatest_by_greatest : second ≤ℤ first → (z : ℤ) → IsGreatestFirst block z → IsGreatestPair block first second ((whole *ℤ second) +ℤ (z *ℤ (first -ℤ second)))
+    greatest_by_greatest more z is = record {
+      most = λ c has. omega (arith, linear, rise_is c has first second, rises (number block (2 * c)) z first second more (is.most c has));
+      attained = attained z is.attained;
+    }
+
+    pub greatest_by_least : first ≤ℤ second → (z : ℤ) → IsLeastFirst block z → IsGreatestPair block first second ((whole *ℤ second) +ℤ (z *ℤ (first -ℤ second)))
+    greatest_by_least more z is = record {
+      most = λ c has. omega (arith, linear, rise_is c has first second, falls z (number block (2 * c)) first second more (is.least c has));
+      attained = attained z is.attained;
+    }
+
+  -- ---- entries that count
+
+  pub both_count : IsLeastPair block (pos 1) (pos 1) whole
+  both_count =
+      let same : (c : ℕ) → HasPair block c → whole ≡ pair_sum block c (pos 1) (pos 1) = λ c has. omega (arith, linear, corners.sums c has, mul-one (number block (2 * c)), mul-one (number block (2 * c + 1))) in
+      record {
+        least = λ c has. omega (arith, linear, same c has);
+        attained = (0, (corners.some, same 0 corners.some));
+      }
+
+  pub none_counts : IsLeastPair block (pos 0) (pos 0) (pos 0)
+  none_counts =
+      let same : (c : ℕ) → pos 0 ≡ pair_sum block c (pos 0) (pos 0) = λ c. omega (arith, linear, mul-zero (number block (2 * c)), mul-zero (number block (2 * c + 1))) in
+      record {
+        least = λ c has. omega (arith, linear, same c);
+        attained = (0, (corners.some, same 0));
+      }
+
+  pub first_counts : (z : ℤ) → IsLeastFirst block z → IsLeastPair block (pos 1) (pos 0) z
+  first_counts z is =
+      let same : (c : ℕ) → number block (2 * c) ≡ pair_sum block c (pos 1) (pos 0) = λ c. omega (arith, linear, mul-one (number block (2 * c)), mul-zero (number block (2 * c + 1))) in
+      record {
+        least = λ c has. omega (arith, linear, same c, is.least c has);
+        attained = (is.attained.0, (is.attained.1.0, is.attained.1.1 ∙ same is.attained.0));
+      }
+
+  pub second_counts : (z : ℤ) → IsGreatestFirst block z → IsLeastPair block (pos 0) (pos 1) (whole -ℤ z)
+  second_counts z is =
+      let same : (c : ℕ) → HasPair block c → whole -ℤ number block (2 * c) ≡ pair_sum block c (pos 0) (pos 1) = λ c has. omega (arith, linear, corners.sums c has, mul-zero (number block (2 * c)), mul-one (number block (2 * c + 1))) in
+      record {
+        least = λ c has. omega (arith, linear, same c has, is.most c has);
+        attained = (is.attained.0, (is.attained.1.0, ap (λ n. whole -ℤ n) is.attained.1.1 ∙ same is.attained.0 is.attained.1.0));
+      }
+
+-- ---- room for a sum by the weight of the first entry
+
+between : (first second : ℤ) → pos 0 ≤ℤ first → pos 0 ≤ℤ second → (unsigned_abs (first -ℤ second) ≤ unsigned_abs first) ⊎ (unsigned_abs (first -ℤ second) ≤ unsigned_abs second)
+between first second one two = by_lt_z first second (λ less. inr (omega (arith, ints, one, two, less))) (λ more. inl (omega (arith, ints, one, two, more)))
+
+module _ (whole weight first second : ℤ) (range : (pos 0 ≤ℤ weight) × (weight ≤ℤ whole)) (one : HasRoom whole first) (two : HasRoom whole second) where
+  pub rise_room : unsigned_abs weight * unsigned_abs (first -ℤ second) < engine_limit
+  rise_room =
+      let size : unsigned_abs weight ≤ unsigned_abs whole = omega (arith, ints, range.0, range.1) in ⊎_elim
+      (λ (le : unsigned_abs (first -ℤ second) ≤ unsigned_abs first). let more = mul-le-mul size le in omega (arith, more, one.1))
+      (λ (le : unsigned_abs (first -ℤ second) ≤ unsigned_abs second). let more = mul-le-mul size le in omega (arith, more, two.1))
+      (between first second one.0 two.0)
+
+  pub risen_fits : FitsSigned w128 ((whole *ℤ second) +ℤ (weight *ℤ (first -ℤ second)))
+  risen_fits = fits_signed_from_abs w128 ((whole *ℤ second) +ℤ (weight *ℤ (first -ℤ second))) (omega (arith, abs-add (whole *ℤ second) (weight *ℤ (first -ℤ second)), unsigned_abs-mul whole second, unsigned_abs-mul weight (first -ℤ second), rise_room, two.1))
+
+pub small_fits : (z : ℤ) → unsigned_abs z < engine_limit → FitsSigned w128 z
+small_fits z small = fits_signed_from_abs w128 z (omega (arith, small))
+
+-- a part of 1 has a size of at most 2 ^ w
+pub number_size : (w : ℕ) (n : ℤ) → IsPairNumber w n → unsigned_abs n ≤ 2 ^ w
+number_size w n range = omega (arith, ints, range.0, range.1)
 
 -- what counts counts as 1, and the rest as 0
 pub counted_range : (b : Bool) → (pos 0 ≤ℤ cond b (pos 1) (pos 0)) × (cond b (pos 1) (pos 0) ≤ℤ pos 1)

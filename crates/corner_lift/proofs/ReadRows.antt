@@ -13,7 +13,7 @@ use Rattle.corner_lift.specs.Certificate.{AreNumbers}
 use Rattle.corner_lift.specs.Case.{CaseData, IsInside, IsGreatest, IsLeast, number, row_value, row_whole, corner_count}
 use Rattle.corner_lift.specs.Laws.{HasRow, ParametersAreTheRoots, SumsAreAtMost, SumsAreAtLeast}
 use Rattle.corner_lift.specs.Dot.{dot, total, corner_part}
-use Rattle.corner_lift.specs.Pairs.{HasPair, pair_sum, pair_whole, ArePairs, ArePairsAtMost}
+use Rattle.corner_lift.specs.Pairs.{HasPair, pair_sum, pair_whole, ArePairs, ArePairsAtMost, IsLeastPair, IsGreatestPair}
 use Rattle.corner_lift.specs.ReadRow.{IsReadRow}
 use Rattle.corner_lift.proofs.Rows.{number_range}
 use Rattle.corner_lift.proofs.PairRows.{two_of, corner_of_block, corner_inside, corner_has}
@@ -47,13 +47,28 @@ module _ (k : CaseData) (spans : Spans) (weights : List ℤ) (s a : ℕ) (place 
 
     pub pairs : ArePairs k.w block (pair_whole block)
     pairs = record {
-      some = has_pair 0 (omega (arith, row.some));
-      least = λ c has.
-          let all : All (λ weight. pos 0 ≤ℤ weight) (number block (2 * c) ∷ number block (2 * c + 1) ∷ []) = subst (All (λ weight. pos 0 ≤ℤ weight)) (corner_is c (inside c has)) (row.least c (inside c has)) in
-          (all 0 (pos 0) (omega arith), all 1 (pos 0) (omega arith));
-      sums = λ c has. corner_whole c (inside c has) ∙ sym pair_whole_is;
+      corners = record {
+        some = has_pair 0 (omega (arith, row.some));
+        least = λ c has.
+            let all : All (λ weight. pos 0 ≤ℤ weight) (number block (2 * c) ∷ number block (2 * c + 1) ∷ []) = subst (All (λ weight. pos 0 ≤ℤ weight)) (corner_is c (inside c has)) (row.least c (inside c has)) in
+            (all 0 (pos 0) (omega arith), all 1 (pos 0) (omega arith));
+        sums = λ c has. corner_whole c (inside c has) ∙ sym pair_whole_is;
+      };
       positive = rw pair_whole_is row.whole.positive;
       room = rw pair_whole_is (row.whole.room (2 ^ k.w) (omega arith));
+    }
+
+    -- the least and the greatest sum of the pairs are those of the row
+    pub least_of_row : (x : ℕ → ℤ) (z : ℤ) → IsLeastPair block (x (get_or targets 0 0)) (x (get_or targets 1 0)) z → IsLeast (λ c. corner_sum k.d spans (row_at k.model s a) c x) (corner_count k s a) z
+    least_of_row x z h = record {
+      least = λ c lt. let there : c < place.corners = omega (arith, lt, row.corners) in omega (arith, linear, h.least c (has_pair c there), pair_is c there x);
+      attained = let there = inside h.attained.0 h.attained.1.0 in (h.attained.0, (omega (arith, there, row.corners), h.attained.1.1 ∙ pair_is h.attained.0 there x));
+    }
+
+    pub greatest_of_row : (x : ℕ → ℤ) (z : ℤ) → IsGreatestPair block (x (get_or targets 0 0)) (x (get_or targets 1 0)) z → IsGreatest (λ c. corner_sum k.d spans (row_at k.model s a) c x) (corner_count k s a) z
+    greatest_of_row x z h = record {
+      most = λ c lt. let there : c < place.corners = omega (arith, lt, row.corners) in omega (arith, linear, h.most c (has_pair c there), pair_is c there x);
+      attained = let there = inside h.attained.0 h.attained.1.0 in (h.attained.0, (omega (arith, there, row.corners), h.attained.1.1 ∙ pair_is h.attained.0 there x));
     }
 
     -- the tests at the pairs are those of the row

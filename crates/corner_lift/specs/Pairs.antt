@@ -1,5 +1,5 @@
 -- Rows of two entries, whose weights stand in a block corner by corner: their sums need one look at each corner.
-use Rattle.std.specs.Prelude.{◌≡◌, ℕ, ◌+◌, ◌*◌, ◌^◌, ◌<◌, List, ℤ, pos, ◌+ℤ◌, ◌*ℤ◌, ◌≤ℤ◌, unsigned_abs, length}
+use Rattle.std.specs.Prelude.{◌≡◌, ℕ, ◌+◌, ◌*◌, ◌^◌, ◌<◌, Bool, if◌then◌else◌, List, ℤ, pos, ◌+ℤ◌, ◌*ℤ◌, ◌≤ℤ◌, unsigned_abs, length}
 use Rattle.corner_lift.specs.Case.{number, engine_limit}
 
 -- the block has two weights for that corner
@@ -41,10 +41,36 @@ pub record IsGreatestPair (block : List ℤ) (first second z : ℤ) : Type 0 whe
   pub most : (c : ℕ) → HasPair block c → pair_sum block c first second ≤ℤ z
   pub attained : (c : ℕ) × (HasPair block c × (z ≡ pair_sum block c first second))
 
--- The block of a row of two entries: its weights aren't negative and sum to the whole at each corner, and the whole times 2 ^ w is within the engine's limit.
-pub record ArePairs (w : ℕ) (block : List ℤ) (whole : ℤ) : Type 0 where
+-- the least weight of the first entry over the corners
+pub record IsLeastFirst (block : List ℤ) (z : ℤ) : Type 0 where
+  pub least : (c : ℕ) → HasPair block c → z ≤ℤ number block (2 * c)
+  pub attained : (c : ℕ) × (HasPair block c × (z ≡ number block (2 * c)))
+
+-- the greatest weight of the first entry over the corners
+pub record IsGreatestFirst (block : List ℤ) (z : ℤ) : Type 0 where
+  pub most : (c : ℕ) → HasPair block c → number block (2 * c) ≤ℤ z
+  pub attained : (c : ℕ) × (HasPair block c × (z ≡ number block (2 * c)))
+
+-- 1 for an entry that counts, else 0
+abbrev pub one_where : Bool → ℤ
+one_where counts = if counts then pos 1 else pos 0
+
+-- a number that stands for a part of 1
+abbrev pub IsPairNumber : ℕ → ℤ → Type 0
+IsPairNumber w n = (pos 0 ≤ℤ n) × (n ≤ℤ pos (2 ^ w))
+
+-- a number of 0 or more that times the whole is within the engine's limit
+abbrev pub HasRoom : ℤ → ℤ → Type 0
+HasRoom whole n = (pos 0 ≤ℤ n) × (unsigned_abs whole * unsigned_abs n < engine_limit)
+
+-- the block of a row of two entries: its weights aren't negative and sum to the whole at each corner
+pub record AreCorners (block : List ℤ) (whole : ℤ) : Type 0 where
   pub some : HasPair block 0
   pub least : (c : ℕ) → HasPair block c → (pos 0 ≤ℤ number block (2 * c)) × (pos 0 ≤ℤ number block (2 * c + 1))
   pub sums : (c : ℕ) → HasPair block c → number block (2 * c) +ℤ number block (2 * c + 1) ≡ whole
+
+-- and the whole times 2 ^ w is within the engine's limit
+pub record ArePairs (w : ℕ) (block : List ℤ) (whole : ℤ) : Type 0 where
+  pub corners : AreCorners block whole
   pub positive : pos 1 ≤ℤ whole
   pub room : 2 ^ w * unsigned_abs whole < engine_limit

@@ -10,11 +10,12 @@ ghost use Rattle.corner_lift.specs.Case.{number, IsCase, IsRowOf, AreSidesInside
 ghost use Rattle.corner_lift.specs.Ends.{weight_at, greatest_end, IsPair};
 ghost use Rattle.corner_lift.specs.Table.{block, IsTable, CanRead, IsWhole};
 ghost use Rattle.corner_lift.specs.Dot.{dot, total, corner_part, only_at, CanSum, CanCompare, FitsLane, FitsLaneAtCorners};
+ghost use Rattle.corner_lift.specs.ReadRow.{IsReadRow};
 
 use crate::case::Case;
 use crate::ends::Ends;
 use crate::laws::premises;
-use crate::pairs::{block_of, greatest_of_pairs, least_of_pairs};
+use crate::pairs::{block_of, greatest_pair, least_pair};
 use crate::row::{greater, lesser};
 use lift_model::{Links, Row, RowPlace};
 
@@ -309,7 +310,10 @@ pub(crate) fn is_narrow(whole: i128, w: u32) -> bool
     requires { w ≤ most_precision }
     ensures { IsTrue result → whole <ℤ pos (2 ^ (63 - w)) }
 {
-    whole < 1 << (63 - w)
+    match i64::try_from(whole) {
+        Ok(short) => short < 1 << (63 - w),
+        Err(_) => false,
+    }
 }
 
 /// The greatest sum over the corners of the row that stands at that place.
@@ -325,11 +329,6 @@ pub(crate) fn greatest_of(
     requires lane { IsTrue narrow → FitsLaneAtCorners (number vec.now) weights.now targets.now place }
     ensures { IsGreatest (λ c. dot (number vec.now) (corner_part weights.now place c) targets.now) place.corners result }
 {
-    if targets.len() == 2 {
-        let first = vec[targets[0] as usize];
-        let second = vec[targets[1] as usize];
-        return greatest_of_pairs(block_of(weights, place), first, second);
-    }
     let mut greatest = sum_of(corner_of(weights, place, 0), targets, vec, narrow);
     for corner in 1..place.corners {
         let sum = sum_of(corner_of(weights, place, corner), targets, vec, narrow);
@@ -351,17 +350,31 @@ pub(crate) fn least_of(
     requires lane { IsTrue narrow → FitsLaneAtCorners (number vec.now) weights.now targets.now place }
     ensures { IsLeast (λ c. dot (number vec.now) (corner_part weights.now place c) targets.now) place.corners result }
 {
-    if targets.len() == 2 {
-        let first = vec[targets[0] as usize];
-        let second = vec[targets[1] as usize];
-        return least_of_pairs(block_of(weights, place), first, second);
-    }
     let mut least = sum_of(corner_of(weights, place, 0), targets, vec, narrow);
     for corner in 1..place.corners {
         let sum = sum_of(corner_of(weights, place, corner), targets, vec, narrow);
         least = lesser(least, sum);
     }
     least
+}
+
+/// The place of a row, and its targets.
+#[inline]
+pub(crate) fn read_row<'l>(
+    case: &Case,
+    links: &'l Links,
+    weights: &[i128],
+    s: u32,
+    a: u32,
+) -> (RowPlace, &'l [u32])
+    ghost spans: { Spans }
+    requires { CanRead case.now links.now spans weights.now s a }
+    ensures { IsReadRow case.now spans weights.now s a result.0 result.1.now }
+{
+    premises();
+    let _ = case.w();
+    let place = links.place(s, a);
+    (place, links.targets(place))
 }
 
 /// `row_value` of the rectangle whose table `weights` is. One multiplication for each entry.
@@ -392,7 +405,7 @@ pub fn table_value(
 
 /// The whole of a row of the rectangle whose table `weights` is, and its greatest sum over the corners.
 /// One multiplication for each entry and corner.
-#[inline]
+#[inline(always)]
 pub fn table_greatest(
     case: &Case,
     links: &Links,
@@ -410,21 +423,20 @@ pub fn table_greatest(
 {
     premises();
     let w = case.w();
-    let place = links.place(s, a);
+    let (place, targets) = read_row(case, links, weights, s, a);
+    if targets.len() == 2 {
+        let first = vec[targets[0] as usize];
+        let second = vec[targets[1] as usize];
+        return greatest_pair(block_of(weights, place), first, second, w);
+    }
     let whole = total_of(corner_of(weights, place, 0));
-    let sum = greatest_of(
-        weights,
-        place,
-        links.targets(place),
-        vec,
-        is_narrow(whole, w),
-    );
+    let sum = greatest_of(weights, place, targets, vec, is_narrow(whole, w));
     Weighed { sum, whole }
 }
 
 /// The whole of a row of the rectangle whose table `weights` is, and its least sum over the corners. One
 /// multiplication for each entry and corner.
-#[inline]
+#[inline(always)]
 pub fn table_least(
     case: &Case,
     links: &Links,
@@ -441,15 +453,14 @@ pub fn table_least(
 {
     premises();
     let w = case.w();
-    let place = links.place(s, a);
+    let (place, targets) = read_row(case, links, weights, s, a);
+    if targets.len() == 2 {
+        let first = vec[targets[0] as usize];
+        let second = vec[targets[1] as usize];
+        return least_pair(block_of(weights, place), first, second, w);
+    }
     let whole = total_of(corner_of(weights, place, 0));
-    let sum = least_of(
-        weights,
-        place,
-        links.targets(place),
-        vec,
-        is_narrow(whole, w),
-    );
+    let sum = least_of(weights, place, targets, vec, is_narrow(whole, w));
     Weighed { sum, whole }
 }
 

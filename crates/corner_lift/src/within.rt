@@ -10,35 +10,16 @@ ghost use Rattle.corner_lift.specs.Certificate.{AreNumbers, mark, ranked_below};
 ghost use Rattle.corner_lift.specs.Case.{number, IsLeast, row_value, row_whole, corner_count, most_precision, engine_limit};
 ghost use Rattle.corner_lift.specs.Table.{CanRead, IsWhole};
 ghost use Rattle.corner_lift.specs.Dot.{dot, corner_part, lane_limit, CanCompare};
-ghost use Rattle.corner_lift.specs.ReadRow.{IsReadRow};
+ghost use Rattle.corner_lift.specs.Pairs.{one_where};
 
 use crate::case::Case;
-use crate::laws::{premises, rows_at_corners};
-use crate::pairs::{block_of, is_pair_capped, least_of_pairs};
+use crate::laws::rows_at_corners;
+use crate::pairs::{block_of, is_pair_capped, least_pair_into};
 use crate::row::lesser;
 use crate::table::{
-    Weighed, corner_of, greatest_of, is_narrow, least_of, sum_below, times, total_of,
+    Weighed, corner_of, greatest_of, is_narrow, least_of, read_row, sum_below, times, total_of,
 };
 use lift_model::{Links, RowPlace};
-
-/// The place of a row, and its targets.
-#[inline]
-fn read_row<'l>(
-    case: &Case,
-    links: &'l Links,
-    weights: &[i128],
-    s: u32,
-    a: u32,
-) -> (RowPlace, &'l [u32])
-    ghost spans: { Spans }
-    requires { CanRead case.now links.now spans weights.now s a }
-    ensures { IsReadRow case.now spans weights.now s a result.0 result.1.now }
-{
-    premises();
-    let _ = case.w();
-    let place = links.place(s, a);
-    (place, links.targets(place))
-}
 
 /// Whether no target's number is above this one.
 #[inline]
@@ -134,13 +115,13 @@ pub fn is_held(
     times(whole, number) <= least_of(weights, place, targets, vec, is_narrow(whole, w))
 }
 
-/// 1 where the state's rank is less than `below`, else 0.
+/// Whether the state's rank is less than `below`.
 #[inline]
-fn one_below(ranks: &[u32], s: u32, below: u32) -> i64
+fn is_below(ranks: &[u32], s: u32, below: u32) -> bool
     requires { s < length ranks.now }
-    ensures { result ≡ ranked_below (mark ranks.now) below s }
+    ensures { one_where result ≡ ranked_below (mark ranks.now) below s }
 {
-    if ranks[s as usize] < below { 1 } else { 0 }
+    ranks[s as usize] < below
 }
 
 /// The least sum over the corners of the weights whose target's rank is less than `below`.
@@ -155,11 +136,6 @@ fn least_below(
     requires room { CanCompare (ranked_below (mark ranks.now) below) weights.now targets.now place }
     ensures { IsLeast (λ c. dot (ranked_below (mark ranks.now) below) (corner_part weights.now place c) targets.now) place.corners result }
 {
-    if targets.len() == 2 {
-        let first = one_below(ranks, targets[0], below);
-        let second = one_below(ranks, targets[1], below);
-        return least_of_pairs(block_of(weights, place), first, second);
-    }
     let mut least = sum_below(corner_of(weights, place, 0), targets, ranks, below);
     for corner in 1..place.corners {
         let sum = sum_below(corner_of(weights, place, corner), targets, ranks, below);
@@ -170,7 +146,7 @@ fn least_below(
 
 /// The least weight of a row into states of rank below `below`, over the corners of the rectangle whose table
 /// `weights` is, and the row's whole. No multiplication.
-#[inline]
+#[inline(always)]
 pub fn least_into(
     case: &Case,
     links: &Links,
@@ -188,6 +164,11 @@ pub fn least_into(
 {
     let _ = case.w();
     let (place, targets) = read_row(case, links, weights, s, a);
+    if targets.len() == 2 {
+        let first = is_below(ranks, targets[0], below);
+        let second = is_below(ranks, targets[1], below);
+        return least_pair_into(block_of(weights, place), first, second);
+    }
     let whole = total_of(corner_of(weights, place, 0));
     let sum = least_below(weights, place, targets, ranks, below);
     Weighed { sum, whole }

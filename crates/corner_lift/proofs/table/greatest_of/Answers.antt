@@ -1,9 +1,8 @@
-use Rattle.std.proofs.Common.{rules, ◌≡◌, ◌∙◌, ℕ, ℤ, pos, ap, slice_index_or, w64, to_z, of_z, to_z-of_z, SFits}
+use Rattle.std.proofs.Common.{rules, ◌≡◌, ◌∙◌, ℕ, ℤ, ap, to_z, of_z, to_z-of_z, SFits}
 use mir.Syntax.{w128}
 use Rattle.corner_lift.specs.Case.{number}
 use Rattle.corner_lift.specs.Dot.{dot, corner_part}
 use Rattle.corner_lift.proofs.Cases.{greatest_more}
-use Rattle.corner_lift.proofs.PairRows.{first_pair, products_fit, greatest_by_pairs}
 use Rattle.corner_lift.proofs.table.greatest_of.Goals as goal
 
 pub loop-corner-preserved : goal.loop-corner-preserved
@@ -18,22 +17,6 @@ loop-corner-preserved c =
     let right = rw value at c.greater-greatest.ensures.right in
     let one = rw value at c.greater-greatest.ensures.one in
     rw (to_z-of_z fits) (greatest_more f n z c.greater-greatest.result c.loop-corner.invariant left right one)
-
-pub greatest_of_pairs-requires-clause-some : goal.greatest_of_pairs-requires-clause-some
-greatest_of_pairs-requires-clause-some c = first_pair (number c.args.vec.now) c.args.weights.now c.args.targets.now c.args.place c.requires.room c.if-targets-eq2.true c.block_of.result.now c.block_of.ensures
-
-pub greatest_of_pairs-requires-clause-fits : goal.greatest_of_pairs-requires-clause-fits
-greatest_of_pairs-requires-clause-fits c =
-    let one : SFits w64 (slice_index_or c.args.vec.now (slice_index_or c.args.targets.now 0 0) (pos 0)) = search rules in
-    let two : SFits w64 (slice_index_or c.args.vec.now (slice_index_or c.args.targets.now 1 0) (pos 0)) = search rules in
-    rw (to_z-of_z one, to_z-of_z two) (products_fit (number c.args.vec.now) c.args.weights.now c.args.targets.now c.args.place c.requires.room c.if-targets-eq2.true c.block_of.result.now c.block_of.ensures)
-
-pub returns-then-targets-eq2 : goal.returns-then-targets-eq2
-returns-then-targets-eq2 c =
-    let one : SFits w64 (slice_index_or c.args.vec.now (slice_index_or c.args.targets.now 0 0) (pos 0)) = search rules in
-    let two : SFits w64 (slice_index_or c.args.vec.now (slice_index_or c.args.targets.now 1 0) (pos 0)) = search rules in
-    let fits : SFits w128 c.greatest_of_pairs.result = search rules in
-    rw (to_z-of_z fits) (greatest_by_pairs (number c.args.vec.now) c.args.weights.now c.args.targets.now c.args.place c.requires.room c.if-targets-eq2.true c.block_of.result.now c.block_of.ensures c.greatest_of_pairs.result (rw (to_z-of_z one, to_z-of_z two) at c.greatest_of_pairs.ensures))
 
 pub sum_of-greatest-requires-clause-room : goal.sum_of-greatest-requires-clause-room
 sum_of-greatest-requires-clause-room c = rw c.corner_of.ensures (c.requires.room.sums 0 c.requires.room.some)

@@ -1,28 +1,77 @@
-use Rattle.std.proofs.Common.{rules, ◌∙◌, to_z, of_z, to_z-of_z, SFits}
+use Rattle.std.proofs.Common.{rules, ◌∙◌, pos, slice_index_or, w64, to_z, of_z, to_z-of_z, SFits, ap, arith}
+use Rattle.std.proofs.lemmas.Int.{ints}
 use mir.Syntax.{w128}
-use Rattle.std.proofs.lemmas.Nat.{pow_pos}
 use Rattle.lift_model.specs.Model.{row_at}
-use Rattle.lift_model.specs.Links.{targets_of}
-use Rattle.corner_lift.specs.Case.{row_parameters, number, IsGreatest, row_value, corner_count}
-use Rattle.corner_lift.specs.Dot.{dot, corner_part}
+use Rattle.corner_lift.specs.Corner.{corner_sum}
+use Rattle.corner_lift.specs.Case.{number, IsGreatest, row_value, corner_count}
+use Rattle.corner_lift.specs.Dot.{dot, total, corner_part}
 use Rattle.corner_lift.proofs.Sums.{greatest_same}
-use Rattle.corner_lift.proofs.Reading.{row_placed, corners_all, can_compare, sum_stands, targets_inside, above, in_range, corner_ends, corner_least_at, first_total, whole_below, lane_at_corners, is_whole}
+use Rattle.corner_lift.proofs.Reading.{above, in_range}
+use Rattle.corner_lift.proofs.Rows.{number_range}
+use Rattle.corner_lift.proofs.ReadRows as rows
 use Rattle.corner_lift.proofs.table.table_greatest.Goals as goal
-use Rattle.corner_lift.proofs.table.table_greatest.Goals.{After-greatest_of-sum}
+use Rattle.corner_lift.proofs.table.table_greatest.Goals.{After-greatest_pair, After-greatest_of-sum}
 
-pub greatest_of-sum-requires-clause-targets : goal.greatest_of-sum-requires-clause-targets
-greatest_of-sum-requires-clause-targets g c = rw (c.targets.ensures, (row_placed c.args.case.now c.args.links.now g.spans c.args.weights.now c.args.s c.args.a c.place-place.result c.requires.0 c.place-place.ensures).entries) (targets_inside c.premises.ensures c.args.case.now c.args.links.now g.spans c.args.weights.now c.args.s c.args.a c.w-w.ensures.case c.requires.0 c.place-place.result (row_placed c.args.case.now c.args.links.now g.spans c.args.weights.now c.args.s c.args.a c.place-place.result c.requires.0 c.place-place.ensures) _ c.requires.1.size)
+-- ---- two entries
+
+pub greatest_pair-requires-clause-pairs : goal.greatest_pair-requires-clause-pairs
+greatest_pair-requires-clause-pairs g c = rw c.w-w.ensures.value (rows.pairs c.args.case.now g.spans c.args.weights.now c.args.s c.args.a c.read_row.result.0 c.read_row.result.1.now c.read_row.ensures c.if-targets-eq2.true c.block_of.result.now c.block_of.ensures)
+
+pub greatest_pair-requires-clause-numbers : goal.greatest_pair-requires-clause-numbers
+greatest_pair-requires-clause-numbers g c =
+    let x = c.args.vec.now in
+    let one : SFits w64 (slice_index_or x (slice_index_or c.read_row.result.1.now 0 0) (pos 0)) = search rules in
+    let two : SFits w64 (slice_index_or x (slice_index_or c.read_row.result.1.now 1 0) (pos 0)) = search rules in
+    rw (c.w-w.ensures.value, to_z-of_z one, to_z-of_z two) (number_range c.args.case.now x c.requires.1 _, number_range c.args.case.now x c.requires.1 _)
+
+-- of all corners
+of_pairs : (g : _) (c : After-greatest_pair g) → IsGreatest (row_value c.args.case.now g.spans c.args.s c.args.a c.args.vec.now) (corner_count c.args.case.now c.args.s c.args.a) c.greatest_pair.result.sum
+of_pairs g c =
+    let x = c.args.vec.now in
+    let one : SFits w64 (slice_index_or x (slice_index_or c.read_row.result.1.now 0 0) (pos 0)) = search rules in
+    let two : SFits w64 (slice_index_or x (slice_index_or c.read_row.result.1.now 1 0) (pos 0)) = search rules in
+    rows.greatest_of_row c.args.case.now g.spans c.args.weights.now c.args.s c.args.a c.read_row.result.0 c.read_row.result.1.now c.read_row.ensures c.if-targets-eq2.true c.block_of.result.now c.block_of.ensures (number x) c.greatest_pair.result.sum (rw (to_z-of_z one, to_z-of_z two) at c.greatest_pair.ensures.sum)
+
+pub returns-then-targets-eq2-clause-greatest : goal.returns-then-targets-eq2-clause-greatest
+returns-then-targets-eq2-clause-greatest g c = of_pairs g c
+
+pub returns-then-targets-eq2-clause-bound : goal.returns-then-targets-eq2-clause-bound
+returns-then-targets-eq2-clause-bound g c = above c.premises.ensures c.args.case.now c.args.s c.args.a g.spans c.args.vec.now c.w-w.ensures.case c.requires.0.table.inside c.greatest_pair.result.sum (of_pairs g c)
+
+pub returns-then-targets-eq2-clause-range : goal.returns-then-targets-eq2-clause-range
+returns-then-targets-eq2-clause-range g c = in_range c.premises.ensures c.args.case.now c.args.s c.args.a g.spans c.args.vec.now c.w-w.ensures.case c.requires.0.table.inside c.greatest_pair.result.sum (corner_count c.args.case.now c.args.s c.args.a) c.requires.0.row.state c.requires.0.row.choice c.requires.1 (of_pairs g c)
+
+pub returns-then-targets-eq2-clause-whole : goal.returns-then-targets-eq2-clause-whole
+returns-then-targets-eq2-clause-whole g c =
+    rw (c.greatest_pair.ensures.whole, rows.pair_whole_is c.args.case.now g.spans c.args.weights.now c.args.s c.args.a c.read_row.result.0 c.read_row.result.1.now c.read_row.ensures c.if-targets-eq2.true c.block_of.result.now c.block_of.ensures) c.read_row.ensures.whole
+
+-- ---- other rows
+
+pub total_of-whole-requires-clause-room : goal.total_of-whole-requires-clause-room
+total_of-whole-requires-clause-room g c =
+    let row = c.read_row.ensures in
+    rw (c.corner_of.ensures, row.totals 0 (omega (arith, row.some))) (omega (arith, ints, row.whole.size))
 
 pub greatest_of-sum-requires-clause-room : goal.greatest_of-sum-requires-clause-room
-greatest_of-sum-requires-clause-room g c = rw (c.targets.ensures, (row_placed c.args.case.now c.args.links.now g.spans c.args.weights.now c.args.s c.args.a c.place-place.result c.requires.0 c.place-place.ensures).entries) (can_compare c.premises.ensures c.args.case.now c.args.links.now g.spans c.args.weights.now c.args.s c.args.a c.w-w.ensures.case c.requires.0 c.place-place.result (row_placed c.args.case.now c.args.links.now g.spans c.args.weights.now c.args.s c.args.a c.place-place.result c.requires.0 c.place-place.ensures) c.args.vec.now c.requires.1)
+greatest_of-sum-requires-clause-room g c = c.read_row.ensures.can_compare c.args.vec.now c.requires.1
+
+pub greatest_of-sum-requires-clause-lane : goal.greatest_of-sum-requires-clause-lane
+greatest_of-sum-requires-clause-lane g c = λ narrow.
+    let row = c.read_row.ensures in
+    let fits : SFits w128 c.total_of-whole.result = search rules in
+    let whole = to_z-of_z fits ∙ c.total_of-whole.ensures ∙ ap total c.corner_of.ensures ∙ row.totals 0 (omega (arith, row.some)) in
+    row.lane c.args.vec.now c.requires.1 (rw (whole, c.w-w.ensures.value) at (c.is_narrow.ensures narrow))
 
 -- of all corners
 of_all : (g : _) (c : After-greatest_of-sum g) → IsGreatest (row_value c.args.case.now g.spans c.args.s c.args.a c.args.vec.now) (corner_count c.args.case.now c.args.s c.args.a) (to_z w128 (of_z w128 c.greatest_of-sum.result))
 of_all g c =
+    let row = c.read_row.ensures in
     let fits : SFits w128 c.greatest_of-sum.result = search rules in
-    let value = rw (c.targets.ensures, (row_placed c.args.case.now c.args.links.now g.spans c.args.weights.now c.args.s c.args.a c.place-place.result c.requires.0 c.place-place.ensures).entries) at c.greatest_of-sum.ensures in
-    rw (to_z-of_z fits) (greatest_same (λ n. dot (number c.args.vec.now) (corner_part c.args.weights.now c.place-place.result n) (targets_of (row_at c.args.case.now.model c.args.s c.args.a))) (row_value c.args.case.now g.spans c.args.s c.args.a c.args.vec.now) c.place-place.result.corners (corner_count c.args.case.now c.args.s c.args.a) c.greatest_of-sum.result
-    (corners_all c.premises.ensures c.args.case.now c.args.links.now g.spans c.args.weights.now c.args.s c.args.a c.w-w.ensures.case c.requires.0 c.place-place.result (row_placed c.args.case.now c.args.links.now g.spans c.args.weights.now c.args.s c.args.a c.place-place.result c.requires.0 c.place-place.ensures)) (λ n lt. sum_stands c.premises.ensures c.args.case.now c.args.links.now g.spans c.args.weights.now c.args.s c.args.a c.w-w.ensures.case c.requires.0 c.place-place.result (row_placed c.args.case.now c.args.links.now g.spans c.args.weights.now c.args.s c.args.a c.place-place.result c.requires.0 c.place-place.ensures) n lt (number c.args.vec.now)) value)
+    rw (to_z-of_z fits) (greatest_same
+    (λ n. dot (number c.args.vec.now) (corner_part c.args.weights.now c.read_row.result.0 n) c.read_row.result.1.now)
+    (λ n. corner_sum c.args.case.now.d g.spans (row_at c.args.case.now.model c.args.s c.args.a) n (number c.args.vec.now))
+    c.read_row.result.0.corners (corner_count c.args.case.now c.args.s c.args.a) c.greatest_of-sum.result row.corners
+    (λ n lt. row.sums n (omega (arith, lt, row.corners)) (number c.args.vec.now)) c.greatest_of-sum.ensures)
 
 pub returns-clause-greatest : goal.returns-clause-greatest
 returns-clause-greatest g c = of_all g c
@@ -33,24 +82,8 @@ returns-clause-bound g c = above c.premises.ensures c.args.case.now c.args.s c.a
 pub returns-clause-range : goal.returns-clause-range
 returns-clause-range g c = in_range c.premises.ensures c.args.case.now c.args.s c.args.a g.spans c.args.vec.now c.w-w.ensures.case c.requires.0.table.inside (to_z w128 (of_z w128 c.greatest_of-sum.result)) (corner_count c.args.case.now c.args.s c.args.a) c.requires.0.row.state c.requires.0.row.choice c.requires.1 (of_all g c)
 
--- the first corner
-pub corner_of-requires : goal.corner_of-requires
-corner_of-requires g c = corner_ends c.premises.ensures c.args.case.now c.args.links.now g.spans c.args.weights.now c.args.s c.args.a c.w-w.ensures.case c.requires.0 c.place-place.result (row_placed c.args.case.now c.args.links.now g.spans c.args.weights.now c.args.s c.args.a c.place-place.result c.requires.0 c.place-place.ensures) 0 (pow_pos (row_parameters c.args.case.now (row_at c.args.case.now.model c.args.s c.args.a)))
-
-pub total_of-whole-requires-clause-weights : goal.total_of-whole-requires-clause-weights
-total_of-whole-requires-clause-weights g c = rw c.corner_of.ensures (corner_least_at c.premises.ensures c.args.case.now c.args.links.now g.spans c.args.weights.now c.args.s c.args.a c.w-w.ensures.case c.requires.0 c.place-place.result (row_placed c.args.case.now c.args.links.now g.spans c.args.weights.now c.args.s c.args.a c.place-place.result c.requires.0 c.place-place.ensures) 0 (pow_pos (row_parameters c.args.case.now (row_at c.args.case.now.model c.args.s c.args.a))))
-
-pub total_of-whole-requires-clause-room : goal.total_of-whole-requires-clause-room
-total_of-whole-requires-clause-room g c = rw (c.corner_of.ensures, first_total c.premises.ensures c.args.case.now c.args.links.now g.spans c.args.weights.now c.args.s c.args.a c.w-w.ensures.case c.requires.0 c.place-place.result (row_placed c.args.case.now c.args.links.now g.spans c.args.weights.now c.args.s c.args.a c.place-place.result c.requires.0 c.place-place.ensures)) (whole_below c.premises.ensures c.args.case.now c.args.links.now g.spans c.args.weights.now c.args.s c.args.a c.w-w.ensures.case c.requires.0 c.place-place.result (row_placed c.args.case.now c.args.links.now g.spans c.args.weights.now c.args.s c.args.a c.place-place.result c.requires.0 c.place-place.ensures))
-
-pub greatest_of-sum-requires-clause-lane : goal.greatest_of-sum-requires-clause-lane
-greatest_of-sum-requires-clause-lane g c small =
-    let fits : SFits w128 c.total_of-whole.result = search rules in
-    let whole = to_z-of_z fits ∙ (rw c.corner_of.ensures at c.total_of-whole.ensures) ∙ first_total c.premises.ensures c.args.case.now c.args.links.now g.spans c.args.weights.now c.args.s c.args.a c.w-w.ensures.case c.requires.0 c.place-place.result (row_placed c.args.case.now c.args.links.now g.spans c.args.weights.now c.args.s c.args.a c.place-place.result c.requires.0 c.place-place.ensures) in
-    rw (c.targets.ensures, (row_placed c.args.case.now c.args.links.now g.spans c.args.weights.now c.args.s c.args.a c.place-place.result c.requires.0 c.place-place.ensures).entries) (lane_at_corners c.premises.ensures c.args.case.now c.args.links.now g.spans c.args.weights.now c.args.s c.args.a c.w-w.ensures.case c.requires.0 c.place-place.result (row_placed c.args.case.now c.args.links.now g.spans c.args.weights.now c.args.s c.args.a c.place-place.result c.requires.0 c.place-place.ensures) c.args.vec.now c.requires.1 (rw (whole, c.w-w.ensures.value) at (c.is_narrow.ensures small)))
-
 pub returns-clause-whole : goal.returns-clause-whole
 returns-clause-whole g c =
+    let row = c.read_row.ensures in
     let fits : SFits w128 c.total_of-whole.result = search rules in
-    let whole = to_z-of_z fits ∙ (rw c.corner_of.ensures at c.total_of-whole.ensures) ∙ first_total c.premises.ensures c.args.case.now c.args.links.now g.spans c.args.weights.now c.args.s c.args.a c.w-w.ensures.case c.requires.0 c.place-place.result (row_placed c.args.case.now c.args.links.now g.spans c.args.weights.now c.args.s c.args.a c.place-place.result c.requires.0 c.place-place.ensures) in
-    is_whole c.premises.ensures c.args.case.now c.args.links.now g.spans c.args.weights.now c.args.s c.args.a c.w-w.ensures.case c.requires.0 c.place-place.result (row_placed c.args.case.now c.args.links.now g.spans c.args.weights.now c.args.s c.args.a c.place-place.result c.requires.0 c.place-place.ensures) (to_z w128 (of_z w128 c.total_of-whole.result)) whole
+    rw (to_z-of_z fits, c.total_of-whole.ensures, c.corner_of.ensures, row.totals 0 (omega (arith, row.some))) row.whole

@@ -1,9 +1,8 @@
-use Rattle.std.proofs.Common.{rules, ◌≡◌, ◌∙◌, ℕ, ℤ, ap, w64, to_z, of_z, to_z-of_z, SFits}
+use Rattle.std.proofs.Common.{rules, ◌≡◌, ◌∙◌, ℕ, ℤ, ap, to_z, of_z, to_z-of_z, SFits}
 use mir.Syntax.{w128}
 use Rattle.corner_lift.specs.Certificate.{mark, ranked_below}
 use Rattle.corner_lift.specs.Dot.{dot, corner_part}
 use Rattle.corner_lift.proofs.Cases.{least_more}
-use Rattle.corner_lift.proofs.PairRows.{first_pair, products_fit, least_by_pairs}
 use Rattle.corner_lift.proofs.within.least_below.Goals as goal
 
 pub loop-corner-preserved : goal.loop-corner-preserved
@@ -18,22 +17,6 @@ loop-corner-preserved c =
     let right = rw value at c.lesser-least.ensures.right in
     let one = rw value at c.lesser-least.ensures.one in
     rw (to_z-of_z fits) (least_more f n z c.lesser-least.result c.loop-corner.invariant left right one)
-
-pub least_of_pairs-requires-clause-some : goal.least_of_pairs-requires-clause-some
-least_of_pairs-requires-clause-some c = first_pair (ranked_below (mark c.args.ranks.now) c.args.below) c.args.weights.now c.args.targets.now c.args.place c.requires.room c.if-targets-eq2.true c.block_of.result.now c.block_of.ensures
-
-pub least_of_pairs-requires-clause-fits : goal.least_of_pairs-requires-clause-fits
-least_of_pairs-requires-clause-fits c =
-    let one : SFits w64 c.one_below-first.result = search rules in
-    let two : SFits w64 c.one_below-second.result = search rules in
-    rw (to_z-of_z one, to_z-of_z two, c.one_below-first.ensures, c.one_below-second.ensures) (products_fit (ranked_below (mark c.args.ranks.now) c.args.below) c.args.weights.now c.args.targets.now c.args.place c.requires.room c.if-targets-eq2.true c.block_of.result.now c.block_of.ensures)
-
-pub returns-then-targets-eq2 : goal.returns-then-targets-eq2
-returns-then-targets-eq2 c =
-    let one : SFits w64 c.one_below-first.result = search rules in
-    let two : SFits w64 c.one_below-second.result = search rules in
-    let fits : SFits w128 c.least_of_pairs.result = search rules in
-    rw (to_z-of_z fits) (least_by_pairs (ranked_below (mark c.args.ranks.now) c.args.below) c.args.weights.now c.args.targets.now c.args.place c.requires.room c.if-targets-eq2.true c.block_of.result.now c.block_of.ensures c.least_of_pairs.result (rw (to_z-of_z one, to_z-of_z two, c.one_below-first.ensures, c.one_below-second.ensures) at c.least_of_pairs.ensures))
 
 pub sum_below-least-requires-clause-room : goal.sum_below-least-requires-clause-room
 sum_below-least-requires-clause-room c = rw c.corner_of.ensures (c.requires.room.sums 0 c.requires.room.some)

@@ -1,7 +1,7 @@
 use Rattle.std.proofs.Common.{◌*◌, ◌-◌, ◌≤◌, length}
 use Rattle.corner_lift.specs.Case.{IsGreatest}
 use Rattle.corner_lift.specs.Pairs.{pair_sum}
-use Rattle.corner_lift.proofs.pairs.greatest_of_pairs.Given as goal
+use Rattle.corner_lift.proofs.pairs.greatest_in_lane.Given as goal
 
 -- the greatest of the corners before this one
 abbrev pub invariant-loop-corner : goal.invariant-loop-corner

@@ -1,7 +1,7 @@
 use Rattle.std.proofs.Common.{◌*◌, ◌-◌, ◌≤◌, length}
 use Rattle.corner_lift.specs.Case.{IsLeast}
 use Rattle.corner_lift.specs.Pairs.{pair_sum}
-use Rattle.corner_lift.proofs.pairs.least_of_pairs.Given as goal
+use Rattle.corner_lift.proofs.pairs.least_in_lane.Given as goal
 
 -- the least of the corners before this one
 abbrev pub invariant-loop-corner : goal.invariant-loop-corner

@@ -3,7 +3,7 @@ use Rattle.std.proofs.lemmas.Nat.{pow_pos}
 use Rattle.lift_model.specs.Model.{row_at}
 use Rattle.corner_lift.specs.Case.{row_parameters, row_whole}
 use Rattle.corner_lift.proofs.Reading as reading
-use Rattle.corner_lift.proofs.within.read_row.Goals as goal
+use Rattle.corner_lift.proofs.table.read_row.Goals as goal
 
 pub returns : goal.returns
 returns g c =
