@@ -81,6 +81,10 @@ pub record IsLeastBound (e : Extreme) (k : CaseData) (spans : Spans) (x : List �
 abbrev pub IsRoundedUp : ℤ → ℤ → ℤ → Type 0
 IsRoundedUp sum whole q = (sum ≤ℤ (q *ℤ whole)) × (((q -ℤ pos 1) *ℤ whole) <ℤ sum)
 
+-- the least number from n on that times the whole is at least the sum: n, or else the quotient
+abbrev pub IsFirstFrom : ℤ → ℤ → ℤ → ℤ → Type 0
+IsFirstFrom n sum whole v = ((v ≡ n) × (sum ≤ℤ (n *ℤ whole))) ⊎ (((n *ℤ whole) <ℤ sum) × IsRoundedUp sum whole v)
+
 -- what it needs to try a choice
 pub record CanTry (t : TableData) (spans : Spans) (x : List ℤ) (s a : ℕ) : Type 0 where
   pub read : IsRead t spans

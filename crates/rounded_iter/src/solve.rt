@@ -6,7 +6,7 @@ ghost use Rattle.lift_model.specs.Links.{AreLinks, HasChoice, targets_of};
 ghost use Rattle.lift_grid.specs.Rectangle.{Spans};
 ghost use Rattle.corner_lift.specs.Case.{row_value, row_whole, corner_count, most_precision, engine_limit};
 ghost use Rattle.corner_lift.specs.Table.{IsWhole};
-ghost use Rattle.rounded_iter.specs.Rising.{CanTry, CanWeigh, CanSolve, IsExtreme, IsMoreExtreme, SolvesAt, IsSolved, IsRoundedUp};
+ghost use Rattle.rounded_iter.specs.Rising.{CanTry, CanWeigh, CanSolve, IsExtreme, IsMoreExtreme, SolvesAt, IsSolved, IsRoundedUp, IsFirstFrom};
 
 use crate::table::Table;
 use corner_lift::{
@@ -46,8 +46,22 @@ fn is_rounded_up(sum: i64, whole: i64, quotient: i64) -> bool
     }
 }
 
-/// The quotient, rounded up to a whole number, where 64 bits hold the numbers and floats find it, which
-/// takes less time than a division.
+/// The quotient, rounded up to a whole number, where floats find it, which takes less time than a division.
+#[inline]
+fn short_quotient(sum: i64, whole: i64) -> Option<i64>
+    requires least { pos 0 ≤ℤ sum }
+    requires positive { pos 1 ≤ℤ whole }
+    ensures { IfSome result (λ quotient. IsRoundedUp sum whole quotient) }
+{
+    let quotient = guessed_quotient(sum, whole);
+    if is_rounded_up(sum, whole, quotient) {
+        Some(quotient)
+    } else {
+        None
+    }
+}
+
+/// The same where 64 bits hold the numbers.
 #[inline]
 fn quick_quotient(sum: i128, whole: i128) -> Option<i64>
     requires least { pos 0 ≤ℤ sum }
@@ -60,12 +74,7 @@ fn quick_quotient(sum: i128, whole: i128) -> Option<i64>
     let Ok(short_whole) = i64::try_from(whole) else {
         return None;
     };
-    let quotient = guessed_quotient(short_sum, short_whole);
-    if is_rounded_up(short_sum, short_whole, quotient) {
-        Some(quotient)
-    } else {
-        None
-    }
+    short_quotient(short_sum, short_whole)
 }
 
 /// The same, by a division.
@@ -98,6 +107,98 @@ fn times(number: i64, weight: i128) -> i128
     ensures { result ≡ number *ℤ weight }
 {
     i128::from(number) * weight
+}
+
+/// Whether the one number is at most the other.
+#[inline]
+fn is_at_most(sum: i64, most: i64) -> bool
+    ensures within { IsTrue result → sum ≤ℤ most }
+    ensures above { IsFalse result → most <ℤ sum }
+{
+    sum <= most
+}
+
+/// Whether a number times the whole is at least the sum; none where 64 bits don't hold the product.
+#[inline]
+fn reaches(number: i64, sum: i64, whole: i64) -> Option<bool>
+    ensures enough { IfSome result (λ yes. IsTrue yes → sum ≤ℤ (number *ℤ whole)) }
+    ensures less { IfSome result (λ yes. IsFalse yes → (number *ℤ whole) <ℤ sum) }
+{
+    match number.checked_mul(whole) {
+        Some(product) => Some(is_at_most(sum, product)),
+        None => None,
+    }
+}
+
+/// The least number from this one on that times the whole is at least the sum, where 64 bits hold the numbers and
+/// floats find it.
+#[inline]
+fn short_from(number: i64, sum: i64, whole: i64) -> Option<i64>
+    requires least { pos 0 ≤ℤ sum }
+    requires positive { pos 1 ≤ℤ whole }
+    ensures { IfSome result (λ v. IsFirstFrom number sum whole v) }
+{
+    if reaches(number, sum, whole)? {
+        Some(number)
+    } else {
+        short_quotient(sum, whole)
+    }
+}
+
+/// The same of numbers that 64 bits may not hold.
+#[inline]
+fn quick_from(number: i64, sum: i128, whole: i128) -> Option<i64>
+    requires least { pos 0 ≤ℤ sum }
+    requires positive { pos 1 ≤ℤ whole }
+    ensures { IfSome result (λ v. IsFirstFrom number sum whole v) }
+{
+    let Ok(short_sum) = i64::try_from(sum) else {
+        return None;
+    };
+    let Ok(short_whole) = i64::try_from(whole) else {
+        return None;
+    };
+    short_from(number, short_sum, short_whole)
+}
+
+/// Whether a number times the whole is at least the sum.
+fn is_reached(number: i64, sum: i128, whole: i128) -> bool
+    requires room { unsigned_abs number * unsigned_abs whole < engine_limit }
+    ensures enough { IsTrue result → sum ≤ℤ (number *ℤ whole) }
+    ensures less { IsFalse result → (number *ℤ whole) <ℤ sum }
+{
+    sum <= times(number, whole)
+}
+
+/// The least number from this one on that times the whole is at least the sum, by a division.
+#[inline(never)]
+fn divided_from(number: i64, sum: i128, whole: i128) -> i64
+    requires room { unsigned_abs number * unsigned_abs whole < engine_limit }
+    requires least { pos 0 ≤ℤ sum }
+    requires positive { pos 1 ≤ℤ whole }
+    requires most { sum ≤ℤ (pos (2 ^ most_precision) *ℤ whole) }
+    ensures { IsFirstFrom number sum whole result }
+{
+    if is_reached(number, sum, whole) {
+        number
+    } else {
+        divided(sum, whole)
+    }
+}
+
+/// The least number from this one on that times the whole is at least the sum.
+#[inline]
+fn least_from(number: i64, sum: i128, whole: i128) -> i64
+    requires room { unsigned_abs number * unsigned_abs whole < engine_limit }
+    requires least { pos 0 ≤ℤ sum }
+    requires positive { pos 1 ≤ℤ whole }
+    requires most { sum ≤ℤ (pos (2 ^ most_precision) *ℤ whole) }
+    ensures { IsFirstFrom number sum whole result }
+{
+    match quick_from(number, sum, whole) {
+        Some(least) => least,
+        None => divided_from(number, sum, whole),
+    }
 }
 
 /// The greater or the lesser of two numbers.
@@ -187,6 +288,7 @@ impl Table<'_> {
     }
 
     /// The least number from the state's own on that is enough for a row, corner by corner.
+    #[inline(never)]
     fn solve(&self, lane: &[i64], s: u32, a: u32) -> i64
         ghost spans: { Spans }
         requires { CanTry self.now spans lane.now s a }
@@ -205,7 +307,7 @@ impl Table<'_> {
 
     /// The least number from the state's own on that is enough for a row with these targets, by their
     /// weights.
-    #[inline(never)]
+    #[inline(always)]
     fn enough_by_weights(&self, lane: &[i64], s: u32, a: u32, targets: &[u32]) -> i64
         ghost spans: { Spans }
         requires { CanWeigh self.now spans lane.now s a targets.now }
@@ -218,10 +320,7 @@ impl Table<'_> {
         }
         let number = lane[s as usize];
         let Weighed { sum, whole } = self.weigh(lane, s, a);
-        if sum <= times(number, whole) {
-            return number;
-        }
-        rounded_up(sum, whole)
+        least_from(number, sum, whole)
     }
 
     /// The least number from the state's own on that is enough for a row. A number that is `top`, as a

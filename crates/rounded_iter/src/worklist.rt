@@ -71,7 +71,7 @@ impl Table<'_> {
         requires state { s < length self.now.case.model.states }
         ensures { result ≡ length (choices self.now.case.model s) }
     {
-        self.links.places(s).len() as u32
+        self.links.choices(s)
     }
 
     /// Raises the number of a state to what is enough for one of its choices, and tells whether it rose.
