@@ -1,7 +1,7 @@
 ghost use Rattle.std.specs.Prelude.{◌≡◌, ◌+◌, List, ◌≤◌, ◌<◌, ◌↔◌, ◌<ℤ◌, pos, ℕ, suc, length, false, IsTrue, IfSome, IsNone, All, count_by, slice_set};
 ghost use Rattle.lift_grid.specs.Rectangle.{Spans};
-ghost use Rattle.lift_model.specs.Model.{is_goal, choices, row_count};
-ghost use Rattle.lift_model.specs.Links.{AreLinks, HasChoice, states_before};
+ghost use Rattle.lift_model.specs.Model.{is_goal, choices, row_at, row_count};
+ghost use Rattle.lift_model.specs.Links.{AreLinks, HasChoice, states_before, targets_of};
 ghost use Rattle.corner_lift.specs.Case.{IsInside};
 ghost use Rattle.corner_lift.specs.Certificate.{mark, unmarked};
 ghost use Rattle.corner_lift.specs.Stages.{LeadsBelow, AreStages};
@@ -9,19 +9,41 @@ ghost use Rattle.corner_lift.specs.Table.{IsTable};
 ghost use Rattle.robust_rank.specs.Attracting.{Pass};
 ghost use Rattle.robust_rank.specs.Staging.{allows, CanRank, IsLeading, IsLeastLeading, HasLeading, HasNoLeading, OthersHaveNoPick, is_rank, IsReached, IsPickOf, IsStarting, IsComplete, StageData, IsGathering, AreKept, IsLooked};
 
-use crate::marks::{NONE, mark_of};
+use crate::marks::{NONE, are_below, mark_of};
 use corner_lift::{Case, least_into, rows_at_corners};
 use lift_model::Links;
 
 /// Whether the weight is above 0.
+#[inline(always)]
 fn is_positive(weight: i128) -> bool
     ensures { IsTrue result ↔ pos 0 <ℤ weight }
 {
     weight > 0
 }
 
+/// Whether all targets of the state's choice have a rank less than `below`, so that nothing need be weighed.
+#[inline(always)]
+pub(crate) fn leads_only_below(
+    case: &Case,
+    links: &Links,
+    s: u32,
+    a: u32,
+    ranks: &[u32],
+    below: u32,
+) -> bool
+    requires links { AreLinks case.now.model links.now }
+    requires row { HasChoice case.now.model s a }
+    requires ranks { length ranks.now ≡ length case.now.model.states }
+    ensures { IsTrue result → All (λ t. mark ranks.now t < below) (targets_of (row_at case.now.model s a)) }
+{
+    let _ = case.w();
+    let place = links.place(s, a);
+    are_below(links.targets(place), ranks, below)
+}
+
 /// Whether at each of its corners the state's choice has positive weight into states whose rank is less
 /// than `below`.
+#[inline(always)]
 fn leads_below(
     case: &Case,
     links: &Links,
@@ -39,10 +61,15 @@ fn leads_below(
     ensures { IsTrue result ↔ LeadsBelow case.now spans (mark ranks.now) below s a }
 {
     rows_at_corners();
+    let _ = case.w();
+    if leads_only_below(case, links, s, a, ranks, below) {
+        return true;
+    }
     is_positive(least_into(case, links, weights, s, a, ranks, below).sum)
 }
 
 /// Whether the state's choice is allowed.
+#[inline(always)]
 fn is_allowed(case: &Case, links: &Links, allowed: &[u32], s: u32, a: u32) -> bool
     requires links { AreLinks case.now.model links.now }
     requires rows { length allowed.now ≡ row_count case.now.model }
@@ -53,6 +80,7 @@ fn is_allowed(case: &Case, links: &Links, allowed: &[u32], s: u32, a: u32) -> bo
 }
 
 /// Whether the state's choice is allowed and leads below.
+#[inline(always)]
 fn is_leading(
     case: &Case,
     links: &Links,
@@ -73,6 +101,7 @@ fn is_leading(
 }
 
 /// How many choices a state has, by the links, whose lists lie closer together than the model's.
+#[inline(always)]
 fn choice_count(case: &Case, links: &Links, s: u32) -> u32
     requires links { AreLinks case.now.model links.now }
     requires state { s < length case.now.model.states }
@@ -82,6 +111,7 @@ fn choice_count(case: &Case, links: &Links, s: u32) -> u32
 }
 
 /// The least allowed choice of the state that leads below.
+#[inline(always)]
 fn leading_choice(
     case: &Case,
     links: &Links,
@@ -107,6 +137,7 @@ fn leading_choice(
 }
 
 /// Gives a state without rank the rank, and puts it at the end of the queue.
+#[inline(always)]
 fn add(ranks: &mut [u32], queue: &mut [u32], s: u32, rank: u32, found: usize) -> usize
     requires state { s < length ranks.old }
     requires sizes { length queue.old ≡ length ranks.old }
@@ -125,6 +156,7 @@ fn add(ranks: &mut [u32], queue: &mut [u32], s: u32, rank: u32, found: usize) ->
 }
 
 /// Gives a state the rank after `rank` if it has none and a choice that leads below that.
+#[inline(always)]
 fn try_state(
     case: &Case,
     links: &Links,
@@ -182,6 +214,7 @@ fn try_before(
 
 /// Gives the rank after `rank` to each state that gets it, and puts these behind the queue's part from
 /// `from` to `to`, which holds the states of that rank.
+#[inline(never)]
 fn add_stage(
     case: &Case,
     links: &Links,
@@ -220,6 +253,7 @@ fn clear(ranks: &mut [u32])
 }
 
 /// Gives rank 0 to the state, if it is a goal state, and puts it into the queue.
+#[inline(always)]
 fn add_goal(case: &Case, s: u32, found: usize, ranks: &mut [u32], queue: &mut [u32]) -> usize
     requires state { s < length case.now.model.states }
     requires starting { IsStarting case.now ranks.old queue.old s found }
@@ -232,6 +266,7 @@ fn add_goal(case: &Case, s: u32, found: usize, ranks: &mut [u32], queue: &mut [u
 }
 
 /// Gives rank 0 to the goal states and none to the others, and puts the goal states into the queue.
+#[inline(never)]
 fn start(case: &Case, ranks: &mut [u32], queue: &mut [u32]) -> usize
     requires sizes { (length ranks.old ≡ length case.now.model.states) × (length queue.old ≡ length case.now.model.states) }
     ensures { IsStarting case.now ranks.new queue.new (length case.now.model.states) result }
@@ -246,6 +281,7 @@ fn start(case: &Case, ranks: &mut [u32], queue: &mut [u32]) -> usize
 
 /// The least allowed choice of a state that leads below, where there is one. The last choice isn't looked
 /// at: where no other does, it does.
+#[inline(always)]
 fn known_choice(
     case: &Case,
     links: &Links,
@@ -273,6 +309,7 @@ fn known_choice(
 
 /// The pick of a state: the least allowed choice that leads below its rank. None where it has no rank,
 /// or is a goal state.
+#[inline(always)]
 fn pick_of(
     case: &Case,
     links: &Links,
@@ -296,6 +333,7 @@ fn pick_of(
 }
 
 /// Writes the picks of all states.
+#[inline(never)]
 fn pick_all(
     case: &Case,
     links: &Links,

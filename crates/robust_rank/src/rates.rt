@@ -8,6 +8,7 @@ ghost use Rattle.corner_lift.specs.Table.{IsTable};
 ghost use Rattle.robust_rank.specs.Rate.{ArePicks, IsRowRate, IsStateRate, IsFirstFrom, IsLeastRate};
 
 use crate::marks::{NONE, mark_of};
+use crate::ranking::leads_only_below;
 use corner_lift::{Case, Weighed, is_enough, least_into, rows_at_corners};
 use lift_model::Links;
 
@@ -15,6 +16,7 @@ use lift_model::Links;
 const MOST_RATE: u32 = 126;
 
 /// How often `weight` is to be doubled to be at least the whole, but at least `first` times.
+#[inline(always)]
 fn doublings(weight: i128, whole: i128, first: u32) -> u32
     requires weight { pos 1 ≤ℤ weight }
     requires whole { (pos 1 ≤ℤ whole) × (whole <ℤ pos engine_limit) }
@@ -31,6 +33,7 @@ fn doublings(weight: i128, whole: i128, first: u32) -> u32
 }
 
 /// The least rate of the state's choice, but at least `first`.
+#[inline(always)]
 fn rate_of_row(
     case: &Case,
     links: &Links,
@@ -53,11 +56,15 @@ fn rate_of_row(
     rows_at_corners();
     let _ = case.w();
     let rank = mark_of(ranks, s as usize);
+    if leads_only_below(case, links, s, a, ranks, rank) {
+        return first;
+    }
     let Weighed { sum, whole } = least_into(case, links, weights, s, a, ranks, rank);
     doublings(sum, whole, first)
 }
 
 /// The least rate of the state's pick, but at least `first`, which it is where the state has no pick.
+#[inline(always)]
 fn rate_of_state(
     case: &Case,
     links: &Links,

@@ -1,7 +1,14 @@
-use Rattle.std.proofs.Common.{rules, to_z-of_z, SFits}
+use Rattle.std.proofs.Common.{rules, to_z-of_z, SFits, refl}
 use mir.Syntax.{w128}
+use Rattle.corner_lift.specs.Certificate.{mark}
 use Rattle.robust_rank.proofs.Doubling.{leads_is}
+use Rattle.robust_rank.proofs.Below.{only_leads}
 use Rattle.robust_rank.proofs.ranking.leads_below.Goals as goal
+
+pub returns-then-leads_only_below : goal.returns-then-leads_only_below
+returns-then-leads_only_below g c =
+    let leads = only_leads c.args.case.now g.spans c.w.ensures.case c.requires.1.0.inside c.rows_at_corners.ensures.parameters c.rows_at_corners.ensures.least (mark c.args.ranks.now) c.args.below c.args.s c.args.a c.requires.1.1.0 (c.leads_only_below.ensures c.if-leads_only_below.true) in
+    (λ is. leads, λ is. refl)
 
 pub returns : goal.returns
 returns g c =
