@@ -70,6 +70,13 @@ only_holds k spans place x s a t choice one low =
 pub same_or_less : (b a : ℕ) → b < a + 1 → (b < a) ⊎ (b ≡ a)
 same_or_less b a lt = grind arith
 
+-- the only choice of a state stands for all
+pub hold_one : (k : CaseData) (spans : Spans) (x : List ℤ) (s : ℕ) (r : ℤ) → length (choices k.model s) ≡ 1 → pos 0 ≤ℤ r → HoldsNoMore k spans x s 0 r → HoldNoMore k spans x s (length (choices k.model s)) r
+hold_one k spans x s r one least holds = record {
+  least = least;
+  each = λ a lt choice. let first : a ≡ 0 = omega (arith, lt, one) in subst (λ i. HoldsNoMore k spans x s i r) (sym first) holds;
+}
+
 module _ (k : CaseData) (spans : Spans) (place : Place k spans) (x : List ℤ) (s : ℕ) where
   more : (a : ℕ) (r q : ℤ) → a < length (choices k.model s) → r ≤ℤ q → HoldsNoMore k spans x s a r → HoldsNoMore k spans x s a q
   more a r q choice le h =

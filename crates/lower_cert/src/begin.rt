@@ -11,9 +11,9 @@ ghost use Rattle.float_guess.specs.Part.{KeepsOthers};
 
 use crate::laws::vectors_are_lowered;
 use crate::lower::start;
-use crate::part::{fill_part, flag_part, note, open_state};
+use crate::part::{clear_part, fill_part, flag_part, note, open_state};
 use crate::raise::raise_part;
-use crate::sweep::{clear_flags, component_end, is_single, pass, settle_part, visit, visit_alone};
+use crate::sweep::{component_end, is_alone, pass, settle_part, visit, visit_alone};
 use corner_lift::{Case, one_at, rows_at_corners};
 use float_guess::{Extreme, Rounding, Shares, Way, guess_part, low_word_of};
 use lift_model::Links;
@@ -320,9 +320,9 @@ fn first_passes(low: u32, high: u32) -> u32 {
     }
 }
 
-/// Lowers the states of a component from 1, from a guess, or from where it is begun anew. A single state
-/// needs one visit, and what leads to it comes later.
-fn begin_part(
+/// Lowers the states of a component of several from 1, from a guess, or from where it is begun anew.
+#[inline(never)]
+fn begin_cycle(
     case: &Case,
     links: &Links,
     weights: &[i128],
@@ -339,10 +339,7 @@ fn begin_part(
     requires low { low < high }
     ensures { IsHigh case.now spans lane.new }
 {
-    if is_single(low, high) {
-        visit_alone(case, links, weights, lane, low);
-        return;
-    }
+    clear_part(work, low, high);
     visit_first(case, links, weights, lane, work, low, high);
     let first = first_passes(low, high);
     if settle_within(case, links, weights, limit, lane, work, low, high, first) {
@@ -353,6 +350,37 @@ fn begin_part(
         return;
     }
     lower_anew(case, links, weights, limit, lane, work, low, high);
+}
+
+/// Lowers the states of the component that begins at a position, and tells where the next one begins. A single
+/// state needs one visit, and what leads to it comes later.
+#[inline(always)]
+fn begin_part(
+    case: &Case,
+    links: &Links,
+    weights: &[i128],
+    limit: i64,
+    lane: &mut [i64],
+    work: &mut [u32],
+    low: u32,
+    states: u32,
+) -> u32
+    ghost spans: { Spans }
+    requires can { CanLower case.now links.now (from_top case.now spans) weights.now lane.old }
+    requires work { length work.old ≡ 2 * length case.now.model.states }
+    requires states { (states ≤ length case.now.model.states) × (states ≤ length links.now.order) }
+    requires low { low < states }
+    ensures high { IsHigh case.now spans lane.new }
+    ensures later { low < result }
+    ensures inside { result ≤ states }
+{
+    if is_alone(links, low) {
+        visit_alone(case, links, weights, lane, low);
+        return low + 1;
+    }
+    let high = component_end(links, low, states);
+    begin_cycle(case, links, weights, limit, lane, work, low, high);
+    high
 }
 
 /// Lowers a vector from 1, component by component from those below, until none of its states is flagged, or
@@ -371,13 +399,10 @@ pub(crate) fn begin(
     ensures { IsHigh case.now spans lane.new }
 {
     start(case, lane);
-    clear_flags(work);
     let states = case.model().states();
     let init = case.model().init() as usize;
     let mut low = 0;
     while low < states && lane[init] > limit {
-        let high = component_end(links, low, states);
-        begin_part(case, links, weights, limit, lane, work, low, high);
-        low = high;
+        low = begin_part(case, links, weights, limit, lane, work, low, states);
     }
 }

@@ -12,7 +12,7 @@ use crate::begin::begin;
 use crate::exit::lower_to_exit;
 use crate::laws::{ranks_fit, vectors_are_lowered};
 use crate::lower::{NONE, lower_level, rank_states, stuck_level};
-use crate::sweep::{flag_marked, settle};
+use crate::sweep::{clear_flags, flag_marked, settle};
 use corner_lift::{Case, rows_at_corners};
 use lift_model::Links;
 use robust_rank::rate;
@@ -67,6 +67,7 @@ fn lower_once(
     }
     lower_level(case, lane, ranks, picks, level);
     lower_to_exit(case, links, weights, lane, ranks, picks, level - 1);
+    clear_flags(work);
     flag_marked(case, links, picks, work);
     settle(case, links, weights, limit, lane, work);
     true

@@ -77,6 +77,7 @@ fn flag(is: bool) -> u32
 }
 
 /// Tells for each row of a state whether its choice is allowed.
+#[inline(always)]
 fn allow_state(
     case: &Case,
     links: &Links,
@@ -100,6 +101,7 @@ fn allow_state(
 }
 
 /// Tells for each row whether its choice is allowed.
+#[inline(never)]
 fn allow(case: &Case, links: &Links, weights: &[i128], lane: &[i64], allowed: &mut [u32])
     ghost spans: { Spans }
     requires read { IsRead case.now links.now spans weights.now lane.now }
@@ -134,6 +136,7 @@ pub(crate) fn rank_states(
 }
 
 /// The greatest number of a state without rank.
+#[inline(never)]
 pub(crate) fn stuck_level(lane: &[i64], ranks: &[u32]) -> i64
     requires { length ranks.now ≡ length lane.now }
     ensures { IsStuckLevel lane.now ranks.now (length lane.now) result }

@@ -78,6 +78,15 @@ pub(crate) fn flag_part(work: &mut [u32], low: u32, high: u32)
     }
 }
 
+/// Takes away the flags of a part.
+pub(crate) fn clear_part(work: &mut [u32], low: u32, high: u32)
+    requires { high ≤ length work.old }
+{
+    for position in low..high {
+        work[position as usize] = 0;
+    }
+}
+
 /// Notes the low bits of the number of the state at a position.
 fn note_at(case: &Case, links: &Links, lane: &[i64], noted: &mut [u32], position: u32)
     requires links { AreLinks case.now.model links.now }

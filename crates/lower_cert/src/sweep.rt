@@ -219,9 +219,17 @@ pub(crate) fn choice_count(case: &Case, links: &Links, s: u32) -> u32
 }
 
 /// The greatest number that a choice of the state holds. Where a choice holds the state's own, it looks at
-/// no further one.
+/// no further one. A state that stands alone and has one choice needs no loop; nothing else depends on
+/// whether it stands alone.
 #[inline(always)]
-fn most_held(case: &Case, links: &Links, weights: &[i128], lane: &[i64], s: u32) -> i64
+fn most_held(
+    case: &Case,
+    links: &Links,
+    weights: &[i128],
+    lane: &[i64],
+    s: u32,
+    is_alone: bool,
+) -> i64
     ghost spans: { Spans }
     requires can { CanWeigh case.now links.now spans weights.now lane.now }
     requires state { s < length case.now.model.states }
@@ -229,6 +237,9 @@ fn most_held(case: &Case, links: &Links, weights: &[i128], lane: &[i64], s: u32)
 {
     premises();
     let _ = case.w();
+    if is_alone && choice_count(case, links, s) == 1 {
+        return held(case, links, weights, lane, s, 0);
+    }
     let number = lane[s as usize];
     let mut most = 0;
     for a in 0..choice_count(case, links, s) {
@@ -255,7 +266,14 @@ fn write_lower(lane: &mut [i64], s: u32, number: i64) -> bool
 
 /// Lowers a state that is no goal state to what its choices hold, and tells whether that is lower.
 #[inline(always)]
-fn lower_state(case: &Case, links: &Links, weights: &[i128], lane: &mut [i64], s: u32) -> bool
+fn lower_state(
+    case: &Case,
+    links: &Links,
+    weights: &[i128],
+    lane: &mut [i64],
+    s: u32,
+    is_alone: bool,
+) -> bool
     ghost run: { Run }
     requires can { CanLower case.now links.now run weights.now lane.old }
     requires state { s < length case.now.model.states }
@@ -266,7 +284,7 @@ fn lower_state(case: &Case, links: &Links, weights: &[i128], lane: &mut [i64], s
     vectors_are_lowered();
     rows_at_corners();
     let _ = case.w();
-    let number = most_held(case, links, weights, lane, s);
+    let number = most_held(case, links, weights, lane, s, is_alone);
     write_lower(lane, s, number)
 }
 
@@ -282,7 +300,7 @@ fn try_state(case: &Case, links: &Links, weights: &[i128], lane: &mut [i64], s: 
     if lane[s as usize] <= 0 || case.model().is_goal(s) {
         return false;
     }
-    lower_state(case, links, weights, lane, s)
+    lower_state(case, links, weights, lane, s, false)
 }
 
 /// Flags a position, if it is one of these.
@@ -359,7 +377,10 @@ pub(crate) fn visit_alone(
     if s >= case.model().states() {
         return false;
     }
-    try_state(case, links, weights, lane, s)
+    if case.model().is_goal(s) {
+        return false;
+    }
+    lower_state(case, links, weights, lane, s, true)
 }
 
 /// Lowers the state at a position, and where it fell, flags those that lead to it, as far as they lie before
@@ -470,6 +491,15 @@ pub(crate) fn settle_part(
 #[inline]
 pub(crate) fn is_single(low: u32, high: u32) -> bool {
     low.saturating_add(1) >= high
+}
+
+/// Whether a component of one state begins at a position.
+#[inline(always)]
+pub(crate) fn is_alone(links: &Links, low: u32) -> bool {
+    match links.component_ends().get(low as usize) {
+        Some(end) => end.wrapping_sub(low) == 1,
+        None => false,
+    }
 }
 
 /// Where the component ends that begins at a position, or the last of so many positions.
