@@ -10,7 +10,8 @@ ghost use Rattle.corner_lift.specs.Table.{IsTable};
 
 use crate::example::model_of;
 use corner_lift::{
-    Case, fill, rows_at_corners, table_corner, table_greatest, table_into, table_least, table_value,
+    Case, fill, is_capped, is_held, least_into, rows_at_corners, table_corner, table_greatest,
+    table_into, table_least, table_value,
 };
 use lift_grid::read_region;
 use lift_model::Links;
@@ -26,13 +27,39 @@ const TAIL: &str = ";state 1 goal;1 : 1;state 2;2 : 1";
 
 /// A row of state 0 with both parameters, and a region; how many weights the table has; and of that row
 /// the whole, what the numbers 0, 16 and 0 sum to at the first and at the last corner, the least and the
-/// greatest over the corners, and at the last corner the weights into the goal state and into state 0
-/// itself. The last row's sums need more than 64 bits.
+/// greatest over the corners, at the last corner the weights into the goal state and into state 0
+/// itself, the least weight into the goal state over the corners, whether the mean is at most 9 and at most 10, and
+/// whether it is at least 6 and at least 7. The sums of the fourth row and of the last two need more than 64 bits.
 const READ: &str = "\
-0 : p*q;1 : p-p*q;2 : 1-p | 1/5<=p<=2/5,3/5<=q<=4/5 | 13 25 32 32 16 64 2 8
-0 : p;1 : q-p;2 : 1-q | 1/5<=p<=2/5,3/5<=q<=4/5 | 13 25 160 160 80 240 10 10
-1 : 1/2*p+1/2*q;2 : 1-1/2*p-1/2*q | 1/5<=p<=2/5,3/5<=q<=4/5 | 9 50 320 480 320 480 30 0
-0 : p*q;1 : p-p*q;2 : 1-p | 1/576460752303423488<=p<=2/576460752303423488,1/576460752303423488<=q<=2/576460752303423488 | 13 332306998946228968225951765070086144 9223372036854775792 18446744073709551552 9223372036854775776 18446744073709551584 1152921504606846972 4";
+0 : p*q;1 : p-p*q;2 : 1-p | 1/5<=p<=2/5,3/5<=q<=4/5 | 13 25 32 32 16 64 2 8 1 true true false false
+0 : p;1 : q-p;2 : 1-q | 1/5<=p<=2/5,3/5<=q<=4/5 | 13 25 160 160 80 240 10 10 5 false true false false
+1 : 1/2*p+1/2*q;2 : 1-1/2*p-1/2*q | 1/5<=p<=2/5,3/5<=q<=4/5 | 9 50 320 480 320 480 30 0 20 false true true false
+0 : p*q;1 : p-p*q;2 : 1-p | 1/576460752303423488<=p<=2/576460752303423488,1/576460752303423488<=q<=2/576460752303423488 | 13 332306998946228968225951765070086144 9223372036854775792 18446744073709551552 9223372036854775776 18446744073709551584 1152921504606846972 4 576460752303423486 true true false false
+0 : 1/2*p+1/2*q;1 : 1-1/2*p-1/2*q | 1/5<=p<=2/5,3/5<=q<=4/5 | 9 50 480 320 320 480 20 30 20 false true true false
+1 : p*q;2 : 1-p*q | 1/576460752303423488<=p<=2/576460752303423488,1/576460752303423488<=q<=2/576460752303423488 | 9 332306998946228968225951765070086144 16 64 16 64 4 0 1 true true false false
+0 : p*q;1 : 1-p*q | 1/576460752303423488<=p<=2/576460752303423488,1/576460752303423488<=q<=2/576460752303423488 | 9 332306998946228968225951765070086144 5316911983139663491615228241121378288 5316911983139663491615228241121378240 5316911983139663491615228241121378240 5316911983139663491615228241121378288 332306998946228968225951765070086140 4 332306998946228968225951765070086140 false false true true";
+
+/// Whether the mean of the row of state 0 is at most 9, at most 10, at least 6 and at least 7.
+fn bounds_of(
+    alloc: Global,
+    case: &Case,
+    links: &Links,
+    weights: &[i128],
+    vec: &[i64],
+) -> Result<String, Fail>
+    requires links { AreLinks case.now.model links.now }
+    requires table { IsTable case.now links.now (spans_of (sides_of case.now.root)) weights.now }
+    requires numbers { AreNumbers case.now vec.now }
+    requires states { length case.now.model.states ≡ 3 }
+    requires choice { length (choices case.now.model 0) ≡ 1 }
+    requires precision { case.now.w ≡ 4 }
+{
+    let most_9 = is_capped(case, links, weights, 0, 0, vec, 9);
+    let most_10 = is_capped(case, links, weights, 0, 0, vec, 10);
+    let least_6 = is_held(case, links, weights, 0, 0, vec, 6);
+    let least_7 = is_held(case, links, weights, 0, 0, vec, 7);
+    Ok(format!(in alloc; "{most_9} {most_10} {least_6} {least_7}")?)
+}
 
 /// What the table tells of the row of state 0.
 fn told(
@@ -48,6 +75,7 @@ fn told(
     requires states { length case.now.model.states ≡ 3 }
     requires choice { length (choices case.now.model 0) ≡ 1 }
     requires corners { corner_count case.now 0 0 ≡ 4 }
+    requires precision { case.now.w ≡ 4 }
 {
     let first = table_value(case, links, weights, 0, 0, 0, vec);
     let last = table_corner(case, links, weights, 0, 0, 3, vec);
@@ -57,7 +85,11 @@ fn told(
     let (whole, most) = (greatest.whole, greatest.sum);
     let goal = table_into(case, links, weights, 0, 0, 3, &[1, 0, u32::MAX], 1);
     let size = weights.len();
-    Ok(format!(in alloc; "{size} {whole} {first} {sum} {least} {most} {goal} {own}")?)
+    let into = least_into(case, links, weights, 0, 0, &[1, 0, u32::MAX], 1).sum;
+    let bounds = bounds_of(alloc, case, links, weights, vec)?;
+    Ok(format!(in alloc;
+        "{size} {whole} {first} {sum} {least} {most} {goal} {own} {into} {bounds}"
+    )?)
 }
 
 /// Makes the table of the case's root, and tells what it tells.
@@ -66,6 +98,7 @@ fn tabled(alloc: Global, case: &Case, vec: &[i64]) -> Result<String, Fail>
     requires states { length case.now.model.states ≡ 3 }
     requires choice { length (choices case.now.model 0) ≡ 1 }
     requires corners { corner_count case.now 0 0 ≡ 4 }
+    requires precision { case.now.w ≡ 4 }
 {
     let links = Links::build(alloc, case.model())?;
     let mut weights = vec![in alloc; 0i128; links.weights_len()]?;
@@ -85,6 +118,7 @@ fn reads_a_row_from_its_table(rt: HostRuntime) -> Result<(), Fail> {
         let (grid, root) = read_region(alloc, region.as_bytes(), model.names(), 0)?;
         let case = admit(&model, &root, grid, 4)?;
         rows_at_corners();
+        assert_eq!(rt; case.w(), 4);
         assert_eq!(rt; case.model().states(), 3);
         assert_eq!(rt; case.model().choices(0), 1);
         assert_eq!(rt; case.model().row(0, 0).support().count_ones(), 2);

@@ -15,3 +15,6 @@ ghost-table_greatest a = spans_of (sides_of a.case.now.root)
 
 abbrev pub ghost-table_into : goal.ghost-table_into
 ghost-table_into a = spans_of (sides_of a.case.now.root)
+
+abbrev pub ghost-least_into : goal.ghost-least_into
+ghost-least_into a = spans_of (sides_of a.case.now.root)
