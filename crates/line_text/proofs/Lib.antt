@@ -2,6 +2,7 @@ mod Digits
 mod WordsLeft
 mod Alone
 mod Pairs
+mod Keys
 mod LongNumbers
 mod ShortNumbers
 mod Comparing

@@ -1,5 +1,5 @@
 -- Numbers of few digits, read at once with the end of their word.
-use Rattle.std.proofs.Common.{◌≡◌, ℕ, zero, suc, ◌+◌, ◌-◌, ◌*◌, ◌^◌, ◌<◌, ◌≤◌, Bool, true, false, cond, not, List, [], ◌∷◌, length, take, get_or, Option, Some, Ok, Err, refl, sym, ap, ◌∙◌, arith, add-one, ◌⊎◌, ⊎_elim, inl, inr}
+use Rattle.std.proofs.Common.{◌≡◌, ℕ, zero, suc, ◌+◌, ◌-◌, ◌*◌, ◌^◌, ◌<◌, ◌≤◌, Bool, true, false, cond, not, List, [], ◌∷◌, length, take, get_or, Option, Some, Ok, Err, refl, subst, sym, ap, ◌∙◌, arith, add-one, ◌⊎◌, ⊎_elim, inl, inr}
 use Rattle.std.specs.Prelude.{pos, ◌==◌}
 use Rattle.std.specs.List.{list_all, position_or_len}
 use Rattle.std.specs.Option.{option_map}
@@ -38,6 +38,20 @@ value_more ds i n g lt is = ap (λ k. n * 10 + k) (digit_of (get_or ds i 0) g).0
 
 pub front_small : (ds : List ℕ) (i n : ℕ) → list_all is_ascii_digit (take i ds) ≡ true → i ≤ 18 → n ≡ digits_value 10 (take i ds) → n < 10 ^ 18
 front_small ds i n e le is = omega (arith, is, value_short (take i ds) e (omega (arith, le, length-take i ds)))
+
+-- so many digits at the front of a text, and the number that they write
+pub record IsFront (text : List ℕ) (i n : ℕ) : Type 0 where
+  pub digits : list_all is_ascii_digit (take i text) ≡ true
+  pub value : n ≡ digits_value 10 (take i text)
+
+pub front_more : (text : List ℕ) (i n m k : ℕ) → IsFront text i n → i < length text → (is_ascii_digit (get_or text i 0) ≡ true) × (m ≡ n * 10 + (get_or text i 0 - 48)) → k ≡ i + 1 → IsFront text k m
+front_more text i n m k front lt more next = subst (λ k. IsFront text k m) (sym next) (record {
+  digits = digits_more text i front.digits lt more.0;
+  value = more.1 ∙ value_more text i n more.0 lt front.value;
+})
+
+pub front_below : (text : List ℕ) (i n : ℕ) → IsFront text i n → i ≤ 18 → n < 10 ^ 18
+front_below text i n front le = front_small text i n front.digits le front.value
 
 -- ---- the first word
 

@@ -1,5 +1,5 @@
 // Numbers that words write.
-ghost use Rattle.std.specs.Prelude.{◌≡◌, ◌%◌, ◌≤◌, ◌<◌, ◌^◌, length, take, pos, true, unsigned_abs, int_lt, nat_lt, IfSome, IfNone};
+ghost use Rattle.std.specs.Prelude.{◌≡◌, ◌+◌, ◌-◌, ◌*◌, ◌%◌, ◌≤◌, ◌<◌, ◌^◌, length, take, pos, true, false, unsigned_abs, int_lt, nat_lt, IfSome, IfNone};
 ghost use Rattle.std.specs.List.{list_all};
 ghost use Rattle.std.specs.Option.{option_map};
 ghost use Rattle.std.specs.Char.{is_ascii_digit};
@@ -54,7 +54,22 @@ fn is_led(digits: &[u8]) -> bool
     }
 }
 
+/// A number with one more digit behind it; none where the byte is no digit.
+#[inline(always)]
+fn with_digit(number: u64, byte: u8) -> Option<u64>
+    requires { number < 10 ^ 18 }
+    ensures some { IfSome result (λ n. (is_ascii_digit byte ≡ true) × (n ≡ number * 10 + (byte - 48))) }
+    ensures none { IfNone result (is_ascii_digit byte ≡ false) }
+{
+    if !byte.is_ascii_digit() {
+        return None;
+    }
+    Some(number * 10 + u64::from(byte - b'0'))
+}
+
 /// The number that the digits at the front of a text write, at most 18 of them, and how many these are.
+/// They are read by fours as long as so many bytes are left.
+#[inline(always)]
 pub(crate) fn front_digits(text: &[u8]) -> (u64, usize)
     ensures within { result.1 ≤ length text.now }
     ensures few { result.1 ≤ 18 }
@@ -64,14 +79,31 @@ pub(crate) fn front_digits(text: &[u8]) -> (u64, usize)
 {
     let most = text.len().min(SHORT_DIGITS);
     let mut number: u64 = 0;
-    for i in 0..most {
-        let byte = text[i];
-        if !byte.is_ascii_digit() {
+    let mut i = 0;
+    while i + 4 <= most {
+        let Some(one) = with_digit(number, text[i]) else {
             return (number, i);
-        }
-        number = number * 10 + u64::from(byte - b'0');
+        };
+        let Some(two) = with_digit(one, text[i + 1]) else {
+            return (one, i + 1);
+        };
+        let Some(three) = with_digit(two, text[i + 2]) else {
+            return (two, i + 2);
+        };
+        let Some(four) = with_digit(three, text[i + 3]) else {
+            return (three, i + 3);
+        };
+        number = four;
+        i += 4;
     }
-    (number, most)
+    while i < most {
+        let Some(more) = with_digit(number, text[i]) else {
+            return (number, i);
+        };
+        number = more;
+        i += 1;
+    }
+    (number, i)
 }
 
 /// The number that at most 31 digits write.

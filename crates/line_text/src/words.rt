@@ -48,7 +48,7 @@ fn is_front_number(text: &[u8], len: usize) -> bool
     requires digits { list_all is_ascii_digit (take len text.now) ≡ true }
     ensures { IsTrue result → are_digits (take len text.now) ≡ true }
 {
-    len != 0 && (len == 1 || text[0] != b'0')
+    len != 0 && (text[0] != b'0' || len == 1)
 }
 
 /// Whether so many digits, at the front of a text, are its first word, and that without leading zeros.
@@ -92,6 +92,22 @@ fn is_alone(text: &[u8], byte: u8) -> bool
         return false;
     }
     text.len() == 1 || text[1] == b' '
+}
+
+/// Whether a key, in which no space is, stands at the front of a text, and a space or nothing behind it.
+#[inline(always)]
+fn is_key(text: &[u8], key: &[u8]) -> bool
+    ensures within { IsTrue result → length key.now ≤ length text.now }
+    ensures word { IsTrue result → take (length key.now) text.now ≡ key.now }
+    ensures len { IsTrue result → length key.now ≡ position_or_len is_space text.now }
+{
+    if text.len() < key.len() || &text[..key.len()] != key {
+        return false;
+    }
+    if text.len() != key.len() && text[key.len()] != b' ' {
+        return false;
+    }
+    len_before(key, b' ') == key.len()
 }
 
 /// The number that the first word of a text writes, and those behind it; none where it writes none.
@@ -175,6 +191,7 @@ impl<'t> Words<'t> {
 
     /// The number of few digits, none of them a sign, that the first word writes, and those behind it;
     /// none where it writes no such number.
+    #[inline(always)]
     pub fn short(&self) -> Option<(u64, Words<'t>)>
         ensures { IfSome result (λ x. first_of number_of self.now ≡ Some (pos x.0, x.1)) }
     {
@@ -255,15 +272,30 @@ impl<'t> Words<'t> {
         self.text.is_none()
     }
 
+    /// What stands behind a word that has to stand first, whatever it is.
+    #[inline(never)]
+    fn first_keyed(&self, key: &[u8]) -> Result<Words<'t>, TextCause>
+        ensures { Says (λ x. x) result (keyed key.now self.now) }
+    {
+        match self.first()? {
+            (word, rest) if word == key => Ok(rest),
+            _ => Err(TextCause::Syntax),
+        }
+    }
+
     /// What stands behind a word that has to stand first.
     #[inline(always)]
+    #[tactic(auto, using(crate::proofs::Keys::behind_key))]
     pub fn keyed(&self, key: &[u8]) -> Result<Words<'t>, TextCause>
         ensures { Says (λ x. x) result (keyed key.now self.now) }
     {
-        let (word, rest) = self.first()?;
-        if word != key {
+        let Some(text) = self.text() else {
             return Err(TextCause::Syntax);
+        };
+        if !is_key(text, key) {
+            return self.first_keyed(key);
         }
+        let (_, rest) = cut(text, key.len());
         Ok(rest)
     }
 
