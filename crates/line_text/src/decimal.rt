@@ -61,10 +61,11 @@ fn with_digit(number: u64, byte: u8) -> Option<u64>
     ensures some { IfSome result (λ n. (is_ascii_digit byte ≡ true) × (n ≡ number * 10 + (byte - 48))) }
     ensures none { IfNone result (is_ascii_digit byte ≡ false) }
 {
-    if !byte.is_ascii_digit() {
+    let digit = u64::from(byte).wrapping_sub(u64::from(b'0'));
+    if digit > 9 {
         return None;
     }
-    Some(number * 10 + u64::from(byte - b'0'))
+    Some(number * 10 + digit)
 }
 
 /// The number that the digits at the front of a text write, at most 18 of them, and how many these are.
@@ -77,10 +78,9 @@ pub(crate) fn front_digits(text: &[u8]) -> (u64, usize)
     ensures value { result.0 ≡ digits_value 10 (take result.1 text.now) }
     ensures all { list_all is_ascii_digit text.now ≡ true → length text.now ≤ 18 → result.1 ≡ length text.now }
 {
-    let most = text.len().min(SHORT_DIGITS);
     let mut number: u64 = 0;
     let mut i = 0;
-    while i + 4 <= most {
+    while i + 4 <= SHORT_DIGITS && i + 4 <= text.len() {
         let Some(one) = with_digit(number, text[i]) else {
             return (number, i);
         };
@@ -96,7 +96,7 @@ pub(crate) fn front_digits(text: &[u8]) -> (u64, usize)
         number = four;
         i += 4;
     }
-    while i < most {
+    while i < SHORT_DIGITS && i < text.len() {
         let Some(more) = with_digit(number, text[i]) else {
             return (number, i);
         };
