@@ -2,12 +2,13 @@
 ghost use Rattle.std.specs.Prelude.{◌≡◌, ◌≤◌, ◌<◌, ◌^◌, ◌++◌, ◌∷◌, [], Ok, None, Some, pos, length, not, All, IfOk, IfSome};
 ghost use Rattle.line_text.specs.Reading.{line_at};
 ghost use Rattle.cert_text.specs.Head.{entries_at};
+ghost use Rattle.line_text.specs.Parts.{between};
 ghost use Rattle.line_text.specs.Shown.{Says, Gives};
 ghost use Rattle.lift_model.specs.Valid.{most_parameters, most_states};
 ghost use Rattle.cert_text.specs.Recent.{AreKnown};
 ghost use Rattle.cert_text.specs.Shown.{AreMarked, coefficient_in, entry_by, entry_in, has_mark, targets_back, terms_of, set_in, term_first, term_in};
 
-use crate::head_lines::{counted, is_above};
+use crate::head_lines::{counted, is_above, short_counted};
 use crate::known::KnownTerms;
 use lift_model::{Entry, SharedPoly};
 use lift_poly::MultiAffine;
@@ -215,6 +216,7 @@ fn is_free(marks: &[u32], mark: u32, s: u64) -> bool
 }
 
 /// The entry with that target and the terms that words write. A state with that mark is taken.
+#[inline(never)]
 fn entry_in<'t>(
     alloc: Global,
     known: &mut KnownTerms<'t>,
@@ -246,6 +248,51 @@ fn entry_in<'t>(
     }
 }
 
+/// The number, if it is below that end.
+fn below(n: u64, end: u64) -> Result<u64, TextCause>
+    ensures value { Says (λ n. n) result (between 0 end (pos n)) }
+    ensures range { IfOk result (λ n. n < end) }
+{
+    if n < end {
+        Ok(n)
+    } else {
+        Err(TextCause::Limit)
+    }
+}
+
+/// The same of a target of few digits.
+#[inline(always)]
+fn short_entry<'t>(
+    alloc: Global,
+    known: &mut KnownTerms<'t>,
+    target: u64,
+    words: Words<'t>,
+    marks: &[u32],
+    mark: u32,
+    parameters: u32,
+) -> Result<Entry, TextCause>
+    requires states { length marks.now ≤ most_states }
+    requires parameters { parameters ≤ most_parameters }
+    requires known { AreKnown parameters known.old.texts.items }
+    ensures value { Says (λ e. e) result
+        (entry_in (length marks.now) parameters (has_mark mark marks.now) (pos target) words.entry) }
+    ensures range { IfOk result (λ e. e.target < length marks.now) }
+    ensures known { AreKnown parameters known.new.texts.items }
+{
+    let poly = known.terms(alloc, words, parameters)?;
+    let target = below(target, marks.len() as u64)?;
+    if !is_free(marks, mark, target) {
+        return Err(TextCause::Syntax);
+    }
+    match poly {
+        Ok(poly) => Ok(Entry {
+            target: target as u32,
+            poly,
+        }),
+        Err(cause) => Err(cause),
+    }
+}
+
 /// The entry that the words of its line tell.
 fn entry_by<'t>(
     alloc: Global,
@@ -263,6 +310,9 @@ fn entry_by<'t>(
     ensures range { IfOk result (λ e. e.target < length marks.now) }
     ensures known { AreKnown parameters known.new.texts.items }
 {
+    if let Some((target, rest)) = short_counted(words, b"to") {
+        return short_entry(alloc, known, target, rest, marks, mark, parameters);
+    }
     let (target, rest) = counted(words, b"to")?;
     entry_in(alloc, known, &target, rest, marks, mark, parameters)
 }

@@ -132,6 +132,18 @@ pub(crate) fn counted<'t>(
     }
 }
 
+/// The first of the words behind a word, as the number of few digits of those that follow it, and these;
+/// none where it writes no such number.
+#[inline(always)]
+pub(crate) fn short_counted<'t>(words: &Words<'t>, key: &[u8]) -> Option<(u64, Words<'t>)>
+    ensures { IfSome result (λ x. count_of key.now words.now ≡ Ok (pos x.0, x.1)) }
+{
+    let Ok(rest) = words.keyed(key) else {
+        return None;
+    };
+    rest.short()
+}
+
 /// For each of so many states whether it is a goal state.
 pub(crate) fn goal_of(alloc: Global, states: u32, words: &Words) -> Result<Vec<bool>, TextCause>
     ensures { Says (λ v. v.items) result (goal_of states words.now) }

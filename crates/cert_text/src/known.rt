@@ -81,6 +81,7 @@ impl<'t> KnownTerms<'t> {
     }
 
     /// The polynomial of a text's terms. It is read only where it isn't one of those that are kept.
+    #[inline(always)]
     fn text_terms(
         &mut self,
         alloc: Global,
@@ -111,6 +112,7 @@ impl<'t> KnownTerms<'t> {
     }
 
     /// The polynomial that words write by its terms, or the cause that is told behind the form of all.
+    #[inline(always)]
     pub fn terms(
         &mut self,
         alloc: Global,

@@ -3,7 +3,9 @@ ghost use Rattle.std.specs.Prelude.{◌≡◌, ◌≤◌, ◌<◌, ◌^◌, Some
 ghost use Rattle.cert_text.specs.Lines.{marks_of};
 ghost use Rattle.cert_text.specs.Nodes.{fits_state, fit_states};
 ghost use Rattle.cert_text.specs.Left.{in_marks, mark_first, marks_by};
-ghost use Rattle.line_text.specs.Shown.{Says};
+ghost use Rattle.std.specs.Option.{option_map};
+ghost use Rattle.line_text.specs.Words.{number_of};
+ghost use Rattle.line_text.specs.Shown.{Says, first_of};
 
 use lift_model::Model;
 use line_text::{Decimal, TextCause, Words};
@@ -30,6 +32,16 @@ fn short_mark(n: u64, end: u32) -> Option<u32>
     }
 }
 
+/// The mark that the first word writes by a number of any length, if it is below its end, and the words
+/// behind it.
+#[inline(never)]
+fn long_first<'t>(words: &Words<'t>, end: u32) -> Option<(Option<u32>, Words<'t>)>
+    ensures { result ≡ option_map (λ x. (in_marks end (Some x.0), x.1)) (first_of number_of words.now) }
+{
+    let (number, rest) = words.number()?;
+    Some((long_mark(&number, end), rest))
+}
+
 /// The mark that the first word writes, if it is none or below its end, and the words behind it.
 #[tactic(auto, using(crate::proofs::FirstMarks::none_first, crate::proofs::FirstMarks::other_first))]
 fn mark_first<'t>(words: &Words<'t>, end: u32) -> Option<(Option<u32>, Words<'t>)>
@@ -41,8 +53,7 @@ fn mark_first<'t>(words: &Words<'t>, end: u32) -> Option<(Option<u32>, Words<'t>
     if let Some((n, rest)) = words.short() {
         return Some((short_mark(n, end), rest));
     }
-    let (number, rest) = words.number()?;
-    Some((long_mark(&number, end), rest))
+    long_first(words, end)
 }
 
 /// What the marks of a model's states stay below: one limit for all, or the number of each one's choices.

@@ -31,6 +31,16 @@ fn short_value(n: u64, u: u32) -> Option<i64>
     if n <= most { Some(n as i64) } else { None }
 }
 
+/// The number of any length that the first word writes, if it is in that range, and the words behind it.
+#[inline(never)]
+fn long_first<'t>(words: &Words<'t>, u: u32) -> Option<(Option<i64>, Words<'t>)>
+    requires { u ≤ most_precision }
+    ensures { result ≡ value_first u words.now }
+{
+    let (number, rest) = words.number()?;
+    Some((value(&number, u), rest))
+}
+
 /// The number that the first word writes, if it is in that range, and the words behind it.
 fn value_first<'t>(words: &Words<'t>, u: u32) -> Option<(Option<i64>, Words<'t>)>
     requires { u ≤ most_precision }
@@ -39,8 +49,7 @@ fn value_first<'t>(words: &Words<'t>, u: u32) -> Option<(Option<i64>, Words<'t>)
     if let Some((n, rest)) = words.short() {
         return Some((short_value(n, u), rest));
     }
-    let (number, rest) = words.number()?;
-    Some((value(&number, u), rest))
+    long_first(words, u)
 }
 
 /// The numbers that words write, if there are so many, and each is from 0 to 2 to the `u`. The form of
