@@ -115,6 +115,7 @@ impl<'t> Cursor<'t> {
 
     /// The line that is due, without its line feed, and the place behind it.
     #[tactic(auto, unfolding(crate::specs::Reading::due))]
+    #[inline(always)]
     pub fn due(&self) -> Result<(&'t [u8], Cursor<'t>), TextError>
         ensures { Gives (λ x. (x.0.now, x.1)) result (due self.now) }
     {
