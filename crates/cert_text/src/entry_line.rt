@@ -260,7 +260,7 @@ fn below(n: u64, end: u64) -> Result<u64, TextCause>
     }
 }
 
-/// The same of a target of few digits.
+/// The entry with a target of few digits, and the terms that words write.
 #[inline(always)]
 fn short_entry<'t>(
     alloc: Global,
