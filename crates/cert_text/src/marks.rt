@@ -4,7 +4,7 @@ ghost use Rattle.cert_text.specs.Lines.{marks_of};
 ghost use Rattle.cert_text.specs.Nodes.{fits_state, fit_states};
 ghost use Rattle.cert_text.specs.Left.{in_marks, mark_first, marks_by};
 ghost use Rattle.std.specs.Option.{option_map};
-ghost use Rattle.line_text.specs.Words.{number_of};
+ghost use Rattle.line_text.specs.Words.{number_of, words};
 ghost use Rattle.line_text.specs.Shown.{Says, first_of};
 
 use lift_model::Model;
@@ -32,13 +32,13 @@ fn short_mark(n: u64, end: u32) -> Option<u32>
     }
 }
 
-/// The mark that the first word writes by a number of any length, if it is below its end, and the words
-/// behind it.
+/// The mark that the first word of a text writes by a number of any length, if it is below its end, and the
+/// words behind it.
 #[inline(never)]
-fn long_first<'t>(words: &Words<'t>, end: u32) -> Option<(Option<u32>, Words<'t>)>
-    ensures { result ≡ option_map (λ x. (in_marks end (Some x.0), x.1)) (first_of number_of words.now) }
+fn long_first<'t>(text: &'t [u8], end: u32) -> Option<(Option<u32>, Words<'t>)>
+    ensures { result ≡ option_map (λ x. (in_marks end (Some x.0), x.1)) (first_of number_of (words text.now)) }
 {
-    let (number, rest) = words.number()?;
+    let (number, rest) = Words::of(text).number()?;
     Some((long_mark(&number, end), rest))
 }
 
@@ -53,7 +53,8 @@ fn mark_first<'t>(words: &Words<'t>, end: u32) -> Option<(Option<u32>, Words<'t>
     if let Some((n, rest)) = words.short() {
         return Some((short_mark(n, end), rest));
     }
-    long_first(words, end)
+    let (mark, rest) = long_first(words.text()?, end)?;
+    Some((mark, rest))
 }
 
 /// What the marks of a model's states stay below: one limit for all, or the number of each one's choices.

@@ -2,6 +2,7 @@
 ghost use Rattle.std.specs.Prelude.{◌≡◌, ◌≤◌, [], pos, true, length, IfOk};
 ghost use Rattle.corner_lift.specs.Case.{most_precision};
 ghost use Rattle.cert_text.specs.Lines.{values_of};
+ghost use Rattle.line_text.specs.Words.{words};
 ghost use Rattle.line_text.specs.Shown.{Says};
 ghost use Rattle.cert_text.specs.Left.{value_first, values_left};
 ghost use Rattle.cert_text.specs.Shown.{in_values};
@@ -31,13 +32,14 @@ fn short_value(n: u64, u: u32) -> Option<i64>
     if n <= most { Some(n as i64) } else { None }
 }
 
-/// The number of any length that the first word writes, if it is in that range, and the words behind it.
+/// The number of any length that the first word of a text writes, if it is in that range, and the words behind
+/// it.
 #[inline(never)]
-fn long_first<'t>(words: &Words<'t>, u: u32) -> Option<(Option<i64>, Words<'t>)>
+fn long_first<'t>(text: &'t [u8], u: u32) -> Option<(Option<i64>, Words<'t>)>
     requires { u ≤ most_precision }
-    ensures { result ≡ value_first u words.now }
+    ensures { result ≡ value_first u (words text.now) }
 {
-    let (number, rest) = words.number()?;
+    let (number, rest) = Words::of(text).number()?;
     Some((value(&number, u), rest))
 }
 
@@ -49,7 +51,8 @@ fn value_first<'t>(words: &Words<'t>, u: u32) -> Option<(Option<i64>, Words<'t>)
     if let Some((n, rest)) = words.short() {
         return Some((short_value(n, u), rest));
     }
-    long_first(words, u)
+    let (value, rest) = long_first(words.text()?, u)?;
+    Some((value, rest))
 }
 
 /// The numbers that words write, if there are so many, and each is from 0 to 2 to the `u`. The form of

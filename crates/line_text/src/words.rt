@@ -132,6 +132,17 @@ pub fn pair_of(word: &[u8], byte: u8) -> Option<(Decimal, Decimal)>
     Some((first, second))
 }
 
+/// What stands behind the first word of a text, if that is the key.
+#[inline(never)]
+fn first_keyed<'t>(text: &'t [u8], key: &[u8]) -> Result<Words<'t>, TextCause>
+    ensures { Says (λ x. x) result (keyed key.now (words text.now)) }
+{
+    match Words::of(text).first()? {
+        (word, rest) if word == key => Ok(rest),
+        _ => Err(TextCause::Syntax),
+    }
+}
+
 impl<'t> Words<'t> {
     /// The words of a line.
     pub fn of(line: &'t [u8]) -> Self
@@ -272,17 +283,6 @@ impl<'t> Words<'t> {
         self.text.is_none()
     }
 
-    /// What stands behind a word that has to stand first, whatever it is.
-    #[inline(never)]
-    fn first_keyed(&self, key: &[u8]) -> Result<Words<'t>, TextCause>
-        ensures { Says (λ x. x) result (keyed key.now self.now) }
-    {
-        match self.first()? {
-            (word, rest) if word == key => Ok(rest),
-            _ => Err(TextCause::Syntax),
-        }
-    }
-
     /// What stands behind a word that has to stand first.
     #[inline(always)]
     #[tactic(auto, using(crate::proofs::Keys::behind_key))]
@@ -293,7 +293,8 @@ impl<'t> Words<'t> {
             return Err(TextCause::Syntax);
         };
         if !is_key(text, key) {
-            return self.first_keyed(key);
+            let rest = first_keyed(text, key)?;
+            return Ok(rest);
         }
         let (_, rest) = cut(text, key.len());
         Ok(rest)
