@@ -7,5 +7,6 @@ pub mod Laws
 pub mod Table
 pub mod Dot
 pub mod Pairs
+pub mod Paired
 pub mod ReadRow
 pub mod Premises

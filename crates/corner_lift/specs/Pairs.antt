@@ -1,6 +1,7 @@
 -- Rows of two entries, whose weights stand in a block corner by corner: their sums need one look at each corner.
 use Rattle.std.specs.Prelude.{◌≡◌, ℕ, ◌+◌, ◌*◌, ◌^◌, ◌<◌, Bool, if◌then◌else◌, List, ℤ, pos, ◌+ℤ◌, ◌*ℤ◌, ◌≤ℤ◌, unsigned_abs, length}
 use Rattle.corner_lift.specs.Case.{number, engine_limit}
+use Rattle.corner_lift.specs.Dot.{lane_limit}
 
 -- the block has two weights for that corner
 abbrev pub HasPair : List ℤ → ℕ → Type 0
@@ -62,6 +63,10 @@ IsPairNumber w n = (pos 0 ≤ℤ n) × (n ≤ℤ pos (2 ^ w))
 -- a number of 0 or more that times the whole is within the engine's limit
 abbrev pub HasRoom : ℤ → ℤ → Type 0
 HasRoom whole n = (pos 0 ≤ℤ n) × (unsigned_abs whole * unsigned_abs n < engine_limit)
+
+-- a number of 0 or more that times the whole is below the limit of 64 bits
+abbrev pub HasLane : ℤ → ℤ → Type 0
+HasLane whole n = (pos 0 ≤ℤ n) × (unsigned_abs whole * unsigned_abs n < lane_limit)
 
 -- the block of a row of two entries: its weights aren't negative and sum to the whole at each corner
 pub record AreCorners (block : List ℤ) (whole : ℤ) : Type 0 where

@@ -4,6 +4,7 @@
 mod case;
 mod ends;
 mod laws;
+mod paired;
 mod pairs;
 mod precision;
 mod rate;
@@ -17,6 +18,7 @@ pub use laws::{
     corners_bound_weights, halves_are_inside, live_parameters_have_spans, rows_at_corners,
     rows_inside,
 };
+pub use paired::{LaneSum, PairTable};
 pub use precision::one_at;
 pub use rate::is_enough;
 pub use row::{raw_weight, row_max, row_min, row_value, weight_into, whole};

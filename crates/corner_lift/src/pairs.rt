@@ -90,8 +90,8 @@ pub(crate) fn is_pair_capped(block: &[i128], first: i64, second: i64, number: i6
 }
 
 /// The least weight of the first of two entries over the corners.
-#[inline]
-fn least_first(block: &[i128]) -> i128
+#[inline(always)]
+pub(crate) fn least_first(block: &[i128]) -> i128
     requires { HasPair block.now 0 }
     ensures { IsLeastFirst block.now result }
 {
@@ -105,8 +105,8 @@ fn least_first(block: &[i128]) -> i128
 }
 
 /// The greatest weight of the first of two entries over the corners.
-#[inline]
-fn greatest_first(block: &[i128]) -> i128
+#[inline(always)]
+pub(crate) fn greatest_first(block: &[i128]) -> i128
     requires { HasPair block.now 0 }
     ensures { IsGreatestFirst block.now result }
 {
@@ -174,8 +174,8 @@ fn greatest_in_lane(block: &[i128], first: i64, second: i64) -> i64
 }
 
 /// Whether the first number is below the second.
-#[inline]
-fn is_lower(first: i64, second: i64) -> bool
+#[inline(always)]
+pub(crate) fn is_lower(first: i64, second: i64) -> bool
     ensures lower { IsTrue result → first ≤ℤ second }
     ensures other { IsFalse result → second ≤ℤ first }
 {
@@ -183,8 +183,8 @@ fn is_lower(first: i64, second: i64) -> bool
 }
 
 /// What the first number is above the second.
-#[inline]
-fn rise_of(first: i64, second: i64) -> i64
+#[inline(always)]
+pub(crate) fn rise_of(first: i64, second: i64) -> i64
     requires { (pos 0 ≤ℤ first) × (pos 0 ≤ℤ second) }
     ensures { result ≡ first -ℤ second }
 {

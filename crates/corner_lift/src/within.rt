@@ -116,8 +116,8 @@ pub fn is_held(
 }
 
 /// Whether the state's rank is less than `below`.
-#[inline]
-fn is_below(ranks: &[u32], s: u32, below: u32) -> bool
+#[inline(always)]
+pub(crate) fn is_below(ranks: &[u32], s: u32, below: u32) -> bool
     requires { s < length ranks.now }
     ensures { one_where result ≡ ranked_below (mark ranks.now) below s }
 {

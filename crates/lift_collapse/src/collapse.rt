@@ -19,7 +19,7 @@ use crate::laws::collapses_spread;
 use corner_lift::{Case, fill};
 use lift_grid::{Grid, Rect};
 use lift_model::{Links, Model};
-use lower_cert::{Rate, greatest_reject_above};
+use lower_cert::{greatest_reject_above, lower_unranked};
 use rounded_iter::least_upper_within;
 use std::alloc::{AllocError, Global};
 
@@ -34,6 +34,8 @@ pub struct Collapse {
     ranks: Vec<u32>,
     picks: Vec<u32>,
     work: Vec<u32>,
+    /// Whether each state of the collapsed model has one choice.
+    is_chain: bool,
 }
 
 impl std::marker::Model for Collapse {
@@ -105,8 +107,10 @@ fn find_upper(
     least_upper_within(&case, links, weights, limit, values, work)
 }
 
-/// The greatest lower vector of a rectangle of the case of these parts, if its number of the initial state is
-/// above the limit.
+/// Whether a lower vector of a rectangle of the case of these parts exists whose number of the initial state is above
+/// the limit. Then a vector at or above each lower one is left: the greatest one. Ranks tell it from others where states
+/// with several choices lead back to each other; where each state has one choice they are mostly of no use, and are left
+/// out.
 fn find_lower(
     model: &Model,
     root: &Rect,
@@ -120,19 +124,24 @@ fn find_lower(
     ranks: &mut [u32],
     picks: &mut [u32],
     work: &mut [u32],
-) -> Option<Rate>
+    is_chain: bool,
+) -> bool
     ghost spans: { Spans }
     requires case { IsCase (case_of model.now (region_of (grid, root.now)) w) }
     requires read { IsRead (case_of model.now (region_of (grid, root.now)) w) links.now spans weights.now values.old }
     requires places { HasPlaces (case_of model.now (region_of (grid, root.now)) w) allowed.old ranks.old picks.old }
     requires work { length work.old ≡ 2 * length model.now.states }
-    ensures some { IfSome result (λ rate. IsGreatestAbove (case_of model.now (region_of (grid, root.now)) w) spans limit (record { numbers = values.new; picks = picks.new; ranks = ranks.new; e = rate.e; k = rate.k })) }
-    ensures none { IsNone result → NoneIsAbove (case_of model.now (region_of (grid, root.now)) w) spans limit }
+    ensures high { IsTrue result → IsHigh (case_of model.now (region_of (grid, root.now)) w) spans values.new }
+    ensures none { IsFalse result → NoneIsAbove (case_of model.now (region_of (grid, root.now)) w) spans limit }
 {
     let case = Case::new(model, root, grid, w);
-    greatest_reject_above(
+    if is_chain {
+        return lower_unranked(&case, links, weights, limit, values, work);
+    }
+    let rate = greatest_reject_above(
         &case, links, weights, limit, values, allowed, ranks, picks, work,
-    )
+    );
+    rate.is_some()
 }
 
 /// Reads a vector of a collapsed model at the places of the whole one's states.
@@ -169,6 +178,7 @@ impl Collapse {
             ranks: vec![in alloc; 0u32; states]?,
             picks: vec![in alloc; 0u32; states]?,
             work: vec![in alloc; 0u32; 2 * states]?,
+            is_chain: rows == states,
             collapsed,
             links,
         }))
@@ -237,7 +247,7 @@ impl Collapse {
     {
         collapses_spread();
         let _ = case.model();
-        let rate = find_lower(
+        let above = find_lower(
             &self.collapsed.model,
             case.root(),
             case.grid(),
@@ -250,13 +260,11 @@ impl Collapse {
             &mut self.ranks,
             &mut self.picks,
             &mut self.work,
+            self.is_chain,
         );
-        match rate {
-            Some(_) => {
-                spread(&self.collapsed.places, &self.values, lane);
-                true
-            }
-            None => false,
+        if above {
+            spread(&self.collapsed.places, &self.values, lane);
         }
+        above
     }
 }

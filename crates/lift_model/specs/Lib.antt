@@ -8,6 +8,7 @@ pub mod Valid
 pub mod Laws
 pub mod Order
 pub mod Links
+pub mod OnlyRow
 pub mod Layout
 pub mod Before
 pub mod Stored

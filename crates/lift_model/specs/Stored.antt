@@ -2,6 +2,7 @@
 use Rattle.std.specs.Prelude.{◌≡◌, ℕ, ◌+◌, ◌<◌, ◌≤◌, length, slice_index_or}
 use Rattle.lift_model.specs.declared.links.Links.TheInside.{Inside}
 use Rattle.lift_model.specs.Links.{LinksData, state_count}
+use Rattle.lift_model.specs.OnlyRow.{AreOnlyRowsIn}
 
 -- the flat lists as they are kept
 abbrev pub links_of : Inside → LinksData
@@ -29,3 +30,7 @@ pub record AreStored (l : LinksData) : Type 0 where
   pub parts : (s : ℕ) → s < state_count l → (slice_index_or l.starts s 0 ≤ slice_index_or l.ends s 0) × (slice_index_or l.ends s 0 ≤ length l.before)
   pub positions : length l.before_positions ≡ length l.before
   pub order : (length l.order ≡ state_count l) × (length l.component_ends ≡ state_count l)
+
+-- what the only rows of states are told as, by the other lists
+abbrev pub AreOnlyRows : Inside → Type 0
+AreOnlyRows l = AreOnlyRowsIn l.row_starts.items l.rows.items l.targets.items l.only_rows.items

@@ -2,6 +2,8 @@
 //! state, and an order of the states.
 
 ghost use Rattle.std.specs.Prelude.{◌≡◌, ◌+◌, ◌<◌, ◌≤◌, false, length, map, slice_index_or, slice_range, IfOk};
+ghost use Rattle.lift_model.specs.Model.{ModelData};
+ghost use Rattle.lift_model.specs.OnlyRow.{IsOnlyRow};
 ghost use Rattle.lift_model.specs.Links.{LinksData, ArePlaces, AreLinks, state_count, choice_count, row_place, place, states_before, positions_before, position};
 
 use crate::before::{find_first, find_sources};
@@ -9,6 +11,7 @@ use crate::blocks::FirstRow;
 use crate::layout::{RowPlace, lay_out};
 use crate::lists::{number_at, zeros};
 use crate::model::Model;
+use crate::only_row::{OnlyRow, find_only_rows};
 use crate::order::order_states;
 use std::alloc::{AllocError, Global};
 
@@ -28,6 +31,7 @@ pub struct Links {
     component_ends: Vec<u32>,
     positions: Vec<u32>,
     lone: Vec<bool>,
+    only_rows: Vec<OnlyRow>,
 }
 
 impl std::marker::Model for Links {
@@ -35,11 +39,11 @@ impl std::marker::Model for Links {
 
     ghost Value = { LinksData };
 
-    ghost use Rattle.lift_model.specs.Stored.{links_of, AreStored};
+    ghost use Rattle.lift_model.specs.Stored.{links_of, AreStored, AreOnlyRows};
 
     ghost view = { links_of };
 
-    ghost invariant = { λ l. AreStored (links_of l) };
+    ghost invariant = { λ l. AreStored (links_of l) × AreOnlyRows l };
 }
 
 /// The positions of these states.
@@ -71,6 +75,13 @@ impl Links {
             &sources.ends,
             &before_positions,
         )?;
+        let only_rows = find_only_rows(
+            alloc,
+            &starts.rows,
+            &layout.rows,
+            &layout.targets,
+            model.states(),
+        )?;
         Ok(Links {
             row_starts: starts.rows,
             rows: layout.rows,
@@ -85,6 +96,7 @@ impl Links {
             component_ends: order.ends,
             positions: order.positions,
             lone,
+            only_rows,
         })
     }
 
@@ -111,10 +123,12 @@ impl Links {
             component_ends: zeros(alloc, count)?,
             positions: zeros(alloc, count)?,
             lone: Vec::new(alloc),
+            only_rows: Vec::new(alloc),
         })
     }
 
     /// The states that have an entry into `s`, ascending.
+    #[inline(always)]
     pub fn before(&self, s: u32) -> &[u32]
         requires { s < state_count self.now }
         ensures { result.now ≡ states_before self.now s }
@@ -123,6 +137,7 @@ impl Links {
     }
 
     /// The positions of the states that have an entry into `s`.
+    #[inline(always)]
     pub fn positions_before(&self, s: u32) -> &[u32]
         requires { s < state_count self.now }
         ensures { result.now ≡ positions_before self.now s }
@@ -131,7 +146,7 @@ impl Links {
     }
 
     /// The number of choices of a state.
-    #[inline]
+    #[inline(always)]
     pub fn choices(&self, s: u32) -> u32
         requires { s < state_count self.now }
         ensures { result ≡ choice_count self.now s }
@@ -140,6 +155,7 @@ impl Links {
     }
 
     /// The number of a row, in reading order.
+    #[inline(always)]
     pub fn row_place(&self, s: u32, a: u32) -> usize
         requires state { s < state_count self.now }
         requires choice { a < choice_count self.now s }
@@ -150,12 +166,25 @@ impl Links {
     }
 
     /// Where a row's targets and weights stand.
+    #[inline(always)]
     pub fn place(&self, s: u32, a: u32) -> RowPlace
         requires state { s < state_count self.now }
         requires choice { a < choice_count self.now s }
         ensures { result ≡ place self.now s a }
     {
         self.rows[self.row_place(s, a)]
+    }
+
+    /// The only row of a state, if it has one, and that is short and leads elsewhere. Where the places alone were
+    /// built, nothing is told of it.
+    #[inline(always)]
+    pub fn only_row(&self, s: u32) -> OnlyRow
+        ensures { (m : ModelData) → ArePlaces m self.now → s < length m.states → IsOnlyRow m self.now s result }
+    {
+        self.only_rows
+            .get(s as usize)
+            .copied()
+            .unwrap_or(OnlyRow::Other)
     }
 
     /// The places of all rows of a state, in order.
@@ -177,6 +206,7 @@ impl Links {
     }
 
     /// The targets of the row that stands at that place, entry by entry.
+    #[inline(always)]
     pub fn targets(&self, place: RowPlace) -> &[u32]
         requires { place.entries + place.count ≤ length self.now.targets }
         ensures { result.now ≡ slice_range self.now.targets place.entries (place.entries + place.count) }
@@ -201,6 +231,7 @@ impl Links {
 
     /// The states by their strongly connected components: those that a component leads to come before
     /// it. Nothing is promised of this but that each state stands at its position.
+    #[inline(always)]
     pub fn order(&self) -> &[u32]
         ensures { result.now ≡ self.now.order }
     {
@@ -208,6 +239,7 @@ impl Links {
     }
 
     /// For each position in the order where the component that it lies in ends.
+    #[inline(always)]
     pub fn component_ends(&self) -> &[u32]
         ensures { result.now ≡ self.now.component_ends }
     {
@@ -216,6 +248,7 @@ impl Links {
 
     /// Whether all states that lead to this one stand behind it in the order, but for itself. True of states
     /// that lie on no cycle, but for a self loop; where it is false, nothing is promised.
+    #[inline(always)]
     pub fn is_lone(&self, s: u32) -> bool
         ensures { result ≡ slice_index_or self.now.lone s false }
     {
@@ -223,6 +256,7 @@ impl Links {
     }
 
     /// The position of a state in the order.
+    #[inline(always)]
     pub fn position(&self, s: u32) -> u32
         requires { s < state_count self.now }
         ensures { result ≡ position self.now s }

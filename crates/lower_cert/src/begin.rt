@@ -14,7 +14,7 @@ use crate::lower::start;
 use crate::part::{clear_part, fill_part, flag_part, note, open_state};
 use crate::raise::raise_part;
 use crate::sweep::{component_end, is_alone, pass, settle_part, visit, visit_alone};
-use corner_lift::{Case, one_at, rows_at_corners};
+use corner_lift::{Case, PairTable, one_at, rows_at_corners};
 use float_guess::{Extreme, Rounding, Shares, Way, guess_part, low_word_of};
 use lift_model::Links;
 
@@ -49,7 +49,7 @@ const TRIES: u32 = 2;
 fn begin_anew(
     case: &Case,
     links: &Links,
-    weights: &[i128],
+    weights: &PairTable,
     lane: &mut [i64],
     flags: &mut [u32],
     noted: &mut [u32],
@@ -82,7 +82,7 @@ fn begin_anew(
 fn settle_within(
     case: &Case,
     links: &Links,
-    weights: &[i128],
+    weights: &PairTable,
     limit: i64,
     lane: &mut [i64],
     work: &mut [u32],
@@ -109,7 +109,7 @@ fn settle_within(
 fn visit_first(
     case: &Case,
     links: &Links,
-    weights: &[i128],
+    weights: &PairTable,
     lane: &mut [i64],
     work: &mut [u32],
     low: u32,
@@ -183,7 +183,7 @@ impl Guessed {
 fn lower_from_guess(
     case: &Case,
     links: &Links,
-    weights: &[i128],
+    weights: &PairTable,
     lane: &mut [i64],
     flags: &mut [u32],
     noted: &mut [u32],
@@ -204,7 +204,17 @@ fn lower_from_guess(
     let top = one_at(case.w());
     let (extreme, rounding, way) = (Extreme::Least, Rounding::Up, Way::Elimination(share));
     let guessed = guess_part(
-        case, links, weights, extreme, rounding, lane, flags, noted, low, high, way,
+        case,
+        links,
+        weights.weights(),
+        extreme,
+        rounding,
+        lane,
+        flags,
+        noted,
+        low,
+        high,
+        way,
     );
     flag_part(flags, low, high);
     if !guessed {
@@ -225,7 +235,7 @@ fn lower_from_guess(
 fn lower_from_guesses(
     case: &Case,
     links: &Links,
-    weights: &[i128],
+    weights: &PairTable,
     lane: &mut [i64],
     flags: &mut [u32],
     noted: &mut [u32],
@@ -281,7 +291,7 @@ fn lower_from_guesses(
 fn lower_anew(
     case: &Case,
     links: &Links,
-    weights: &[i128],
+    weights: &PairTable,
     limit: i64,
     lane: &mut [i64],
     work: &mut [u32],
@@ -325,7 +335,7 @@ fn first_passes(low: u32, high: u32) -> u32 {
 fn begin_cycle(
     case: &Case,
     links: &Links,
-    weights: &[i128],
+    weights: &PairTable,
     limit: i64,
     lane: &mut [i64],
     work: &mut [u32],
@@ -358,7 +368,7 @@ fn begin_cycle(
 fn begin_part(
     case: &Case,
     links: &Links,
-    weights: &[i128],
+    weights: &PairTable,
     limit: i64,
     lane: &mut [i64],
     work: &mut [u32],
@@ -388,7 +398,7 @@ fn begin_part(
 pub(crate) fn begin(
     case: &Case,
     links: &Links,
-    weights: &[i128],
+    weights: &PairTable,
     limit: i64,
     lane: &mut [i64],
     work: &mut [u32],

@@ -13,7 +13,7 @@ ghost use Rattle.lower_cert.specs.Exits.{AreLevel, CanExit, ExitsAtMost, Choices
 use crate::laws::{premises, vectors_are_lowered};
 use crate::lower::{NONE, rank_of};
 use crate::sweep::{choice_count, exit, greater, lesser};
-use corner_lift::{Case, rows_at_corners, table_into, table_value, table_whole};
+use corner_lift::{Case, PairTable, rows_at_corners, table_into, table_value, table_whole};
 use lift_model::Links;
 
 /// 0 for a state without rank that has the number, and 1 for any other.
@@ -41,7 +41,7 @@ fn mark_level(lane: &[i64], ranks: &[u32], marks: &mut [u32], level: i64)
 fn exit_at_corner(
     case: &Case,
     links: &Links,
-    weights: &[i128],
+    weights: &PairTable,
     lane: &[i64],
     marks: &[u32],
     level: i64,
@@ -58,9 +58,9 @@ fn exit_at_corner(
 {
     premises();
     let _ = case.w();
-    let whole = table_whole(case, links, weights, s, a);
-    let into = table_into(case, links, weights, s, a, corner, marks, 1);
-    let sum = table_value(case, links, weights, s, a, corner, lane);
+    let whole = table_whole(case, links, weights.weights(), s, a);
+    let into = table_into(case, links, weights.weights(), s, a, corner, marks, 1);
+    let sum = table_value(case, links, weights.weights(), s, a, corner, lane);
     exit(level, sum, into, whole)
 }
 
@@ -68,7 +68,7 @@ fn exit_at_corner(
 fn exit_of_choice(
     case: &Case,
     links: &Links,
-    weights: &[i128],
+    weights: &PairTable,
     lane: &[i64],
     marks: &[u32],
     level: i64,
@@ -96,7 +96,7 @@ fn exit_of_choice(
 fn exit_of_choices(
     case: &Case,
     links: &Links,
-    weights: &[i128],
+    weights: &PairTable,
     lane: &[i64],
     marks: &[u32],
     level: i64,
@@ -121,7 +121,7 @@ fn exit_of_choices(
 fn exit_of_state(
     case: &Case,
     links: &Links,
-    weights: &[i128],
+    weights: &PairTable,
     lane: &[i64],
     marks: &[u32],
     level: i64,
@@ -143,7 +143,7 @@ fn exit_of_state(
 fn best_exit(
     case: &Case,
     links: &Links,
-    weights: &[i128],
+    weights: &PairTable,
     lane: &[i64],
     marks: &[u32],
     level: i64,
@@ -182,7 +182,7 @@ fn write_exit(lane: &mut [i64], marks: &[u32], exit: i64)
 pub(crate) fn lower_to_exit(
     case: &Case,
     links: &Links,
-    weights: &[i128],
+    weights: &PairTable,
     lane: &mut [i64],
     ranks: &[u32],
     marks: &mut [u32],

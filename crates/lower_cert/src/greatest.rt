@@ -13,7 +13,7 @@ use crate::exit::lower_to_exit;
 use crate::laws::{ranks_fit, vectors_are_lowered};
 use crate::lower::{NONE, lower_level, rank_states, stuck_level};
 use crate::sweep::{clear_flags, flag_marked, settle};
-use corner_lift::{Case, rows_at_corners};
+use corner_lift::{Case, PairTable, rows_at_corners};
 use lift_model::Links;
 use robust_rank::rate;
 
@@ -38,7 +38,7 @@ fn is_above(case: &Case, lane: &[i64], limit: i64) -> bool
 fn lower_once(
     case: &Case,
     links: &Links,
-    weights: &[i128],
+    weights: &PairTable,
     limit: i64,
     lane: &mut [i64],
     allowed: &mut [u32],
@@ -92,7 +92,7 @@ fn height(ranks: &[u32]) -> u32
 fn descend(
     case: &Case,
     links: &Links,
-    weights: &[i128],
+    weights: &PairTable,
     limit: i64,
     lane: &mut [i64],
     allowed: &mut [u32],
@@ -117,7 +117,7 @@ fn descend(
 fn rate_of(
     case: &Case,
     links: &Links,
-    weights: &[i128],
+    weights: &PairTable,
     lane: &[i64],
     ranks: &[u32],
     picks: &[u32],
@@ -134,7 +134,7 @@ fn rate_of(
     rows_at_corners();
     let _ = case.w();
     Rate {
-        e: rate(case, links, weights, ranks, picks),
+        e: rate(case, links, weights.weights(), ranks, picks),
         k: height(ranks),
     }
 }
@@ -160,6 +160,7 @@ pub fn greatest_reject(
     ensures height { result.k ≤ length case.now.model.states }
 {
     rows_at_corners();
+    let weights = &PairTable::of(case, links, weights);
     let limit = -1;
     begin(case, links, weights, limit, lane, work);
     descend(
@@ -189,17 +190,19 @@ pub fn greatest_reject_above(
     ensures some { IfSome result (λ rate. IsGreatestAbove case.now spans limit (record { numbers = lane.new; picks = picks.new; ranks = ranks.new; e = rate.e; k = rate.k })) }
     ensures none { IsNone result → NoneIsAbove case.now spans limit }
 {
+    let weights = &PairTable::of(case, links, weights);
     begin(case, links, weights, limit, lane, work);
-    greatest_reject_from(
+    reject_from(
         case, links, weights, limit, lane, allowed, ranks, picks, work,
     )
 }
 
-/// As `greatest_reject_above`, but begins from the vector in `lane`, which lies at or above each lower vector.
-pub fn greatest_reject_from(
+/// Lowers a vector that lies at or above each lower vector to the greatest lower one, and gives the rate, if the
+/// initial state's number is above the limit.
+fn reject_from(
     case: &Case,
     links: &Links,
-    weights: &[i128],
+    weights: &PairTable,
     limit: i64,
     lane: &mut [i64],
     allowed: &mut [u32],
@@ -223,4 +226,53 @@ pub fn greatest_reject_from(
         return Some(rate_of(case, links, weights, lane, ranks, picks));
     }
     None
+}
+
+/// Lowers the vector of ones as far as the choices of states ask for, and leaves it in `lane`: it lies at or above each
+/// lower vector, and is the greatest one where all states that it leaves above 0 can be ranked. False: in no lower vector
+/// is the initial state's number above the limit. What `lane` and `work` hold at entry is free. Takes no memory.
+pub fn lower_unranked(
+    case: &Case,
+    links: &Links,
+    weights: &[i128],
+    limit: i64,
+    lane: &mut [i64],
+    work: &mut [u32],
+) -> bool
+    ghost spans: { Spans }
+    requires read { IsRead case.now links.now spans weights.now lane.old }
+    requires work { length work.old ≡ 2 * length case.now.model.states }
+    ensures high { IsHigh case.now spans lane.new }
+    ensures none { IsFalse result → NoneIsAbove case.now spans limit }
+{
+    rows_at_corners();
+    let weights = &PairTable::of(case, links, weights);
+    begin(case, links, weights, limit, lane, work);
+    is_above(case, lane, limit)
+}
+
+/// As `greatest_reject_above`, but begins from the vector in `lane`, which lies at or above each lower vector.
+pub fn greatest_reject_from(
+    case: &Case,
+    links: &Links,
+    weights: &[i128],
+    limit: i64,
+    lane: &mut [i64],
+    allowed: &mut [u32],
+    ranks: &mut [u32],
+    picks: &mut [u32],
+    work: &mut [u32],
+) -> Option<Rate>
+    ghost spans: { Spans }
+    requires read { IsRead case.now links.now spans weights.now lane.old }
+    requires high { IsHigh case.now spans lane.old }
+    requires places { HasPlaces case.now allowed.old ranks.old picks.old }
+    requires work { length work.old ≡ 2 * length case.now.model.states }
+    ensures some { IfSome result (λ rate. IsGreatestAbove case.now spans limit (record { numbers = lane.new; picks = picks.new; ranks = ranks.new; e = rate.e; k = rate.k })) }
+    ensures none { IsNone result → NoneIsAbove case.now spans limit }
+{
+    let weights = &PairTable::of(case, links, weights);
+    reject_from(
+        case, links, weights, limit, lane, allowed, ranks, picks, work,
+    )
 }

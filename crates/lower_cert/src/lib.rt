@@ -10,5 +10,7 @@ mod part;
 mod raise;
 mod sweep;
 
-pub use greatest::{Rate, greatest_reject, greatest_reject_above, greatest_reject_from};
+pub use greatest::{
+    Rate, greatest_reject, greatest_reject_above, greatest_reject_from, lower_unranked,
+};
 pub use laws::{ranks_fit, vectors_are_lowered};

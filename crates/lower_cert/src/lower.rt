@@ -1,18 +1,18 @@
 //! Steps that lower a vector, and keep it at or above every lower vector.
 
-ghost use Rattle.std.specs.Prelude.{◌≡◌, ◌*◌, ◌+◌, ◌^◌, ◌<◌, ◌≤◌, ◌≤ℤ◌, ◌<ℤ◌, ◌*ℤ◌, ◌↔◌, pos, length, unsigned_abs, IsTrue, nat_lt, true, ◌-ℤ◌, ◌⊎◌};
+ghost use Rattle.std.specs.Prelude.{IfSome, ℕ, ◌≡◌, ◌*◌, ◌+◌, ◌^◌, ◌<◌, ◌≤◌, ◌≤ℤ◌, ◌<ℤ◌, ◌*ℤ◌, ◌↔◌, pos, length, unsigned_abs, IsTrue, nat_lt, true, ◌-ℤ◌, ◌⊎◌};
 ghost use Rattle.lift_grid.specs.Rectangle.{Spans};
-ghost use Rattle.lift_model.specs.Model.{row_count};
+ghost use Rattle.lift_model.specs.Model.{choices, row_count};
 ghost use Rattle.lift_model.specs.Links.{HasChoice};
-ghost use Rattle.corner_lift.specs.Case.{IsInside, engine_limit, number};
+ghost use Rattle.corner_lift.specs.Case.{IsInside, corner_count, engine_limit, number, row_value, row_whole};
 ghost use Rattle.corner_lift.specs.Certificate.{AreNumbers, mark, unmarked};
 ghost use Rattle.corner_lift.specs.Stages.{IsAllowed};
 ghost use Rattle.lower_cert.specs.Lowering.{IsRead, HasPlaces, IsHigh, IsRanked, AreToldBefore, IsStuckLevel, IsLoweredAt, total};
 
 use crate::laws::{premises, vectors_are_lowered};
 use crate::sweep::choice_count;
-use corner_lift::{Case, is_held, one_at, rows_at_corners};
-use lift_model::Links;
+use corner_lift::{Case, LaneSum, PairTable, is_held, one_at, rows_at_corners};
+use lift_model::{Links, OnlyRow};
 use robust_rank::{attract, ranks_go_by_stages};
 
 /// In place of a rank or of a pick where a state has none.
@@ -49,9 +49,40 @@ pub(crate) fn is_at_most(a: i128, b: i128) -> bool
     a <= b
 }
 
+/// Whether a row's sum is at least a number times its whole, if 64 bits hold that.
+#[inline(always)]
+fn reaches(row: LaneSum, number: i64) -> Option<bool>
+    ensures { IfSome result (λ yes. IsTrue yes ↔ (number *ℤ row.whole) ≤ℤ row.sum) }
+{
+    let least = number.checked_mul(row.whole)?;
+    Some(least <= row.sum)
+}
+
+/// Whether the state's choice, a row of two entries that is quickly looked up, holds the number at each corner.
+#[inline(always)]
+fn holds(
+    case: &Case,
+    links: &Links,
+    weights: &PairTable,
+    lane: &[i64],
+    s: u32,
+    a: u32,
+    number: i64,
+) -> Option<bool>
+    ghost spans: { Spans }
+    requires read { IsRead case.now links.now spans weights.now lane.now }
+    requires numbers { AreNumbers case.now lane.now }
+    requires row { HasChoice case.now.model s a }
+    ensures { IfSome result (λ yes. IsTrue yes ↔ ((c : ℕ) → c < corner_count case.now s a
+        → (number *ℤ row_whole case.now s a) ≤ℤ row_value case.now spans s a lane.now c)) }
+{
+    let row = weights.least(case, links, s, a, lane)?;
+    reaches(row, number)
+}
+
 /// Whether the state's choice holds its number at each corner.
 #[inline(always)]
-fn is_allowed(case: &Case, links: &Links, weights: &[i128], lane: &[i64], s: u32, a: u32) -> bool
+fn is_allowed(case: &Case, links: &Links, weights: &PairTable, lane: &[i64], s: u32, a: u32) -> bool
     ghost spans: { Spans }
     requires read { IsRead case.now links.now spans weights.now lane.now }
     requires numbers { AreNumbers case.now lane.now }
@@ -64,7 +95,10 @@ fn is_allowed(case: &Case, links: &Links, weights: &[i128], lane: &[i64], s: u32
     if number <= 0 {
         return true;
     }
-    is_held(case, links, weights, s, a, lane, number)
+    match holds(case, links, weights, lane, s, a, number) {
+        Some(yes) => yes,
+        None => is_held(case, links, weights.weights(), s, a, lane, number),
+    }
 }
 
 /// 1 for what is so, and 0 for what isn't.
@@ -76,12 +110,32 @@ fn flag(is: bool) -> u32
     u32::from(is)
 }
 
-/// Tells for each row of a state whether its choice is allowed.
+/// Whether the only row of a state holds the state's number at each corner, if that is quickly told.
 #[inline(always)]
-fn allow_state(
+fn only_holds(case: &Case, links: &Links, weights: &PairTable, lane: &[i64], s: u32) -> Option<bool>
+    ghost spans: { Spans }
+    requires read { IsRead case.now links.now spans weights.now lane.now }
+    requires numbers { AreNumbers case.now lane.now }
+    requires state { s < length case.now.model.states }
+    ensures only { IfSome result (λ yes. length (choices case.now.model s) ≡ 1) }
+    ensures allowed { IfSome result (λ yes. IsTrue yes ↔ IsAllowed case.now spans (number lane.now) s 0) }
+{
+    premises();
+    let _ = case.w();
+    let number = lane[s as usize];
+    match links.only_row(s) {
+        OnlyRow::Single(target) => Some(number <= lane[target as usize]),
+        OnlyRow::Pair(row) => reaches(weights.least_of(case, links, s, row, lane)?, number),
+        OnlyRow::Other => None,
+    }
+}
+
+/// Tells for each row of a state whether its choice is allowed.
+#[inline(never)]
+fn allow_choices(
     case: &Case,
     links: &Links,
-    weights: &[i128],
+    weights: &PairTable,
     lane: &[i64],
     s: u32,
     allowed: &mut [u32],
@@ -100,9 +154,34 @@ fn allow_state(
     }
 }
 
+/// The same, by a short path where the state has one row that is quickly looked up.
+#[inline(always)]
+fn allow_state(
+    case: &Case,
+    links: &Links,
+    weights: &PairTable,
+    lane: &[i64],
+    s: u32,
+    allowed: &mut [u32],
+)
+    ghost spans: { Spans }
+    requires read { IsRead case.now links.now spans weights.now lane.now }
+    requires numbers { AreNumbers case.now lane.now }
+    requires state { s < length case.now.model.states }
+    requires rows { length allowed.old ≡ row_count case.now.model }
+    requires told { AreToldBefore case.now spans lane.now allowed.old s 0 }
+    ensures told { AreToldBefore case.now spans lane.now allowed.new (s + 1) 0 }
+{
+    if let Some(yes) = only_holds(case, links, weights, lane, s) {
+        allowed[links.row_place(s, 0)] = flag(yes);
+        return;
+    }
+    allow_choices(case, links, weights, lane, s, allowed);
+}
+
 /// Tells for each row whether its choice is allowed.
 #[inline(never)]
-fn allow(case: &Case, links: &Links, weights: &[i128], lane: &[i64], allowed: &mut [u32])
+fn allow(case: &Case, links: &Links, weights: &PairTable, lane: &[i64], allowed: &mut [u32])
     ghost spans: { Spans }
     requires read { IsRead case.now links.now spans weights.now lane.now }
     requires numbers { AreNumbers case.now lane.now }
@@ -118,7 +197,7 @@ fn allow(case: &Case, links: &Links, weights: &[i128], lane: &[i64], allowed: &m
 pub(crate) fn rank_states(
     case: &Case,
     links: &Links,
-    weights: &[i128],
+    weights: &PairTable,
     lane: &[i64],
     allowed: &mut [u32],
     ranks: &mut [u32],
@@ -132,7 +211,7 @@ pub(crate) fn rank_states(
 {
     ranks_go_by_stages();
     allow(case, links, weights, lane, allowed);
-    attract(case, links, weights, allowed, ranks, picks);
+    attract(case, links, weights.weights(), allowed, ranks, picks);
 }
 
 /// The greatest number of a state without rank.

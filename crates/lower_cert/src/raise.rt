@@ -12,7 +12,7 @@ ghost use Rattle.float_guess.specs.Part.{KeepsOthers};
 use crate::lower::{is_at_most, times};
 use crate::part::{fill_at, fill_part, flag_part, note, open_state};
 use crate::sweep::{choice_count, flag_before, greater, only_target, quotient, take_flag};
-use corner_lift::{Case, Weighed, rows_at_corners, table_least};
+use corner_lift::{Case, PairTable, Weighed, rows_at_corners, table_least};
 use float_guess::low_word_of;
 use lift_model::Links;
 use std::num::{nearest_i64_to_f64, saturating_f64_to_i64};
@@ -31,7 +31,7 @@ const ALIKE: f64 = 1.2;
 fn is_closed_choice(
     case: &Case,
     links: &Links,
-    weights: &[i128],
+    weights: &PairTable,
     lane: &[i64],
     s: u32,
     a: u32,
@@ -43,12 +43,12 @@ fn is_closed_choice(
 {
     rows_at_corners();
     let _ = case.w();
-    let Weighed { sum, whole } = table_least(case, links, weights, s, a, lane);
+    let Weighed { sum, whole } = table_least(case, links, weights.weights(), s, a, lane);
     is_at_most(sum, times(lane[s as usize], whole))
 }
 
 /// Whether no choice lets the state rise.
-fn is_closed_state(case: &Case, links: &Links, weights: &[i128], lane: &[i64], s: u32) -> bool
+fn is_closed_state(case: &Case, links: &Links, weights: &PairTable, lane: &[i64], s: u32) -> bool
     ghost spans: { Spans }
     requires can { CanWeigh case.now links.now spans weights.now lane.now }
     requires state { s < length case.now.model.states }
@@ -66,7 +66,7 @@ fn is_closed_state(case: &Case, links: &Links, weights: &[i128], lane: &[i64], s
 fn is_closed_position(
     case: &Case,
     links: &Links,
-    weights: &[i128],
+    weights: &PairTable,
     lane: &[i64],
     position: u32,
 ) -> bool
@@ -85,7 +85,7 @@ fn is_closed_position(
 fn is_closed_part(
     case: &Case,
     links: &Links,
-    weights: &[i128],
+    weights: &PairTable,
     lane: &[i64],
     low: u32,
     high: u32,
@@ -125,7 +125,7 @@ fn rounded_up(sum: i128, whole: i128, top: i64) -> i64
 fn raised_for(
     case: &Case,
     links: &Links,
-    weights: &[i128],
+    weights: &PairTable,
     lane: &[i64],
     s: u32,
     a: u32,
@@ -143,7 +143,7 @@ fn raised_for(
         return lane[target as usize];
     }
     let number = lane[s as usize];
-    let Weighed { sum, whole } = table_least(case, links, weights, s, a, lane);
+    let Weighed { sum, whole } = table_least(case, links, weights.weights(), s, a, lane);
     if is_at_most(sum, times(number, whole)) {
         return number;
     }
@@ -152,7 +152,7 @@ fn raised_for(
 
 /// A number that is at least what each choice of the state asks for.
 #[inline(always)]
-fn raised(case: &Case, links: &Links, weights: &[i128], lane: &[i64], s: u32, top: i64) -> i64
+fn raised(case: &Case, links: &Links, weights: &PairTable, lane: &[i64], s: u32, top: i64) -> i64
     ghost spans: { Spans }
     requires can { CanWeigh case.now links.now spans weights.now lane.now }
     requires state { s < length case.now.model.states }
@@ -173,7 +173,7 @@ fn raised(case: &Case, links: &Links, weights: &[i128], lane: &[i64], s: u32, to
 fn raise_turn(
     case: &Case,
     links: &Links,
-    weights: &[i128],
+    weights: &PairTable,
     lane: &mut [i64],
     work: &mut [u32],
     low: u32,
@@ -207,7 +207,7 @@ fn raise_turn(
 fn raise_pass(
     case: &Case,
     links: &Links,
-    weights: &[i128],
+    weights: &PairTable,
     lane: &mut [i64],
     work: &mut [u32],
     low: u32,
@@ -233,7 +233,7 @@ fn raise_pass(
 fn raise_block(
     case: &Case,
     links: &Links,
-    weights: &[i128],
+    weights: &PairTable,
     lane: &mut [i64],
     flags: &mut [u32],
     low: u32,
@@ -410,7 +410,7 @@ fn jump(
 pub(crate) fn raise_part(
     case: &Case,
     links: &Links,
-    weights: &[i128],
+    weights: &PairTable,
     lane: &mut [i64],
     flags: &mut [u32],
     noted: &mut [u32],

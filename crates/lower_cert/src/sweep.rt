@@ -1,17 +1,20 @@
 //! Lowering states one by one to what their choices hold.
 
-ghost use Rattle.std.specs.Prelude.{◌≡◌, ◌≢◌, ℕ, ◌+◌, ◌^◌, ◌*◌, ◌/◌, ◌<◌, ◌≤◌, ◌⊎◌, ◌≤ℤ◌, ◌<ℤ◌, ◌+ℤ◌, ◌-ℤ◌, ◌*ℤ◌, pos, length, unsigned_abs, Contains, IfSome, [], ◌∷◌, IsFalse, true, false};
+ghost use Rattle.std.specs.Prelude.{◌≡◌, ◌≢◌, ℕ, ◌+◌, ◌^◌, ◌*◌, ◌/◌, ◌<◌, ◌≤◌, ◌⊎◌, ◌≤ℤ◌, ◌<ℤ◌, ◌+ℤ◌, ◌-ℤ◌, ◌*ℤ◌, pos, length, unsigned_abs, Contains, IfSome, [], ◌∷◌, IsTrue, IsFalse, true, false};
 ghost use Rattle.lift_grid.specs.Rectangle.{Spans};
 ghost use Rattle.lift_model.specs.Model.{is_goal, choices, row_at};
 ghost use Rattle.lift_model.specs.Links.{AreLinks, HasChoice, state_count, targets_of};
+ghost use Rattle.lift_model.specs.OnlyRow.{IsPairRow};
 ghost use Rattle.corner_lift.specs.Case.{number, corner_count, engine_limit};
 ghost use Rattle.float_guess.specs.Part.{KeepsOthers};
 ghost use Rattle.lower_cert.specs.Lowering.{Run, CanWeigh, CanLower, IsExit, HoldsNoMore, HoldNoMore, IsLowered, IsWrittenLower};
 
 use crate::laws::{premises, vectors_are_lowered};
 use crate::lower::times;
-use corner_lift::{AtCorner, Case, Weighed, rows_at_corners, table_corner, table_least};
-use lift_model::Links;
+use corner_lift::{
+    AtCorner, Case, LaneSum, PairTable, Weighed, rows_at_corners, table_corner, table_least,
+};
+use lift_model::{Links, OnlyRow, PairRow};
 
 /// The quotient of two numbers. Where they fit 64 bits, so does the division.
 #[inline(always)]
@@ -75,7 +78,7 @@ pub(crate) fn exit(number: i64, sum: i128, into: i128, whole: i128) -> i64
 fn exit_at(
     case: &Case,
     links: &Links,
-    weights: &[i128],
+    weights: &PairTable,
     lane: &[i64],
     s: u32,
     a: u32,
@@ -90,7 +93,15 @@ fn exit_at(
 {
     premises();
     let _ = case.w();
-    let AtCorner { sum, whole, own } = table_corner(case, links, weights, s, a, corner, lane);
+    let AtCorner { sum, whole, own } = table_corner(
+        case,
+        links,
+        weights.weights(),
+        s,
+        a,
+        corner,
+        lane,
+    );
     exit(lane[s as usize], sum, own, whole)
 }
 
@@ -107,7 +118,7 @@ pub(crate) fn lesser(a: i64, b: i64) -> i64
 fn held_at_corners(
     case: &Case,
     links: &Links,
-    weights: &[i128],
+    weights: &PairTable,
     lane: &[i64],
     s: u32,
     a: u32,
@@ -161,10 +172,70 @@ pub(crate) fn only_target(case: &Case, links: &Links, s: u32, a: u32) -> Option<
     }
 }
 
+/// Whether the next number is too much for the quotient of a sum by a whole.
+#[inline(always)]
+fn is_quotient(sum: i64, whole: i64, quotient: i64) -> bool
+    requires { pos 1 ≤ℤ whole }
+    ensures least { IsTrue result → pos 0 ≤ℤ quotient }
+    ensures less { IsTrue result → sum <ℤ ((quotient +ℤ pos 1) *ℤ whole) }
+{
+    match quotient.checked_mul(whole) {
+        Some(product) => quotient >= 0 && sum.saturating_sub(product) < whole,
+        None => false,
+    }
+}
+
+/// The quotient of a row's sum by its whole, rounded down, where the row's guess finds it.
+#[inline(always)]
+fn lane_quotient(row: LaneSum) -> Option<i64>
+    requires least { pos 0 ≤ℤ row.sum }
+    requires positive { pos 1 ≤ℤ row.whole }
+    ensures least { IfSome result (λ quotient. pos 0 ≤ℤ quotient) }
+    ensures less { IfSome result (λ quotient. row.sum <ℤ ((quotient +ℤ pos 1) *ℤ row.whole)) }
+{
+    let guess = row.guess(row.sum);
+    let rest = row.sum.wrapping_sub(guess.wrapping_mul(row.whole));
+    let guess = guess.wrapping_add(i64::from(rest >= row.whole));
+    if is_quotient(row.sum, row.whole, guess) {
+        Some(guess)
+    } else {
+        None
+    }
+}
+
+/// How high a state is held by a choice without a self loop, if its row has two entries and is quickly looked up.
+#[inline(always)]
+fn held_by_pair(
+    case: &Case,
+    links: &Links,
+    weights: &PairTable,
+    lane: &[i64],
+    s: u32,
+    a: u32,
+) -> Option<i64>
+    ghost spans: { Spans }
+    requires can { CanWeigh case.now links.now spans weights.now lane.now }
+    requires row { HasChoice case.now.model s a }
+    ensures least { IfSome result (λ number. pos 0 ≤ℤ number) }
+    ensures most { IfSome result (HoldsNoMore case.now spans lane.now s a) }
+{
+    rows_at_corners();
+    let _ = case.w();
+    let row = weights.least(case, links, s, a, lane)?;
+    lane_quotient(row)
+}
+
 /// How high a state is held by a choice without a self loop: its least weighted mean over the corners,
 /// rounded down.
-#[inline(always)]
-fn held_by_least(case: &Case, links: &Links, weights: &[i128], lane: &[i64], s: u32, a: u32) -> i64
+#[inline(never)]
+fn held_by_least(
+    case: &Case,
+    links: &Links,
+    weights: &PairTable,
+    lane: &[i64],
+    s: u32,
+    a: u32,
+) -> i64
     ghost spans: { Spans }
     requires can { CanWeigh case.now links.now spans weights.now lane.now }
     requires row { HasChoice case.now.model s a }
@@ -173,13 +244,13 @@ fn held_by_least(case: &Case, links: &Links, weights: &[i128], lane: &[i64], s: 
 {
     rows_at_corners();
     let _ = case.w();
-    let Weighed { sum, whole } = table_least(case, links, weights, s, a, lane);
+    let Weighed { sum, whole } = table_least(case, links, weights.weights(), s, a, lane);
     rounded_down(sum, whole)
 }
 
 /// How high a state is held by a choice: no number above it can be kept there.
 #[inline(always)]
-fn held(case: &Case, links: &Links, weights: &[i128], lane: &[i64], s: u32, a: u32) -> i64
+fn held(case: &Case, links: &Links, weights: &PairTable, lane: &[i64], s: u32, a: u32) -> i64
     ghost spans: { Spans }
     requires can { CanWeigh case.now links.now spans weights.now lane.now }
     requires row { HasChoice case.now.model s a }
@@ -194,9 +265,57 @@ fn held(case: &Case, links: &Links, weights: &[i128], lane: &[i64], s: u32, a: u
         }
     }
     if has_loop(case, links, s, a) {
-        held_at_corners(case, links, weights, lane, s, a)
-    } else {
-        held_by_least(case, links, weights, lane, s, a)
+        return held_at_corners(case, links, weights, lane, s, a);
+    }
+    match held_by_pair(case, links, weights, lane, s, a) {
+        Some(number) => number,
+        None => held_by_least(case, links, weights, lane, s, a),
+    }
+}
+
+/// How high a state is held by its only row, which has two entries, if that is quickly looked up.
+#[inline(always)]
+fn held_by_only_pair(
+    case: &Case,
+    links: &Links,
+    weights: &PairTable,
+    lane: &[i64],
+    s: u32,
+    row: PairRow,
+) -> Option<i64>
+    ghost spans: { Spans }
+    requires can { CanWeigh case.now links.now spans weights.now lane.now }
+    requires state { s < length case.now.model.states }
+    requires row { IsPairRow case.now.model links.now s row }
+    ensures least { IfSome result (λ number. pos 0 ≤ℤ number) }
+    ensures most { IfSome result (HoldsNoMore case.now spans lane.now s 0) }
+{
+    rows_at_corners();
+    let _ = case.w();
+    let row = weights.least_of(case, links, s, row, lane)?;
+    lane_quotient(row)
+}
+
+/// How high a state is held by its only row, if that is quickly looked up.
+#[inline(always)]
+fn held_by_only(
+    case: &Case,
+    links: &Links,
+    weights: &PairTable,
+    lane: &[i64],
+    s: u32,
+) -> Option<i64>
+    ghost spans: { Spans }
+    requires can { CanWeigh case.now links.now spans weights.now lane.now }
+    requires state { s < length case.now.model.states }
+    ensures { IfSome result (HoldNoMore case.now spans lane.now s (length (choices case.now.model s))) }
+{
+    premises();
+    let _ = case.w();
+    match links.only_row(s) {
+        OnlyRow::Single(target) => Some(lane[target as usize]),
+        OnlyRow::Pair(row) => held_by_only_pair(case, links, weights, lane, s, row),
+        OnlyRow::Other => None,
     }
 }
 
@@ -219,17 +338,9 @@ pub(crate) fn choice_count(case: &Case, links: &Links, s: u32) -> u32
 }
 
 /// The greatest number that a choice of the state holds. Where a choice holds the state's own, it looks at
-/// no further one. A state that stands alone and has one choice needs no loop; nothing else depends on
-/// whether it stands alone.
+/// no further one.
 #[inline(always)]
-fn most_held(
-    case: &Case,
-    links: &Links,
-    weights: &[i128],
-    lane: &[i64],
-    s: u32,
-    is_alone: bool,
-) -> i64
+fn held_by_choices(case: &Case, links: &Links, weights: &PairTable, lane: &[i64], s: u32) -> i64
     ghost spans: { Spans }
     requires can { CanWeigh case.now links.now spans weights.now lane.now }
     requires state { s < length case.now.model.states }
@@ -237,9 +348,6 @@ fn most_held(
 {
     premises();
     let _ = case.w();
-    if is_alone && choice_count(case, links, s) == 1 {
-        return held(case, links, weights, lane, s, 0);
-    }
     let number = lane[s as usize];
     let mut most = 0;
     for a in 0..choice_count(case, links, s) {
@@ -249,6 +357,20 @@ fn most_held(
         }
     }
     most
+}
+
+/// A number that no choice of the state holds more than.
+#[inline(always)]
+fn most_held(case: &Case, links: &Links, weights: &PairTable, lane: &[i64], s: u32) -> i64
+    ghost spans: { Spans }
+    requires can { CanWeigh case.now links.now spans weights.now lane.now }
+    requires state { s < length case.now.model.states }
+    ensures { HoldNoMore case.now spans lane.now s (length (choices case.now.model s)) result }
+{
+    match held_by_only(case, links, weights, lane, s) {
+        Some(number) => number,
+        None => held_by_choices(case, links, weights, lane, s),
+    }
 }
 
 /// Writes the number of a state if it is lower, and tells whether it is.
@@ -266,14 +388,7 @@ fn write_lower(lane: &mut [i64], s: u32, number: i64) -> bool
 
 /// Lowers a state that is no goal state to what its choices hold, and tells whether that is lower.
 #[inline(always)]
-fn lower_state(
-    case: &Case,
-    links: &Links,
-    weights: &[i128],
-    lane: &mut [i64],
-    s: u32,
-    is_alone: bool,
-) -> bool
+fn lower_state(case: &Case, links: &Links, weights: &PairTable, lane: &mut [i64], s: u32) -> bool
     ghost run: { Run }
     requires can { CanLower case.now links.now run weights.now lane.old }
     requires state { s < length case.now.model.states }
@@ -284,13 +399,13 @@ fn lower_state(
     vectors_are_lowered();
     rows_at_corners();
     let _ = case.w();
-    let number = most_held(case, links, weights, lane, s, is_alone);
+    let number = most_held(case, links, weights, lane, s);
     write_lower(lane, s, number)
 }
 
 /// Lowers a state, if it is no goal state and above 0.
 #[inline(always)]
-fn try_state(case: &Case, links: &Links, weights: &[i128], lane: &mut [i64], s: u32) -> bool
+fn try_state(case: &Case, links: &Links, weights: &PairTable, lane: &mut [i64], s: u32) -> bool
     ghost run: { Run }
     requires can { CanLower case.now links.now run weights.now lane.old }
     requires state { s < length case.now.model.states }
@@ -300,7 +415,7 @@ fn try_state(case: &Case, links: &Links, weights: &[i128], lane: &mut [i64], s: 
     if lane[s as usize] <= 0 || case.model().is_goal(s) {
         return false;
     }
-    lower_state(case, links, weights, lane, s, false)
+    lower_state(case, links, weights, lane, s)
 }
 
 /// Flags a position, if it is one of these.
@@ -364,7 +479,7 @@ pub(crate) fn flag_marked(case: &Case, links: &Links, marks: &[u32], work: &mut 
 pub(crate) fn visit_alone(
     case: &Case,
     links: &Links,
-    weights: &[i128],
+    weights: &PairTable,
     lane: &mut [i64],
     position: u32,
 ) -> bool
@@ -380,7 +495,7 @@ pub(crate) fn visit_alone(
     if case.model().is_goal(s) {
         return false;
     }
-    lower_state(case, links, weights, lane, s, true)
+    lower_state(case, links, weights, lane, s)
 }
 
 /// Lowers the state at a position, and where it fell, flags those that lead to it, as far as they lie before
@@ -390,7 +505,7 @@ pub(crate) fn visit_alone(
 pub(crate) fn visit(
     case: &Case,
     links: &Links,
-    weights: &[i128],
+    weights: &PairTable,
     lane: &mut [i64],
     work: &mut [u32],
     position: u32,
@@ -418,7 +533,7 @@ pub(crate) fn visit(
 fn turn(
     case: &Case,
     links: &Links,
-    weights: &[i128],
+    weights: &PairTable,
     lane: &mut [i64],
     work: &mut [u32],
     position: u32,
@@ -440,7 +555,7 @@ fn turn(
 pub(crate) fn pass(
     case: &Case,
     links: &Links,
-    weights: &[i128],
+    weights: &PairTable,
     lane: &mut [i64],
     work: &mut [u32],
     low: u32,
@@ -467,7 +582,7 @@ pub(crate) fn pass(
 pub(crate) fn settle_part(
     case: &Case,
     links: &Links,
-    weights: &[i128],
+    weights: &PairTable,
     limit: i64,
     lane: &mut [i64],
     work: &mut [u32],
@@ -519,7 +634,7 @@ pub(crate) fn component_end(links: &Links, low: u32, states: u32) -> u32
 pub(crate) fn settle(
     case: &Case,
     links: &Links,
-    weights: &[i128],
+    weights: &PairTable,
     limit: i64,
     lane: &mut [i64],
     work: &mut [u32],

@@ -10,8 +10,8 @@ ghost use Rattle.robust_rank.specs.Attracting.{Pass};
 ghost use Rattle.robust_rank.specs.Staging.{allows, CanRank, IsLeading, IsLeastLeading, HasLeading, HasNoLeading, OthersHaveNoPick, is_rank, IsReached, IsPickOf, IsStarting, IsComplete, StageData, IsGathering, AreKept, IsLooked};
 
 use crate::marks::{NONE, are_below, mark_of};
-use corner_lift::{Case, least_into, rows_at_corners};
-use lift_model::Links;
+use corner_lift::{Case, PairTable, least_into, rows_at_corners};
+use lift_model::{Links, OnlyRow, PairRow};
 
 /// Whether the weight is above 0.
 #[inline(always)]
@@ -47,7 +47,7 @@ pub(crate) fn leads_only_below(
 fn leads_below(
     case: &Case,
     links: &Links,
-    weights: &[i128],
+    weights: &PairTable,
     s: u32,
     a: u32,
     ranks: &[u32],
@@ -65,7 +65,7 @@ fn leads_below(
     if leads_only_below(case, links, s, a, ranks, below) {
         return true;
     }
-    is_positive(least_into(case, links, weights, s, a, ranks, below).sum)
+    is_positive(least_into(case, links, weights.weights(), s, a, ranks, below).sum)
 }
 
 /// Whether the state's choice is allowed.
@@ -84,7 +84,7 @@ fn is_allowed(case: &Case, links: &Links, allowed: &[u32], s: u32, a: u32) -> bo
 fn is_leading(
     case: &Case,
     links: &Links,
-    weights: &[i128],
+    weights: &PairTable,
     allowed: &[u32],
     s: u32,
     a: u32,
@@ -110,12 +110,52 @@ fn choice_count(case: &Case, links: &Links, s: u32) -> u32
     links.choices(s)
 }
 
-/// The least allowed choice of the state that leads below.
+/// Whether both targets of a row have a rank less than `below`.
 #[inline(always)]
-fn leading_choice(
+pub(crate) fn are_both_below(row: PairRow, ranks: &[u32], below: u32) -> bool
+    requires { (row.first < length ranks.now) × (row.second < length ranks.now) }
+    ensures { IsTrue result → (mark ranks.now row.first < below) × (mark ranks.now row.second < below) }
+{
+    ranks[row.first as usize] < below && ranks[row.second as usize] < below
+}
+
+/// Whether the only row of a state leads below, if that is quickly told.
+#[inline(always)]
+fn only_leads(
     case: &Case,
     links: &Links,
-    weights: &[i128],
+    weights: &PairTable,
+    s: u32,
+    ranks: &[u32],
+    below: u32,
+) -> Option<bool>
+    ghost spans: { Spans }
+    requires links { AreLinks case.now.model links.now }
+    requires table { IsTable case.now links.now spans weights.now }
+    requires state { s < length case.now.model.states }
+    requires ranks { length ranks.now ≡ length case.now.model.states }
+    ensures only { IfSome result (λ yes. length (choices case.now.model s) ≡ 1) }
+    ensures leads { IfSome result (λ yes. IsTrue yes ↔ LeadsBelow case.now spans (mark ranks.now) below s 0) }
+{
+    rows_at_corners();
+    let _ = case.w();
+    match links.only_row(s) {
+        OnlyRow::Single(target) if ranks[target as usize] < below => Some(true),
+        OnlyRow::Pair(row) if are_both_below(row, ranks, below) => Some(true),
+        OnlyRow::Pair(row) => {
+            let row = weights.least_into_of(case, links, s, row, ranks, below)?;
+            Some(row.sum > 0)
+        }
+        _ => None,
+    }
+}
+
+/// The least allowed choice of the state that leads below, one after the other.
+#[inline(never)]
+fn leading_of_choices(
+    case: &Case,
+    links: &Links,
+    weights: &PairTable,
     allowed: &[u32],
     s: u32,
     ranks: &[u32],
@@ -134,6 +174,34 @@ fn leading_choice(
         }
     }
     None
+}
+
+/// The least allowed choice of the state that leads below.
+#[inline(always)]
+fn leading_choice(
+    case: &Case,
+    links: &Links,
+    weights: &PairTable,
+    allowed: &[u32],
+    s: u32,
+    ranks: &[u32],
+    below: u32,
+) -> Option<u32>
+    ghost spans: { Spans }
+    requires rows { CanRank case.now links.now spans weights.now allowed.now }
+    requires state { s < length case.now.model.states }
+    requires ranks { length ranks.now ≡ length case.now.model.states }
+    ensures some { IfSome result (IsLeastLeading case.now spans allowed.now (mark ranks.now) below s) }
+    ensures none { IsNone result → HasNoLeading case.now spans allowed.now (mark ranks.now) below s }
+{
+    if let Some(leads) = only_leads(case, links, weights, s, ranks, below) {
+        return if leads && is_allowed(case, links, allowed, s, 0) {
+            Some(0)
+        } else {
+            None
+        };
+    }
+    leading_of_choices(case, links, weights, allowed, s, ranks, below)
 }
 
 /// Gives a state without rank the rank, and puts it at the end of the queue.
@@ -160,7 +228,7 @@ fn add(ranks: &mut [u32], queue: &mut [u32], s: u32, rank: u32, found: usize) ->
 fn try_state(
     case: &Case,
     links: &Links,
-    weights: &[i128],
+    weights: &PairTable,
     allowed: &[u32],
     s: u32,
     rank: u32,
@@ -189,7 +257,7 @@ fn try_state(
 fn try_before(
     case: &Case,
     links: &Links,
-    weights: &[i128],
+    weights: &PairTable,
     allowed: &[u32],
     t: u32,
     rank: u32,
@@ -218,7 +286,7 @@ fn try_before(
 fn add_stage(
     case: &Case,
     links: &Links,
-    weights: &[i128],
+    weights: &PairTable,
     allowed: &[u32],
     rank: u32,
     from: usize,
@@ -285,7 +353,7 @@ fn start(case: &Case, ranks: &mut [u32], queue: &mut [u32]) -> usize
 fn known_choice(
     case: &Case,
     links: &Links,
-    weights: &[i128],
+    weights: &PairTable,
     allowed: &[u32],
     s: u32,
     ranks: &[u32],
@@ -313,7 +381,7 @@ fn known_choice(
 fn pick_of(
     case: &Case,
     links: &Links,
-    weights: &[i128],
+    weights: &PairTable,
     allowed: &[u32],
     s: u32,
     ranks: &[u32],
@@ -337,7 +405,7 @@ fn pick_of(
 fn pick_all(
     case: &Case,
     links: &Links,
-    weights: &[i128],
+    weights: &PairTable,
     allowed: &[u32],
     ranks: &[u32],
     picks: &mut [u32],
@@ -379,6 +447,7 @@ pub fn attract(
 {
     rows_at_corners();
     let _ = case.w();
+    let weights = &PairTable::of(case, links, weights);
     let mut from = 0;
     let mut to = start(case, ranks, picks);
     let mut rank = 0;

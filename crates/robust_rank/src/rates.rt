@@ -8,9 +8,9 @@ ghost use Rattle.corner_lift.specs.Table.{IsTable};
 ghost use Rattle.robust_rank.specs.Rate.{ArePicks, IsRowRate, IsStateRate, IsFirstFrom, IsLeastRate};
 
 use crate::marks::{NONE, mark_of};
-use crate::ranking::leads_only_below;
-use corner_lift::{Case, Weighed, is_enough, least_into, rows_at_corners};
-use lift_model::Links;
+use crate::ranking::{are_both_below, leads_only_below};
+use corner_lift::{Case, PairTable, Weighed, is_enough, least_into, rows_at_corners};
+use lift_model::{Links, OnlyRow};
 
 /// The greatest rate that there is need of.
 const MOST_RATE: u32 = 126;
@@ -33,11 +33,11 @@ fn doublings(weight: i128, whole: i128, first: u32) -> u32
 }
 
 /// The least rate of the state's choice, but at least `first`.
-#[inline(always)]
+#[inline(never)]
 fn rate_of_row(
     case: &Case,
     links: &Links,
-    weights: &[i128],
+    weights: &PairTable,
     ranks: &[u32],
     s: u32,
     a: u32,
@@ -59,8 +59,42 @@ fn rate_of_row(
     if leads_only_below(case, links, s, a, ranks, rank) {
         return first;
     }
-    let Weighed { sum, whole } = least_into(case, links, weights, s, a, ranks, rank);
+    let Weighed { sum, whole } = least_into(case, links, weights.weights(), s, a, ranks, rank);
     doublings(sum, whole, first)
+}
+
+/// The least rate of the only row of a state, if that is quickly told, but at least `first`.
+#[inline(always)]
+fn rate_of_only(
+    case: &Case,
+    links: &Links,
+    weights: &PairTable,
+    ranks: &[u32],
+    s: u32,
+    first: u32,
+) -> Option<u32>
+    ghost spans: { Spans }
+    requires links { AreLinks case.now.model links.now }
+    requires table { IsTable case.now links.now spans weights.now }
+    requires state { s < length case.now.model.states }
+    requires ranks { length ranks.now ≡ length case.now.model.states }
+    requires leads { LeadsBelow case.now spans (mark ranks.now) (mark ranks.now s) s 0 }
+    requires first { first ≤ most_rate }
+    ensures least { IfSome result (IsFirstFrom (IsRowRate case.now spans ranks.now s 0) first) }
+    ensures most { IfSome result (λ rate. rate ≤ most_rate) }
+{
+    rows_at_corners();
+    let _ = case.w();
+    let rank = mark_of(ranks, s as usize);
+    match links.only_row(s) {
+        OnlyRow::Single(_) => Some(first),
+        OnlyRow::Pair(row) if are_both_below(row, ranks, rank) => Some(first),
+        OnlyRow::Pair(row) => {
+            let row = weights.least_into_of(case, links, s, row, ranks, rank)?;
+            Some(doublings(i128::from(row.sum), i128::from(row.whole), first))
+        }
+        OnlyRow::Other => None,
+    }
 }
 
 /// The least rate of the state's pick, but at least `first`, which it is where the state has no pick.
@@ -68,7 +102,7 @@ fn rate_of_row(
 fn rate_of_state(
     case: &Case,
     links: &Links,
-    weights: &[i128],
+    weights: &PairTable,
     ranks: &[u32],
     picks: &[u32],
     s: u32,
@@ -87,7 +121,10 @@ fn rate_of_state(
     if pick == NONE {
         return first;
     }
-    rate_of_row(case, links, weights, ranks, s, pick, first)
+    match rate_of_only(case, links, weights, ranks, s, first) {
+        Some(rate) => rate,
+        None => rate_of_row(case, links, weights, ranks, s, pick, first),
+    }
 }
 
 /// The least e at which, at each corner of the row that a state picks, the weight into states of lower
@@ -105,6 +142,7 @@ pub fn rate(case: &Case, links: &Links, weights: &[i128], ranks: &[u32], picks: 
     ensures most { result ≤ most_rate }
 {
     let _ = case.w();
+    let weights = &PairTable::of(case, links, weights);
     let mut e = 0;
     for s in 0..case.model().states() {
         e = rate_of_state(case, links, weights, ranks, picks, s, e);

@@ -204,7 +204,7 @@ impl Table<'_> {
         guess_part(
             self.case,
             self.links,
-            self.weights,
+            self.weights.weights(),
             self.extreme,
             Rounding::Down,
             lane,

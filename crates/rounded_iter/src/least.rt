@@ -7,7 +7,7 @@ ghost use Rattle.rounded_iter.specs.Value.{IsLeastValue};
 ghost use Rattle.rounded_iter.specs.Watching.{CanIterate, CanContinue, IsLeastWithin};
 
 use crate::table::Table;
-use corner_lift::{Case, corners_bound_weights, one_at, rows_at_corners};
+use corner_lift::{Case, PairTable, corners_bound_weights, one_at, rows_at_corners};
 use float_guess::Extreme;
 use lift_model::Links;
 
@@ -23,10 +23,11 @@ pub fn least_upper(case: &Case, links: &Links, weights: &[i128], lane: &mut [i64
     rows_at_corners();
     corners_bound_weights();
     let top = one_at(case.w());
+    let pairs = PairTable::of(case, links, weights);
     let table = Table {
         case: &*case,
         links: &*links,
-        weights: &*weights,
+        weights: &pairs,
         extreme: Extreme::Greatest,
         top,
         limit: top,
@@ -47,10 +48,11 @@ pub fn least_value(case: &Case, links: &Links, weights: &[i128], lane: &mut [i64
     rows_at_corners();
     corners_bound_weights();
     let top = one_at(case.w());
+    let pairs = PairTable::of(case, links, weights);
     let table = Table {
         case: &*case,
         links: &*links,
-        weights: &*weights,
+        weights: &pairs,
         extreme: Extreme::Least,
         top,
         limit: top,
@@ -75,10 +77,11 @@ pub fn least_upper_within(
 {
     rows_at_corners();
     corners_bound_weights();
+    let pairs = PairTable::of(case, links, weights);
     let table = Table {
         case: &*case,
         links: &*links,
-        weights: &*weights,
+        weights: &pairs,
         extreme: Extreme::Greatest,
         top: one_at(case.w()),
         limit,
@@ -103,10 +106,11 @@ pub fn least_upper_from(
     rows_at_corners();
     corners_bound_weights();
     let top = one_at(case.w());
+    let pairs = PairTable::of(case, links, weights);
     let table = Table {
         case: &*case,
         links: &*links,
-        weights: &*weights,
+        weights: &pairs,
         extreme: Extreme::Greatest,
         top,
         limit: top,

@@ -10,21 +10,22 @@ ghost use Rattle.rounded_iter.specs.Rising.{CanTry, CanWeigh, CanSolve, IsExtrem
 
 use crate::table::Table;
 use corner_lift::{
-    AtCorner, Weighed, corners_bound_weights, rows_at_corners, table_corner, table_greatest,
-    table_least,
+    AtCorner, LaneSum, Weighed, corners_bound_weights, rows_at_corners, table_corner,
+    table_greatest, table_least,
 };
 use float_guess::Extreme;
+use lift_model::{OnlyRow, PairRow};
 use std::num::{nearest_i64_to_f64, saturating_f64_to_i64};
 
 /// The quotient, rounded up to a whole number, as floats say it: nothing is proved of it.
-#[inline]
+#[inline(always)]
 fn guessed_quotient(sum: i64, whole: i64) -> i64 {
     let low = saturating_f64_to_i64(nearest_i64_to_f64(sum) / nearest_i64_to_f64(whole));
     low.saturating_add(i64::from(low.wrapping_mul(whole) < sum))
 }
 
 /// Whether this multiple of the whole is at least the sum, and the one before it is not.
-#[inline]
+#[inline(always)]
 fn is_first_from(sum: i64, whole: i64, multiple: i64) -> bool
     requires least { pos 0 ≤ℤ sum }
     requires positive { pos 1 ≤ℤ whole }
@@ -34,7 +35,7 @@ fn is_first_from(sum: i64, whole: i64, multiple: i64) -> bool
 }
 
 /// Whether this is the quotient, rounded up to a whole number.
-#[inline]
+#[inline(always)]
 fn is_rounded_up(sum: i64, whole: i64, quotient: i64) -> bool
     requires least { pos 0 ≤ℤ sum }
     requires positive { pos 1 ≤ℤ whole }
@@ -47,7 +48,7 @@ fn is_rounded_up(sum: i64, whole: i64, quotient: i64) -> bool
 }
 
 /// The quotient, rounded up to a whole number, where floats find it, which takes less time than a division.
-#[inline]
+#[inline(always)]
 fn short_quotient(sum: i64, whole: i64) -> Option<i64>
     requires least { pos 0 ≤ℤ sum }
     requires positive { pos 1 ≤ℤ whole }
@@ -62,7 +63,7 @@ fn short_quotient(sum: i64, whole: i64) -> Option<i64>
 }
 
 /// The same where 64 bits hold the numbers.
-#[inline]
+#[inline(always)]
 fn quick_quotient(sum: i128, whole: i128) -> Option<i64>
     requires least { pos 0 ≤ℤ sum }
     requires positive { pos 1 ≤ℤ whole }
@@ -110,7 +111,7 @@ fn times(number: i64, weight: i128) -> i128
 }
 
 /// Whether the one number is at most the other.
-#[inline]
+#[inline(always)]
 fn is_at_most(sum: i64, most: i64) -> bool
     ensures within { IsTrue result → sum ≤ℤ most }
     ensures above { IsFalse result → most <ℤ sum }
@@ -119,7 +120,7 @@ fn is_at_most(sum: i64, most: i64) -> bool
 }
 
 /// Whether a number times the whole is at least the sum; none where 64 bits don't hold the product.
-#[inline]
+#[inline(always)]
 fn reaches(number: i64, sum: i64, whole: i64) -> Option<bool>
     ensures enough { IfSome result (λ yes. IsTrue yes → sum ≤ℤ (number *ℤ whole)) }
     ensures less { IfSome result (λ yes. IsFalse yes → (number *ℤ whole) <ℤ sum) }
@@ -132,7 +133,7 @@ fn reaches(number: i64, sum: i64, whole: i64) -> Option<bool>
 
 /// The least number from this one on that times the whole is at least the sum, where 64 bits hold the numbers and
 /// floats find it.
-#[inline]
+#[inline(always)]
 fn short_from(number: i64, sum: i64, whole: i64) -> Option<i64>
     requires least { pos 0 ≤ℤ sum }
     requires positive { pos 1 ≤ℤ whole }
@@ -145,8 +146,39 @@ fn short_from(number: i64, sum: i64, whole: i64) -> Option<i64>
     }
 }
 
+/// The quotient of a row's sum by its whole, rounded up to a whole number, where the row's guess finds it.
+#[inline(always)]
+fn lane_quotient(row: LaneSum) -> Option<i64>
+    requires least { pos 0 ≤ℤ row.sum }
+    requires positive { pos 1 ≤ℤ row.whole }
+    ensures { IfSome result (λ quotient. IsRoundedUp row.sum row.whole quotient) }
+{
+    let guess = row.guess(row.sum.wrapping_sub(1)).wrapping_add(1);
+    let guess = guess.wrapping_add(i64::from(guess.wrapping_mul(row.whole) < row.sum));
+    if is_rounded_up(row.sum, row.whole, guess) {
+        Some(guess)
+    } else {
+        None
+    }
+}
+
+/// The least number from this one on that times the row's whole is at least its sum, where 64 bits hold the numbers and
+/// the row's guess finds it.
+#[inline(always)]
+fn lane_from(number: i64, row: LaneSum) -> Option<i64>
+    requires least { pos 0 ≤ℤ row.sum }
+    requires positive { pos 1 ≤ℤ row.whole }
+    ensures { IfSome result (λ v. IsFirstFrom number row.sum row.whole v) }
+{
+    if reaches(number, row.sum, row.whole)? {
+        Some(number)
+    } else {
+        lane_quotient(row)
+    }
+}
+
 /// The same of numbers that 64 bits may not hold.
-#[inline]
+#[inline(always)]
 fn quick_from(number: i64, sum: i128, whole: i128) -> Option<i64>
     requires least { pos 0 ≤ℤ sum }
     requires positive { pos 1 ≤ℤ whole }
@@ -212,7 +244,7 @@ fn more_extreme(extreme: Extreme, a: i64, b: i64) -> i64
 }
 
 /// Whether a state is one of a row's targets.
-#[inline]
+#[inline(always)]
 fn leads_to(targets: &[u32], s: u32) -> bool
     ensures { IsFalse result → Contains targets.now s → ⊥ }
 {
@@ -225,7 +257,7 @@ fn leads_to(targets: &[u32], s: u32) -> bool
 }
 
 /// The target of a row that has only one.
-#[inline]
+#[inline(always)]
 fn only_target(targets: &[u32]) -> Option<u32>
     ensures { IfSome result (λ t. targets.now ≡ t ∷ []) }
 {
@@ -238,7 +270,7 @@ fn only_target(targets: &[u32]) -> Option<u32>
 
 impl Table<'_> {
     /// The whole of a row, and its weighted sum at the corner that counts.
-    #[inline]
+    #[inline(always)]
     fn weigh(&self, lane: &[i64], s: u32, a: u32) -> Weighed
         ghost spans: { Spans }
         requires { CanTry self.now spans lane.now s a }
@@ -247,13 +279,42 @@ impl Table<'_> {
         ensures whole { IsWhole self.now.case s a result.whole }
     {
         match self.extreme {
-            Extreme::Greatest => table_greatest(self.case, self.links, self.weights, s, a, lane),
-            Extreme::Least => table_least(self.case, self.links, self.weights, s, a, lane),
+            Extreme::Greatest => table_greatest(
+                self.case,
+                self.links,
+                self.weights.weights(),
+                s,
+                a,
+                lane,
+            ),
+            Extreme::Least => table_least(
+                self.case,
+                self.links,
+                self.weights.weights(),
+                s,
+                a,
+                lane,
+            ),
+        }
+    }
+
+    /// The same of a row of two entries that is quickly looked up.
+    #[inline(always)]
+    fn weigh_pair(&self, lane: &[i64], s: u32, a: u32) -> Option<LaneSum>
+        ghost spans: { Spans }
+        requires { CanTry self.now spans lane.now s a }
+        ensures extreme { IfSome result (λ row. IsExtreme self.now.extreme (row_value self.now.case spans s a lane.now)
+            (corner_count self.now.case s a) row.sum) }
+        ensures whole { IfSome result (λ row. IsWhole self.now.case s a row.whole) }
+    {
+        match self.extreme {
+            Extreme::Greatest => self.weights.greatest(self.case, self.links, s, a, lane),
+            Extreme::Least => self.weights.least(self.case, self.links, s, a, lane),
         }
     }
 
     /// The targets of a row.
-    #[inline]
+    #[inline(always)]
     fn targets(&self, s: u32, a: u32) -> &[u32]
         requires links { AreLinks self.now.case.model self.now.links }
         requires row { HasChoice self.now.case.model s a }
@@ -275,7 +336,7 @@ impl Table<'_> {
         let AtCorner { sum, whole, own } = table_corner(
             self.case,
             self.links,
-            self.weights,
+            self.weights.weights(),
             s,
             a,
             corner,
@@ -305,6 +366,75 @@ impl Table<'_> {
         number
     }
 
+    /// The least number from the state's own on that is enough for a row without a self loop.
+    #[inline(never)]
+    fn enough_for_row(&self, lane: &[i64], s: u32, a: u32) -> i64
+        ghost spans: { Spans }
+        requires { CanTryOther self.now spans lane.now s a }
+        ensures { IsSolved self.now.extreme self.now.case spans lane.now s a (corner_count self.now.case s a) result }
+    {
+        rows_at_corners();
+        corners_bound_weights();
+        let number = lane[s as usize];
+        let Weighed { sum, whole } = self.weigh(lane, s, a);
+        least_from(number, sum, whole)
+    }
+
+    /// The same of a row of two entries that is quickly looked up.
+    #[inline(always)]
+    fn enough_for_pair(&self, lane: &[i64], s: u32, a: u32) -> Option<i64>
+        ghost spans: { Spans }
+        requires { CanTryOther self.now spans lane.now s a }
+        ensures { IfSome result (IsSolved self.now.extreme self.now.case spans lane.now s a (corner_count self.now.case s a)) }
+    {
+        rows_at_corners();
+        corners_bound_weights();
+        let number = lane[s as usize];
+        let row = self.weigh_pair(lane, s, a)?;
+        lane_from(number, row)
+    }
+
+    /// The same of the only row of a state, which has two entries, if it is quickly looked up.
+    #[inline(always)]
+    fn enough_for_only_pair(&self, lane: &[i64], s: u32, row: PairRow) -> Option<i64>
+        ghost spans: { Spans }
+        requires can { CanTry self.now spans lane.now s 0 }
+        requires row { IsPairRow self.now.case.model self.now.links s row }
+        ensures { IfSome result (IsSolved self.now.extreme self.now.case spans lane.now s 0 (corner_count self.now.case s 0)) }
+    {
+        rows_at_corners();
+        corners_bound_weights();
+        let number = lane[s as usize];
+        let row = match self.extreme {
+            Extreme::Greatest => self
+                .weights
+                .greatest_of(self.case, self.links, s, row, lane),
+            Extreme::Least => self.weights.least_of(self.case, self.links, s, row, lane),
+        }?;
+        lane_from(number, row)
+    }
+
+    /// The least number from the state's own on that is enough for the only row of a state, if that is quickly
+    /// looked up.
+    #[inline(always)]
+    pub(crate) fn enough_for_only(&self, lane: &[i64], s: u32) -> Option<i64>
+        ghost spans: { Spans }
+        requires can { CanTryOnly self.now spans lane.now s }
+        ensures { IfSome result (SolvesOnly self.now spans lane.now s) }
+    {
+        let number = lane[s as usize];
+        if number == self.top {
+            return None;
+        }
+        match self.links.only_row(s) {
+            OnlyRow::Single(target) => {
+                Some(more_extreme(Extreme::Greatest, number, lane[target as usize]))
+            }
+            OnlyRow::Pair(row) => self.enough_for_only_pair(lane, s, row),
+            OnlyRow::Other => None,
+        }
+    }
+
     /// The least number from the state's own on that is enough for a row with these targets, by their
     /// weights.
     #[inline(always)]
@@ -313,14 +443,13 @@ impl Table<'_> {
         requires { CanWeigh self.now spans lane.now s a targets.now }
         ensures { IsSolved self.now.extreme self.now.case spans lane.now s a (corner_count self.now.case s a) result }
     {
-        rows_at_corners();
-        corners_bound_weights();
         if leads_to(targets, s) {
             return self.solve(lane, s, a);
         }
-        let number = lane[s as usize];
-        let Weighed { sum, whole } = self.weigh(lane, s, a);
-        least_from(number, sum, whole)
+        match self.enough_for_pair(lane, s, a) {
+            Some(number) => number,
+            None => self.enough_for_row(lane, s, a),
+        }
     }
 
     /// The least number from the state's own on that is enough for a row. A number that is `top`, as a

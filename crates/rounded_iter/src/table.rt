@@ -1,4 +1,4 @@
-use corner_lift::Case;
+use corner_lift::{Case, PairTable};
 use float_guess::Extreme;
 use lift_model::Links;
 
@@ -19,7 +19,7 @@ pub(crate) enum Ended {
 pub(crate) struct Table<'a> {
     pub(crate) case: &'a Case<'a>,
     pub(crate) links: &'a Links,
-    pub(crate) weights: &'a [i128],
+    pub(crate) weights: &'a PairTable<'a>,
     pub(crate) extreme: Extreme,
     pub(crate) top: i64,
     pub(crate) limit: i64,

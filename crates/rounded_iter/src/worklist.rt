@@ -12,7 +12,7 @@ use crate::table::{Ended, Table};
 use corner_lift::{corners_bound_weights, rows_at_corners};
 
 /// Flags a position that lies before the frontier, but for one.
-#[inline]
+#[inline(always)]
 fn set_flag(work: &mut [u32], position: u32, but: u32, frontier: u32)
     requires { position < length work.old }
     ensures kept { (j : ℕ) → flag work.new j ≡ 0 → flag work.old j ≡ 0 }
@@ -24,7 +24,7 @@ fn set_flag(work: &mut [u32], position: u32, but: u32, frontier: u32)
 }
 
 /// Takes away the flag of a position, and tells whether there was one.
-#[inline]
+#[inline(always)]
 fn take_flag(work: &mut [u32], position: u32) -> bool
     requires { position < length work.old }
     ensures clear { flag work.new position ≡ 0 }
@@ -39,8 +39,20 @@ fn take_flag(work: &mut [u32], position: u32) -> bool
     true
 }
 
+/// Writes the number of a state, and tells whether it is another one.
+#[inline(always)]
+fn write_number(lane: &mut [i64], s: u32, number: i64) -> bool
+    requires { s < length lane.old }
+    ensures written { lane.new ≡ slice_set lane.old s number }
+    ensures same { IsFalse result → number ≡ slice_index_or lane.old s (pos 0) }
+{
+    let is_other = number != lane[s as usize];
+    lane[s as usize] = number;
+    is_other
+}
+
 /// Whether no position is flagged.
-#[inline]
+#[inline(always)]
 fn is_clear(work: &[u32]) -> bool
     ensures { IsTrue result → (j : ℕ) → j < length work.now → flag work.now j ≡ 0 }
 {
@@ -52,7 +64,7 @@ fn is_clear(work: &[u32]) -> bool
 }
 
 /// Whether more passes were made than there is patience for.
-#[inline]
+#[inline(always)]
 fn is_over(passes: u32, patience: Option<u32>) -> bool
     ensures { IsTrue result → IsSome patience }
 {
@@ -64,7 +76,7 @@ fn is_over(passes: u32, patience: Option<u32>) -> bool
 
 impl Table<'_> {
     /// The number of a state's choices, by the links, whose lists lie closer together than the model's.
-    #[inline]
+    #[inline(always)]
     fn choice_count(&self, s: u32) -> u32
         requires case { IsCase self.now.case }
         requires links { AreLinks self.now.case.model self.now.links }
@@ -84,9 +96,7 @@ impl Table<'_> {
         rows_at_corners();
         corners_bound_weights();
         let number = self.enough(lane, s, a);
-        let rose = number != lane[s as usize];
-        lane[s as usize] = number;
-        rose
+        write_number(lane, s, number)
     }
 
     /// Raises the number of a state to what is enough for all its choices, and tells whether it rose.
@@ -114,16 +124,15 @@ impl Table<'_> {
         requires { CanRaise self.now run lane.old s }
         ensures { IsRaisedState self.now run lane.old lane.new s result }
     {
-        if self.choice_count(s) == 1 {
-            self.raise_choice(lane, s, 0)
-        } else {
-            self.raise(lane, s)
+        match self.enough_for_only(lane, s) {
+            Some(number) => write_number(lane, s, number),
+            None => self.raise(lane, s),
         }
     }
 
     /// Flags the states that lead to the one at a position, as far as they stand before the frontier.
     /// The state itself needs no flag: what was raised is enough, with its self loops.
-    #[inline]
+    #[inline(always)]
     fn flag_before(&self, work: &mut [u32], s: u32, position: u32, frontier: u32)
         requires { CanFlag self.now work.old s position }
         ensures { IsFlagged self.now work.old work.new s frontier }
@@ -134,7 +143,7 @@ impl Table<'_> {
     }
 
     /// Raises the state at a position, and where it rose, flags the states that lead to it.
-    #[inline]
+    #[inline(always)]
     fn visit(
         &self,
         lane: &mut [i64],
@@ -147,7 +156,7 @@ impl Table<'_> {
         requires { CanVisit self.now run lane.old work.old s position frontier }
         ensures { IsVisited self.now run lane.old lane.new work.old work.new frontier result }
     {
-        let rose = self.raise(lane, s);
+        let rose = self.raise_lone(lane, s);
         if rose {
             self.flag_before(work, s, position, frontier);
         }
@@ -155,7 +164,7 @@ impl Table<'_> {
     }
 
     /// Visits the state at a position, where it is flagged, and tells whether it rose.
-    #[inline]
+    #[inline(always)]
     fn turn(&self, lane: &mut [i64], work: &mut [u32], position: u32, frontier: u32) -> bool
         ghost run: { Run }
         requires { CanTurn self.now run lane.old work.old position frontier }
@@ -187,7 +196,7 @@ impl Table<'_> {
     }
 
     /// Whether the initial state's number is above the limit.
-    #[inline]
+    #[inline(always)]
     pub(crate) fn is_past(&self, lane: &[i64]) -> bool
         requires { self.now.case.model.init < length lane.now }
         ensures past { IsTrue result → self.now.limit <ℤ number lane.now self.now.case.model.init }
@@ -224,7 +233,7 @@ impl Table<'_> {
     }
 
     /// The same for a component whose states were visited once; a single state needs no more.
-    #[inline]
+    #[inline(always)]
     fn settle_component(
         &self,
         lane: &mut [i64],
@@ -247,7 +256,7 @@ impl Table<'_> {
 
     /// Visits the state at a position, the first of those that weren't visited. Where no state before it
     /// leads to it, none needs a flag.
-    #[inline]
+    #[inline(always)]
     fn visit_first(&self, lane: &mut [i64], work: &mut [u32], position: u32)
         ghost run: { Run }
         requires { CanGoOn self.now run lane.old work.old position }
@@ -265,7 +274,7 @@ impl Table<'_> {
     }
 
     /// Whether a component ends before this position.
-    #[inline]
+    #[inline(always)]
     pub(crate) fn is_end(&self, position: u32) -> bool {
         let before = position.saturating_sub(1) as usize;
         self.links.component_ends().get(before).copied() == Some(position)

@@ -1,0 +1,490 @@
+//! The table of a rectangle with what is quickly looked up of its rows of two entries: a sum over the corners then takes
+//! two products of 64 bits, as it grows with the weight of the entry whose target has the greater number.
+
+ghost use Rattle.std.specs.Prelude.{◌≡◌, ◌+◌, ◌*◌, ◌^◌, ◌<◌, ◌≤◌, ◌-◌, ◌≤ℤ◌, ◌<ℤ◌, ◌*ℤ◌, ◌+ℤ◌, ◌-ℤ◌, ℕ, List, ℤ, pos, length, All, IfSome, IsTrue};
+ghost use Rattle.lift_grid.specs.Rectangle.{Spans};
+ghost use Rattle.lift_model.specs.Model.{row_at};
+ghost use Rattle.lift_model.specs.Links.{ArePlaces};
+ghost use Rattle.lift_model.specs.OnlyRow.{IsPairRow};
+ghost use Rattle.corner_lift.specs.Corner.{corner_sum};
+ghost use Rattle.corner_lift.specs.Certificate.{AreNumbers, mark, ranked_below};
+ghost use Rattle.corner_lift.specs.Case.{IsGreatest, IsLeast, BoundsAbove, BoundsBelow, row_value, corner_count, most_precision};
+ghost use Rattle.corner_lift.specs.Table.{CanRead, IsWhole};
+ghost use Rattle.corner_lift.specs.Pairs.{AreCorners, HasLane, HasPair, IsGreatestFirst, IsGreatestPair, IsLeastFirst, IsLeastPair, one_where, pair_whole};
+ghost use Rattle.corner_lift.specs.Paired.{IsPairOf, IsNoneOrPair, IsLaneOf};
+
+use crate::case::Case;
+use crate::laws::premises;
+use crate::pairs::{greatest_first, is_lower, least_first, rise_of};
+use crate::table::read_row;
+use crate::within::is_below;
+use lift_model::{Links, PairRow, RowPlace};
+
+/// How many rows of two entries are looked up at most, of those whose weights come first.
+const PLACES: usize = 64;
+
+/// What is looked up of a row of two entries.
+#[derive(Clone, Copy)]
+pub(crate) struct Pair {
+    /// Where the table has its weights.
+    at: u32,
+    /// At how many corners it has them. 0: there is no such row.
+    corners: u32,
+    /// What all weights here are given as parts of, at least 1.
+    scale: i64,
+    /// The least weight of the first entry over the corners.
+    least: i64,
+    /// The greatest.
+    greatest: i64,
+    /// What both entries weigh together, at each corner.
+    whole: i64,
+    /// 2 to the 64, less 1, over the whole. Nothing is promised of it.
+    inverse: u64,
+}
+
+/// In place of a row that isn't looked up.
+const NO_PAIR: Pair = Pair {
+    at: 0,
+    corners: 0,
+    scale: 1,
+    least: 0,
+    greatest: 0,
+    whole: 0,
+    inverse: 0,
+};
+
+/// A weighted sum of a row of two entries, and its whole, in 64 bits: both may have been divided by the same number.
+#[derive(Clone, Copy)]
+pub struct LaneSum {
+    /// The sum.
+    pub sum: i64,
+    /// The whole, at least 1.
+    pub whole: i64,
+    /// What both were divided by, at least 1.
+    pub scale: i64,
+    /// 2 to the 64, less 1, over the whole. Nothing is promised of it.
+    pub inverse: u64,
+}
+
+impl LaneSum {
+    /// How often the whole goes into a number from 0 on, or 1 less. Nothing is promised of it, so who asks tests it.
+    #[inline(always)]
+    pub fn guess(self, number: i64) -> i64 {
+        ((u128::from(number as u64) * u128::from(self.inverse)) >> 64) as i64
+    }
+}
+
+/// The table of a rectangle, with what is quickly looked up of the rows of two entries that come first.
+#[derive(Drop)]
+pub struct PairTable<'a> {
+    weights: &'a [i128],
+    pairs: [Pair; PLACES],
+}
+
+impl<'a> std::marker::Model for PairTable<'a> {
+    ghost use Rattle.std.specs.Prelude.{List, ℤ, All};
+    ghost use Rattle.corner_lift.specs.Paired.{IsNoneOrPair};
+
+    ghost Value = { List ℤ };
+
+    ghost view = { λ t. t.weights.now };
+
+    ghost invariant = { λ t. All (IsNoneOrPair t.weights.now) t.pairs };
+}
+
+/// What both entries weigh together at the first corner, if 64 bits hold it.
+fn whole_of(block: &[i128]) -> Option<i64>
+    requires { HasPair block.now 0 }
+    ensures { IfSome result (λ whole. whole ≡ pair_whole block.now) }
+{
+    let whole = block[0].checked_add(block[1])?;
+    i64::try_from(whole).ok()
+}
+
+/// A common divisor of two numbers: the greatest one, but that isn't promised.
+fn common_divisor(a: i64, b: i64) -> i64 {
+    let mut a = a.unsigned_abs();
+    let mut b = b.unsigned_abs();
+    while b != 0 {
+        let rest = a % b;
+        a = b;
+        b = rest;
+    }
+    a as i64
+}
+
+/// What a number is over a divisor of it.
+fn divided(number: i64, divisor: i64) -> Option<i64>
+    ensures { IfSome result (λ part. number ≡ part *ℤ divisor) }
+{
+    let part = number.checked_div(divisor)?;
+    if part.checked_mul(divisor) == Some(number) {
+        Some(part)
+    } else {
+        None
+    }
+}
+
+/// What weights are divided by: 1 where sums fit 64 bits without that.
+fn scale_of(least: i64, greatest: i64, whole: i64, w: u32) -> i64
+    requires { w ≤ most_precision }
+    ensures { pos 1 ≤ℤ result }
+{
+    if is_short(whole, w) {
+        return 1;
+    }
+    common_divisor(whole, common_divisor(least, greatest)).max(1)
+}
+
+/// What is looked up of the row of two entries that has this block of weights, if 64 bits hold it.
+fn pair_of(at: u32, corners: u32, block: &[i128], w: u32) -> Option<Pair>
+    requires block { HasPair block.now 0 }
+    requires precision { w ≤ most_precision }
+    ensures place { IfSome result (λ p. (p.at ≡ at) × (p.corners ≡ corners)) }
+    ensures pair { IfSome result (IsLaneOf block.now) }
+{
+    let least = i64::try_from(least_first(block)).ok()?;
+    let greatest = i64::try_from(greatest_first(block)).ok()?;
+    let whole = whole_of(block)?;
+    let scale = scale_of(least, greatest, whole, w);
+    let least = divided(least, scale)?;
+    let greatest = divided(greatest, scale)?;
+    let whole = divided(whole, scale)?;
+    let inverse = u64::MAX.checked_div(whole as u64)?;
+    Some(Pair {
+        at,
+        corners,
+        scale,
+        least,
+        greatest,
+        whole,
+        inverse,
+    })
+}
+
+/// The same of the row at that place, if it has two entries.
+fn pair_at(weights: &[i128], place: RowPlace, w: u32) -> Option<Pair>
+    requires { w ≤ most_precision }
+    ensures { IfSome result (IsPairOf weights.now) }
+{
+    if place.count != 2 || place.corners == 0 {
+        return None;
+    }
+    let at = place.weights as usize;
+    let end = at + 2 * place.corners as usize;
+    if end > weights.len() {
+        return None;
+    }
+    pair_of(place.weights, place.corners, &weights[at..end], w)
+}
+
+/// Where it is looked up. Of rows of two entries with as many corners, 64 in a row have places of their own.
+#[inline(always)]
+fn slot(at: u32) -> usize
+    ensures { result < 64 }
+{
+    ((at >> 1) ^ (at >> 7)) as usize % PLACES
+}
+
+/// Whether the whole leaves `w` of 63 bits free.
+#[inline(always)]
+fn is_short(whole: i64, w: u32) -> bool
+    requires { w ≤ most_precision }
+    ensures { IsTrue result → whole <ℤ pos (2 ^ (63 - w)) }
+{
+    whole < 1 << (63 - w)
+}
+
+/// What a row of two entries sums to where the first one has that weight, in 64 bits.
+#[inline(always)]
+fn lane_risen(whole: i64, weight: i64, first: i64, second: i64) -> i64
+    requires weight { (pos 0 ≤ℤ weight) × (weight ≤ℤ whole) }
+    requires first { HasLane whole first }
+    requires second { HasLane whole second }
+    ensures { result ≡ (whole *ℤ second) +ℤ (weight *ℤ (first -ℤ second)) }
+{
+    whole * second + weight * rise_of(first, second)
+}
+
+/// The greatest sum of two entries over the corners, by the least and the greatest weight of the first one.
+#[inline(always)]
+fn greatest_sum(whole: i64, least: i64, greatest: i64, first: i64, second: i64) -> i64
+    ghost pair: { List ℤ × ℤ }
+    requires scale { pos 1 ≤ℤ pair.1 }
+    requires corners { AreCorners pair.0 (whole *ℤ pair.1) }
+    requires least { IsLeastFirst pair.0 (least *ℤ pair.1) }
+    requires greatest { IsGreatestFirst pair.0 (greatest *ℤ pair.1) }
+    requires first { HasLane whole first }
+    requires second { HasLane whole second }
+    ensures { IsGreatestPair pair.0 first second (result *ℤ pair.1) }
+{
+    if is_lower(first, second) {
+        return lane_risen(whole, least, first, second);
+    }
+    lane_risen(whole, greatest, first, second)
+}
+
+/// The least sum of two entries over the corners, by the least and the greatest weight of the first one.
+#[inline(always)]
+fn least_sum(whole: i64, least: i64, greatest: i64, first: i64, second: i64) -> i64
+    ghost pair: { List ℤ × ℤ }
+    requires scale { pos 1 ≤ℤ pair.1 }
+    requires corners { AreCorners pair.0 (whole *ℤ pair.1) }
+    requires least { IsLeastFirst pair.0 (least *ℤ pair.1) }
+    requires greatest { IsGreatestFirst pair.0 (greatest *ℤ pair.1) }
+    requires first { HasLane whole first }
+    requires second { HasLane whole second }
+    ensures { IsLeastPair pair.0 first second (result *ℤ pair.1) }
+{
+    if is_lower(first, second) {
+        return lane_risen(whole, greatest, first, second);
+    }
+    lane_risen(whole, least, first, second)
+}
+
+/// The least weight over the corners of those of two entries that count, by the least and the greatest weight of the
+/// first one.
+#[inline(always)]
+fn counted_sum(whole: i64, least: i64, greatest: i64, first: bool, second: bool) -> i64
+    ghost pair: { List ℤ × ℤ }
+    requires scale { pos 1 ≤ℤ pair.1 }
+    requires corners { AreCorners pair.0 (whole *ℤ pair.1) }
+    requires least { IsLeastFirst pair.0 (least *ℤ pair.1) }
+    requires greatest { IsGreatestFirst pair.0 (greatest *ℤ pair.1) }
+    ensures { IsLeastPair pair.0 (one_where first) (one_where second) (result *ℤ pair.1) }
+{
+    match (first, second) {
+        (true, true) => whole,
+        (true, false) => least,
+        (false, true) => whole - greatest,
+        (false, false) => 0,
+    }
+}
+
+impl<'a> PairTable<'a> {
+    /// The table of a rectangle, with its first rows of two entries. Takes no memory.
+    pub fn of(case: &Case, links: &Links, weights: &'a [i128]) -> PairTable<'a>
+        requires { ArePlaces case.now.model links.now }
+        ensures { result ≡ weights.now }
+    {
+        let w = case.w();
+        let mut pairs = [NO_PAIR; PLACES];
+        for first in links.firsts().iter().take(PLACES) {
+            let place = links.place(first.state, first.choice);
+            if let Some(pair) = pair_at(weights, place, w) {
+                pairs[slot(place.weights)] = pair;
+            }
+        }
+        PairTable { weights, pairs }
+    }
+
+    /// The weights.
+    #[inline(always)]
+    pub fn weights(&self) -> &[i128]
+        ensures { result.now ≡ self.now }
+    {
+        self.weights
+    }
+
+    /// What is looked up of the row of two entries that stands at that place, if 64 bits hold its sums.
+    #[inline(always)]
+    fn pair(&self, at: u32, corners: u32, w: u32) -> Option<Pair>
+        requires some { 1 ≤ corners }
+        requires precision { w ≤ most_precision }
+        ensures place { IfSome result (λ p. (p.at ≡ at) × (p.corners ≡ corners)) }
+        ensures pair { IfSome result (IsPairOf self.now) }
+        ensures short { IfSome result (λ p. p.whole <ℤ pos (2 ^ (63 - w))) }
+    {
+        let pair = self.pairs[slot(at)];
+        if pair.at == at && pair.corners == corners && is_short(pair.whole, w) {
+            return Some(pair);
+        }
+        None
+    }
+
+    /// The greatest sum of a row over its corners, if it has two entries and is quickly looked up.
+    #[inline(always)]
+    pub fn greatest(
+        &self,
+        case: &Case,
+        links: &Links,
+        s: u32,
+        a: u32,
+        vec: &[i64],
+    ) -> Option<LaneSum>
+        ghost spans: { Spans }
+        requires { CanRead case.now links.now spans self.now s a × AreNumbers case.now vec.now }
+        ensures greatest { IfSome result (λ row. IsGreatest (row_value case.now spans s a vec.now) (corner_count case.now s a) (row.sum *ℤ row.scale)) }
+        ensures bound { IfSome result (λ row. BoundsAbove case.now spans s a vec.now (row.sum *ℤ row.scale)) }
+        ensures whole { IfSome result (λ row. (pos 1 ≤ℤ row.whole) × ((pos 1 ≤ℤ row.scale) × IsWhole case.now s a (row.whole *ℤ row.scale))) }
+    {
+        premises();
+        let w = case.w();
+        let (place, targets) = read_row(case, links, self.weights, s, a);
+        if targets.len() != 2 {
+            return None;
+        }
+        let pair = self.pair(place.weights, place.corners, w)?;
+        let first = vec[targets[0] as usize];
+        let second = vec[targets[1] as usize];
+        let sum = greatest_sum(pair.whole, pair.least, pair.greatest, first, second);
+        Some(LaneSum {
+            sum,
+            whole: pair.whole,
+            scale: pair.scale,
+            inverse: pair.inverse,
+        })
+    }
+
+    /// The same of the only row of a state that has two entries.
+    #[inline(always)]
+    pub fn greatest_of(
+        &self,
+        case: &Case,
+        links: &Links,
+        s: u32,
+        row: PairRow,
+        vec: &[i64],
+    ) -> Option<LaneSum>
+        ghost spans: { Spans }
+        requires { CanRead case.now links.now spans self.now s 0 × AreNumbers case.now vec.now }
+        requires row { IsPairRow case.now.model links.now s row }
+        ensures greatest { IfSome result (λ row. IsGreatest (row_value case.now spans s 0 vec.now) (corner_count case.now s 0) (row.sum *ℤ row.scale)) }
+        ensures bound { IfSome result (λ row. BoundsAbove case.now spans s 0 vec.now (row.sum *ℤ row.scale)) }
+        ensures whole { IfSome result (λ row. (pos 1 ≤ℤ row.whole) × ((pos 1 ≤ℤ row.scale) × IsWhole case.now s 0 (row.whole *ℤ row.scale))) }
+    {
+        premises();
+        let pair = self.pair(row.weights, row.corners, case.w())?;
+        let first = vec[row.first as usize];
+        let second = vec[row.second as usize];
+        let sum = greatest_sum(pair.whole, pair.least, pair.greatest, first, second);
+        Some(LaneSum {
+            sum,
+            whole: pair.whole,
+            scale: pair.scale,
+            inverse: pair.inverse,
+        })
+    }
+
+    /// The least sum of a row over its corners, if it has two entries and is quickly looked up.
+    #[inline(always)]
+    pub fn least(&self, case: &Case, links: &Links, s: u32, a: u32, vec: &[i64]) -> Option<LaneSum>
+        ghost spans: { Spans }
+        requires { CanRead case.now links.now spans self.now s a × AreNumbers case.now vec.now }
+        ensures least { IfSome result (λ row. IsLeast (row_value case.now spans s a vec.now) (corner_count case.now s a) (row.sum *ℤ row.scale)) }
+        ensures bound { IfSome result (λ row. BoundsBelow case.now spans s a vec.now (row.sum *ℤ row.scale)) }
+        ensures whole { IfSome result (λ row. (pos 1 ≤ℤ row.whole) × ((pos 1 ≤ℤ row.scale) × IsWhole case.now s a (row.whole *ℤ row.scale))) }
+    {
+        premises();
+        let w = case.w();
+        let (place, targets) = read_row(case, links, self.weights, s, a);
+        if targets.len() != 2 {
+            return None;
+        }
+        let pair = self.pair(place.weights, place.corners, w)?;
+        let first = vec[targets[0] as usize];
+        let second = vec[targets[1] as usize];
+        let sum = least_sum(pair.whole, pair.least, pair.greatest, first, second);
+        Some(LaneSum {
+            sum,
+            whole: pair.whole,
+            scale: pair.scale,
+            inverse: pair.inverse,
+        })
+    }
+
+    /// The same of the only row of a state that has two entries.
+    #[inline(always)]
+    pub fn least_of(
+        &self,
+        case: &Case,
+        links: &Links,
+        s: u32,
+        row: PairRow,
+        vec: &[i64],
+    ) -> Option<LaneSum>
+        ghost spans: { Spans }
+        requires { CanRead case.now links.now spans self.now s 0 × AreNumbers case.now vec.now }
+        requires row { IsPairRow case.now.model links.now s row }
+        ensures least { IfSome result (λ row. IsLeast (row_value case.now spans s 0 vec.now) (corner_count case.now s 0) (row.sum *ℤ row.scale)) }
+        ensures bound { IfSome result (λ row. BoundsBelow case.now spans s 0 vec.now (row.sum *ℤ row.scale)) }
+        ensures whole { IfSome result (λ row. (pos 1 ≤ℤ row.whole) × ((pos 1 ≤ℤ row.scale) × IsWhole case.now s 0 (row.whole *ℤ row.scale))) }
+    {
+        premises();
+        let pair = self.pair(row.weights, row.corners, case.w())?;
+        let first = vec[row.first as usize];
+        let second = vec[row.second as usize];
+        let sum = least_sum(pair.whole, pair.least, pair.greatest, first, second);
+        Some(LaneSum {
+            sum,
+            whole: pair.whole,
+            scale: pair.scale,
+            inverse: pair.inverse,
+        })
+    }
+
+    /// The least weight of a row into states of rank below `below` over its corners, if it has two entries and is
+    /// quickly looked up.
+    #[inline(always)]
+    pub fn least_into(
+        &self,
+        case: &Case,
+        links: &Links,
+        s: u32,
+        a: u32,
+        ranks: &[u32],
+        below: u32,
+    ) -> Option<LaneSum>
+        ghost spans: { Spans }
+        requires { CanRead case.now links.now spans self.now s a × (length ranks.now ≡ length case.now.model.states) }
+        ensures least { IfSome result (λ row. IsLeast (λ c. corner_sum case.now.d spans (row_at case.now.model s a) c (ranked_below (mark ranks.now) below))
+            (corner_count case.now s a) (row.sum *ℤ row.scale)) }
+        ensures whole { IfSome result (λ row. (pos 1 ≤ℤ row.whole) × ((pos 1 ≤ℤ row.scale) × IsWhole case.now s a (row.whole *ℤ row.scale))) }
+    {
+        let w = case.w();
+        let (place, targets) = read_row(case, links, self.weights, s, a);
+        if targets.len() != 2 {
+            return None;
+        }
+        let pair = self.pair(place.weights, place.corners, w)?;
+        let first = is_below(ranks, targets[0], below);
+        let second = is_below(ranks, targets[1], below);
+        let sum = counted_sum(pair.whole, pair.least, pair.greatest, first, second);
+        Some(LaneSum {
+            sum,
+            whole: pair.whole,
+            scale: pair.scale,
+            inverse: pair.inverse,
+        })
+    }
+
+    /// The same of the only row of a state that has two entries.
+    #[inline(always)]
+    pub fn least_into_of(
+        &self,
+        case: &Case,
+        links: &Links,
+        s: u32,
+        row: PairRow,
+        ranks: &[u32],
+        below: u32,
+    ) -> Option<LaneSum>
+        ghost spans: { Spans }
+        requires { CanRead case.now links.now spans self.now s 0 × (length ranks.now ≡ length case.now.model.states) }
+        requires row { IsPairRow case.now.model links.now s row }
+        ensures least { IfSome result (λ row. IsLeast (λ c. corner_sum case.now.d spans (row_at case.now.model s 0) c (ranked_below (mark ranks.now) below))
+            (corner_count case.now s 0) (row.sum *ℤ row.scale)) }
+        ensures whole { IfSome result (λ row. (pos 1 ≤ℤ row.whole) × ((pos 1 ≤ℤ row.scale) × IsWhole case.now s 0 (row.whole *ℤ row.scale))) }
+    {
+        let pair = self.pair(row.weights, row.corners, case.w())?;
+        let first = is_below(ranks, row.first, below);
+        let second = is_below(ranks, row.second, below);
+        let sum = counted_sum(pair.whole, pair.least, pair.greatest, first, second);
+        Some(LaneSum {
+            sum,
+            whole: pair.whole,
+            scale: pair.scale,
+            inverse: pair.inverse,
+        })
+    }
+}
