@@ -6,3 +6,4 @@ pub mod Listing
 pub mod First
 pub mod Laying
 pub mod Linking
+pub mod OnlyRows

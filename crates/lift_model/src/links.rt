@@ -11,7 +11,7 @@ use crate::blocks::FirstRow;
 use crate::layout::{RowPlace, lay_out};
 use crate::lists::{number_at, zeros};
 use crate::model::Model;
-use crate::only_row::{OnlyRow, find_only_rows};
+use crate::only_row::{OnlyRow, find_only_rows, only_row_at};
 use crate::order::order_states;
 use std::alloc::{AllocError, Global};
 
@@ -181,10 +181,7 @@ impl Links {
     pub fn only_row(&self, s: u32) -> OnlyRow
         ensures { (m : ModelData) → ArePlaces m self.now → s < length m.states → IsOnlyRow m self.now s result }
     {
-        self.only_rows
-            .get(s as usize)
-            .copied()
-            .unwrap_or(OnlyRow::Other)
+        only_row_at(&self.only_rows, s as usize)
     }
 
     /// The places of all rows of a state, in order.

@@ -1,6 +1,6 @@
 //! States with one short row, of which most models consist: what is looked up of the row stands in one place.
 
-ghost use Rattle.std.specs.Prelude.{◌≡◌, IfOk, IfSome};
+ghost use Rattle.std.specs.Prelude.{◌≡◌, slice_index_or, IfOk, IfSome};
 ghost use Rattle.lift_model.specs.OnlyRow.{IsOnlyPlace, IsRowAt, IsOnlyRowIn, AreOnlyRowsIn};
 
 use crate::layout::RowPlace;
@@ -32,11 +32,11 @@ pub enum OnlyRow {
 }
 
 /// Where the only row of a state stands, if it has only one.
-fn only_place(starts: &[u32], rows: &[RowPlace], s: usize) -> Option<RowPlace>
+fn only_place(starts: &[u32], rows: &[RowPlace], s: u32) -> Option<RowPlace>
     ensures { IfSome result (IsOnlyPlace starts.now rows.now s) }
 {
-    let start = number_at(starts, s);
-    let end = number_at(starts, s + 1);
+    let start = number_at(starts, s as usize);
+    let end = number_at(starts, s as usize + 1);
     if end.saturating_sub(start) != 1 {
         return None;
     }
@@ -71,10 +71,18 @@ fn row_at_place(targets: &[u32], place: RowPlace, s: u32) -> OnlyRow
 fn only_row_of(starts: &[u32], rows: &[RowPlace], targets: &[u32], s: u32) -> OnlyRow
     ensures { IsOnlyRowIn starts.now rows.now targets.now s result }
 {
-    match only_place(starts, rows, s as usize) {
+    match only_place(starts, rows, s) {
         Some(place) => row_at_place(targets, place, s),
         None => OnlyRow::Other,
     }
+}
+
+/// The only row of a state, and of none past the end.
+#[inline(always)]
+pub(crate) fn only_row_at(only: &[OnlyRow], s: usize) -> OnlyRow
+    ensures { result ≡ slice_index_or only.now s OnlyRow.Other }
+{
+    only.get(s).copied().unwrap_or(OnlyRow::Other)
 }
 
 /// The only rows of so many states.
