@@ -74,7 +74,7 @@ def as_rust(text):
     """The same in Rust, over the shim."""
     text = re.sub(r"^\s*pub ghost [^\n]*\n", "", without_contracts(text), flags=re.M)
     text = re.sub(r"^\s*#!?\[(?:tactic|error)\([^\n]*\n", "", text, flags=re.M)
-    text = re.sub(r"\bstd::(alloc|num|collections|io|marker|rc)\b", r"rstd::\1", text)
+    text = re.sub(r"\bstd::(alloc|num|collections|io|marker|rc|simd)\b", r"rstd::\1", text)
     text = re.sub(r"\buse (itoa|indexmap|thiserror|memchr)::", r"use rstd::\1::", text)
     text = re.sub(r"(?:, )?\b(?:Drop|Error)\b(?=[^(\n]*\)\])", "", text)
     text = text.replace("#[derive()]\n", "").replace("#[derive(, ", "#[derive(").replace("#[from] ", "")

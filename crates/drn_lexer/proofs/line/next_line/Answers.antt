@@ -47,7 +47,7 @@ returns-then-is_some-clause-line c = (gives c).line
 pub loop-raw-preserved : goal.loop-raw-preserved
 loop-raw-preserved c =
     let next =
-    goes_to c.args.text.now c.args.place.now c.loop-raw.place c.place_behind.result c.in-Some.raw _ c.loop-raw.invariant.forward c.loop-raw.invariant.left c.loop-raw.invariant.count c.loop-raw.invariant.number
+    goes_to c.args.text.now c.args.place.now c.loop-raw.place c.place_behind.result c.in-Some.raw.line _ c.loop-raw.invariant.forward c.loop-raw.invariant.left c.loop-raw.invariant.count c.loop-raw.invariant.number
     c.in-Some.ensures.line (sym c.judged.ensures.answer ∙ c.in_ok-line.was) (sym c.is_some.ensures ∙ c.if-is_some.false) c.place_behind.ensures in
     record { forward = next.forward; within = next.within; number = next.number; left = next.left; count = next.count }
 

@@ -8,4 +8,4 @@ pub returns-then-is_empty-clause-none : goal.returns-then-is_empty-clause-none
 returns-then-is_empty-clause-none c = at_end _ _ _ c.requires (take_rest c.args.text.now c.args.place.at) (grind (arith, common_steps))
 
 pub returns-clause-line : goal.returns-clause-line
-returns-clause-line c = first_line _ _ c.args.place _ c.requires (take_rest c.args.text.now c.args.place.at) (grind (arith, common_steps)) c.len_before.ensures.len c.len_before.ensures.within
+returns-clause-line c = first_line _ _ c.args.place _ c.requires (take_rest c.args.text.now c.args.place.at) (grind (arith, common_steps)) c.line_len-len.ensures.len c.line_len-len.ensures.within
