@@ -14,6 +14,7 @@ pub mod Lists
 pub mod Loop
 pub mod ModelTests
 pub mod Naming
+pub mod Numbers
 pub mod Pairing
 pub mod Phases
 pub mod Pieces
