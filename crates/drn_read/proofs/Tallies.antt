@@ -1,5 +1,5 @@
 -- What is kept beside the states: their choices and transitions counted, and the targets of the last choice.
-use Rattle.std.proofs.Common.{◌≡◌, ◌==◌, ◌<◌, ◌≤◌, ◌+◌, ℕ, Bool, true, false, cond, not, ◌||◌, List, [], ◌∷◌, ◌++◌, length, Option, Some, None, refl, sym, ◌∙◌, ap, subst, arith}
+use Rattle.std.proofs.Common.{◌≡◌, ◌==◌, ◌<◌, ◌≤◌, ◌+◌, ℕ, Bool, true, false, cond, not, ◌||◌, List, [], ◌∷◌, ◌++◌, length, take, get_or, Option, Some, None, refl, sym, ◌∙◌, ap, subst, arith}
 use Rattle.std.specs.Prelude.{is_some, unwrap_or, nat_lt, nat_le}
 use Rattle.std.specs.List.{list_any, sum_by}
 use Rattle.std.specs.Option.{option_and_then}
@@ -7,11 +7,10 @@ use Rattle.std.specs.Ordering.{nat_cmp, is_eq}
 use Rattle.std.specs.Int.{from_bool}
 use Rattle.std.specs.declared.cmp.Ordering.TheVariants.{Less, Equal, Greater}
 use Rattle.std.specs.BTreeMap.{is_at}
-use Rattle.std.specs.BTreeSet.{BTreeSet, contains}
 use Rattle.std.proofs.lemmas.Bool.{both_ways, leb-false}
 use Rattle.std.proofs.lemmas.Bool.Decides.{nat_tests}
 use Rattle.std.proofs.lemmas.List.{length_push}
-use Rattle.std.proofs.lemmas.List.Folds.{list_any-append}
+use Rattle.std.proofs.lemmas.List.Folds.{list_any-append, list_any_more}
 use Rattle.std.proofs.lemmas.List.Sums.{sum_by-cons, sum_by_push}
 use Rattle.drn_read.specs.Faults.{when}
 use Rattle.drn_read.specs.Parts.{last, is_empty}
@@ -73,22 +72,42 @@ at_is a q = by_order (nat_lt a q) refl
     by_order true is = let ne : (a == q) ≡ false = grind (arith, nat_tests) in sym ne
     by_order false is = by_equality (a == q)
 
--- the set without targets is that of a row without transitions
-no_targets : (targets : BTreeSet ℕ) (row : List Transition) (target : ℕ) → targets.keys ≡ [] → row ≡ [] → contains nat_cmp targets target ≡ list_any (λ t. t.target == target) row
-no_targets targets row target e f = ap (list_any (is_at (nat_cmp target))) e ∙ sym (ap (list_any (λ (t : Transition). t.target == target)) f)
+-- the set of the first targets, with one more
+pub set_next : (targets : List ℕ) (i q : ℕ) (old new : Bool) → i < length targets → new ≡ cond (is_at (nat_cmp (get_or targets i 0)) q) true old → old ≡ list_any (λ t. t == q) (take i targets)
+    → new ≡ list_any (λ t. t == q) (take (i + 1) targets)
+set_next targets i q old new h e f =
+    e ∙ ap (λ b. cond b true old) (at_is (get_or targets i 0) q) ∙ ap (cond (get_or targets i 0 == q) true) f ∙ either (get_or targets i 0 == q) (list_any (λ t. t == q) (take i targets))
+    ∙ sym (list_any_more (λ (t : ℕ). t == q) targets i 0 h)
+  where
+    either : (a b : Bool) → cond a true b ≡ (b || a)
+    either true true = refl
+    either true false = refl
+    either false true = refl
+    either false false = refl
 
--- one more target
-more_targets : (row : List Transition) (t : Transition) (q : ℕ) (old new : Bool) → new ≡ cond (is_at (nat_cmp t.target) q) true old → old ≡ list_any (λ u. u.target == q) row
-    → new ≡ list_any (λ u. u.target == q) (row ++ t ∷ [])
-more_targets row t q old new e f =
-    e ∙ ap (λ b. cond b true old) (at_is t.target q) ∙ ap (cond (t.target == q) true) f ∙ either (t.target == q) (list_any (λ u. u.target == q) row)
-    ∙ sym (list_any-append (λ (u : Transition). u.target == q) row (t ∷ []))
+-- the set of many targets, with one more
+pub set_more : (targets : List ℕ) (t q : ℕ) (old new : Bool) → new ≡ cond (is_at (nat_cmp t) q) true old → old ≡ list_any (λ u. u == q) targets
+    → new ≡ list_any (λ u. u == q) (targets ++ t ∷ [])
+set_more targets t q old new e f =
+    e ∙ ap (λ b. cond b true old) (at_is t q) ∙ ap (cond (t == q) true) f ∙ either (t == q) (list_any (λ u. u == q) targets)
+    ∙ sym (list_any-append (λ (u : ℕ). u == q) targets (t ∷ []))
   where
     either : (a b : Bool) → cond a true b ≡ (b || (a || false))
     either true true = refl
     either true false = refl
     either false true = refl
     either false false = refl
+
+-- no targets are those of a row without transitions
+no_targets : (targets : List ℕ) (row : List Transition) (target : ℕ) → targets ≡ [] → row ≡ [] → list_any (λ t. t == target) targets ≡ list_any (λ t. t.target == target) row
+no_targets targets row target e f = ap (list_any (λ (t : ℕ). t == target)) e ∙ sym (ap (list_any (λ (t : Transition). t.target == target)) f)
+
+-- one more target
+more_targets : (row : List Transition) (t : Transition) (q : ℕ) (old new : List ℕ) → new ≡ old ++ t.target ∷ [] → list_any (λ u. u == q) old ≡ list_any (λ u. u.target == q) row
+    → list_any (λ u. u == q) new ≡ list_any (λ u. u.target == q) (row ++ t ∷ [])
+more_targets row t q old new e f =
+    ap (list_any (λ (u : ℕ). u == q)) e ∙ list_any-append (λ (u : ℕ). u == q) old (t.target ∷ []) ∙ ap (λ b. b || ((t.target == q) || false)) f
+    ∙ sym (list_any-append (λ (u : Transition). u.target == q) row (t ∷ []))
 
 -- there is room for a transition to this target
 record RoomFor (states : List StateText) (target : ℕ) : Type 0 where
@@ -121,8 +140,8 @@ room_for states target e =
 -- ---- steps
 
 -- one more state without choice
-pub kept_state : (states new : List StateText) (s : StateText) (choices transitions : ℕ) (old targets : BTreeSet ℕ) → IsKept states choices transitions old → length states < most_states
-    → s.choices ≡ [] → new ≡ states ++ s ∷ [] → targets.keys ≡ [] → IsKept new choices transitions targets
+pub kept_state : (states new : List StateText) (s : StateText) (choices transitions : ℕ) (old targets : List ℕ) → IsKept states choices transitions old → length states < most_states
+    → s.choices ≡ [] → new ≡ states ++ s ∷ [] → targets ≡ [] → IsKept new choices transitions targets
 kept_state states new s choices transitions old targets h room none is empty = record {
   choices_are = omega (arith, h.choices_are, ap choice_count is, sum_by_push (λ (u : StateText). length u.choices) states s, ap length none);
   transitions_are = omega (arith, h.transitions_are, ap transition_count is, sum_by_push (λ (u : StateText). sum_by length u.choices) states s, ap (sum_by length) none);
@@ -133,8 +152,8 @@ kept_state states new s choices transitions old targets h room none is empty = r
 }
 
 -- one more choice
-pub kept_choice : (states new : List StateText) (choices transitions : ℕ) (old targets : BTreeSet ℕ) → IsKept states choices transitions old → is_empty states ≡ false → choice_count states < most_choices
-    → new ≡ on_last with_choice states → targets.keys ≡ [] → IsKept new (choices + 1) transitions targets
+pub kept_choice : (states new : List StateText) (choices transitions : ℕ) (old targets : List ℕ) → IsKept states choices transitions old → is_empty states ≡ false → choice_count states < most_choices
+    → new ≡ on_last with_choice states → targets ≡ [] → IsKept new (choices + 1) transitions targets
 kept_choice states new choices transitions old targets h some room is empty =
     let c = changed_last states with_choice 1 0 some (λ s e. (length_push s.choices [], sum_by_push length s.choices [])) in
     record {
@@ -170,9 +189,9 @@ grown_by s (c ∷ cs) t =
     }
 
 -- one more transition
-pub kept_transition : (states new : List StateText) (t : Transition) (choices transitions : ℕ) (begins : Bool) (old targets : BTreeSet ℕ) → IsKept states choices transitions old → is_empty states ≡ false
+pub kept_transition : (states new : List StateText) (t : Transition) (choices transitions : ℕ) (begins : Bool) (old targets : List ℕ) → IsKept states choices transitions old → is_empty states ≡ false
     → room_fault states t.target ≡ None → new ≡ on_last (with_transitions (t ∷ [])) states → begins ≡ not (is_some (open_choice states))
-    → ((q : ℕ) → contains nat_cmp targets q ≡ cond (is_at (nat_cmp t.target) q) true (contains nat_cmp old q))
+    → targets ≡ old ++ t.target ∷ []
     → IsKept new (choices + from_bool begins) (transitions + 1) targets
 kept_transition states new t choices transitions begins old targets h some room is first add =
     let r = room_for states t.target room in
@@ -185,7 +204,7 @@ kept_transition states new t choices transitions begins old targets h some room 
       few_states = omega (arith, h.few_states, ap length is, c.1.length_is);
       few_choices = few_more begins first r.choices;
       few_transitions = omega (arith, r.transitions, h.transitions_are);
-      targets_are = λ q. more_targets (open_row states) t q (contains nat_cmp old q) (contains nat_cmp targets q) (add q) (h.targets_are q) ∙ sym (ap (list_any (λ (u : Transition). u.target == q)) row);
+      targets_are = λ q. more_targets (open_row states) t q old targets add (h.targets_are q) ∙ sym (ap (list_any (λ (u : Transition). u.target == q)) row);
     }
   where
     few_more : (b : Bool) → b ≡ not (is_some (open_choice states)) → (is_some (open_choice states) ≡ false → choice_count states < most_choices) → choices + from_bool b ≤ most_choices
@@ -195,3 +214,14 @@ kept_transition states new t choices transitions begins old targets h some room 
         unless true e = cc
         unless false e = refl
     few_more false e room = omega (arith, h.few_choices)
+
+-- nothing is kept
+pub kept_none : IsKept [] 0 0 []
+kept_none = record {
+  choices_are = refl;
+  transitions_are = refl;
+  few_states = omega arith;
+  few_choices = omega arith;
+  few_transitions = omega arith;
+  targets_are = λ q. refl;
+}

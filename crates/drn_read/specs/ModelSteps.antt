@@ -1,5 +1,5 @@
 -- What the reader of the model's lines keeps, in steps. No public clause rests on it.
-use Rattle.std.specs.Prelude.{◌≡◌, ◌==◌, ◌≤◌, ◌++◌, ℕ, if◌then◌else◌, List, [], ◌∷◌, drop, length, codes, unwrap_or, Some, None, Result, Ok, Err}
+use Rattle.std.specs.Prelude.{◌≡◌, ◌==◌, ◌<◌, ◌≤◌, ◌++◌, ℕ, if◌then◌else◌, List, [], ◌∷◌, drop, length, codes, unwrap_or, Some, None, Result, Ok, Err}
 use Rattle.std.specs.List.{list_any}
 use Rattle.std.specs.Char.{is_ascii_digit}
 use Rattle.std.specs.Ordering.{nat_cmp}
@@ -23,14 +23,22 @@ use Rattle.drn_read.specs.declared.state.Transition.{Transition}
 abbrev pub open_row : List StateText → List Transition
 open_row states = unwrap_or (open_choice states) []
 
+-- so many targets at most are gone through one by one
+abbrev pub few_targets : ℕ
+few_targets = 16
+
+-- where there are more, they are those of a set
+abbrev pub IsInSet : List ℕ → BTreeSet ℕ → Type 0
+IsInSet targets set = few_targets < length targets → (q : ℕ) → contains nat_cmp set q ≡ list_any (λ t. t == q) targets
+
 -- What is kept beside the states: how many choices and transitions they have, and the targets of the last choice. All are within their limits.
-pub record IsKept (states : List StateText) (choices transitions : ℕ) (targets : BTreeSet ℕ) : Type 0 where
+pub record IsKept (states : List StateText) (choices transitions : ℕ) (targets : List ℕ) : Type 0 where
   pub choices_are : choices ≡ choice_count states
   pub transitions_are : transitions ≡ transition_count states
   pub few_states : length states ≤ most_states
   pub few_choices : choices ≤ most_choices
   pub few_transitions : transitions ≤ most_transitions
-  pub targets_are : (target : ℕ) → contains nat_cmp targets target ≡ list_any (λ t. t.target == target) (open_row states)
+  pub targets_are : (target : ℕ) → list_any (λ t. t == target) targets ≡ list_any (λ t. t.target == target) (open_row states)
 
 -- the target of a transition's line, and what is left behind the colon
 pub record IsTransitionFront (line : List ℕ) (front : TransitionFront) : Type 0 where

@@ -31,6 +31,7 @@ mod scaled;
 mod section;
 mod shared;
 mod state;
+mod targets;
 mod text;
 mod type_line;
 mod value;

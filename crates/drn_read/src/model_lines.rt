@@ -23,10 +23,10 @@ use crate::known::KnownValues;
 use crate::labels::{Labels, read_action, read_state};
 use crate::last::test_last_state;
 use crate::state::{State, Transition};
+use crate::targets::Targets;
 use crate::text::is_head;
 use lift_model::Kind;
 use std::alloc::{AllocError, Global};
-use std::collections::BTreeSet;
 
 /// How many choices a model may have.
 const MOST_CHOICES: usize = 131_072;
@@ -41,7 +41,7 @@ pub(crate) struct ModelReader {
     states: Vec<State>,
     choices: usize,
     transitions: usize,
-    targets: BTreeSet<u128>,
+    targets: Targets,
 }
 
 impl std::marker::Model for ModelReader {
@@ -111,6 +111,22 @@ fn push_transition(
     states[last].add_transition(alloc, transition)
 }
 
+/// The same with its target.
+fn push_both(
+    targets: &mut Targets,
+    states: &mut Vec<State>,
+    alloc: Global,
+    transition: Transition,
+) -> Result<(), AllocError>
+    requires { is_empty states.old.items ≡ false }
+    ensures targets { OnOk result (targets.new ≡ targets.old ++ transition.target ∷ []) }
+    ensures states { OnOk result (states.new.items
+        ≡ on_last (with_transitions (transition ∷ [])) states.old.items) }
+{
+    targets.push(transition.target)?;
+    push_transition(states, alloc, transition)
+}
+
 impl ModelReader {
     /// No state was read yet. It takes no memory.
     pub fn new(alloc: Global) -> Self
@@ -121,7 +137,7 @@ impl ModelReader {
             states: Vec::new(alloc),
             choices: 0,
             transitions: 0,
-            targets: BTreeSet::new(alloc),
+            targets: Targets::new(alloc),
         }
     }
 
@@ -171,7 +187,7 @@ impl ModelReader {
         ensures { fault_of result ≡ target_fault self.now target }
     {
         if self.has_choice() {
-            if self.targets.contains(&target) {
+            if self.targets.contains(target) {
                 return Err(DrnCause::RepeatedTarget);
             }
         } else if self.choices == MOST_CHOICES {
@@ -236,17 +252,19 @@ impl ModelReader {
         Ok(())
     }
 
-    /// One more transition of the last state.
+    /// One more transition of the last state. Where memory is wanting, nothing is kept any more.
     fn add_transition(&mut self, transition: Transition) -> Result<(), AllocError>
         requires some { is_empty self.old ≡ false }
         requires room { room_fault self.old transition.target ≡ None }
         ensures { OnOk result (self.new ≡ on_last (with_transitions (transition ∷ [])) self.old) }
     {
-        let target = transition.target;
         let begins_choice = !self.has_choice();
-        self.targets.insert(target)?;
-        if let Err(error) = push_transition(&mut self.states, self.alloc, transition) {
-            self.targets.remove(&target);
+        let pushed = push_both(&mut self.targets, &mut self.states, self.alloc, transition);
+        if let Err(error) = pushed {
+            self.states.clear();
+            self.choices = 0;
+            self.transitions = 0;
+            self.targets.clear();
             return Err(error);
         }
         self.choices += usize::from(begins_choice);

@@ -11,4 +11,4 @@ invariant_of-self-2 c =
     let some : is_empty c.self.inside.states.items ≡ false = search rules in
     let room : choice_count c.self.inside.states.items < most_choices = search rules in
     let is : c.push_choice.new.states.items ≡ on_last with_choice c.self.inside.states.items = search rules in
-    kept_choice c.self.inside.states.items c.push_choice.new.states.items c.self.inside.choices c.self.inside.transitions c.self.inside.targets c.clear.new.self c.self.invariant some room is c.clear.ensures.empty
+    kept_choice c.self.inside.states.items c.push_choice.new.states.items c.self.inside.choices c.self.inside.transitions c.self.inside.targets c.clear.new.self c.self.invariant some room is c.clear.ensures
