@@ -17,3 +17,5 @@ pub mod Parting
 pub mod PairSums
 pub mod PairRows
 pub mod ReadRows
+pub mod RowRead
+pub mod PairedRows

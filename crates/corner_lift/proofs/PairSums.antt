@@ -3,11 +3,11 @@ use Rattle.std.proofs.Common.{suc, Bool, true, false, cond, mul-le-mul, mul-le-m
 use Rattle.std.proofs.lemmas.Int.{fits_signed_from_abs, unsigned_abs-mul, ints, by_lt_z}
 use Rattle.std.proofs.lemmas.Nat.{pow_pos, pow-add}
 use mir.Syntax.{w128}
-use Rattle.lift_poly.proofs.Ring.{linear, mul-comm, mul-add, add-mul, mul-neg, one-mul, mul-zero, mul-le}
+use Rattle.lift_poly.proofs.Ring.{linear, mul-comm, mul-assoc, mul-add, add-mul, mul-neg, one-mul, zero-mul, mul-zero, mul-le, mul-le_cancel, mul-nonneg}
 use Rattle.corner_lift.specs.Case.{number, IsGreatest, IsLeast, engine_limit}
 use Rattle.corner_lift.specs.Dot.{lane_limit}
 use Rattle.corner_lift.proofs.Rows.{in_or_past}
-use Rattle.corner_lift.specs.Pairs.{HasPair, pair_sum, AreCorners, ArePairs, IsLeastFirst, IsGreatestFirst, IsLeastPair, IsGreatestPair, IsPairNumber, HasRoom, FitsProducts, FitsPair, FitPairs}
+use Rattle.corner_lift.specs.Pairs.{HasLane, HasPair, pair_sum, AreCorners, ArePairs, IsLeastFirst, IsGreatestFirst, IsLeastPair, IsGreatestPair, IsPairNumber, HasRoom, FitsProducts, FitsPair, FitPairs}
 
 abs-add : (a b : ℤ) → unsigned_abs (a +ℤ b) ≤ unsigned_abs a + unsigned_abs b
 abs-add a b = omega (arith, ints)
@@ -227,6 +227,76 @@ module _ (whole weight first second : ℤ) (range : (pos 0 ≤ℤ weight) × (we
 
   pub risen_fits : FitsSigned w128 ((whole *ℤ second) +ℤ (weight *ℤ (first -ℤ second)))
   risen_fits = fits_signed_from_abs w128 ((whole *ℤ second) +ℤ (weight *ℤ (first -ℤ second))) (omega (arith, abs-add (whole *ℤ second) (weight *ℤ (first -ℤ second)), unsigned_abs-mul whole second, unsigned_abs-mul weight (first -ℤ second), rise_room, two.1))
+
+-- ---- the same in 64 bits
+
+module _ (whole weight first second : ℤ) (range : (pos 0 ≤ℤ weight) × (weight ≤ℤ whole)) (one : HasLane whole first) (two : HasLane whole second) where
+  pub second_in_lane : FitsSigned w64 (whole *ℤ second)
+  second_in_lane = fits_signed_from_abs w64 (whole *ℤ second) (omega (arith, unsigned_abs-mul whole second, two.1))
+
+  pub rise_in_lane : FitsSigned w64 (weight *ℤ (first -ℤ second))
+  rise_in_lane =
+      let size : unsigned_abs weight ≤ unsigned_abs whole = omega (arith, ints, range.0, range.1) in
+      let product = unsigned_abs-mul weight (first -ℤ second) in
+      fits_signed_from_abs w64 (weight *ℤ (first -ℤ second)) (⊎_elim
+      (λ (le : unsigned_abs (first -ℤ second) ≤ unsigned_abs first). let more = mul-le-mul size le in omega (arith, more, one.1, product))
+      (λ (le : unsigned_abs (first -ℤ second) ≤ unsigned_abs second). let more = mul-le-mul size le in omega (arith, more, two.1, product))
+      (between first second one.0 two.0))
+
+  -- the sum lies between the whole times the one number and times the other
+  sum_size : unsigned_abs ((whole *ℤ second) +ℤ (weight *ℤ (first -ℤ second))) < lane_limit
+  sum_size =
+      let above : pos 0 ≤ℤ whole = omega (arith, linear, range.0, range.1) in
+      let none = zero-mul (first -ℤ second) in
+      let all = mul-sub whole first second in
+      let low = range.0 in
+      let high = range.1 in
+      let one_size = unsigned_abs-mul whole first in
+      let two_size = unsigned_abs-mul whole second in
+      let one_least : pos 0 ≤ℤ (whole *ℤ first) = mul-nonneg whole first above one.0 in
+      let two_least : pos 0 ≤ℤ (whole *ℤ second) = mul-nonneg whole second above two.0 in
+      by_lt_z first second
+      (λ less.
+      let le : first ≤ℤ second = omega (arith, linear, less) in
+      let from = falls (pos 0) weight first second le low in
+      let to = falls weight whole first second le high in
+      omega (arith, ints, from, to, none, all, one_size, two_size, one.1, two.1, one_least, two_least))
+      (λ more.
+      let le : second ≤ℤ first = omega (arith, linear, more) in
+      let from = rises (pos 0) weight first second le low in
+      let to = rises weight whole first second le high in
+      omega (arith, ints, from, to, none, all, one_size, two_size, one.1, two.1, one_least, two_least))
+
+  pub risen_in_lane : FitsSigned w64 ((whole *ℤ second) +ℤ (weight *ℤ (first -ℤ second)))
+  risen_in_lane = fits_signed_from_abs w64 ((whole *ℤ second) +ℤ (weight *ℤ (first -ℤ second))) (omega (arith, sum_size))
+
+-- ---- weights that are given as parts of a scale
+
+-- what is sorted by multiples is sorted
+pub scaled_le : (a b scale : ℤ) → pos 1 ≤ℤ scale → (a *ℤ scale) ≤ℤ (b *ℤ scale) → a ≤ℤ b
+scaled_le a b scale one le = mul-le_cancel scale a b (omega (arith, linear, one)) (omega (arith, linear, le, mul-comm scale a, mul-comm scale b))
+
+-- a sum of multiples is a multiple of the sum
+pub scaled_sum : (whole weight first second scale : ℤ) → ((whole *ℤ scale) *ℤ second) +ℤ ((weight *ℤ scale) *ℤ (first -ℤ second)) ≡ ((whole *ℤ second) +ℤ (weight *ℤ (first -ℤ second))) *ℤ scale
+scaled_sum whole weight first second scale =
+    let part : (a n : ℤ) → (a *ℤ scale) *ℤ n ≡ (a *ℤ n) *ℤ scale = λ a n. mul-assoc a scale n ∙ ap (λ z. a *ℤ z) (mul-comm scale n) ∙ sym (mul-assoc a n scale) in
+    omega (arith, linear, part whole second, part weight (first -ℤ second), add-mul (whole *ℤ second) (weight *ℤ (first -ℤ second)) scale)
+
+pub scaled_rest : (whole weight scale : ℤ) → (whole *ℤ scale) -ℤ (weight *ℤ scale) ≡ (whole -ℤ weight) *ℤ scale
+scaled_rest whole weight scale = omega (arith, linear, mul-sub scale whole weight, mul-comm scale whole, mul-comm scale weight, mul-comm scale (whole -ℤ weight))
+
+-- what is left of the whole
+pub rest_in_lane : (whole weight : ℤ) → unsigned_abs whole < lane_limit → (pos 0 ≤ℤ weight) × (weight ≤ℤ whole) → FitsSigned w64 (whole -ℤ weight)
+rest_in_lane whole weight room range =
+    let size : unsigned_abs (whole -ℤ weight) ≤ unsigned_abs whole = omega (arith, ints, range.0, range.1) in
+    fits_signed_from_abs w64 (whole -ℤ weight) (omega (arith, size, room))
+
+-- a weight of the first entry is a part of the whole, and so is what it is a multiple of
+module _ (block : List ℤ) (whole scale : ℤ) (one : pos 1 ≤ℤ scale) (corners : AreCorners block (whole *ℤ scale)) where
+  pub part_range : (weight : ℤ) → (c : ℕ) × (HasPair block c × (weight *ℤ scale ≡ number block (2 * c))) → (pos 0 ≤ℤ weight) × (weight ≤ℤ whole)
+  part_range weight at =
+      let range = first_range block (whole *ℤ scale) corners (weight *ℤ scale) at in
+      (scaled_le (pos 0) weight scale one (omega (arith, linear, zero-mul scale, range.0)), scaled_le weight whole scale one range.1)
 
 pub small_fits : (z : ℤ) → unsigned_abs z < engine_limit → FitsSigned w128 z
 small_fits z small = fits_signed_from_abs w128 z (omega (arith, small))

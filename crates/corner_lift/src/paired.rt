@@ -1,7 +1,7 @@
 //! The table of a rectangle with what is quickly looked up of its rows of two entries: a sum over the corners then takes
 //! two products of 64 bits, as it grows with the weight of the entry whose target has the greater number.
 
-ghost use Rattle.std.specs.Prelude.{◌≡◌, ◌+◌, ◌*◌, ◌^◌, ◌<◌, ◌≤◌, ◌-◌, ◌≤ℤ◌, ◌<ℤ◌, ◌*ℤ◌, ◌+ℤ◌, ◌-ℤ◌, ℕ, List, ℤ, pos, length, All, IfSome, IsTrue};
+ghost use Rattle.std.specs.Prelude.{◌≡◌, ◌+◌, ◌*◌, ◌^◌, ◌<◌, ◌≤◌, ◌-◌, ◌≤ℤ◌, ◌<ℤ◌, ◌*ℤ◌, ◌+ℤ◌, ◌-ℤ◌, ℕ, pos, length, unsigned_abs, All, IfSome, IsTrue};
 ghost use Rattle.lift_grid.specs.Rectangle.{Spans};
 ghost use Rattle.lift_model.specs.Model.{row_at};
 ghost use Rattle.lift_model.specs.Links.{ArePlaces};
@@ -10,8 +10,9 @@ ghost use Rattle.corner_lift.specs.Corner.{corner_sum};
 ghost use Rattle.corner_lift.specs.Certificate.{AreNumbers, mark, ranked_below};
 ghost use Rattle.corner_lift.specs.Case.{IsGreatest, IsLeast, BoundsAbove, BoundsBelow, row_value, corner_count, most_precision};
 ghost use Rattle.corner_lift.specs.Table.{CanRead, IsWhole};
-ghost use Rattle.corner_lift.specs.Pairs.{AreCorners, HasLane, HasPair, IsGreatestFirst, IsGreatestPair, IsLeastFirst, IsLeastPair, one_where, pair_whole};
-ghost use Rattle.corner_lift.specs.Paired.{IsPairOf, IsNoneOrPair, IsLaneOf};
+ghost use Rattle.corner_lift.specs.Dot.{lane_limit};
+ghost use Rattle.corner_lift.specs.Pairs.{AreCorners, HasLane, HasPair, IsGreatestPair, IsLeastPair, one_where, pair_whole};
+ghost use Rattle.corner_lift.specs.Paired.{IsPairOf, IsNoneOrPair, IsLaneOf, pair_block};
 
 use crate::case::Case;
 use crate::laws::premises;
@@ -70,7 +71,23 @@ impl LaneSum {
     /// How often the whole goes into a number from 0 on, or 1 less. Nothing is promised of it, so who asks tests it.
     #[inline(always)]
     pub fn guess(self, number: i64) -> i64 {
-        ((u128::from(number as u64) * u128::from(self.inverse)) >> 64) as i64
+        ((u128::from(number.unsigned_abs()) * u128::from(self.inverse)) >> 64) as i64
+    }
+}
+
+impl Pair {
+    /// A sum of the row, with its whole.
+    #[inline(always)]
+    fn summed(self, sum: i64) -> LaneSum
+        ensures sum { result.sum ≡ sum }
+        ensures whole { (result.whole ≡ self.whole) × (result.scale ≡ self.scale) }
+    {
+        LaneSum {
+            sum,
+            whole: self.whole,
+            scale: self.scale,
+            inverse: self.inverse,
+        }
     }
 }
 
@@ -92,13 +109,20 @@ impl<'a> std::marker::Model for PairTable<'a> {
     ghost invariant = { λ t. All (IsNoneOrPair t.weights.now) t.pairs };
 }
 
+/// A weight, if 64 bits hold it.
+fn short_of(weight: i128) -> Option<i64>
+    ensures { IfSome result (λ short. short ≡ weight) }
+{
+    i64::try_from(weight).ok()
+}
+
 /// What both entries weigh together at the first corner, if 64 bits hold it.
 fn whole_of(block: &[i128]) -> Option<i64>
     requires { HasPair block.now 0 }
     ensures { IfSome result (λ whole. whole ≡ pair_whole block.now) }
 {
     let whole = block[0].checked_add(block[1])?;
-    i64::try_from(whole).ok()
+    short_of(whole)
 }
 
 /// A common divisor of two numbers: the greatest one, but that isn't promised.
@@ -110,7 +134,7 @@ fn common_divisor(a: i64, b: i64) -> i64 {
         a = b;
         b = rest;
     }
-    a as i64
+    i64::try_from(a).unwrap_or(1)
 }
 
 /// What a number is over a divisor of it.
@@ -143,14 +167,14 @@ fn pair_of(at: u32, corners: u32, block: &[i128], w: u32) -> Option<Pair>
     ensures place { IfSome result (λ p. (p.at ≡ at) × (p.corners ≡ corners)) }
     ensures pair { IfSome result (IsLaneOf block.now) }
 {
-    let least = i64::try_from(least_first(block)).ok()?;
-    let greatest = i64::try_from(greatest_first(block)).ok()?;
+    let least = short_of(least_first(block))?;
+    let greatest = short_of(greatest_first(block))?;
     let whole = whole_of(block)?;
     let scale = scale_of(least, greatest, whole, w);
     let least = divided(least, scale)?;
     let greatest = divided(greatest, scale)?;
     let whole = divided(whole, scale)?;
-    let inverse = u64::MAX.checked_div(whole as u64)?;
+    let inverse = u64::MAX.checked_div(whole.unsigned_abs())?;
     Some(Pair {
         at,
         corners,
@@ -206,61 +230,6 @@ fn lane_risen(whole: i64, weight: i64, first: i64, second: i64) -> i64
     whole * second + weight * rise_of(first, second)
 }
 
-/// The greatest sum of two entries over the corners, by the least and the greatest weight of the first one.
-#[inline(always)]
-fn greatest_sum(whole: i64, least: i64, greatest: i64, first: i64, second: i64) -> i64
-    ghost pair: { List ℤ × ℤ }
-    requires scale { pos 1 ≤ℤ pair.1 }
-    requires corners { AreCorners pair.0 (whole *ℤ pair.1) }
-    requires least { IsLeastFirst pair.0 (least *ℤ pair.1) }
-    requires greatest { IsGreatestFirst pair.0 (greatest *ℤ pair.1) }
-    requires first { HasLane whole first }
-    requires second { HasLane whole second }
-    ensures { IsGreatestPair pair.0 first second (result *ℤ pair.1) }
-{
-    if is_lower(first, second) {
-        return lane_risen(whole, least, first, second);
-    }
-    lane_risen(whole, greatest, first, second)
-}
-
-/// The least sum of two entries over the corners, by the least and the greatest weight of the first one.
-#[inline(always)]
-fn least_sum(whole: i64, least: i64, greatest: i64, first: i64, second: i64) -> i64
-    ghost pair: { List ℤ × ℤ }
-    requires scale { pos 1 ≤ℤ pair.1 }
-    requires corners { AreCorners pair.0 (whole *ℤ pair.1) }
-    requires least { IsLeastFirst pair.0 (least *ℤ pair.1) }
-    requires greatest { IsGreatestFirst pair.0 (greatest *ℤ pair.1) }
-    requires first { HasLane whole first }
-    requires second { HasLane whole second }
-    ensures { IsLeastPair pair.0 first second (result *ℤ pair.1) }
-{
-    if is_lower(first, second) {
-        return lane_risen(whole, greatest, first, second);
-    }
-    lane_risen(whole, least, first, second)
-}
-
-/// The least weight over the corners of those of two entries that count, by the least and the greatest weight of the
-/// first one.
-#[inline(always)]
-fn counted_sum(whole: i64, least: i64, greatest: i64, first: bool, second: bool) -> i64
-    ghost pair: { List ℤ × ℤ }
-    requires scale { pos 1 ≤ℤ pair.1 }
-    requires corners { AreCorners pair.0 (whole *ℤ pair.1) }
-    requires least { IsLeastFirst pair.0 (least *ℤ pair.1) }
-    requires greatest { IsGreatestFirst pair.0 (greatest *ℤ pair.1) }
-    ensures { IsLeastPair pair.0 (one_where first) (one_where second) (result *ℤ pair.1) }
-{
-    match (first, second) {
-        (true, true) => whole,
-        (true, false) => least,
-        (false, true) => whole - greatest,
-        (false, false) => 0,
-    }
-}
-
 impl<'a> PairTable<'a> {
     /// The table of a rectangle, with its first rows of two entries. Takes no memory.
     pub fn of(case: &Case, links: &Links, weights: &'a [i128]) -> PairTable<'a>
@@ -269,8 +238,9 @@ impl<'a> PairTable<'a> {
     {
         let w = case.w();
         let mut pairs = [NO_PAIR; PLACES];
-        for first in links.firsts().iter().take(PLACES) {
-            let place = links.place(first.state, first.choice);
+        let firsts = links.firsts();
+        for block in 0..firsts.len().min(PLACES) {
+            let place = links.place(firsts[block].state, firsts[block].choice);
             if let Some(pair) = pair_at(weights, place, w) {
                 pairs[slot(place.weights)] = pair;
             }
@@ -302,6 +272,53 @@ impl<'a> PairTable<'a> {
         None
     }
 
+    /// The greatest sum of a row that is looked up over its corners, by the least and the greatest weight of its first
+    /// entry.
+    #[inline(always)]
+    fn greatest_sum(&self, pair: Pair, first: i64, second: i64) -> i64
+        requires pair { IsPairOf self.now pair }
+        requires corners { AreCorners (pair_block self.now pair) (pair.whole *ℤ pair.scale) }
+        requires first { HasLane pair.whole first }
+        requires second { HasLane pair.whole second }
+        ensures { IsGreatestPair (pair_block self.now pair) first second (result *ℤ pair.scale) }
+    {
+        if is_lower(first, second) {
+            return lane_risen(pair.whole, pair.least, first, second);
+        }
+        lane_risen(pair.whole, pair.greatest, first, second)
+    }
+
+    /// The least sum of such a row.
+    #[inline(always)]
+    fn least_sum(&self, pair: Pair, first: i64, second: i64) -> i64
+        requires pair { IsPairOf self.now pair }
+        requires corners { AreCorners (pair_block self.now pair) (pair.whole *ℤ pair.scale) }
+        requires first { HasLane pair.whole first }
+        requires second { HasLane pair.whole second }
+        ensures { IsLeastPair (pair_block self.now pair) first second (result *ℤ pair.scale) }
+    {
+        if is_lower(first, second) {
+            return lane_risen(pair.whole, pair.greatest, first, second);
+        }
+        lane_risen(pair.whole, pair.least, first, second)
+    }
+
+    /// The least weight over the corners of those of the two entries of such a row that count.
+    #[inline(always)]
+    fn counted_sum(&self, pair: Pair, first: bool, second: bool) -> i64
+        requires pair { IsPairOf self.now pair }
+        requires corners { AreCorners (pair_block self.now pair) (pair.whole *ℤ pair.scale) }
+        requires room { unsigned_abs pair.whole < lane_limit }
+        ensures { IsLeastPair (pair_block self.now pair) (one_where first) (one_where second) (result *ℤ pair.scale) }
+    {
+        match (first, second) {
+            (true, true) => pair.whole,
+            (true, false) => pair.least,
+            (false, true) => pair.whole - pair.greatest,
+            (false, false) => 0,
+        }
+    }
+
     /// The greatest sum of a row over its corners, if it has two entries and is quickly looked up.
     #[inline(always)]
     pub fn greatest(
@@ -327,13 +344,8 @@ impl<'a> PairTable<'a> {
         let pair = self.pair(place.weights, place.corners, w)?;
         let first = vec[targets[0] as usize];
         let second = vec[targets[1] as usize];
-        let sum = greatest_sum(pair.whole, pair.least, pair.greatest, first, second);
-        Some(LaneSum {
-            sum,
-            whole: pair.whole,
-            scale: pair.scale,
-            inverse: pair.inverse,
-        })
+        let sum = self.greatest_sum(pair, first, second);
+        Some(pair.summed(sum))
     }
 
     /// The same of the only row of a state that has two entries.
@@ -347,23 +359,19 @@ impl<'a> PairTable<'a> {
         vec: &[i64],
     ) -> Option<LaneSum>
         ghost spans: { Spans }
-        requires { CanRead case.now links.now spans self.now s 0 × AreNumbers case.now vec.now }
+        requires can { CanRead case.now links.now spans self.now s 0 × AreNumbers case.now vec.now }
         requires row { IsPairRow case.now.model links.now s row }
         ensures greatest { IfSome result (λ row. IsGreatest (row_value case.now spans s 0 vec.now) (corner_count case.now s 0) (row.sum *ℤ row.scale)) }
         ensures bound { IfSome result (λ row. BoundsAbove case.now spans s 0 vec.now (row.sum *ℤ row.scale)) }
         ensures whole { IfSome result (λ row. (pos 1 ≤ℤ row.whole) × ((pos 1 ≤ℤ row.scale) × IsWhole case.now s 0 (row.whole *ℤ row.scale))) }
     {
         premises();
-        let pair = self.pair(row.weights, row.corners, case.w())?;
+        let w = case.w();
+        let pair = self.pair(row.weights, row.corners, w)?;
         let first = vec[row.first as usize];
         let second = vec[row.second as usize];
-        let sum = greatest_sum(pair.whole, pair.least, pair.greatest, first, second);
-        Some(LaneSum {
-            sum,
-            whole: pair.whole,
-            scale: pair.scale,
-            inverse: pair.inverse,
-        })
+        let sum = self.greatest_sum(pair, first, second);
+        Some(pair.summed(sum))
     }
 
     /// The least sum of a row over its corners, if it has two entries and is quickly looked up.
@@ -384,13 +392,8 @@ impl<'a> PairTable<'a> {
         let pair = self.pair(place.weights, place.corners, w)?;
         let first = vec[targets[0] as usize];
         let second = vec[targets[1] as usize];
-        let sum = least_sum(pair.whole, pair.least, pair.greatest, first, second);
-        Some(LaneSum {
-            sum,
-            whole: pair.whole,
-            scale: pair.scale,
-            inverse: pair.inverse,
-        })
+        let sum = self.least_sum(pair, first, second);
+        Some(pair.summed(sum))
     }
 
     /// The same of the only row of a state that has two entries.
@@ -404,23 +407,19 @@ impl<'a> PairTable<'a> {
         vec: &[i64],
     ) -> Option<LaneSum>
         ghost spans: { Spans }
-        requires { CanRead case.now links.now spans self.now s 0 × AreNumbers case.now vec.now }
+        requires can { CanRead case.now links.now spans self.now s 0 × AreNumbers case.now vec.now }
         requires row { IsPairRow case.now.model links.now s row }
         ensures least { IfSome result (λ row. IsLeast (row_value case.now spans s 0 vec.now) (corner_count case.now s 0) (row.sum *ℤ row.scale)) }
         ensures bound { IfSome result (λ row. BoundsBelow case.now spans s 0 vec.now (row.sum *ℤ row.scale)) }
         ensures whole { IfSome result (λ row. (pos 1 ≤ℤ row.whole) × ((pos 1 ≤ℤ row.scale) × IsWhole case.now s 0 (row.whole *ℤ row.scale))) }
     {
         premises();
-        let pair = self.pair(row.weights, row.corners, case.w())?;
+        let w = case.w();
+        let pair = self.pair(row.weights, row.corners, w)?;
         let first = vec[row.first as usize];
         let second = vec[row.second as usize];
-        let sum = least_sum(pair.whole, pair.least, pair.greatest, first, second);
-        Some(LaneSum {
-            sum,
-            whole: pair.whole,
-            scale: pair.scale,
-            inverse: pair.inverse,
-        })
+        let sum = self.least_sum(pair, first, second);
+        Some(pair.summed(sum))
     }
 
     /// The least weight of a row into states of rank below `below` over its corners, if it has two entries and is
@@ -449,13 +448,8 @@ impl<'a> PairTable<'a> {
         let pair = self.pair(place.weights, place.corners, w)?;
         let first = is_below(ranks, targets[0], below);
         let second = is_below(ranks, targets[1], below);
-        let sum = counted_sum(pair.whole, pair.least, pair.greatest, first, second);
-        Some(LaneSum {
-            sum,
-            whole: pair.whole,
-            scale: pair.scale,
-            inverse: pair.inverse,
-        })
+        let sum = self.counted_sum(pair, first, second);
+        Some(pair.summed(sum))
     }
 
     /// The same of the only row of a state that has two entries.
@@ -470,21 +464,18 @@ impl<'a> PairTable<'a> {
         below: u32,
     ) -> Option<LaneSum>
         ghost spans: { Spans }
-        requires { CanRead case.now links.now spans self.now s 0 × (length ranks.now ≡ length case.now.model.states) }
+        requires can { CanRead case.now links.now spans self.now s 0 × (length ranks.now ≡ length case.now.model.states) }
         requires row { IsPairRow case.now.model links.now s row }
         ensures least { IfSome result (λ row. IsLeast (λ c. corner_sum case.now.d spans (row_at case.now.model s 0) c (ranked_below (mark ranks.now) below))
             (corner_count case.now s 0) (row.sum *ℤ row.scale)) }
         ensures whole { IfSome result (λ row. (pos 1 ≤ℤ row.whole) × ((pos 1 ≤ℤ row.scale) × IsWhole case.now s 0 (row.whole *ℤ row.scale))) }
     {
-        let pair = self.pair(row.weights, row.corners, case.w())?;
+        premises();
+        let w = case.w();
+        let pair = self.pair(row.weights, row.corners, w)?;
         let first = is_below(ranks, row.first, below);
         let second = is_below(ranks, row.second, below);
-        let sum = counted_sum(pair.whole, pair.least, pair.greatest, first, second);
-        Some(LaneSum {
-            sum,
-            whole: pair.whole,
-            scale: pair.scale,
-            inverse: pair.inverse,
-        })
+        let sum = self.counted_sum(pair, first, second);
+        Some(pair.summed(sum))
     }
 }

@@ -1,0 +1,4 @@
+use Rattle.corner_lift.proofs.paired.common_divisor.Given as goal
+
+abbrev pub decreases-loop-b : goal.decreases-loop-b
+decreases-loop-b l = l.b
