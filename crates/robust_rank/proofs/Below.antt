@@ -1,13 +1,13 @@
 -- Rows whose targets all have a low rank: all their weight leads there.
-use Rattle.std.proofs.Common.{◌≡◌, ℕ, ◌+◌, ◌^◌, ◌<◌, ◌≤◌, List, [], All, length, pos, ◌*ℤ◌, ◌≤ℤ◌, ◌<ℤ◌, ap, arith, nat_lt, lt-ltb}
+use Rattle.std.proofs.Common.{◌≡◌, ℕ, ◌<◌, List, [], All, length, pos, ◌*ℤ◌, ◌≤ℤ◌, ap, arith, lt-ltb}
 use Rattle.std.proofs.lemmas.List.Elements.{All-map}
 use Rattle.lift_poly.proofs.Ring.{linear, mul-comm, one-mul}
 use Rattle.lift_grid.specs.Rectangle.{Spans}
 use Rattle.lift_model.specs.declared.entry.Entry.{Entry}
 use Rattle.lift_model.specs.Process.{power}
-use Rattle.lift_model.specs.Model.{row_at, support}
+use Rattle.lift_model.specs.Model.{row_at}
 use Rattle.lift_model.specs.Links.{HasChoice, targets_of}
-use Rattle.corner_lift.specs.Corner.{AtCorners, corner_sum, parameter_count, whole}
+use Rattle.corner_lift.specs.Corner.{AtCorners, corner_sum, whole}
 use Rattle.corner_lift.specs.Case.{CaseData, IsCase, IsInside, row_whole}
 use Rattle.corner_lift.specs.Certificate.{mark, ranked_below}
 use Rattle.corner_lift.specs.Stages.{LeadsBelow}

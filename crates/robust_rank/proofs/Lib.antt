@@ -3,6 +3,7 @@ pub mod Frontier
 pub mod Stages
 pub mod Doubling
 pub mod Below
+pub mod Only
 pub mod Gathering
 pub mod Before
 pub mod Completing

@@ -1,7 +1,8 @@
-ghost use Rattle.std.specs.Prelude.{◌≡◌, ◌+◌, List, ◌≤◌, ◌<◌, ◌↔◌, ◌<ℤ◌, pos, ℕ, suc, length, false, IsTrue, IfSome, IsNone, All, count_by, slice_set};
+ghost use Rattle.std.specs.Prelude.{◌≡◌, ◌+◌, List, ◌≤◌, ◌<◌, ◌↔◌, ◌<ℤ◌, pos, ℕ, suc, length, false, IsTrue, IfSome, IsSome, IsNone, All, count_by, slice_set};
 ghost use Rattle.lift_grid.specs.Rectangle.{Spans};
 ghost use Rattle.lift_model.specs.Model.{is_goal, choices, row_at, row_count};
 ghost use Rattle.lift_model.specs.Links.{AreLinks, HasChoice, states_before, targets_of};
+ghost use Rattle.lift_model.specs.OnlyRow.{IsPairRow, IsSingleRow};
 ghost use Rattle.corner_lift.specs.Case.{IsInside};
 ghost use Rattle.corner_lift.specs.Certificate.{mark, unmarked};
 ghost use Rattle.corner_lift.specs.Stages.{LeadsBelow, AreStages};
@@ -119,6 +120,69 @@ pub(crate) fn are_both_below(row: PairRow, ranks: &[u32], below: u32) -> bool
     ranks[row.first as usize] < below && ranks[row.second as usize] < below
 }
 
+/// Whether the state has a rank less than `below`.
+#[inline(always)]
+fn is_below(target: u32, ranks: &[u32], below: u32) -> bool
+    requires { target < length ranks.now }
+    ensures { IsTrue result → mark ranks.now target < below }
+{
+    ranks[target as usize] < below
+}
+
+/// Whether the number is above 0.
+#[inline(always)]
+fn is_some(number: i64) -> bool
+    ensures { IsTrue result ↔ pos 0 <ℤ number }
+{
+    number > 0
+}
+
+/// Whether the only row of a state, which has two entries, leads below, if that is quickly told.
+#[inline(always)]
+fn pair_leads(
+    case: &Case,
+    links: &Links,
+    weights: &PairTable,
+    s: u32,
+    row: PairRow,
+    ranks: &[u32],
+    below: u32,
+) -> Option<bool>
+    ghost spans: { Spans }
+    requires links { AreLinks case.now.model links.now }
+    requires table { IsTable case.now links.now spans weights.now }
+    requires state { s < length case.now.model.states }
+    requires row { IsPairRow case.now.model links.now s row }
+    requires ranks { length ranks.now ≡ length case.now.model.states }
+    ensures { IfSome result (λ yes. IsTrue yes ↔ LeadsBelow case.now spans (mark ranks.now) below s 0) }
+{
+    rows_at_corners();
+    let _ = case.w();
+    if are_both_below(row, ranks, below) {
+        return Some(true);
+    }
+    let row = weights.least_into_of(case, links, s, row, ranks, below)?;
+    Some(is_some(row.sum))
+}
+
+/// Whether the only row of a state, which leads to that state alone, leads below, if that is quickly told.
+#[inline(always)]
+fn single_leads(case: &Case, s: u32, target: u32, ranks: &[u32], below: u32) -> Option<bool>
+    ghost spans: { Spans }
+    requires inside { IsInside case.now.root spans }
+    requires state { s < length case.now.model.states }
+    requires row { IsSingleRow case.now.model s target }
+    requires ranks { length ranks.now ≡ length case.now.model.states }
+    ensures { IfSome result (λ yes. IsTrue yes ↔ LeadsBelow case.now spans (mark ranks.now) below s 0) }
+{
+    rows_at_corners();
+    let _ = case.w();
+    if is_below(target, ranks, below) {
+        return Some(true);
+    }
+    None
+}
+
 /// Whether the only row of a state leads below, if that is quickly told.
 #[inline(always)]
 fn only_leads(
@@ -134,19 +198,13 @@ fn only_leads(
     requires table { IsTable case.now links.now spans weights.now }
     requires state { s < length case.now.model.states }
     requires ranks { length ranks.now ≡ length case.now.model.states }
-    ensures only { IfSome result (λ yes. length (choices case.now.model s) ≡ 1) }
+    ensures only { IsSome result → length (choices case.now.model s) ≡ 1 }
     ensures leads { IfSome result (λ yes. IsTrue yes ↔ LeadsBelow case.now spans (mark ranks.now) below s 0) }
 {
-    rows_at_corners();
-    let _ = case.w();
     match links.only_row(s) {
-        OnlyRow::Single(target) if ranks[target as usize] < below => Some(true),
-        OnlyRow::Pair(row) if are_both_below(row, ranks, below) => Some(true),
-        OnlyRow::Pair(row) => {
-            let row = weights.least_into_of(case, links, s, row, ranks, below)?;
-            Some(row.sum > 0)
-        }
-        _ => None,
+        OnlyRow::Single(target) => single_leads(case, s, target, ranks, below),
+        OnlyRow::Pair(row) => pair_leads(case, links, weights, s, row, ranks, below),
+        OnlyRow::Other => None,
     }
 }
 
@@ -195,11 +253,13 @@ fn leading_choice(
     ensures none { IsNone result → HasNoLeading case.now spans allowed.now (mark ranks.now) below s }
 {
     if let Some(leads) = only_leads(case, links, weights, s, ranks, below) {
-        return if leads && is_allowed(case, links, allowed, s, 0) {
-            Some(0)
-        } else {
-            None
-        };
+        if !leads {
+            return None;
+        }
+        if !is_allowed(case, links, allowed, s, 0) {
+            return None;
+        }
+        return Some(0);
     }
     leading_of_choices(case, links, weights, allowed, s, ranks, below)
 }

@@ -1,7 +1,9 @@
-ghost use Rattle.std.specs.Prelude.{◌≡◌, ◌≤◌, ◌<◌, ◌^◌, ◌*ℤ◌, ◌≤ℤ◌, ◌<ℤ◌, pos, length};
+ghost use Rattle.std.specs.Prelude.{◌≡◌, ◌≤◌, ◌<◌, ◌^◌, ◌*ℤ◌, ◌≤ℤ◌, ◌<ℤ◌, pos, length, IfSome, IsSome};
 ghost use Rattle.lift_grid.specs.Rectangle.{Spans};
+ghost use Rattle.lift_model.specs.Model.{choices};
 ghost use Rattle.lift_model.specs.Links.{AreLinks, HasChoice};
-ghost use Rattle.corner_lift.specs.Case.{engine_limit};
+ghost use Rattle.lift_model.specs.OnlyRow.{IsPairRow, IsSingleRow};
+ghost use Rattle.corner_lift.specs.Case.{IsInside, engine_limit};
 ghost use Rattle.corner_lift.specs.Certificate.{mark, most_rate};
 ghost use Rattle.corner_lift.specs.Stages.{LeadsBelow};
 ghost use Rattle.corner_lift.specs.Table.{IsTable};
@@ -10,7 +12,7 @@ ghost use Rattle.robust_rank.specs.Rate.{ArePicks, IsRowRate, IsStateRate, IsFir
 use crate::marks::{NONE, mark_of};
 use crate::ranking::{are_both_below, leads_only_below};
 use corner_lift::{Case, PairTable, Weighed, is_enough, least_into, rows_at_corners};
-use lift_model::{Links, OnlyRow};
+use lift_model::{Links, OnlyRow, PairRow};
 
 /// The greatest rate that there is need of.
 const MOST_RATE: u32 = 126;
@@ -30,6 +32,18 @@ fn doublings(weight: i128, whole: i128, first: u32) -> u32
         }
     }
     MOST_RATE
+}
+
+/// The same of numbers that 64 bits hold.
+#[inline(always)]
+fn short_doublings(weight: i64, whole: i64, first: u32) -> u32
+    requires weight { pos 1 ≤ℤ weight }
+    requires whole { pos 1 ≤ℤ whole }
+    requires first { first ≤ most_rate }
+    ensures least { IsFirstFrom (λ e. whole ≤ℤ (weight *ℤ pos (2 ^ e))) first result }
+    ensures most { result ≤ most_rate }
+{
+    doublings(i128::from(weight), i128::from(whole), first)
 }
 
 /// The least rate of the state's choice, but at least `first`.
@@ -63,6 +77,56 @@ fn rate_of_row(
     doublings(sum, whole, first)
 }
 
+/// The least rate of the only row of a state, which has two entries, if that is quickly told, but at least `first`.
+#[inline(always)]
+fn rate_of_pair(
+    case: &Case,
+    links: &Links,
+    weights: &PairTable,
+    ranks: &[u32],
+    s: u32,
+    row: PairRow,
+    first: u32,
+) -> Option<u32>
+    ghost spans: { Spans }
+    requires links { AreLinks case.now.model links.now }
+    requires table { IsTable case.now links.now spans weights.now }
+    requires state { s < length case.now.model.states }
+    requires row { IsPairRow case.now.model links.now s row }
+    requires ranks { length ranks.now ≡ length case.now.model.states }
+    requires leads { LeadsBelow case.now spans (mark ranks.now) (mark ranks.now s) s 0 }
+    requires first { first ≤ most_rate }
+    ensures least { IfSome result (IsFirstFrom (IsRowRate case.now spans ranks.now s 0) first) }
+    ensures most { IfSome result (λ rate. rate ≤ most_rate) }
+{
+    rows_at_corners();
+    let _ = case.w();
+    let rank = mark_of(ranks, s as usize);
+    if are_both_below(row, ranks, rank) {
+        return Some(first);
+    }
+    let row = weights.least_into_of(case, links, s, row, ranks, rank)?;
+    Some(short_doublings(row.sum, row.whole, first))
+}
+
+/// The least rate of the only row of a state, which leads to that state alone, but at least `first`.
+#[inline(always)]
+fn rate_of_single(case: &Case, ranks: &[u32], s: u32, target: u32, first: u32) -> u32
+    ghost spans: { Spans }
+    requires inside { IsInside case.now.root spans }
+    requires state { s < length case.now.model.states }
+    requires row { IsSingleRow case.now.model s target }
+    requires ranks { length ranks.now ≡ length case.now.model.states }
+    requires leads { LeadsBelow case.now spans (mark ranks.now) (mark ranks.now s) s 0 }
+    requires first { first ≤ most_rate }
+    ensures least { IsFirstFrom (IsRowRate case.now spans ranks.now s 0) first result }
+    ensures most { result ≤ most_rate }
+{
+    rows_at_corners();
+    let _ = case.w();
+    first
+}
+
 /// The least rate of the only row of a state, if that is quickly told, but at least `first`.
 #[inline(always)]
 fn rate_of_only(
@@ -78,21 +142,15 @@ fn rate_of_only(
     requires table { IsTable case.now links.now spans weights.now }
     requires state { s < length case.now.model.states }
     requires ranks { length ranks.now ≡ length case.now.model.states }
-    requires leads { LeadsBelow case.now spans (mark ranks.now) (mark ranks.now s) s 0 }
+    requires leads { length (choices case.now.model s) ≡ 1 → LeadsBelow case.now spans (mark ranks.now) (mark ranks.now s) s 0 }
     requires first { first ≤ most_rate }
+    ensures only { IsSome result → length (choices case.now.model s) ≡ 1 }
     ensures least { IfSome result (IsFirstFrom (IsRowRate case.now spans ranks.now s 0) first) }
     ensures most { IfSome result (λ rate. rate ≤ most_rate) }
 {
-    rows_at_corners();
-    let _ = case.w();
-    let rank = mark_of(ranks, s as usize);
     match links.only_row(s) {
-        OnlyRow::Single(_) => Some(first),
-        OnlyRow::Pair(row) if are_both_below(row, ranks, rank) => Some(first),
-        OnlyRow::Pair(row) => {
-            let row = weights.least_into_of(case, links, s, row, ranks, rank)?;
-            Some(doublings(i128::from(row.sum), i128::from(row.whole), first))
-        }
+        OnlyRow::Single(target) => Some(rate_of_single(case, ranks, s, target, first)),
+        OnlyRow::Pair(row) => rate_of_pair(case, links, weights, ranks, s, row, first),
         OnlyRow::Other => None,
     }
 }
