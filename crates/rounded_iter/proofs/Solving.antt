@@ -1,17 +1,19 @@
 -- What a number must be to be enough for a choice, and how far that goes when numbers rise.
-use Rattle.std.proofs.Common.{◌≡◌, ◌≢◌, ◌==◌, ℕ, zero, suc, ◌+◌, ◌*◌, ◌^◌, ◌<◌, ◌≤◌, Bool, true, false, List, [], ◌∷◌, length, set, get_or, All, ℤ, pos, negsuc, ◌+ℤ◌, ◌-ℤ◌, ◌*ℤ◌, ◌≤ℤ◌, ◌<ℤ◌, refl, sym, ap, ap₂, subst, ◌∙◌, arith, ◌⊎◌, ⊎_elim, length-set, get_or-set_same, get_or-set_other, cond, pow_mono, Contains, unsigned_abs, int_le, SFits, w64, to_z, of_z, to_z-of_z, mul-le-mul_left}
+use Rattle.std.proofs.Common.{◌≡◌, ◌≢◌, ◌==◌, ℕ, zero, suc, ◌+◌, ◌*◌, ◌^◌, ◌<◌, ◌≤◌, Bool, true, false, List, [], ◌∷◌, length, set, get_or, All, ℤ, pos, negsuc, ◌+ℤ◌, ◌-ℤ◌, ◌*ℤ◌, ◌≤ℤ◌, ◌<ℤ◌, refl, sym, ap, ap₂, subst, ◌∙◌, arith, ◌⊎◌, ⊎_elim, inl, inr, length-set, get_or-set_same, get_or-set_other, cond, pow_mono, Contains, Option, None, Some, IfSome, unsigned_abs, int_le, SFits, w64, to_z, of_z, to_z-of_z, mul-le-mul_left}
 use mir.Syntax.{w128}
 use Rattle.std.proofs.lemmas.Bool.{both_ways}
 use Rattle.std.proofs.lemmas.Int.{ints, by_lt_z, fits_signed_from_abs}
 use Rattle.std.proofs.lemmas.List.Elements.{All-set}
 use Rattle.std.proofs.lemmas.Nat.{pow_pos}
-use Rattle.lift_poly.proofs.Ring.{linear, mul-comm, mul-assoc, mul-add, mul-le, mul-le_cancel, mul-zero, zero-mul, one-mul, as_diff, diffs, diff-same, test_from_le}
+use Rattle.lift_poly.proofs.Ring.{linear, mul-comm, mul-assoc, mul-add, mul-le, mul-lt, mul-le_cancel, mul-zero, zero-mul, one-mul, as_diff, diffs, diff-same, test_from_le}
 use Rattle.lift_grid.specs.Rectangle.{Spans}
 use Rattle.lift_model.specs.declared.entry.Entry.{Entry}
 use Rattle.lift_model.specs.Process.{Move, power, weighted_sum}
-use Rattle.lift_model.specs.Model.{row_at, support, moves_at}
+use Rattle.lift_model.specs.Model.{ModelData, choices, row_at, support, moves_at}
 use Rattle.lift_model.specs.Links.{LinksData, ArePlaces, HasChoice, targets_of, place}
 use Rattle.lift_model.specs.declared.layout.RowPlace.{RowPlace}
+use Rattle.lift_model.specs.declared.only_row.PairRow.{PairRow}
+use Rattle.lift_model.specs.OnlyRow.{IsPairRow}
 use Rattle.lift_poly.specs.Polynomial.{Valuation, weight}
 use Rattle.lift_model.specs.Valid.{IsEntry}
 use Rattle.corner_lift.specs.Certificate.{AreNumbers, AtMost}
@@ -21,7 +23,7 @@ use Rattle.corner_lift.specs.Dot.{only_at}
 use Rattle.corner_lift.specs.Laws.{HasRow, BitsAreParameters, ParametersAreTheRoots, NumbersAreInRange, SumsAreInRange, SumsRise, WeightsSumToWhole}
 use Rattle.float_guess.specs.declared.part.Extreme.{Extreme}
 use Rattle.float_guess.specs.declared.part.Extreme.TheVariants.{Greatest, Least}
-use Rattle.rounded_iter.specs.Rising.{Across, IsExtreme, IsMoreExtreme, IsEnoughAt, SolvesAt, IsSolved}
+use Rattle.rounded_iter.specs.Rising.{Across, IsExtreme, IsMoreExtreme, IsEnoughAt, SolvesAt, IsSolved, IsRoundedUp, IsFirstFrom}
 
 -- ---- order
 
@@ -470,3 +472,53 @@ module _ (laws : RowLaws) (k : CaseData) (spans : Spans) (is : IsCase k) (within
         where
           nothing : (c : ℕ) (m : ℤ) → m *ℤ own c ≡ pos 0
           nothing c m = ap (λ w. m *ℤ w) (own_none (corner k.d spans (support row) c) s row none) ∙ mul-zero m
+
+      -- the least number from the state's own on that times the whole is at least the value
+      pub first_solved : (Contains (targets_of row) s → ⊥) → pos 1 ≤ℤ full → (v : ℤ) → IsFirstFrom n z full v → IsSolved e k spans x s a (corner_count k s a) v
+      first_solved none positive v found = ⊎_elim
+          (λ (still : (v ≡ n) × (z ≤ℤ (n *ℤ full))). rw still.0 (still_solved still.1))
+          (λ (rose : ((n *ℤ full) <ℤ z) × IsRoundedUp z full v). lone_solved none positive rose.0 v rose.1.0 rose.1.1)
+          found
+
+-- ---- states with one row, which is short
+
+-- a choice that is the only one
+pub only_choice : (m : ModelData) (s : ℕ) → s < length m.states → length (choices m s) ≡ 1 → HasChoice m s 0
+only_choice m s state only = record { state = state; choice = omega (arith, only) }
+
+pub pair_choice : (k : CaseData) (l : LinksData) (s : ℕ) (p : PairRow) → s < length k.model.states → IsPairRow k.model l s p → HasChoice k.model s 0
+pair_choice k l s p state pair = only_choice k.model s state pair.only
+
+-- a row with two entries into other states has none into its own
+pub pair_others : (m : ModelData) (l : LinksData) (s : ℕ) (p : PairRow) → IsPairRow m l s p → Contains (targets_of (row_at m s 0)) s → ⊥
+pair_others m l s p pair at = neither p.first p.second pair.others.0 pair.others.1 (subst (λ list. Contains list s) pair.targets at)
+  where
+    neither : (t u : ℕ) → t ≢ s → u ≢ s → Contains (t ∷ u ∷ []) s → ⊥
+    neither t u a b (zero, lt, e) = a e
+    neither t u a b (suc zero, lt, e) = b e
+    neither t u a b (suc (suc i), lt, e) = absurd (omega (arith, lt))
+
+-- ---- a sum and a whole that were divided by the same number
+
+pub scaled_least : (sum scale : ℤ) → pos 1 ≤ℤ scale → pos 0 ≤ℤ (sum *ℤ scale) → pos 0 ≤ℤ sum
+scaled_least sum scale some least = mul-le_cancel scale (pos 0) sum (omega (arith, linear, some)) (omega (arith, linear, least, mul-zero scale, mul-comm sum scale))
+
+turned : (n whole scale : ℤ) → n *ℤ (whole *ℤ scale) ≡ scale *ℤ (n *ℤ whole)
+turned n whole scale = sym (mul-assoc n whole scale) ∙ mul-comm (n *ℤ whole) scale
+
+scaled_enough : (n sum whole scale : ℤ) → pos 1 ≤ℤ scale → sum ≤ℤ (n *ℤ whole) → (sum *ℤ scale) ≤ℤ (n *ℤ (whole *ℤ scale))
+scaled_enough n sum whole scale some le = omega (arith, linear, mul-le scale sum (n *ℤ whole) (omega (arith, linear, some)) le, turned n whole scale, mul-comm sum scale)
+
+scaled_less : (n sum whole scale : ℤ) → pos 1 ≤ℤ scale → (n *ℤ whole) <ℤ sum → (n *ℤ (whole *ℤ scale)) <ℤ (sum *ℤ scale)
+scaled_less n sum whole scale some lt = omega (arith, linear, mul-lt scale (n *ℤ whole) sum (omega (arith, linear, some)) lt, turned n whole scale, mul-comm sum scale)
+
+-- the quotient is the same
+pub first_scaled : (n sum whole scale v : ℤ) → pos 1 ≤ℤ scale → IsFirstFrom n sum whole v → IsFirstFrom n (sum *ℤ scale) (whole *ℤ scale) v
+first_scaled n sum whole scale v some found = ⊎_elim
+    (λ (still : (v ≡ n) × (sum ≤ℤ (n *ℤ whole))). inl (still.0, scaled_enough n sum whole scale some still.1))
+    (λ (rose : ((n *ℤ whole) <ℤ sum) × IsRoundedUp sum whole v). inr (scaled_less n sum whole scale some rose.0, (scaled_enough v sum whole scale some rose.1.0, scaled_less (v -ℤ pos 1) sum whole scale some rose.1.1)))
+    found
+
+pub map_some : (P Q : ℤ → Type 0) (o : Option ℤ) → ((v : ℤ) → P v → Q v) → IfSome o P → IfSome o Q
+map_some P Q None f h = tt
+map_some P Q (Some v) f h = f v h

@@ -1,5 +1,5 @@
 -- What the iteration keeps: a vector at or below every bound, which can only rise. A bound is an upper vector where the greatest corner of a row counts, and a value vector where the least does.
-use Rattle.std.specs.Prelude.{◌≡◌, ℕ, ◌+◌, ◌<◌, ◌^◌, ◌⊎◌, true, false, List, [], ◌∷◌, ℤ, pos, ◌-ℤ◌, ◌*ℤ◌, ◌≤ℤ◌, ◌<ℤ◌, nat_abs, length, slice_set}
+use Rattle.std.specs.Prelude.{◌≡◌, ℕ, ◌+◌, ◌<◌, ◌^◌, ◌⊎◌, true, false, List, [], ◌∷◌, ℤ, pos, ◌-ℤ◌, ◌*ℤ◌, ◌≤ℤ◌, ◌<ℤ◌, nat_abs, length, slice_set, Contains}
 use Rattle.lift_grid.specs.Rectangle.{Spans}
 use Rattle.lift_model.specs.Model.{is_goal, choices, row_at}
 use Rattle.lift_model.specs.Links.{LinksData, AreLinks, HasChoice, targets_of}
@@ -89,6 +89,17 @@ IsFirstFrom n sum whole v = ((v ≡ n) × (sum ≤ℤ (n *ℤ whole))) ⊎ (((n 
 pub record CanTry (t : TableData) (spans : Spans) (x : List ℤ) (s a : ℕ) : Type 0 where
   pub read : IsRead t spans
   pub row : HasChoice t.case.model s a
+  pub numbers : AreNumbers t.case x
+
+-- what it needs to try a choice that doesn't lead back to its state
+pub record CanTryOther (t : TableData) (spans : Spans) (x : List ℤ) (s a : ℕ) : Type 0 where
+  pub can : CanTry t spans x s a
+  pub other : Contains (targets_of (row_at t.case.model s a)) s → ⊥
+
+-- what it needs to try the only choice of a state, if the state has only one
+pub record CanTryOnly (t : TableData) (spans : Spans) (x : List ℤ) (s : ℕ) : Type 0 where
+  pub read : IsRead t spans
+  pub state : s < length t.case.model.states
   pub numbers : AreNumbers t.case x
 
 -- what it needs to try one with these targets

@@ -1,12 +1,13 @@
 //! The least number of a state that is enough for one of its choices.
 
-ghost use Rattle.std.specs.Prelude.{◌≡◌, ◌*◌, ◌<◌, ◌^◌, ◌≤ℤ◌, ◌<ℤ◌, ◌*ℤ◌, ◌-ℤ◌, pos, unsigned_abs, Contains, IsTrue, IsFalse, IfSome, [], ◌∷◌};
-ghost use Rattle.lift_model.specs.Model.{row_at};
+ghost use Rattle.std.specs.Prelude.{◌≡◌, ◌*◌, ◌<◌, ◌^◌, ◌≤ℤ◌, ◌<ℤ◌, ◌*ℤ◌, ◌-ℤ◌, pos, unsigned_abs, length, Contains, IsTrue, IsFalse, IsSome, IfSome, [], ◌∷◌};
+ghost use Rattle.lift_model.specs.Model.{choices, row_at};
 ghost use Rattle.lift_model.specs.Links.{AreLinks, HasChoice, targets_of};
+ghost use Rattle.lift_model.specs.OnlyRow.{IsPairRow, IsSingleRow};
 ghost use Rattle.lift_grid.specs.Rectangle.{Spans};
 ghost use Rattle.corner_lift.specs.Case.{row_value, row_whole, corner_count, most_precision, engine_limit};
 ghost use Rattle.corner_lift.specs.Table.{IsWhole};
-ghost use Rattle.rounded_iter.specs.Rising.{CanTry, CanWeigh, CanSolve, IsExtreme, IsMoreExtreme, SolvesAt, IsSolved, IsRoundedUp, IsFirstFrom};
+ghost use Rattle.rounded_iter.specs.Rising.{CanTry, CanTryOther, CanTryOnly, CanWeigh, CanSolve, IsExtreme, IsMoreExtreme, SolvesAt, IsSolved, IsRoundedUp, IsFirstFrom};
 
 use crate::table::Table;
 use corner_lift::{
@@ -304,12 +305,30 @@ impl Table<'_> {
         ghost spans: { Spans }
         requires { CanTry self.now spans lane.now s a }
         ensures extreme { IfSome result (λ row. IsExtreme self.now.extreme (row_value self.now.case spans s a lane.now)
-            (corner_count self.now.case s a) row.sum) }
-        ensures whole { IfSome result (λ row. IsWhole self.now.case s a row.whole) }
+            (corner_count self.now.case s a) (row.sum *ℤ row.scale)) }
+        ensures whole { IfSome result (λ row. (pos 1 ≤ℤ row.whole) × ((pos 1 ≤ℤ row.scale) × IsWhole self.now.case s a (row.whole *ℤ row.scale))) }
     {
         match self.extreme {
             Extreme::Greatest => self.weights.greatest(self.case, self.links, s, a, lane),
             Extreme::Least => self.weights.least(self.case, self.links, s, a, lane),
+        }
+    }
+
+    /// The same of the only row of a state, which has two entries.
+    #[inline(always)]
+    fn weigh_only_pair(&self, lane: &[i64], s: u32, row: PairRow) -> Option<LaneSum>
+        ghost spans: { Spans }
+        requires can { CanTry self.now spans lane.now s 0 }
+        requires row { IsPairRow self.now.case.model self.now.links s row }
+        ensures extreme { IfSome result (λ row. IsExtreme self.now.extreme (row_value self.now.case spans s 0 lane.now)
+            (corner_count self.now.case s 0) (row.sum *ℤ row.scale)) }
+        ensures whole { IfSome result (λ row. (pos 1 ≤ℤ row.whole) × ((pos 1 ≤ℤ row.scale) × IsWhole self.now.case s 0 (row.whole *ℤ row.scale))) }
+    {
+        match self.extreme {
+            Extreme::Greatest => self
+                .weights
+                .greatest_of(self.case, self.links, s, row, lane),
+            Extreme::Least => self.weights.least_of(self.case, self.links, s, row, lane),
         }
     }
 
@@ -389,29 +408,36 @@ impl Table<'_> {
     {
         rows_at_corners();
         corners_bound_weights();
-        let number = lane[s as usize];
         let row = self.weigh_pair(lane, s, a)?;
-        lane_from(number, row)
+        lane_from(lane[s as usize], row)
     }
 
     /// The same of the only row of a state, which has two entries, if it is quickly looked up.
     #[inline(always)]
     fn enough_for_only_pair(&self, lane: &[i64], s: u32, row: PairRow) -> Option<i64>
         ghost spans: { Spans }
-        requires can { CanTry self.now spans lane.now s 0 }
+        requires can { CanTryOnly self.now spans lane.now s }
         requires row { IsPairRow self.now.case.model self.now.links s row }
         ensures { IfSome result (IsSolved self.now.extreme self.now.case spans lane.now s 0 (corner_count self.now.case s 0)) }
     {
         rows_at_corners();
         corners_bound_weights();
-        let number = lane[s as usize];
-        let row = match self.extreme {
-            Extreme::Greatest => self
-                .weights
-                .greatest_of(self.case, self.links, s, row, lane),
-            Extreme::Least => self.weights.least_of(self.case, self.links, s, row, lane),
-        }?;
-        lane_from(number, row)
+        let row = self.weigh_only_pair(lane, s, row)?;
+        lane_from(lane[s as usize], row)
+    }
+
+    /// The least number from the state's own on that is enough for the only row of a state, which leads to that state
+    /// alone: the greater of both numbers.
+    #[inline(always)]
+    fn enough_for_single(&self, lane: &[i64], s: u32, target: u32) -> i64
+        ghost spans: { Spans }
+        requires can { CanTryOnly self.now spans lane.now s }
+        requires row { IsSingleRow self.now.case.model s target }
+        ensures { IsSolved self.now.extreme self.now.case spans lane.now s 0 (corner_count self.now.case s 0) result }
+    {
+        rows_at_corners();
+        corners_bound_weights();
+        more_extreme(Extreme::Greatest, lane[s as usize], lane[target as usize])
     }
 
     /// The least number from the state's own on that is enough for the only row of a state, if that is quickly
@@ -419,17 +445,16 @@ impl Table<'_> {
     #[inline(always)]
     pub(crate) fn enough_for_only(&self, lane: &[i64], s: u32) -> Option<i64>
         ghost spans: { Spans }
-        requires can { CanTryOnly self.now spans lane.now s }
-        ensures { IfSome result (SolvesOnly self.now spans lane.now s) }
+        requires { CanTryOnly self.now spans lane.now s }
+        ensures only { IsSome result → length (choices self.now.case.model s) ≡ 1 }
+        ensures solved { IfSome result (IsSolved self.now.extreme self.now.case spans lane.now s 0 (corner_count self.now.case s 0)) }
     {
         let number = lane[s as usize];
         if number == self.top {
             return None;
         }
         match self.links.only_row(s) {
-            OnlyRow::Single(target) => {
-                Some(more_extreme(Extreme::Greatest, number, lane[target as usize]))
-            }
+            OnlyRow::Single(target) => Some(self.enough_for_single(lane, s, target)),
             OnlyRow::Pair(row) => self.enough_for_only_pair(lane, s, row),
             OnlyRow::Other => None,
         }

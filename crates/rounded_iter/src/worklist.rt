@@ -1,7 +1,7 @@
 //! An iteration that looks at a state again only where one that it leads to rose. Each position in the
 //! order of states has a flag, which says that its state may have to rise.
 
-ghost use Rattle.std.specs.Prelude.{◌≡◌, ◌≢◌, ◌+◌, ◌<◌, ◌≤ℤ◌, ◌<ℤ◌, ℕ, pos, length, IsTrue, IsFalse, IsSome};
+ghost use Rattle.std.specs.Prelude.{◌≡◌, ◌≢◌, ◌+◌, ◌<◌, ◌≤ℤ◌, ◌<ℤ◌, ℕ, pos, length, slice_index_or, slice_set, IsTrue, IsFalse, IsSome};
 ghost use Rattle.lift_model.specs.Model.{choices};
 ghost use Rattle.lift_model.specs.Links.{AreLinks};
 ghost use Rattle.corner_lift.specs.Case.{IsCase, number};
@@ -44,6 +44,7 @@ fn take_flag(work: &mut [u32], position: u32) -> bool
 fn write_number(lane: &mut [i64], s: u32, number: i64) -> bool
     requires { s < length lane.old }
     ensures written { lane.new ≡ slice_set lane.old s number }
+    ensures other { IsTrue result → number ≢ slice_index_or lane.old s (pos 0) }
     ensures same { IsFalse result → number ≡ slice_index_or lane.old s (pos 0) }
 {
     let is_other = number != lane[s as usize];
@@ -124,6 +125,8 @@ impl Table<'_> {
         requires { CanRaise self.now run lane.old s }
         ensures { IsRaisedState self.now run lane.old lane.new s result }
     {
+        rows_at_corners();
+        corners_bound_weights();
         match self.enough_for_only(lane, s) {
             Some(number) => write_number(lane, s, number),
             None => self.raise(lane, s),

@@ -12,7 +12,7 @@ returns g c =
 
 pub find-requires : goal.find-requires
 find-requires g c = record {
-  read = record { case = c.w.ensures.case; links = c.requires.can.links; table = c.requires.can.table };
+  read = record { case = c.w.ensures.case; links = c.requires.can.links; table = rw c.of-pairs.ensures c.requires.can.table };
   below = below_of (laws_of c.rows_at_corners.ensures.parameters c.rows_at_corners.ensures.numbers c.rows_at_corners.ensures.range c.rows_at_corners.ensures.rise c.corners_bound_weights.ensures.sum) c.args.case.now g.spans c.w.ensures.case c.requires.can.table.inside c.args.lane.now c.set_goals.new.lane c.w.ensures.case.asked.model.goals c.set_goals.auto.lane c.requires.below c.set_goals.ensures;
   places = c.requires.can.places;
 }

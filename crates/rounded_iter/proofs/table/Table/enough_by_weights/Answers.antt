@@ -1,46 +1,14 @@
-use Rattle.std.proofs.Common.{rules, SFits, w64, ◌≡◌, ◌*ℤ◌, ◌≤ℤ◌, ◌<ℤ◌, to_z-of_z, sym, subst, Contains, ⊎_elim}
-use mir.Syntax.{w128}
-use Rattle.corner_lift.specs.Case.{number, row_whole}
-use Rattle.rounded_iter.specs.Rising.{IsRoundedUp}
-use Rattle.rounded_iter.proofs.Solving.{laws_of, number_small, extreme_least, extreme_most, still_solved, lone_solved}
+use Rattle.std.proofs.Common.{sym, subst, Contains}
 use Rattle.rounded_iter.proofs.table.Table.enough_by_weights.Goals as goal
 
-pub least_from-requires-clause-room : goal.least_from-requires-clause-room
-least_from-requires-clause-room g c =
-    let r = c.requires.can in
-    let whole_is = c.weigh-sum.ensures.whole in
-    let number_fits : SFits w64 (number c.args.lane.now c.args.s) = search rules in
-    let whole_fits : SFits w128 c.weigh-sum.result.whole = search rules in
-    rw (to_z-of_z number_fits, to_z-of_z whole_fits) (whole_is.room _ (number_small (laws_of c.rows_at_corners.ensures.parameters c.rows_at_corners.ensures.numbers c.rows_at_corners.ensures.range c.rows_at_corners.ensures.rise c.corners_bound_weights.ensures.sum) c.args.self.now.case g.spans r.read.case r.read.table.inside c.args.s c.args.a r.row c.args.lane.now r.numbers))
+pub enough_for_pair-requires : goal.enough_for_pair-requires
+enough_for_pair-requires g c = record {
+  can = c.requires.can;
+  other = λ at. c.leads_to.ensures c.if-leads_to.false (subst (λ list. Contains list c.args.s) (sym c.requires.targets_are) at);
+}
 
-pub least_from-requires-clause-least : goal.least_from-requires-clause-least
-least_from-requires-clause-least g c =
-    let r = c.requires.can in
-    let sum_fits : SFits w128 c.weigh-sum.result.sum = search rules in
-    rw (to_z-of_z sum_fits) (extreme_least (laws_of c.rows_at_corners.ensures.parameters c.rows_at_corners.ensures.numbers c.rows_at_corners.ensures.range c.rows_at_corners.ensures.rise c.corners_bound_weights.ensures.sum) c.args.self.now.case g.spans r.read.case r.read.table.inside c.args.s c.args.a r.row c.args.lane.now r.numbers _ c.weigh-sum.result.sum c.weigh-sum.ensures.extreme)
-
-pub least_from-requires-clause-most : goal.least_from-requires-clause-most
-least_from-requires-clause-most g c =
-    let r = c.requires.can in
-    let whole_is = c.weigh-sum.ensures.whole in
-    let sum_fits : SFits w128 c.weigh-sum.result.sum = search rules in
-    let whole_fits : SFits w128 c.weigh-sum.result.whole = search rules in
-    rw (to_z-of_z sum_fits, to_z-of_z whole_fits, whole_is.value) (extreme_most (laws_of c.rows_at_corners.ensures.parameters c.rows_at_corners.ensures.numbers c.rows_at_corners.ensures.range c.rows_at_corners.ensures.rise c.corners_bound_weights.ensures.sum) c.args.self.now.case g.spans r.read.case r.read.table.inside c.args.s c.args.a r.row c.args.lane.now r.numbers _ c.weigh-sum.result.sum c.weigh-sum.ensures.extreme (rw whole_is.value at whole_is.positive))
-
-pub returns : goal.returns
-returns g c =
-    let r = c.requires.can in
-    let whole_is = c.weigh-sum.ensures.whole in
-    let n = number c.args.lane.now c.args.s in
-    let sum = c.weigh-sum.result.sum in
-    let full = row_whole c.args.self.now.case c.args.s c.args.a in
-    let v = c.least_from.result in
-    let number_fits : SFits w64 (number c.args.lane.now c.args.s) = search rules in
-    let whole_fits : SFits w128 c.weigh-sum.result.whole = search rules in
-    let sum_fits : SFits w128 c.weigh-sum.result.sum = search rules in
-    let result_fits : SFits w64 c.least_from.result = search rules in
-    let found = rw (to_z-of_z number_fits, to_z-of_z sum_fits, to_z-of_z whole_fits, whole_is.value) at c.least_from.ensures in
-    rw (to_z-of_z result_fits) (⊎_elim
-    (λ (still : (v ≡ n) × (sum ≤ℤ (n *ℤ full))). rw still.0 (still_solved (laws_of c.rows_at_corners.ensures.parameters c.rows_at_corners.ensures.numbers c.rows_at_corners.ensures.range c.rows_at_corners.ensures.rise c.corners_bound_weights.ensures.sum) c.args.self.now.case g.spans r.read.case r.read.table.inside c.args.s c.args.a r.row c.args.lane.now r.numbers _ sum c.weigh-sum.ensures.extreme still.1))
-    (λ (rose : ((n *ℤ full) <ℤ sum) × IsRoundedUp sum full v). lone_solved (laws_of c.rows_at_corners.ensures.parameters c.rows_at_corners.ensures.numbers c.rows_at_corners.ensures.range c.rows_at_corners.ensures.rise c.corners_bound_weights.ensures.sum) c.args.self.now.case g.spans r.read.case r.read.table.inside c.args.s c.args.a r.row c.args.lane.now r.numbers _ sum c.weigh-sum.ensures.extreme (λ at. c.if-leads_to.ensures (search rules) (subst (λ list. Contains list c.args.s) (sym c.requires.targets_are) at)) (rw whole_is.value at whole_is.positive) rose.0 v rose.1.0 rose.1.1)
-    found)
+pub enough_for_row-requires : goal.enough_for_row-requires
+enough_for_row-requires g c = record {
+  can = c.requires.can;
+  other = λ at. c.leads_to.ensures c.if-leads_to.false (subst (λ list. Contains list c.args.s) (sym c.requires.targets_are) at);
+}

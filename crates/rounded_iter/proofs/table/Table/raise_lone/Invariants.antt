@@ -1,7 +1,7 @@
 use Rattle.rounded_iter.proofs.table.Table.raise_lone.Given as goal
 
-abbrev pub ghost-raise_choice : goal.ghost-raise_choice
-ghost-raise_choice g a = g.run
+abbrev pub ghost-enough_for_only : goal.ghost-enough_for_only
+ghost-enough_for_only g a = g.run.spans
 
 abbrev pub ghost-raise : goal.ghost-raise
 ghost-raise g a = g.run

@@ -31,7 +31,7 @@ returns-then-sum-times g c =
 pub table_corner-sum-requires : goal.table_corner-sum-requires
 table_corner-sum-requires g c =
     let r = rw (← c.self.view_is) at c.requires in
-    (record { places = r.can.read.links.laid; table = r.can.read.table; row = r.can.row }, r.can.numbers, r.corner)
+    (record { places = r.can.read.links.laid; table = rw c.weights.ensures r.can.read.table; row = r.can.row }, r.can.numbers, r.corner)
 
 pub times-requires-2 : goal.times-requires-2
 times-requires-2 g c =

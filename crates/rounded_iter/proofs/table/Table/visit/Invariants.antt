@@ -1,4 +1,4 @@
 use Rattle.rounded_iter.proofs.table.Table.visit.Given as goal
 
-abbrev pub ghost-raise : goal.ghost-raise
-ghost-raise g a = g.run
+abbrev pub ghost-raise_lone : goal.ghost-raise_lone
+ghost-raise_lone g a = g.run
