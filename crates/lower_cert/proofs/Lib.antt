@@ -9,6 +9,7 @@ mod Samples
 pub mod Lowering
 pub mod Settling
 pub mod Sweeping
+pub mod Lanes
 pub mod Exits
 pub mod BestExit
 pub mod Beginning

@@ -4,6 +4,7 @@ ghost use Rattle.std.specs.Prelude.{IfSome, ℕ, ◌≡◌, ◌*◌, ◌+◌, �
 ghost use Rattle.lift_grid.specs.Rectangle.{Spans};
 ghost use Rattle.lift_model.specs.Model.{choices, row_count};
 ghost use Rattle.lift_model.specs.Links.{HasChoice};
+ghost use Rattle.lift_model.specs.OnlyRow.{IsPairRow};
 ghost use Rattle.corner_lift.specs.Case.{IsInside, corner_count, engine_limit, number, row_value, row_whole};
 ghost use Rattle.corner_lift.specs.Certificate.{AreNumbers, mark, unmarked};
 ghost use Rattle.corner_lift.specs.Stages.{IsAllowed};
@@ -12,7 +13,7 @@ ghost use Rattle.lower_cert.specs.Lowering.{IsRead, HasPlaces, IsHigh, IsRanked,
 use crate::laws::{premises, vectors_are_lowered};
 use crate::sweep::choice_count;
 use corner_lift::{Case, LaneSum, PairTable, is_held, one_at, rows_at_corners};
-use lift_model::{Links, OnlyRow};
+use lift_model::{Links, OnlyRow, PairRow};
 use robust_rank::{attract, ranks_go_by_stages};
 
 /// In place of a rank or of a pick where a state has none.
@@ -77,7 +78,32 @@ fn holds(
         → (number *ℤ row_whole case.now s a) ≤ℤ row_value case.now spans s a lane.now c)) }
 {
     let row = weights.least(case, links, s, a, lane)?;
-    reaches(row, number)
+    let yes = reaches(row, number)?;
+    Some(yes)
+}
+
+/// The same of the only row of a state, which has two entries.
+#[inline(always)]
+fn pair_holds(
+    case: &Case,
+    links: &Links,
+    weights: &PairTable,
+    lane: &[i64],
+    s: u32,
+    row: PairRow,
+    number: i64,
+) -> Option<bool>
+    ghost spans: { Spans }
+    requires read { IsRead case.now links.now spans weights.now lane.now }
+    requires numbers { AreNumbers case.now lane.now }
+    requires state { s < length case.now.model.states }
+    requires row { IsPairRow case.now.model links.now s row }
+    ensures { IfSome result (λ yes. IsTrue yes ↔ ((c : ℕ) → c < corner_count case.now s 0
+        → (number *ℤ row_whole case.now s 0) ≤ℤ row_value case.now spans s 0 lane.now c)) }
+{
+    let row = weights.least_of(case, links, s, row, lane)?;
+    let yes = reaches(row, number)?;
+    Some(yes)
 }
 
 /// Whether the state's choice holds its number at each corner.
@@ -125,7 +151,10 @@ fn only_holds(case: &Case, links: &Links, weights: &PairTable, lane: &[i64], s: 
     let number = lane[s as usize];
     match links.only_row(s) {
         OnlyRow::Single(target) => Some(number <= lane[target as usize]),
-        OnlyRow::Pair(row) => reaches(weights.least_of(case, links, s, row, lane)?, number),
+        OnlyRow::Pair(row) => {
+            let yes = pair_holds(case, links, weights, lane, s, row, number)?;
+            Some(yes)
+        }
         OnlyRow::Other => None,
     }
 }

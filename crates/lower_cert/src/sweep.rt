@@ -172,15 +172,28 @@ pub(crate) fn only_target(case: &Case, links: &Links, s: u32, a: u32) -> Option<
     }
 }
 
-/// Whether the next number is too much for the quotient of a sum by a whole.
+/// Whether a sum is less than what comes of a product by one more whole, as far as 64 bits tell.
+#[inline(always)]
+fn is_passed(sum: i64, product: i64, whole: i64) -> bool
+    ensures { IsTrue result → sum <ℤ (product +ℤ whole) }
+{
+    match product.checked_add(whole) {
+        Some(next) => sum < next,
+        None => false,
+    }
+}
+
+/// Whether a number from 0 on is at least the quotient of a sum by a whole, rounded down, as far as 64 bits tell.
 #[inline(always)]
 fn is_quotient(sum: i64, whole: i64, quotient: i64) -> bool
-    requires { pos 1 ≤ℤ whole }
     ensures least { IsTrue result → pos 0 ≤ℤ quotient }
     ensures less { IsTrue result → sum <ℤ ((quotient +ℤ pos 1) *ℤ whole) }
 {
+    if quotient < 0 {
+        return false;
+    }
     match quotient.checked_mul(whole) {
-        Some(product) => quotient >= 0 && sum.saturating_sub(product) < whole,
+        Some(product) => is_passed(sum, product, whole),
         None => false,
     }
 }
@@ -188,8 +201,6 @@ fn is_quotient(sum: i64, whole: i64, quotient: i64) -> bool
 /// The quotient of a row's sum by its whole, rounded down, where the row's guess finds it.
 #[inline(always)]
 fn lane_quotient(row: LaneSum) -> Option<i64>
-    requires least { pos 0 ≤ℤ row.sum }
-    requires positive { pos 1 ≤ℤ row.whole }
     ensures least { IfSome result (λ quotient. pos 0 ≤ℤ quotient) }
     ensures less { IfSome result (λ quotient. row.sum <ℤ ((quotient +ℤ pos 1) *ℤ row.whole)) }
 {
@@ -222,7 +233,8 @@ fn held_by_pair(
     rows_at_corners();
     let _ = case.w();
     let row = weights.least(case, links, s, a, lane)?;
-    lane_quotient(row)
+    let number = lane_quotient(row)?;
+    Some(number)
 }
 
 /// How high a state is held by a choice without a self loop: its least weighted mean over the corners,
@@ -287,13 +299,13 @@ fn held_by_only_pair(
     requires can { CanWeigh case.now links.now spans weights.now lane.now }
     requires state { s < length case.now.model.states }
     requires row { IsPairRow case.now.model links.now s row }
-    ensures least { IfSome result (λ number. pos 0 ≤ℤ number) }
-    ensures most { IfSome result (HoldsNoMore case.now spans lane.now s 0) }
+    ensures { IfSome result (HoldNoMore case.now spans lane.now s (length (choices case.now.model s))) }
 {
     rows_at_corners();
     let _ = case.w();
     let row = weights.least_of(case, links, s, row, lane)?;
-    lane_quotient(row)
+    let number = lane_quotient(row)?;
+    Some(number)
 }
 
 /// How high a state is held by its only row, if that is quickly looked up.

@@ -1,7 +1,4 @@
 use Rattle.lower_cert.proofs.greatest.greatest_reject_from.Given as goal
 
-abbrev pub ghost-descend : goal.ghost-descend
-ghost-descend g a = g.spans
-
-abbrev pub ghost-rate_of : goal.ghost-rate_of
-ghost-rate_of g a = g.spans
+abbrev pub ghost-reject_from : goal.ghost-reject_from
+ghost-reject_from g a = g.spans

@@ -1,19 +1,17 @@
-use Rattle.std.proofs.Common.{◌≡◌, ◌<◌, ◌≤◌, length, arith}
+use Rattle.std.proofs.Common.{◌≡◌, ◌<◌, length, set, arith}
 use Rattle.lift_model.specs.Model.{choices}
 use Rattle.lift_model.specs.Links.{row_number}
+use Rattle.lower_cert.specs.Lowering.{AreToldBefore}
 use Rattle.lower_cert.proofs.Lowering.{told_next, told_state, row_inside}
 use Rattle.lower_cert.proofs.lower.allow_state.Goals as goal
 
-pub loop-a-preserved : goal.loop-a-preserved
-loop-a-preserved g c =
+pub returns-in-Some : goal.returns-in-Some
+returns-in-Some g c =
     let k = c.args.case.now in
-    let row : c.row_place-row.result ≡ row_number k.model c.args.s c.loop-a.a = omega (arith, c.row_place-row.ensures.value, c.requires.0.links.laid.numbers c.args.s c.requires.1.1.0) in
-    let choice : c.loop-a.a < length (choices k.model c.args.s) = omega (arith, c.loop-a-test.true, c.choice_count-a-end.ensures) in
-    let room : row_number k.model c.args.s c.loop-a.a < length c.loop-a.allowed = omega (arith, row_inside k.model.states c.args.s c.loop-a.a choice, c.loop-a.auto.allowed, c.requires.1.1.1.0) in
-    rw row (told_next k g.spans c.args.lane.now c.loop-a.allowed c.args.s c.loop-a.a c.loop-a.invariant c.flag.result room
-    (λ e. c.is_allowed.ensures.0 (c.flag.ensures.no e), λ h. c.flag.ensures.yes (c.is_allowed.ensures.1 h)))
-
-pub returns : goal.returns
-returns g c =
-    let all : length (choices c.args.case.now.model c.args.s) ≤ c.loop-a.a = omega (arith, c.loop-a-test.false, c.choice_count-a-end.ensures) in
-    record { told = told_state c.args.case.now g.spans c.args.lane.now c.loop-a.allowed c.args.s c.loop-a.a c.loop-a.invariant all }
+    let only = c.in-Some.ensures.only in
+    let row : c.row_place.result ≡ row_number k.model c.args.s 0 = omega (arith, c.row_place.ensures.value, c.requires.0.links.laid.numbers c.args.s c.requires.1.1.0) in
+    let choice : 0 < length (choices k.model c.args.s) = omega (arith, only) in
+    let room : row_number k.model c.args.s 0 < length c.args.allowed.now = omega (arith, row_inside k.model.states c.args.s 0 choice, c.requires.1.1.1.0) in
+    let next : AreToldBefore k g.spans c.args.lane.now (set c.args.allowed.now c.row_place.result c.flag.result) c.args.s 1 = rw row (told_next k g.spans c.args.lane.now c.args.allowed.now c.args.s 0 c.requires.1.1.1.1 c.flag.result room
+    (λ e. c.in-Some.ensures.allowed.0 (c.flag.ensures.no e), λ h. c.flag.ensures.yes (c.in-Some.ensures.allowed.1 h))) in
+    record { told = told_state k g.spans c.args.lane.now (set c.args.allowed.now c.row_place.result c.flag.result) c.args.s 1 next (omega (arith, only)) }

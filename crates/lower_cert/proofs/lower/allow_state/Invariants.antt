@@ -1,9 +1,7 @@
-use Rattle.lower_cert.specs.Lowering.{AreToldBefore}
 use Rattle.lower_cert.proofs.lower.allow_state.Given as goal
 
-abbrev pub ghost-is_allowed : goal.ghost-is_allowed
-ghost-is_allowed g a = g.spans
+abbrev pub ghost-only_holds : goal.ghost-only_holds
+ghost-only_holds g a = g.spans
 
--- the rows before this one are told
-abbrev pub invariant-loop-a : goal.invariant-loop-a
-invariant-loop-a g l = AreToldBefore l.case g.spans l.lane l.allowed l.s l.a
+abbrev pub ghost-allow_choices : goal.ghost-allow_choices
+ghost-allow_choices g a = g.spans

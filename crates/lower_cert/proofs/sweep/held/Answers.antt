@@ -18,7 +18,12 @@ returns-then-target-s-clause-most g c =
     let fits : SFits w64 (number c.args.lane.now c.in-Some.target) = search rules in
     rw (to_z-of_z fits) (only_holds c.args.case.now g.spans (stand laws c.args.case.now g.spans c.w.ensures.case c.requires.0.read.table.inside) c.args.lane.now c.args.s c.args.a c.in-Some.target c.requires.1.choice c.in-Some.ensures)
 
-pub returns-else-has_loop-clause-most : goal.returns-else-has_loop-clause-most
-returns-else-has_loop-clause-most g c =
+pub returns-in-Some-held_by_pair-clause-most : goal.returns-in-Some-held_by_pair-clause-most
+returns-in-Some-held_by_pair-clause-most g c =
+    let fits : SFits w64 c.in-Some-held_by_pair.number = search rules in
+    rw (to_z-of_z fits) c.in-Some-held_by_pair.ensures.most
+
+pub returns-in-None-clause-most : goal.returns-in-None-clause-most
+returns-in-None-clause-most g c =
     let fits : SFits w64 c.held_by_least.result = search rules in
     rw (to_z-of_z fits) c.held_by_least.ensures.most

@@ -1,9 +1,7 @@
-use Rattle.lower_cert.specs.Lowering.{HoldNoMore}
 use Rattle.lower_cert.proofs.sweep.most_held.Given as goal
 
-abbrev pub ghost-held : goal.ghost-held
-ghost-held g a = g.spans
+abbrev pub ghost-held_by_only : goal.ghost-held_by_only
+ghost-held_by_only g a = g.spans
 
--- the choices so far hold no more
-abbrev pub invariant-loop-a : goal.invariant-loop-a
-invariant-loop-a g l = HoldNoMore l.case g.spans l.lane l.s l.a l.most
+abbrev pub ghost-held_by_choices : goal.ghost-held_by_choices
+ghost-held_by_choices g a = g.spans

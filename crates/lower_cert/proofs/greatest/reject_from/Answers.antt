@@ -2,7 +2,7 @@ use Rattle.std.proofs.Common.{to_z-of_z, arith}
 use Rattle.std.proofs.lemmas.Int.{by_lt_z}
 use Rattle.lift_poly.proofs.Ring.{linear}
 use Rattle.corner_lift.specs.Case.{number}
-use Rattle.lower_cert.proofs.greatest.greatest_reject_from.Goals as goal
+use Rattle.lower_cert.proofs.greatest.reject_from.Goals as goal
 
 pub rate_of-requires : goal.rate_of-requires
 rate_of-requires g c =

@@ -2,21 +2,16 @@ use Rattle.std.proofs.Common.{rules, SFits, w64, to_z, of_z, to_z-of_z, arith}
 use Rattle.lift_poly.proofs.Ring.{linear, le_from_test}
 use Rattle.corner_lift.specs.Case.{number}
 use Rattle.lower_cert.proofs.Means.{stand}
-use Rattle.lower_cert.proofs.Sweeping.{hold_one, hold_next}
-use Rattle.lower_cert.proofs.sweep.most_held.Goals as goal
-
-pub returns-then-choice_count-eq1 : goal.returns-then-choice_count-eq1
-returns-then-choice_count-eq1 g c =
-    let fits : SFits w64 c.held.result = search rules in
-    rw (to_z-of_z fits) (hold_one c.args.case.now g.spans c.args.lane.now c.args.s c.held.result (omega (arith, c.choice_count.ensures, c.if-choice_count-eq1.true)) c.held.ensures.least c.held.ensures.most)
+use Rattle.lower_cert.proofs.Sweeping.{hold_next}
+use Rattle.lower_cert.proofs.sweep.held_by_choices.Goals as goal
 
 pub loop-a-preserved : goal.loop-a-preserved
 loop-a-preserved g c =
     let laws = c.premises.ensures in
     let fits : SFits w64 c.greater-most.result = search rules in
-    let held_fits : SFits w64 c.held-in-loop-a.result = search rules in
+    let held_fits : SFits w64 c.held.result = search rules in
     let up = rw (to_z-of_z held_fits) at c.greater-most.ensures in
-    rw (to_z-of_z fits) (hold_next c.args.case.now g.spans (stand laws c.args.case.now g.spans c.w.ensures.case c.requires.0.read.table.inside) c.args.lane.now c.args.s c.loop-a.a _ c.held-in-loop-a.result c.greater-most.result c.loop-a.invariant c.held-in-loop-a.ensures.most up.0 up.1.0)
+    rw (to_z-of_z fits) (hold_next c.args.case.now g.spans (stand laws c.args.case.now g.spans c.w.ensures.case c.requires.0.read.table.inside) c.args.lane.now c.args.s c.loop-a.a _ c.held.result c.greater-most.result c.loop-a.invariant c.held.ensures.most up.0 up.1.0)
 
 pub returns-then-number-most : goal.returns-then-number-most
 returns-then-number-most g c =
