@@ -12,7 +12,7 @@ ghost use Rattle.float_guess.specs.Part.{KeepsOthers};
 use crate::laws::vectors_are_lowered;
 use crate::lower::start;
 use crate::part::{clear_part, fill_part, flag_part, note, open_state};
-use crate::raise::raise_part;
+use crate::raise::{Aim, raise_part};
 use crate::sweep::{component_end, is_alone, pass, settle_part, visit, visit_alone};
 use corner_lift::{Case, PairTable, one_at, rows_at_corners};
 use float_guess::{Extreme, Rounding, Shares, Way, guess_part, low_word_of};
@@ -32,20 +32,13 @@ const GUESS_PASSES: u32 = 64;
 /// How many passes lower it from the last guesses.
 const GUESS_PATIENCE: u32 = 16384;
 
-/// How many passes are made before it is begun anew, the first time.
+/// How many passes are made before it is begun anew.
 const FIRST_PATIENCE: u32 = 16;
 
-/// How many times as many passes may raise the vector that it is begun from.
-const RAISES: u32 = 64;
+/// How many passes are made from a rough vector.
+const ROUGH_PASSES: u32 = 1;
 
-/// How many times as many passes the next try takes.
-const PATIENCE_STEP: u32 = 16;
-
-/// How often it is begun anew.
-const TRIES: u32 = 2;
-
-/// Begins a part anew: from a vector that no choice lets rise, if so many passes find one, and else from 1.
-/// Tells whether they did.
+/// Begins a part anew: from a vector that no choice lets rise, if one is found, and else from 1.
 fn begin_anew(
     case: &Case,
     links: &Links,
@@ -55,8 +48,8 @@ fn begin_anew(
     noted: &mut [u32],
     low: u32,
     high: u32,
-    passes: u32,
-) -> bool
+    aim: Aim,
+)
     ghost spans: { Spans }
     requires can { CanLower case.now links.now (from_top case.now spans) weights.now lane.old }
     requires notes { length noted.old ≡ length case.now.model.states }
@@ -67,14 +60,13 @@ fn begin_anew(
     rows_at_corners();
     let top = one_at(case.w());
     let found = raise_part(
-        case, links, weights, lane, flags, noted, low, high, passes, top,
+        case, links, weights, lane, flags, noted, low, high, aim, top,
     );
     flag_part(flags, low, high);
     if found {
-        return true;
+        return;
     }
     fill_part(case, links, lane, low, high, top);
-    false
 }
 
 /// Lowers the states of a part in so many passes at most. Tells whether none of them is flagged then, or the
@@ -287,7 +279,8 @@ fn lower_from_guesses(
     guessed.is_good()
 }
 
-/// Lowers the states of a part from where it is begun anew.
+/// Lowers the states of a part from where it is begun anew: from a rough vector, and where that doesn't do at
+/// once, from one that is close to the least.
 fn lower_anew(
     case: &Case,
     links: &Links,
@@ -304,18 +297,34 @@ fn lower_anew(
     requires high { (high ≤ length case.now.model.states) × (high ≤ length links.now.order) }
     ensures { IsHigh case.now spans lane.new }
 {
-    let mut patience = FIRST_PATIENCE;
-    for _ in 0..TRIES {
-        let passes = patience.saturating_mul(RAISES);
-        let (flags, noted) = work.split_at_mut(case.model().states() as usize);
-        if begin_anew(case, links, weights, lane, flags, noted, low, high, passes) {
-            break;
-        }
-        patience = patience.saturating_mul(PATIENCE_STEP);
-        if settle_within(case, links, weights, limit, lane, work, low, high, patience) {
-            return;
-        }
+    let (flags, noted) = work.split_at_mut(case.model().states() as usize);
+    begin_anew(
+        case,
+        links,
+        weights,
+        lane,
+        flags,
+        noted,
+        low,
+        high,
+        Aim::Rough,
+    );
+    let passes = ROUGH_PASSES;
+    if settle_within(case, links, weights, limit, lane, work, low, high, passes) {
+        return;
     }
+    let (flags, noted) = work.split_at_mut(case.model().states() as usize);
+    begin_anew(
+        case,
+        links,
+        weights,
+        lane,
+        flags,
+        noted,
+        low,
+        high,
+        Aim::Close,
+    );
     settle_part(case, links, weights, limit, lane, work, low, high, high);
 }
 

@@ -1,4 +1,4 @@
-use Rattle.lower_cert.specs.Lowering.{IsHigh, from_top}
+use Rattle.lower_cert.specs.Lowering.{from_top}
 use Rattle.lower_cert.proofs.begin.lower_anew.Given as goal
 
 abbrev pub ghost-begin_anew : goal.ghost-begin_anew
@@ -9,6 +9,3 @@ ghost-settle_within g a = from_top a.case.now g.spans
 
 abbrev pub ghost-settle_part : goal.ghost-settle_part
 ghost-settle_part g a = from_top a.case.now g.spans
-
-abbrev pub invariant-loop : goal.invariant-loop
-invariant-loop g l = IsHigh l.case g.spans l.lane

@@ -15,16 +15,10 @@ returns-in-Some g c =
 
 pub times-requires : goal.times-requires
 times-requires g c =
-    let n_fits : SFits w64 (number c.args.lane.now c.args.s) = search rules in
+    let n_fits : SFits w64 c.args.number = search rules in
     let w_fits : SFits w128 c.table_least-sum.result.whole = search rules in
-    let range = c.rows_at_corners.ensures.numbers c.args.case.now c.args.lane.now c.args.s c.requires.0.numbers in
-    let size : unsigned_abs (number c.args.lane.now c.args.s) ≤ 2 ^ c.args.case.now.w = omega (arith, ints, range.0, range.1) in
+    let size : unsigned_abs c.args.number ≤ 2 ^ c.args.case.now.w = omega (arith, ints, c.requires.1.1.0.0, c.requires.1.1.0.1) in
     record { room = rw (to_z-of_z n_fits, to_z-of_z w_fits) (c.table_least-sum.ensures.whole.room _ size) }
-
-pub returns-then-is_at_most : goal.returns-then-is_at_most
-returns-then-is_at_most g c =
-    let n_fits : SFits w64 (number c.args.lane.now c.args.s) = search rules in
-    rw (to_z-of_z n_fits) (c.rows_at_corners.ensures.numbers c.args.case.now c.args.lane.now c.args.s c.requires.0.numbers)
 
 pub rounded_up-requires-clause-sum : goal.rounded_up-requires-clause-sum
 rounded_up-requires-clause-sum g c =

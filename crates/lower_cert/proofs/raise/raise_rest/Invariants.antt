@@ -1,5 +1,5 @@
 use Rattle.float_guess.specs.Part.{KeepsOthers}
-use Rattle.lower_cert.proofs.raise.raise_block.Given as goal
+use Rattle.lower_cert.proofs.raise.raise_rest.Given as goal
 
 abbrev pub ghost-raise_pass : goal.ghost-raise_pass
 ghost-raise_pass g a = g.spans

@@ -1,0 +1,10 @@
+use Rattle.std.proofs.Common.{◌≡◌, length}
+use Rattle.float_guess.specs.Part.{KeepsOthers}
+use Rattle.lower_cert.proofs.raise.approach.Given as goal
+
+abbrev pub ghost-approach_once : goal.ghost-approach_once
+ghost-approach_once g a = g.spans
+
+-- all else is as it was
+abbrev pub invariant-loop : goal.invariant-loop
+invariant-loop g l = KeepsOthers l.case l.links l.low l.high l.initial.lane l.lane × (length l.noted ≡ length l.initial.noted)

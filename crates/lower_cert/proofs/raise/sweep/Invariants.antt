@@ -1,0 +1,9 @@
+use Rattle.float_guess.specs.Part.{KeepsOthers}
+use Rattle.lower_cert.proofs.raise.sweep.Given as goal
+
+abbrev pub ghost-move_at : goal.ghost-move_at
+ghost-move_at g a = g.spans
+
+-- all else is as it was
+abbrev pub invariant-loop-position : goal.invariant-loop-position
+invariant-loop-position g l = KeepsOthers l.case l.links l.low l.high l.initial.lane l.lane
