@@ -1,7 +1,7 @@
 -- What is quickly looked up of rows of two entries.
 use Rattle.std.specs.Prelude.{◌≡◌, ◌+◌, ◌*◌, ◌≤◌, List, ℤ, pos, ◌*ℤ◌, ◌≤ℤ◌, slice_range}
 use Rattle.corner_lift.specs.declared.paired.Pair.{Pair}
-use Rattle.corner_lift.specs.Pairs.{HasPair, IsLeastFirst, IsGreatestFirst, pair_whole}
+use Rattle.corner_lift.specs.Pairs.{IsLeastFirst, IsGreatestFirst, pair_whole}
 
 -- of the row that has this block of weights, all of them divided by a scale: the least and the greatest weight of its first entry over the corners, and what both weigh together
 pub record IsLaneOf (block : List ℤ) (p : Pair) : Type 0 where

@@ -1,11 +1,11 @@
 -- What the flat lists tell of the only row of a state.
-use Rattle.std.proofs.Common.{◌≡◌, ℕ, suc, ◌+◌, ◌-◌, ◌<◌, ◌≤◌, List, [], ◌∷◌, length, take, drop, slice_range, slice_index_or, drop-cons, length-append, refl, sym, ap, ap₂, ◌∙◌, arith, subst, ◌++◌, ◌⊎◌, ⊎_elim}
+use Rattle.std.proofs.Common.{◌≡◌, ℕ, suc, ◌+◌, ◌-◌, ◌<◌, ◌≤◌, List, [], ◌∷◌, length, take, drop, slice_range, slice_index_or, drop-cons, length-append, sym, ap, ap₂, ◌∙◌, arith, subst, ◌++◌, ◌⊎◌, ⊎_elim}
 use Rattle.std.proofs.lemmas.List.{get_or_append_left, get_or_past, get_or_push}
 use Rattle.lift_model.specs.declared.layout.RowPlace.{RowPlace}
 use Rattle.lift_model.specs.declared.only_row.OnlyRow.{OnlyRow}
 use Rattle.lift_model.specs.declared.only_row.OnlyRow.TheVariants.{Single, Pair, Other}
 use Rattle.lift_model.specs.Model.{ModelData, choices, row_at}
-use Rattle.lift_model.specs.Links.{LinksData, ArePlaces, HasChoice, IsRowPlace, targets_of, place, no_place}
+use Rattle.lift_model.specs.Links.{LinksData, ArePlaces, IsRowPlace, place, no_place}
 use Rattle.lift_model.specs.OnlyRow.{IsOnlyRow, IsOnlyPlace, IsOnlyRowIn, AreOnlyRowsIn}
 
 one_at : (xs : List ℕ) (e n : ℕ) → n ≡ 1 → e + n ≤ length xs → slice_range xs e (e + n) ≡ slice_index_or xs e 0 ∷ []
@@ -60,9 +60,9 @@ pub one_more : (starts : List ℕ) (rows : List RowPlace) (targets : List ℕ) (
 one_more starts rows targets only row are is s = ⊎_elim
     (λ (before : s < length only). rw (get_or_append_left only (row ∷ []) Other s before) (are s))
     (λ (rest : length only ≤ s). ⊎_elim
-      (λ (past : length only < s). rw (get_or_past (only ++ row ∷ []) s Other (omega (arith, past, length-append only (row ∷ [])))) tt)
-      (λ (here : s ≤ length only). let same : length only ≡ s = omega (arith, here, rest) in rw (get_or_push only row Other s same) (subst (λ n. IsOnlyRowIn starts rows targets n row) same is))
-      (split (length only) s))
+    (λ (past : length only < s). rw (get_or_past (only ++ row ∷ []) s Other (omega (arith, past, length-append only (row ∷ [])))) tt)
+    (λ (here : s ≤ length only). let same : length only ≡ s = omega (arith, here, rest) in rw (get_or_push only row Other s same) (subst (λ n. IsOnlyRowIn starts rows targets n row) same is))
+    (split (length only) s))
     (split s (length only))
   where
     split : (n k : ℕ) → (n < k) ⊎ (k ≤ n)

@@ -1,5 +1,5 @@
 -- States that have one short row: what is looked up of it.
-use Rattle.std.specs.Prelude.{◌≡◌, ◌≢◌, ℕ, ◌+◌, ◌-◌, ◌<◌, List, [], ◌∷◌, Option, None, Some, length, slice_index_or, slice_get, IfSome}
+use Rattle.std.specs.Prelude.{◌≡◌, ◌≢◌, ℕ, ◌+◌, ◌-◌, List, [], ◌∷◌, length, slice_index_or}
 use Rattle.lift_model.specs.declared.layout.RowPlace.{RowPlace}
 use Rattle.lift_model.specs.declared.only_row.PairRow.{PairRow}
 use Rattle.lift_model.specs.declared.only_row.OnlyRow.{OnlyRow}

@@ -1,4 +1,4 @@
-use Rattle.std.proofs.Common.{rules, ◌*ℤ◌, w64, to_z-of_z, SFits, sym, subst, ◌∙◌}
+use Rattle.std.proofs.Common.{rules, w64, to_z-of_z, SFits, sym, subst, ◌∙◌}
 use mir.Syntax.{w128}
 use Rattle.corner_lift.specs.Pairs.{IsLeastFirst, IsGreatestFirst}
 use Rattle.corner_lift.proofs.paired.pair_of.Goals as goal
