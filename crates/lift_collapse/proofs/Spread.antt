@@ -6,7 +6,7 @@ use Rattle.lift_grid.specs.Tree.{RejectData}
 use Rattle.corner_lift.specs.Case.{CaseData, number}
 use Rattle.corner_lift.specs.Certificate.{IsUpper, IsLower}
 use Rattle.lift_collapse.specs.Collapse.{CollapseData, place, collapsed, spread}
-use Rattle.lift_collapse.specs.Laws.{UpperSpreads, LowerSpreads, NoneSpreads}
+use Rattle.lift_collapse.specs.Laws.{UpperSpreads, LowerSpreads, HighSpreads, NoneSpreads}
 use Rattle.lift_collapse.proofs.Scene.{Premises, Scene, scene_of, below_or_past, past, spread_at, spread_past, spread_numbers, spread_goal}
 use Rattle.lift_collapse.proofs.Upper as upper
 use Rattle.lift_collapse.proofs.Lower as lower
@@ -30,7 +30,7 @@ module _ (k : CaseData) (spans : Spans) (c : CollapseData) (scene : Scene k span
       let above = lower.place_above k spans c scene r h k.model.init scene.case.asked.model.first in
       omega (arith, linear, here, above, ap (number q.numbers) scene.is.init)
 
-  -- no lower vector is above the greatest of the collapsed model, read at the places
+  -- no lower vector is above one that no lower vector of the collapsed model is above, read at the places
   above_lower : (z : List ℤ) → ((r : RejectData) → IsLower (collapsed k c) spans r → (i : ℕ) → number r.numbers i ≤ℤ number z i) → (r : RejectData) → IsLower k spans r → (s : ℕ) → number r.numbers s ≤ℤ number (spread c z) s
   above_lower z each r h s =
       below_or_past s (length k.model.states)
@@ -54,6 +54,15 @@ lower_spreads laws k spans c r case inside is h =
       numbers = spread_numbers k spans c scene r.numbers h.holds.numbers;
       goal = spread_goal k spans c scene r.numbers (λ i g. (h.holds.goal i g).0);
       above = λ y lower_there most s. above_lower k spans c scene r.numbers h.greatest y lower_there s;
+    }
+
+pub high_spreads : Premises → HighSpreads
+high_spreads laws k spans c z case inside is h =
+    let scene = scene_of laws k spans c case inside is in
+    record {
+      numbers = spread_numbers k spans c scene z h.numbers;
+      goal = spread_goal k spans c scene z h.goal;
+      above = λ y lower_there most s. above_lower k spans c scene z (λ r low i. h.above r low (λ t. (laws.numbers (collapsed k c) r.numbers t low.numbers).1) i) y lower_there s;
     }
 
 pub none_spreads : Premises → NoneSpreads

@@ -23,6 +23,11 @@ abbrev pub LowerSpreads : Type 0
 LowerSpreads = (k : CaseData) (spans : Spans) (c : CollapseData) (r : RejectData) → IsCase k → IsInside k.root spans → IsCollapse k.model c
     → IsGreatestLower (collapsed k c) spans r → IsHigh k spans (spread c r.numbers)
 
+-- so do those of any vector that lies at or above each lower vector of the collapsed model
+abbrev pub HighSpreads : Type 0
+HighSpreads = (k : CaseData) (spans : Spans) (c : CollapseData) (z : List ℤ) → IsCase k → IsInside k.root spans → IsCollapse k.model c
+    → IsHigh (collapsed k c) spans z → IsHigh k spans (spread c z)
+
 -- where no lower vector of the collapsed model is above a limit at the initial state, none of the whole one is
 abbrev pub NoneSpreads : Type 0
 NoneSpreads = (k : CaseData) (spans : Spans) (c : CollapseData) (limit : ℤ) → IsCase k → IsInside k.root spans → IsCollapse k.model c

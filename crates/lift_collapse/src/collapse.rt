@@ -1,6 +1,6 @@
 //! What is found on the collapsed model of a case, rectangle by rectangle.
 
-ghost use Rattle.std.specs.Prelude.{◌≡◌, ◌*◌, length, map, IsTrue, IsFalse, IsNone, IfOk, IfSome};
+ghost use Rattle.std.specs.Prelude.{◌≡◌, ◌*◌, length, map, IsTrue, IsFalse, IfOk, IfSome};
 ghost use Rattle.lift_grid.specs.Parts.{region_of};
 ghost use Rattle.lift_grid.specs.Rectangle.{Spans, spans_of};
 ghost use Rattle.lift_model.specs.Links.{AreLinks};
@@ -8,7 +8,7 @@ ghost use Rattle.lift_model.specs.Model.{row_count};
 ghost use Rattle.corner_lift.specs.Case.{AreSidesInside, IsCase, case_of, number};
 ghost use Rattle.corner_lift.specs.Table.{IsTable};
 ghost use Rattle.rounded_iter.specs.Watching.{CanIterate, IsLeastWithin};
-ghost use Rattle.lower_cert.specs.Limit.{IsGreatestAbove, NoneIsAbove};
+ghost use Rattle.lower_cert.specs.Limit.{NoneIsAbove};
 ghost use Rattle.lower_cert.specs.Lowering.{HasPlaces, IsHigh, IsRead};
 ghost use Rattle.lift_collapse.specs.Collapse.{IsCollapse};
 ghost use Rattle.lift_collapse.specs.Filled.{IsFilled};
@@ -141,7 +141,10 @@ fn find_lower(
     let rate = greatest_reject_above(
         &case, links, weights, limit, values, allowed, ranks, picks, work,
     );
-    rate.is_some()
+    match rate {
+        Some(_) => true,
+        None => false,
+    }
 }
 
 /// Reads a vector of a collapsed model at the places of the whole one's states.

@@ -1,6 +1,6 @@
 use Rattle.lift_collapse.proofs.Admitted.{collapsed_is_case}
 use Rattle.lift_collapse.proofs.Scene.{Premises}
-use Rattle.lift_collapse.proofs.Spread.{upper_spreads, lower_spreads, none_spreads}
+use Rattle.lift_collapse.proofs.Spread.{upper_spreads, lower_spreads, high_spreads, none_spreads}
 use Rattle.lift_collapse.proofs.laws.collapses_spread.Goals as goal
 
 pub returns : goal.returns
@@ -11,5 +11,6 @@ returns c =
       case = collapsed_is_case;
       upper = upper_spreads laws;
       lower = lower_spreads laws;
+      high = high_spreads laws;
       none = none_spreads laws;
     }
