@@ -18,8 +18,8 @@ use corner_lift::{Case, PairTable, one_at, rows_at_corners};
 use float_guess::{Extreme, Rounding, Shares, Way, guess_part, low_word_of};
 use lift_model::Links;
 
-/// How many passes over a small component lower it from 1, before it is guessed.
-const FIRST_PASSES: u32 = 4;
+/// How many passes over a small component lower it from 1, before it is guessed, which takes as long as some fifty.
+const FIRST_PASSES: u32 = 48;
 
 /// How many states a small component has at most.
 const SMALL: u32 = 64;
