@@ -69,7 +69,7 @@ moves_least v (e ∷ row) h = let least : Entry → Type 0 = λ entry. pos 0 ≤
 -- What the laws of rows give, for a rectangle of a case and a valuation inside it.
 module _ (numbers : NumbersAreInRange) (weights : WeightsInside) (most : MeansAtMostInside) (k : CaseData) (spans : Spans) (is : IsCase k) (within : IsInside k.root spans) (v : Valuation) (inside : Inside k.d spans v) where
   -- an upper vector of the rectangle is inductive at each valuation inside
-  upper_inductive : (x : List ℤ) → IsUpper k spans x → IsInductive (process_at k.model v) (pos (2 ^ k.w)) (number x)
+  pub upper_inductive : (x : List ℤ) → IsUpper k spans x → IsInductive (process_at k.model v) (pos (2 ^ k.w)) (number x)
   upper_inductive x upper =
       let process = process_at k.model v in
       let common_least : pos 0 ≤ℤ k.model.common = omega (arith, linear, is.asked.model.denominator.0) in

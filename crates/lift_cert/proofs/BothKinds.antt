@@ -1,19 +1,23 @@
--- No lower vector of a rectangle is above an upper one.
-use Rattle.std.proofs.Common.{◌≡◌, ℕ, zero, suc, ◌^◌, ◌<◌, ◌≤◌, false, List, [], ◌∷◌, length, get_or, ℤ, pos, ◌+ℤ◌, ◌*ℤ◌, ◌≤ℤ◌, ◌<ℤ◌, sym, ap, arith, nat_lt, ltb-true, ltb-false}
+-- No lower vector is above an upper one, of one rectangle or of two that share a valuation: at a valuation of both they speak of one process.
+use Rattle.std.proofs.Common.{◌≡◌, ℕ, zero, suc, ◌^◌, ◌<◌, ◌≤◌, Bool, true, false, true≢false, List, [], ◌∷◌, map, get_or, ℤ, pos, ◌+ℤ◌, ◌*ℤ◌, ◌≤ℤ◌, ◌<ℤ◌, refl, sym, ap, ◌∙◌, arith, nat_lt, ltb-true, ltb-false}
+use Rattle.std.specs.List.{AllByRecursion}
 use Rattle.std.proofs.lemmas.Int.{by_lt_z}
-use Rattle.std.proofs.lemmas.Nat.{pow_pos}
-use Rattle.lift_poly.proofs.Ring.{linear, mul-comm, mul-assoc, add-mul, mul-zero, zero-mul, one-mul, mul-le, mul-lt}
-use Rattle.lift_grid.specs.Rectangle.{Spans}
+use Rattle.lift_poly.specs.Polynomial.{Valuation, denominator}
+use Rattle.lift_poly.proofs.Ring.{linear, mul-comm, mul-assoc, add-mul, mul-zero, zero-mul, one-mul, mul-le, mul-lt, mul-nonneg}
+use Rattle.lift_grid.specs.Rectangle.{Spans, Inside, AreSpans}
 use Rattle.lift_grid.specs.Tree.{RejectData}
-use Rattle.lift_model.specs.declared.entry.Entry.{Entry}
-use Rattle.lift_model.specs.Process.{Move, power, weighted_sum}
-use Rattle.lift_model.specs.Model.{support, is_goal, choices, moves_at}
-use Rattle.corner_lift.specs.Corner.{corner, corner_sum, parameter_count, whole}
+use Rattle.lift_model.specs.Process.{Process, Move, weighted_sum}
+use Rattle.lift_model.specs.Memoryless.{chosen}
+use Rattle.lift_model.specs.Model.{process_at}
+use Rattle.lift_model.specs.Laws.{WeightedSumsAreNotNegative, WeightedSumsRise}
 use Rattle.corner_lift.specs.Case.{CaseData, IsCase, IsInside, number}
-use Rattle.corner_lift.specs.Certificate.{unmarked, mark, ranked_below, picked_row, IsUpper, IsHeld, IsLower}
-use Rattle.corner_lift.specs.Laws.{HasRow, NumbersAreInRange, ParametersAreTheRoots, SumsRise, WeightsSumToWhole}
-use Rattle.lift_cert.specs.Laws.{LowerIsBelowUpper, NotBothKinds}
-use Rattle.lift_cert.proofs.Holding.{sum-add, either_way}
+use Rattle.corner_lift.specs.Certificate.{mark, ranked_below, IsUpper, IsLower}
+use Rattle.corner_lift.specs.Laws.{NumbersAreInRange, WeightsInside, SumsAreTotals, MeansAtMostInside, MeansAtLeastInside}
+use Rattle.lift_cert.specs.Laws.{is_open, LowerIsBelowUpper, NotBothKinds, NotBothKindsAtAValuation}
+use Rattle.lift_cert.proofs.Inductive.{IsInductive}
+use Rattle.lift_cert.proofs.Accepting.{upper_inductive}
+use Rattle.lift_cert.proofs.Holding.{IsSupported, sum-add, either_way}
+use Rattle.lift_cert.proofs.Rejecting.{lower_supported}
 
 constant : (q : ℤ) (moves : List Move) → weighted_sum (λ t. q) moves ≡ weighted_sum (λ t. pos 1) moves *ℤ q
 constant q [] = sym (zero-mul q)
@@ -29,71 +33,97 @@ positive_part a b q h positive le = by_lt_z (pos 0) a (λ l. l) (λ n. let f = m
 product-positive : (a b : ℤ) → pos 0 <ℤ a → pos 0 <ℤ b → pos 0 <ℤ (a *ℤ b)
 product-positive a b f g = let lt = mul-lt a (pos 0) b f g in omega (arith, linear, lt, mul-zero a)
 
-power-positive : (b : ℤ) (n : ℕ) → pos 0 <ℤ b → pos 0 <ℤ power b n
-power-positive b zero h = omega (arith, linear)
-power-positive b (suc n) h = product-positive b (power b n) h (power-positive b n h)
+-- P holds of a choice of a list, or of no moves beyond the last
+of_choice : (P : List Move → Type 0) (choices : List (List Move)) (i : ℕ) → P [] → AllByRecursion P choices → P (get_or choices i [])
+of_choice P [] i none all = none
+of_choice P (moves ∷ choices) zero none all = all.0
+of_choice P (moves ∷ choices) (suc i) none all = of_choice P choices i none all.1
 
-module _ (numbers : NumbersAreInRange) (rise : SumsRise) (sums : WeightsSumToWhole) (parameters : ParametersAreTheRoots) (k : CaseData) (spans : Spans) (is : IsCase k) (within : IsInside k.root spans) (x : List ℤ) (upper : IsUpper k spans x) (r : RejectData) (lower : IsLower k spans r) where
-  whole_positive : (row : List Entry) → pos 0 <ℤ whole k.model k.d spans row
-  whole_positive row =
-      product-positive k.model.common (power k.d (parameter_count spans (support row))) (omega (arith, linear, is.asked.model.denominator.0)) (power-positive k.d (parameter_count spans (support row)) (omega (arith, linear, is.asked.grid.positive)))
+-- ---- at a process: x lies above all choices, y below its own
 
-  state_of : (s a : ℕ) → a < length (choices k.model s) → s < length k.model.states
-  state_of s a lt = either_way (nat_lt s (length k.model.states)) (λ e. ltb-true s (length k.model.states) e) (λ e. absurd (past_end k.model.states s a (ltb-false s (length k.model.states) e) lt))
-    where
-      past_end : (states : List (List (List Entry))) (s a : ℕ) → length states ≤ s → a < length (get_or states s []) → ⊥
-      past_end [] s a le lt = omega (arith, lt)
-      past_end (state ∷ states) zero a le lt = omega (arith, le)
-      past_end (state ∷ states) (suc s) a le lt = past_end states s a (omega (arith, le)) lt
+module _ (rise : WeightedSumsRise) (process : Process) (top : ℕ) (x y : ℕ → ℤ) (pick : ℕ → ℕ) (test : ℕ → Bool) (rank : ℕ → ℕ) (rate : ℤ) (height : ℕ) (upper : IsInductive process (pos top) x) (lower : IsSupported process (pos top) y pick test rank rate height) (positive : pos 0 <ℤ process.total) where
+  inner : (s : ℕ) → test s ≡ true → process.goal s ≡ false
+  inner s open_s = either_way (process.goal s) (λ g. absurd (true≢false (sym open_s ∙ (lower.goal s g).1))) (λ g. g)
 
-  -- At the first corner of a held state's row: where the lower vector is at most the upper one and more, and by one less on lower ranks, it is so by one less at the state itself.
-  held_sinks : (gap : ℤ) (s : ℕ) → is_goal k.model s ≡ false → IsHeld k spans r s → ((t : ℕ) → (number r.numbers t +ℤ ranked_below (mark r.ranks) (mark r.ranks s) t) ≤ℤ (number x t +ℤ gap)) → number r.numbers s <ℤ (number x s +ℤ gap)
-  held_sinks gap s inner held fits =
-      let a = mark r.picks s in
-      let row = picked_row k r s in
-      let w = whole k.model k.d spans row in
-      let low = ranked_below (mark r.ranks) (mark r.ranks s) in
-      let moves = moves_at (corner k.d spans (support row) 0) row in
-      let first = pow_pos (parameter_count spans (support row)) in
-      let there : HasRow k s a = record { state = state_of s a held.pick; choice = held.pick } in
-      let above = rise k spans s a 0 (λ t. number r.numbers t +ℤ low t) (λ t. number x t +ℤ gap) is within there fits in
-      let sinking = positive_part (corner_sum k.d spans row 0 low) w (pos (2 ^ r.e)) (omega (arith, linear)) (whole_positive row) (held.rates 0 first) in
-      let mean = held.means 0 first in
-      let most = upper.means s inner a [] held.pick 0 first in
-      let one = sums k spans s a is within there 0 first in
-      let same = ap (λ n. k.model.common *ℤ power k.d n) (parameters k spans row within.within) in
-      cancel-lt (number r.numbers s) (number x s +ℤ gap) w (whole_positive row)
-      (omega (arith, linear, above, sinking, mean, most, sum-add (number r.numbers) low moves, sum-add (number x) (λ t. gap) moves, constant gap moves, ap (λ z. z *ℤ gap) one, ap (λ z. z *ℤ gap) same, add-mul (number x s) gap w, mul-comm w gap))
+  most_at : (s : ℕ) → test s ≡ true → weighted_sum x (chosen process pick s) ≤ℤ (x s *ℤ process.total)
+  most_at s open_s =
+      of_choice (λ moves. weighted_sum x moves ≤ℤ (x s *ℤ process.total)) (process.choices s) (pick s) (mul-nonneg (x s) process.total (upper.least s) upper.total) (upper.means s (inner s open_s))
+
+  -- where y is at most x and more, and by one less on lower ranks, it is so by one less at the state itself
+  held_sinks : (gap : ℕ) (s : ℕ) → test s ≡ true → ((t : ℕ) → (y t +ℤ ranked_below rank (rank s) t) ≤ℤ (x t +ℤ pos gap)) → y s <ℤ (x s +ℤ pos gap)
+  held_sinks gap s open_s fits =
+      let n = process.total in
+      let low = ranked_below rank (rank s) in
+      let moves = chosen process pick s in
+      let above = rise (λ t. y t +ℤ low t) (λ t. x t +ℤ pos gap) moves fits (lower.weights s) in
+      let sinking = positive_part (weighted_sum low moves) n rate (omega (arith, linear, lower.rate_least)) positive (lower.rates s open_s) in
+      let all = mul-le (pos gap) (weighted_sum (λ t. pos 1) moves) n (omega (arith, linear)) (lower.sums s open_s) in
+      cancel-lt (y s) (x s +ℤ pos gap) n positive
+      (omega (arith, linear, above, sinking, all, lower.means s open_s, most_at s open_s, sum-add y low moves, sum-add x (λ t. pos gap) moves, constant (pos gap) moves, mul-comm (weighted_sum (λ t. pos 1) moves) (pos gap), add-mul (x s) (pos gap) n))
 
   -- one less, rank by rank
-  sink : (gap : ℕ) → ((t : ℕ) → number r.numbers t ≤ℤ (number x t +ℤ pos (suc gap))) → (n s : ℕ) → mark r.ranks s < n → number r.numbers s ≤ℤ (number x s +ℤ pos gap)
+  sink : (gap : ℕ) → ((t : ℕ) → y t ≤ℤ (x t +ℤ pos (suc gap))) → (n s : ℕ) → rank s < n → y s ≤ℤ (x s +ℤ pos gap)
   sink gap most zero s lt = absurd (omega arith)
   sink gap most (suc n) s lt =
-      either_way (is_goal k.model s)
-      (λ e. omega (arith, linear, (lower.goal s e).0, upper.goal s e))
-      (λ e. either_way (nat_lt (mark r.ranks s) unmarked)
-      (λ b.
-      let fits : (t : ℕ) → (number r.numbers t +ℤ ranked_below (mark r.ranks) (mark r.ranks s) t) ≤ℤ (number x t +ℤ pos (suc gap)) =
-      λ t. either_way (nat_lt (mark r.ranks t) (mark r.ranks s))
-      (λ l. let less : mark r.ranks t < mark r.ranks s = ltb-true (mark r.ranks t) (mark r.ranks s) l in
+      either_way (test s)
+      (λ open_s.
+      let fits : (t : ℕ) → (y t +ℤ ranked_below rank (rank s) t) ≤ℤ (x t +ℤ pos (suc gap)) =
+      λ t. either_way (nat_lt (rank t) (rank s))
+      (λ l. let less : rank t < rank s = ltb-true (rank t) (rank s) l in
       rw l (omega (arith, linear, sink gap most n t (omega (arith, less, lt)))))
       (λ l. rw l (omega (arith, linear, most t))) in
-      let strict = held_sinks (pos (suc gap)) s e (lower.held s e (ltb-true (mark r.ranks s) unmarked b)) fits in
-      omega (arith, linear, strict))
-      (λ b. omega (arith, linear, (lower.unranked s e (ltb-false (mark r.ranks s) unmarked b)).0, (numbers k x s upper.numbers).0)))
+      omega (arith, linear, held_sinks (suc gap) s open_s fits))
+      (λ closed.
+      either_way (process.goal s)
+      (λ g. omega (arith, linear, (lower.goal s g).0, upper.goal s g))
+      (λ g. omega (arith, linear, lower.apart s g closed, upper.least s)))
 
-  every_gap : (gap : ℕ) → ((t : ℕ) → number r.numbers t ≤ℤ (number x t +ℤ pos gap)) → (s : ℕ) → number r.numbers s ≤ℤ number x s
+  every_gap : (gap : ℕ) → ((t : ℕ) → y t ≤ℤ (x t +ℤ pos gap)) → (s : ℕ) → y s ≤ℤ x s
   every_gap zero most s = omega (arith, linear, most s)
-  every_gap (suc gap) most s = every_gap gap (λ t. sink gap most (suc (mark r.ranks t)) t (omega arith)) s
+  every_gap (suc gap) most s = every_gap gap (λ t. sink gap most (suc (rank t)) t (omega arith)) s
 
-  pub lies_below : (s : ℕ) → number r.numbers s ≤ℤ number x s
-  lies_below s = every_gap (2 ^ k.w) (λ t. omega (arith, linear, (numbers k r.numbers t lower.numbers).1, (numbers k x t upper.numbers).0)) s
+  pub supported_lies_below : (s : ℕ) → y s ≤ℤ x s
+  supported_lies_below s = every_gap top (λ t. omega (arith, linear, lower.most t, upper.least t)) s
 
-pub lower_is_below_upper : NumbersAreInRange → SumsRise → WeightsSumToWhole → ParametersAreTheRoots → LowerIsBelowUpper
-lower_is_below_upper numbers rise sums parameters k spans x r is within upper lower = lies_below numbers rise sums parameters k spans is within x upper r lower
+-- ---- at a valuation
 
-pub not_both_kinds : NumbersAreInRange → SumsRise → WeightsSumToWhole → ParametersAreTheRoots → NotBothKinds
-not_both_kinds numbers rise sums parameters k spans bound x r is within accepting rejecting =
-    let le = lies_below numbers rise sums parameters k spans is within x accepting.upper r rejecting.holds k.model.init in
-    let scaled = mul-le (pos bound.den) (number r.numbers k.model.init) (number x k.model.init) (omega (arith, linear)) le in
-    omega (arith, linear, accepting.limit, rejecting.limit, scaled, mul-comm (number r.numbers k.model.init) (pos bound.den), mul-comm (number x k.model.init) (pos bound.den))
+denominator-positive : (d : ℤ) (ss : Spans) (v : Valuation) → Inside d ss v → pos 0 <ℤ denominator v
+denominator-positive d [] [] h = omega (arith, linear)
+denominator-positive d (s ∷ ss) (x ∷ v) h = product-positive x.1 (denominator v) h.0 (denominator-positive d ss v h.3)
+denominator-positive d [] (x ∷ v) h = absurd h
+denominator-positive d (s ∷ ss) [] h = absurd h
+
+-- the valuation at the low ends
+abbrev lowest : ℤ → Spans → Valuation
+lowest d spans = map (λ s. (s.0, d)) spans
+
+lowest_inside : (d : ℤ) (spans : Spans) → pos 0 <ℤ d → AreSpans spans → Inside d spans (lowest d spans)
+lowest_inside d [] h are = tt
+lowest_inside d (s ∷ spans) h are =
+    let rising = mul-le d s.0 s.1 (omega (arith, linear)) (omega (arith, linear, are.0.rising)) in
+    (h, omega (arith, linear), omega (arith, linear, rising, mul-comm d s.0, mul-comm d s.1), lowest_inside d spans h are.1)
+
+module _ (least : WeightedSumsAreNotNegative) (rise : WeightedSumsRise) (numbers : NumbersAreInRange) (weights : WeightsInside) (sums : SumsAreTotals) (most : MeansAtMostInside) (means : MeansAtLeastInside) where
+  lies_below : (k : CaseData) (spans others : Spans) (v : Valuation) (x : List ℤ) (r : RejectData) → IsCase k → IsInside k.root spans → IsInside k.root others → Inside k.d spans v → Inside k.d others v → IsUpper k spans x → IsLower k others r → (s : ℕ) → number r.numbers s ≤ℤ number x s
+  lies_below k spans others v x r is within within_others inside inside_others upper lower =
+      let process = process_at k.model v in
+      let positive : pos 0 <ℤ process.total = product-positive k.model.common (denominator v) (omega (arith, linear, is.asked.model.denominator.0)) (denominator-positive k.d spans v inside) in
+      let above = upper_inductive numbers weights most k spans is within v inside x upper in
+      let below = lower_supported least rise numbers weights sums means k others r is within_others lower (mark r.picks) (λ s lt. refl) v inside_others in
+      supported_lies_below rise process (2 ^ k.w) (number x) (number r.numbers) (mark r.picks) (is_open k r) (mark r.ranks) (pos (2 ^ r.e)) r.k above below positive
+
+  pub lower_is_below_upper : LowerIsBelowUpper
+  lower_is_below_upper k spans x r is within upper lower =
+      let low = lowest_inside k.d spans is.asked.grid.positive within.rectangle in
+      lies_below k spans spans (lowest k.d spans) x r is within within low low upper lower
+
+  pub not_both_kinds_at : NotBothKindsAtAValuation
+  not_both_kinds_at k spans others bound x r v is within within_others inside inside_others accepting rejecting =
+      let le = lies_below k spans others v x r is within within_others inside inside_others accepting.upper rejecting.holds k.model.init in
+      let scaled = mul-le (pos bound.den) (number r.numbers k.model.init) (number x k.model.init) (omega (arith, linear)) le in
+      omega (arith, linear, accepting.limit, rejecting.limit, scaled, mul-comm (number r.numbers k.model.init) (pos bound.den), mul-comm (number x k.model.init) (pos bound.den))
+
+  pub not_both_kinds : NotBothKinds
+  not_both_kinds k spans bound x r is within accepting rejecting =
+      let low = lowest_inside k.d spans is.asked.grid.positive within.rectangle in
+      not_both_kinds_at k spans spans bound x r (lowest k.d spans) is within within low low accepting rejecting

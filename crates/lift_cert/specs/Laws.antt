@@ -51,6 +51,11 @@ LowerIsBelowUpper = (k : CaseData) (spans : Spans) (x : List ℤ) (r : RejectDat
 abbrev pub NotBothKinds : Type 0
 NotBothKinds = (k : CaseData) (spans : Spans) (bound : Bound) (x : List ℤ) (r : RejectData) → IsCase k → IsInside k.root spans → IsAccepting k spans bound x → IsRejecting k spans bound r → ⊥
 
+-- Nor have two rectangles inside a case's root that share a valuation, the one an accepting and the other a rejecting certificate, for one bound: at that valuation both would tell of the same process.
+abbrev pub NotBothKindsAtAValuation : Type 0
+NotBothKindsAtAValuation = (k : CaseData) (spans others : Spans) (bound : Bound) (x : List ℤ) (r : RejectData) (v : Valuation) → IsCase k → IsInside k.root spans → IsInside k.root others → Inside k.d spans v → Inside k.d others v
+    → IsAccepting k spans bound x → IsRejecting k others bound r → ⊥
+
 -- the first test that fails is one
 abbrev pub FirstAcceptMissIsOne : Type 0
 FirstAcceptMissIsOne = (k : CaseData) (spans : Spans) (bound : Bound) (x : List ℤ) (m n : Miss) → IsFirstAcceptMiss k spans bound x m → IsFirstAcceptMiss k spans bound x n → m ≡ n

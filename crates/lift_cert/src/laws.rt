@@ -1,10 +1,10 @@
 ghost use Rattle.lift_cert.specs.Laws.{AcceptingBounds, LeastRefutes};
 ghost use Rattle.lift_cert.specs.Laws.{RejectingReaches, LowerBounds};
-ghost use Rattle.lift_cert.specs.Laws.{LowerIsBelowUpper, NotBothKinds};
+ghost use Rattle.lift_cert.specs.Laws.{LowerIsBelowUpper, NotBothKinds, NotBothKindsAtAValuation};
 ghost use Rattle.lift_cert.specs.Laws.{FirstAcceptMissIsOne, AcceptingMissesNone};
 ghost use Rattle.lift_cert.specs.Laws.{FirstRejectMissIsOne, RejectingMissesNone};
 
-use corner_lift::{corners_bound_weights, rows_at_corners, rows_inside};
+use corner_lift::{rows_at_corners, rows_inside};
 use lift_model::weighted_sums_follow;
 
 /// Holds the laws of certificates, for who reasons about them: an accepting one bounds every
@@ -31,14 +31,16 @@ pub fn rejecting_certificates_reach()
 }
 
 /// Holds the laws of certificates of both kinds, for who reasons about them: no lower vector of a
-/// rectangle is above an upper one, and so it has no certificates of both kinds for one bound. It does
-/// nothing.
+/// rectangle is above an upper one, and so it has no certificates of both kinds for one bound. Nor
+/// have two rectangles that share a valuation. It does nothing.
 pub fn certificates_are_of_one_kind()
     ensures below { LowerIsBelowUpper }
     ensures one { NotBothKinds }
+    ensures shared { NotBothKindsAtAValuation }
 {
-    corners_bound_weights();
+    weighted_sums_follow();
     rows_at_corners();
+    rows_inside();
 }
 
 /// Holds the laws of first misses, for who reasons about them: there is at most one, and a
