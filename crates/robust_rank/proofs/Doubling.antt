@@ -1,6 +1,7 @@
 -- Rates: how often a weight is doubled to be enough, at all corners of a row and for all picks.
-use Rattle.std.proofs.Common.{◌≡◌, ◌+◌, ◌-◌, ◌*◌, ◌^◌, ◌<◌, ◌≤◌, ℕ, List, ℤ, pos, ◌*ℤ◌, ◌≤ℤ◌, ◌<ℤ◌, ap, subst, sym, arith, ⊎_elim}
-use Rattle.std.proofs.lemmas.Nat.{pow_pos, pow-add}
+use Rattle.std.proofs.Common.{◌≡◌, ◌+◌, ◌-◌, ◌*◌, ◌/◌, ◌^◌, ◌<◌, ◌≤◌, ℕ, List, ℤ, pos, ◌-ℤ◌, ◌*ℤ◌, ◌≤ℤ◌, ◌<ℤ◌, unsigned_abs, ap, subst, sym, arith, ⊎_elim}
+use Rattle.std.proofs.lemmas.Int.{ints}
+use Rattle.std.proofs.lemmas.Nat.{le-div, pow_pos, pow-add}
 use Rattle.lift_poly.proofs.Ring.{linear, mul-comm, mul-le}
 use Rattle.lift_grid.specs.Rectangle.{Spans}
 use Rattle.lift_model.specs.Process.{power}
@@ -45,6 +46,15 @@ enough_more weight all m n some le enough =
       where
         times : (a b : ℕ) → 0 < b → a ≤ a * b
         times a b lt = grind (arith, lt)
+
+-- where a whole less 1, over a power of 2, is below the weight, so many doublings are enough
+pub surely_enough : (weight all : ℤ) (size below e : ℕ) → pos 1 ≤ℤ weight → pos 1 ≤ℤ all → size ≡ unsigned_abs weight → below ≡ unsigned_abs (all -ℤ pos 1) → below / 2 ^ e < size → all ≤ℤ (weight *ℤ pos (2 ^ e))
+surely_enough weight all size below e some one size_is below_is less =
+    let weight_is : weight ≡ pos size = omega (arith, ints, some, size_is) in
+    let all_is : all ≡ pos (below + 1) = omega (arith, ints, one, below_is) in
+    let lt : below < size * 2 ^ e =
+    ⊎_elim (λ (l : below < size * 2 ^ e). l) (λ (le : size * 2 ^ e ≤ below). absurd (omega (arith, less, le-div size below (2 ^ e) (pow_pos e) le))) (in_or_past below (size * 2 ^ e)) in
+    rw (weight_is, all_is) (omega (arith, linear, lt))
 
 -- 126 doublings are enough for any whole
 pub most_enough : (weight all : ℤ) (limit : ℕ) → pos 1 ≤ℤ weight → all <ℤ pos limit → all ≤ℤ (weight *ℤ pos limit)

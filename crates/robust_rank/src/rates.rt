@@ -1,4 +1,4 @@
-ghost use Rattle.std.specs.Prelude.{◌≡◌, ◌≤◌, ◌<◌, ◌^◌, ◌*ℤ◌, ◌≤ℤ◌, ◌<ℤ◌, pos, length, IfSome, IsSome};
+ghost use Rattle.std.specs.Prelude.{◌≡◌, ◌≤◌, ◌<◌, ◌^◌, ◌*ℤ◌, ◌≤ℤ◌, ◌<ℤ◌, pos, length, IfSome, IsSome, IsTrue};
 ghost use Rattle.lift_grid.specs.Rectangle.{Spans};
 ghost use Rattle.lift_model.specs.Model.{choices};
 ghost use Rattle.lift_model.specs.Links.{AreLinks, HasChoice};
@@ -18,7 +18,7 @@ use lift_model::{Links, OnlyRow, PairRow};
 const MOST_RATE: u32 = 126;
 
 /// How often `weight` is to be doubled to be at least the whole, but at least `first` times.
-#[inline(always)]
+#[inline(never)]
 fn doublings(weight: i128, whole: i128, first: u32) -> u32
     requires weight { pos 1 ≤ℤ weight }
     requires whole { (pos 1 ≤ℤ whole) × (whole <ℤ pos engine_limit) }
@@ -34,7 +34,19 @@ fn doublings(weight: i128, whole: i128, first: u32) -> u32
     MOST_RATE
 }
 
-/// The same of numbers that 64 bits hold.
+/// Whether `weight` is surely enough when it is doubled `e` times: at least the whole. No product is formed, and of 64
+/// doublings or more it says nothing.
+#[inline(always)]
+fn is_surely_enough(weight: i64, e: u32, whole: i64) -> bool
+    requires weight { pos 1 ≤ℤ weight }
+    requires whole { pos 1 ≤ℤ whole }
+    ensures { IsTrue result → whole ≤ℤ (weight *ℤ pos (2 ^ e)) }
+{
+    let below = (whole - 1).unsigned_abs();
+    e < 64 && below >> e < weight.unsigned_abs()
+}
+
+/// The same of numbers that 64 bits hold. Most often `first` doublings are enough.
 #[inline(always)]
 fn short_doublings(weight: i64, whole: i64, first: u32) -> u32
     requires weight { pos 1 ≤ℤ weight }
@@ -43,6 +55,9 @@ fn short_doublings(weight: i64, whole: i64, first: u32) -> u32
     ensures least { IsFirstFrom (λ e. whole ≤ℤ (weight *ℤ pos (2 ^ e))) first result }
     ensures most { result ≤ most_rate }
 {
+    if is_surely_enough(weight, first, whole) {
+        return first;
+    }
     doublings(i128::from(weight), i128::from(whole), first)
 }
 
