@@ -1,11 +1,12 @@
 -- How a walk goes on: what stays of a room, and how it goes down to the halves.
-use Rattle.std.proofs.Common.{◌≡◌, ℕ, Bool, [], ◌∷◌, length, map, IfSome, refl, sym, ap, ◌∙◌, subst}
+use Rattle.std.proofs.Common.{◌≡◌, ℕ, ◌*◌, Bool, [], ◌∷◌, length, map, IfSome, refl, sym, ap, ◌∙◌, subst}
 use Rattle.lift_pool.specs.Lanes.{PoolData, pool_without_last}
 use Rattle.lift_model.specs.Links.{LinksData, AreLinks}
 use Rattle.lift_model.specs.Model.{ModelData}
 use Rattle.corner_lift.specs.Case.{CaseData, IsCase}
 use Rattle.lift_collapse.specs.Collapse.{IsCollapse}
 use Rattle.region_tree.specs.Decided.{CanDecide}
+use Rattle.region_tree.specs.Recent.{DecidedData, HasAllPlaces, KeepsPlaces, forgotten}
 use Rattle.region_tree.specs.Rooms.{RoomData, HasLanes, IsSameShape, KeepsShape, StandsAtDepth, IsMadeFor, IsAsMade, StepsDown, room_at_root, room_with_half, room_without_last}
 use Rattle.region_tree.proofs.Lanes.{root_ends}
 
@@ -16,8 +17,24 @@ module _ {T : Type 0} where
   pub pool_then : (p q r : PoolData T) → IsSameShape p q → IsSameShape q r → IsSameShape p r
   pool_then p q r a b = record { lanes = b.lanes ∙ a.lanes; spare = b.spare ∙ a.spare; spare_lanes = b.spare_lanes ∙ a.spare_lanes }
 
+same_places : (a : DecidedData) → KeepsPlaces a a
+same_places a = record { accepted = same_pool a.accepted.sides; rejected = same_pool a.rejected.sides }
+
+places_then : (a b c : DecidedData) → KeepsPlaces a b → KeepsPlaces b c → KeepsPlaces a c
+places_then a b c h g = record { accepted = pool_then a.accepted.sides b.accepted.sides c.accepted.sides h.accepted g.accepted; rejected = pool_then a.rejected.sides b.rejected.sides c.rejected.sides h.rejected g.rejected }
+
+pub places_kept : (ends : ℕ) (a b : DecidedData) → KeepsPlaces a b → HasAllPlaces ends a → HasAllPlaces ends b
+places_kept ends a b h g = record { accepted = h.accepted.lanes ∙ g.accepted; rejected = h.rejected.lanes ∙ g.rejected }
+
+forgotten_keeps : (a : DecidedData) → KeepsPlaces a (forgotten a)
+forgotten_keeps a = record { accepted = same_pool a.accepted.sides; rejected = same_pool a.rejected.sides }
+
+-- a room of that shape, with other rectangles noted
+pub shape_with : (a b : RoomData) (d : DecidedData) → KeepsShape a b → KeepsPlaces b.decided d → KeepsShape a (record b { decided = d })
+shape_with a b d h places = record { collapse = h.collapse; weights = h.weights; values = h.values; allowed = h.allowed; ranks = h.ranks; picks = h.picks; work = h.work; decided = places_then a.decided b.decided d h.decided places }
+
 pub same_room : (a : RoomData) → KeepsShape a a
-same_room a = record { collapse = refl; weights = same_pool a.weights; values = same_pool a.values; allowed = same_pool a.allowed; ranks = same_pool a.ranks; picks = same_pool a.picks; work = same_pool a.work }
+same_room a = record { collapse = refl; weights = same_pool a.weights; values = same_pool a.values; allowed = same_pool a.allowed; ranks = same_pool a.ranks; picks = same_pool a.picks; work = same_pool a.work; decided = same_places a.decided }
 
 pub room_then : (a b c : RoomData) → KeepsShape a b → KeepsShape b c → KeepsShape a c
 room_then a b c h g = record {
@@ -28,6 +45,7 @@ room_then a b c h g = record {
   ranks = pool_then a.ranks b.ranks c.ranks h.ranks g.ranks;
   picks = pool_then a.picks b.picks c.picks h.picks g.picks;
   work = pool_then a.work b.work c.work h.work g.work;
+  decided = places_then a.decided b.decided c.decided h.decided g.decided;
 }
 
 pub lanes_kept : (m : ModelData) (l : LinksData) (a b : RoomData) → KeepsShape a b → HasLanes m l a → HasLanes m l b
@@ -39,6 +57,7 @@ lanes_kept m l a b h g = record {
   ranks = h.ranks.lanes ∙ g.ranks;
   picks = h.picks.lanes ∙ g.picks;
   work = h.work.lanes ∙ g.work;
+  decided = places_kept (2 * length m.names) a.decided b.decided h.decided g.decided;
 }
 
 -- where a walk stands hangs on the sides alone
@@ -60,14 +79,18 @@ gone_back k depth axis lower room down up h same e =
 
 -- the other lanes stay where a lane of sides is taken or given back
 pub half_lanes : (m : ModelData) (l : LinksData) (lower : Bool) (axis : ℕ) (room half : RoomData) → half ≡ room_with_half lower axis room → HasLanes m l room → HasLanes m l half
-half_lanes m l lower axis room half e h = rw e (record { collapse = h.collapse; weights = h.weights; values = h.values; allowed = h.allowed; ranks = h.ranks; picks = h.picks; work = h.work })
+half_lanes m l lower axis room half e h = rw e (record { collapse = h.collapse; weights = h.weights; values = h.values; allowed = h.allowed; ranks = h.ranks; picks = h.picks; work = h.work; decided = h.decided })
 
 pub back_lanes : (m : ModelData) (l : LinksData) (room up : RoomData) → up ≡ room_without_last room → HasLanes m l room → HasLanes m l up
-back_lanes m l room up e h = rw e (record { collapse = h.collapse; weights = h.weights; values = h.values; allowed = h.allowed; ranks = h.ranks; picks = h.picks; work = h.work })
+back_lanes m l room up e h = rw e (record { collapse = h.collapse; weights = h.weights; values = h.values; allowed = h.allowed; ranks = h.ranks; picks = h.picks; work = h.work; decided = h.decided })
+
+-- a walk begins in a room that is made for the case, where nothing is noted
+pub begun_lanes : (k : CaseData) (l : LinksData) (room begun : RoomData) → begun ≡ room_at_root k room → HasLanes k.model l room → HasLanes k.model l begun
+begun_lanes k l room begun e h = rw e (record { collapse = h.collapse; weights = h.weights; values = h.values; allowed = h.allowed; ranks = h.ranks; picks = h.picks; work = h.work; decided = record { accepted = h.decided.accepted; rejected = h.decided.rejected } })
 
 -- after a walk the room is as made
 root_kept : (k : CaseData) (room : RoomData) → KeepsShape room (room_at_root k room)
-root_kept k room = record { collapse = refl; weights = same_pool room.weights; values = same_pool room.values; allowed = same_pool room.allowed; ranks = same_pool room.ranks; picks = same_pool room.picks; work = same_pool room.work }
+root_kept k room = record { collapse = refl; weights = same_pool room.weights; values = same_pool room.values; allowed = same_pool room.allowed; ranks = same_pool room.ranks; picks = same_pool room.picks; work = same_pool room.work; decided = forgotten_keeps room.decided }
 
 pub as_made : (k : CaseData) (l : LinksData) (room begun new : RoomData) → IsCase k → IsMadeFor k l room → begun ≡ room_at_root k room → new.sides ≡ begun.sides → KeepsShape begun new → IsAsMade room new
 as_made k l room begun new is made e sides shape =

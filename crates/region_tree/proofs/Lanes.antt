@@ -1,11 +1,11 @@
 -- Pools of one lane, and how long a rectangle's row of ends is.
-use Rattle.std.proofs.Common.{◌≡◌, ℕ, suc, ◌+◌, ◌-◌, ◌*◌, ◌^◌, ◌<◌, ◌≤◌, ◌==◌, Bool, true, false, cond, List, [], ◌∷◌, length, map, get_or, set, replicate, refl, sym, ap, ◌∙◌, arith, mul-le-mul}
+use Rattle.std.proofs.Common.{◌≡◌, ℕ, suc, ◌+◌, ◌-◌, ◌*◌, ◌^◌, ◌<◌, ◌≤◌, ◌==◌, Bool, true, false, cond, List, [], ◌∷◌, ℤ, length, map, get_or, set, replicate, refl, sym, ap, ◌∙◌, arith, mul-le-mul}
 use Rattle.std.proofs.lemmas.List.{length-replicate}
 use Rattle.lift_pool.specs.Lanes.{PoolData, pool_written}
 use Rattle.lift_pool.specs.Laws.{WritesOneLane}
-use Rattle.lift_grid.specs.Rectangle.{Spans, sides_of}
+use Rattle.lift_grid.specs.Rectangle.{Spans, sides_of, spans_of}
 use Rattle.lift_model.specs.Model.{live}
-use Rattle.corner_lift.specs.Case.{CaseData, IsCase, greatest_depth}
+use Rattle.corner_lift.specs.Case.{CaseData, IsCase, AreSidesInside, Within, greatest_depth}
 use Rattle.region_tree.specs.Rooms.{HasLane, end_count}
 
 pub length-sides : (ss : Spans) → length (sides_of ss) ≡ 2 * length ss
@@ -15,6 +15,17 @@ length-sides (s ∷ ss) = omega (arith, length-sides ss)
 -- the root's row has two ends for each parameter
 pub root_ends : (k : CaseData) → IsCase k → length (sides_of k.root) ≡ end_count k
 root_ends k is = length-sides k.root ∙ ap (λ n. 2 * n) is.asked.grid.one_each
+
+-- and so has that of each rectangle inside it
+pub inside_ends : (k : CaseData) → IsCase k → (sides : List ℤ) → AreSidesInside k.root sides → length sides ≡ end_count k
+inside_ends k is sides inside =
+    ap length (sym inside.rectangle.paired) ∙ length-sides (spans_of sides) ∙ ap (λ n. 2 * n) (as_many (spans_of sides) k.root inside.within ∙ is.asked.grid.one_each)
+  where
+    as_many : (spans root : Spans) → Within spans root → length spans ≡ length root
+    as_many [] [] h = refl
+    as_many (s ∷ spans) (r ∷ root) h = ap suc (as_many spans root h.2)
+    as_many [] (r ∷ root) h = absurd h
+    as_many (s ∷ spans) [] h = absurd h
 
 module _ {T : Type 0} where
   pub lane_filled : (p : PoolData T) (n : ℕ) (fill : T) → p.lanes ≡ replicate n fill ∷ [] → HasLane p n

@@ -9,3 +9,5 @@ pub mod Found
 pub mod Goings
 mod Samples
 pub mod Joining
+pub mod Places
+pub mod Meeting

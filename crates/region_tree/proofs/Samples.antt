@@ -1,4 +1,4 @@
--- Right trees worked out by hand: a model with one state, which is a goal state, so that its number is 2 at precision 1.
+-- Right trees worked out by hand: a model with one state, which is a goal state, so that its number is 2 at precision 1. And rectangles that share a valuation.
 use Rattle.std.proofs.Common.{◌≡◌, ℕ, zero, suc, ◌<◌, ◌≤◌, true, false, true≢false, List, [], ◌∷◌, length, All, ℤ, pos, ◌*ℤ◌, ◌≤ℤ◌, refl, sym, arith}
 use Rattle.std.proofs.lemmas.List.{get_or_past}
 use Rattle.lift_poly.proofs.Ring.{linear}
@@ -12,6 +12,7 @@ use Rattle.corner_lift.specs.Stages.{IsAllowed, IsPicked, LeadsBelow}
 use Rattle.lift_cert.specs.declared.bound.Bound.{Bound}
 use Rattle.region_tree.specs.Nodes.{nodes}
 use Rattle.region_tree.specs.Nodes.Node.{split as split-node, accept as accept-node, unknown as unknown-node}
+use Rattle.region_tree.specs.Recent.{Meet}
 use Rattle.region_tree.specs.Right.{IsRightTree}
 
 abbrev goal_model : ModelData
@@ -118,3 +119,17 @@ rejected = (
 -- the nodes in preorder: the lower half's before the upper half's
 preorder : nodes (split 0 (accept 4 (pos 1 ∷ [])) (split 1 unknown (accept 4 (pos 2 ∷ [])))) ≡ split-node 0 ∷ accept-node (pos 1 ∷ []) ∷ split-node 1 ∷ unknown-node ∷ accept-node (pos 2 ∷ []) ∷ []
 preorder = refl
+
+-- ---- rectangles that share a valuation
+
+-- two squares that have a corner in common
+share_a_corner : Meet ((pos 0, pos 2) ∷ (pos 0, pos 2) ∷ []) ((pos 2, pos 4) ∷ (pos 2, pos 4) ∷ [])
+share_a_corner = (omega (arith, linear), omega (arith, linear), (omega (arith, linear), omega (arith, linear), tt))
+
+-- two that have the same span of one parameter, and none in common of the other
+lie_apart : Meet ((pos 0, pos 1) ∷ (pos 0, pos 2) ∷ []) ((pos 2, pos 3) ∷ (pos 0, pos 2) ∷ []) → ⊥
+lie_apart meet = omega (arith, linear, meet.1)
+
+-- without parameters there is one valuation
+share_the_empty_one : Meet [] []
+share_the_empty_one = tt

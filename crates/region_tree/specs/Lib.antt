@@ -5,3 +5,4 @@ pub mod Visits
 pub mod Rooms
 pub mod Decided
 pub mod Built
+pub mod Recent

@@ -9,9 +9,11 @@ use Rattle.lift_model.specs.Links.{LinksData}
 use Rattle.corner_lift.specs.Case.{CaseData, greatest_depth}
 use Rattle.lift_collapse.specs.Collapse.{CollapseData, IsCollapse}
 use Rattle.lift_collapse.specs.Filled.{LinkedCollapse}
+use Rattle.region_tree.specs.Recent.{DecidedData, HasAllPlaces, KeepsPlaces, forgotten}
+pub use Rattle.region_tree.specs.Recent.{IsSameShape}
 use Rattle.region_tree.specs.Right.{IsAtDepth}
 
--- the collapsed model of the case, if it is worth one, and the pools of a room: the sides of the rectangles on the way from the root, the table of corner weights, the numbers of the states, which rows are allowed, the ranks and the picks of the states, and work space
+-- the collapsed model of the case, if it is worth one, and the pools of a room: the sides of the rectangles on the way from the root, the table of corner weights, the numbers of the states, which rows are allowed, the ranks and the picks of the states, work space, and the rectangles of a walk that were decided last
 pub record RoomData : Type 0 where
   pub collapse : Option LinkedCollapse
   pub sides : PoolData ℤ
@@ -21,6 +23,7 @@ pub record RoomData : Type 0 where
   pub ranks : PoolData ℕ
   pub picks : PoolData ℕ
   pub work : PoolData ℕ
+  pub decided : DecidedData
 
 -- the pool has one lane, of so many words
 abbrev pub HasLane : {T : Type 0} → PoolData T → ℕ → Type 0
@@ -34,7 +37,7 @@ end_count k = 2 * length k.model.names
 abbrev pub collapse_of : Option LinkedCollapse → Option CollapseData
 collapse_of found = option_map (λ c. c.collapse) found
 
--- the lanes of a room but the sides, for a model and its links: one for each purpose; and a collapsed model, if there is one, of that model
+-- the lanes of a room but the sides, for a model and its links: one for each purpose, and places for rectangles; and a collapsed model, if there is one, of that model
 pub record HasLanes (m : ModelData) (l : LinksData) (room : RoomData) : Type 0 where
   pub collapse : IfSome (collapse_of room.collapse) (IsCollapse m)
   pub weights : HasLane room.weights l.weights
@@ -43,6 +46,7 @@ pub record HasLanes (m : ModelData) (l : LinksData) (room : RoomData) : Type 0 w
   pub ranks : HasLane room.ranks (length m.states)
   pub picks : HasLane room.picks (length m.states)
   pub work : HasLane room.work (2 * length m.states)
+  pub decided : HasAllPlaces (2 * length m.names) room.decided
 
 -- A room that is made for a case: each pool has one lane, and of sides one more can be taken for each depth below the root.
 pub record IsMadeFor (k : CaseData) (l : LinksData) (room : RoomData) : Type 0 where
@@ -50,12 +54,6 @@ pub record IsMadeFor (k : CaseData) (l : LinksData) (room : RoomData) : Type 0 w
   pub sides : HasLane room.sides (end_count k)
   pub words : greatest_depth k * end_count k ≤ room.sides.spare
   pub depths : greatest_depth k ≤ room.sides.spare_lanes
-
--- the same number of lanes, of the same lengths, and as much that can be taken
-pub record IsSameShape {T : Type 0} (old new : PoolData T) : Type 0 where
-  pub lanes : map length new.lanes ≡ map length old.lanes
-  pub spare : new.spare ≡ old.spare
-  pub spare_lanes : new.spare_lanes ≡ old.spare_lanes
 
 -- the collapsed model is as it was, and all pools but the sides have the shape that they had
 pub record KeepsShape (old new : RoomData) : Type 0 where
@@ -66,6 +64,7 @@ pub record KeepsShape (old new : RoomData) : Type 0 where
   pub ranks : IsSameShape old.ranks new.ranks
   pub picks : IsSameShape old.picks new.picks
   pub work : IsSameShape old.work new.work
+  pub decided : KeepsPlaces old.decided new.decided
 
 -- the room is as made: every pool has the shape that it had, and what its lanes hold is free, as is the table of the collapsed model
 pub record IsAsMade (old new : RoomData) : Type 0 where
@@ -106,9 +105,9 @@ room_with_half lower axis room = record room { sides = pool_with room.sides (sid
 abbrev pub room_without_last : RoomData → RoomData
 room_without_last room = record room { sides = pool_without_last room.sides }
 
--- the room with the root's sides in the one lane of sides
+-- the room with the root's sides in the one lane of sides, where no rectangle is noted
 abbrev pub room_at_root : CaseData → RoomData → RoomData
-room_at_root k room = record room { sides = record room.sides { lanes = sides_of k.root ∷ [] } }
+room_at_root k room = record room { sides = record room.sides { lanes = sides_of k.root ∷ [] }; decided = forgotten room.decided }
 
 -- A half can be taken, the walk then stands one deeper, at that half, and giving it back leaves the room as it was.
 pub record StepsDown (k : CaseData) (depth axis : ℕ) (lower : Bool) (room : RoomData) : Type 0 where

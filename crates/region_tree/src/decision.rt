@@ -12,9 +12,11 @@ ghost use Rattle.rounded_iter.specs.Watching.{CanIterate, IsLeastWithin};
 ghost use Rattle.lift_collapse.specs.Collapse.{IsCollapse};
 ghost use Rattle.lift_collapse.specs.Filled.{IsFilled};
 ghost use Rattle.region_tree.specs.Decided.{CanDecide, IsDecided, IsDecidedBy, IsGreatestBeyond, lane, reject_of};
+ghost use Rattle.region_tree.specs.Recent.{AreCertified, IsSound};
 ghost use Rattle.region_tree.specs.Right.{IsAccepted, NoneRejects};
 ghost use Rattle.region_tree.specs.Rooms.{HasLane, IsSameShape, KeepsShape, collapse_of, last_sides};
 
+use crate::decided::Outlook;
 use crate::room::Room;
 use crate::verdict::Verdict;
 use corner_lift::{Case, fill};
@@ -119,7 +121,7 @@ fn greatest_lower(
     )
 }
 
-/// Whether an accepting certificate exists. Then the least upper vector is in the pool's one lane.
+/// Whether an accepting certificate exists, if one may. Then the least upper vector is in the pool's one lane.
 fn find_accepting(
     case: &Case,
     links: &Links,
@@ -128,6 +130,7 @@ fn find_accepting(
     collapse: &mut Option<Collapse>,
     values: &mut Pool<i64>,
     work: &mut Pool<u32>,
+    may: bool,
 ) -> bool
     ghost spans: { Spans }
     requires links { AreLinks case.now.model links.now }
@@ -135,12 +138,16 @@ fn find_accepting(
     requires filled { IfSome collapse.old (IsFilled case.now spans) }
     requires values { HasLane values.old (length case.now.model.states) }
     requires work { HasLane work.old (2 * length case.now.model.states) }
+    requires may { IsFalse may → NoneAccepts case.now spans bound }
     ensures collapse { collapse.new ≡ collapse.old }
     ensures values { IsSameShape values.old values.new }
     ensures work { IsSameShape work.old work.new }
     ensures accepted { IsTrue result → IsAccepted case.now spans bound (lane values.new) }
     ensures none { IsFalse result → NoneAccepts case.now spans bound }
 {
+    if !may {
+        return false;
+    }
     lanes_stand_alone::<i64>();
     lanes_stand_alone::<u32>();
     let limit = greatest_within(bound, case.w());
@@ -155,7 +162,7 @@ fn find_accepting(
     )
 }
 
-/// Whether a rejecting certificate exists. Then the greatest lower vector, its ranks and its picks are in the
+/// Whether a rejecting certificate exists, if one may. Then the greatest lower vector, its ranks and its picks are in the
 /// pools' one lane each, and this is its rate.
 fn find_rejecting(
     case: &Case,
@@ -168,6 +175,7 @@ fn find_rejecting(
     ranks: &mut Pool<u32>,
     picks: &mut Pool<u32>,
     work: &mut Pool<u32>,
+    may: bool,
 ) -> Option<Rate>
     ghost spans: { Spans }
     requires links { AreLinks case.now.model links.now }
@@ -178,6 +186,7 @@ fn find_rejecting(
     requires ranks { HasLane ranks.old (length case.now.model.states) }
     requires picks { HasLane picks.old (length case.now.model.states) }
     requires work { HasLane work.old (2 * length case.now.model.states) }
+    requires may { IsFalse may → NoneRejects case.now spans bound }
     ensures collapse { collapse.new ≡ collapse.old }
     ensures values { IsSameShape values.old values.new }
     ensures allowed { IsSameShape allowed.old allowed.new }
@@ -188,6 +197,9 @@ fn find_rejecting(
         (reject_of (lane values.new) (lane picks.new) (lane ranks.new) rate.e rate.k)) }
     ensures none { IsNone result → NoneRejects case.now spans bound }
 {
+    if !may {
+        return None;
+    }
     lanes_stand_alone::<i64>();
     lanes_stand_alone::<u32>();
     let limit = greatest_within(bound, case.w());
@@ -212,7 +224,7 @@ fn decide_in(
     links: &Links,
     bound: Bound,
     sides: &[i64],
-    rejects_first: bool,
+    outlook: Outlook,
     collapse: &mut Option<Collapse>,
     weights: &mut Pool<i128>,
     values: &mut Pool<i64>,
@@ -232,6 +244,7 @@ fn decide_in(
     requires ranks { HasLane ranks.old (length case.now.model.states) }
     requires picks { HasLane picks.old (length case.now.model.states) }
     requires work { HasLane work.old (2 * length case.now.model.states) }
+    requires outlook { IsSound case.now bound spans outlook }
     ensures collapse { collapse_of collapse.new ≡ collapse_of collapse.old }
     ensures weights { IsSameShape weights.old weights.new }
     ensures values { IsSameShape values.old values.new }
@@ -243,6 +256,11 @@ fn decide_in(
     ensures decided { IsDecidedBy case.now spans bound
         (lane values.new) (lane picks.new) (lane ranks.new) result }
 {
+    let Outlook {
+        may_accept,
+        may_reject,
+        rejects_first,
+    } = outlook;
     certificates_are_of_one_kind();
     let _ = case.w();
     make_table(case, links, sides, weights);
@@ -250,26 +268,56 @@ fn decide_in(
     let weights = weights.lane(0);
     if rejects_first {
         let rate = find_rejecting(
-            case, links, bound, weights, collapse, values, allowed, ranks, picks, work,
+            case, links, bound, weights, collapse, values, allowed, ranks, picks, work, may_reject,
         );
         if let Some(Rate { e, k }) = rate {
             return Verdict::Reject { e, k };
         }
-        if find_accepting(case, links, bound, weights, collapse, values, work) {
+        if find_accepting(
+            case, links, bound, weights, collapse, values, work, may_accept,
+        ) {
             return Verdict::Accept;
         }
         return Verdict::Unknown;
     }
-    if find_accepting(case, links, bound, weights, collapse, values, work) {
+    if find_accepting(
+        case, links, bound, weights, collapse, values, work, may_accept,
+    ) {
         return Verdict::Accept;
     }
     let rate = find_rejecting(
-        case, links, bound, weights, collapse, values, allowed, ranks, picks, work,
+        case, links, bound, weights, collapse, values, allowed, ranks, picks, work, may_reject,
     );
     match rate {
         Some(Rate { e, k }) => Verdict::Reject { e, k },
         None => Verdict::Unknown,
     }
+}
+
+/// Decides the rectangle that the room's last lane of sides holds, of which that is known.
+fn decide_by(case: &Case, links: &Links, bound: Bound, room: &mut Room, outlook: Outlook) -> Verdict
+    requires can { CanDecide case.now links.now room.old }
+    requires outlook { IsSound case.now bound (spans_of (last_sides room.old)) outlook }
+    ensures sides { room.new.sides ≡ room.old.sides }
+    ensures shape { KeepsShape room.old room.new }
+    ensures noted { room.new.decided ≡ room.old.decided }
+    ensures table { IsTable case.now links.now (spans_of (last_sides room.old)) (lane room.new.weights) }
+    ensures decided { IsDecided case.now (spans_of (last_sides room.old)) bound room.new result }
+{
+    decide_in(
+        case,
+        links,
+        bound,
+        room.sides.lane(room.sides.lanes() - 1),
+        outlook,
+        &mut room.collapse,
+        &mut room.weights,
+        &mut room.values,
+        &mut room.allowed,
+        &mut room.ranks,
+        &mut room.picks,
+        &mut room.work,
+    )
 }
 
 /// Decides the rectangle that the room's last lane of sides holds. The room was made for the case, and
@@ -285,20 +333,23 @@ pub fn decide(case: &Case, links: &Links, bound: Bound, room: &mut Room) -> Verd
     ensures table { IsTable case.now links.now (spans_of (last_sides room.old)) (lane room.new.weights) }
     ensures decided { IsDecided case.now (spans_of (last_sides room.old)) bound room.new result }
 {
-    let verdict = decide_in(
-        case,
-        links,
-        bound,
-        room.sides.lane(room.sides.lanes() - 1),
-        room.rejects_first,
-        &mut room.collapse,
-        &mut room.weights,
-        &mut room.values,
-        &mut room.allowed,
-        &mut room.ranks,
-        &mut room.picks,
-        &mut room.work,
-    );
-    room.rejects_first = verdict.is_reject();
+    decide_by(case, links, bound, room, Outlook::OPEN)
+}
+
+/// The same of a rectangle of a walk: what the rectangles before it had tells of it, and what it has is noted.
+pub(crate) fn decide_next(case: &Case, links: &Links, bound: Bound, room: &mut Room) -> Verdict
+    requires can { CanDecide case.now links.now room.old }
+    requires known { AreCertified case.now bound room.old.decided }
+    ensures sides { room.new.sides ≡ room.old.sides }
+    ensures shape { KeepsShape room.old room.new }
+    ensures known { AreCertified case.now bound room.new.decided }
+    ensures decided { IsDecided case.now (spans_of (last_sides room.old)) bound room.new result }
+{
+    certificates_are_of_one_kind();
+    let _ = case.w();
+    let last = room.sides.lanes() - 1;
+    let outlook = room.decided.outlook(room.sides.lane(last));
+    let verdict = decide_by(case, links, bound, room, outlook);
+    room.decided.note(room.sides.lane(last), verdict);
     verdict
 }

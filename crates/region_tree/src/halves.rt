@@ -51,11 +51,12 @@ impl Room {
         self.sides.give_back();
     }
 
-    /// Writes the root's sides over the one lane of sides.
+    /// Writes the root's sides over the one lane of sides, and forgets which rectangles were decided.
     pub(crate) fn begin(&mut self, case: &Case)
         requires { HasLane self.old.sides (end_count case.now) }
         ensures { self.new ≡ room_at_root case.now self.old }
     {
         write_root(case, &mut self.sides);
+        self.decided.forget();
     }
 }

@@ -2,10 +2,12 @@
 //! over it.
 #![tactic(auto)]
 
+mod decided;
 mod decision;
 mod halves;
 mod laws;
 mod leaf;
+mod recent;
 mod room;
 mod tree;
 mod verdict;

@@ -4,6 +4,7 @@ ghost use Rattle.lift_grid.specs.Rectangle.{sides_of};
 ghost use Rattle.lift_model.specs.Links.{AreLinks};
 ghost use Rattle.lift_model.specs.Model.{row_count};
 ghost use Rattle.corner_lift.specs.Case.{greatest_depth};
+ghost use Rattle.region_tree.specs.Recent.{HasAllPlaces};
 ghost use Rattle.region_tree.specs.Rooms.{
   HasLane,
   IsMadeFor,
@@ -11,6 +12,7 @@ ghost use Rattle.region_tree.specs.Rooms.{
   last_sides,
 };
 
+use crate::decided::Decided;
 use corner_lift::Case;
 use lift_collapse::Collapse;
 use lift_model::{Links, Model};
@@ -19,8 +21,8 @@ use std::alloc::{AllocError, Global};
 
 /// All memory that a walk over the tree of a case needs.
 ///
-/// A room is seen as its collapsed model and its pools. What the lanes and the collapsed model's table hold
-/// between two walks is free.
+/// A room is seen as its collapsed model, its pools, and the rectangles that are noted. What the lanes and the
+/// collapsed model's table hold between two walks is free, and so is what is noted.
 #[derive(Drop)]
 pub struct Room {
     /// The case's model with fewer states, where that is worth it.
@@ -32,8 +34,8 @@ pub struct Room {
     pub(crate) ranks: Pool<u32>,
     pub(crate) picks: Pool<u32>,
     pub(crate) work: Pool<u32>,
-    /// Whether a rejecting certificate is looked for first. It is so where the last rectangle had one.
-    pub(crate) rejects_first: bool,
+    /// The rectangles of a walk that were decided last.
+    pub(crate) decided: Decided,
 }
 
 impl std::marker::Model for Room {
@@ -50,6 +52,7 @@ impl std::marker::Model for Room {
       ranks = r.ranks;
       picks = r.picks;
       work = r.work;
+      decided = r.decided;
     } };
 }
 
@@ -95,6 +98,14 @@ fn sides_of_case(alloc: Global, case: &Case) -> Result<Pool<i64>, AllocError>
     Ok(pool)
 }
 
+/// Places for the rectangles of a walk that are decided last.
+fn decided_of_case(alloc: Global, case: &Case) -> Result<Decided, AllocError>
+    ensures { IfOk result (HasAllPlaces (end_count case.now)) }
+{
+    let ends = case.root().sides().len();
+    Decided::none(alloc, ends)
+}
+
 impl Room {
     /// Makes all pools that a walk over the case's tree needs, and collapses its model, so that what follows
     /// takes no memory. The one lane of sides holds the root's.
@@ -105,7 +116,6 @@ impl Room {
     {
         let states = case.model().states() as usize;
         Ok(Room {
-            collapse: Collapse::build(alloc, case.model(), links)?,
             sides: sides_of_case(alloc, case)?,
             weights: lane_of(alloc, links.weights_len(), 0)?,
             values: lane_of(alloc, states, 0)?,
@@ -113,7 +123,8 @@ impl Room {
             ranks: lane_of(alloc, states, 0)?,
             picks: lane_of(alloc, states, 0)?,
             work: lane_of(alloc, 2 * states, 0)?,
-            rejects_first: false,
+            decided: decided_of_case(alloc, case)?,
+            collapse: Collapse::build(alloc, case.model(), links)?,
         })
     }
 

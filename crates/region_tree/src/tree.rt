@@ -6,11 +6,12 @@ ghost use Rattle.lift_model.specs.Links.{AreLinks};
 ghost use Rattle.corner_lift.specs.Case.{IsCase, greatest_depth};
 ghost use Rattle.region_tree.specs.Built.{tree_at};
 ghost use Rattle.region_tree.specs.Decided.{IsDecided};
+ghost use Rattle.region_tree.specs.Recent.{AreCertified};
 ghost use Rattle.region_tree.specs.Right.{IsRight, IsRightTree};
 ghost use Rattle.region_tree.specs.Rooms.{HasLanes, KeepsShape, StandsAtDepth, last_sides};
 ghost use Rattle.region_tree.specs.declared.verdict.Verdict.TheVariants.{Unknown};
 
-use crate::decision::decide;
+use crate::decision::decide_next;
 use crate::laws::walks_are_placed;
 use crate::room::Room;
 use crate::verdict::Verdict;
@@ -117,13 +118,15 @@ fn build_at(
     requires depth { depth ≤ greatest }
     requires lanes { HasLanes case.now.model links.now room.old }
     requires placed { StandsAtDepth case.now depth room.old }
+    requires known { AreCertified case.now bound room.old.decided }
     ensures right { IfOk result (λ b. IsRight case.now (spans_of (last_sides room.old)) bound depth
         (tree_at case.now.w b)) }
     ensures sides { room.new.sides ≡ room.old.sides }
     ensures shape { KeepsShape room.old room.new }
+    ensures known { AreCertified case.now bound room.new.decided }
 {
     walks_are_placed();
-    let verdict = decide(case, links, bound, room);
+    let verdict = decide_next(case, links, bound, room);
     if depth == greatest || is_decided(verdict) {
         return leaf(alloc, case, bound, depth, room, verdict);
     }

@@ -8,13 +8,3 @@ pub enum Verdict {
     /// There is no certificate of either kind.
     Unknown,
 }
-
-impl Verdict {
-    /// Whether a rejecting certificate was found.
-    pub(crate) fn is_reject(self) -> bool {
-        match self {
-            Verdict::Reject { .. } => true,
-            Verdict::Accept | Verdict::Unknown => false,
-        }
-    }
-}

@@ -5,6 +5,7 @@ ghost use Rattle.lift_grid.specs.Splitting.{IsSplitAxis};
 ghost use Rattle.lift_model.specs.Links.{AreLinks};
 ghost use Rattle.lift_model.specs.Model.{live};
 ghost use Rattle.corner_lift.specs.Case.{IsCase, greatest_depth};
+ghost use Rattle.region_tree.specs.Recent.{AreCertified};
 ghost use Rattle.region_tree.specs.Rooms.{
   HasLanes,
   IsAsMade,
@@ -18,7 +19,7 @@ ghost use Rattle.region_tree.specs.Visits.{Walks};
 ghost use Rattle.region_tree.specs.declared.verdict.Verdict.TheVariants.{Unknown};
 ghost use Rattle.region_tree.specs.declared.visitor.Seen.TheVariants.{Failed, Kept};
 
-use crate::decision::decide;
+use crate::decision::decide_next;
 use crate::laws::{certificates_are_one, walks_are_placed};
 use crate::leaf::show_leaf;
 use crate::room::Room;
@@ -75,18 +76,20 @@ fn walk_at<V: Visitor>(
     requires depth { depth ≤ greatest }
     requires lanes { HasLanes case.now.model links.now room.old }
     requires placed { StandsAtDepth case.now depth room.old }
+    requires known { AreCertified case.now bound room.old.decided }
     requires states { V.states visitor.old ≡ length case.now.model.states }
     ensures walks { Walks case.now (spans_of (last_sides room.old)) bound depth
         V.taken V.faults (V.entry visitor.old) visitor.old visitor.new result }
     ensures sides { room.new.sides ≡ room.old.sides }
     ensures shape { KeepsShape room.old room.new }
+    ensures known { AreCertified case.now bound room.new.decided }
     ensures states { V.states visitor.new ≡ V.states visitor.old }
     ensures entry { V.entry visitor.new ≡ V.entry visitor.old }
     ensures same { V.reference visitor.new ≡ V.reference visitor.old }
 {
     certificates_are_one();
     walks_are_placed();
-    let verdict = decide(case, links, bound, room);
+    let verdict = decide_next(case, links, bound, room);
     if depth == greatest || is_decided(verdict) {
         return show_leaf(case, links, bound, depth, room, verdict, visitor);
     }

@@ -7,7 +7,7 @@ use Rattle.region_tree.proofs.decision.find_accepting.Goals as goal
 pub least_upper-requires : goal.least_upper-requires
 least_upper-requires g c =
     let values = one_of c.args.values.now.lanes (length c.args.case.now.model.states) c.requires.1.1.1.0 in
-    let work = one_of c.args.work.now.lanes (2 * length c.args.case.now.model.states) c.requires.1.1.1.1 in
+    let work = one_of c.args.work.now.lanes (2 * length c.args.case.now.model.states) c.requires.1.1.1.1.0 in
     (record { links = c.requires.0; table = c.requires.1.0; size = ap length c.lane_mut.ensures.value ∙ values.1; places = ap length c.lane_mut-2.ensures.value ∙ work.1 }, c.requires.1.1.0)
 
 pub returns-clause-collapse : goal.returns-clause-collapse
@@ -22,7 +22,7 @@ returns-clause-values g c =
 
 pub returns-clause-work : goal.returns-clause-work
 returns-clause-work g c =
-    let has : HasLane c.args.work.now (2 * length c.args.case.now.model.states) = c.requires.1.1.1.1 in
+    let has : HasLane c.args.work.now (2 * length c.args.case.now.model.states) = c.requires.1.1.1.1.0 in
     let kept : length c.least_upper.new.work ≡ length c.lane_mut-2.result.now = omega (arith, c.least_upper.auto.work) in
     let size = one_length c.args.work.now _ c.lane_mut-2.result.now c.least_upper.new.work has c.lane_mut-2.ensures.value kept in
     same_shape c.lanes_stand_alone-2.ensures.writes c.args.work.now _ c.least_upper.new.work has size

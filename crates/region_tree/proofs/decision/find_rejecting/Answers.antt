@@ -12,7 +12,7 @@ greatest_lower-requires g c =
     let allowed = one_of c.args.allowed.now.lanes (row_count k.model) c.requires.1.1.1.1.0 in
     let ranks = one_of c.args.ranks.now.lanes (length k.model.states) c.requires.1.1.1.1.1.0 in
     let picks = one_of c.args.picks.now.lanes (length k.model.states) c.requires.1.1.1.1.1.1.0 in
-    let work = one_of c.args.work.now.lanes (2 * length k.model.states) c.requires.1.1.1.1.1.1.1 in (
+    let work = one_of c.args.work.now.lanes (2 * length k.model.states) c.requires.1.1.1.1.1.1.1.0 in (
       record { links = c.requires.0; table = c.requires.1.0; size = ap length c.lane_mut.ensures.value ∙ values.1 },
       (
         record { allowed = ap length c.lane_mut-2.ensures.value ∙ allowed.1; ranks = ap length c.lane_mut-3.ensures.value ∙ ranks.1; picks = ap length c.lane_mut-4.ensures.value ∙ picks.1 },
@@ -53,7 +53,7 @@ returns-clause-picks g c =
 
 pub returns-clause-work : goal.returns-clause-work
 returns-clause-work g c =
-    let has_work : HasLane c.args.work.now (2 * length c.args.case.now.model.states) = c.requires.1.1.1.1.1.1.1 in
+    let has_work : HasLane c.args.work.now (2 * length c.args.case.now.model.states) = c.requires.1.1.1.1.1.1.1.0 in
     let kept_work : length c.greatest_lower.new.work ≡ length c.lane_mut-5.result.now = omega (arith, c.greatest_lower.auto.work) in
     let size_work = one_length c.args.work.now _ c.lane_mut-5.result.now c.greatest_lower.new.work has_work c.lane_mut-5.ensures.value kept_work in
     same_shape c.lanes_stand_alone-2.ensures.writes c.args.work.now _ c.greatest_lower.new.work has_work size_work

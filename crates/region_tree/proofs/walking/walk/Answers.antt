@@ -1,9 +1,18 @@
-use Rattle.region_tree.proofs.Goings.{as_made}
+use Rattle.region_tree.proofs.Goings.{as_made, begun_lanes}
+use Rattle.region_tree.proofs.Meeting.{none_certified}
 use Rattle.region_tree.proofs.walking.walk.Goals as goal
 
 pub walk_at-requires-clause-placed : goal.walk_at-requires-clause-placed
 walk_at-requires-clause-placed g c =
     rw c.begin.ensures (c.walks_are_placed.ensures.root c.args.case.now c.args.links.now c.args.room.now c.w.ensures.case c.requires.made)
+
+pub walk_at-requires-clause-lanes : goal.walk_at-requires-clause-lanes
+walk_at-requires-clause-lanes g c =
+    begun_lanes c.args.case.now c.args.links.now c.args.room.now c.begin.new.self c.begin.ensures c.requires.made.lanes
+
+pub walk_at-requires-clause-known : goal.walk_at-requires-clause-known
+walk_at-requires-clause-known g c =
+    rw c.begin.ensures (none_certified c.args.case.now c.args.bound c.args.room.now.decided)
 
 pub returns-clause-room : goal.returns-clause-room
 returns-clause-room g c =
