@@ -64,3 +64,8 @@ pub(crate) fn case_of<'m>(model: &'m Model, root: &'m Rect, grid: Grid) -> Resul
 pub(crate) fn half() -> Bound {
     Bound { num: 1, den: 2 }
 }
+
+/// The bound 1.
+pub(crate) fn one() -> Bound {
+    Bound { num: 1, den: 1 }
+}

@@ -3,9 +3,10 @@
 ghost use Rattle.lift_model.specs.Links.{AreLinks};
 ghost use Rattle.region_tree.specs.Rooms.{IsMadeFor};
 
-use crate::cases::{COIN, REGION, case_of, half, model_of, root_of};
+use crate::cases::{COIN, REGION, case_of, half, model_of, one, root_of};
 use corner_lift::Case;
 use lift_base::MemSink;
+use lift_cert::Bound;
 use lift_model::{Links, Model};
 use plift_top::write_report;
 use region_tree::Room;
@@ -27,12 +28,12 @@ fn sink(alloc: Global, failing: u64) -> Result<MemSink, AllocError> {
 }
 
 /// Whether the report of a case in this room is written whole.
-fn is_written(case: &Case, links: &Links, room: &mut Room, out: &mut MemSink) -> bool
+fn is_written(case: &Case, links: &Links, bound: Bound, room: &mut Room, out: &mut MemSink) -> bool
     requires links { AreLinks case.now.model links.now }
     requires made { IsMadeFor case.now links.now room.old }
     ensures { IsMadeFor case.now links.now room.new }
 {
-    write_report(case, links, half(), room, out).is_ok()
+    write_report(case, links, bound, room, out).is_ok()
 }
 
 /// Whether the report that a case has is cut off before its last two bytes, where the sink's last call
@@ -42,9 +43,21 @@ fn serves_again(alloc: Global, case: &Case, report: &[u8]) -> Result<bool, Fail>
     let mut room = Room::make(alloc, case, &links)?;
     let mut broken = sink(alloc, (report.len() as u64).saturating_sub(1))?;
     let mut whole = sink(alloc, 0)?;
-    let first = is_written(case, &links, &mut room, &mut broken);
-    let second = is_written(case, &links, &mut room, &mut whole);
+    let first = is_written(case, &links, half(), &mut room, &mut broken);
+    let second = is_written(case, &links, half(), &mut room, &mut whole);
     Ok(!first && is_cut_off(broken.taken(), report) && second && whole.taken() == report)
+}
+
+/// Whether the report that a case has for the bound 1/2 is written in a room in which that for the bound 1 was:
+/// rectangles that were accepted for the one say nothing for the other.
+fn serves_other_bound(alloc: Global, case: &Case, report: &[u8]) -> Result<bool, Fail> {
+    let links = Links::build(alloc, case.model())?;
+    let mut room = Room::make(alloc, case, &links)?;
+    let mut other = sink(alloc, 0)?;
+    let mut whole = sink(alloc, 0)?;
+    let first = is_written(case, &links, one(), &mut room, &mut other);
+    let second = is_written(case, &links, half(), &mut room, &mut whole);
+    Ok(first && second && whole.taken() == report)
 }
 
 /// Whether the last two bytes of a text are missing.
@@ -68,5 +81,24 @@ fn a_room_serves_again(rt: HostRuntime) -> Result<(), Fail> {
     let alloc = rt.alloc();
     let model = model_of(alloc, COIN)?;
     assert!(rt; serves_again_over(alloc, &model, REGION, REPORT)?);
+    Ok(())
+}
+
+fn serves_other_bound_over(
+    alloc: Global,
+    model: &Model,
+    region: &[u8],
+    report: &[u8],
+) -> Result<bool, Fail> {
+    let (grid, root) = root_of(alloc, region, model.names(), 2)?;
+    let case = case_of(model, &root, grid)?;
+    serves_other_bound(alloc, &case, report)
+}
+
+#[test]
+fn a_room_serves_another_bound(rt: HostRuntime) -> Result<(), Fail> {
+    let alloc = rt.alloc();
+    let model = model_of(alloc, COIN)?;
+    assert!(rt; serves_other_bound_over(alloc, &model, REGION, REPORT)?);
     Ok(())
 }
