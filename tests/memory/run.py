@@ -45,10 +45,13 @@ class Case:
 
 
 def room(depth, parameters, states, rows, weights):
-    """The seven pools of a room: for each its words, and its list of lanes, a lane being a word."""
+    """What a room asks for: nine pools, for each its words, and its list of lanes, a lane being a word; and what it takes
+    to see whether states can be taken together, which here they can't."""
     pools = [(depth + 1, 2 * parameters * 8), (1, weights * 16), (1, states * 8), (1, rows * 4)]
     pools += [(1, states * 4), (1, states * 4), (1, 2 * states * 4)]
-    return tuple(size for lanes, lane in pools for size in (lanes * lane, lanes * 8))
+    pools += [(32, 2 * parameters * 8)] * 2
+    taken = tuple(size * states for size in (1, 4, 1, 4, 4, 1, 4))
+    return tuple(size for lanes, lane in pools for size in (lanes * lane, lanes * 8)) + taken
 
 
 # Different rows have weights of their own, one for each entry at each corner: five for the coin, nine for the ladder.
