@@ -39,10 +39,10 @@ fn is_written(case: &Case, links: &Links, bound: Bound, room: &mut Room, out: &m
 /// Whether the report that a case has is cut off before its last two bytes, where the sink's last call
 /// but one fails, and is afterwards written whole in the same room.
 fn serves_again(alloc: Global, case: &Case, report: &[u8]) -> Result<bool, Fail> {
-    let links = Links::build(alloc, case.model())?;
-    let mut room = Room::make(alloc, case, &links)?;
     let mut broken = sink(alloc, (report.len() as u64).saturating_sub(1))?;
     let mut whole = sink(alloc, 0)?;
+    let links = Links::build(alloc, case.model())?;
+    let mut room = Room::make(alloc, case, &links)?;
     let first = is_written(case, &links, half(), &mut room, &mut broken);
     let second = is_written(case, &links, half(), &mut room, &mut whole);
     Ok(!first && is_cut_off(broken.taken(), report) && second && whole.taken() == report)
@@ -51,10 +51,10 @@ fn serves_again(alloc: Global, case: &Case, report: &[u8]) -> Result<bool, Fail>
 /// Whether the report that a case has for the bound 1/2 is written in a room in which that for the bound 1 was:
 /// rectangles that were accepted for the one say nothing for the other.
 fn serves_other_bound(alloc: Global, case: &Case, report: &[u8]) -> Result<bool, Fail> {
-    let links = Links::build(alloc, case.model())?;
-    let mut room = Room::make(alloc, case, &links)?;
     let mut other = sink(alloc, 0)?;
     let mut whole = sink(alloc, 0)?;
+    let links = Links::build(alloc, case.model())?;
+    let mut room = Room::make(alloc, case, &links)?;
     let first = is_written(case, &links, one(), &mut room, &mut other);
     let second = is_written(case, &links, half(), &mut room, &mut whole);
     Ok(first && second && whole.taken() == report)
