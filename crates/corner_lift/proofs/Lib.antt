@@ -19,3 +19,5 @@ pub mod PairRows
 pub mod ReadRows
 pub mod RowRead
 pub mod PairedRows
+pub mod OtherStates
+pub mod InLane

@@ -1,5 +1,5 @@
 -- Rows as the code has them before they are weighed: what a row of two entries sums to, and what a row's targets say of it.
-use Rattle.std.proofs.Common.{◌≡◌, ℕ, ◌+◌, ◌*◌, ◌^◌, ◌<◌, ◌≤◌, List, [], ◌∷◌, length, get_or, slice_range, ℤ, pos, ◌+ℤ◌, ◌*ℤ◌, neg_ℤ, ◌≤ℤ◌, unsigned_abs, All, ◌-ℤ◌, IsTrue, true, SFits, FitsSigned, w64, to_z, of_z, to_z-of_z, refl, sym, ap, ap₂, subst, ◌∙◌, arith}
+use Rattle.std.proofs.Common.{◌≡◌, ℕ, ◌+◌, ◌*◌, ◌^◌, ◌<◌, ◌≤◌, ◌-◌, List, [], ◌∷◌, length, get_or, slice_range, ℤ, pos, ◌+ℤ◌, ◌*ℤ◌, neg_ℤ, ◌≤ℤ◌, ◌<ℤ◌, unsigned_abs, All, ◌-ℤ◌, IsTrue, true, SFits, FitsSigned, w64, to_z, of_z, to_z-of_z, refl, sym, ap, ap₂, subst, ◌∙◌, arith}
 use Rattle.std.specs.Prelude.{◌↔◌, int_le}
 use Rattle.std.proofs.lemmas.Int.{ints, fits_signed_from_abs}
 use Rattle.std.proofs.Math.Pow.{pow_mono}
@@ -12,10 +12,12 @@ use Rattle.corner_lift.specs.Corner.{parameter_count, corner_sum}
 use Rattle.corner_lift.specs.Certificate.{AreNumbers}
 use Rattle.corner_lift.specs.Case.{CaseData, IsInside, IsGreatest, IsLeast, number, row_value, row_whole, corner_count}
 use Rattle.corner_lift.specs.Laws.{HasRow, ParametersAreTheRoots, SumsAreAtMost, SumsAreAtLeast}
-use Rattle.corner_lift.specs.Dot.{dot, total, corner_part}
+use Rattle.corner_lift.specs.Dot.{dot, total, corner_part, only_at, but_at, CanSum, FitsLane}
+use Rattle.corner_lift.specs.Table.{loop_weight}
 use Rattle.corner_lift.specs.Pairs.{HasPair, pair_sum, pair_whole, ArePairs, ArePairsAtMost, IsLeastPair, IsGreatestPair}
 use Rattle.corner_lift.specs.ReadRow.{IsReadRow}
 use Rattle.corner_lift.proofs.Rows.{number_range}
+use Rattle.corner_lift.proofs.OtherStates.{one, dot_parts, total_parts, others_least, ones_sum}
 use Rattle.corner_lift.proofs.PairRows.{two_of, corner_of_block, corner_inside, corner_has}
 
 module _ (k : CaseData) (spans : Spans) (weights : List ℤ) (s a : ℕ) (place : RowPlace) (targets : List ℕ) (row : IsReadRow k spans weights s a place targets) where
@@ -148,3 +150,29 @@ neg_code n w le fits size =
     let neg_fits : FitsSigned w64 (neg_ℤ n) = fits_signed_from_abs w64 (neg_ℤ n) (omega (arith, neg_size n (2 ^ w) size, small)) in
     let minus : pos 0 -ℤ n ≡ neg_ℤ n = omega (arith, linear) in
     ap (λ z. to_z w64 (of_z w64 (pos 0 -ℤ z))) (to_z-of_z fits) ∙ ap (λ z. to_z w64 (of_z w64 z)) minus ∙ to_z-of_z neg_fits
+
+-- ---- a row's weights into other states
+
+module _ (k : CaseData) (spans : Spans) (weights : List ℤ) (s a : ℕ) (place : RowPlace) (targets : List ℕ) (row : IsReadRow k spans weights s a place targets) (c : ℕ) (lt : c < corner_count k s a) (x : List ℤ) (numbers : AreNumbers k x) (small : row_whole k s a <ℤ pos (2 ^ (63 - k.w))) where
+  is_corner : c < place.corners
+  is_corner = omega (arith, lt, row.corners)
+
+  abbrev part : List ℤ
+  part = corner_part weights place c
+
+  pub others_can : CanSum (number x) part targets
+  others_can = (row.can_compare x numbers).sums c is_corner
+
+  pub others_lane : FitsLane (number x) part targets
+  others_lane = row.lane x numbers small c is_corner
+
+  pub others_sum_is : dot (but_at s (number x)) part targets ≡ row_value k spans s a x c -ℤ (number x s *ℤ loop_weight k spans s a c)
+  others_sum_is =
+      let own : number x s *ℤ dot (only_at s) part targets ≡ number x s *ℤ loop_weight k spans s a c = ap (λ n. number x s *ℤ n) (row.sums c is_corner (only_at s)) in
+      omega (arith, linear, dot_parts s (number x) part targets, row.sums c is_corner (number x), own)
+
+  pub others_whole_is : dot (but_at s one) part targets ≡ row_whole k s a -ℤ loop_weight k spans s a c
+  others_whole_is = omega (arith, linear, total_parts s part targets others_can.sizes, row.totals c is_corner, row.sums c is_corner (only_at s))
+
+  pub others_are_least : (pos 0 ≤ℤ dot (but_at s (number x)) part targets) × (pos 0 ≤ℤ dot (but_at s one) part targets)
+  others_are_least = (others_least s (number x) part targets others_can, others_least s one part targets (ones_sum (number x) part targets others_can others_lane))

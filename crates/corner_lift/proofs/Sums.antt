@@ -27,7 +27,7 @@ module _ (z : ℕ → ℤ) where
   pub dot_more : (ws : List ℤ) (ts : List ℕ) (j : ℕ) (d : ℤ) (e : ℕ) → j < length ws → j < length ts → dot z (take (j + 1) ws) (take (j + 1) ts) ≡ dot z (take j ws) (take j ts) +ℤ get_or ws j d *ℤ z (get_or ts j e)
   dot_more ws ts j d e lt inside = ap (λ n. dot z (take n ws) (take n ts)) (add-one j) ∙ dot_suc ws ts j d e lt inside
 
-  dot_least : (ws : List ℤ) (ts : List ℕ) → All Least ws → ((t : ℕ) → pos 0 ≤ℤ z t) → pos 0 ≤ℤ dot z ws ts
+  pub dot_least : (ws : List ℤ) (ts : List ℕ) → All Least ws → ((t : ℕ) → pos 0 ≤ℤ z t) → pos 0 ≤ℤ dot z ws ts
   dot_least [] ts h g = omega (arith, linear)
   dot_least (w ∷ ws) [] h g = omega (arith, linear)
   dot_least (w ∷ ws) (t ∷ ts) h g = omega (arith, linear, mul-nonneg w (z t) (All-head Least w ws h) (g t), dot_least ws ts (All-tail Least w ws h) g)

@@ -13,6 +13,10 @@ dot number (weight ∷ weights) (target ∷ targets) = weight *ℤ number target
 abbrev pub only_at : ℕ → ℕ → ℤ
 only_at s t = if t == s then pos 1 else pos 0
 
+-- the numbers of the states, but 0 for this one
+abbrev pub but_at : ℕ → (ℕ → ℤ) → ℕ → ℤ
+but_at s number t = if t == s then pos 0 else number t
+
 -- the sum of the weights
 abbrev pub total : List ℤ → ℤ
 total [] = pos 0

@@ -1,12 +1,13 @@
 -- Tables of corner weights: the weights of all rows of a case at the corners of a rectangle, made once for it. Rows with the same polynomials share a block of weights.
-use Rattle.std.specs.Prelude.{◌≡◌, ℕ, zero, suc, ◌*◌, ◌^◌, ◌<◌, ◌≤◌, List, [], ◌∷◌, ◌++◌, ℤ, pos, ◌≤ℤ◌, unsigned_abs, map}
+use Rattle.std.specs.Prelude.{◌≡◌, ℕ, zero, suc, ◌*◌, ◌^◌, ◌<◌, ◌≤◌, List, [], ◌∷◌, ◌++◌, ℤ, pos, ◌≤ℤ◌, ◌<ℤ◌, ◌-◌, unsigned_abs, map}
 use Rattle.lift_poly.specs.Polynomial.{weight}
 use Rattle.lift_grid.specs.Rectangle.{Spans}
 use Rattle.lift_model.specs.declared.entry.Entry.{Entry}
-use Rattle.lift_model.specs.Model.{ModelData, support}
+use Rattle.lift_model.specs.Model.{ModelData, support, row_at}
 use Rattle.lift_model.specs.Links.{LinksData, ArePlaces, HasChoice, Firsts, first_row}
-use Rattle.corner_lift.specs.Corner.{corner, parameter_count}
+use Rattle.corner_lift.specs.Corner.{corner, parameter_count, corner_sum}
 use Rattle.corner_lift.specs.Case.{CaseData, IsInside, row_whole, engine_limit}
+use Rattle.corner_lift.specs.Dot.{only_at}
 
 -- the weights of a row at a corner, entry by entry
 abbrev pub corner_weights : ℤ → Spans → List Entry → ℕ → List ℤ
@@ -47,3 +48,11 @@ pub record IsWhole (k : CaseData) (s a : ℕ) (sum : ℤ) : Type 0 where
   pub positive : pos 1 ≤ℤ sum
   pub size : unsigned_abs sum < engine_limit
   pub room : (n : ℕ) → n ≤ 2 ^ k.w → n * unsigned_abs sum < engine_limit
+
+-- 64 bits hold each weighted sum of the row: its whole, times 2^w, is below 2^63
+abbrev pub HasShortSums : CaseData → ℕ → ℕ → Type 0
+HasShortSums k s a = row_whole k s a <ℤ pos (2 ^ (63 - k.w))
+
+-- the weight of the row's self loop at a corner: what it weighs into the state that has it
+abbrev pub loop_weight : CaseData → Spans → ℕ → ℕ → ℕ → ℤ
+loop_weight k spans s a c = corner_sum k.d spans (row_at k.model s a) c (only_at s)

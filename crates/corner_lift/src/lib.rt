@@ -23,7 +23,7 @@ pub use precision::one_at;
 pub use rate::is_enough;
 pub use row::{raw_weight, row_max, row_min, row_value, weight_into, whole};
 pub use table::{
-    AtCorner, Weighed, fill, table_corner, table_greatest, table_into, table_least, table_loop,
-    table_max, table_min, table_value, table_whole,
+    AtCorner, Others, Weighed, fill, has_short_sums, table_corner, table_greatest, table_into,
+    table_least, table_loop, table_max, table_min, table_others, table_value, table_whole,
 };
 pub use within::{is_capped, is_held, least_into};

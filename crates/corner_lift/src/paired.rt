@@ -9,10 +9,10 @@ ghost use Rattle.lift_model.specs.OnlyRow.{IsPairRow};
 ghost use Rattle.corner_lift.specs.Corner.{corner_sum};
 ghost use Rattle.corner_lift.specs.Certificate.{AreNumbers, mark, ranked_below};
 ghost use Rattle.corner_lift.specs.Case.{IsGreatest, IsLeast, BoundsAbove, BoundsBelow, row_value, corner_count, most_precision};
-ghost use Rattle.corner_lift.specs.Table.{CanRead, IsWhole};
+ghost use Rattle.corner_lift.specs.Table.{CanRead};
 ghost use Rattle.corner_lift.specs.Dot.{lane_limit};
 ghost use Rattle.corner_lift.specs.Pairs.{AreCorners, HasLane, HasPair, IsGreatestPair, IsLeastPair, one_where, pair_whole};
-ghost use Rattle.corner_lift.specs.Paired.{IsPairOf, IsNoneOrPair, IsLaneOf, pair_block};
+ghost use Rattle.corner_lift.specs.Paired.{IsPairOf, IsNoneOrPair, IsLaneOf, IsWholeOver, pair_block};
 
 use crate::case::Case;
 use crate::laws::premises;
@@ -331,9 +331,10 @@ impl<'a> PairTable<'a> {
     ) -> Option<LaneSum>
         ghost spans: { Spans }
         requires { CanRead case.now links.now spans self.now s a × AreNumbers case.now vec.now }
-        ensures greatest { IfSome result (λ row. IsGreatest (row_value case.now spans s a vec.now) (corner_count case.now s a) (row.sum *ℤ row.scale)) }
+        ensures greatest { IfSome result (λ row.
+            IsGreatest (row_value case.now spans s a vec.now) (corner_count case.now s a) (row.sum *ℤ row.scale)) }
         ensures bound { IfSome result (λ row. BoundsAbove case.now spans s a vec.now (row.sum *ℤ row.scale)) }
-        ensures whole { IfSome result (λ row. (pos 1 ≤ℤ row.whole) × ((pos 1 ≤ℤ row.scale) × IsWhole case.now s a (row.whole *ℤ row.scale))) }
+        ensures whole { IfSome result (IsWholeOver case.now s a) }
     {
         premises();
         let w = case.w();
@@ -361,9 +362,10 @@ impl<'a> PairTable<'a> {
         ghost spans: { Spans }
         requires can { CanRead case.now links.now spans self.now s 0 × AreNumbers case.now vec.now }
         requires row { IsPairRow case.now.model links.now s row }
-        ensures greatest { IfSome result (λ row. IsGreatest (row_value case.now spans s 0 vec.now) (corner_count case.now s 0) (row.sum *ℤ row.scale)) }
+        ensures greatest { IfSome result (λ row.
+            IsGreatest (row_value case.now spans s 0 vec.now) (corner_count case.now s 0) (row.sum *ℤ row.scale)) }
         ensures bound { IfSome result (λ row. BoundsAbove case.now spans s 0 vec.now (row.sum *ℤ row.scale)) }
-        ensures whole { IfSome result (λ row. (pos 1 ≤ℤ row.whole) × ((pos 1 ≤ℤ row.scale) × IsWhole case.now s 0 (row.whole *ℤ row.scale))) }
+        ensures whole { IfSome result (IsWholeOver case.now s 0) }
     {
         premises();
         let w = case.w();
@@ -379,9 +381,10 @@ impl<'a> PairTable<'a> {
     pub fn least(&self, case: &Case, links: &Links, s: u32, a: u32, vec: &[i64]) -> Option<LaneSum>
         ghost spans: { Spans }
         requires { CanRead case.now links.now spans self.now s a × AreNumbers case.now vec.now }
-        ensures least { IfSome result (λ row. IsLeast (row_value case.now spans s a vec.now) (corner_count case.now s a) (row.sum *ℤ row.scale)) }
+        ensures least { IfSome result (λ row.
+            IsLeast (row_value case.now spans s a vec.now) (corner_count case.now s a) (row.sum *ℤ row.scale)) }
         ensures bound { IfSome result (λ row. BoundsBelow case.now spans s a vec.now (row.sum *ℤ row.scale)) }
-        ensures whole { IfSome result (λ row. (pos 1 ≤ℤ row.whole) × ((pos 1 ≤ℤ row.scale) × IsWhole case.now s a (row.whole *ℤ row.scale))) }
+        ensures whole { IfSome result (IsWholeOver case.now s a) }
     {
         premises();
         let w = case.w();
@@ -409,9 +412,10 @@ impl<'a> PairTable<'a> {
         ghost spans: { Spans }
         requires can { CanRead case.now links.now spans self.now s 0 × AreNumbers case.now vec.now }
         requires row { IsPairRow case.now.model links.now s row }
-        ensures least { IfSome result (λ row. IsLeast (row_value case.now spans s 0 vec.now) (corner_count case.now s 0) (row.sum *ℤ row.scale)) }
+        ensures least { IfSome result (λ row.
+            IsLeast (row_value case.now spans s 0 vec.now) (corner_count case.now s 0) (row.sum *ℤ row.scale)) }
         ensures bound { IfSome result (λ row. BoundsBelow case.now spans s 0 vec.now (row.sum *ℤ row.scale)) }
-        ensures whole { IfSome result (λ row. (pos 1 ≤ℤ row.whole) × ((pos 1 ≤ℤ row.scale) × IsWhole case.now s 0 (row.whole *ℤ row.scale))) }
+        ensures whole { IfSome result (IsWholeOver case.now s 0) }
     {
         premises();
         let w = case.w();
@@ -436,9 +440,10 @@ impl<'a> PairTable<'a> {
     ) -> Option<LaneSum>
         ghost spans: { Spans }
         requires { CanRead case.now links.now spans self.now s a × (length ranks.now ≡ length case.now.model.states) }
-        ensures least { IfSome result (λ row. IsLeast (λ c. corner_sum case.now.d spans (row_at case.now.model s a) c (ranked_below (mark ranks.now) below))
+        ensures least { IfSome result (λ row.
+            IsLeast (λ c. corner_sum case.now.d spans (row_at case.now.model s a) c (ranked_below (mark ranks.now) below))
             (corner_count case.now s a) (row.sum *ℤ row.scale)) }
-        ensures whole { IfSome result (λ row. (pos 1 ≤ℤ row.whole) × ((pos 1 ≤ℤ row.scale) × IsWhole case.now s a (row.whole *ℤ row.scale))) }
+        ensures whole { IfSome result (IsWholeOver case.now s a) }
     {
         let w = case.w();
         let (place, targets) = read_row(case, links, self.weights, s, a);
@@ -466,9 +471,10 @@ impl<'a> PairTable<'a> {
         ghost spans: { Spans }
         requires can { CanRead case.now links.now spans self.now s 0 × (length ranks.now ≡ length case.now.model.states) }
         requires row { IsPairRow case.now.model links.now s row }
-        ensures least { IfSome result (λ row. IsLeast (λ c. corner_sum case.now.d spans (row_at case.now.model s 0) c (ranked_below (mark ranks.now) below))
+        ensures least { IfSome result (λ row.
+            IsLeast (λ c. corner_sum case.now.d spans (row_at case.now.model s 0) c (ranked_below (mark ranks.now) below))
             (corner_count case.now s 0) (row.sum *ℤ row.scale)) }
-        ensures whole { IfSome result (λ row. (pos 1 ≤ℤ row.whole) × ((pos 1 ≤ℤ row.scale) × IsWhole case.now s 0 (row.whole *ℤ row.scale))) }
+        ensures whole { IfSome result (IsWholeOver case.now s 0) }
     {
         premises();
         let w = case.w();

@@ -121,7 +121,7 @@ pub(crate) fn greatest_first(block: &[i128]) -> i128
 
 /// The lesser of two numbers of 64 bits.
 #[inline]
-fn lesser_in_lane(left: i64, right: i64) -> i64
+pub(crate) fn lesser_in_lane(left: i64, right: i64) -> i64
     ensures left { result ≤ℤ left }
     ensures right { result ≤ℤ right }
     ensures one { (result ≡ left) ⊎ (result ≡ right) }
@@ -131,7 +131,7 @@ fn lesser_in_lane(left: i64, right: i64) -> i64
 
 /// The greater of two numbers of 64 bits.
 #[inline]
-fn greater_in_lane(left: i64, right: i64) -> i64
+pub(crate) fn greater_in_lane(left: i64, right: i64) -> i64
     ensures left { left ≤ℤ result }
     ensures right { right ≤ℤ result }
     ensures one { (result ≡ left) ⊎ (result ≡ right) }

@@ -1,6 +1,6 @@
 //! Tables of the weights of all rows at the corners of a rectangle, made once for it.
 
-ghost use Rattle.std.specs.Prelude.{◌≡◌, ℕ, ◌+◌, ◌*◌, ◌^◌, ◌<◌, ◌≤◌, ◌++◌, ◌≤ℤ◌, ◌<ℤ◌, ◌+ℤ◌, ◌*ℤ◌, ◌-◌, pos, length, All, map, take, count_ones, unsigned_abs, IsTrue, if◌then◌else◌};
+ghost use Rattle.std.specs.Prelude.{◌≡◌, ℕ, ◌+◌, ◌*◌, ◌^◌, ◌<◌, ◌≤◌, ◌++◌, ◌≤ℤ◌, ◌<ℤ◌, ◌+ℤ◌, ◌-ℤ◌, ◌*ℤ◌, ◌-◌, ◌%◌, ◌⊎◌, ◌↔◌, pos, length, All, map, take, count_ones, unsigned_abs, IsTrue, if◌then◌else◌};
 ghost use Rattle.lift_grid.specs.Rectangle.{Spans, spans_of};
 ghost use Rattle.lift_model.specs.Model.{row_at, support};
 ghost use Rattle.lift_model.specs.Links.{ArePlaces, weight_count};
@@ -8,14 +8,14 @@ ghost use Rattle.corner_lift.specs.Corner.{corner_sum};
 ghost use Rattle.corner_lift.specs.Certificate.{AreNumbers, mark, ranked_below};
 ghost use Rattle.corner_lift.specs.Case.{number, IsCase, IsRowOf, AreSidesInside, IsGreatest, IsLeast, BoundsAbove, BoundsBelow, row_value, row_whole, corner_count, abs_sum, engine_limit, most_precision, most_row_parameters};
 ghost use Rattle.corner_lift.specs.Ends.{weight_at, greatest_end, IsPair};
-ghost use Rattle.corner_lift.specs.Table.{block, IsTable, CanRead, IsWhole};
-ghost use Rattle.corner_lift.specs.Dot.{dot, total, corner_part, only_at, CanSum, CanCompare, FitsLane, FitsLaneAtCorners};
+ghost use Rattle.corner_lift.specs.Table.{block, IsTable, CanRead, IsWhole, HasShortSums, loop_weight};
+ghost use Rattle.corner_lift.specs.Dot.{dot, total, corner_part, only_at, but_at, CanSum, CanCompare, FitsLane, FitsLaneAtCorners};
 ghost use Rattle.corner_lift.specs.ReadRow.{IsReadRow};
 
 use crate::case::Case;
 use crate::ends::Ends;
 use crate::laws::premises;
-use crate::pairs::{block_of, greatest_pair, least_pair};
+use crate::pairs::{block_of, greater_in_lane, greatest_pair, least_pair, lesser_in_lane};
 use crate::row::{greater, lesser};
 use lift_model::{Links, Row, RowPlace};
 
@@ -37,6 +37,15 @@ pub struct AtCorner {
     pub whole: i128,
     /// The weight into the state that has the row.
     pub own: i128,
+}
+
+/// What a row weighs at one of its corners into other states than its own: a weighted sum, and the weights alone.
+#[derive(Clone, Copy)]
+pub struct Others {
+    /// The sum, at least 0.
+    pub sum: i64,
+    /// What the weights alone sum to, at least 0.
+    pub whole: i64,
 }
 
 /// Writes the weights of a row at a corner.
@@ -228,6 +237,46 @@ fn sum_in_lane(weights: &[i128], targets: &[u32], vec: &[i64]) -> i64
     sum
 }
 
+/// Two sums of weights, each times its target's number, in numbers of 64 bits: each number is looked up once for both.
+#[inline]
+fn both_in_lane(low: &[i128], high: &[i128], targets: &[u32], vec: &[i64]) -> (i64, i64)
+    requires targets { All (λ t. t < length vec.now) targets.now }
+    requires low { CanSum (number vec.now) low.now targets.now × FitsLane (number vec.now) low.now targets.now }
+    requires high { CanSum (number vec.now) high.now targets.now × FitsLane (number vec.now) high.now targets.now }
+    ensures { (result.0 ≡ dot (number vec.now) low.now targets.now) × (result.1 ≡ dot (number vec.now) high.now targets.now) }
+{
+    let mut first = 0;
+    let mut second = 0;
+    for j in 0..targets.len() {
+        let number = vec[targets[j] as usize];
+        first += low[j] as i64 * number;
+        second += high[j] as i64 * number;
+    }
+    (first, second)
+}
+
+/// The sum of the weights into other states than `s`, each times its target's number, and of these weights alone; in
+/// numbers of 64 bits.
+#[inline]
+fn others_in_lane(weights: &[i128], targets: &[u32], s: u32, vec: &[i64]) -> Others
+    requires targets { All (λ t. t < length vec.now) targets.now }
+    requires room { CanSum (number vec.now) weights.now targets.now }
+    requires lane { FitsLane (number vec.now) weights.now targets.now }
+    ensures sum { result.sum ≡ dot (but_at s (number vec.now)) weights.now targets.now }
+    ensures whole { result.whole ≡ dot (but_at s (λ t. pos 1)) weights.now targets.now }
+{
+    let mut sum = 0;
+    let mut whole = 0;
+    for j in 0..targets.len() {
+        if targets[j] != s {
+            let weight = weights[j] as i64;
+            sum += weight * vec[targets[j] as usize];
+            whole += weight;
+        }
+    }
+    Others { sum, whole }
+}
+
 /// The sum of the weights, each times its target's number.
 #[inline]
 fn wide_sum(weights: &[i128], targets: &[u32], vec: &[i64]) -> i128
@@ -316,6 +365,47 @@ pub(crate) fn is_narrow(whole: i128, w: u32) -> bool
     }
 }
 
+/// The greater of the sums at two corners of the row that stands at that place, in numbers of 64 bits.
+#[inline(always)]
+fn greater_of_both(
+    weights: &[i128],
+    place: RowPlace,
+    pair: u32,
+    targets: &[u32],
+    vec: &[i64],
+) -> i64
+    requires targets { All (λ t. t < length vec.now) targets.now }
+    requires room { CanCompare (number vec.now) weights.now targets.now place }
+    requires lane { FitsLaneAtCorners (number vec.now) weights.now targets.now place }
+    requires inside { 2 * pair + 1 < place.corners }
+    ensures low { dot (number vec.now) (corner_part weights.now place (2 * pair)) targets.now ≤ℤ result }
+    ensures high { dot (number vec.now) (corner_part weights.now place (2 * pair + 1)) targets.now ≤ℤ result }
+    ensures one { (result ≡ dot (number vec.now) (corner_part weights.now place (2 * pair)) targets.now)
+        ⊎ (result ≡ dot (number vec.now) (corner_part weights.now place (2 * pair + 1)) targets.now) }
+{
+    let low = corner_of(weights, place, 2 * pair);
+    let high = corner_of(weights, place, 2 * pair + 1);
+    let (first, second) = both_in_lane(low, high, targets, vec);
+    greater_in_lane(first, second)
+}
+
+/// The greatest sum over the corners of the row that stands at that place, two corners at a time, in numbers of 64 bits.
+#[inline]
+fn greatest_in_lane(weights: &[i128], place: RowPlace, targets: &[u32], vec: &[i64]) -> i64
+    requires targets { All (λ t. t < length vec.now) targets.now }
+    requires room { CanCompare (number vec.now) weights.now targets.now place }
+    requires lane { FitsLaneAtCorners (number vec.now) weights.now targets.now place }
+    requires even { place.corners % 2 ≡ 0 }
+    ensures { IsGreatest (λ c. dot (number vec.now) (corner_part weights.now place c) targets.now) place.corners result }
+{
+    let mut greatest = greater_of_both(weights, place, 0, targets, vec);
+    for pair in 1..place.corners / 2 {
+        let next = greater_of_both(weights, place, pair, targets, vec);
+        greatest = greater_in_lane(greatest, next);
+    }
+    greatest
+}
+
 /// The greatest sum over the corners of the row that stands at that place.
 pub(crate) fn greatest_of(
     weights: &[i128],
@@ -329,12 +419,50 @@ pub(crate) fn greatest_of(
     requires lane { IsTrue narrow → FitsLaneAtCorners (number vec.now) weights.now targets.now place }
     ensures { IsGreatest (λ c. dot (number vec.now) (corner_part weights.now place c) targets.now) place.corners result }
 {
+    if narrow && place.corners % 2 == 0 {
+        return i128::from(greatest_in_lane(weights, place, targets, vec));
+    }
     let mut greatest = sum_of(corner_of(weights, place, 0), targets, vec, narrow);
     for corner in 1..place.corners {
         let sum = sum_of(corner_of(weights, place, corner), targets, vec, narrow);
         greatest = greater(greatest, sum);
     }
     greatest
+}
+
+/// The lesser of the sums at two corners of the row that stands at that place, in numbers of 64 bits.
+#[inline(always)]
+fn lesser_of_both(weights: &[i128], place: RowPlace, pair: u32, targets: &[u32], vec: &[i64]) -> i64
+    requires targets { All (λ t. t < length vec.now) targets.now }
+    requires room { CanCompare (number vec.now) weights.now targets.now place }
+    requires lane { FitsLaneAtCorners (number vec.now) weights.now targets.now place }
+    requires inside { 2 * pair + 1 < place.corners }
+    ensures low { result ≤ℤ dot (number vec.now) (corner_part weights.now place (2 * pair)) targets.now }
+    ensures high { result ≤ℤ dot (number vec.now) (corner_part weights.now place (2 * pair + 1)) targets.now }
+    ensures one { (result ≡ dot (number vec.now) (corner_part weights.now place (2 * pair)) targets.now)
+        ⊎ (result ≡ dot (number vec.now) (corner_part weights.now place (2 * pair + 1)) targets.now) }
+{
+    let low = corner_of(weights, place, 2 * pair);
+    let high = corner_of(weights, place, 2 * pair + 1);
+    let (first, second) = both_in_lane(low, high, targets, vec);
+    lesser_in_lane(first, second)
+}
+
+/// The least sum over the corners of the row that stands at that place, two corners at a time, in numbers of 64 bits.
+#[inline]
+fn least_in_lane(weights: &[i128], place: RowPlace, targets: &[u32], vec: &[i64]) -> i64
+    requires targets { All (λ t. t < length vec.now) targets.now }
+    requires room { CanCompare (number vec.now) weights.now targets.now place }
+    requires lane { FitsLaneAtCorners (number vec.now) weights.now targets.now place }
+    requires even { place.corners % 2 ≡ 0 }
+    ensures { IsLeast (λ c. dot (number vec.now) (corner_part weights.now place c) targets.now) place.corners result }
+{
+    let mut least = lesser_of_both(weights, place, 0, targets, vec);
+    for pair in 1..place.corners / 2 {
+        let next = lesser_of_both(weights, place, pair, targets, vec);
+        least = lesser_in_lane(least, next);
+    }
+    least
 }
 
 /// The least sum over the corners of the row that stands at that place.
@@ -350,6 +478,9 @@ pub(crate) fn least_of(
     requires lane { IsTrue narrow → FitsLaneAtCorners (number vec.now) weights.now targets.now place }
     ensures { IsLeast (λ c. dot (number vec.now) (corner_part weights.now place c) targets.now) place.corners result }
 {
+    if narrow && place.corners % 2 == 0 {
+        return i128::from(least_in_lane(weights, place, targets, vec));
+    }
     let mut least = sum_of(corner_of(weights, place, 0), targets, vec, narrow);
     for corner in 1..place.corners {
         let sum = sum_of(corner_of(weights, place, corner), targets, vec, narrow);
@@ -499,7 +630,8 @@ pub fn table_into(
     below: u32,
 ) -> i128
     ghost spans: { Spans }
-    requires { CanRead case.now links.now spans weights.now s a × (length ranks.now ≡ length case.now.model.states) × (corner < corner_count case.now s a) }
+    requires { CanRead case.now links.now spans weights.now s a × (length ranks.now ≡ length case.now.model.states)
+        × (corner < corner_count case.now s a) }
     ensures { result ≡ corner_sum case.now.d spans (row_at case.now.model s a) corner
         (ranked_below (mark ranks.now) below) }
 {
@@ -567,4 +699,37 @@ pub fn table_corner(
     let sum = sum_of(part, targets, vec, is_narrow(whole, w));
     let own = sum_at(part, targets, s);
     AtCorner { sum, whole, own }
+}
+
+/// Whether 64 bits hold each weighted sum of a row: its whole, times 2 to the `w`, is below 2 to the 63.
+#[inline]
+pub fn has_short_sums(case: &Case, links: &Links, weights: &[i128], s: u32, a: u32) -> bool
+    ghost spans: { Spans }
+    requires { CanRead case.now links.now spans weights.now s a }
+    ensures { IsTrue result ↔ HasShortSums case.now s a }
+{
+    table_whole(case, links, weights, s, a) < 1 << (63 - case.w())
+}
+
+/// What a row of the rectangle whose table `weights` is weighs at a corner into other states than its own, where 64
+/// bits hold its sums. One multiplication for each entry.
+#[inline]
+pub fn table_others(
+    case: &Case,
+    links: &Links,
+    weights: &[i128],
+    s: u32,
+    a: u32,
+    corner: u32,
+    vec: &[i64],
+) -> Others
+    ghost spans: { Spans }
+    requires read { CanRead case.now links.now spans weights.now s a × AreNumbers case.now vec.now × (corner < corner_count case.now s a) }
+    requires narrow { HasShortSums case.now s a }
+    ensures sum { result.sum ≡ row_value case.now spans s a vec.now corner -ℤ (number vec.now s *ℤ loop_weight case.now spans s a corner) }
+    ensures whole { result.whole ≡ row_whole case.now s a -ℤ loop_weight case.now spans s a corner }
+    ensures least { (pos 0 ≤ℤ result.sum) × (pos 0 ≤ℤ result.whole) }
+{
+    let (place, targets) = read_row(case, links, weights, s, a);
+    others_in_lane(corner_of(weights, place, corner), targets, s, vec)
 }
