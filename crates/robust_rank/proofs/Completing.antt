@@ -9,12 +9,13 @@ use Rattle.lift_model.specs.Links.{LinksData, AreLinks, states_before}
 use Rattle.corner_lift.specs.Corner.{no_entry}
 use Rattle.corner_lift.specs.Case.{CaseData, IsCase, IsInside}
 use Rattle.corner_lift.specs.Certificate.{unmarked, mark}
-use Rattle.corner_lift.specs.Stages.{AreStages}
+use Rattle.corner_lift.specs.Stages.{LeadsBelow, AreStages}
 use Rattle.corner_lift.specs.Laws.{SumsRise}
 use Rattle.robust_rank.specs.Attracting.{Pass, IsNextStage}
 use Rattle.robust_rank.specs.Staging.{allows, is_rank, IsQueuedIn, StageData, IsAdded, IsGathering, IsLooked, IsComplete, IsStarting, IsPickOf}
-use Rattle.robust_rank.proofs.Means.{in_or_past}
-use Rattle.robust_rank.proofs.Stages.{start_is_staged, next_is_staged, empty_stage_ends}
+use Rattle.robust_rank.specs.InOrder.{AreRanks}
+use Rattle.robust_rank.proofs.Means.{in_or_past, row_there}
+use Rattle.robust_rank.proofs.Stages.{start_is_staged, next_is_staged, none_below_0, none_sooner}
 use Rattle.robust_rank.proofs.Gathering.{mark_same, mark_other, same_or_not}
 use Rattle.robust_rank.proofs.Before.{stands_before}
 
@@ -62,11 +63,17 @@ module _ (k : CaseData) (ranks queue : List ℕ) (s found : ℕ) (h : IsStarting
       less : (t : ℕ) → t < s + 1 → (t ≡ s → ⊥) → t < s
       less t lt ne = ⊎_elim (λ (l : t < s). l) (λ (past : s ≤ t). absurd (ne (omega (arith, past, lt)))) (in_or_past t s)
 
+-- a goal state is one of the states
+goal_in : (k : CaseData) (s : ℕ) → IsCase k → is_goal k.model s ≡ true → s < length k.model.states
+goal_in k s is goal = ⊎_elim (λ (l : s < length k.model.states). l)
+    (λ (past : length k.model.states ≤ s). let none = get_or_past k.model.goal s false (omega (arith, past, is.asked.model.goals)) in let wrong : true ≡ false = cc (goal, none) in absurd (cc wrong))
+    (in_or_past s (length k.model.states))
+
 pub begin : (k : CaseData) (spans : Spans) (allowed ranks queue : List ℕ) (to : ℕ) → IsCase k → IsInside k.root spans → IsStarting k ranks queue (length k.model.states) to → IsComplete k spans allowed ranks queue 0 0 to
 begin k spans allowed ranks queue to is within h = record {
   sizes = h.sizes;
   staged = start_is_staged k spans (allows k.model allowed) (mark ranks) is within
-      (λ s goal. (h.goals s (goal_in s goal) goal).0)
+      (λ s goal. (h.goals s (goal_in k s is goal) goal).0)
       (λ s isnt. h.others s (λ lt. isnt));
   count = h.count;
   part = (omega arith, omega arith);
@@ -74,16 +81,11 @@ begin k spans allowed ranks queue to is within h = record {
   last = λ s zero. is_queued s zero;
 }
   where
-    goal_in : (s : ℕ) → is_goal k.model s ≡ true → s < length k.model.states
-    goal_in s goal = ⊎_elim (λ (l : s < length k.model.states). l)
-        (λ (past : length k.model.states ≤ s). let none = get_or_past k.model.goal s false (omega (arith, past, is.asked.model.goals)) in let wrong : true ≡ false = cc (goal, none) in absurd (cc wrong))
-        (in_or_past s (length k.model.states))
-
     is_queued : (s : ℕ) → mark ranks s ≡ 0 → IsQueuedIn queue 0 to s
     is_queued s zero = elim_goal (is_goal k.model s) refl
       where
         elim_goal : (b : Bool) → is_goal k.model s ≡ b → IsQueuedIn queue 0 to s
-        elim_goal true goal = (h.goals s (goal_in s goal) goal).1
+        elim_goal true goal = (h.goals s (goal_in k s is goal) goal).1
         elim_goal false isnt = let none = h.others s (λ lt. isnt) in absurd (omega (arith, none, zero))
 
 -- ---- a stage
@@ -140,14 +142,35 @@ module _ (k : CaseData) (l : LinksData) (allowed : List ℕ) (start : StageData)
 
 -- ---- the end
 
-module _ (k : CaseData) (spans : Spans) (allowed ranks picks : List ℕ) (sizes : (length ranks ≡ length k.model.states) × (length picks ≡ length k.model.states)) (all : (s : ℕ) → s < length k.model.states → IsPickOf k spans allowed ranks s (mark picks s)) where
-  pub stages : SumsRise → (queue : List ℕ) (r from to : ℕ) → IsCase k → IsInside k.root spans → r < unmarked → to ≤ from → IsComplete k spans allowed ranks queue r from to → AreStages k spans (Pass (allows k.model allowed)) (mark picks) (mark ranks)
-  stages rise queue r from to is within small empty h =
-      empty_stage_ends rise k spans (allows k.model allowed) (mark picks) (mark ranks) r is within small h.staged
-      (λ s is_r. let at = h.last s is_r in omega (arith, at.1.0, at.1.1, empty))
-      (λ s isnt lt. let state : s < length k.model.states = ranked_in s lt in
-      let pick = (all s state).picked isnt lt in
-      record { later = h.staged.later s isnt; in_range = pick.in_range; is_allowed = pick.holds.0; leads = pick.holds.1; least = λ a less is_allowed leads. pick.least a less (is_allowed, leads) })
-    where
-      ranked_in : (s : ℕ) → mark ranks s < unmarked → s < length k.model.states
-      ranked_in s lt = ⊎_elim (λ (l : s < length k.model.states). l) (λ (past : length k.model.states ≤ s). absurd (omega (arith, lt, get_or_past ranks s unmarked (omega (arith, past, sizes.0))))) (in_or_past s (length k.model.states))
+-- an empty stage is the last
+pub ranks_of_stages : (k : CaseData) (spans : Spans) (allowed ranks queue : List ℕ) (r from to : ℕ) → IsCase k → IsInside k.root spans → SumsRise → r < unmarked → to ≤ from → IsComplete k spans allowed ranks queue r from to → AreRanks k spans allowed ranks
+ranks_of_stages k spans allowed ranks queue r from to is within rise small empty h s state = (
+  h.staged.goal s,
+  λ isnt. record {
+    reached = h.staged.reached s isnt;
+    first = λ q lt leading. none_sooner rise k spans (allows k.model allowed) (mark ranks) r is within h.staged (λ t is_r. let at = h.last t is_r in omega (arith, at.1.0, at.1.1, empty)) s isnt leading.0 q leading.1.0 leading.1.1.0 lt leading.1.1.1;
+  },
+)
+
+module _ (k : CaseData) (spans : Spans) (allowed ranks : List ℕ) (size : length ranks ≡ length k.model.states) (ranked : AreRanks k spans allowed ranks) where
+  ranked_in : (s : ℕ) → mark ranks s < unmarked → s < length k.model.states
+  ranked_in s lt = ⊎_elim (λ (l : s < length k.model.states). l) (λ (past : length k.model.states ≤ s). absurd (omega (arith, lt, get_or_past ranks s unmarked (omega (arith, past, size))))) (in_or_past s (length k.model.states))
+
+  -- with the least picks, these are the stages
+  pub stages : (picks : List ℕ) → IsCase k → ((s : ℕ) → s < length k.model.states → IsPickOf k spans allowed ranks s (mark picks s)) → AreStages k spans (Pass (allows k.model allowed)) (mark picks) (mark ranks)
+  stages picks is all = record {
+    goal = λ s goal. (ranked s (goal_in k s is goal)).0 goal;
+    picked = λ s isnt lt.
+        let pick = (all s (ranked_in s lt)).picked isnt lt in
+        record {
+          later = ⊎_elim
+              (λ (zero : mark ranks s < 1). let none : mark ranks s ≡ 0 = omega (arith, zero) in let leads = pick.holds.1 in absurd (none_below_0 k spans (mark ranks) s (mark picks s) (subst (λ n. LeadsBelow k spans (mark ranks) n s (mark picks s)) none leads)))
+              (λ (le : 1 ≤ mark ranks s). le)
+              (in_or_past (mark ranks s) 1);
+          in_range = pick.in_range;
+          is_allowed = pick.holds.0;
+          leads = pick.holds.1;
+          least = λ a less is_allowed leads. pick.least a less (is_allowed, leads);
+        };
+    first = λ s isnt a q choice is_allowed lt leads. ((ranked s (row_there k s a choice).state).1 isnt).first q lt (a, (choice, (is_allowed, leads)));
+  }

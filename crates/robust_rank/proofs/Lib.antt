@@ -7,3 +7,4 @@ pub mod Only
 pub mod Gathering
 pub mod Before
 pub mod Completing
+pub mod InOrder

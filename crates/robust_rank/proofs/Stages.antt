@@ -1,11 +1,11 @@
 -- Stage by stage.
-use Rattle.std.proofs.Common.{◌≡◌, ℕ, suc, ◌^◌, ◌<◌, ◌≤◌, ◌⊎◌, inl, inr, ⊎_elim, false, length, get_or, pos, refl, sym, subst, arith, nat_lt, le-ltb, ltb-true, ltb-false}
+use Rattle.std.proofs.Common.{◌≡◌, ℕ, suc, ◌<◌, ◌≤◌, ◌⊎◌, inl, inr, ⊎_elim, Bool, false, length, get_or, pos, refl, sym, subst, arith, nat_lt, le-ltb, ltb-true, ltb-false}
 use Rattle.std.proofs.lemmas.Nat.{pow_pos}
 use Rattle.lift_poly.proofs.Ring.{linear}
 use Rattle.lift_grid.specs.Rectangle.{Spans}
 use Rattle.lift_model.specs.Model.{is_goal, choices, row_at, support, moves_at}
 use Rattle.corner_lift.specs.Corner.{corner, parameter_count, no_entry}
-use Rattle.corner_lift.specs.Case.{CaseData}
+use Rattle.corner_lift.specs.Case.{CaseData, IsCase, IsInside}
 use Rattle.corner_lift.specs.Certificate.{unmarked, ranked_below}
 use Rattle.corner_lift.specs.Stages.{LeadsBelow}
 use Rattle.corner_lift.specs.Laws.{SumsRise}
@@ -19,21 +19,22 @@ up_or_past q r = grind arith
 none_or_ranked : (n : ℕ) → (n < unmarked) ⊎ (unmarked ≤ n)
 none_or_ranked n = either_way (nat_lt n unmarked) (λ l. inl (ltb-true n unmarked l)) (λ g. inr (ltb-false n unmarked g))
 
+-- nothing leads below 0
+pub none_below_0 : (k : CaseData) (spans : Spans) (rank : ℕ → ℕ) (s a : ℕ) → LeadsBelow k spans rank 0 s a → ⊥
+none_below_0 k spans rank s a leads =
+    let row = row_at k.model s a in
+    let here = leads 0 (pow_pos (parameter_count spans (support row))) in
+    let nothing : (t : ℕ) → ranked_below rank 0 t ≡ pos 0 = λ t. let below : nat_lt (rank t) 0 ≡ false = le-ltb (rank t) 0 (omega arith) in rw below refl in
+    let moves = moves_at (corner k.d spans (support row) 0) row in
+    omega (arith, linear, here, sum-same (ranked_below rank 0) (λ t. pos 0) moves nothing, sum-zero moves)
+
 pub start_is_staged : StartIsStaged
 start_is_staged k spans test rank is within goals others = record {
   goal = goals;
   later = λ s g. omega (arith, others s g);
   marks = λ s lt. either_way (is_goal k.model s) (λ g. omega (arith, goals s g)) (λ g. absurd (omega (arith, lt, others s g)));
   reached = λ s g lt. absurd (omega (arith, lt, others s g));
-  first =
-      λ s g a q choice is_allowed le leads.
-      let row = row_at k.model s a in
-      let some : 0 < 2 ^ parameter_count spans (support row) = pow_pos (parameter_count spans (support row)) in
-      let q_zero : q ≡ 0 = omega (arith, le) in
-      let here = leads 0 some in
-      let nothing : (t : ℕ) → ranked_below rank q t ≡ pos 0 = λ t. let below : nat_lt (rank t) q ≡ false = le-ltb (rank t) q (omega (arith, q_zero)) in rw below refl in
-      let moves = moves_at (corner k.d spans (support row) 0) row in
-      absurd (omega (arith, linear, here, sum-same (ranked_below rank q) (λ t. pos 0) moves nothing, sum-zero moves));
+  first = λ s g a q choice is_allowed le leads. let zero : q ≡ 0 = omega (arith, le) in absurd (none_below_0 k spans rank s a (subst (λ n. LeadsBelow k spans rank n s a) zero leads));
 }
 
 module _ (k : CaseData) (spans : Spans) (allowed : ℕ → ℕ → Type 0) (rank new : ℕ → ℕ) (r : ℕ) (small : suc r < unmarked) (old : IsStaged k spans allowed rank r) (next : IsNextStage k spans allowed rank new r) where
@@ -135,22 +136,27 @@ module _ (k : CaseData) (spans : Spans) (allowed : ℕ → ℕ → Type 0) (rank
 pub next_is_staged : NextIsStaged
 next_is_staged k spans test rank new r small old next = next_stage k spans (Pass test) rank new r small old next
 
+-- after an empty stage, no allowed choice leads below a rank that is less than the state's
+pub none_sooner : SumsRise → (k : CaseData) (spans : Spans) (test : ℕ → ℕ → Bool) (rank : ℕ → ℕ) (r : ℕ) → IsCase k → IsInside k.root spans → IsStaged k spans (Pass test) rank r → ((s : ℕ) → rank s ≡ r → ⊥)
+    → (s : ℕ) → is_goal k.model s ≡ false → (a q : ℕ) → a < length (choices k.model s) → Pass test s a → q < unmarked → LeadsBelow k spans rank q s a → rank s ≤ q
+none_sooner rise k spans test rank r is within staged empty s g a q choice is_allowed lt leads =
+    ⊎_elim
+    (λ (low : q ≤ r). staged.first s g a q choice is_allowed low leads)
+    (λ (past : suc r ≤ q).
+    let gap : (t : ℕ) → rank t < q → rank t < r = λ t below. let le = staged.marks t (omega (arith, below, lt)) in strictly (rank t) r le (empty t) in
+    let le = staged.first s g a r choice is_allowed (omega arith) (gap_leads rise k spans rank r q s a gap is within choice leads) in
+    omega (arith, le, past))
+    (up_or_past q r)
+  where
+    strictly : (n r : ℕ) → n ≤ r → (n ≡ r → ⊥) → n < r
+    strictly n r le ne = either_way (nat_lt n r) (λ l. ltb-true n r l) (λ g. absurd (ne (let high = ltb-false n r g in omega (arith, high, le))))
+
 pub empty_stage_ends : SumsRise → EmptyStageEnds
 empty_stage_ends rise k spans test pick rank r is within small staged empty picks = record {
   goal = staged.goal;
   picked = picks;
-  first =
-      λ s g a q choice is_allowed lt leads. ⊎_elim
-      (λ (low : q ≤ r). staged.first s g a q choice is_allowed low leads)
-      (λ (past : suc r ≤ q).
-      let gap : (t : ℕ) → rank t < q → rank t < r = λ t below. let le = staged.marks t (omega (arith, below, lt)) in strictly (rank t) r le (empty t) in
-      let le = staged.first s g a r choice is_allowed (omega arith) (gap_leads rise k spans rank r q s a gap is within choice leads) in
-      omega (arith, le, past))
-      (up_or_past q r);
+  first = none_sooner rise k spans test rank r is within staged empty;
 }
-  where
-    strictly : (n r : ℕ) → n ≤ r → (n ≡ r → ⊥) → n < r
-    strictly n r le ne = either_way (nat_lt n r) (λ l. ltb-true n r l) (λ g. absurd (ne (let high = ltb-false n r g in omega (arith, high, le))))
 
 pub stages_of_test : StagesOfTest
 stages_of_test k spans test y pick rank same stages = record {

@@ -1,3 +1,4 @@
 pub mod Attracting
+pub mod InOrder
 pub mod Rate
 pub mod Staging

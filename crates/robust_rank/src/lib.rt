@@ -1,6 +1,7 @@
 //! Ranks by stages, and the rate of picks.
 #![tactic(auto)]
 
+mod in_order;
 mod laws;
 mod marks;
 mod ranking;

@@ -9,7 +9,9 @@ ghost use Rattle.corner_lift.specs.Stages.{LeadsBelow, AreStages};
 ghost use Rattle.corner_lift.specs.Table.{IsTable};
 ghost use Rattle.robust_rank.specs.Attracting.{Pass};
 ghost use Rattle.robust_rank.specs.Staging.{allows, CanRank, IsLeading, IsLeastLeading, HasLeading, HasNoLeading, OthersHaveNoPick, is_rank, IsReached, IsPickOf, IsStarting, IsComplete, StageData, IsGathering, AreKept, IsLooked};
+ghost use Rattle.robust_rank.specs.InOrder.{AreRanks};
 
+use crate::in_order::rank_in_order;
 use crate::marks::{NONE, are_below, mark_of};
 use corner_lift::{Case, PairTable, least_into, rows_at_corners};
 use lift_model::{Links, OnlyRow, PairRow};
@@ -71,7 +73,7 @@ fn leads_below(
 
 /// Whether the state's choice is allowed.
 #[inline(always)]
-fn is_allowed(case: &Case, links: &Links, allowed: &[u32], s: u32, a: u32) -> bool
+pub(crate) fn is_allowed(case: &Case, links: &Links, allowed: &[u32], s: u32, a: u32) -> bool
     requires links { AreLinks case.now.model links.now }
     requires rows { length allowed.now ≡ row_count case.now.model }
     requires row { HasChoice case.now.model s a }
@@ -103,7 +105,7 @@ fn is_leading(
 
 /// How many choices a state has, by the links, whose lists lie closer together than the model's.
 #[inline(always)]
-fn choice_count(case: &Case, links: &Links, s: u32) -> u32
+pub(crate) fn choice_count(case: &Case, links: &Links, s: u32) -> u32
     requires links { AreLinks case.now.model links.now }
     requires state { s < length case.now.model.states }
     ensures { result ≡ length (choices case.now.model s) }
@@ -139,7 +141,7 @@ fn is_some(number: i64) -> bool
 
 /// Whether the only row of a state, which has two entries, leads below, if that is quickly told.
 #[inline(always)]
-fn pair_leads(
+pub(crate) fn pair_leads(
     case: &Case,
     links: &Links,
     weights: &PairTable,
@@ -210,7 +212,7 @@ fn only_leads(
 
 /// The least allowed choice of the state that leads below, one after the other.
 #[inline(never)]
-fn leading_of_choices(
+pub(crate) fn leading_of_choices(
     case: &Case,
     links: &Links,
     weights: &PairTable,
@@ -481,6 +483,55 @@ fn pick_all(
     }
 }
 
+/// Gives each state its rank, stage by stage, with a queue in `queue`.
+#[inline(never)]
+fn rank_by_stages(
+    case: &Case,
+    links: &Links,
+    weights: &PairTable,
+    allowed: &[u32],
+    ranks: &mut [u32],
+    queue: &mut [u32],
+)
+    ghost spans: { Spans }
+    requires rows { CanRank case.now links.now spans weights.now allowed.now }
+    requires sizes { (length ranks.old ≡ length case.now.model.states) × (length queue.old ≡ length case.now.model.states) }
+    ensures { AreRanks case.now spans allowed.now ranks.new }
+{
+    rows_at_corners();
+    let _ = case.w();
+    let mut from = 0;
+    let mut to = start(case, ranks, queue);
+    let mut rank = 0;
+    while from < to {
+        let end = add_stage(case, links, weights, allowed, rank, from, to, ranks, queue);
+        from = to;
+        to = end;
+        rank += 1;
+    }
+}
+
+/// Gives each state its rank: in one pass where the links' order allows that, and else by stages, with a
+/// queue in `queue`.
+fn rank_all(
+    case: &Case,
+    links: &Links,
+    weights: &PairTable,
+    allowed: &[u32],
+    ranks: &mut [u32],
+    queue: &mut [u32],
+)
+    ghost spans: { Spans }
+    requires rows { CanRank case.now links.now spans weights.now allowed.now }
+    requires sizes { (length ranks.old ≡ length case.now.model.states) × (length queue.old ≡ length case.now.model.states) }
+    ensures { AreRanks case.now spans allowed.now ranks.new }
+{
+    if rank_in_order(case, links, weights, allowed, ranks) {
+        return;
+    }
+    rank_by_stages(case, links, weights, allowed, ranks, queue);
+}
+
 /// Leaves in `ranks` and `picks` the ranks and picks by stages. Rank 0 have the goal states. A state has
 /// rank r + 1 where it has none up to r, and an allowed choice that at each of its corners has positive
 /// weight into states of rank at most r; the least such choice is its pick. A state without rank, or
@@ -490,7 +541,8 @@ fn pick_all(
 /// `weights` is the table of some sides inside the root, and `links` are those of the case's model.
 /// `allowed` has a number for each row, in reading order, which is 0 where the row isn't allowed.
 /// `ranks` and `picks` have one place for each state, and what they hold at entry is free. Takes no
-/// memory. A state is looked at once for each state that it leads to.
+/// memory. Each state is looked at once where the links' order has all states' targets before them, and
+/// else, after a part of such a pass, once for each state that it leads to.
 pub fn attract(
     case: &Case,
     links: &Links,
@@ -505,17 +557,8 @@ pub fn attract(
     ensures stages { AreStages case.now spans (Pass (allows case.now.model allowed.now)) (mark picks.new) (mark ranks.new) }
     ensures others { OthersHaveNoPick case.now picks.new ranks.new }
 {
-    rows_at_corners();
     let _ = case.w();
     let weights = &PairTable::of(case, links, weights);
-    let mut from = 0;
-    let mut to = start(case, ranks, picks);
-    let mut rank = 0;
-    while from < to {
-        let end = add_stage(case, links, weights, allowed, rank, from, to, ranks, picks);
-        from = to;
-        to = end;
-        rank += 1;
-    }
+    rank_all(case, links, weights, allowed, ranks, picks);
     pick_all(case, links, weights, allowed, ranks, picks);
 }
