@@ -1,10 +1,10 @@
 -- What a number must be to be enough for a choice, and how far that goes when numbers rise.
-use Rattle.std.proofs.Common.{◌≡◌, ◌≢◌, ◌==◌, ℕ, zero, suc, ◌+◌, ◌*◌, ◌^◌, ◌<◌, ◌≤◌, Bool, true, false, List, [], ◌∷◌, length, set, get_or, All, ℤ, pos, negsuc, ◌+ℤ◌, ◌-ℤ◌, ◌*ℤ◌, ◌≤ℤ◌, ◌<ℤ◌, refl, sym, ap, ap₂, subst, ◌∙◌, arith, ◌⊎◌, ⊎_elim, inl, inr, length-set, get_or-set_same, get_or-set_other, cond, pow_mono, Contains, Option, None, Some, IfSome, unsigned_abs, int_le, SFits, w64, to_z, of_z, to_z-of_z, mul-le-mul_left}
+use Rattle.std.proofs.Common.{◌≡◌, ◌≢◌, ◌==◌, ℕ, zero, suc, ◌+◌, ◌*◌, ◌^◌, ◌<◌, ◌≤◌, Bool, true, false, List, [], ◌∷◌, length, set, get_or, All, ℤ, pos, negsuc, ◌+ℤ◌, ◌-ℤ◌, ◌*ℤ◌, ◌≤ℤ◌, ◌<ℤ◌, refl, sym, ap, ap₂, subst, ◌∙◌, arith, ◌⊎◌, ⊎_elim, inl, inr, length-set, get_or-set_same, get_or-set_other, cond, pow_mono, Contains, Option, None, Some, IfSome, unsigned_abs, int_le, SFits, w64, to_z, of_z, to_z-of_z, mul-le-mul_left, mul-le-mul_right, ◌-◌}
 use mir.Syntax.{w128}
 use Rattle.std.proofs.lemmas.Bool.{both_ways}
 use Rattle.std.proofs.lemmas.Int.{ints, by_lt_z, fits_signed_from_abs}
 use Rattle.std.proofs.lemmas.List.Elements.{All-set}
-use Rattle.std.proofs.lemmas.Nat.{pow_pos}
+use Rattle.std.proofs.lemmas.Nat.{pow_pos, pow-add}
 use Rattle.lift_poly.proofs.Ring.{linear, mul-comm, mul-assoc, mul-add, mul-le, mul-lt, mul-le_cancel, mul-zero, zero-mul, one-mul, as_diff, diffs, diff-same, test_from_le}
 use Rattle.lift_grid.specs.Rectangle.{Spans}
 use Rattle.lift_model.specs.declared.entry.Entry.{Entry}
@@ -18,7 +18,7 @@ use Rattle.lift_poly.specs.Polynomial.{Valuation, weight}
 use Rattle.lift_model.specs.Valid.{IsEntry}
 use Rattle.corner_lift.specs.Certificate.{AreNumbers, AtMost}
 use Rattle.corner_lift.specs.Corner.{corner, corner_sum, whole, parameter_count}
-use Rattle.corner_lift.specs.Case.{CaseData, IsCase, IsInside, number, row_value, row_whole, corner_count, row_parameters, most_precision}
+use Rattle.corner_lift.specs.Case.{CaseData, IsCase, IsInside, number, row_value, row_whole, corner_count, row_parameters, most_precision, engine_limit}
 use Rattle.corner_lift.specs.Dot.{only_at}
 use Rattle.corner_lift.specs.Laws.{HasRow, BitsAreParameters, ParametersAreTheRoots, NumbersAreInRange, SumsAreInRange, SumsRise, WeightsSumToWhole}
 use Rattle.float_guess.specs.declared.part.Extreme.{Extreme}
@@ -49,6 +49,10 @@ lt_from_test a b e = by_lt_z b a (λ lt. lt) (λ le. absurd (both_ways (int_le a
 pub read_product : (n whole product : ℤ) → SFits w64 n → SFits w128 whole → SFits w128 product → product ≡ to_z w64 (of_z w64 n) *ℤ to_z w128 (of_z w128 whole) → to_z w128 (of_z w128 product) ≡ n *ℤ whole
 read_product n whole product n_fits whole_fits product_fits e = to_z-of_z product_fits ∙ e ∙ ap₂ ◌*ℤ◌ (to_z-of_z n_fits) (to_z-of_z whole_fits)
 
+-- the form in which the code holds a number of 64 bits that was made one of 128
+pub read_wide : (z wide value : ℤ) → SFits w64 z → SFits w128 wide → wide ≡ to_z w64 (of_z w64 z) → z ≡ value → to_z w128 (of_z w128 wide) ≡ value
+read_wide z wide value z_fits wide_fits e is = to_z-of_z wide_fits ∙ e ∙ to_z-of_z z_fits ∙ is
+
 -- what is left of a number that fits
 pub less_fits : (a b : ℤ) → SFits w128 a → pos 0 ≤ℤ b → pos 0 ≤ℤ (a -ℤ b) → SFits w128 (a -ℤ b)
 less_fits (pos a) b fits least left = fits_signed_from_abs w128 (pos a -ℤ b) (omega (arith, ints, linear, fits.sfits, least, left))
@@ -59,6 +63,13 @@ pub part_room : (m : ℕ) (part whole : ℤ) (limit : ℕ) → pos 0 ≤ℤ part
 part_room m part whole limit least most room =
     let le : unsigned_abs part ≤ unsigned_abs whole = omega (arith, ints, least, most) in
     omega (arith, mul-le-mul_left m le, room)
+
+-- where the whole leaves w of 63 bits free, a part of it has room for products with numbers up to 2^w
+pub lane_room : (m w : ℕ) (part whole : ℤ) → w ≤ 63 → m ≤ 2 ^ w → pos 0 ≤ℤ part → part ≤ℤ whole → whole <ℤ pos (2 ^ (63 - w)) → m * unsigned_abs part < engine_limit
+lane_room m w part whole le small least most lane =
+    let power : 2 ^ w * 2 ^ (63 - w) ≡ 2 ^ 63 = sym (pow-add 2 w (63 - w)) ∙ ap (λ n. 2 ^ n) (let e : w + (63 - w) ≡ 63 = omega (arith, le) in e) in
+    let short : unsigned_abs part ≤ 2 ^ (63 - w) = omega (arith, ints, least, most, lane) in
+    omega (arith, mul-le-mul_left m short, mul-le-mul_right (2 ^ (63 - w)) small, power)
 
 -- ---- what is above 0
 

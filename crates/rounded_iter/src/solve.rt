@@ -6,13 +6,14 @@ ghost use Rattle.lift_model.specs.Links.{AreLinks, HasChoice, targets_of};
 ghost use Rattle.lift_model.specs.OnlyRow.{IsPairRow, IsSingleRow};
 ghost use Rattle.lift_grid.specs.Rectangle.{Spans};
 ghost use Rattle.corner_lift.specs.Case.{row_value, row_whole, corner_count, most_precision, engine_limit};
-ghost use Rattle.corner_lift.specs.Table.{IsWhole};
+ghost use Rattle.corner_lift.specs.Table.{IsWhole, HasShortSums};
+ghost use Rattle.corner_lift.specs.Paired.{IsWholeOver};
 ghost use Rattle.rounded_iter.specs.Rising.{CanTry, CanTryOther, CanTryOnly, CanWeigh, CanSolve, IsExtreme, IsMoreExtreme, SolvesAt, IsSolved, IsRoundedUp, IsFirstFrom};
 
 use crate::table::Table;
 use corner_lift::{
-    AtCorner, LaneSum, Weighed, corners_bound_weights, rows_at_corners, table_corner,
-    table_greatest, table_least,
+    AtCorner, LaneSum, Others, Weighed, corners_bound_weights, has_short_sums, rows_at_corners,
+    table_corner, table_greatest, table_least, table_others,
 };
 use float_guess::Extreme;
 use lift_model::{OnlyRow, PairRow};
@@ -306,7 +307,7 @@ impl Table<'_> {
         requires { CanTry self.now spans lane.now s a }
         ensures extreme { IfSome result (λ row. IsExtreme self.now.extreme (row_value self.now.case spans s a lane.now)
             (corner_count self.now.case s a) (row.sum *ℤ row.scale)) }
-        ensures whole { IfSome result (λ row. (pos 1 ≤ℤ row.whole) × ((pos 1 ≤ℤ row.scale) × IsWhole self.now.case s a (row.whole *ℤ row.scale))) }
+        ensures whole { IfSome result (IsWholeOver self.now.case s a) }
     {
         match self.extreme {
             Extreme::Greatest => self.weights.greatest(self.case, self.links, s, a, lane),
@@ -322,7 +323,7 @@ impl Table<'_> {
         requires row { IsPairRow self.now.case.model self.now.links s row }
         ensures extreme { IfSome result (λ row. IsExtreme self.now.extreme (row_value self.now.case spans s 0 lane.now)
             (corner_count self.now.case s 0) (row.sum *ℤ row.scale)) }
-        ensures whole { IfSome result (λ row. (pos 1 ≤ℤ row.whole) × ((pos 1 ≤ℤ row.scale) × IsWhole self.now.case s 0 (row.whole *ℤ row.scale))) }
+        ensures whole { IfSome result (IsWholeOver self.now.case s 0) }
     {
         match self.extreme {
             Extreme::Greatest => self
@@ -367,6 +368,48 @@ impl Table<'_> {
         rounded_up(sum - times(number, own), whole - own)
     }
 
+    /// The same where 64 bits hold the row's sums: what comes from other states over what leads to them.
+    #[inline(always)]
+    fn solve_short(&self, lane: &[i64], s: u32, a: u32, corner: u32) -> i64
+        ghost spans: { Spans }
+        requires solve { CanSolve self.now spans lane.now s a corner }
+        requires narrow { HasShortSums self.now.case s a }
+        ensures { SolvesAt self.now.case spans lane.now s a corner result }
+    {
+        rows_at_corners();
+        corners_bound_weights();
+        let number = lane[s as usize];
+        let Others { sum, whole } = table_others(
+            self.case,
+            self.links,
+            self.weights.weights(),
+            s,
+            a,
+            corner,
+            lane,
+        );
+        let (sum, whole) = (i128::from(sum), i128::from(whole));
+        if is_reached(number, sum, whole) {
+            return number;
+        }
+        rounded_up(sum, whole)
+    }
+
+    /// The same, by either.
+    #[inline(always)]
+    fn solve_either(&self, lane: &[i64], s: u32, a: u32, corner: u32, narrow: bool) -> i64
+        ghost spans: { Spans }
+        requires solve { CanSolve self.now spans lane.now s a corner }
+        requires narrow { IsTrue narrow → HasShortSums self.now.case s a }
+        ensures { SolvesAt self.now.case spans lane.now s a corner result }
+    {
+        if narrow {
+            self.solve_short(lane, s, a, corner)
+        } else {
+            self.solve_corner(lane, s, a, corner)
+        }
+    }
+
     /// The least number from the state's own on that is enough for a row, corner by corner.
     #[inline(never)]
     fn solve(&self, lane: &[i64], s: u32, a: u32) -> i64
@@ -377,9 +420,10 @@ impl Table<'_> {
         rows_at_corners();
         corners_bound_weights();
         let corners = self.links.place(s, a).corners;
-        let mut number = self.solve_corner(lane, s, a, 0);
+        let narrow = has_short_sums(self.case, self.links, self.weights.weights(), s, a);
+        let mut number = self.solve_either(lane, s, a, 0, narrow);
         for corner in 1..corners {
-            let other = self.solve_corner(lane, s, a, corner);
+            let other = self.solve_either(lane, s, a, corner, narrow);
             number = more_extreme(self.extreme, number, other);
         }
         number
