@@ -56,7 +56,8 @@ impl Part<'_> {
         requires { AreLinks self.now.case.now.model self.now.links.now }
         ensures part { IsSome result → (self.now.low ≤ position) × (position < self.now.high) }
         ensures some { IfSome result (StandsAt self.now.case.now self.now.links.now position) }
-        ensures all { (s : ℕ) → self.now.low ≤ position → position < self.now.high → StandsAt self.now.case.now self.now.links.now position s → result ≡ Some s }
+        ensures all { (s : ℕ) → self.now.low ≤ position → position < self.now.high
+            → StandsAt self.now.case.now self.now.links.now position s → result ≡ Some s }
     {
         if position < self.low || position >= self.high {
             return None;

@@ -27,7 +27,8 @@ pub(crate) fn is_marked(marks: &[bool], s: u32) -> bool
 fn is_sure_row(model: &Model, links: &Links, collapsed: &Collapsed, s: u32, a: u32) -> bool
     requires links { AreLinks model.now links.now }
     requires row { HasChoice model.now s a }
-    ensures { IsTrue result → All (λ t. (place collapsed.now t ≡ place collapsed.now s) × (position links.now t < position links.now s)) (targets_of (row_at model.now s a)) }
+    ensures { IsTrue result → All (λ t. (place collapsed.now t ≡ place collapsed.now s) × (position links.now t < position links.now s))
+        (targets_of (row_at model.now s a)) }
 {
     let place = number_at(&collapsed.places, s);
     let position = links.position(s);
@@ -70,7 +71,8 @@ fn is_lost_row(
 ) -> bool
     requires links { AreLinks model.now links.now }
     requires row { HasChoice model.now s a }
-    ensures { IsTrue result → All (λ t. (slice_index_or lost.now t false ≡ true) × (place collapsed.now t ≡ place collapsed.now s)) (targets_of (row_at model.now s a)) }
+    ensures { IsTrue result → All (λ t. (slice_index_or lost.now t false ≡ true) × (place collapsed.now t ≡ place collapsed.now s))
+        (targets_of (row_at model.now s a)) }
 {
     let _ = model.states();
     let place = number_at(&collapsed.places, s);
@@ -87,7 +89,8 @@ fn is_lost(model: &Model, links: &Links, collapsed: &Collapsed, lost: &[bool], s
     requires links { AreLinks model.now links.now }
     requires state { s < length model.now.states }
     ensures goal { IsTrue result → is_goal model.now s ≡ false }
-    ensures targets { IsTrue result → AllTargets model.now (λ t. (slice_index_or lost.now t false ≡ true) × (place collapsed.now t ≡ place collapsed.now s)) s }
+    ensures targets { IsTrue result
+        → AllTargets model.now (λ t. (slice_index_or lost.now t false ≡ true) × (place collapsed.now t ≡ place collapsed.now s)) s }
 {
     if model.is_goal(s) {
         return false;
@@ -111,7 +114,9 @@ fn stands(
 ) -> bool
     requires links { AreLinks model.now links.now }
     requires state { s < length model.now.states }
-    ensures { IsTrue result → StandsFor model.now collapsed.now (λ i. slice_index_or kept.now i 0) (λ t. slice_index_or lost.now t false) (position links.now) s }
+    ensures { IsTrue result
+        → StandsFor model.now collapsed.now (λ i. slice_index_or kept.now i 0) (λ t. slice_index_or lost.now t false)
+        (position links.now) s }
 {
     let other = number_at(kept, number_at(&collapsed.places, s));
     if other == s || other >= model.states() {
@@ -132,7 +137,9 @@ fn all_stand(
 ) -> bool
     requires links { AreLinks model.now links.now }
     ensures inside { IsTrue result → (s : ℕ) → s < length model.now.states → place collapsed.now s < length kept.now }
-    ensures stands { IsTrue result → (s : ℕ) → s < length model.now.states → StandsFor model.now collapsed.now (λ i. slice_index_or kept.now i 0) (λ t. slice_index_or lost.now t false) (position links.now) s }
+    ensures stands { IsTrue result → (s : ℕ) → s < length model.now.states
+        → StandsFor model.now collapsed.now (λ i. slice_index_or kept.now i 0) (λ t. slice_index_or lost.now t false)
+        (position links.now) s }
 {
     for s in 0..model.states() {
         if number_at(&collapsed.places, s) as usize >= kept.len()
@@ -159,7 +166,8 @@ fn all_lost_are(model: &Model, links: &Links, collapsed: &Collapsed, lost: &[boo
 
 /// Whether each state that is kept is a state, and has the place at which it is kept.
 fn are_kept(model: &Model, collapsed: &Collapsed, kept: &[u32]) -> bool
-    ensures { IsTrue result → (i : ℕ) → i < length kept.now → (slice_index_or kept.now i 0 < length model.now.states) × (place collapsed.now (slice_index_or kept.now i 0) ≡ i) }
+    ensures { IsTrue result → (i : ℕ) → i < length kept.now
+        → (slice_index_or kept.now i 0 < length model.now.states) × (place collapsed.now (slice_index_or kept.now i 0) ≡ i) }
 {
     for (i, s) in kept.iter().enumerate() {
         if *s >= model.states() || number_at(&collapsed.places, *s) as usize != i {

@@ -131,7 +131,8 @@ fn exit_of_state(
     requires can { CanExit case.now links.now spans weights.now lane.now marks.now level }
     requires state { s < length case.now.model.states }
     ensures least { pos 0 ≤ℤ result }
-    ensures each { marked marks.now s ≡ true → ChoicesExitAtMost case.now spans lane.now marks.now level s (length (choices case.now.model s)) result }
+    ensures each { marked marks.now s ≡ true
+        → ChoicesExitAtMost case.now spans lane.now marks.now level s (length (choices case.now.model s)) result }
 {
     if rank_of(marks, s as usize) > 0 {
         return 0;

@@ -53,7 +53,8 @@ fn lower_once(
     requires work { length work.old ≡ 2 * length case.now.model.states }
     ensures high { IsHigh case.now spans lane.new }
     ensures lower { IsTrue result → total lane.new < total lane.old }
-    ensures settled { IsFalse result → limit <ℤ number lane.new case.now.model.init → IsSettled case.now spans lane.new picks.new ranks.new }
+    ensures settled { IsFalse result → limit <ℤ number lane.new case.now.model.init
+        → IsSettled case.now spans lane.new picks.new ranks.new }
 {
     rows_at_corners();
     let _ = case.w();
@@ -126,7 +127,8 @@ fn rate_of(
     requires read { IsRead case.now links.now spans weights.now lane.now }
     requires high { IsHigh case.now spans lane.now }
     requires settled { IsSettled case.now spans lane.now picks.now ranks.now }
-    ensures greatest { IsGreatestLower case.now spans (record { numbers = lane.now; picks = picks.now; ranks = ranks.now; e = result.e; k = result.k }) }
+    ensures greatest { IsGreatestLower case.now spans
+        (record { numbers = lane.now; picks = picks.now; ranks = ranks.now; e = result.e; k = result.k }) }
     ensures height { result.k ≤ length case.now.model.states }
 {
     vectors_are_lowered();
@@ -156,7 +158,8 @@ pub fn greatest_reject(
     requires read { IsRead case.now links.now spans weights.now lane.old }
     requires places { HasPlaces case.now allowed.old ranks.old picks.old }
     requires work { length work.old ≡ 2 * length case.now.model.states }
-    ensures greatest { IsGreatestLower case.now spans (record { numbers = lane.new; picks = picks.new; ranks = ranks.new; e = result.e; k = result.k }) }
+    ensures greatest { IsGreatestLower case.now spans
+        (record { numbers = lane.new; picks = picks.new; ranks = ranks.new; e = result.e; k = result.k }) }
     ensures height { result.k ≤ length case.now.model.states }
 {
     rows_at_corners();
@@ -187,7 +190,8 @@ pub fn greatest_reject_above(
     requires read { IsRead case.now links.now spans weights.now lane.old }
     requires places { HasPlaces case.now allowed.old ranks.old picks.old }
     requires work { length work.old ≡ 2 * length case.now.model.states }
-    ensures some { IfSome result (λ rate. IsGreatestAbove case.now spans limit (record { numbers = lane.new; picks = picks.new; ranks = ranks.new; e = rate.e; k = rate.k })) }
+    ensures some { IfSome result (λ rate. IsGreatestAbove case.now spans limit
+        (record { numbers = lane.new; picks = picks.new; ranks = ranks.new; e = rate.e; k = rate.k })) }
     ensures none { IsNone result → NoneIsAbove case.now spans limit }
 {
     let weights = &PairTable::of(case, links, weights);
@@ -215,7 +219,8 @@ fn reject_from(
     requires high { IsHigh case.now spans lane.old }
     requires places { HasPlaces case.now allowed.old ranks.old picks.old }
     requires work { length work.old ≡ 2 * length case.now.model.states }
-    ensures some { IfSome result (λ rate. IsGreatestAbove case.now spans limit (record { numbers = lane.new; picks = picks.new; ranks = ranks.new; e = rate.e; k = rate.k })) }
+    ensures some { IfSome result (λ rate. IsGreatestAbove case.now spans limit
+        (record { numbers = lane.new; picks = picks.new; ranks = ranks.new; e = rate.e; k = rate.k })) }
     ensures none { IsNone result → NoneIsAbove case.now spans limit }
 {
     rows_at_corners();
@@ -268,7 +273,8 @@ pub fn greatest_reject_from(
     requires high { IsHigh case.now spans lane.old }
     requires places { HasPlaces case.now allowed.old ranks.old picks.old }
     requires work { length work.old ≡ 2 * length case.now.model.states }
-    ensures some { IfSome result (λ rate. IsGreatestAbove case.now spans limit (record { numbers = lane.new; picks = picks.new; ranks = ranks.new; e = rate.e; k = rate.k })) }
+    ensures some { IfSome result (λ rate. IsGreatestAbove case.now spans limit
+        (record { numbers = lane.new; picks = picks.new; ranks = ranks.new; e = rate.e; k = rate.k })) }
     ensures none { IsNone result → NoneIsAbove case.now spans limit }
 {
     let weights = &PairTable::of(case, links, weights);

@@ -269,7 +269,8 @@ pub(crate) fn rank_of(ranks: &[u32], s: usize) -> u32
 /// The number of a state, less 1 if it has no rank and its number is the level.
 fn lowered(number: i64, rank: u32, level: i64) -> i64
     requires { pos 0 <ℤ level }
-    ensures { ((unmarked ≤ rank) × (number ≡ level) × (result ≡ level -ℤ pos 1)) ⊎ ((result ≡ number) × (unmarked ≤ rank → number ≡ level → ⊥)) }
+    ensures { ((unmarked ≤ rank) × (number ≡ level) × (result ≡ level -ℤ pos 1))
+        ⊎ ((result ≡ number) × (unmarked ≤ rank → number ≡ level → ⊥)) }
 {
     if rank == NONE && number == level {
         level - 1
