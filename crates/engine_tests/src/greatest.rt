@@ -43,7 +43,7 @@ fn is_found_above(alloc: Global, case: &Case, limit: i64) -> Result<bool, Fail> 
     let links = Links::build(alloc, case.model())?;
     let mut weights = vec![in alloc; 0; links.weights_len()]?;
     let mut lane = vec![in alloc; 8; count]?;
-    let mut allowed = vec![in alloc; 7; rows_of(case.model())]?;
+    let mut allowed = vec![in alloc; 7; rows_of(case.model(), &links)]?;
     let mut ranks = vec![in alloc; 7; count]?;
     let mut picks = vec![in alloc; 7; count]?;
     let mut work = vec![in alloc; 7; 2 * count]?;
@@ -79,7 +79,7 @@ fn greatest_of(alloc: Global, case: &Case) -> Result<String, Fail> {
     let links = Links::build(alloc, case.model())?;
     let mut weights = vec![in alloc; 0; links.weights_len()]?;
     let mut lane = vec![in alloc; 8; count]?;
-    let mut allowed = vec![in alloc; 7; rows_of(case.model())]?;
+    let mut allowed = vec![in alloc; 7; rows_of(case.model(), &links)]?;
     let mut ranks = vec![in alloc; 7; count]?;
     let mut picks = vec![in alloc; 7; count]?;
     let mut work = vec![in alloc; 7; 2 * count]?;

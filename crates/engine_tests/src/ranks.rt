@@ -2,6 +2,7 @@
 
 ghost use Rattle.std.specs.Prelude.{◌≡◌};
 ghost use Rattle.lift_model.specs.Model.{row_count};
+ghost use Rattle.lift_model.specs.Links.{AreLinks};
 
 use crate::example::model_of;
 use corner_lift::{Case, fill};
@@ -20,21 +21,24 @@ state 0 init;action a;0 : 1;action b;1 : p;0 : 1-p;action c;1 : 1;state 1 goal;a
 
 /// For p from 1/4 to 3/4, all choices allowed: the choices of states 2 and 3, the ranks and the picks. A
 /// state that only stays has no rank. One stage doesn't see what else it adds: state 3 leads to state 2,
-/// which leads to state 0 in turn. A choice that leads to lower ranks at p = 1/4 alone ranks nothing.
+/// which leads to state 0 in turn. A choice that leads to lower ranks at p = 1/4 alone ranks nothing; where what it
+/// leads to else has a rank, it ranks by that. Two states that lead to each other have ranks as any others.
 const STAGES: &str = "\
 action a;2 : 1;state 3;action a;0 : 1/2;2 : 1/2 | [1, 0, 4294967295, 2] | [1, 4294967295, 4294967295, 0]
 action a;0 : 1;state 3;action a;2 : 1/9;3 : 8/9 | [1, 0, 2, 3] | [1, 4294967295, 0, 0]
-action a;2 : 1;action b;1 : 3/4-p;2 : 1/4+p;state 3;action a;3 : 1 | [1, 0, 4294967295, 4294967295] | [1, 4294967295, 4294967295, 4294967295]";
+action a;2 : 1;action b;1 : 3/4-p;2 : 1/4+p;state 3;action a;3 : 1 | [1, 0, 4294967295, 4294967295] | [1, 4294967295, 4294967295, 4294967295]
+action a;0 : 1;state 3;action a;0 : 3/4-p;2 : 1/4+p | [1, 0, 2, 3] | [1, 4294967295, 0, 0]
+action a;0 : 1;state 3;action a;2 : 3/4-p;0 : 1/4+p | [1, 0, 2, 2] | [1, 4294967295, 0, 0]
+action a;2 : 1;state 3;action a;0 : 3/4-p;2 : 1/4+p | [1, 0, 4294967295, 4294967295] | [1, 4294967295, 4294967295, 4294967295]
+action a;3 : 1/2;0 : 1/2;state 3;action a;2 : 1 | [1, 0, 2, 3] | [1, 4294967295, 0, 0]";
 
-/// How many rows the model has.
-pub(crate) fn rows_of(model: &Model) -> usize
+/// How many rows the model has: as many as the number of its last row, and one.
+pub(crate) fn rows_of(model: &Model, links: &Links) -> usize
+    requires { AreLinks model.now links.now }
     ensures { result ≡ row_count model.now }
 {
-    let mut rows = 0;
-    for s in 0..model.states() {
-        rows += model.choices(s) as usize;
-    }
-    rows
+    let last = model.states() - 1;
+    links.row_place(last, model.choices(last) - 1) + 1
 }
 
 /// The ranks and picks by stages on the case's root, all choices allowed.
@@ -42,7 +46,7 @@ fn ranked(alloc: Global, case: &Case) -> Result<String, Fail> {
     let count = case.model().states() as usize;
     let links = Links::build(alloc, case.model())?;
     let mut weights = vec![in alloc; 0; links.weights_len()]?;
-    let allowed = vec![in alloc; 1; rows_of(case.model())]?;
+    let allowed = vec![in alloc; 1; rows_of(case.model(), &links)]?;
     let mut ranks = vec![in alloc; 7; count]?;
     let mut picks = vec![in alloc; 7; count]?;
     fill(case, &links, case.root().sides(), &mut weights);

@@ -11,8 +11,9 @@ ghost use Rattle.corner_lift.specs.Table.{IsTable};
 
 use crate::example::model_of;
 use corner_lift::{
-    Case, LaneSum, PairTable, fill, is_capped, is_held, least_into, rows_at_corners, table_corner,
-    table_greatest, table_into, table_least, table_value,
+    Case, LaneSum, PairTable, fill, has_short_sums, is_capped, is_held, least_into,
+    rows_at_corners, table_corner, table_greatest, table_into, table_least, table_others,
+    table_value,
 };
 use lift_grid::read_region;
 use lift_model::{Links, OnlyRow, PairRow};
@@ -32,16 +33,17 @@ const TAIL: &str = ";state 1 goal;1 : 1;state 2;2 : 1";
 /// itself, the least weight into the goal state over the corners, whether the mean is at most 9 and at most 10, and
 /// whether it is at least 6 and at least 7. The sums of the fourth row and of the seventh and the eighth need more than 64
 /// bits. Then what is quickly looked up, if it is: the least and the greatest sum over the corners, and the least weight
-/// into the goal state; and of the only row of state 0, as far as it is short and leads elsewhere, the same.
+/// into the goal state; and of the only row of state 0, as far as it is short and leads elsewhere, the same. Last, what it
+/// weighs into other states at the last corner, where 64 bits hold its sums: state 0's own number, 5 there, doesn't count.
 const READ: &str = "\
-0 : p*q;1 : p-p*q;2 : 1-p | 1/5<=p<=2/5,3/5<=q<=4/5 | 13 25 32 32 16 64 2 8 1 true true false false | -, -, -; other
-0 : p;1 : q-p;2 : 1-q | 1/5<=p<=2/5,3/5<=q<=4/5 | 13 25 160 160 80 240 10 10 5 false true false false | -, -, -; other
-1 : 1/2*p+1/2*q;2 : 1-1/2*p-1/2*q | 1/5<=p<=2/5,3/5<=q<=4/5 | 9 50 320 480 320 480 30 0 20 false true true false | 320 of 50 by 1, 480 of 50 by 1, 20 of 50 by 1; pair 1 2: 320 of 50 by 1, 480 of 50 by 1, 20 of 50 by 1
-0 : p*q;1 : p-p*q;2 : 1-p | 1/576460752303423488<=p<=2/576460752303423488,1/576460752303423488<=q<=2/576460752303423488 | 13 332306998946228968225951765070086144 9223372036854775792 18446744073709551552 9223372036854775776 18446744073709551584 1152921504606846972 4 576460752303423486 true true false false | -, -, -; other
-1 : 1/2*p+1/2*q;2 : 1-1/2*p-1/2*q | 1/536870912<=p<=3/536870912,1/536870912<=q<=3/536870912 | 9 576460752303423488 17179869184 51539607552 17179869184 51539607552 3221225472 0 1073741824 true true false false | 16 of 536870912 by 1073741824, 48 of 536870912 by 1073741824, 1 of 536870912 by 1073741824; pair 1 2: 16 of 536870912 by 1073741824, 48 of 536870912 by 1073741824, 1 of 536870912 by 1073741824
-0 : 1/2*p+1/2*q;1 : 1-1/2*p-1/2*q | 1/5<=p<=2/5,3/5<=q<=4/5 | 9 50 480 320 320 480 20 30 20 false true true false | 320 of 50 by 1, 480 of 50 by 1, 20 of 50 by 1; other
-1 : p*q;2 : 1-p*q | 1/576460752303423488<=p<=2/576460752303423488,1/576460752303423488<=q<=2/576460752303423488 | 9 332306998946228968225951765070086144 16 64 16 64 4 0 1 true true false false | -, -, -; pair 1 2: -, -, -
-0 : p*q;1 : 1-p*q | 1/576460752303423488<=p<=2/576460752303423488,1/576460752303423488<=q<=2/576460752303423488 | 9 332306998946228968225951765070086144 5316911983139663491615228241121378288 5316911983139663491615228241121378240 5316911983139663491615228241121378240 5316911983139663491615228241121378288 332306998946228968225951765070086140 4 332306998946228968225951765070086140 false false true true | -, -, -; other";
+0 : p*q;1 : p-p*q;2 : 1-p | 1/5<=p<=2/5,3/5<=q<=4/5 | 13 25 32 32 16 64 2 8 1 true true false false | -, -, -; other | 32 of 17
+0 : p;1 : q-p;2 : 1-q | 1/5<=p<=2/5,3/5<=q<=4/5 | 13 25 160 160 80 240 10 10 5 false true false false | -, -, -; other | 160 of 15
+1 : 1/2*p+1/2*q;2 : 1-1/2*p-1/2*q | 1/5<=p<=2/5,3/5<=q<=4/5 | 9 50 320 480 320 480 30 0 20 false true true false | 320 of 50 by 1, 480 of 50 by 1, 20 of 50 by 1; pair 1 2: 320 of 50 by 1, 480 of 50 by 1, 20 of 50 by 1 | 480 of 50
+0 : p*q;1 : p-p*q;2 : 1-p | 1/576460752303423488<=p<=2/576460752303423488,1/576460752303423488<=q<=2/576460752303423488 | 13 332306998946228968225951765070086144 9223372036854775792 18446744073709551552 9223372036854775776 18446744073709551584 1152921504606846972 4 576460752303423486 true true false false | -, -, -; other | -
+1 : 1/2*p+1/2*q;2 : 1-1/2*p-1/2*q | 1/536870912<=p<=3/536870912,1/536870912<=q<=3/536870912 | 9 576460752303423488 17179869184 51539607552 17179869184 51539607552 3221225472 0 1073741824 true true false false | 16 of 536870912 by 1073741824, 48 of 536870912 by 1073741824, 1 of 536870912 by 1073741824; pair 1 2: 16 of 536870912 by 1073741824, 48 of 536870912 by 1073741824, 1 of 536870912 by 1073741824 | -
+0 : 1/2*p+1/2*q;1 : 1-1/2*p-1/2*q | 1/5<=p<=2/5,3/5<=q<=4/5 | 9 50 480 320 320 480 20 30 20 false true true false | 320 of 50 by 1, 480 of 50 by 1, 20 of 50 by 1; other | 320 of 20
+1 : p*q;2 : 1-p*q | 1/576460752303423488<=p<=2/576460752303423488,1/576460752303423488<=q<=2/576460752303423488 | 9 332306998946228968225951765070086144 16 64 16 64 4 0 1 true true false false | -, -, -; pair 1 2: -, -, - | -
+0 : p*q;1 : 1-p*q | 1/576460752303423488<=p<=2/576460752303423488,1/576460752303423488<=q<=2/576460752303423488 | 9 332306998946228968225951765070086144 5316911983139663491615228241121378288 5316911983139663491615228241121378240 5316911983139663491615228241121378240 5316911983139663491615228241121378288 332306998946228968225951765070086140 4 332306998946228968225951765070086140 false false true true | -, -, -; other | -";
 
 /// Whether the mean of the row of state 0 is at most 9, at most 10, at least 6 and at least 7.
 fn bounds_of(
@@ -155,9 +157,32 @@ fn told(
     )?)
 }
 
-/// Makes the table of the case's root, and tells what it tells.
-fn tabled(alloc: Global, case: &Case, vec: &[i64]) -> Result<String, Fail>
+/// What the row of state 0 weighs into other states at its last corner, if 64 bits hold its sums.
+fn leaving(
+    alloc: Global,
+    case: &Case,
+    links: &Links,
+    weights: &[i128],
+    vec: &[i64],
+) -> Result<String, Fail>
+    requires links { AreLinks case.now.model links.now }
+    requires table { IsTable case.now links.now (spans_of (sides_of case.now.root)) weights.now }
     requires numbers { AreNumbers case.now vec.now }
+    requires states { length case.now.model.states ≡ 3 }
+    requires choice { length (choices case.now.model 0) ≡ 1 }
+    requires corners { corner_count case.now 0 0 ≡ 4 }
+{
+    if !has_short_sums(case, links, weights, 0, 0) {
+        return Ok(format!(in alloc; "-")?);
+    }
+    let others = table_others(case, links, weights, 0, 0, 3, vec);
+    Ok(format!(in alloc; "{} of {}", others.sum, others.whole)?)
+}
+
+/// Makes the table of the case's root, and tells what it tells.
+fn tabled(alloc: Global, case: &Case, vec: &[i64], other: &[i64]) -> Result<String, Fail>
+    requires numbers { AreNumbers case.now vec.now }
+    requires others { AreNumbers case.now other.now }
     requires states { length case.now.model.states ≡ 3 }
     requires choice { length (choices case.now.model 0) ≡ 1 }
     requires corners { corner_count case.now 0 0 ≡ 4 }
@@ -166,7 +191,9 @@ fn tabled(alloc: Global, case: &Case, vec: &[i64]) -> Result<String, Fail>
     let links = Links::build(alloc, case.model())?;
     let mut weights = vec![in alloc; 0i128; links.weights_len()]?;
     fill(case, &links, case.root().sides(), &mut weights);
-    told(alloc, case, &links, &weights, vec)
+    let told = told(alloc, case, &links, &weights, vec)?;
+    let leaving = leaving(alloc, case, &links, &weights, other)?;
+    Ok(format!(in alloc; "{told} | {leaving}")?)
 }
 
 #[test]
@@ -185,10 +212,10 @@ fn reads_a_row_from_its_table(rt: HostRuntime) -> Result<(), Fail> {
         assert_eq!(rt; case.model().states(), 3);
         assert_eq!(rt; case.model().choices(0), 1);
         assert_eq!(rt; case.model().row(0, 0).support().count_ones(), 2);
-        let got = tabled(alloc, &case, &[0, 16, 0])?;
-        let told = cells.next().unwrap_or("");
-        let looked = cells.next().unwrap_or("");
-        let expected = format!(in alloc; "{told} | {looked}")?;
+        let got = tabled(alloc, &case, &[0, 16, 0], &[5, 16, 0])?;
+        let (told, looked) = (cells.next().unwrap_or(""), cells.next().unwrap_or(""));
+        let leaving = cells.next().unwrap_or("");
+        let expected = format!(in alloc; "{told} | {looked} | {leaving}")?;
         assert_eq!(rt; got.as_str(), expected.as_str(), "{line}");
     }
     Ok(())

@@ -1,6 +1,7 @@
 //! Tests of corners.
 
-ghost use Rattle.std.specs.Prelude.{◌≡◌, ◌<◌, length};
+ghost use Rattle.std.specs.Prelude.{◌≡◌, ◌≤◌, ◌<◌, length};
+ghost use Rattle.lift_grid.specs.Rectangle.{most_halvings};
 ghost use Rattle.lift_model.specs.Model.{choices};
 ghost use Rattle.corner_lift.specs.Case.{AreSidesInside, corner_count};
 ghost use Rattle.corner_lift.specs.Certificate.{AreNumbers};
@@ -10,8 +11,10 @@ use corner_lift::{
     Case, corners_bound_weights, row_max, row_min, row_value, rows_at_corners, weight_into, whole,
 };
 use lift_grid::read_region;
+use lift_model::Model;
 use lift_rows::admit;
 use std::alloc::Global;
+use std::process::Abort;
 use std::string::String;
 use std::test::Fail;
 
@@ -49,6 +52,28 @@ fn weighed(alloc: Global, case: &Case, sides: &[i64], vec: &[i64]) -> Result<Str
     Ok(format!(in alloc; "{whole} {values:?} {least} {greatest} {goal} {other} {depth}")?)
 }
 
+/// What the row of state 0 weighs over a region of the parameters at a depth.
+fn weighed_over(
+    rt: &impl Abort,
+    alloc: Global,
+    model: &Model,
+    region: &[u8],
+    depth: u32,
+) -> Result<String, Fail>
+    requires { depth ≤ most_halvings }
+{
+    let (grid, root) = read_region(alloc, region, model.names(), depth)?;
+    let case = admit(model, &root, grid, 4)?;
+    rows_at_corners();
+    assert_eq!(rt; case.model().states(), 3);
+    assert_eq!(rt; case.model().choices(0), 1);
+    assert_eq!(rt; case.model().row(0, 0).support().count_ones(), 2);
+    weighed(alloc, &case, case.root().sides(), &[0, 16, 0])
+}
+
+/// The region of the table.
+const REGION: &[u8] = b"1/5<=p<=2/5,3/5<=q<=4/5";
+
 #[test]
 fn weighs_a_row_at_its_corners(rt: HostRuntime) -> Result<(), Fail> {
     let alloc = rt.alloc();
@@ -57,14 +82,7 @@ fn weighs_a_row_at_its_corners(rt: HostRuntime) -> Result<(), Fail> {
         let (depth, want) = line.split_once(" | ").unwrap_or(("", ""));
         let depth: u32 = depth.parse()?;
         assert!(rt; depth <= 20);
-        let region = b"1/5<=p<=2/5,3/5<=q<=4/5";
-        let (grid, root) = read_region(alloc, region, model.names(), depth)?;
-        let case = admit(&model, &root, grid, 4)?;
-        rows_at_corners();
-        assert_eq!(rt; case.model().states(), 3);
-        assert_eq!(rt; case.model().choices(0), 1);
-        assert_eq!(rt; case.model().row(0, 0).support().count_ones(), 2);
-        let got = weighed(alloc, &case, case.root().sides(), &[0, 16, 0])?;
+        let got = weighed_over(&rt, alloc, &model, REGION, depth)?;
         assert_eq!(rt; got.as_str(), want, "{line}");
     }
     corners_bound_weights();

@@ -1,7 +1,8 @@
 //! Tests of models.
 
 use crate::example::model_of;
-use lift_model::{Kind, plans_over_one_pick};
+use lift_model::{Kind, Model, plans_over_one_pick};
+use std::process::Abort;
 use std::test::Fail;
 
 /// A coin that may be turned: from state 0 to the goal 1 with p or with 1 - p.
@@ -14,24 +15,19 @@ const STATES: &str = "\
 1 | true | 1
 2 | false | 1";
 
-#[test]
-fn tells_its_parts(rt: HostRuntime) -> Result<(), Fail> {
-    let model = model_of(&rt, rt.alloc(), TURNED)?;
-    assert_eq!(rt; model.kind(), Kind::Mdp);
-    assert_eq!(rt; model.common(), 1);
-    assert_eq!(rt; model.names().len(), 1);
-    assert_eq!(rt; model.init(), 0);
+/// Whether the model tells of the state what a row says.
+fn tells_state(rt: &impl Abort, model: &Model, row: &str) -> Result<bool, Fail> {
+    let mut cells = row.split(" | ");
+    let state: u32 = cells.next().unwrap_or("").parse()?;
+    let goal = cells.next().unwrap_or("") == "true";
+    let choices: u32 = cells.next().unwrap_or("").parse()?;
+    assert!(rt; state < model.states());
+    Ok(model.is_goal(state) == goal && model.choices(state) == choices)
+}
+
+/// Checks what the model tells of the second row of state 0.
+fn tells_row(rt: &impl Abort, model: &Model) {
     assert_eq!(rt; model.states(), 3);
-    assert_eq!(rt; model.live(), 1);
-    for line in STATES.split('\n') {
-        let mut cells = line.split(" | ");
-        let state: u32 = cells.next().unwrap_or("").parse()?;
-        let goal = cells.next().unwrap_or("") == "true";
-        let choices: u32 = cells.next().unwrap_or("").parse()?;
-        assert!(rt; state < model.states());
-        assert_eq!(rt; model.is_goal(state), goal, "{line}");
-        assert_eq!(rt; model.choices(state), choices, "{line}");
-    }
     assert!(rt; model.choices(0) > 1);
     let row = model.row(0, 1);
     assert_eq!(rt; row.support(), 1);
@@ -39,6 +35,25 @@ fn tells_its_parts(rt: HostRuntime) -> Result<(), Fail> {
     assert_eq!(rt; entries.len(), 2);
     assert_eq!(rt; entries[0].target, 1);
     assert_eq!(rt; entries[0].poly.len(), 2);
-    plans_over_one_pick();
+}
+
+/// Checks what the model tells of itself, of its states and of a row.
+fn tells_parts(rt: &impl Abort, model: &Model) -> Result<(), Fail> {
+    assert_eq!(rt; model.kind(), Kind::Mdp);
+    assert_eq!(rt; model.common(), 1);
+    assert_eq!(rt; model.names().len(), 1);
+    assert_eq!(rt; model.init(), 0);
+    assert_eq!(rt; model.live(), 1);
+    for line in STATES.split('\n') {
+        assert!(rt; tells_state(rt, model, line)?, "{line}");
+    }
+    tells_row(rt, model);
     Ok(())
+}
+
+#[test]
+fn tells_its_parts(rt: HostRuntime) -> Result<(), Fail> {
+    let model = model_of(&rt, rt.alloc(), TURNED)?;
+    plans_over_one_pick();
+    tells_parts(&rt, &model)
 }
