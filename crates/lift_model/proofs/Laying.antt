@@ -1,7 +1,7 @@
 -- Laying out the rows of a model one by one.
 use Rattle.std.proofs.Common.{◌≡◌, ℕ, zero, suc, ◌+◌, ◌-◌, ◌^◌, ◌<◌, ◌≤◌, List, [], ◌∷◌, ◌++◌, length, map, take, drop, get_or, slice_range, sum_by, count_ones, All, refl, sym, ap, ap₂, subst, ◌∙◌, arith, ◌⊎◌, ⊎_elim, inl, inr, length-append, append_assoc}
 use Rattle.std.specs.List.{concat}
-use Rattle.std.proofs.lemmas.List.{take-append-le, take_all, take_more, map-append, append-nil}
+use Rattle.std.proofs.lemmas.List.{take-append-le, take_all, take_more, map_more, map-append, append-nil}
 use Rattle.std.proofs.lemmas.List.Elements.{All-nil, All-append, All-map}
 use Rattle.std.proofs.lemmas.List.Folds.{concat-append}
 use Rattle.std.proofs.lemmas.List.Sums.{sum_by_more, sum_by-cons}
@@ -206,6 +206,12 @@ targets_more m s a old now next lt h is =
 
 pub targets_all : (m : ModelData) (s a : ℕ) (old now : List ℕ) → length (choices m s) ≤ a → now ≡ old ++ concat (map targets_of (take a (choices m s))) → now ≡ old ++ all_targets m s
 targets_all m s a old now le h = h ∙ ap (λ rows. old ++ concat (map targets_of rows)) (take_all a (choices m s) le)
+
+-- the target of one more entry
+pub target_more : (old so_far : List ℕ) (row : List Entry) (i : ℕ) (e : Entry) → i < length row → e ≡ get_or row i e → so_far ≡ old ++ targets_of (take i row) → so_far ++ (e.target ∷ []) ≡ old ++ targets_of (take (i + 1) row)
+target_more old so_far row i e lt is h =
+    let more : targets_of (take (i + 1) row) ≡ targets_of (take i row) ++ (e.target ∷ []) = map_more (λ (x : Entry). x.target) row i e lt ∙ ap (λ (x : Entry). targets_of (take i row) ++ (x.target ∷ [])) (sym is) in
+    ap (λ l. l ++ (e.target ∷ [])) h ∙ append_assoc old (targets_of (take i row)) (e.target ∷ []) ∙ ap (λ l. old ++ l) (sym more)
 
 split_last : (t s : ℕ) → t < s + 1 → (t < s) ⊎ (t ≡ s)
 split_last t s lt = grind arith

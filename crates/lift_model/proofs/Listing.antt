@@ -19,6 +19,21 @@ pub at_seam : {X : Type 0} (xs : List X) (y d : X) → get_or (xs ++ (y ∷ []))
 at_seam [] y d = refl
 at_seam (x ∷ xs) y d = at_seam xs y d
 
+-- one more sum
+pub sums_more : (starts counts : List ℕ) (i s n : ℕ) → n ≡ s + at counts i → at starts i ≡ s → AreSums starts counts i → AreSums (starts ++ (n ∷ [])) counts (i + 1) × (at (starts ++ (n ∷ [])) (i + 1) ≡ n)
+sums_more starts counts i s n is last h =
+    let seam : at (starts ++ (n ∷ [])) (i + 1) ≡ n = ap (λ k. get_or (starts ++ (n ∷ [])) k 0) (sym h.count) ∙ at_seam starts n 0 in
+    let kept : (u : ℕ) → u ≤ i → at (starts ++ (n ∷ [])) u ≡ at starts u = λ u le. in_first starts (n ∷ []) u 0 (omega (arith, le, h.count)) in (
+      record {
+        count = length-append starts (n ∷ []) ∙ omega (arith, h.count);
+        sums = λ u lt. ⊎_elim
+            (λ (before : u < i). omega (arith, kept (u + 1) (omega (arith, before)), kept u (omega (arith, before)), h.sums u before))
+            (λ (here : u ≡ i). rw here (omega (arith, seam, kept i (omega arith), last, is)))
+            (let split : (u < i) ⊎ (u ≡ i) = grind (arith, lt) in split);
+      },
+      seam,
+    )
+
 -- a part, one longer
 grown : (xs : List ℕ) (a n i y : ℕ) → i ≡ a + n → i < length xs → take (n + 1) (drop a (set xs i y)) ≡ take n (drop a xs) ++ (y ∷ [])
 grown [] a n i y e lt = absurd (omega (arith, lt))

@@ -12,3 +12,4 @@ pub mod OnlyRow
 pub mod Layout
 pub mod Before
 pub mod Stored
+pub mod Twin

@@ -1,4 +1,5 @@
 ghost use Rattle.lift_model.specs.Pick.{FitsPick, PicksFit, PicksReach};
+ghost use Rattle.lift_model.specs.Twin.{FairPlansReachOneHalf};
 ghost use Rattle.lift_model.specs.Laws.{WeightedSumsAreNotNegative, WeightedSumsRise};
 
 /// Holds the laws of schedulers that don't toss, for who reasons about them: the plans over 1 are
@@ -15,4 +16,11 @@ pub fn plans_over_one_pick()
 pub fn weighted_sums_follow()
     ensures least { WeightedSumsAreNotNegative }
     ensures rise { WeightedSumsRise }
+{}
+
+/// Holds what tossing adds, on a coin with two choices of which one goes to the goal with p and the other
+/// with 1 - p: the plan that tosses fairly between them reaches it with one half, whatever p is. It does
+/// nothing.
+pub fn fair_plans_reach_one_half()
+    ensures { FairPlansReachOneHalf }
 {}

@@ -1,7 +1,7 @@
 //! Where the rows of a model and their weights stand in flat lists.
 
-ghost use Rattle.std.specs.Prelude.{◌≡◌, ◌+◌, ◌<◌, ◌++◌, length, OnOk, IfOk};
-ghost use Rattle.lift_model.specs.Model.{row_at};
+ghost use Rattle.std.specs.Prelude.{◌≡◌, ◌+◌, ◌<◌, ◌++◌, ◌∷◌, [], length, OnOk, IfOk};
+ghost use Rattle.lift_model.specs.Model.{ModelData, row_at};
 ghost use Rattle.lift_model.specs.Links.{HasChoice, targets_of, all_targets};
 ghost use Rattle.lift_model.specs.Layout.{IsLaid, AreRowStarts, AreCut};
 
@@ -94,26 +94,53 @@ fn count_rows(model: &Model) -> usize {
     count
 }
 
+/// Appends the rows of all states, and tells where those of each begin.
+fn push_states(layout: &mut Layout, starts: &mut Starts, model: &Model) -> Result<(), AllocError>
+    requires laid { IsLaid model.now layout.old 0 0 }
+    requires rows { AreRowStarts model.now starts.old.rows.items 0 }
+    requires targets { AreCut model.now starts.old.targets.items layout.old.targets.items 0 }
+    ensures laid { OnOk result (IsLaid model.now layout.new (length model.now.states) 0) }
+    ensures rows { OnOk result (AreRowStarts model.now starts.new.rows.items (length model.now.states)) }
+    ensures targets { OnOk result (AreCut model.now starts.new.targets.items layout.new.targets.items (length model.now.states)) }
+{
+    for s in 0..model.states() {
+        push_rows(layout, model, s)?;
+        starts.rows.push(layout.rows.len() as u32)?;
+        starts.targets.push(layout.targets.len() as u32)?;
+    }
+    Ok(())
+}
+
+/// A layout without rows, with room for so many.
+fn no_rows(alloc: Global, count: usize) -> Result<Layout, AllocError>
+    ensures laid { (m : ModelData) → IfOk result (λ layout. IsLaid m layout 0 0) }
+    ensures targets { IfOk result (λ layout. layout.targets.items ≡ []) }
+{
+    Ok(Layout {
+        rows: Vec::with_capacity(alloc, count)?,
+        targets: Vec::with_capacity(alloc, count.saturating_mul(2))?,
+        blocks: Blocks::new(alloc, count)?,
+    })
+}
+
+/// The beginnings before the first state.
+fn no_starts(alloc: Global) -> Result<Starts, AllocError>
+    ensures { IfOk result (λ starts. (starts.rows.items ≡ 0 ∷ []) × (starts.targets.items ≡ 0 ∷ [])) }
+{
+    Ok(Starts {
+        rows: vec![in alloc; 0u32]?,
+        targets: vec![in alloc; 0u32]?,
+    })
+}
+
 /// Lays out the rows of all states.
 pub(crate) fn lay_out(alloc: Global, model: &Model) -> Result<(Layout, Starts), AllocError>
     ensures laid { IfOk result (λ all. IsLaid model.now all.0 (length model.now.states) 0) }
     ensures rows { IfOk result (λ all. AreRowStarts model.now all.1.rows.items (length model.now.states)) }
     ensures targets { IfOk result (λ all. AreCut model.now all.1.targets.items all.0.targets.items (length model.now.states)) }
 {
-    let count = count_rows(model);
-    let mut layout = Layout {
-        rows: Vec::with_capacity(alloc, count)?,
-        targets: Vec::with_capacity(alloc, count.saturating_mul(2))?,
-        blocks: Blocks::new(alloc, count)?,
-    };
-    let mut starts = Starts {
-        rows: vec![in alloc; 0u32]?,
-        targets: vec![in alloc; 0u32]?,
-    };
-    for s in 0..model.states() {
-        push_rows(&mut layout, model, s)?;
-        starts.rows.push(layout.rows.len() as u32)?;
-        starts.targets.push(layout.targets.len() as u32)?;
-    }
+    let mut layout = no_rows(alloc, count_rows(model))?;
+    let mut starts = no_starts(alloc)?;
+    push_states(&mut layout, &mut starts, model)?;
     Ok((layout, starts))
 }

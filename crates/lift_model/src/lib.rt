@@ -18,7 +18,7 @@ mod shared;
 pub use blocks::FirstRow;
 pub use entry::Entry;
 pub use kind::Kind;
-pub use laws::{plans_over_one_pick, weighted_sums_follow};
+pub use laws::{fair_plans_reach_one_half, plans_over_one_pick, weighted_sums_follow};
 pub use layout::RowPlace;
 pub use links::Links;
 pub use model::Model;

@@ -1,5 +1,5 @@
 use Rattle.lift_model.specs.Layout.{IsLaid, AreRowStarts, AreCut}
-use Rattle.lift_model.proofs.layout.lay_out.Given as goal
+use Rattle.lift_model.proofs.layout.push_states.Given as goal
 
 -- the states so far were laid out
 abbrev pub invariant-loop-s : goal.invariant-loop-s
