@@ -25,6 +25,6 @@ impl<T: Ord> BTreeSet<T> {
         self.0.is_empty()
     }
     pub fn first(&self) -> Option<&T> {
-        self.0.first()
+        self.0.iter().next()
     }
 }

@@ -17,9 +17,6 @@ pub mod marker {
     pub struct Brand;
     pub trait Model {}
 }
-pub mod io {
-    pub use std::io::{Read, Write};
-}
 pub mod num {
     pub fn f64_from_bits_with_nan(x: u64) -> f64 {
         f64::from_bits(x)
@@ -172,13 +169,17 @@ pub mod itoa {
         }
     }
 }
+pub mod clap;
 pub mod collections;
 pub mod indexmap;
+pub mod system;
 pub mod vec;
+pub use system::{env, io};
 pub mod prelude {
     pub use crate::rvec;
+    pub use crate::system::HostRuntime;
     pub use crate::vec::Vec;
-    pub use crate::IterExt;
+    pub use crate::{DivCeil, IterExt};
 }
 
 #[macro_export]
@@ -192,6 +193,16 @@ pub trait IterExt: Iterator + Sized {
     }
 }
 impl<I: Iterator> IterExt for I {}
+
+/// A quotient rounded up, for compilers that don't have it. Where one does, its own is called.
+pub trait DivCeil {
+    fn div_ceil(self, other: Self) -> Self;
+}
+impl DivCeil for u128 {
+    fn div_ceil(self, other: u128) -> u128 {
+        self / other + u128::from(self % other != 0)
+    }
+}
 
 pub fn boxed<T>(t: T) -> Result<Box<T>, alloc::AllocError> {
     Ok(Box::new(t))

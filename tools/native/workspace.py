@@ -1,0 +1,102 @@
+"""Writes the code of the crates without their contracts as a cargo workspace."""
+
+import os
+import re
+import shutil
+
+from rust import as_rust
+
+HERE = os.path.dirname(os.path.abspath(__file__))
+ROOT = os.path.dirname(os.path.dirname(HERE))
+PROGRAMS = {"plift": "plift", "plift_view": "plift-view"}
+PROFILE = 'opt-level = 3\nlto = "fat"\ncodegen-units = 1\npanic = "abort"\n'
+
+
+def read(path: str) -> str:
+    with open(path, encoding="utf-8") as file:
+        return file.read()
+
+
+def write(path: str, text: str) -> None:
+    """Writes a file where it isn't so already, so that cargo sees what changed."""
+    os.makedirs(os.path.dirname(path), exist_ok=True)
+    if os.path.exists(path) and read(path) == text:
+        return
+    with open(path, "w", encoding="utf-8") as file:
+        file.write(text)
+
+
+def dependencies() -> dict[str, list[str]]:
+    """What each crate of crates.txt stands on, of those that stand there."""
+    lines = [line.partition(":") for line in read(os.path.join(ROOT, "crates.txt")).splitlines()]
+    below = {crate: words.split() for crate, colon, words in lines if colon and not crate.startswith("#")}
+    return {crate: [name for name in names if name in below] for crate, names in below.items()}
+
+
+def closure(crates: list[str]) -> list[str]:
+    """The crates, and all that they stand on."""
+    below, found, open_ = dependencies(), set(), list(crates)
+    while open_:
+        crate = open_.pop()
+        if crate not in found:
+            found.add(crate)
+            open_ += below[crate]
+    return [crate for crate in below if crate in found]
+
+
+def package(name: str, crates: list[str]) -> str:
+    lines = [f'{crate} = {{ path = "../{crate}" }}' for crate in crates]
+    front = f'[package]\nname = "{name}"\nversion = "0.1.0"\nedition = "2021"\n\n[dependencies]\n'
+    return front + "".join(line + "\n" for line in lines)
+
+
+def as_root(name: str, text: str) -> str:
+    """The code of a crate's first file: nobody looks at its warnings, and a program is given what the system gives."""
+    front = re.match(r"(?://[^\n]*\n)*", text).group()
+    text = f"{front}#![allow(warnings)]\n{text[len(front):]}"
+    return text.replace("fn main(rt: HostRuntime) -> ExitCode {", "fn main() -> ExitCode {\n    let rt = HostRuntime;")
+
+
+def write_crate(out: str, crate: str, below: list[str]) -> None:
+    name = PROGRAMS.get(crate, crate)
+    write(f"{out}/{crate}/Cargo.toml", package(name, ["rstd", *below]))
+    source = os.path.join(ROOT, "crates", crate, "src")
+    for file in os.listdir(source):
+        text = as_rust(read(os.path.join(source, file)))
+        if file in ("lib.rt", "main.rt"):
+            text = as_root(crate, text)
+        write(f"{out}/{crate}/src/{file[:-3]}.rs", text)
+
+
+def write_part(out: str, part: str, name: str, below: list[str]) -> None:
+    """Writes a crate that is kept as Rust beside this module."""
+    shutil.copytree(f"{HERE}/{part}", f"{out}/{part}/src", dirs_exist_ok=True)
+    write(f"{out}/{part}/Cargo.toml", package(name, below))
+
+
+def write_members(out: str, members: list[str], profile: str) -> None:
+    names = ", ".join(f'"{name}"' for name in members)
+    write(f"{out}/Cargo.toml", f'[workspace]\nresolver = "2"\nmembers = [{names}]\n\n[profile.release]\n{profile}')
+
+
+def write_programs(out: str, extra: list[str], profile: str) -> None:
+    """Writes both programs, and what they stand on, into the folder `out`; `extra` are further members."""
+    below = dependencies()
+    crates = closure(list(PROGRAMS))
+    for crate in crates:
+        write_crate(out, crate, below[crate])
+    write_part(out, "rstd", "rstd", [])
+    write_members(out, ["rstd", *crates, *extra], profile)
+
+
+def write_quick(out: str) -> None:
+    """Writes both programs as they are used."""
+    write_programs(out, [], PROFILE)
+
+
+def write_profiled(out: str) -> None:
+    """Writes both programs and the one that times its steps, with what a profiler looks for."""
+    libraries = [crate for crate in closure(["plift"]) if crate != "plift"]
+    write_programs(out, ["main"], PROFILE + "debug = 1\n")
+    write_part(out, "main", "native", ["rstd", *libraries])
+    write(f"{out}/main/src/report.rs", as_rust(read(os.path.join(ROOT, "crates/plift_top/src/report.rt"))))

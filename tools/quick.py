@@ -1,0 +1,223 @@
+#!/usr/bin/env python3
+"""Builds plift and plift-view without the prover, by cargo, where they aren't built yet or a source is newer, and prints
+the path of the one that is asked for:
+
+    quick.py [plift | plift-view]
+
+The programs, build/quick/plift and build/quick/plift-view, do what the proved ones do, from the same code, but nothing is
+proved of them. It needs Python and cargo, no network and no kit. All that is told goes to standard error, and what cargo
+says to build/quick.log. It ends with 70 where they can't be built.
+"""
+
+import contextlib
+import fcntl
+import json
+import os
+import re
+import shutil
+import signal
+import subprocess
+import sys
+import time
+from collections.abc import Iterator
+
+TOOLS = os.path.dirname(os.path.abspath(__file__))
+sys.path.insert(0, os.path.join(TOOLS, "native"))
+sys.dont_write_bytecode = True
+import workspace
+
+BUILD = os.path.join(workspace.ROOT, "build")
+QUICK = os.path.join(BUILD, "quick")
+LOG = os.path.join(BUILD, "quick.log")
+PROGRAMS = list(workspace.PROGRAMS.values())
+OLDEST = (1, 63)
+INSTALL = "install Rust %d.%d or newer, such as Debian's (apt install cargo) or that of https://rustup.rs" % OLDEST
+NOT_PROVED = (
+    "these programs are built from the proved code, but not proved themselves;"
+    " a report needs no trust in what wrote it: check it with recheck/recheck.py or with a proved plift"
+)
+
+
+class Refused(Exception):
+    """Why the programs can't be built, in one line."""
+
+
+def say(text: str) -> None:
+    print("quick: " + text, file=sys.stderr, flush=True)
+
+
+def path_of(program: str) -> str:
+    return os.path.join(QUICK, program)
+
+
+def sources() -> Iterator[str]:
+    """All that the programs are made from: files, and folders, whose times tell what was removed."""
+    yield os.path.join(workspace.ROOT, "crates.txt")
+    yield os.path.abspath(__file__)
+    folders = [os.path.join(workspace.ROOT, "crates", crate, "src") for crate in workspace.closure(list(workspace.PROGRAMS))]
+    for top in [*folders, os.path.join(TOOLS, "native")]:
+        for folder, _, names in os.walk(top):
+            if os.path.basename(folder) != "__pycache__":
+                yield folder
+                yield from (os.path.join(folder, name) for name in names)
+
+
+def is_built() -> bool:
+    """Whether both programs are there, and no source is newer than the build that made them."""
+    try:
+        built = min(os.stat(path_of(program)).st_mtime_ns for program in PROGRAMS)
+        return all(os.stat(source).st_mtime_ns < built for source in sources())
+    except FileNotFoundError:
+        return False
+
+
+def version_of(tool: str) -> tuple[int, ...]:
+    """The version of cargo or rustc."""
+    try:
+        said = subprocess.run([tool, "--version"], capture_output=True, text=True)
+    except OSError:
+        raise Refused(f"{tool} isn't found: {INSTALL}") from None
+    found = re.match(r"\S+ (\d+)\.(\d+)", said.stdout)
+    if said.returncode != 0 or not found:
+        words = (said.stderr or said.stdout).strip().splitlines() or ["it says nothing"]
+        raise Refused(f"{tool} doesn't run ({words[0]}): {INSTALL}")
+    return int(found[1]), int(found[2])
+
+
+def require_compiler() -> None:
+    for tool in ("cargo", os.environ.get("RUSTC", "rustc")):
+        version = version_of(tool)
+        if version < OLDEST:
+            raise Refused("%s is too old (%d.%d): %s" % (tool, *version, INSTALL))
+
+
+@contextlib.contextmanager
+def locked() -> Iterator[None]:
+    """Only one build at a time. The system takes the lock away with the process."""
+    with open(os.path.join(BUILD, "quick.lock"), "w") as file:
+        try:
+            fcntl.flock(file, fcntl.LOCK_EX | fcntl.LOCK_NB)
+        except BlockingIOError:
+            say("another start is building them: waiting for it")
+            fcntl.flock(file, fcntl.LOCK_EX)
+        yield
+
+
+class Progress:
+    """Tells how many crates are compiled so far: on a terminal in one line, elsewhere nothing."""
+
+    def __init__(self, crates: int) -> None:
+        self.crates = crates
+        self.begun = 0
+        self.start = time.monotonic()
+        self.is_shown = sys.stderr.isatty()
+
+    def seconds(self) -> float:
+        return time.monotonic() - self.start
+
+    def pass_line(self, line: str) -> None:
+        if not self.is_shown or not line.strip().startswith("Compiling "):
+            return
+        self.begun += 1
+        print(f"\rquick: compiling {self.begun} of {self.crates} crates, {self.seconds():.0f} s ", end="", file=sys.stderr, flush=True)
+
+    def end(self) -> None:
+        if self.begun:
+            print(file=sys.stderr)
+
+
+def compiled(line: str) -> str | None:
+    """The program that a line of cargo's messages tells of."""
+    message = json.loads(line) if line.startswith("{") else {}
+    return message.get("executable")
+
+
+def run_cargo(source: str, log, progress: Progress) -> dict[str, str]:
+    """Compiles, with what cargo says in the log. Gives the path of each program as cargo made it."""
+    command = ["cargo", "build", "--release", "--offline", "--message-format=json-render-diagnostics"]
+    command += ["--target-dir", os.path.join(QUICK, "target")]
+    with open(os.path.join(QUICK, "messages"), "w+") as messages:
+        with subprocess.Popen(command, cwd=source, stdout=messages, stderr=subprocess.PIPE, text=True, errors="replace") as cargo:
+            try:
+                for line in cargo.stderr:
+                    log.write(line)
+                    progress.pass_line(line)
+            except BaseException:
+                cargo.terminate()
+                raise
+            finally:
+                progress.end()
+        messages.seek(0)
+        paths = [path for path in map(compiled, messages) if path]
+    return {os.path.basename(path): path for path in paths} if cargo.returncode == 0 else {}
+
+
+def last_lines(count: int = 12) -> str:
+    with open(LOG, errors="replace") as file:
+        lines = [line.rstrip() for line in file if line.strip() and "Compiling " not in line]
+    return "".join(f"    {line}\n" for line in lines[-count:])
+
+
+def put(made: str, program: str, start: int) -> None:
+    """Puts a program in its place at once, with the time at which its build began: a later change is newer."""
+    fresh = path_of(program) + ".new"
+    shutil.copy(made, fresh)
+    os.utime(fresh, ns=(start, start))
+    os.replace(fresh, path_of(program))
+
+
+def build() -> None:
+    require_compiler()
+    start = time.time_ns()
+    source = os.path.join(QUICK, "source")
+    workspace.write_quick(source)
+    progress = Progress(1 + len(workspace.closure(list(workspace.PROGRAMS))))
+    say("building plift and plift-view without proofs: half a minute to two")
+    with open(LOG, "w") as log:
+        made = run_cargo(source, log, progress)
+    if not all(program in made for program in PROGRAMS):
+        sys.stderr.write(last_lines())
+        raise Refused(f"cargo failed; all that it said is in {LOG}")
+    for program in PROGRAMS:
+        put(made[program], program, start)
+    say(f"built in {progress.seconds():.0f} s: {NOT_PROVED}")
+
+
+def ensure_built() -> None:
+    """Builds both programs where they aren't built, or older than a source."""
+    if is_built():
+        return
+    os.makedirs(QUICK, exist_ok=True)
+    with locked():
+        if not is_built():
+            build()
+
+
+def asked_program(words: list[str]) -> str:
+    program = words[0].replace("_", "-") if words else PROGRAMS[0]
+    if len(words) > 1 or program not in PROGRAMS:
+        print(__doc__.strip(), file=sys.stderr)
+        sys.exit(0 if words and words[0] in ("--help", "-h") else 2)
+    return program
+
+
+def main() -> int:
+    program = asked_program(sys.argv[1:])
+    signal.signal(signal.SIGTERM, lambda *_: sys.exit(143))
+    try:
+        ensure_built()
+    except Refused as refused:
+        say(str(refused))
+        return 70
+    except OSError as error:
+        say(f"{error.filename or BUILD} can't be written or read: {error.strerror}")
+        return 70
+    except KeyboardInterrupt:
+        say("stopped; nothing was replaced, and the next start goes on")
+        return 130
+    print(path_of(program))
+    return 0
+
+
+if __name__ == "__main__":
+    sys.exit(main())
