@@ -31,6 +31,8 @@ QUICK = os.path.join(BUILD, "quick")
 LOG = os.path.join(BUILD, "quick.log")
 PROGRAMS = list(workspace.PROGRAMS.values())
 OLDEST = (1, 63)
+# From here on the programs are optimized each as a whole; before, that alone takes more than a minute.
+QUICK_AT_WHOLE = (1, 75)
 INSTALL = "install Rust %d.%d or newer, such as Debian's (apt install cargo) or that of https://rustup.rs" % OLDEST
 NOT_PROVED = (
     "these programs are built from the proved code, but not proved themselves;"
@@ -84,11 +86,13 @@ def version_of(tool: str) -> tuple[int, ...]:
     return int(found[1]), int(found[2])
 
 
-def require_compiler() -> None:
+def compiler() -> tuple[int, ...]:
+    """The version of the compiler, where it and cargo are new enough."""
     for tool in ("cargo", os.environ.get("RUSTC", "rustc")):
         version = version_of(tool)
         if version < OLDEST:
             raise Refused("%s is too old (%d.%d): %s" % (tool, *version, INSTALL))
+    return version
 
 
 @contextlib.contextmanager
@@ -167,10 +171,13 @@ def put(made: str, program: str, start: int) -> None:
 
 
 def build() -> None:
-    require_compiler()
+    version = compiler()
     start = time.time_ns()
     source = os.path.join(QUICK, "source")
-    workspace.write_quick(source)
+    workspace.write_quick(source, is_whole=version >= QUICK_AT_WHOLE)
+    # One that a newer cargo wrote is refused by an older one, and nothing stands in it.
+    with contextlib.suppress(FileNotFoundError):
+        os.remove(os.path.join(source, "Cargo.lock"))
     progress = Progress(1 + len(workspace.closure(list(workspace.PROGRAMS))))
     say("building plift and plift-view without proofs: half a minute to two")
     with open(LOG, "w") as log:

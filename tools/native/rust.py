@@ -34,7 +34,7 @@ def as_rust(text: str) -> str:
     """The code of a file in Rust."""
     text = re.sub(r"^\s*pub ghost [^\n]*\n", "", without_contracts(text), flags=re.M)
     text = re.sub(r"^\s*#!?\[(?:tactic|error)\([^\n]*\n", "", text, flags=re.M)
-    text = re.sub(r"\bstd::(alloc|num|collections|io|marker|rc|simd)\b", r"rstd::\1", text)
+    text = re.sub(r"\bstd::(alloc|num|collections|io|marker|process|rc|simd)\b", r"rstd::\1", text)
     text = text.replace("use std::{env, io};", "use rstd::{env, io};")
     text = re.sub(r"\buse (clap|itoa|indexmap|thiserror|memchr)::", r"use rstd::\1::", text)
     text = re.sub(r"(?:, )?\b(?:Drop|Error)\b(?=[^(\n]*\)\])", "", text)

@@ -9,7 +9,8 @@ from rust import as_rust
 HERE = os.path.dirname(os.path.abspath(__file__))
 ROOT = os.path.dirname(os.path.dirname(HERE))
 PROGRAMS = {"plift": "plift", "plift_view": "plift-view"}
-PROFILE = 'opt-level = 3\nlto = "fat"\ncodegen-units = 1\npanic = "abort"\n'
+PROFILE = 'opt-level = 3\ncodegen-units = 1\npanic = "abort"\n'
+WHOLE = PROFILE + 'lto = "fat"\n'
 
 
 def read(path: str) -> str:
@@ -50,11 +51,27 @@ def package(name: str, crates: list[str]) -> str:
     return front + "".join(line + "\n" for line in lines)
 
 
-def as_root(name: str, text: str) -> str:
-    """The code of a crate's first file: nobody looks at its warnings, and a program is given what the system gives."""
+START = """
+#[no_mangle]
+pub unsafe extern "C" fn main(count: i32, words: *const *const std::os::raw::c_char) -> i32 {
+    rstd::system::start(count, words, program)
+}
+"""
+
+
+def as_root(text: str) -> str:
+    """The code of a crate's first file, whose warnings nobody looks at."""
     front = re.match(r"(?://[^\n]*\n)*", text).group()
-    text = f"{front}#![allow(warnings)]\n{text[len(front):]}"
-    return text.replace("fn main(rt: HostRuntime) -> ExitCode {", "fn main() -> ExitCode {\n    let rt = HostRuntime;")
+    return f"{front}#![allow(warnings)]\n{text[len(front):]}"
+
+
+def as_program(text: str) -> str:
+    """The same of a program, which begins with what the C library calls."""
+    text = text.replace("fn main(rt: HostRuntime)", "fn program(rt: HostRuntime)")
+    return as_root(text).replace("#![allow(warnings)]\n", "#![allow(warnings)]\n#![no_main]\n", 1) + START
+
+
+ROOTS = {"lib.rt": as_root, "main.rt": as_program}
 
 
 def write_crate(out: str, crate: str, below: list[str]) -> None:
@@ -62,10 +79,8 @@ def write_crate(out: str, crate: str, below: list[str]) -> None:
     write(f"{out}/{crate}/Cargo.toml", package(name, ["rstd", *below]))
     source = os.path.join(ROOT, "crates", crate, "src")
     for file in os.listdir(source):
-        text = as_rust(read(os.path.join(source, file)))
-        if file in ("lib.rt", "main.rt"):
-            text = as_root(crate, text)
-        write(f"{out}/{crate}/src/{file[:-3]}.rs", text)
+        dress = ROOTS.get(file, str)
+        write(f"{out}/{crate}/src/{file[:-3]}.rs", dress(as_rust(read(os.path.join(source, file)))))
 
 
 def write_part(out: str, part: str, name: str, below: list[str]) -> None:
@@ -89,14 +104,14 @@ def write_programs(out: str, extra: list[str], profile: str) -> None:
     write_members(out, ["rstd", *crates, *extra], profile)
 
 
-def write_quick(out: str) -> None:
-    """Writes both programs as they are used."""
-    write_programs(out, [], PROFILE)
+def write_quick(out: str, is_whole: bool) -> None:
+    """Writes both programs as they are used; `is_whole` tells whether each is optimized as a whole."""
+    write_programs(out, [], WHOLE if is_whole else PROFILE)
 
 
 def write_profiled(out: str) -> None:
     """Writes both programs and the one that times its steps, with what a profiler looks for."""
     libraries = [crate for crate in closure(["plift"]) if crate != "plift"]
-    write_programs(out, ["main"], PROFILE + "debug = 1\n")
+    write_programs(out, ["main"], WHOLE + "debug = 1\n")
     write_part(out, "main", "native", ["rstd", *libraries])
     write(f"{out}/main/src/report.rs", as_rust(read(os.path.join(ROOT, "crates/plift_top/src/report.rt"))))

@@ -50,7 +50,12 @@ pub struct Arg<'a> {
 
 impl<'a> Arg<'a> {
     pub fn new(_: Global, name: &'a str) -> Self {
-        Arg { name, long: name, action: ArgAction::Set, is_required: false }
+        Arg {
+            name,
+            long: name,
+            action: ArgAction::Set,
+            is_required: false,
+        }
     }
     pub fn long(self, long: &'a str) -> Self {
         Arg { long, ..self }
@@ -59,7 +64,10 @@ impl<'a> Arg<'a> {
         Arg { action, ..self }
     }
     pub fn required(self, is_required: bool) -> Self {
-        Arg { is_required, ..self }
+        Arg {
+            is_required,
+            ..self
+        }
     }
 }
 
@@ -75,10 +83,16 @@ pub struct ArgMatches<'a> {
 
 impl<'a> Command<'a> {
     pub fn new(_: Global, _: &'a str) -> Self {
-        Command { options: vec![], skipped: 1 }
+        Command {
+            options: vec![],
+            skipped: 1,
+        }
     }
     pub fn no_binary_name(self, is_absent: bool) -> Self {
-        Command { skipped: usize::from(!is_absent), ..self }
+        Command {
+            skipped: usize::from(!is_absent),
+            ..self
+        }
     }
     pub fn arg(mut self, option: Arg<'a>) -> Result<Self, AllocError> {
         self.options.push(option);
@@ -94,7 +108,11 @@ impl<'a> Command<'a> {
         while let Some(word) = words.next() {
             // Behind this word no option stands, and there is nothing else to stand there.
             if word == "--" {
-                return if words.next().is_none() { Some(values) } else { None };
+                return if words.next().is_none() {
+                    Some(values)
+                } else {
+                    None
+                };
             }
             let text = word.strip_prefix("--")?;
             let (long, attached) = match text.split_once('=') {
@@ -106,7 +124,9 @@ impl<'a> Command<'a> {
                 (ArgAction::SetTrue, Some(_)) => return None,
                 (ArgAction::SetTrue, None) => "true",
                 (_, Some(value)) => value,
-                (_, None) => words.next().filter(|value| *value == "-" || !value.starts_with('-'))?,
+                (_, None) => words
+                    .next()
+                    .filter(|value| *value == "-" || !value.starts_with('-'))?,
             };
             if self.options[place].action != ArgAction::Append && !values[place].is_empty() {
                 return None;
@@ -117,8 +137,18 @@ impl<'a> Command<'a> {
     }
     pub fn try_get_matches_from(self, words: &'a [String]) -> Result<ArgMatches<'a>, Error> {
         let values = self.values(words).ok_or(Error(ErrorKind::Words))?;
-        let found: std::vec::Vec<_> = self.options.iter().map(|option| option.name).zip(values).collect();
-        let is_absent = |option: &Arg<'a>| option.is_required && found.iter().any(|(name, values)| *name == option.name && values.is_empty());
+        let found: std::vec::Vec<_> = self
+            .options
+            .iter()
+            .map(|option| option.name)
+            .zip(values)
+            .collect();
+        let is_absent = |option: &Arg<'a>| {
+            option.is_required
+                && found
+                    .iter()
+                    .any(|(name, values)| *name == option.name && values.is_empty())
+        };
         if self.options.iter().any(is_absent) {
             return Err(Error(ErrorKind::Words));
         }
@@ -129,7 +159,11 @@ impl<'a> Command<'a> {
 impl<'a> ArgMatches<'a> {
     pub fn get_strs(&self, name: &str) -> Option<&[&'a str]> {
         let (_, values) = self.found.iter().find(|(found, _)| *found == name)?;
-        if values.is_empty() { None } else { Some(values) }
+        if values.is_empty() {
+            None
+        } else {
+            Some(values)
+        }
     }
     pub fn get_str(&self, name: &str) -> Option<&'a str> {
         self.get_strs(name)?.first().copied()

@@ -172,9 +172,10 @@ pub mod itoa {
 pub mod clap;
 pub mod collections;
 pub mod indexmap;
+pub mod simd;
 pub mod system;
 pub mod vec;
-pub use system::{env, io};
+pub use system::{env, io, process};
 pub mod prelude {
     pub use crate::rvec;
     pub use crate::system::HostRuntime;
@@ -206,59 +207,4 @@ impl DivCeil for u128 {
 
 pub fn boxed<T>(t: T) -> Result<Box<T>, alloc::AllocError> {
     Ok(Box::new(t))
-}
-/// Vectors of sixteen bytes.
-pub mod simd {
-    use std::arch::x86_64::*;
-    pub mod prelude {
-        pub use super::u8x16;
-    }
-    #[allow(non_camel_case_types)]
-    #[derive(Clone, Copy)]
-    pub struct u8x16(__m128i);
-    #[derive(Clone, Copy)]
-    pub struct Mask(__m128i);
-    impl u8x16 {
-        #[inline(always)]
-        pub fn splat(byte: u8) -> Self {
-            u8x16(unsafe { _mm_set1_epi8(byte as i8) })
-        }
-        #[inline(always)]
-        pub fn from_slice(bytes: &[u8]) -> Self {
-            let bytes = &bytes[..16];
-            u8x16(unsafe { _mm_loadu_si128(bytes.as_ptr().cast()) })
-        }
-        #[inline(always)]
-        pub fn simd_ge(self, other: Self) -> Mask {
-            Mask(unsafe { _mm_cmpeq_epi8(_mm_max_epu8(self.0, other.0), self.0) })
-        }
-        #[inline(always)]
-        pub fn simd_eq(self, other: Self) -> Mask {
-            Mask(unsafe { _mm_cmpeq_epi8(self.0, other.0) })
-        }
-        #[inline(always)]
-        pub fn simd_ne(self, other: Self) -> Mask {
-            Mask(unsafe { _mm_xor_si128(_mm_cmpeq_epi8(self.0, other.0), _mm_set1_epi8(-1)) })
-        }
-    }
-    impl std::ops::Sub for u8x16 {
-        type Output = Self;
-        #[inline(always)]
-        fn sub(self, other: Self) -> Self {
-            u8x16(unsafe { _mm_sub_epi8(self.0, other.0) })
-        }
-    }
-    impl std::ops::BitAnd for Mask {
-        type Output = Self;
-        #[inline(always)]
-        fn bitand(self, other: Self) -> Self {
-            Mask(unsafe { _mm_and_si128(self.0, other.0) })
-        }
-    }
-    impl Mask {
-        #[inline(always)]
-        pub fn to_bitmask(self) -> u64 {
-            unsafe { _mm_movemask_epi8(self.0) as u32 as u64 }
-        }
-    }
 }

@@ -2,7 +2,10 @@
 
 use crate::alloc::{AllocError, Global};
 
-pub struct HostRuntime;
+/// What the system gives to a program.
+pub struct HostRuntime {
+    words: std::vec::Vec<std::vec::Vec<u8>>,
+}
 
 impl HostRuntime {
     pub fn alloc(&self) -> Global {
@@ -19,12 +22,49 @@ impl HostRuntime {
     }
 }
 
+extern "C" {
+    fn signal(number: i32, action: usize) -> usize;
+}
+const SIGPIPE: i32 = 13;
+const IGNORE: usize = 1;
+
+/// Starts a program on what the C library gives to `main`. Rust's own start isn't used, since it opens streams that are
+/// closed, and a fault of such a stream is told here. A write that nobody reads fails, and ends no program.
+///
+/// # Safety
+///
+/// `words` has as many texts as `count` says, each with a zero behind it.
+pub unsafe fn start(
+    count: i32,
+    words: *const *const std::os::raw::c_char,
+    program: fn(HostRuntime) -> process::ExitCode,
+) -> i32 {
+    signal(SIGPIPE, IGNORE);
+    let word = |place: i32| {
+        std::ffi::CStr::from_ptr(*words.add(place as usize))
+            .to_bytes()
+            .to_vec()
+    };
+    let words = (0..count).map(word).collect();
+    program(HostRuntime { words }).0
+}
+
+pub mod process {
+    /// The number that a process exits with.
+    pub struct ExitCode(pub(super) i32);
+    impl From<u8> for ExitCode {
+        fn from(code: u8) -> Self {
+            ExitCode(i32::from(code))
+        }
+    }
+}
+
 pub mod env {
     use super::{io, HostRuntime};
     /// The program's name and its words. One that isn't text is an error.
-    pub fn args(_: &HostRuntime) -> io::Result<std::vec::IntoIter<String>> {
+    pub fn args(rt: &HostRuntime) -> io::Result<std::vec::IntoIter<String>> {
         let words: Result<std::vec::Vec<String>, _> =
-            std::env::args_os().map(|word| word.into_string()).collect();
+            rt.words.iter().cloned().map(String::from_utf8).collect();
         let words = words.map_err(|_| io::Error::from(io::ErrorKind::InvalidData))?;
         Ok(words.into_iter())
     }
