@@ -1,0 +1,51 @@
+"""The examples, each with a few questions. What is answered isn't known here, and two programs have to say the same."""
+
+import re
+from collections.abc import Iterator
+
+from cases import Case
+from tables import TOP
+
+SHAPES = [("1/2", "0", "24"), ("1/4", "3", "10"), ("1/50", "5", "7"), ("0", "1", "40")]
+VIEWS = [[], ["--summary"], ["--follow"], ["--x", "p"], ["--at", "q=1/8"]]
+
+
+def parameters(text: str) -> list[str]:
+    found = re.search(r"^@parameters\n(.*)\n", text, re.M)
+    return found[1].split() if found else []
+
+
+def labels(text: str) -> list[str]:
+    return sorted({name for line in re.findall(r"^state \d+ (.*)$", text, re.M) for name in re.findall(r"[a-z]\w*", line)})
+
+
+def models() -> Iterator[Case]:
+    for path in sorted((TOP / "examples").glob("*.drn")):
+        text = path.read_text()
+        region = ",".join(f"1/10<={name}<=2/5" for name in parameters(text))
+        for goal in labels(text):
+            for bound, depth, precision in SHAPES:
+                words = ["verify", "--goal", goal, "--bound", bound, "--depth", depth, "--precision", precision]
+                words += ["--region", region] if region else []
+                yield Case(f"{path.name}: {' '.join(words)}", "plift", words, path.read_bytes())
+
+
+def reports() -> Iterator[Case]:
+    for path in sorted((TOP / "examples").glob("*.report")):
+        yield Case(f"{path.name}: check", "plift", ["check"], path.read_bytes())
+        for words in VIEWS:
+            yield Case(f"{path.name}: {' '.join(words)}", "plift-view", words, path.read_bytes())
+
+
+def made() -> Iterator[Case]:
+    for blocks in ("2", "50", "3000", "32767"):
+        yield Case(f"generate {blocks}", "plift", ["generate", blocks], b"")
+    for blocks in ("2", "700"):
+        yield Case(f"selftest {blocks}", "plift", ["selftest", blocks], b"")
+
+
+def cases() -> Iterator[Case]:
+    """All questions about the examples."""
+    yield from models()
+    yield from reports()
+    yield from made()
