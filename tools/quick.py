@@ -9,6 +9,8 @@ proved of them. It needs Python and cargo, no network and no kit. All that is to
 says to build/quick.log. It ends with 70 where they can't be built.
 """
 
+from __future__ import annotations
+
 import contextlib
 import fcntl
 import json

@@ -1,5 +1,7 @@
 """Takes the contracts out of the code of a file: what is left is code alone."""
 
+from __future__ import annotations
+
 import re
 
 CLAUSE = re.compile(

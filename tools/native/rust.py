@@ -1,5 +1,7 @@
 """Writes the code of a file in Rust, over the shim `rstd`, which has what the code uses of the kit's library."""
 
+from __future__ import annotations
+
 import re
 
 from contracts import behind, without_contracts

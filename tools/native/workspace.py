@@ -1,5 +1,7 @@
 """Writes the code of the crates without their contracts as a cargo workspace."""
 
+from __future__ import annotations
+
 import os
 import re
 import shutil
