@@ -13,6 +13,7 @@ from __future__ import annotations
 
 import contextlib
 import fcntl
+import glob
 import json
 import os
 import re
@@ -58,12 +59,11 @@ def sources() -> Iterator[str]:
     """All that the programs are made from: files, and folders, whose times tell what was removed."""
     yield os.path.join(workspace.ROOT, "crates.txt")
     yield os.path.abspath(__file__)
-    folders = [os.path.join(workspace.ROOT, "crates", crate, "src") for crate in workspace.closure(list(workspace.PROGRAMS))]
-    for top in [*folders, os.path.join(TOOLS, "native")]:
+    crates = glob.glob(os.path.join(glob.escape(workspace.ROOT), "crates", "*", "src"))
+    for top in [*crates, os.path.join(TOOLS, "native")]:
         for folder, _, names in os.walk(top):
-            if os.path.basename(folder) != "__pycache__":
-                yield folder
-                yield from (os.path.join(folder, name) for name in names)
+            yield folder
+            yield from (os.path.join(folder, name) for name in names)
 
 
 def is_built() -> bool:
