@@ -21,8 +21,10 @@ import shutil
 import signal
 import subprocess
 import sys
+import threading
 import time
 from collections.abc import Iterator
+from typing import TextIO
 
 TOOLS = os.path.dirname(os.path.abspath(__file__))
 sys.path.insert(0, os.path.join(TOOLS, "native"))
@@ -110,25 +112,29 @@ def locked() -> Iterator[None]:
 
 
 class Progress:
-    """Tells how many crates are compiled so far: on a terminal in one line, elsewhere nothing."""
+    """Tells on a terminal, in one line, how many crates are compiled and how long that takes so far."""
 
     def __init__(self, crates: int) -> None:
         self.crates = crates
         self.begun = 0
         self.start = time.monotonic()
-        self.is_shown = sys.stderr.isatty()
+        self.is_over = threading.Event()
+        if sys.stderr.isatty():
+            threading.Thread(target=self.tell, daemon=True).start()
 
     def seconds(self) -> float:
         return time.monotonic() - self.start
 
+    def tell(self) -> None:
+        while not self.is_over.wait(0.5):
+            print(f"\rquick: compiling {self.begun} of {self.crates} crates, {self.seconds():.0f} s ", end="", file=sys.stderr, flush=True)
+
     def pass_line(self, line: str) -> None:
-        if not self.is_shown or not line.strip().startswith("Compiling "):
-            return
-        self.begun += 1
-        print(f"\rquick: compiling {self.begun} of {self.crates} crates, {self.seconds():.0f} s ", end="", file=sys.stderr, flush=True)
+        self.begun += line.strip().startswith("Compiling ")
 
     def end(self) -> None:
-        if self.begun:
+        self.is_over.set()
+        if sys.stderr.isatty():
             print(file=sys.stderr)
 
 
@@ -138,7 +144,7 @@ def compiled(line: str) -> str | None:
     return message.get("executable")
 
 
-def run_cargo(source: str, log, progress: Progress) -> dict[str, str]:
+def run_cargo(source: str, log: TextIO, progress: Progress) -> dict[str, str]:
     """Compiles, with what cargo says in the log. Gives the path of each program as cargo made it."""
     command = ["cargo", "build", "--release", "--offline", "--message-format=json-render-diagnostics"]
     command += ["--target-dir", os.path.join(QUICK, "target")]
@@ -158,10 +164,14 @@ def run_cargo(source: str, log, progress: Progress) -> dict[str, str]:
     return {os.path.basename(path): path for path in paths} if cargo.returncode == 0 else {}
 
 
-def last_lines(count: int = 12) -> str:
+def refuse_by_log(count: int = 12) -> None:
+    """Shows the last lines of what cargo said, and tells where all of it is."""
     with open(LOG, errors="replace") as file:
         lines = [line.rstrip() for line in file if line.strip() and "Compiling " not in line]
-    return "".join(f"    {line}\n" for line in lines[-count:])
+    sys.stderr.writelines(f"    {line}\n" for line in lines[-count:])
+    if any("linker `cc` not found" in line for line in lines):
+        raise Refused("cargo links by a C compiler, and there is no cc: install one, such as gcc (apt install gcc)")
+    raise Refused(f"cargo failed; all that it said is in {LOG}")
 
 
 def put(made: str, program: str, start: int) -> None:
@@ -185,8 +195,7 @@ def build() -> None:
     with open(LOG, "w") as log:
         made = run_cargo(source, log, progress)
     if not all(program in made for program in PROGRAMS):
-        sys.stderr.write(last_lines())
-        raise Refused(f"cargo failed; all that it said is in {LOG}")
+        refuse_by_log()
     for program in PROGRAMS:
         put(made[program], program, start)
     say(f"built in {progress.seconds():.0f} s: {NOT_PROVED}")

@@ -2,7 +2,6 @@
 //! with none.
 
 use crate::alloc::{AllocError, Global};
-use crate::vec::Vec;
 use error::ErrorKind;
 
 pub mod error {

@@ -1,4 +1,5 @@
-//! What the code uses of the kit's library, over that of Rust. Memory is never refused.
+//! What the code uses of the kit's library, over that of Rust. A list that can't grow is
+//! told; where a set, a map or a box can't, the process ends.
 
 pub mod alloc {
     #[derive(Clone, Copy, Debug, PartialEq, Eq)]
@@ -189,8 +190,12 @@ macro_rules! rvec {
     (in $a:expr; $($x:expr),* $(,)?) => { Ok::<_, $crate::alloc::AllocError>($crate::vec::Vec(std::vec![$($x),*])) };
 }
 pub trait IterExt: Iterator + Sized {
-    fn rcollect(self, _: alloc::Global) -> Result<vec::Vec<Self::Item>, alloc::AllocError> {
-        Ok(vec::Vec(self.collect()))
+    fn rcollect(self, alloc: alloc::Global) -> Result<vec::Vec<Self::Item>, alloc::AllocError> {
+        let mut items = vec::Vec::with_capacity(alloc, self.size_hint().0)?;
+        for item in self {
+            items.push(item)?;
+        }
+        Ok(items)
     }
 }
 impl<I: Iterator> IterExt for I {}

@@ -15,8 +15,15 @@ impl<T> Vec<T> {
         v.try_reserve_exact(n).map_err(|_| AllocError)?;
         Ok(Vec(v))
     }
+    #[cold]
+    fn grow(&mut self, n: usize) -> R<()> {
+        self.0.try_reserve(n).map_err(|_| AllocError)
+    }
     #[inline]
     pub fn push(&mut self, t: T) -> R<()> {
+        if self.0.len() == self.0.capacity() {
+            self.grow(1)?;
+        }
         self.0.push(t);
         Ok(())
     }
@@ -24,6 +31,7 @@ impl<T> Vec<T> {
         self.0.pop()
     }
     pub fn insert(&mut self, i: usize, t: T) -> R<()> {
+        self.grow(1)?;
         self.0.insert(i, t);
         Ok(())
     }
@@ -43,8 +51,7 @@ impl<T> Vec<T> {
         &self.0
     }
     pub fn reserve(&mut self, n: usize) -> R<()> {
-        self.0.reserve(n);
-        Ok(())
+        self.grow(n)
     }
     pub fn capacity(&self) -> usize {
         self.0.capacity()
@@ -67,17 +74,23 @@ impl<T> Vec<T> {
     }
 }
 impl<T: Clone> Vec<T> {
-    pub fn from_slice(_: Global, s: &[T]) -> R<Self> {
-        Ok(Vec(s.to_vec()))
+    pub fn from_slice(alloc: Global, s: &[T]) -> R<Self> {
+        let mut v = Vec::with_capacity(alloc, s.len())?;
+        v.0.extend_from_slice(s);
+        Ok(v)
     }
-    pub fn from_elem(_: Global, t: T, n: usize) -> R<Self> {
-        Ok(Vec(vec![t; n]))
+    pub fn from_elem(alloc: Global, t: T, n: usize) -> R<Self> {
+        let mut v = Vec::with_capacity(alloc, n)?;
+        v.0.resize(n, t);
+        Ok(v)
     }
     pub fn resize(&mut self, n: usize, t: T) -> R<()> {
+        self.grow(n.saturating_sub(self.0.len()))?;
         self.0.resize(n, t);
         Ok(())
     }
     pub fn extend_from_slice(&mut self, s: &[T]) -> R<()> {
+        self.grow(s.len())?;
         self.0.extend_from_slice(s);
         Ok(())
     }
