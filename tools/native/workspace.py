@@ -4,7 +4,6 @@ from __future__ import annotations
 
 import os
 import re
-import shutil
 
 from rust import as_rust
 
@@ -87,7 +86,8 @@ def write_crate(out: str, crate: str, below: list[str]) -> None:
 
 def write_part(out: str, part: str, name: str, below: list[str]) -> None:
     """Writes a crate that is kept as Rust beside this module."""
-    shutil.copytree(f"{HERE}/{part}", f"{out}/{part}/src", dirs_exist_ok=True)
+    for file in os.listdir(f"{HERE}/{part}"):
+        write(f"{out}/{part}/src/{file}", read(f"{HERE}/{part}/{file}"))
     write(f"{out}/{part}/Cargo.toml", package(name, below))
 
 
