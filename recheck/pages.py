@@ -1,15 +1,37 @@
 #!/usr/bin/env python3
-"""Tests of what docs/TUTORIAL.md and docs/STORM.md say:  python3 recheck/pages.py [--bin PROGRAM] [--view PROGRAM]
+"""Tests of what the pages say:  python3 recheck/pages.py [--program PATH] [--view PATH]
 
-Every command of the tutorial runs in a copy of the examples and has to print what stands below it. The lines that
-docs/STORM.md speaks of are put into small models and have to be read, or refused with the note that it tells, and
-its commands have to mend what they are for. PROGRAM is a built plift (crates/plift/out/plift) or plift_view
-(crates/plift_view/out/plift_view); without it ./plift or ./plift-view is started.
+Every command of README.md and of the pages in PAGES runs in a folder with a copy of the examples, page by page, and
+has to print what stands below it: a block marked `text` right behind it, in which a line `..` stands for any lines;
+nothing where there is no such block. A command marked `sh not-run` isn't run. A picture that a page makes has to be
+the one in docs/pictures, and each of these has to be made by a page; each page that is named has to be there.
+
+The lines that docs/STORM.md speaks of are put into small models and have to be read, or refused with the note that
+it tells, and its commands have to mend what they are for.
+
+PATH is a built plift, or a built plift-view. Without it the proved program is taken where it is built, else the copy
+of `./plift --quick`. A page's word `--quick` is left out, so that both give what stands on the pages.
 """
-import argparse, re, shutil, subprocess, sys, tempfile
-from pathlib import Path
+from __future__ import annotations
 
-TOP = Path(__file__).resolve().parent.parent
+import argparse
+import re
+import shutil
+import subprocess
+import sys
+import tempfile
+import textwrap
+from pathlib import Path
+from typing import Iterator, NamedTuple
+
+sys.dont_write_bytecode = True
+sys.path.insert(0, str(Path(__file__).resolve().parent))
+from programs import TOP, needed
+
+PAGES = ['README.md', 'docs/GUIDE.md', 'docs/TUTORIAL.md', 'docs/CHECKING.md', 'docs/PERFORMANCE.md']
+STORM = 'docs/STORM.md'
+LONGEST = 120  # seconds that a command may take
+BLOCK = re.compile(r'^( *)```(\w+)( not-run)?\n(.*?)^ *```\n', re.S | re.M)
 HEAD = '@type: DTMC\n@parameters\np\n'
 MODEL = '@model\nstate 0 init\n1 : p\n2 : 1-p\nstate 1 done\n1 : 1\nstate 2\n2 : 1\n'
 COIN = HEAD + MODEL
@@ -79,70 +101,140 @@ state 3
 MENDED = ['line 2: UnsupportedType', 'line 14: NoChoice', 'line 12: NoChoice', 'set 0 sums to 9999', '']
 
 
-def blocks(page):
-    text = re.sub(r'<!--.*?-->', '', (TOP / 'docs' / page).read_text(), flags=re.S)
-    return re.findall(r'```(\w+)\n(.*?)```', text, flags=re.S)
+class Command(NamedTuple):
+    """A command of a page, and what it has to print."""
+    text: str
+    printed: str
 
 
-def bash(command, folder):
-    done = subprocess.run(['bash', '-c', command], cwd=folder, capture_output=True, text=True)
-    return done.stdout + done.stderr
+class Tried(NamedTuple):
+    """What was tried, and what isn't as it should be: nothing where all is."""
+    what: str
+    fault: str
 
 
-def tutorial(folder):
-    """For each command of the tutorial: whether it prints the output that follows it, or nothing where none does."""
-    shown = blocks('TUTORIAL.md')
-    for (kind, command), (after, printed) in zip(shown, shown[1:]):
-        if kind == 'sh':
-            yield command, bash(command, folder) == ('' if after == 'sh' else printed)
-    drawn = (folder / 'links.svg').read_bytes()
-    yield 'docs/pictures/links.svg', drawn == (TOP / 'docs/pictures/links.svg').read_bytes()
+def page_text(page: str) -> str:
+    """A page without its comments."""
+    return re.sub(r'<!--.*?-->', '', (TOP / page).read_text(), flags=re.S)
 
 
-def note(folder, text):
+def page_commands(page: str) -> list[Command]:
+    """The commands of a page that are run, in order."""
+    text = page_text(page)
+    found = list(BLOCK.finditer(text))
+    commands = []
+    for block, after in zip(found, found[1:] + [None]):
+        if block[2] != 'sh' or block[3]:
+            continue
+        is_shown = after and after[2] == 'text' and not text[block.end():after.start()].strip()
+        commands.append(Command(textwrap.dedent(block[4]), textwrap.dedent(after[4]) if is_shown else ''))
+    return commands
+
+
+def bash(command: str, folder: Path) -> str:
+    """What a command prints on both streams."""
+    try:
+        done = subprocess.run(['bash', '-c', command], cwd=folder, capture_output=True, timeout=LONGEST)
+    except subprocess.TimeoutExpired:
+        return f'.. more than {LONGEST} seconds\n'
+    return (done.stdout + done.stderr).decode(errors='replace')
+
+
+def is_printed(said: str, printed: str) -> bool:
+    """Whether that is what stands on the page, where a line `..` stands for any lines."""
+    parts = [re.escape(part) for part in re.split(r'^\.\.\n', printed, flags=re.M)]
+    return re.fullmatch('(?:.*\n)*?'.join(parts), said) is not None
+
+
+def commands(page: str, folder: Path) -> Iterator[Tried]:
+    """The commands of a page: whether each prints what stands behind it."""
+    for command in page_commands(page):
+        said = bash(command.text, folder)
+        yield Tried(f'{page}: {command.text}', '' if is_printed(said, command.printed) else f'it prints:\n{said}')
+
+
+def pictures(folders: list[Path]) -> Iterator[Tried]:
+    """The pictures of docs/pictures: whether pages make them, byte for byte."""
+    for picture in sorted((TOP / 'docs/pictures').glob('*.svg')):
+        made = [folder / picture.name for folder in folders if (folder / picture.name).is_file()]
+        fault = '' if made else 'no page makes it'
+        if any(file.read_bytes() != picture.read_bytes() for file in made):
+            fault = 'a page makes another one'
+        yield Tried(f'docs/pictures/{picture.name}', fault)
+
+
+def references() -> Iterator[Tried]:
+    """The files that pages name: whether they are there."""
+    for page in [TOP / 'README.md', *sorted((TOP / 'docs').glob('*.md'))]:
+        text = BLOCK.sub('', page_text(str(page.relative_to(TOP))))
+        names = re.findall(r'`((?:docs/)?[A-Z]+\.md)`', text) + re.findall(r'\]\(([^)#:]+)\)', text)
+        missing = [name for name in names if not any((place / name).is_file() for place in (page.parent, TOP))]
+        yield Tried(f'files named in {page.relative_to(TOP)}', ', '.join(f'{name} is not there' for name in missing))
+
+
+def note(folder: Path, text: str) -> str:
+    """What plift says of a model text."""
     (folder / 'model.drn').write_bytes(text.encode())
     return bash("./plift verify --goal done --bound 1 --region '1/10<=p<=2/5' < model.drn > written", folder).strip()
 
 
-def lines(folder):
-    """For each line that docs/STORM.md speaks of: whether it is read, or refused, as it says."""
+def storm_lines(folder: Path) -> Iterator[Tried]:
+    """The lines that docs/STORM.md speaks of: whether each is read, or refused, as it says."""
     for old, new, want in LINES:
-        text = COIN.replace(old, new)
-        yield f'{new[:100]!r}', note(folder, text) == (want or '')
+        said = note(folder, COIN.replace(old, new))
+        yield Tried(f'{STORM}: {new[:100]!r}', '' if said == (want or '') else f'it says: {said}')
 
 
-def commands(folder):
-    """For each command of docs/STORM.md that mends a text: whether the next fault is told then."""
-    found = [command.splitlines() for kind, command in blocks('STORM.md') if kind == 'sh']
-    found = ['\n'.join(line for line in command if 'grep' not in line) for command in found][:len(MENDED)]
+def storm_commands(folder: Path) -> Iterator[Tried]:
+    """The commands of docs/STORM.md that mend a text: whether the next fault is told then."""
+    found = [command.text.splitlines() for command in page_commands(STORM)]
+    found = ['\n'.join(line for line in command if 'grep' not in line) for command in found]
     text = EXPORT
     for command, want in zip(found, MENDED):
         note(folder, text)
         text = bash(command, folder)
-        yield command, note(folder, text).endswith(want) if want else note(folder, text) == ''
+        said = note(folder, text)
+        yield Tried(f'{STORM}: {command}', '' if said.endswith(want) and bool(said) == bool(want) else f'then: {said}')
 
 
-def main():
-    words = argparse.ArgumentParser()
-    words.add_argument('--bin', default=str(TOP / 'plift'))
-    words.add_argument('--view', default=str(TOP / 'plift-view'))
+def prepared(folder: Path, programs: dict[str, Path]) -> Path:
+    """A folder with the examples, the checker and the programs, as a page's commands find them."""
+    for part in ('examples', 'recheck'):
+        shutil.copytree(TOP / part, folder / part)
+    for name, program in programs.items():
+        script = f'#!/bin/sh\n[ "$1" != --quick ] || shift\nexec "{program}" "$@"\n'
+        (folder / name).write_text(script)
+        (folder / name).chmod(0o755)
+    return folder
+
+
+def tried(place: Path, programs: dict[str, Path]) -> Iterator[Tried]:
+    """All that is tried, in folders of this place."""
+    folders = [prepared(place / Path(page).stem, programs) for page in PAGES]
+    for page, folder in zip(PAGES, folders):
+        yield from commands(page, folder)
+    yield from pictures(folders)
+    yield from references()
+    storm = prepared(place / 'STORM', programs)
+    yield from storm_lines(storm)
+    yield from storm_commands(storm)
+
+
+def main() -> int:
+    words = argparse.ArgumentParser(description='Tests of what the pages say.')
+    words.add_argument('--program', metavar='PATH', help='a built plift')
+    words.add_argument('--view', metavar='PATH', help='a built plift-view')
     given = words.parse_args()
+    programs = {'plift': needed('plift', given.program), 'plift-view': needed('plift-view', given.view)}
     count = wrong = 0
-    with tempfile.TemporaryDirectory() as name:
-        folder = Path(name)
-        shutil.copytree(TOP / 'examples', folder / 'examples')
-        shutil.copytree(TOP / 'recheck', folder / 'recheck')
-        for script, program in ('plift', given.bin), ('plift-view', given.view):
-            (folder / script).write_text(f'#!/bin/sh\nexec "{Path(program).resolve()}" "$@"\n')
-            (folder / script).chmod(0o755)
-        for test in (tutorial, lines, commands):
-            for what, is_right in test(folder):
-                count += 1
-                if not is_right:
-                    wrong += 1
-                    print('not so:', what)
+    with tempfile.TemporaryDirectory() as place:
+        for what, fault in tried(Path(place), programs):
+            count += 1
+            if fault:
+                wrong += 1
+                print(f'not so: {what.strip()}\n  {fault.strip()}')
     print(f'{count} tried, {wrong} wrong')
-    return wrong > 0
+    return int(wrong > 0)
 
 
 if __name__ == '__main__':

@@ -1,9 +1,10 @@
 #!/usr/bin/env python3
-"""Tests of recheck.py:  python3 recheck/test.py [--bin PROGRAM] [--changes N] [REPORT ..]
+"""Tests of recheck.py:  python3 recheck/test.py [--program PATH] [--changes N] [REPORT ..]
 
-Examples, reports with changes whose answers were worked out by hand, every proper prefix of a report. With --bin the
-`check` of a built plift (crates/plift/out/plift) is asked the same, and about N reports with random changes (1000 if
-left out) of the examples and of the reports that are named; both have to say the same, byte for byte.
+Examples, reports with changes whose answers were worked out by hand, every proper prefix of a report. The `check` of a
+built plift is asked the same, and about N reports with random changes (1000 if left out) of the examples and of the
+reports that are named; both have to say the same, byte for byte. PATH is that plift; without it the proved program is
+asked where it is built, else the copy of `./plift --quick`, and where neither is, recheck.py alone.
 """
 import argparse, random, re, subprocess, sys
 from pathlib import Path
@@ -12,6 +13,7 @@ HERE = Path(__file__).resolve().parent
 sys.dont_write_bytecode = True
 sys.path.insert(0, str(HERE))
 import recheck
+from programs import needed, program
 
 EXAMPLES = {path.stem.upper(): path.read_bytes() for path in sorted((HERE.parent / 'examples').glob('*.report'))}
 
@@ -329,16 +331,18 @@ def mutant(text, dice):
 
 def main():
     args = argparse.ArgumentParser()
-    args.add_argument('--bin')
+    args.add_argument('--program', metavar='PATH')
     args.add_argument('--changes', type=int, default=1000)
     args.add_argument('reports', nargs='*')
     args = args.parse_args()
+    plift = needed('plift', args.program) if args.program else program('plift', None)
+    print(f'asked: recheck.py and {plift}' if plift else 'no plift is built; asked: recheck.py alone')
     wrong, count = 0, 0
 
     def compare(name, text, want=None, started=False):
         nonlocal wrong, count
         said = [asked([sys.executable, str(HERE / 'recheck.py')], text) if started else rechecked(text)]
-        said += [asked([args.bin, 'check'], text)] if args.bin else []
+        said += [asked([str(plift), 'check'], text)] if plift else []
         count += 1
         if any(got != (want or said[0]) for got in said):
             wrong += 1
@@ -354,7 +358,7 @@ def main():
         compare(f'{size} bytes', text, answer(f'line {line}: Truncated'))
     compare('too long', b'\n' * (2 ** 26 + 1), (7, b'', b'too long\n'), started=True)
     print(f'{count} with prefixes of a report')
-    if args.bin:
+    if plift:
         dice = random.Random(1)
         texts = list(REPORTS.values()) + [Path(path).read_bytes() for path in args.reports]
         for path in args.reports:
