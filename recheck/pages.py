@@ -46,7 +46,17 @@ LINES = [
     ('1 : p', '\taction a [0]\n\t\t1 : p', None),
     ('1 : p\n2 : 1-p', '1 : (1-p)*0.5\n2 : 1/2+5e-1*p', None),
     ('@model\nstate 0 init\n1 : p\n2 : 1-p', '@placeholders\n$rest : 1-p\n@model\nstate 0 init\n1 : p\n2 : $rest', None),
+    ('2 : 1-p', '2 : (-1)*(p+(-1))', None),
+    ('2 : 1-p', '2 : ((-1)*p+1)/(1)', None),
+    ('@model\nstate 0 init\n1 : p\n2 : 1-p', '@placeholders\n$0 : 1-p\n@model\nstate 0 init\n1 : p\n2 : $0', None),
+    ('1 : p', 'action __NOLABEL__\n1 : p', None),
     ('@model', '@choice_labelling\na b\n@model', 'model: line 4: UnknownSection'),
+    ('@model', '@state_valuations\n0 [x=1]\n@model', 'model: line 4: UnknownSection'),
+    (' done', '', 'model: line 11: UnknownLabel'),
+    ('1 : p', '1 : [0.4, 0.6]', 'model: line 6: Syntax'),
+    ('@type', '\x1f\x8b@type', 'model: line 1: NotText'),
+    ('@type', '\xef\xbb\xbf@type', 'model: line 1: NotText'),
+    ('1 : p\n2 : 1-p', '1 : 0.97999999999999998\n2 : 0.02', 'rows: state 0 choice 0: set 0 sums to 49999999999999999'),
     ('DTMC', 'dtmc', 'model: line 1: UnsupportedType'),
     ('DTMC', 'CTMC', 'model: line 1: UnsupportedType'),
     ('DTMC', 'POMDP', 'model: line 1: UnsupportedType'),
@@ -174,7 +184,7 @@ def references() -> Iterator[Tried]:
 
 def note(folder: Path, text: str) -> str:
     """What plift says of a model text."""
-    (folder / 'model.drn').write_bytes(text.encode())
+    (folder / 'model.drn').write_bytes(text.encode('latin-1'))
     return bash("./plift verify --goal done --bound 1 --region '1/10<=p<=2/5' < model.drn > written", folder).strip()
 
 
