@@ -21,6 +21,6 @@ def needed(name: str, given: str | None) -> Path:
     """The same, but where there is none the test ends with a word on what to do."""
     found = program(name, given)
     if not found:
-        place = f'{given} is no file' if given else f'no {name} is built: ./{name} --quick --version builds one'
+        place = f'{given} is no file' if given else f'no {name} is built: tools/quick.py builds one'
         sys.exit(f'{Path(sys.argv[0]).name}: {place}')
     return found
