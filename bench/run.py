@@ -3,7 +3,7 @@
 
     run.py [--bin PATH] [--limit SECONDS] [--only WORD] [--write]
 
-With --write the tables also replace those of docs/PERFORMANCE.md. It takes some minutes.
+With --write the tables also replace those of docs/PERFORMANCE.md. It takes about a minute.
 """
 
 import argparse
