@@ -4,7 +4,8 @@
 Every command of README.md and of the pages in PAGES runs in a folder with a copy of the examples, page by page, and
 has to print what stands below it: a block marked `text` right behind it, in which a line `..` stands for any lines;
 nothing where there is no such block. A command marked `sh not-run` isn't run. A picture that a page makes has to be
-the one in docs/pictures, and each of these has to be made by a page; each page that is named has to be there.
+the one in docs/pictures, and each of these has to be made by a page; the reports that docs/FORMATS.md tells of have
+to come out; each page that is named has to be there.
 
 The lines that docs/STORM.md speaks of are put into small models and have to be read, or refused with the note that
 it tells, and its commands have to mend what they are for.
@@ -173,6 +174,15 @@ def pictures(folders: list[Path]) -> Iterator[Tried]:
         yield Tried(f'docs/pictures/{picture.name}', fault)
 
 
+def examples(folder: Path) -> Iterator[Tried]:
+    """The reports that docs/FORMATS.md tells of: whether the words that it names give them."""
+    told = re.findall(r'`(examples/\S+)` with `([^`]+)` gives `(examples/\S+)`', page_text('docs/FORMATS.md'))
+    for model, options, report in told:
+        said = bash(f'./plift verify {options} < {model} | cmp - {report}', folder)
+        yield Tried(f'docs/FORMATS.md: {report}', said)
+    yield Tried('docs/FORMATS.md: examples', '' if told else 'none is told of')
+
+
 def references() -> Iterator[Tried]:
     """The files that pages name: whether they are there."""
     for page in [TOP / 'README.md', *sorted((TOP / 'docs').glob('*.md'))]:
@@ -224,6 +234,7 @@ def tried(place: Path, programs: dict[str, Path]) -> Iterator[Tried]:
     for page, folder in zip(PAGES, folders):
         yield from commands(page, folder)
     yield from pictures(folders)
+    yield from examples(folders[0])
     yield from references()
     storm = prepared(place / 'STORM', programs)
     yield from storm_lines(storm)
