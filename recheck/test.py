@@ -6,8 +6,16 @@ built plift is asked the same, and about N reports with random changes (1000 if 
 reports that are named; both have to say the same, byte for byte. PATH is that plift; without it the proved program is
 asked where it is built, else the copy of `./plift --quick`, and where neither is, recheck.py alone.
 """
-import argparse, random, re, subprocess, sys
+from __future__ import annotations
+
+import argparse
+import random
+import re
+import subprocess
+import sys
+import tempfile
 from pathlib import Path
+from typing import NamedTuple
 
 HERE = Path(__file__).resolve().parent
 sys.dont_write_bytecode = True
@@ -267,7 +275,14 @@ RETRY-TREE | 51=rank 3 2 1 - 0;unknown | rest
 '''
 
 
-def changed(report, changes):
+class Answer(NamedTuple):
+    """How a check ends: its status, and what it writes to standard output and standard error."""
+    status: int
+    out: bytes
+    notes: bytes
+
+
+def changed(report: str, changes: str) -> bytes:
     """A report's text with changes, as a row tells them."""
     lines = REPORTS[report].decode().splitlines()
     for change in filter(None, changes.split(' / ')):
@@ -280,99 +295,148 @@ def changed(report, changes):
     return text.encode()
 
 
-def answer(said):
-    """Status, standard output and standard error of a check that says this."""
+def answer(said: str) -> Answer:
+    """How a check ends that says this."""
     if said.startswith('sound '):
-        return 0, said.encode() + b'\n', b''
-    return 1, b'', b'not sound: ' + said.encode() + b'\n'
+        return Answer(0, said.encode() + b'\n', b'')
+    return Answer(1, b'', b'not sound: ' + said.encode() + b'\n')
 
 
-def asked(command, text):
+def asked(command: list[str], text: bytes) -> Answer:
+    """How a program ends on a text."""
     done = subprocess.run(command, input=text, capture_output=True)
-    return done.returncode, done.stdout, done.stderr
+    return Answer(done.returncode, done.stdout, done.stderr)
 
 
-def rechecked(text):
-    """What recheck.py answers, without starting it."""
-    text = recheck.Text(text)
+def rechecked(text: bytes) -> Answer:
+    """How recheck.py ends on a text, without starting it."""
+    read = recheck.Text(text)
     try:
-        return answer('sound accept %d reject %d unknown %d' % recheck.check(text))
+        return answer('sound accept %d reject %d unknown %d' % recheck.check(read))
     except recheck.Fault as fault:
-        return answer(f'{text.place}{fault}')
+        return answer(f'{read.place}{fault}')
 
 
-def mutant(text, dice):
-    """A text with a few changes: of a byte, of a line, of a number, or of a rejecting leaf's first numbers."""
+def with_byte(text: bytes, dice: random.Random) -> bytes:
+    """A text in which a byte is changed, added or taken away."""
+    at = dice.randrange(len(text)) if text else 0
+    new = bytes([dice.choice(b'0123456789 -/:\nax\xff\0')])
+    return text[:at] + dice.choice([new, new + text[at:at + 1], b'']) + text[at + 1:]
+
+
+def with_line(text: bytes, dice: random.Random) -> bytes:
+    """A text in which a line is taken away, written twice, or another one."""
+    lines = text.split(b'\n')
+    at = dice.randrange(len(lines))
+    lines[at:at + 1] = dice.choice([[], [lines[at]] * 2, [dice.choice(lines)], [b'unknown'], [b'split 0']])
+    return b'\n'.join(lines)
+
+
+def with_number(text: bytes, dice: random.Random) -> bytes:
+    """A text in which a number is another one."""
+    found = list(re.finditer(rb'-?[0-9]+', text))
+    start, end = dice.choice(found).span() if found else (0, 0)
+    number = int(text[start:end] or 0) + dice.choice([-100, -2, -1, 1, 1, 2, 16])
+    return text[:start] + b'%d' % number + text[end:]
+
+
+def with_leaf(text: bytes, dice: random.Random) -> bytes:
+    """A text in which a rejecting leaf has other first numbers, which still fit one another."""
+    found = list(re.finditer(rb'reject e ([0-9]+) k ([0-9]+) m [0-9]+ b ([0-9]+)/([0-9]+)\ny ([0-9]+)', text))
+    if not found:
+        return text
+    leaf = dice.choice(found)
+    e, k, y = [max(0, int(leaf[i]) + dice.choice([-1, 0, 0, 1])) for i in (1, 2, 3)]
+    new = b'reject e %d k %d m %d b %d/%s\ny %d' % (e, k, e * k, y, leaf[4], y)
+    return text[:leaf.start()] + new + text[leaf.end():]
+
+
+def mutant(text: bytes, dice: random.Random) -> bytes:
+    """A text with a few changes."""
     for _ in range(dice.choice([1, 1, 1, 2, 3])):
-        kind = dice.choice(['byte', 'line', 'number', 'number', 'number', 'leaf', 'leaf'])
-        if kind == 'byte' and text:
-            at = dice.randrange(len(text))
-            new = bytes([dice.choice(b'0123456789 -/:\nax\xff\0')])
-            text = text[:at] + dice.choice([new, new + text[at:at + 1], b'']) + text[at + 1:]
-        elif kind == 'line':
-            lines = text.split(b'\n')
-            at = dice.randrange(len(lines))
-            lines[at:at + 1] = dice.choice([[], [lines[at]] * 2, [dice.choice(lines)], [b'unknown'], [b'split 0']])
-            text = b'\n'.join(lines)
-        elif kind == 'number':
-            found = list(re.finditer(rb'-?[0-9]+', text))
-            at = dice.choice(found).span() if found else (0, 0)
-            number = int(text[slice(*at)] or 0) + dice.choice([-100, -2, -1, 1, 1, 2, 16])
-            text = text[:at[0]] + b'%d' % number + text[at[1]:]
-        else:  # kept consistent
-            found = list(re.finditer(rb'reject e ([0-9]+) k ([0-9]+) m [0-9]+ b ([0-9]+)/([0-9]+)\ny ([0-9]+)', text))
-            if found:
-                leaf = dice.choice(found)
-                e, k, y = [max(0, int(leaf[i]) + dice.choice([-1, 0, 0, 1])) for i in (1, 2, 3)]
-                new = b'reject e %d k %d m %d b %d/%s\ny %d' % (e, k, e * k, y, leaf[4], y)
-                text = text[:leaf.start()] + new + text[leaf.end():]
+        change = dice.choice([with_byte, with_line, with_number, with_number, with_number, with_leaf, with_leaf])
+        text = change(text, dice)
     return text
 
 
-def main():
-    args = argparse.ArgumentParser()
-    args.add_argument('--program', metavar='PATH')
-    args.add_argument('--changes', type=int, default=1000)
-    args.add_argument('reports', nargs='*')
-    args = args.parse_args()
-    plift = needed('plift', args.program) if args.program else program('plift', None)
-    print(f'asked: recheck.py and {plift}' if plift else 'no plift is built; asked: recheck.py alone')
-    wrong, count = 0, 0
+class Comparison:
+    """Asks recheck.py and a plift, if there is one, and counts the texts and the differences."""
 
-    def compare(name, text, want=None, started=False):
-        nonlocal wrong, count
-        said = [asked([sys.executable, str(HERE / 'recheck.py')], text) if started else rechecked(text)]
-        said += [asked([str(plift), 'check'], text)] if plift else []
-        count += 1
-        if any(got != (want or said[0]) for got in said):
-            wrong += 1
+    def __init__(self, plift: Path | None) -> None:
+        self.plift = plift
+        self.count = self.wrong = 0
+
+    def answers(self, text: bytes, is_started: bool) -> list[Answer]:
+        """What is said of a text; recheck.py is started, or called."""
+        said = [asked([sys.executable, str(HERE / 'recheck.py')], text) if is_started else rechecked(text)]
+        return said + [asked([str(self.plift), 'check'], text)] if self.plift else said
+
+    def compare(self, name: str, text: bytes, want: Answer | None = None, is_started: bool = False) -> bool:
+        """Whether all say what is wanted, or the same where nothing is; tells where not."""
+        said = self.answers(text, is_started)
+        self.count += 1
+        is_right = all(got == (want or said[0]) for got in said)
+        if not is_right:
+            self.wrong += 1
             print(f'{name}: {said}' + (f', and not {want}' if want else ''))
+        return is_right
 
+
+def compare_table(tests: Comparison) -> None:
+    """The rows of the table."""
     for row in filter(None, TABLE.split('\n')):
         report, changes, said = [cell.strip(' ') if i != 1 else cell[1:-1] for i, cell in enumerate(row.split('|'))]
-        compare(row[:100], changed(report, changes), answer(said), started=not changes)
-    print(f'{count} reports of the table')
+        tests.compare(row[:100], changed(report, changes), answer(said), is_started=not changes)
+
+
+def compare_prefixes(tests: Comparison) -> None:
+    """Every proper prefix of a report, and a file that is too long."""
     for size in range(len(EXAMPLES['COIN'])):
         text = EXAMPLES['COIN'][:size]
         line = text.count(b'\n') + 1
-        compare(f'{size} bytes', text, answer(f'line {line}: Truncated'))
-    compare('too long', b'\n' * (2 ** 26 + 1), (7, b'', b'too long\n'), started=True)
-    print(f'{count} with prefixes of a report')
+        tests.compare(f'{size} bytes', text, answer(f'line {line}: Truncated'))
+    tests.compare('too long', b'\n' * (2 ** 26 + 1), Answer(7, b'', b'too long\n'), is_started=True)
+
+
+def compare_mutants(tests: Comparison, paths: list[str], count: int) -> None:
+    """Reports with random changes. A text that isn't judged alike is kept."""
+    dice = random.Random(1)
+    texts = list(REPORTS.values()) + [Path(path).read_bytes() for path in paths]
+    for path in paths:
+        tests.compare(path, Path(path).read_bytes())
+    for number in range(count):
+        text = mutant(dice.choice(texts), dice)
+        if not tests.compare(f'change {number}', text):
+            with tempfile.NamedTemporaryFile(prefix='recheck-', suffix='.report', delete=False) as kept:
+                kept.write(text)
+            print(f'kept as {kept.name}')
+
+
+def main() -> int:
+    words = argparse.ArgumentParser(description='Tests of recheck.py.')
+    words.add_argument('--program', metavar='PATH', help='a built plift')
+    words.add_argument('--changes', metavar='N', type=int, default=1000, help='how many random changes')
+    words.add_argument('reports', metavar='REPORT', nargs='*', help='a report that is changed too')
+    given = words.parse_args()
+    missing = [path for path in given.reports if not Path(path).is_file()]
+    if missing:
+        words.error(f'{missing[0]} is no file')
+    plift = needed('plift', given.program) if given.program else program('plift', None)
+    print(f'asked: recheck.py and {plift}' if plift else 'no plift is built; asked: recheck.py alone')
+    tests = Comparison(plift)
+    compare_table(tests)
+    print(f'{tests.count} reports of the table')
+    compare_prefixes(tests)
+    print(f'{tests.count} with prefixes of a report')
     if plift:
-        dice = random.Random(1)
-        texts = list(REPORTS.values()) + [Path(path).read_bytes() for path in args.reports]
-        for path in args.reports:
-            compare(path, Path(path).read_bytes())
-        for number in range(args.changes):
-            text = mutant(dice.choice(texts), dice)
-            before = wrong
-            compare(f'change {number}', text)
-            if wrong > before:
-                Path(f'/tmp/recheck-{number}.report').write_bytes(text)
-        print(f'{count} with random changes')
-    print(f'{wrong} wrong')
-    return wrong > 0
+        compare_mutants(tests, given.reports, given.changes)
+        print(f'{tests.count} with random changes')
+    print(f'{tests.wrong} wrong')
+    return int(tests.wrong > 0)
 
 
 if __name__ == '__main__':
-    sys.exit(main())
+    try:
+        sys.exit(main())
+    except KeyboardInterrupt:
+        sys.exit(130)
