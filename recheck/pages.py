@@ -243,7 +243,7 @@ def tried(place: Path, programs: dict[str, Path]) -> Iterator[Tried]:
 
 def main() -> int:
     words = argparse.ArgumentParser(description='Tests of what the pages say.')
-    words.add_argument('--program', metavar='PATH', help='a built plift')
+    words.add_argument('--program', '--bin', metavar='PATH', help='a built plift')
     words.add_argument('--view', metavar='PATH', help='a built plift-view')
     given = words.parse_args()
     programs = {'plift': needed('plift', given.program), 'plift-view': needed('plift-view', given.view)}

@@ -414,7 +414,7 @@ def compare_mutants(tests: Comparison, paths: list[str], count: int) -> None:
 
 def main() -> int:
     words = argparse.ArgumentParser(description='Tests of recheck.py.')
-    words.add_argument('--program', metavar='PATH', help='a built plift')
+    words.add_argument('--program', '--bin', metavar='PATH', help='a built plift')
     words.add_argument('--changes', metavar='N', type=int, default=1000, help='how many random changes')
     words.add_argument('reports', metavar='REPORT', nargs='*', help='a report that is changed too')
     given = words.parse_args()
