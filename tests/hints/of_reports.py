@@ -1,0 +1,95 @@
+"""Mistakes with reports: what `check` and plift-view are given, and the command line of plift-view."""
+
+import gzip
+
+from table import COIN, REPORT, RETRY, Mistake, changed, example
+
+TREE = example("retry-tree.report")
+COIN_REPORT = example("coin.report")
+SVG = b'<svg xmlns="http://www.w3.org/2000/svg"></svg>\n'
+
+
+def check(text: bytes, fault: str, *told: str) -> Mistake:
+    return Mistake("check", text, 1, f"not sound: {fault}", told)
+
+
+def retry(old: str, new: str, fault: str, *told: str) -> Mistake:
+    """A change of the example retry.report."""
+    return check(changed(REPORT, old, new), fault, *told)
+
+
+def coin(old: str, new: str, fault: str, *told: str) -> Mistake:
+    """A change of the example coin.report."""
+    return check(changed(COIN_REPORT, old, new), fault, *told)
+
+
+def view(words: str, usage: str, *told: str, text: bytes = REPORT) -> Mistake:
+    return Mistake(words, text, 2, f"usage: {usage}", told, "plift-view")
+
+
+CHECKED = [
+    check(RETRY, "line 1: Syntax", "that is a model text", "plift verify reads models"),
+    check(b"", "line 1: Truncated", "there is no text", "status"),
+    check(gzip.compress(REPORT, mtime=0), "line 1: Truncated", "gzip"),
+    check(b"\xef\xbb\xbf" + REPORT, "line 1: Syntax", "byte order mark"),
+    check(REPORT.decode().encode("utf-16"), "line 1: Syntax", "UTF-16"),
+    check(SVG, "line 1: Syntax", "a picture"),
+    check(b"sound accept 1 reject 0 unknown 0\n", "line 1: Syntax", "the line that plift check writes"),
+    check(REPORT.replace(b"\n", b"\r\n"), "line 1: Syntax", "carriage return", "tr -d"),
+    check(changed(REPORT, "plift 1", "plift 2"), "line 1: Version", '"plift 2"', "version 1"),
+    check(b"plift 1", "line 1: Truncated", "cut off"),
+    check(REPORT[: len(REPORT) // 2], "line 19: Truncated", "within line 19", "cut off"),
+    check(REPORT[:-1], "line 35: Truncated", "within line 35, without a line feed"),
+    check(TREE[: TREE.index(b"unknown")], "line 40: Truncated", "ends behind line 39", "5 nodes"),
+    check(REPORT + REPORT, "rest", "a second report begins at line 36", "head -n 35"),
+    check(REPORT + b"\n", "rest", "the tree ends with line 35", "a blank line"),
+    check(REPORT + b"# checked\n", "rest", "line 36 follows", "# checked"),
+    retry("common 1", "common 01", "line 4: Syntax", "no leading zeros"),
+    retry("kind mdp", "kind MDP", "line 2: Syntax", "kind dtmc or kind mdp"),
+    retry("states 5", "states 5 ", "line 5: Syntax", "one blank"),
+    retry("init 0\n", "\ninit 0\n", "line 6: Syntax", "line 6 is blank"),
+    retry("bound 3/100", "bound 6/200", "line 30: Syntax", "bound n/d in lowest terms"),
+    retry("precision 10\n", "", "line 31: Syntax", "precision and a number"),
+    retry("precision 10", "precision 41", "line 31: Limit"),
+    retry("to 3 0:1 1:-1", "to 3 0:1 1:-2", "state 0 choice 0: set 1 sums to -1", "the coefficients of p sum to -1", "the report was changed"),
+    retry("to 3 0:1 1:-1", "to 3 0:2 1:-1", "state 0 choice 0: set 0 sums to 2", "sum to 2, not to 1"),
+    retry("box 2 6 1 4", "box 2 60 1 4", "state 0 choice 0: target 3 at corner 1 has weight -40", "1-p is -2 at p = 3"),
+    retry("accept 28", "accept 27", "node 0 state 0 choice 0 corner 1: 558 > 540", "node 0 begins at line 35"),
+    retry("1024\n", "1023\n", "node 0 goal state 4 value 1023", "node 0 begins at line 35"),
+    retry("accept 28 93", "split 0\naccept 28 93", "node 0 depth", "node 0 begins at line 35"),
+    retry("bound 3/100", "bound 1/50", "node 0 bound: 1400 > 1024", "node 0 begins at line 35"),
+    check(changed(TREE, "split 1", "split 0"), "node 1 axis", "node 1 begins at line 36"),
+    coin("rank 1 0 -", "rank 1 0 1", "line 20: Syntax", "rank 0 standing at goal states alone"),
+    coin("b 9/16", "b 8/16", "line 20: Syntax"),
+    Mistake("", RETRY, 1, "not sound: line 1: Syntax", ("that is a model text",), "plift-view"),
+    Mistake("--summary", b"", 1, "not sound: line 1: Truncated", ("there is no text",), "plift-view"),
+]
+
+VIEWED = [
+    view("retry.report", "words", "a file is given by <", "plift-view < retry.report"),
+    view("--help", "words", "plift-view --help"),
+    view("summary", "words", "is --summary meant?"),
+    view("-summary", "words", "is --summary meant?"),
+    view("--sumary", "words", "is --summary meant?"),
+    view("--summary --follow", "words", "--summary stands alone"),
+    view("--summary --x p", "words", "--summary stands alone, without --x"),
+    view("-o picture.svg", "words", "> picture.svg"),
+    view("--x p --x q", "words", "--x stands 2 times"),
+    view("--x", "words", "--x has no value"),
+    view("--x --y q", "words", "--x has no value"),
+    view("p=1/4", "words", "--at p=1/4"),
+    view("--summary=yes", "words", "takes no value"),
+    view("--png", "words", "is no option"),
+    view("--x P", "--x UnknownName", "no such parameter", "p, q", "is p meant?"),
+    view("--y r", "--y UnknownName", "p, q"),
+    view("--x p --y p", "--y Repeated", "both"),
+    view("--at q", "--at 1 Syntax", "NAME=VALUE", "--at q=1/4"),
+    view("--at q=half", "--at 1 Syntax", '"half" is no number'),
+    view("--at q=1e-30", "--at 1 Syntax", "too wide"),
+    view("--x p --at r=1/2", "--at 1 UnknownName", "no such parameter", "p, q"),
+    view("--at q=1/10", "--at 1 Repeated", "lies on an axis", "--x"),
+    view("--x p --at p=1/10", "--at 1 Repeated", "lies on the axis --x"),
+    view("--x p --y q --at q=1/10", "--at 1 Repeated", "lies on the axis --y"),
+]
+
+MISTAKES = CHECKED + VIEWED

@@ -1,0 +1,114 @@
+"""Hints for the values of plift's line: the label, the bound, the depth, the precision, the number of blocks."""
+
+from __future__ import annotations
+
+import re
+from fractions import Fraction
+from typing import List, Optional
+
+from hints.numbers import Wide, about, ratio
+from hints.refusal import Refusal
+from hints.told import fraction, shown
+
+PART = 2**32  # the denominator of a bound is below it
+
+
+def goal_hints(refusal: Refusal) -> List[str]:
+    """Why a label isn't one."""
+    label = refusal.option("--goal")
+    if label is None:
+        return []
+    if label == "":
+        return ['--goal "": the label is empty']
+    place = next((i for i, c in enumerate(label) if not " " <= c <= "~"), None)
+    if place is None:
+        return []
+    return [f"--goal {shown(label)}: its character number {place + 1} (U+{ord(label[place]):04X}) isn't printable ASCII" + ("" if label[place] == "\t" else ", and no label of a model holds it")]
+
+
+def decimals_around(value: Fraction) -> str:
+    """The two numbers with nine decimals around a bound."""
+    low = value * 10**9 // 1
+    lower = f"0.{low:09d}" if low else "0"
+    return f"{lower} or " + (f"0.{low + 1:09d}" if low + 1 < 10**9 else "1")
+
+
+def of_number(value: Fraction, word: str) -> Optional[str]:
+    """Why a number that plift can read is no bound."""
+    if value > 1:
+        percent = f"; {word} percent are {fraction(value / 100)}" if value <= 100 else ""
+        return f"--bound {shown(word)}: {fraction(value)} is above 1, and a probability isn't{percent}"
+    if value.denominator >= PART:
+        return f"--bound {shown(word)} has the denominator {value.denominator:,} in lowest terms, 2^32 or more: take {decimals_around(value)}"
+    return None
+
+
+def of_text(word: str) -> Optional[str]:
+    """Why a text is no number for plift, and what was meant."""
+    match = re.match(r"\s*(?:P(?:max|min)?\s*)?(<=|<|>=|>|==?|≤|≥)\s*(.*)", word, re.S)
+    if match:
+        value = about(match[2])
+        told = f": --bound {fraction(value)}" if value is not None and 0 <= value <= 1 else ""
+        return f"--bound {shown(word)}: the bound is a number alone, and the question is always 'at most'{told}"
+    if re.search(r"/\s*0+(\.0*)?\s*$", word):
+        return f"--bound {shown(word)} divides by 0"
+    value = about(word)
+    if value is not None and 0 <= value <= 1:
+        return f"--bound {shown(word)}: write {fraction(value)}; a number has digits on both sides of its point, no sign, no blank, no %"
+    if value is not None:
+        return f"--bound {shown(word)}: {fraction(value)} is no probability, which is from 0 to 1"
+    return f"--bound {shown(word)} is no number: write a fraction as 3/100, or a decimal as 0.03 or 3e-2"
+
+
+def bound_hints(refusal: Refusal) -> List[str]:
+    """Why a bound isn't one."""
+    word = refusal.option("--bound")
+    if word is None:
+        return []
+    try:
+        value = ratio(word)
+    except Wide as why:
+        return [f"--bound {shown(word)} is too wide: {why}"]
+    told = of_text(word) if value is None else of_number(value, word)
+    return [told] if told else []
+
+
+def whole_hint(name: str, word: str, low: int, high: int, digits: int) -> str:
+    """Why a word is no whole number in a range."""
+    front = f"{name} {shown(word)}" if name else shown(word)
+    if not re.fullmatch("[0-9]+", word):
+        return f"{front} is no whole number, written with digits alone; it goes from {low} to {high}"
+    if len(word) > digits:
+        return f"{front} has more than {digits} digits; it goes from {low} to {high}"
+    return f"{front}: it goes from {low} to {high}"
+
+
+def depth_hints(refusal: Refusal) -> List[str]:
+    """Why a depth isn't one."""
+    word = refusal.option("--depth")
+    return [whole_hint("--depth", word, 0, 20, 3)] if word is not None else []
+
+
+def bits_for(word: str) -> Optional[str]:
+    """The precision for a tolerance such as 1e-6."""
+    value = about(word)
+    if value is None or not 0 < value < 1:
+        return None
+    bits = next((w for w in range(1, 41) if Fraction(1, 2**w) <= value), None)
+    return f"1/2^{bits} is at most {word}: --precision {bits}" if bits else "1/2^40 is the finest: --precision 40"
+
+
+def precision_hints(refusal: Refusal) -> List[str]:
+    """Why a precision isn't one."""
+    word = refusal.option("--precision")
+    if word is None:
+        return []
+    bits = bits_for(word)
+    return [whole_hint("--precision", word, 1, 40, 3)] + ([f"it counts bits: {bits}"] if bits else [])
+
+
+def blocks_hints(refusal: Refusal) -> List[str]:
+    """Why a number of blocks isn't one."""
+    if len(refusal.words) != 2:
+        return []
+    return [whole_hint("", refusal.words[1], 1, 32767, 5)]

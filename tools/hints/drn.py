@@ -1,0 +1,159 @@
+"""A model text, read as far as a hint needs it: what stands in its front, and the rows of one state."""
+
+from __future__ import annotations
+
+import io
+import re
+from typing import Dict, Iterator, List, NamedTuple, Optional, Tuple
+
+SECTIONS = ["@type:", "@value_type:", "@parameters", "@reward_models", "@nr_states", "@nr_choices", "@placeholders", "@model"]
+WORD = re.compile(rb'"[^"]*"|\[[^\]]*\]|[^ \t"\[][^ \t]*|["\[].*')
+TRANSITION = re.compile(rb"([0-9]+)[ \t]*:[ \t]*(.*)", re.S)
+PLACE = re.compile(rb"\$([A-Za-z0-9_]+)[ \t]*:[ \t]*(.*)", re.S)
+
+
+class Transition(NamedTuple):
+    line: int
+    target: int
+    value: bytes
+
+
+class Choice(NamedTuple):
+    """A choice of a state: the line that begins it, and its transitions' lines."""
+
+    line: int
+    lines: List[Tuple[int, bytes]]
+
+    def transitions(self) -> List[Transition]:
+        """The transitions, as far as they are written as such."""
+        found = [(line, TRANSITION.fullmatch(content)) for line, content in self.lines]
+        return [Transition(line, int(m[1][:21]), m[2]) for line, m in found if m]
+
+
+class State(NamedTuple):
+    line: int
+    words: List[bytes]
+
+
+class Model:
+    """What was read of a text: its sections, and its states."""
+
+    def __init__(self) -> None:
+        self.kind = ""
+        self.sections: Dict[str, int] = {}
+        self.parameters: List[str] = []
+        self.parameters_line = 0
+        self.placeholders: Dict[str, Tuple[int, bytes]] = {}
+        self.numbers: Dict[str, Tuple[int, bytes]] = {}
+        self.states: List[State] = []
+        self.choices: List[Choice] = []
+        self.choice_count = 0
+        self.due = ""
+        self.lines = 0
+        self.line: Optional[bytes] = None
+
+    def in_model(self) -> bool:
+        return "@model" in self.sections
+
+    def names(self) -> List[bytes]:
+        return [name.encode("latin-1") for name in self.parameters]
+
+
+def lines_of(text: bytes) -> Iterator[Tuple[int, bytes]]:
+    """The lines with their numbers, without line feed and without blanks around them."""
+    for number, line in enumerate(io.BytesIO(text), 1):
+        line = line[:-1] if line.endswith(b"\n") else line
+        yield number, (line[:-1] if line.endswith(b"\r") else line).strip(b" \t")
+
+
+def words_of(content: bytes) -> List[bytes]:
+    """The words of a line."""
+    return WORD.findall(content)
+
+
+def read_section(model: Model, number: int, content: bytes) -> None:
+    """A line that begins with `@`."""
+    text = content.decode("latin-1")
+    name = next((known for known in SECTIONS if text == known or known[-1] == ":" and text.startswith(known)), None)
+    model.due = ""
+    if name is None:
+        return
+    model.sections.setdefault(name, number)
+    if name == "@type:":
+        model.kind = text[6:].strip(" \t")
+    elif name in SECTIONS[2:7]:
+        model.due = name
+
+
+def read_front(model: Model, number: int, content: bytes) -> None:
+    """A line before the model; it isn't blank unless a list is due."""
+    if content.startswith(b"@"):
+        read_section(model, number, content)
+        return
+    due = model.due
+    if due == "@placeholders":
+        match = PLACE.fullmatch(content)
+        if match:
+            model.placeholders.setdefault(match[1].decode(), (number, match[2]))
+        return
+    model.due = ""
+    if due == "@parameters":
+        model.parameters = [word.decode("latin-1") for word in content.split()]
+        model.parameters_line = number
+    elif due in ("@nr_states", "@nr_choices"):
+        model.numbers[due] = (number, content)
+
+
+def begin_choice(model: Model, number: int) -> None:
+    model.choices.append(Choice(number, []))
+    model.choice_count += 1
+
+
+def read_line(model: Model, number: int, content: bytes) -> None:
+    """A line of the model."""
+    first = content[0]
+    if 48 <= first <= 57:
+        if not model.choices:
+            begin_choice(model, number)
+        model.choices[-1].lines.append((number, content))
+    elif content.startswith(b"state"):
+        model.states.append(State(number, words_of(content)))
+        model.choices = []
+    elif content.startswith(b"action"):
+        begin_choice(model, number)
+
+
+def read_model(text: bytes, stop: int = 0, state: int = -1) -> Model:
+    """Reads up to before the line `stop`, which is kept as it is; or up to the end of a state's rows; else the whole."""
+    model = Model()
+    for number, content in lines_of(text):
+        model.lines = number
+        if number == stop:
+            model.line = content
+            break
+        if content.startswith(b"//") or not content and model.due not in ("@parameters", "@reward_models"):
+            continue
+        if not model.in_model():
+            read_front(model, number, content)
+            continue
+        if state >= 0 and len(model.states) == state + 1 and content.startswith(b"state"):
+            break
+        read_line(model, number, content)
+    return model
+
+
+def parameters_of(text: bytes) -> List[str]:
+    """The names of a model's parameters."""
+    model = Model()
+    for number, content in lines_of(text):
+        if content.startswith(b"//") or not content and model.due not in ("@parameters", "@reward_models"):
+            continue
+        if model.in_model():
+            break
+        read_front(model, number, content)
+    return model.parameters
+
+
+def labels_of(state: State) -> List[bytes]:
+    """The labels of a state's line, without quotes."""
+    return [word.strip(b'"') if word[:1] == b'"' else word for word in state.words[2:] if word[:1] != b"["]

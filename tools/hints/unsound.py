@@ -1,0 +1,184 @@
+"""Hints for `not sound: ..`: of which kind the fault is, and where it stands."""
+
+from __future__ import annotations
+
+import re
+from typing import List, Optional
+
+from hints.kinds import kind_of, told_of
+from hints.refusal import Refusal
+from hints.report import HEAD, LEAF, NODES, TAIL, Report, line_of_node, read_report, report_row
+from hints.rows import Around, fault_hints
+from hints.told import counted, shown
+
+AGAIN = "the report was changed, or isn't plift's: don't use it, and run verify again"
+FORMS = {
+    b"plift": "plift 1",
+    b"kind": "kind dtmc or kind mdp",
+    b"parameters": "parameters, their number and their names",
+    b"common": "common and a number from 1",
+    b"states": "states and a number from 1",
+    b"init": "init and a state",
+    b"goal": "goal, the number of goal states, and the states in ascending order",
+    b"bound": "bound n/d in lowest terms",
+    b"precision": "precision and a number from 1 to 40",
+    b"depth": "depth and a number from 0 to 20",
+    b"grid": "grid and a number from 1",
+    b"box": "box and the low and the high end of each parameter",
+}
+
+
+def of_text(text: bytes) -> List[str]:
+    """What the text is, where it isn't a report."""
+    kind = kind_of(text)
+    if kind == "model":
+        return ["that is a model text", "plift verify reads models; check and plift-view read the report that verify writes"]
+    if kind in ("prism", "jani"):
+        return ["that looks like a model", "check and plift-view read the report that plift verify writes"]
+    if kind == "empty":
+        return [
+            "there is no text",
+            "what should have written the report was refused or stopped: look at its status, in a pipe with set -o pipefail",
+        ]
+    return [] if kind == "report" else told_of(kind)
+
+
+def due_at(report: Report, number: int) -> Optional[str]:
+    """What a line has to be, by the line before it."""
+    if number <= len(HEAD):
+        return FORMS[HEAD[number - 1]]
+    if number > len(report.lines) + 1:
+        return None
+    before = report.lines[number - 2].split(b" ")[0]
+    if report.lines[number - 1 : number] and report.lines[number - 1].startswith(b"reject "):
+        return "reject e E k K m M b Y/Z, M being E times K, Y the initial state's number in the line y, Z 2^precision, and rank 0 standing at goal states alone"
+    if before in TAIL[:-1]:
+        return FORMS[TAIL[TAIL.index(before) + 1]]
+    if before in LEAF[:-1]:
+        return f"{LEAF[LEAF.index(before) + 1].decode()} and a word for each state"
+    if before in (b"box", b"split", b"accept", b"unknown", b"rank"):
+        return "a node: split, accept, reject or unknown"
+    return of_rows(report, number) if before in (b"row", b"to", b"goal") else None
+
+
+def of_rows(report: Report, number: int) -> Optional[str]:
+    """What a line among the rows has to be, by the count of the row before it."""
+    row = next((at for at in range(number - 1, 0, -1) if not report.lines[at - 1].startswith(b"to ")), 0)
+    words = report.lines[row - 1].split(b" ")
+    if words[0] == b"row" and len(words) == 4 and re.fullmatch(rb"[0-9]{1,9}", words[3]) and number - row <= int(words[3]):
+        return f"transition {number - row} of {int(words[3])}: to T and its terms M:c"
+    return "row S A N for the next state or choice, or bound n/d in lowest terms behind the last one"
+
+
+def spelling(line: bytes) -> List[str]:
+    """What is wrong with the spelling of a line, and what to do."""
+    if line.endswith(b"\r"):
+        return ["it ends with a carriage return", "tr -d '\\r' < FILE takes them out"]
+    if b"\t" in line or b"  " in line or line != line.strip(b" "):
+        return ["between words stands one blank, and none at the end", AGAIN]
+    if re.search(rb"(?<![0-9A-Za-z_])[-+]?0[0-9]", line) or b"+" in line:
+        return ["numbers have no leading zeros and no +", AGAIN]
+    return []
+
+
+def syntax_hints(text: bytes, number: int) -> List[str]:
+    """What stands at a line, and what should."""
+    told = of_text(text)
+    if number == 1 and told:
+        return told
+    report = read_report(text)
+    if number > len(report.lines):
+        return []
+    line = report.lines[number - 1]
+    why, due = spelling(line), due_at(report, number)
+    if why:
+        return [f"line {number}: {shown(line)}: {why[0]}", why[1]]
+    if not line:
+        return [f"line {number} is blank, and a report has no blank lines", AGAIN]
+    if due is None:
+        return [f"line {number}: {shown(line)}", AGAIN]
+    return [f"line {number}: {shown(line)}; what is due there: {due}", AGAIN]
+
+
+def truncated_hints(text: bytes, number: int) -> List[str]:
+    """Where the text ends."""
+    if kind_of(text) != "report":
+        return of_text(text)
+    report = read_report(text)
+    if not text.endswith(b"\n"):
+        what = f"the text ends within line {number}, without a line feed"
+    else:
+        what = f"the text ends behind line {number - 1}, and more lines are due"
+    if report.first_node():
+        nodes = sum(line.split(b" ", 1)[0] in NODES for line in report.lines[report.first_node() - 1 :])
+        what += f"; it has {counted(nodes, 'node')} of its tree"
+    return [what, "it was cut off: was verify stopped, or the disk full? run verify again, and look at its status"]
+
+
+def rest_hints(text: bytes) -> List[str]:
+    """What follows the last node."""
+    report = read_report(text)
+    second = next((i for i, line in enumerate(report.lines[1:], 2) if re.fullmatch(rb"plift [0-9]+\r?", line)), None)
+    if second:
+        return [f"a second report begins at line {second}", f"check one at a time, as by head -n {second - 1} FILE"]
+    last = end_of_tree(report)
+    if not last or last >= len(report.lines):
+        return []
+    line = report.lines[last]
+    return [f"the tree ends with line {last}, and line {last + 1} follows: {shown(line) if line else 'a blank line'}"]
+
+
+def end_of_tree(report: Report) -> int:
+    """The number of the last line of the tree, or 0."""
+    at, open_nodes = report.first_node(), 1
+    while open_nodes and 0 < at <= len(report.lines):
+        key = report.lines[at - 1].split(b" ", 1)[0]
+        if key not in NODES:
+            return 0
+        open_nodes += 1 if key == b"split" else -1
+        at += 4 if key == b"reject" else 1
+    return 0 if open_nodes else at - 1
+
+
+def version_hints(text: bytes) -> List[str]:
+    """Which version it is."""
+    line = text.split(b"\n", 1)[0]
+    return [f"line 1 is {shown(line)}, and this plift reads version 1", "check it with a plift that writes that version"]
+
+
+def row_hints(text: bytes, state: int, choice: int, fault: str) -> List[str]:
+    """What is wrong with a row of the report."""
+    report = read_report(text)
+    row = report_row(report, state, choice)
+    told = fault_hints(row, fault, Around(report.box(), lambda: None)) if row else []
+    return told[:1] + [AGAIN] if told else []
+
+
+def node_hints(text: bytes, node: int) -> List[str]:
+    """Where the node stands."""
+    line = line_of_node(read_report(text), node)
+    return [f"node {node} begins at line {line}"] if line else []
+
+
+def unsound_hints(refusal: Refusal, fault: str) -> List[str]:
+    """What is wrong with a report."""
+    if refusal.text is None:
+        return []
+    match = re.fullmatch(r"line ([0-9]{1,9}): ([A-Za-z]+)", fault)
+    if match:
+        number, cause = int(match[1]), match[2]
+        told = of_text(refusal.text) if number == 1 else []
+        if cause == "Syntax":
+            return syntax_hints(refusal.text, number)
+        if cause == "Truncated":
+            return truncated_hints(refusal.text, number)
+        if cause == "Version":
+            return version_hints(refusal.text)
+        return told
+    match = re.fullmatch(r"state ([0-9]{1,6}) choice ([0-9]{1,6}): (.*)", fault)
+    if match:
+        return row_hints(refusal.text, int(match[1]), int(match[2]), match[3])
+    match = re.match(r"node ([0-9]{1,9}) ", fault)
+    if match:
+        return node_hints(refusal.text, int(match[1]))
+    return rest_hints(refusal.text) if fault == "rest" else []
