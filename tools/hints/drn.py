@@ -59,11 +59,16 @@ class Model:
         return [name.encode("latin-1") for name in self.parameters]
 
 
+def content_of(line: bytes) -> bytes:
+    """A line without its line feed, one carriage return at its end, and blanks around it."""
+    line = line[:-1] if line.endswith(b"\n") else line
+    return (line[:-1] if line.endswith(b"\r") else line).strip(b" \t")
+
+
 def lines_of(text: bytes) -> Iterator[Tuple[int, bytes]]:
-    """The lines with their numbers, without line feed and without blanks around them."""
+    """The contents of the lines with their numbers."""
     for number, line in enumerate(io.BytesIO(text), 1):
-        line = line[:-1] if line.endswith(b"\n") else line
-        yield number, (line[:-1] if line.endswith(b"\r") else line).strip(b" \t")
+        yield number, content_of(line)
 
 
 def words_of(content: bytes) -> List[bytes]:
@@ -104,41 +109,54 @@ def read_front(model: Model, number: int, content: bytes) -> None:
         model.numbers[due] = (number, content)
 
 
-def begin_choice(model: Model, number: int) -> None:
+def begin_choice(model: Model, number: int) -> List[Tuple[int, bytes]]:
+    """One more choice of the last state; its lines, none so far."""
     model.choices.append(Choice(number, []))
     model.choice_count += 1
+    return model.choices[-1].lines
 
 
-def read_line(model: Model, number: int, content: bytes) -> None:
-    """A line of the model."""
-    first = content[0]
-    if 48 <= first <= 57:
-        if not model.choices:
-            begin_choice(model, number)
-        model.choices[-1].lines.append((number, content))
-    elif content.startswith(b"state"):
-        model.states.append(State(number, words_of(content)))
-        model.choices = []
-    elif content.startswith(b"action"):
-        begin_choice(model, number)
+def read_states(model: Model, lines: Iterator[Tuple[int, bytes]], stop: int, state: int) -> None:
+    """Reads the lines behind `@model`. A text may have many: this takes half a microsecond for each."""
+    transitions: List[Tuple[int, bytes]] = []
+    for number, line in lines:
+        content = line.strip(b" \t\r\n")
+        model.lines = number
+        if number == stop:
+            model.line = content_of(line)
+            return
+        if content[:1].isdigit():
+            if not model.choices:
+                transitions = begin_choice(model, number)
+            transitions.append((number, content))
+        elif content.startswith(b"state"):
+            if len(model.states) == state + 1 and state >= 0:
+                return
+            model.states.append(State(number, words_of(content)))
+            model.choices = []
+        elif content.startswith(b"action"):
+            transitions = begin_choice(model, number)
+
+
+def is_passed_over(content: bytes, due: str) -> bool:
+    """Whether a line before the model says nothing: a comment, or a blank line where no list is due."""
+    return content.startswith(b"//") or not content and due not in ("@parameters", "@reward_models")
 
 
 def read_model(text: bytes, stop: int = 0, state: int = -1) -> Model:
     """Reads up to before the line `stop`, which is kept as it is; or up to the end of a state's rows; else the whole."""
-    model = Model()
-    for number, content in lines_of(text):
+    model, lines = Model(), enumerate(io.BytesIO(text), 1)
+    for number, line in lines:
+        content = content_of(line)
         model.lines = number
         if number == stop:
             model.line = content
-            break
-        if content.startswith(b"//") or not content and model.due not in ("@parameters", "@reward_models"):
-            continue
-        if not model.in_model():
+            return model
+        if not is_passed_over(content, model.due):
             read_front(model, number, content)
-            continue
-        if state >= 0 and len(model.states) == state + 1 and content.startswith(b"state"):
+        if model.in_model():
+            read_states(model, lines, stop, state)
             break
-        read_line(model, number, content)
     return model
 
 
@@ -146,11 +164,10 @@ def parameters_of(text: bytes) -> List[str]:
     """The names of a model's parameters."""
     model = Model()
     for number, content in lines_of(text):
-        if content.startswith(b"//") or not content and model.due not in ("@parameters", "@reward_models"):
-            continue
+        if not is_passed_over(content, model.due):
+            read_front(model, number, content)
         if model.in_model():
             break
-        read_front(model, number, content)
     return model.parameters
 
 
