@@ -6,6 +6,7 @@ from table import COIN, REPORT, RETRY, Mistake, changed, example
 
 TREE = example("retry-tree.report")
 COIN_REPORT = example("coin.report")
+THIRD = changed(changed(REPORT, "parameters 2 p q", "parameters 3 p q r"), "box 2 6 1 4", "box 2 6 1 4 0 20")
 SVG = b'<svg xmlns="http://www.w3.org/2000/svg"></svg>\n'
 
 
@@ -61,6 +62,21 @@ CHECKED = [
     check(changed(TREE, "split 1", "split 0"), "node 1 axis", "node 1 begins at line 36"),
     coin("rank 1 0 -", "rank 1 0 1", "line 20: Syntax", "rank 0 standing at goal states alone"),
     coin("b 9/16", "b 8/16", "line 20: Syntax"),
+    check(b"// mine\n" + REPORT, "line 1: Syntax", '"// mine"', "plift 1"),
+    check(REPORT.replace(b" ", b"\t"), "line 1: Syntax", "one blank"),
+    retry("row 0 1 2", "row 0 2 2", "line 11: Syntax", "row S A N"),
+    retry("row 0 0 2", "row 0 0 3", "line 11: Syntax", "transition 3 of 3"),
+    retry("goal 1 4", "goal 0", "line 7: Syntax", "goal, the number of goal states"),
+    retry("parameters 2 p q", "parameters 2 p p", "line 3: Syntax", "parameters"),
+    retry("depth 0\n", "", "line 32: Syntax", "depth and a number"),
+    retry("accept 28", "Accept 28", "line 35: Syntax", "a node: split, accept, reject or unknown"),
+    retry("accept 28 93 308 0 1024\n", "", "line 35: Truncated", "0 nodes"),
+    retry("accept 28 93", "accept -28 93", "line 35: Limit"),
+    retry("accept 28 93", "accept 93", "line 35: Syntax"),
+    coin("y 9 16 0", "y 9 16 1", "node 0 unranked state 2 value 1", "node 0 begins at line 20"),
+    coin("b 9/16\ny 9 16 0", "b 16/16\ny 16 16 0", "node 0 state 0 choice 0 corner 0: 160 > 96"),
+    coin("reject e 1 k 1 m 1", "reject e 0 k 1 m 0", "node 0 state 0 choice 0 corner 0: weight 6 times 2^0 < 10", "node 0 begins at line 20"),
+    coin("bound 1/2", "bound 9/10", "node 0 bound: 90 <= 144"),
     Mistake("", RETRY, 1, "not sound: line 1: Syntax", ("that is a model text",), "plift-view"),
     Mistake("--summary", b"", 1, "not sound: line 1: Truncated", ("there is no text",), "plift-view"),
 ]
@@ -86,6 +102,17 @@ VIEWED = [
     view("--at q", "--at 1 Syntax", "NAME=VALUE", "--at q=1/4"),
     view("--at q=half", "--at 1 Syntax", '"half" is no number'),
     view("--at q=1e-30", "--at 1 Syntax", "too wide"),
+    view("--x p --y q --at r=2", "--at 1 Outside", "r from 0 to 1", text=THIRD),
+    view("--at r=1/2 --at r=1/3", "--at 2 Repeated", "r has a value already", text=THIRD),
+    view("--x p --y q --at r=.5", "--at 1 Syntax", '".5" is no number', text=THIRD),
+    view("--x ''", "--x UnknownName", "no such parameter"),
+    view("--at =1/2", "--at 1 UnknownName", "no such parameter"),
+    view("--x p -- q", "words", "is no option"),
+    view("--X p", "words", "is --x meant?"),
+    view("--at p = 1/2", "words", "all words of plift-view are options"),
+    view("p q", "words", "all words of plift-view are options"),
+    view("--follow=1", "words", "takes no value"),
+    view("--follow --follow", "words", "stands 2 times"),
     view("--x p --at r=1/2", "--at 1 UnknownName", "no such parameter", "p, q"),
     view("--at q=1/10", "--at 1 Repeated", "lies on an axis", "--x"),
     view("--x p --at p=1/10", "--at 1 Repeated", "lies on the axis --x"),

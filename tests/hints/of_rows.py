@@ -41,6 +41,9 @@ MISTAKES = [
     coin(WHOLE, "1 : p\n2 : p", "set 0 sums to 0", "sum to 0, not to 1"),
     coin(WHOLE, "1 : p\n2 : 1", "set 1 sums to 1", "the coefficients of p sum to 1, not to 0", "line 6", "1-p"),
     coin("1 : p", "1 : 2*p", "set 1 sums to 1", "2 at line 6 (2*p), -1 at line 7 (1-p)"),
+    coin(WHOLE, "action a", "set 0 sums to 0", "(no lines)", "sum to 0, not to 1"),
+    coin(WHOLE, "1 : 0.1\n2 : 0.2\n0 : 0.6999999", "set 0 sums to 9999999", "0 : 1-0.1-0.2"),
+    coin(WHOLE, "1 : p\n2 : 0.9-p", "set 0 sums to 9", "its terms without parameters sum to 9/10", "2 : 1-p"),
     coin("1 : p", "1 : $a", "set 1 sums to 1", "2 at line 8 ($a)", region="1/10<=p<=9/10")._replace(
         text=changed(COIN, "@model\nstate 0 init\n1 : p", "@placeholders\n$a : 2*p\n@model\nstate 0 init\n1 : $a")
     ),

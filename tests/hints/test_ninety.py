@@ -6,6 +6,7 @@ notes are taken as they stand. What a shell says of a region without quotes neve
 
 from __future__ import annotations
 
+import os
 import subprocess
 import sys
 import unittest
@@ -56,6 +57,31 @@ class Mistakes(unittest.TestCase):
                 self.assertEqual((mistake.status, mistake.note), (ran.returncode, told))
 
         self.for_each(is_told)
+
+    def test_streams(self) -> None:
+        """What the built program says where standard input or output fails."""
+        path = program()
+        if not path:
+            self.skipTest("no program is built")
+        folder = os.open("/", os.O_RDONLY)
+        reader, writer = os.pipe()
+        os.close(reader)
+        with open("/dev/full", "wb") as full, open("/dev/null", "rb") as nothing:
+            runs = [
+                (["check"], {"stdin": folder}, 5, "read fault"),
+                (["check"], {"preexec_fn": lambda: os.close(0)}, 5, "read fault"),
+                (["generate", "3"], {"stdin": nothing, "stdout": full}, 6, "write fault"),
+                (["generate", "3"], {"stdin": nothing, "stdout": writer}, 6, "write fault"),
+                (["generate", "3"], {"stdin": nothing, "preexec_fn": lambda: os.close(1)}, 6, "write fault"),
+            ]
+            for words, streams, status, note in runs:
+                with self.subTest(words=words, streams=list(streams), note=note):
+                    streams.setdefault("stdout", subprocess.DEVNULL)
+                    ran = subprocess.run([path] + words, stderr=subprocess.PIPE, timeout=60, **streams)
+                    self.assertEqual((ran.returncode, ran.stderr.decode().strip()), (status, note))
+                    self.assertTrue(hints.hints(status, note, words, None))
+        os.close(folder)
+        os.close(writer)
 
     def test_hints(self) -> None:
         """The hints hold what the table asks for, in a few printable lines."""

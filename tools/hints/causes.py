@@ -122,7 +122,10 @@ def unknown_section(place: Place) -> List[str]:
     if not place.content.startswith(b"@"):
         return []
     if place.model.in_model():
-        return [place.here("behind @model no section stands: move it before that line")]
+        if place.content == b"@model":
+            return [place.here(f"@model stands at line {place.model.sections['@model']} already: are these two texts in one file?")]
+        what = "move it before that line" if section_in(place.content) else "take it out with its lines"
+        return [place.here(f"behind @model no section stands: {what}")]
     text = place.content.decode("latin-1")
     name = re.match(r"@[A-Za-z_]*", text)[0]
     behind = text[len(name) :].strip(" \t:")

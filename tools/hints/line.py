@@ -41,6 +41,7 @@ VERSION = ("--version", "-V", "-version", "version")
 PROPERTY = re.compile(r'P(?:max|min)?\s*(?:<=|<|>=|>|=\?)|\[\s*F\b|^\s*F\s')
 FILE = re.compile(r"[/\\]|\.(?:drn|report|prism|pm|nm|jani|txt|gz|svg|out|log|json|tra)$|^\.{1,2}$")
 LONG_DASHES = "–—−"
+CLAUSE = re.compile(r"[^<>=,]+<=[^<>=,]+<=[^<>=,]+")
 REGION = re.compile(r"<=|>=|<|>|\.\.|≤")
 
 
@@ -94,6 +95,29 @@ def about_property(word: str) -> str:
     return f"{shown(word)}: plift takes no property; it asks whether --goal LABEL is reached with at most --bound B"
 
 
+def about_odd(word: str) -> Optional[str]:
+    """What is wrong with a word that the shell made from blanks or quotes."""
+    if word == "":
+        return "an empty word stands there: is a variable in quotes unset?"
+    if not word.strip():
+        return "a word of blanks stands there: does a blank stand behind a \\ at the end of a line?"
+    if "\u00a0" in word:
+        return f"{shown(word)} holds a blank that doesn't break (U+00A0), as pages of the web have it: type it anew"
+    if re.match(r"(verify|check|generate|selftest|--[a-z]+)\s+\S", word):
+        return f"{shown(word)} is one word: leave out the quotes that hold several words together"
+    return None
+
+
+def about_stray(words: Sequence[str], previous: str, value: str) -> str:
+    """What is wrong with words that stand behind the value of an option."""
+    told = listed([f'"{word}"' for word in words], 4)
+    stands = "stands" if len(words) == 1 else "stand"
+    whole = " ".join([value, *words])
+    if previous == "--region" and CLAUSE.fullmatch(value.strip(", ")) and all(CLAUSE.fullmatch(w.strip(", ")) for w in words):
+        whole = ",".join(word.strip(", ") for word in [value, *words])
+    return f"{told} {stands} alone behind the value of {previous}: a value with blanks needs quotes, as in {previous} {shlex.quote(whole)}"
+
+
 def about_word(word: str, previous: str, value: str) -> str:
     """What is wrong with a word that stands where an option is due."""
     if is_file(word):
@@ -102,8 +126,6 @@ def about_word(word: str, previous: str, value: str) -> str:
         return about_property(word)
     if value == "=":
         return f"no blanks stand around =: write {previous}={word} or {previous} {word}"
-    if previous in ("--goal", "--region"):
-        return f"{shown(word)} stands alone behind the value of {previous}: a value with blanks needs quotes, as in {previous} '{value} {word}'"
     if REGION.search(word):
         return f"{shown(word)}: a region is given by --region '..'"
     return f"{shown(word)} stands where an option is due; they are {listed(VALUED)}"
@@ -149,12 +171,21 @@ def walk(words: Sequence[str]) -> Found:
             found.faults.extend([fault] if fault else [])
             found.values.setdefault(name, []).append(value)
             previous, last = name, value
+        elif about_odd(word):
+            found.faults.append(about_odd(word) or "")
+            found.meant.update(known for known in VALUED if known in word)
         elif is_dashed(word):
             value = value if mark else words[at] if at < len(words) else ""
             found.faults.append(about_option(word, value))
             found.meant.update({guessed(name)} - {None})
             at += 0 if mark or is_dashed(value) or is_file(value) else 1
             previous, last = "", ""
+        elif previous in ("--goal", "--region") and last != "=" and not is_file(word) and not PROPERTY.search(word):
+            first = at - 1
+            while at < len(words) and not is_dashed(words[at]) and not is_file(words[at]):
+                at += 1
+            found.faults.append(about_stray(words[first:at], previous, last))
+            previous = ""
         else:
             found.faults.append(about_word(word, previous, last))
     return found
@@ -171,7 +202,7 @@ def about_verify(words: Sequence[str]) -> List[str]:
     """What is wrong with a line of `verify`."""
     found = walk(words)
     faults = found.faults + [about_twice(n, v) for n, v in found.values.items() if len(v) > 1]
-    if any(word in HELP + VERSION for word in words):
+    if any(word.split("=")[0] in HELP + VERSION for word in words):
         return [fault for fault in faults if "stands alone" in fault]
     named = found.meant | set(found.values)
     if "--goal" not in named:
@@ -200,6 +231,9 @@ def about_blocks(command: str, words: Sequence[str]) -> List[str]:
 
 def about_command(word: str) -> str:
     """What is wrong with the first word."""
+    odd = about_odd(word)
+    if odd:
+        return odd
     if word in HELP:
         return "help: plift --help, or plift --help verify for a command's options"
     if word in VERSION:
@@ -208,6 +242,10 @@ def about_command(word: str) -> str:
         return f"the command stands first: plift verify {word} .."
     if word.startswith("-"):
         return f"{shown(word)} is no command; the first word is one of {listed(COMMANDS)}"
+    if re.fullmatch(r"(.*/)?plift", word):
+        return f"{shown(word)}: the program's own name stands once; then a command, one of {listed(COMMANDS)}"
+    if re.fullmatch(r"(.*/)?(plift[-_])?(view|summary|follow|picture)", word):
+        return f"{shown(word)} is no command; pictures and tables of a report are made by plift-view"
     if is_file(word):
         return f"{shown(word)}: a model's name isn't a word; a command stands first, and the file behind <: plift verify .. < {shlex.quote(word)}"
     guess = near(word, COMMANDS)

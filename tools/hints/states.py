@@ -8,7 +8,7 @@ from typing import Dict, List, Tuple
 from hints.drn import State, labels_of, lines_of, read_model, TRANSITION
 from hints.numbers import SIZE
 from hints.place import Place
-from hints.told import counted, listed, meant, printable, shown
+from hints.told import counted, listed, near, printable, shown
 from hints.value import Fault, common_of, read_value
 
 MOST_STATES_TOLD = 4
@@ -55,7 +55,7 @@ def observation(place: Place) -> List[str]:
 
 def extra_choice(place: Place) -> List[str]:
     """Which state has two choices."""
-    if not place.model.choices:
+    if not place.model.choices or place.model.kind != "DTMC":
         return []
     first = place.model.choices[0].line
     return [
@@ -64,10 +64,17 @@ def extra_choice(place: Place) -> List[str]:
     ]
 
 
+def has_no_choice(place: Place) -> bool:
+    """Whether the next line that says something begins a state, or there is none."""
+    behind = (content for number, content in lines_of(place.text) if number > place.number)
+    content = next((content for content in behind if content and not content.startswith(b"//")), b"state")
+    return content.startswith(b"state")
+
+
 def no_choice(place: Place) -> List[str]:
     """Which state has no transitions."""
     words = place.content.split()
-    if len(words) < 2 or words[0] != b"state":
+    if len(words) < 2 or words[0] != b"state" or not has_no_choice(place):
         return []
     number = printable(words[1])
     return [
@@ -127,6 +134,9 @@ def init_count(place: Place) -> List[str]:
         told = listed([f"{i} (line {state.line})" for i, state in initial], MOST_STATES_TOLD)
         return [f"{len(initial)} states carry init: {told}", "exactly one state is initial"]
     line = states[0].line if states else 0
+    close = near("init", list(labels_in(states)))
+    if close:
+        return [f"no state carries the label init; is {shown(close)} meant?", "labels stand apart by blanks, without commas or other marks"]
     return ["no state carries the label init", f"write init behind the initial state's number, as at line {line}: state 0 init"]
 
 
@@ -161,7 +171,10 @@ def unknown_label(place: Place) -> List[str]:
     elif inner != goal and inner.encode() in labels:
         why = f"; write --goal {inner} alone"
     else:
-        why = meant(goal, list(labels))
+        close = near(goal, list(labels))
+        why = f"; is {close} meant?" if close else ""
+        if close and close.strip(",;:") == goal:
+            why = f", but {shown(close)}: labels stand apart by blanks, without other marks"
     known = [label for label in labels if label != b"init"] or list(labels)
     what = f"no state carries the label {shown(goal)}{why}"
     if not known:

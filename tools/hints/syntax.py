@@ -90,6 +90,8 @@ def in_model(place: Place) -> List[str]:
         if not place.model.states:
             return [place.here("an action stands behind its state: a line state 0 comes first")]
         return open_group(place)
+    if content.isdigit():
+        return [place.here(f"a transition is written {printable(content)} : VALUE; was the text cut off?")]
     told = arrow_like(content)
     if told and len(told) < 60:
         return [place.here(f"a transition is written TARGET : VALUE; is {printable(told)} meant?")]

@@ -63,6 +63,8 @@ def unknown_name(place: Place) -> List[str]:
     if not fault:
         return []
     names, name = place.names(), fault.what
+    if place.content[fault.place + len(name) :].lstrip().startswith(b"("):
+        return point(place, fault, f"{printable(name)} isn't declared") + ["functions aren't taken: write out what it comes to"]
     if not names:
         told = "no parameters are declared: write @parameters and behind it a line with their names, before @model"
         if place.model.due == "@placeholders":

@@ -105,6 +105,8 @@ def truncated_hints(text: bytes, number: int) -> List[str]:
     if kind_of(text) != "report":
         return of_text(text)
     report = read_report(text)
+    if number != len(report.lines) + text.endswith(b"\n"):
+        return []  # it isn't the text that was read
     if not text.endswith(b"\n"):
         what = f"the text ends within line {number}, without a line feed"
     else:

@@ -102,6 +102,8 @@ def axis_hints(refusal: Refusal, option: str, cause: str) -> List[str]:
     if name is None:
         return []
     if cause == "Repeated":
+        if dict(settings(refusal)).get("--x") != name:
+            return []
         return [f"--x and --y are both {shown(name)}", "name two parameters, or one alone"]
     if report is None or name in report.names():
         return []
