@@ -45,7 +45,7 @@ WORDS = [
     words(PLAIN + " --threads 4", "--threads", "--goal, --bound, --region, --depth, --precision"),
     words("verify --target lost --bound 3/100", "is --goal meant?"),
     words("verify --gaol lost --bound 3/100", "is --goal meant?"),
-    words("verify --goal:lost --bound 3/100", "is --goal meant?"),
+    words("verify --goal:lost --bound 3/100", "write --goal=lost"),
     words("verify --goal = lost --bound 3/100", "no blanks stand around =", "--goal=lost"),
     words("verify --goal= --bound 3/100", "--goal= has no value"),
     words("verify --goal= lost --bound 3/100", "--goal= has no value", "no blank stands behind ="),

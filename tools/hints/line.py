@@ -62,7 +62,7 @@ class Found(NamedTuple):
 def guessed(name: str) -> Optional[str]:
     """The option that a name most likely stands for."""
     name = "--" + name.lstrip("-" + LONG_DASHES) if name[0] in LONG_DASHES or "-" + name in VALUED else name
-    guess = OTHER_NAMES.get(name) or near(name.split(":")[0], VALUED)
+    guess = OTHER_NAMES.get(name) or (near(name.split(":")[0], VALUED) if name.strip("-") else None)
     if guess is None and len(name) > 3:
         guess = next((known for known in VALUED if known.startswith(name)), None)
     return guess
@@ -78,6 +78,8 @@ def about_option(word: str, value: str) -> str:
     if PROPERTY.search(value):
         return about_property(value)
     guess = guessed(name)
+    if name.split(":")[0] in VALUED:
+        return f"{shown(word)}: a value stands behind =, or is the next word: write {word.replace(':', '=', 1)}"
     why = ""
     if name[0] in LONG_DASHES:
         why = " (a long dash stands there, not two hyphens)"

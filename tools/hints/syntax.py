@@ -3,13 +3,14 @@
 from __future__ import annotations
 
 import re
-from typing import List
+from typing import List, Sequence
 
 from hints.drn import TRANSITION
 from hints.kinds import kind_of, strange
 from hints.place import Place
 from hints.told import pointed, printable, shown
 from hints.transitions import syntax_in
+from hints.value import fault_in
 
 COMMENTS = ("#", "--", "%", ";", "/*", "*", "'", "!")
 NAME = re.compile(r"[A-Za-z_][A-Za-z0-9_]*")
@@ -67,14 +68,14 @@ def open_group(place: Place) -> List[str]:
     return pointed(f"line {place.number}: ", place.content, at, "this [ has no ] behind it on its line")
 
 
-def arrow_like(content: bytes) -> str:
+def arrow_like(content: bytes, names: Sequence[str]) -> str:
     """A transition that is written in another way, as it should be; else nothing."""
     text = content.decode("latin-1")
-    match = re.fullmatch(r"([0-9]+)\s*(?:->|=>|=|-|\s)\s*(.+)", text)
-    if match and ":" not in match[2]:
+    match = re.fullmatch(r"(?:->|goto)?\s*([0-9]+)\s*(?:->|=>|=|-|:|\s)\s*(.+?);?", text)
+    if match and fault_in(match[2], names) is None:
         return f"{match[1]} : {match[2]}"
     match = re.fullmatch(r"(?:->\s*)?([^:]+?)\s*:\s*([0-9]+)\s*;?", text)
-    return f"{match[2]} : {match[1]}" if match else ""
+    return f"{match[2]} : {match[1]}" if match and fault_in(match[1], names) is None else ""
 
 
 def in_model(place: Place) -> List[str]:
@@ -92,7 +93,9 @@ def in_model(place: Place) -> List[str]:
         return open_group(place)
     if content.isdigit():
         return [place.here(f"a transition is written {printable(content)} : VALUE; was the text cut off?")]
-    told = arrow_like(content)
+    if re.fullmatch(rb"[0-9]+( +[A-Za-z_]\w*)*", content) and not arrow_like(content, place.names()):
+        return [place.here(f"a state's line begins with the word state; is state {printable(content)} meant?")]
+    told = arrow_like(content, place.names())
     if told and len(told) < 60:
         return [place.here(f"a transition is written TARGET : VALUE; is {printable(told)} meant?")]
     first = re.match(rb"[A-Za-z]+", content)

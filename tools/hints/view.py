@@ -28,7 +28,7 @@ def about_option(word: str) -> str:
         return f"{word}: it stands alone, as plift-view --version"
     if name in OUTPUTS:
         return f"{shown(word)}: the picture is written to standard output: plift-view .. > picture.svg"
-    guess = "-" + name if "-" + name in KNOWN else near(name, KNOWN)
+    guess = "-" + name if "-" + name in KNOWN else near(name, KNOWN) if name.strip("-") else None
     return f"{shown(word)} is no option" + (f"; is {guess} meant?" if guess else f"; they are {listed(KNOWN)}")
 
 
