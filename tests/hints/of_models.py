@@ -111,6 +111,8 @@ STATES = [
     coin("heads", "heads, done", 11, "UnknownLabel", '"heads,"', "apart by blanks"),
     coin("state 0 init", "state 0, init", 5, "Syntax", "in digits alone", "state 0"),
     coin("1 : p", "action: a\n1 : p", 6, "Syntax", "the word is action"),
+    coin("1 : p", "action go left\n1 : p", 6, "Syntax", "at most a name"),
+    coin("2 : 1-p", "2 : 1-p\n2 : 1-p", 8, "RepeatedTarget", "the same transition stands at line 7"),
     coin("1 : p", "[a] 1 : p", 6, "Syntax", "no line of a model begins so"),
     coin("2 : 1\n", "2", 11, "Syntax", "2 : VALUE", "cut off"),
     coin("2 : 1\n", "2 :", 11, "Syntax", "no value behind the colon"),

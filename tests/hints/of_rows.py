@@ -39,7 +39,7 @@ MISTAKES = [
     coin(WHOLE, "1 : 0", "set 0 sums to 0", "sum to 0, not to 1"),
     coin(WHOLE, "1 : 30\n2 : 70", "set 0 sums to 100", "sum to 100, not to 1", "percents"),
     coin(WHOLE, "1 : p\n2 : p", "set 0 sums to 0", "sum to 0, not to 1"),
-    coin(WHOLE, "1 : p\n2 : 1", "set 1 sums to 1", "the coefficients of p sum to 1, not to 0", "line 6", "1-p"),
+    coin(WHOLE, "1 : p\n2 : 1", "set 1 sums to 1", "the coefficients of p sum to 1, not to 0", "line 6", "as in 1-p"),
     coin("1 : p", "1 : 2*p", "set 1 sums to 1", "2 at line 6 (2*p), -1 at line 7 (1-p)"),
     coin(WHOLE, "action a", "set 0 sums to 0", "(no lines)", "sum to 0, not to 1"),
     coin(WHOLE, "1 : 0.1\n2 : 0.2\n0 : 0.6999999", "set 0 sums to 9999999", "0 : 1-0.1-0.2"),

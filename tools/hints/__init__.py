@@ -19,7 +19,7 @@ from hints.told import cut, printable
 
 MOST_LINES = 4
 MOST_LENGTH = 300  # characters of a line
-MOST_TEXT_LINES = 4_000_000  # a text of more lines isn't looked into
+MOST_TEXT_LINES = 2_500_000  # a text of more lines isn't looked into
 FRONTS = ("usage: ", "model: ", "rows: ", "not sound: ", "read fault", "write fault", "too long", "out of memory")
 VALUES = {
     "--goal": amounts.goal_hints,

@@ -114,7 +114,7 @@ def product_hints(row: Row, names: frozenset, found: Fraction) -> List[str]:
     told = ", ".join(f"{fraction(c)} at line {entry.line} ({cut(entry.text, 24)})" for entry, c in terms[:4])
     return [
         f"{row.where()}: the coefficients of {letters} sum to {fraction(found)}, not to 0: {told}",
-        f"what one transition has more with {letters}, the others have less: is a 1-{letters} missing, or is another name meant?",
+        f"where one transition has +{letters}, another one has -{letters}, as in 1-{letters}: is one missing, or is another name meant?",
     ]
 
 

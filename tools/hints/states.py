@@ -92,6 +92,11 @@ def repeated_target(place: Place) -> List[str]:
     before = next((t for t in place.model.choices[-1].transitions() if t.target == target), None)
     if before is None:
         return []
+    if before.value == match[2]:
+        return [
+            place.here(f"the same transition stands at line {before.line} already, in the same choice"),
+            "take one of them out; or where both are meant, join them to one, with the sum of both values",
+        ]
     both = f"{target} : {printable(before.value)}+{printable(match[2])}"
     return [
         place.here(f"a transition to {target} stands at line {before.line} already, in the same choice"),

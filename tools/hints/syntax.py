@@ -90,7 +90,7 @@ def in_model(place: Place) -> List[str]:
     if re.match(rb"action([ \t]|$)", content):
         if not place.model.states:
             return [place.here("an action stands behind its state: a line state 0 comes first")]
-        return open_group(place)
+        return open_group(place) or [place.here('behind action stand at most a name, in quotes where it has blanks, and a group [..]')]
     if content.isdigit():
         return [place.here(f"a transition is written {printable(content)} : VALUE; was the text cut off?")]
     if re.fullmatch(rb"[0-9]+( +[A-Za-z_]\w*)*", content) and not arrow_like(content, place.names()):

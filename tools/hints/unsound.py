@@ -11,6 +11,7 @@ from hints.report import HEAD, LEAF, NODES, TAIL, Report, line_of_node, read_rep
 from hints.rows import Around, fault_hints
 from hints.told import counted, shown
 
+MOST_LINE = 2**20
 AGAIN = "the report was changed, or isn't plift's: don't use it, and run verify again"
 FORMS = {
     b"plift": "plift 1",
@@ -95,9 +96,18 @@ def syntax_hints(text: bytes, number: int) -> List[str]:
         return [f"line {number}: {shown(line)}: {why[0]}", why[1]]
     if not line:
         return [f"line {number} is blank, and a report has no blank lines", AGAIN]
-    if due is None:
-        return [f"line {number}: {shown(line)}", AGAIN]
-    return [f"line {number}: {shown(line)}; what is due there: {due}", AGAIN]
+    return [f"line {number}: {shown(line)}" + (f"; what is due there: {due}" if due else ""), AGAIN]
+
+
+def limit_hints(text: bytes, number: int) -> List[str]:
+    """Which line is above a limit."""
+    report = read_report(text)
+    if not 0 < number <= len(report.lines) or kind_of(text) != "report":
+        return of_text(text)
+    line, due = report.lines[number - 1], due_at(report, number)
+    if len(line) > MOST_LINE:
+        return [f"line {number} has {len(line):,} bytes, and at most {MOST_LINE:,} are taken", AGAIN]
+    return [f"line {number}: {shown(line)}: a number or a name is above a limit" + (f"; what is due there: {due}" if due else ""), AGAIN]
 
 
 def truncated_hints(text: bytes, number: int) -> List[str]:
@@ -176,7 +186,7 @@ def unsound_hints(refusal: Refusal, fault: str) -> List[str]:
             return truncated_hints(refusal.text, number)
         if cause == "Version":
             return version_hints(refusal.text)
-        return told
+        return limit_hints(refusal.text, number) if cause == "Limit" else told
     match = re.fullmatch(r"state ([0-9]{1,6}) choice ([0-9]{1,6}): (.*)", fault)
     if match:
         return row_hints(refusal.text, int(match[1]), int(match[2]), match[3])
