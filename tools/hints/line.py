@@ -4,11 +4,13 @@ from __future__ import annotations
 
 import re
 import shlex
-from typing import Dict, List, NamedTuple, Optional, Sequence, Set
+from typing import Dict, List, Optional, Sequence, Set
 
 from hints.options import VALUED
 from hints.refusal import Refusal
 from hints.told import listed, near, shown
+from hints.words import HELP, LONG_DASHES, PROPERTY, VERSION
+from hints.words import about_help, about_odd, asks_for_help, is_dashed, is_file
 
 COMMANDS = ["verify", "check", "generate", "selftest"]
 FORMS = {
@@ -36,60 +38,28 @@ OTHER_NAMES = {
     "-p": "--precision",
     "-w": "--precision",
 }
-HELP = ("--help", "-h", "-help", "help", "-?", "--usage")
-VERSION = ("--version", "-V", "-version", "version")
-PROPERTY = re.compile(r'P(?:max|min)?\s*(?:<=|<|>=|>|=\?)|\[\s*F\b|^\s*F\s')
-FILE = re.compile(r"[/\\]|\.(?:drn|report|prism|pm|nm|jani|txt|gz|svg|out|log|json|tra)$|^\.{1,2}$")
-LONG_DASHES = "–—−"
+MOST_FAULTS = 3
 CLAUSE = re.compile(r"[^<>=,]+<=[^<>=,]+<=[^<>=,]+")
 REGION = re.compile(r"<=|>=|<|>|\.\.|≤")
 
 
-def is_file(word: str) -> bool:
-    """Whether a word has the looks of a file's name."""
-    return bool(FILE.search(word)) and not re.search(r"^[0-9./]+$|[<>=]", word)
-
-
-class Found(NamedTuple):
-    """What was found in a line of `verify`: faults, the values of its options in their order, and the options that
-    other words most likely stand for."""
-
-    faults: List[str]
-    values: Dict[str, List[str]]
-    meant: Set[str]
-
-
 def guessed(name: str) -> Optional[str]:
     """The option that a name most likely stands for."""
-    name = "--" + name.lstrip("-" + LONG_DASHES) if name[0] in LONG_DASHES or "-" + name in VALUED else name
+    if name[0] in LONG_DASHES or "-" + name in VALUED:
+        name = "--" + name.lstrip("-" + LONG_DASHES)
     guess = OTHER_NAMES.get(name) or (near(name.split(":")[0], VALUED) if name.strip("-") else None)
     if guess is None and len(name) > 3:
         guess = next((known for known in VALUED if known.startswith(name)), None)
     return guess
 
 
-def about_option(word: str, value: str) -> str:
-    """What is wrong with a word that begins like an option and is none."""
-    name = word.split("=")[0]
-    if name in HELP:
-        return f"{word}: help stands alone, as plift --help or plift --help verify"
-    if name in VERSION:
-        return f"{word}: it stands alone, as plift --version"
-    if PROPERTY.search(value):
-        return about_property(value)
-    guess = guessed(name)
-    if name.split(":")[0] in VALUED:
-        return f"{shown(word)}: a value stands behind =, or is the next word: write {word.replace(':', '=', 1)}"
-    why = ""
+def why_not(name: str, guess: Optional[str]) -> str:
+    """Why a name isn't that of the option that it is near to."""
     if name[0] in LONG_DASHES:
-        why = " (a long dash stands there, not two hyphens)"
-    elif "-" + name in VALUED:
-        why = " (two dashes stand before a name)"
-    elif guess and guess.startswith(name):
-        why = " (names aren't abbreviated)"
-    if guess is None:
-        return f"{shown(word)} is no option of verify{why}; they are {listed(VALUED)}"
-    return f"{shown(word)} is no option{why}; is {guess} meant?"
+        return " (a long dash stands there, not two hyphens)"
+    if "-" + name in VALUED:
+        return " (two dashes stand before a name)"
+    return " (names aren't abbreviated)" if guess and guess.startswith(name) else ""
 
 
 def about_property(word: str) -> str:
@@ -97,46 +67,23 @@ def about_property(word: str) -> str:
     return f"{shown(word)}: plift takes no property; it asks whether --goal LABEL is reached with at most --bound B"
 
 
-def about_odd(word: str) -> Optional[str]:
-    """What is wrong with a word that the shell made from blanks or quotes."""
-    if word == "":
-        return "an empty word stands there: is a variable in quotes unset?"
-    if not word.strip():
-        return "a word of blanks stands there: does a blank stand behind a \\ at the end of a line?"
-    if "\u00a0" in word:
-        return f"{shown(word)} holds a blank that doesn't break (U+00A0), as pages of the web have it: type it anew"
-    if re.match(r"(verify|check|generate|selftest|--[a-z]+)\s+\S", word):
-        return f"{shown(word)} is one word: leave out the quotes that hold several words together"
-    return None
+def about_option(word: str, value: str) -> str:
+    """What is wrong with a word that begins like an option and is none."""
+    name = word.split("=")[0]
+    if asks_for_help(word):
+        return about_help(word, "plift", "verify")
+    if PROPERTY.search(value):
+        return about_property(value)
+    if name.split(":")[0] in VALUED:
+        return f"{shown(word)}: a value stands behind =, or is the next word: write {word.replace(':', '=', 1)}"
+    guess = guessed(name)
+    if guess is None:
+        return f"{shown(word)} is no option of verify{why_not(name, guess)}; they are {listed(VALUED)}"
+    return f"{shown(word)} is no option{why_not(name, guess)}; is {guess} meant?"
 
 
-def about_stray(words: Sequence[str], previous: str, value: str) -> str:
-    """What is wrong with words that stand behind the value of an option."""
-    told = listed([f'"{word}"' for word in words], 4)
-    stands = "stands" if len(words) == 1 else "stand"
-    whole = " ".join([value, *words])
-    if previous == "--region" and CLAUSE.fullmatch(value.strip(", ")) and all(CLAUSE.fullmatch(w.strip(", ")) for w in words):
-        whole = ",".join(word.strip(", ") for word in [value, *words])
-    return f"{told} {stands} alone behind the value of {previous}: a value with blanks needs quotes, as in {previous} {shlex.quote(whole)}"
-
-
-def about_word(word: str, previous: str, value: str) -> str:
-    """What is wrong with a word that stands where an option is due."""
-    if is_file(word):
-        return f"{shown(word)}: a file is given by <, as in plift verify .. < {shlex.quote(word)}"
-    if PROPERTY.search(word):
-        return about_property(word)
-    if value == "=":
-        return f"no blanks stand around =: write {previous}={word} or {previous} {word}"
-    if REGION.search(word):
-        return f"{shown(word)}: a region is given by --region '..'"
-    return f"{shown(word)} stands where an option is due; they are {listed(VALUED)}"
-
-
-def about_value(name: str, value: Optional[str], words_left: int) -> Optional[str]:
-    """What is wrong with the value of an option, as far as it can be told from the words."""
-    if value is None:
-        return f"{name} has no value" + (" behind it: it is the last word" if words_left == 0 else "")
+def about_value(name: str, value: str) -> Optional[str]:
+    """What is wrong with the word that is the value of an option."""
     if not value.startswith("-"):
         return None
     if value.split("=")[0] in VALUED or value in HELP or value.startswith("--"):
@@ -148,49 +95,27 @@ def about_value(name: str, value: Optional[str], words_left: int) -> Optional[st
     return f"{name} {shown(value)}: a value doesn't begin with -"
 
 
-def is_dashed(word: str) -> bool:
-    """Whether a word begins like an option."""
-    return word[:1] == "-" or word[:1] in LONG_DASHES and word != ""
+def about_word(word: str, name: str, value: str) -> str:
+    """What is wrong with a word that stands where an option is due, behind another option with its value."""
+    if is_file(word):
+        return f"{shown(word)}: a file is given by <, as in plift verify .. < {shlex.quote(word)}"
+    if PROPERTY.search(word):
+        return about_property(word)
+    if value == "=":
+        return f"no blanks stand around =: write {name}={word} or {name} {word}"
+    if REGION.search(word):
+        return f"{shown(word)}: a region is given by --region '..'"
+    return f"{shown(word)} stands where an option is due; they are {listed(VALUED)}"
 
 
-def walk(words: Sequence[str]) -> Found:
-    """Looks at the words behind `verify`."""
-    found = Found([], {}, set())
-    at, previous, last = 0, "", ""
-    while at < len(words):
-        word = words[at]
-        name, mark, value = word.partition("=")
-        at += 1
-        if name in VALUED:
-            if not mark and at < len(words):
-                value, mark = words[at], " "
-                at += 0 if value.split("=")[0] in VALUED else 1
-            fault = about_value(name, value if mark and (value or mark == " ") else None, len(words) - at)
-            if fault and not value and mark == "=":
-                apart = at < len(words) and not is_dashed(words[at])
-                fault = f"{name}= has no value" + (": no blank stands behind =" if apart else "")
-                at += 1 if apart else 0
-            found.faults.extend([fault] if fault else [])
-            found.values.setdefault(name, []).append(value)
-            previous, last = name, value
-        elif about_odd(word):
-            found.faults.append(about_odd(word) or "")
-            found.meant.update(known for known in VALUED if known in word)
-        elif is_dashed(word):
-            value = value if mark else words[at] if at < len(words) else ""
-            found.faults.append(about_option(word, value))
-            found.meant.update({guessed(name)} - {None})
-            at += 0 if mark or is_dashed(value) or is_file(value) else 1
-            previous, last = "", ""
-        elif previous in ("--goal", "--region") and last != "=" and not is_file(word) and not PROPERTY.search(word):
-            first = at - 1
-            while at < len(words) and not is_dashed(words[at]) and not is_file(words[at]):
-                at += 1
-            found.faults.append(about_stray(words[first:at], previous, last))
-            previous = ""
-        else:
-            found.faults.append(about_word(word, previous, last))
-    return found
+def about_stray(words: Sequence[str], name: str, value: str) -> str:
+    """What is wrong with words that most likely belong to the value before them."""
+    told = listed([f'"{word}"' for word in words], 4) + (" stands" if len(words) == 1 else " stand")
+    whole, clauses = " ".join([value, *words]), [word.strip(", ") for word in [value, *words]]
+    if name == "--region" and all(map(CLAUSE.fullmatch, clauses)):
+        whole = ",".join(clauses)
+    needs = f"a value with blanks needs quotes, as in {name} {shlex.quote(whole)}"
+    return f"{told} alone behind the value of {name}: {needs}"
 
 
 def about_twice(name: str, values: Sequence[str]) -> str:
@@ -200,13 +125,92 @@ def about_twice(name: str, values: Sequence[str]) -> str:
     return f"{name} stands {len(values)} times, with {listed(values)}: keep one"
 
 
+class Walk:
+    """Goes through the words behind `verify`, and finds their faults, the values of options, and the options that
+    other words most likely stand for."""
+
+    def __init__(self, words: Sequence[str]):
+        self.words, self.at = words, 0
+        self.faults: List[str] = []
+        self.values: Dict[str, List[str]] = {}
+        self.meant: Set[str] = set()
+        self.name = self.value = ""  # the option that was read last
+        while self.at < len(words):
+            self.step(words[self.at])
+
+    def next(self) -> Optional[str]:
+        """The word behind the one that is read, if there is one."""
+        return self.words[self.at] if self.at < len(self.words) else None
+
+    def step(self, word: str) -> None:
+        """Reads a word, and those that belong to it."""
+        self.at += 1
+        if word.split("=")[0] in VALUED:
+            self.option(word)
+        elif about_odd(word):
+            self.faults.append(about_odd(word) or "")
+            self.meant.update(known for known in VALUED if known in word)
+        elif is_dashed(word):
+            self.unknown(word)
+        elif self.is_stray(word):
+            self.stray()
+        else:
+            self.faults.append(about_word(word, self.name, self.value))
+
+    def option(self, word: str) -> None:
+        """An option with its value."""
+        name, mark, value = word.partition("=")
+        fault = None
+        if mark and not value:
+            fault = self.without_value(name)
+        elif not mark and self.next() is None:
+            fault = f"{name} has no value behind it: it is the last word"
+        else:
+            value = value if mark else self.words[self.at]
+            self.at += 0 if mark or value.split("=")[0] in VALUED else 1
+            fault = about_value(name, value)
+        self.faults.extend([fault] if fault else [])
+        self.values.setdefault(name, []).append(value)
+        self.name, self.value = name, value
+
+    def without_value(self, name: str) -> str:
+        """An option in one word that ends with its `=`."""
+        following = self.next()
+        if following is None or is_dashed(following):
+            return f"{name}= has no value"
+        self.at += 1
+        return f"{name}= has no value: no blank stands behind ="
+
+    def unknown(self, word: str) -> None:
+        """A word that begins like an option, with what looks like its value."""
+        name, mark, value = word.partition("=")
+        value = value if mark else self.next() or ""
+        self.faults.append(about_option(word, value))
+        self.meant.update({name.split(":")[0], guessed(name) or ""} & set(VALUED))
+        self.at += 0 if mark or self.next() is None or is_dashed(value) or is_file(value) else 1
+        self.name = self.value = ""
+
+    def is_stray(self, word: str) -> bool:
+        """Whether a word most likely belongs to the value before it."""
+        return self.name in ("--goal", "--region") and self.value != "=" and not is_file(word) and not PROPERTY.search(word)
+
+    def stray(self) -> None:
+        """Such a word, with those behind it."""
+        first = self.at - 1
+        while self.at < len(self.words) and not is_dashed(self.words[self.at]) and not is_file(self.words[self.at]):
+            self.at += 1
+        self.faults.append(about_stray(self.words[first : self.at], self.name, self.value))
+        self.name = ""
+
+
 def about_verify(words: Sequence[str]) -> List[str]:
     """What is wrong with a line of `verify`."""
-    found = walk(words)
-    faults = found.faults + [about_twice(n, v) for n, v in found.values.items() if len(v) > 1]
-    if any(word.split("=")[0] in HELP + VERSION for word in words):
-        return [fault for fault in faults if "stands alone" in fault]
-    named = found.meant | set(found.values)
+    helps = [about_help(word, "plift", "verify") for word in words if asks_for_help(word) and word.startswith("-")]
+    if helps:
+        return helps[:1]
+    walk = Walk(words)
+    faults = walk.faults + [about_twice(name, values) for name, values in walk.values.items() if len(values) > 1]
+    named = walk.meant | set(walk.values)
     if "--goal" not in named:
         faults.append("--goal LABEL is missing: the label of the states to be reached")
     if "--bound" not in named:
@@ -217,6 +221,8 @@ def about_verify(words: Sequence[str]) -> List[str]:
 def about_check(words: Sequence[str]) -> List[str]:
     """What is wrong with a line of `check`."""
     word = words[0]
+    if asks_for_help(word):
+        return [about_help(word, "plift", "check")]
     if word.startswith("-") or not is_file(word) and "=" in word:
         return [f"{shown(word)}: check takes no options; a report holds its model, region and bound"]
     return [f"{shown(word)}: check reads a report from standard input: plift check < {shlex.quote(word)}"]
@@ -226,6 +232,8 @@ def about_blocks(command: str, words: Sequence[str]) -> List[str]:
     """What is wrong with a line of `generate` or `selftest`."""
     if not words:
         return [f"{command} needs a number of blocks, from 1 to 32767: plift {command} 3"]
+    if asks_for_help(words[0]):
+        return [about_help(words[0], "plift", command)]
     if len(words) > 1:
         return [f"{command} takes one word, the number of blocks; {shown(words[1])} is one too many"]
     return [f"{shown(words[0])}: the number of blocks is from 1 to 32767, without a sign"]
@@ -233,27 +241,26 @@ def about_blocks(command: str, words: Sequence[str]) -> List[str]:
 
 def about_command(word: str) -> str:
     """What is wrong with the first word."""
-    odd = about_odd(word)
-    if odd:
-        return odd
+    guess = near(word, COMMANDS)
+    commands = f"the first word is one of {listed(COMMANDS)}"
+    if about_odd(word):
+        return about_odd(word) or ""
     if word in HELP:
         return "help: plift --help, or plift --help verify for a command's options"
     if word in VERSION:
         return "version: plift --version"
     if word.split("=")[0] in VALUED:
         return f"the command stands first: plift verify {word} .."
-    if word.startswith("-"):
-        return f"{shown(word)} is no command; the first word is one of {listed(COMMANDS)}"
     if re.fullmatch(r"(.*/)?plift", word):
-        return f"{shown(word)}: the program's own name stands once; then a command, one of {listed(COMMANDS)}"
+        return f"{shown(word)}: the program's own name stands once; then {commands}"
     if re.fullmatch(r"(.*/)?(plift[-_])?(view|summary|follow|picture)", word):
         return f"{shown(word)} is no command; pictures and tables of a report are made by plift-view"
     if is_file(word):
-        return f"{shown(word)}: a model's name isn't a word; a command stands first, and the file behind <: plift verify .. < {shlex.quote(word)}"
-    guess = near(word, COMMANDS)
-    if guess:
+        stands = f"a command stands first, and the file behind <: plift verify .. < {shlex.quote(word)}"
+        return f"{shown(word)}: a model's name isn't a word; {stands}"
+    if guess and not word.startswith("-"):
         return f"{shown(word)} is no command; is {guess} meant?"
-    return f"{shown(word)} is no command; the first word is one of {listed(COMMANDS)}"
+    return f"{shown(word)} is no command; {commands}"
 
 
 def words_hints(refusal: Refusal) -> List[str]:
@@ -263,12 +270,11 @@ def words_hints(refusal: Refusal) -> List[str]:
         return ["there is no word: a command stands first, one of " + listed(COMMANDS), "plift --help shows them"]
     command, behind = words[0], words[1:]
     if command not in COMMANDS:
-        guess = near(command, COMMANDS) or "verify"
-        return [about_command(command), FORMS[guess]]
+        return [about_command(command), FORMS[near(command, COMMANDS) or "verify"]]
     if command == "verify":
         faults = about_verify(behind)
     elif command == "check":
         faults = about_check(behind) if behind else []
     else:
         faults = about_blocks(command, behind)
-    return faults[:3] + [FORMS[command]]
+    return faults[:MOST_FAULTS] + [FORMS[command]]

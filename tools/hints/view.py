@@ -7,12 +7,12 @@ import shlex
 from typing import Dict, List, Optional, Sequence
 
 from hints.kinds import kind_of
-from hints.line import HELP, VERSION, is_dashed, is_file
 from hints.numbers import Wide, ratio
 from hints.options import FLAGS, VIEWED, Setting, view_options_of
 from hints.refusal import Refusal
 from hints.report import Report, read_report
 from hints.told import fraction, listed, meant, near, shown
+from hints.words import about_help, about_odd, asks_for_help, is_dashed, is_file
 
 KNOWN = VIEWED + FLAGS
 FORM = "plift-view [--x NAME] [--y NAME] [--at NAME=VALUE] < report > picture.svg, or --summary, or --follow"
@@ -22,10 +22,8 @@ OUTPUTS = ("-o", "--output", "--out", "--svg", "--file")
 def about_option(word: str) -> str:
     """What is wrong with a word that begins like an option and is none."""
     name = word.split("=")[0]
-    if name in HELP:
-        return f"{word}: help stands alone, as plift-view --help"
-    if name in VERSION:
-        return f"{word}: it stands alone, as plift-view --version"
+    if asks_for_help(word):
+        return about_help(word, "plift-view")
     if name in OUTPUTS:
         return f"{shown(word)}: the picture is written to standard output: plift-view .. > picture.svg"
     guess = "-" + name if "-" + name in KNOWN else near(name, KNOWN) if name.strip("-") else None
@@ -34,6 +32,9 @@ def about_option(word: str) -> str:
 
 def about_word(word: str) -> str:
     """What is wrong with a word that is no option."""
+    odd = about_odd(word)
+    if odd:
+        return odd
     if is_file(word):
         return f"{shown(word)}: a file is given by <, as in plift-view < {shlex.quote(word)}"
     if re.fullmatch(r"[A-Za-z_]\w*=.*", word):
