@@ -1,9 +1,9 @@
 #!/usr/bin/env python3
 """Tells a person more about a refusal:  PLIFT_NOTE=NOTE python3 tools/hints.py STATUS -- WORDS.. < TEXT
 
-STATUS is the one that plift ended with (or plift-view, by PLIFT_PROGRAM), NOTE what it wrote on standard error, WORDS its
-words, and TEXT what it read, which is looked at where it is a file. Writes at most four lines that begin with `hint: `
-to standard error. Always ends with 0 and within two seconds, whatever it is given.
+STATUS is the one that plift ended with (or plift-view, by PLIFT_PROGRAM), NOTE what it wrote on standard error, WORDS
+its words, and TEXT what it read, which is looked at where it is a file. Writes at most four lines that begin with
+`hint: ` to standard error. Always ends with 0 and within two seconds of processor time, whatever it is given.
 """
 
 from __future__ import annotations
@@ -29,6 +29,7 @@ class OutOfTime(Exception):
 
 
 def stop(_signal: int, _frame: object) -> None:
+    """Ends what takes too long."""
     raise OutOfTime
 
 

@@ -29,7 +29,7 @@ def view(words: str, usage: str, *told: str, text: bytes = REPORT) -> Mistake:
 
 
 CHECKED = [
-    check(RETRY, "line 1: Syntax", "that is a model text", "plift verify reads models"),
+    check(RETRY, "line 1: Syntax", "that is a model text", "verify reads models"),
     check(b"", "line 1: Truncated", "there is no text", "status"),
     check(gzip.compress(REPORT, mtime=0), "line 1: Truncated", "gzip"),
     check(b"\xef\xbb\xbf" + REPORT, "line 1: Syntax", "byte order mark"),

@@ -11,6 +11,8 @@ HEADING = re.compile(r"## Status ([0-9]+(?: of plift-view)?)\b")
 
 
 class Advice(NamedTuple):
+    """What is said of a note."""
+
     meaning: str
     remedy: str
 

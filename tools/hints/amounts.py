@@ -23,7 +23,8 @@ def goal_hints(refusal: Refusal) -> List[str]:
     place = next((i for i, c in enumerate(label) if not " " <= c <= "~"), None)
     if place is None:
         return []
-    return [f"--goal {shown(label)}: its character number {place + 1} (U+{ord(label[place]):04X}) isn't printable ASCII" + ("" if label[place] == "\t" else ", and no label of a model holds it")]
+    front = f"--goal {shown(label)}: its character number {place + 1} (U+{ord(label[place]):04X}) isn't printable ASCII"
+    return [front if label[place] == "\t" else front + ", and no label of a model holds it"]
 
 
 def decimals_around(value: Fraction) -> str:
@@ -39,7 +40,8 @@ def of_number(value: Fraction, word: str) -> Optional[str]:
         percent = f"; {word} percent are {fraction(value / 100)}" if value <= 100 else ""
         return f"--bound {shown(word)}: {fraction(value)} is above 1, and a probability isn't{percent}"
     if value.denominator >= PART:
-        return f"--bound {shown(word)} has the denominator {value.denominator:,} in lowest terms, 2^32 or more: take {decimals_around(value)}"
+        front = f"--bound {shown(word)} has the denominator {value.denominator:,} in lowest terms, 2^32 or more"
+        return f"{front}: take {decimals_around(value)}"
     return None
 
 
@@ -54,7 +56,8 @@ def of_text(word: str) -> Optional[str]:
         return f"--bound {shown(word)} divides by 0"
     value = about(word)
     if value is not None and 0 <= value <= 1:
-        return f"--bound {shown(word)}: write {fraction(value)}; a number has digits on both sides of its point, no sign, no blank, no %"
+        form = "a number has digits on both sides of its point, no sign, no blank, no %"
+        return f"--bound {shown(word)}: write {fraction(value)}; {form}"
     if value is not None:
         return f"--bound {shown(word)}: {fraction(value)} is no probability, which is from 0 to 1"
     return f"--bound {shown(word)} is no number: write a fraction as 3/100, or a decimal as 0.03 or 3e-2"

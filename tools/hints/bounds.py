@@ -10,7 +10,7 @@ from hints.drn import parameters_of
 from hints.numbers import about
 from hints.refusal import Refusal
 from hints.region import Clause, Fault, read_region
-from hints.told import fraction, listed, meant, pointed, shown
+from hints.told import fraction, listed, meant, pointed
 
 NUMBER = r"[-+]?[0-9.]+(?:[eE][-+]?[0-9]+)?(?:\s*/\s*[0-9.]+)?\s*%?"
 NAME = r"[A-Za-z_][A-Za-z0-9_]*"

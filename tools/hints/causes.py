@@ -3,7 +3,7 @@
 from __future__ import annotations
 
 import re
-from typing import List, Optional
+from typing import List
 
 from hints.drn import SECTIONS
 from hints.kinds import strange
@@ -27,6 +27,14 @@ LOOKALIKES = {
     "\r": "a carriage return within the line",
     "\0": "a byte 0",
     "\f": "a form feed",
+}
+
+OTHER_TYPES = {
+    "CTMC": "continuous time isn't taken; its embedded chain tells whether a state is ever reached (docs/STORM.md)",
+    "MARKOV AUTOMATON": "continuous time isn't taken",
+    "MA": "continuous time isn't taken",
+    "POMDP": "partial observation isn't taken",
+    "SMG": "games aren't taken",
 }
 
 
@@ -58,8 +66,10 @@ def not_text(place: Place) -> List[str]:
 def long_line(place: Place) -> List[str]:
     """How long the line is."""
     length = len(place.text.split(b"\n", place.number)[place.number - 1])
+    if length <= MOST_LINE:
+        return []
     one = " (the text has no line feed at all)" if b"\n" not in place.text else ""
-    return [f"line {place.number} has {length:,} bytes, and at most {MOST_LINE:,} are taken{one}"] if length > MOST_LINE else []
+    return [f"line {place.number} has {length:,} bytes, and at most {MOST_LINE:,} are taken{one}"]
 
 
 def open_quote(place: Place) -> List[str]:
@@ -78,13 +88,7 @@ def unsupported_type(place: Place) -> List[str]:
     plain = kind.strip("\"';").split("//")[0].strip()
     if plain.upper() in ("DTMC", "MDP"):
         return [place.here(f"write @type: {plain.upper()}, in capitals and with nothing behind it")]
-    why = {
-        "CTMC": "continuous time isn't taken; the embedded chain answers whether a state is ever reached (docs/STORM.md)",
-        "MARKOV AUTOMATON": "continuous time isn't taken",
-        "MA": "continuous time isn't taken",
-        "POMDP": "partial observation isn't taken",
-        "SMG": "games aren't taken",
-    }.get(plain.upper(), "a model is a DTMC or an MDP")
+    why = OTHER_TYPES.get(plain.upper(), "a model is a DTMC or an MDP")
     if plain.upper() in ("IDTMC", "IMDP", "PDTMC", "PMDP"):
         why = f"write @type: {plain.upper()[1:]}; parameters stand behind @parameters"
     return [place.here(why)]
@@ -123,7 +127,8 @@ def unknown_section(place: Place) -> List[str]:
         return []
     if place.model.in_model():
         if place.content == b"@model":
-            return [place.here(f"@model stands at line {place.model.sections['@model']} already: are these two texts in one file?")]
+            first = place.model.sections["@model"]
+            return [place.here(f"@model stands at line {first} already: are these two texts in one file?")]
         what = "move it before that line" if section_in(place.content) else "take it out with its lines"
         return [place.here(f"behind @model no section stands: {what}")]
     text = place.content.decode("latin-1")
@@ -165,7 +170,9 @@ def repeated_name(place: Place) -> List[str]:
 def limit_name(place: Place) -> List[str]:
     """Which name is too long."""
     name = next((word for word in re.findall(rb"[A-Za-z0-9_]+", place.content) if len(word) > 64), None)
-    return [f"line {place.number}: the name {shown(name)} has {len(name)} bytes, and at most 64 are taken"] if name else []
+    if name is None:
+        return []
+    return [f"line {place.number}: the name {shown(name)} has {len(name)} bytes, and at most 64 are taken"]
 
 
 def limit_parameters(place: Place) -> List[str]:
@@ -181,9 +188,7 @@ def unknown_place(place: Place) -> List[str]:
     if not match or name in place.model.placeholders:
         return []
     known = list(place.model.placeholders)
-    told = f"those that are: {listed(['$' + k for k in known])}{meant(name, known)}" if known else "the text has no @placeholders"
+    told = "the text has no @placeholders"
+    if known:
+        told = f"those that are: {listed(['$' + name for name in known])}{meant(name, known)}"
     return [place.here(f"${name} isn't defined; {told}")]
-
-
-def at_line(place: Place, what: Optional[str]) -> List[str]:
-    return [place.here(what)] if what else []

@@ -6,13 +6,16 @@ import io
 import re
 from typing import Dict, Iterator, List, NamedTuple, Optional, Tuple
 
-SECTIONS = ["@type:", "@value_type:", "@parameters", "@reward_models", "@nr_states", "@nr_choices", "@placeholders", "@model"]
+SECTIONS = ["@type:", "@value_type:", "@parameters", "@reward_models", "@nr_states", "@nr_choices", "@placeholders"]
+SECTIONS += ["@model"]
 WORD = re.compile(rb'"[^"]*"|\[[^\]]*\]|[^ \t"\[][^ \t]*|["\[].*')
 TRANSITION = re.compile(rb"([0-9]+)[ \t]*:[ \t]*(.*)", re.S)
 PLACE = re.compile(rb"\$([A-Za-z0-9_]+)[ \t]*:[ \t]*(.*)", re.S)
 
 
 class Transition(NamedTuple):
+    """A transition: its line, its target, and how its value is written."""
+
     line: int
     target: int
     value: bytes
@@ -31,32 +34,31 @@ class Choice(NamedTuple):
 
 
 class State(NamedTuple):
+    """A state: its line, and the words of that line."""
+
     line: int
     words: List[bytes]
 
 
 class Model:
-    """What was read of a text: its sections, and its states."""
+    """What was read of a text: its sections, its states, and the choices of the last state."""
 
     def __init__(self) -> None:
         self.kind = ""
-        self.sections: Dict[str, int] = {}
+        self.sections: Dict[str, int] = {}  # the line of each
         self.parameters: List[str] = []
         self.parameters_line = 0
-        self.placeholders: Dict[str, Tuple[int, bytes]] = {}
-        self.numbers: Dict[str, Tuple[int, bytes]] = {}
+        self.placeholders: Dict[str, Tuple[int, bytes]] = {}  # the line and the value of each
+        self.numbers: Dict[str, Tuple[int, bytes]] = {}  # the line and the text of what a section announces
         self.states: List[State] = []
         self.choices: List[Choice] = []
-        self.choice_count = 0
-        self.due = ""
-        self.lines = 0
-        self.line: Optional[bytes] = None
+        self.choice_count = 0  # of all states
+        self.due = ""  # the section whose lines may follow
+        self.line: Optional[bytes] = None  # the one that was asked for
 
     def in_model(self) -> bool:
+        """Whether `@model` was read."""
         return "@model" in self.sections
-
-    def names(self) -> List[bytes]:
-        return [name.encode("latin-1") for name in self.parameters]
 
 
 def content_of(line: bytes) -> bytes:
@@ -121,7 +123,6 @@ def read_states(model: Model, lines: Iterator[Tuple[int, bytes]], stop: int, sta
     transitions: List[Tuple[int, bytes]] = []
     for number, line in lines:
         content = line.strip(b" \t\r\n")
-        model.lines = number
         if number == stop:
             model.line = content_of(line)
             return
@@ -144,11 +145,10 @@ def is_passed_over(content: bytes, due: str) -> bool:
 
 
 def read_model(text: bytes, stop: int = 0, state: int = -1) -> Model:
-    """Reads up to before the line `stop`, which is kept as it is; or up to the end of a state's rows; else the whole."""
+    """Reads up to before the line `stop`, which is kept; or up to the end of a state's rows; else the whole."""
     model, lines = Model(), enumerate(io.BytesIO(text), 1)
     for number, line in lines:
         content = content_of(line)
-        model.lines = number
         if number == stop:
             model.line = content
             return model

@@ -192,7 +192,8 @@ class Walk:
 
     def is_stray(self, word: str) -> bool:
         """Whether a word most likely belongs to the value before it."""
-        return self.name in ("--goal", "--region") and self.value != "=" and not is_file(word) and not PROPERTY.search(word)
+        has_value = self.name in ("--goal", "--region") and self.value != "="
+        return has_value and not is_file(word) and not PROPERTY.search(word)
 
     def stray(self) -> None:
         """Such a word, with those behind it."""

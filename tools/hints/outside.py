@@ -53,7 +53,8 @@ def size_hints(refusal: Refusal) -> List[str]:
     if refusal.command() == "selftest":
         return [f"the report would have more than {MOST_BYTES:,} bytes: selftest with fewer blocks"]
     if refusal.command() == "check" or refusal.program != "plift":
-        return [f"the report has more than {MOST_BYTES:,} bytes (64 MiB): verify with a lower --depth, or the region in parts"]
+        told = f"the report has more than {MOST_BYTES:,} bytes (64 MiB)"
+        return [f"{told}: verify with a lower --depth, or the region in parts"]
     return [f"the text has more than {MOST_BYTES:,} bytes (64 MiB): take a smaller model"]
 
 

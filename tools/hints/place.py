@@ -19,9 +19,11 @@ class Place(NamedTuple):
 
     @property
     def text(self) -> bytes:
+        """The whole text."""
         return self.refusal.text or b""
 
     def names(self) -> List[str]:
+        """The parameters that are declared in front of the line."""
         return self.model.parameters
 
     def here(self, what: str) -> str:

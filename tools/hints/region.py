@@ -39,6 +39,7 @@ class Reader:
         self.at = 0
 
     def skip(self) -> None:
+        """Passes blanks."""
         self.at = BLANKS.match(self.text, self.at).end()
 
     def take(self, mark: str) -> bool:
@@ -49,10 +50,12 @@ class Reader:
         return found
 
     def need(self, mark: str) -> None:
+        """Passes this, which has to stand next."""
         if not self.take(mark):
             raise Fault("Syntax", self.at, f"{mark} is wanted here")
 
     def literal(self) -> "re.Match[str]":
+        """A literal's match."""
         self.skip()
         match = LITERAL.match(self.text, self.at)
         if not match:
@@ -70,6 +73,7 @@ class Reader:
         return place, negative, above, below
 
     def name(self) -> Tuple[int, str]:
+        """A name, and where it stands."""
         self.skip()
         match = NAME.match(self.text, self.at)
         if not match:

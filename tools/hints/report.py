@@ -23,9 +23,11 @@ class Report(NamedTuple):
     numbers: Dict[bytes, int]
 
     def names(self) -> List[str]:
+        """The parameters."""
         return [name.decode("latin-1") for name in self.head.get(b"parameters", [])[1:]]
 
     def number(self, key: bytes) -> Optional[int]:
+        """The number that a line of the head tells."""
         words = self.head.get(key, [])
         return int(words[0]) if len(words) == 1 and re.fullmatch(rb"[0-9]{1,30}", words[0]) else None
 
@@ -68,7 +70,8 @@ def polynomial_of(words: List[bytes], names: List[str], common: int) -> Optional
         match = re.fullmatch(rb"([0-9]{1,6}):(-?[0-9]{1,40})", word)
         if not match or int(match[1]) >= 2 ** len(names):
             return None
-        poly[frozenset(name for bit, name in enumerate(names) if int(match[1]) >> bit & 1)] = Fraction(int(match[2]), common)
+        product = frozenset(name for bit, name in enumerate(names) if int(match[1]) >> bit & 1)
+        poly[product] = Fraction(int(match[2]), common)
     return poly
 
 

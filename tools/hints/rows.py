@@ -36,6 +36,7 @@ class Row(NamedTuple):
     names: Sequence[str]
 
     def where(self) -> str:
+        """The row, and the lines on which it stands."""
         lines = [entry.line for entry in self.entries]
         place = f"lines {lines[0]} to {lines[-1]}" if len(lines) > 1 else f"line {lines[0]}" if lines else "no lines"
         return f"state {self.state} choice {self.choice} ({place})"
@@ -46,14 +47,11 @@ class Row(NamedTuple):
         return [name for name in self.names if name in found]
 
 
-Wider = Callable[[], Optional[str]]
-
-
 class Around(NamedTuple):
     """What surrounds a row: the region's ends, where they are known, and what would do where it is too wide."""
 
     ends: Dict[str, Tuple[Fraction, Fraction]]
-    fits: Wider
+    fits: Callable[[], Optional[str]]
 
 
 def value_of(model: Model, text: bytes) -> Polynomial:
@@ -89,7 +87,8 @@ def sum_hints(row: Row, number: int, told: int) -> List[str]:
     what = "its probabilities" if not row.parameters() else "its terms without parameters"
     lines = [f"{row.where()}: {what} sum to {fraction(found)}, not to 1"]
     if found and Fraction(told) != found:
-        lines.append(f"the note tells it over the model's common denominator: {told} of {fraction(Fraction(told) / found)}")
+        common = fraction(Fraction(told) / found)
+        lines.append(f"the note tells it over the model's common denominator: {told} of {common}")
     return lines + [closing(row)]
 
 
@@ -99,7 +98,8 @@ def closing(row: Row) -> str:
     if not row.parameters() and others >= 1 or len(row.entries) < 2:
         return "the probabilities of a choice sum to 1; percents and rates are divided by their sum first"
     last = row.entries[-1]
-    rest = "".join(f"-({entry.text})" if re.search("[-+]", entry.text) else f"-{entry.text}" for entry in row.entries[:-1])
+    texts = [entry.text for entry in row.entries[:-1]]
+    rest = "".join(f"-({text})" if re.search("[-+]", text) else f"-{text}" for text in texts)
     line = f"{last.target} : 1{rest}"
     rounded = "; fractions as 1/3 aren't rounded" if any("." in entry.text for entry in row.entries) else ""
     if len(line) > MOST_WIDTH or "$" in line:
@@ -112,9 +112,10 @@ def product_hints(row: Row, names: frozenset, found: Fraction) -> List[str]:
     letters = "*".join(name for name in row.names if name in names)
     terms = [(entry, entry.value[names]) for entry in row.entries if names in entry.value]
     told = ", ".join(f"{fraction(c)} at line {entry.line} ({cut(entry.text, 24)})" for entry, c in terms[:4])
+    opposite = f"where one transition has +{letters}, another one has -{letters}, as in 1-{letters}"
     return [
         f"{row.where()}: the coefficients of {letters} sum to {fraction(found)}, not to 0: {told}",
-        f"where one transition has +{letters}, another one has -{letters}, as in 1-{letters}: is one missing, or is another name meant?",
+        f"{opposite}: is one missing, or is another name meant?",
     ]
 
 
@@ -135,9 +136,10 @@ def negative_hints(row: Row, target: int, corner: int, around: Around) -> List[s
     value = value_at(entry.value, values)
     if value >= 0:
         return []
-    place = ", ".join(f"{name} = {fraction(values[name])}" for name in row.parameters() if name in parameters_in(entry.value))
-    at = f" at {place}" if place else ""
-    return [f"line {entry.line}: {entry.target} : {cut(entry.text, 40)} is {fraction(value)}{at}, and a probability isn't negative"] + crossing(entry)
+    own = [name for name in row.parameters() if name in parameters_in(entry.value)]
+    at = " at " + ", ".join(f"{name} = {fraction(values[name])}" for name in own) if own else ""
+    front = f"line {entry.line}: {entry.target} : {cut(entry.text, 40)}"
+    return [f"{front} is {fraction(value)}{at}, and a probability isn't negative"] + crossing(entry)
 
 
 def crossing(entry: Entry) -> List[str]:
@@ -212,8 +214,9 @@ def fits_for(row: Row, refusal: Refusal, clauses: Sequence[Clause]) -> Optional[
     if depths:
         told.append(f"--depth {depths[-1]}")
     if told:
-        return f"this row fits with {' or '.join(told)}; so do ends with a smaller common denominator than {grid_of(clauses):,}"
-    return f"the common denominator of the ends is {grid_of(clauses):,}, and that of the model {common:,}: take smaller ones"
+        grid = f"smaller common denominator than {grid_of(clauses):,}"
+        return f"this row fits with {' or '.join(told)}; ends with a {grid} help, too"
+    return f"the ends' common denominator is {grid_of(clauses):,}, and that of the model {common:,}: take smaller ones"
 
 
 def rows_hints(refusal: Refusal, state: int, choice: int, fault: str) -> List[str]:

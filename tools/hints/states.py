@@ -58,9 +58,10 @@ def extra_choice(place: Place) -> List[str]:
     if not place.model.choices or place.model.kind != "DTMC":
         return []
     first = place.model.choices[0].line
+    line = place.model.sections["@type:"]
     return [
         place.here(f"a second choice of state {place.state()}, whose first begins at line {first}"),
-        f"a DTMC's states have one choice each: write @type: MDP at line {place.model.sections.get('@type:', 1)}, or join the choices",
+        f"a DTMC's states have one choice each: write @type: MDP at line {line}, or join the choices",
     ]
 
 
@@ -106,18 +107,21 @@ def repeated_target(place: Place) -> List[str]:
 
 def no_state(place: Place) -> List[str]:
     """That no state stands there."""
-    return ["no line of the text begins with the word state: behind @model stand state 0 init, its transitions, and so on"]
+    return ["no line behind @model begins with the word state", "there stand state 0 init, its transitions, and so on"]
 
 
 def count_mismatch(place: Place) -> List[str]:
     """What was announced, and what is there."""
     model = read_model(place.text)
     told = []
-    for name, what, count in (("@nr_states", "state", len(model.states)), ("@nr_choices", "choice", model.choice_count)):
+    counts = (("@nr_states", "state", len(model.states)), ("@nr_choices", "choice", model.choice_count))
+    for name, what, count in counts:
         line, number = model.numbers.get(name, (0, b""))
         if line and number.isdigit() and int(number) != count:
             told.append(f"line {line} announces {counted(int(number), what)}, and the text has {count:,}")
-    return told[:1] + ["mend the number, or take out the section with its number; was the text cut off?"] if told else []
+    if not told:
+        return []
+    return told[:1] + ["mend the number, or take out the section with its number; was the text cut off?"]
 
 
 def target_range(place: Place) -> List[str]:
@@ -141,8 +145,10 @@ def init_count(place: Place) -> List[str]:
     line = states[0].line if states else 0
     close = near("init", list(labels_in(states)))
     if close:
-        return [f"no state carries the label init; is {shown(close)} meant?", "labels stand apart by blanks, without commas or other marks"]
-    return ["no state carries the label init", f"write init behind the initial state's number, as at line {line}: state 0 init"]
+        what = f"no state carries the label init; is {shown(close)} meant?"
+        return [what, "labels stand apart by blanks, without commas or other marks"]
+    remedy = f"write init behind the initial state's number, as at line {line}: state 0 init"
+    return ["no state carries the label init", remedy]
 
 
 def labels_in(states: List[State]) -> Dict[bytes, List[int]]:

@@ -8,7 +8,7 @@ from typing import List, Sequence
 from hints.drn import TRANSITION
 from hints.kinds import kind_of, strange
 from hints.place import Place
-from hints.told import pointed, printable, shown
+from hints.told import pointed, printable
 from hints.transitions import syntax_in
 from hints.value import fault_in
 
@@ -27,7 +27,8 @@ def in_names(place: Place) -> List[str]:
     for match in re.finditer(r"[^ \t]+", text):
         if not NAME.fullmatch(match[0]):
             at = match.start() + (NAME.match(match[0]) or re.match("", "")).end()
-            lines = pointed(f"line {place.number}: ", place.content, at, "a name is a letter or _, then letters, digits and _")
+            what = "a name is a letter or _, then letters, digits and _"
+            lines = pointed(f"line {place.number}: ", place.content, at, what)
             return lines + (["between names stand blanks, no commas"] if "," in text else [])
     return []
 
@@ -41,8 +42,9 @@ def in_front(place: Place) -> List[str]:
         return [place.here(f"a number of 1 to 20 digits is wanted behind {due}")]
     if due == "@placeholders":
         return syntax_in(place) or [place.here("a placeholder is written $name : value")]
-    if place.model.parameters_line and NAME.fullmatch(content.decode("latin-1").strip()) and place.number == place.model.parameters_line + 1:
-        return [place.here(f"all parameters stand on one line, here line {place.model.parameters_line}")]
+    names = place.model.parameters_line
+    if names and place.number == names + 1 and NAME.fullmatch(content.decode("latin-1")):
+        return [place.here(f"all parameters stand on one line, here line {names}")]
     if re.match(rb"(state|action)\b", content) or TRANSITION.fullmatch(content):
         return [place.here("a line @model stands before the first state")]
     return [place.here("before @model stand sections alone, which begin with @, and comments, which begin with //")]
@@ -90,7 +92,8 @@ def in_model(place: Place) -> List[str]:
     if re.match(rb"action([ \t]|$)", content):
         if not place.model.states:
             return [place.here("an action stands behind its state: a line state 0 comes first")]
-        return open_group(place) or [place.here('behind action stand at most a name, in quotes where it has blanks, and a group [..]')]
+        stands = "behind action stand at most a name, in quotes where it has blanks, and a group [..]"
+        return open_group(place) or [place.here(stands)]
     if content.isdigit():
         return [place.here(f"a transition is written {printable(content)} : VALUE; was the text cut off?")]
     if re.fullmatch(rb"[0-9]+( +[A-Za-z_]\w*)*", content) and not arrow_like(content, place.names()):

@@ -7,7 +7,7 @@ from typing import List, NamedTuple, Optional
 
 from hints.drn import PLACE, TRANSITION
 from hints.place import Place
-from hints.told import listed, meant, pointed, printable, shown
+from hints.told import listed, meant, pointed, printable
 from hints.value import Fault, fault_in
 
 
@@ -35,6 +35,7 @@ def fault_at(place: Place, cause: str) -> Optional[Fault]:
 
 
 def point(place: Place, fault: Fault, what: str) -> List[str]:
+    """The line with a caret at the fault."""
     return pointed(f"line {place.number}: ", place.content, fault.place, what)
 
 
@@ -64,7 +65,8 @@ def unknown_name(place: Place) -> List[str]:
         return []
     names, name = place.names(), fault.what
     if place.content[fault.place + len(name) :].lstrip().startswith(b"("):
-        return point(place, fault, f"{printable(name)} isn't declared") + ["functions aren't taken: write out what it comes to"]
+        what = f"{printable(name)} isn't declared"
+        return point(place, fault, what) + ["functions aren't taken: write out what it comes to"]
     if not names:
         told = "no parameters are declared: write @parameters and behind it a line with their names, before @model"
         if place.model.due == "@placeholders":
@@ -90,7 +92,8 @@ def parametric_divisor(place: Place) -> List[str]:
     fault = fault_at(place, "ParametricDivisor")
     if not fault:
         return []
-    return point(place, fault, f"this divides by {fault.what}") + ["a divisor is a number; values are affine in each parameter"]
+    what = f"this divides by {fault.what}"
+    return point(place, fault, what) + ["a divisor is a number; values are affine in each parameter"]
 
 
 def told_there(place: Place, cause: str) -> List[str]:

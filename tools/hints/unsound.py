@@ -12,6 +12,10 @@ from hints.rows import Around, fault_hints
 from hints.told import counted, shown
 
 MOST_LINE = 2**20
+REJECT = (
+    "reject e E k K m M b Y/Z, M being E times K, Y the initial state's number in the line y, Z 2^precision, and rank 0"
+    " standing at goal states alone"
+)
 AGAIN = "the report was changed, or isn't plift's: don't use it, and run verify again"
 FORMS = {
     b"plift": "plift 1",
@@ -33,14 +37,12 @@ def of_text(text: bytes) -> List[str]:
     """What the text is, where it isn't a report."""
     kind = kind_of(text)
     if kind == "model":
-        return ["that is a model text", "plift verify reads models; check and plift-view read the report that verify writes"]
+        return ["that is a model text", "verify reads models; check and plift-view read the report that verify writes"]
     if kind in ("prism", "jani"):
         return ["that looks like a model", "check and plift-view read the report that plift verify writes"]
     if kind == "empty":
-        return [
-            "there is no text",
-            "what should have written the report was refused or stopped: look at its status, in a pipe with set -o pipefail",
-        ]
+        refused = "what should have written the report was refused or stopped"
+        return ["there is no text", f"{refused}: look at its status, in a pipe with set -o pipefail"]
     return [] if kind == "report" else told_of(kind)
 
 
@@ -52,7 +54,7 @@ def due_at(report: Report, number: int) -> Optional[str]:
         return None
     before = report.lines[number - 2].split(b" ")[0]
     if report.lines[number - 1 : number] and report.lines[number - 1].startswith(b"reject "):
-        return "reject e E k K m M b Y/Z, M being E times K, Y the initial state's number in the line y, Z 2^precision, and rank 0 standing at goal states alone"
+        return REJECT
     if before in TAIL[:-1]:
         return FORMS[TAIL[TAIL.index(before) + 1]]
     if before in LEAF[:-1]:
@@ -66,7 +68,8 @@ def of_rows(report: Report, number: int) -> Optional[str]:
     """What a line among the rows has to be, by the count of the row before it."""
     row = next((at for at in range(number - 1, 0, -1) if not report.lines[at - 1].startswith(b"to ")), 0)
     words = report.lines[row - 1].split(b" ")
-    if words[0] == b"row" and len(words) == 4 and re.fullmatch(rb"[0-9]{1,9}", words[3]) and number - row <= int(words[3]):
+    is_row = words[0] == b"row" and len(words) == 4 and re.fullmatch(rb"[0-9]{1,9}", words[3])
+    if is_row and number - row <= int(words[3]):
         return f"transition {number - row} of {int(words[3])}: to T and its terms M:c"
     return "row S A N for the next state or choice, or bound n/d in lowest terms behind the last one"
 
@@ -107,7 +110,8 @@ def limit_hints(text: bytes, number: int) -> List[str]:
     line, due = report.lines[number - 1], due_at(report, number)
     if len(line) > MOST_LINE:
         return [f"line {number} has {len(line):,} bytes, and at most {MOST_LINE:,} are taken", AGAIN]
-    return [f"line {number}: {shown(line)}: a number or a name is above a limit" + (f"; what is due there: {due}" if due else ""), AGAIN]
+    what = f"line {number}: {shown(line)}: a number or a name is above a limit"
+    return [what + (f"; what is due there: {due}" if due else ""), AGAIN]
 
 
 def truncated_hints(text: bytes, number: int) -> List[str]:
@@ -155,7 +159,8 @@ def end_of_tree(report: Report) -> int:
 def version_hints(text: bytes) -> List[str]:
     """Which version it is."""
     line = text.split(b"\n", 1)[0]
-    return [f"line 1 is {shown(line)}, and this plift reads version 1", "check it with a plift that writes that version"]
+    what = f"line 1 is {shown(line)}, and this plift reads version 1"
+    return [what, "check it with a plift that writes that version"]
 
 
 def row_hints(text: bytes, state: int, choice: int, fault: str) -> List[str]:

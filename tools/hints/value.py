@@ -14,10 +14,18 @@ Polynomial = Dict[FrozenSet[str], Fraction]
 MOST_SYMBOLS = 4096
 MOST_DEPTH = 64
 MOST_PARAMETERS = 4
-SYMBOL = re.compile(r"(?P<literal>%s)|(?P<name>[A-Za-z_][A-Za-z0-9_]*)|(?P<place>\$[A-Za-z0-9_]+)|(?P<mark>[^ \t])" % LITERAL.pattern, re.S)
+KINDS = {
+    "literal": LITERAL.pattern,
+    "name": r"[A-Za-z_][A-Za-z0-9_]*",
+    "place": r"\$[A-Za-z0-9_]+",
+    "mark": r"[^ \t]",
+}
+SYMBOL = re.compile("|".join(f"(?P<{kind}>{form})" for kind, form in KINDS.items()), re.S)
 
 
 class Symbol(NamedTuple):
+    """A symbol: its kind, its text, and where it stands."""
+
     kind: str
     text: str
     place: int
@@ -43,8 +51,7 @@ class Tree(NamedTuple):
 
 def symbols_of(text: str) -> List[Symbol]:
     """The symbols of a value, each the longest that fits."""
-    kinds = ("literal", "name", "place", "mark")
-    return [Symbol(next(kind for kind in kinds if m[kind]), m[0], m.start()) for m in SYMBOL.finditer(text)]
+    return [Symbol(next(kind for kind in KINDS if m[kind]), m[0], m.start()) for m in SYMBOL.finditer(text)]
 
 
 class Parser:
@@ -56,9 +63,11 @@ class Parser:
         self.at = self.depth = 0
 
     def next(self) -> Symbol:
+        """The symbol that is due."""
         return self.symbols[self.at] if self.at < len(self.symbols) else Symbol("end", "", len(self.text))
 
     def parse(self) -> Tree:
+        """The whole text as a value."""
         if len(self.symbols) > MOST_SYMBOLS:
             raise Fault("Long", 0, f"{len(self.symbols):,} symbols, and at most {MOST_SYMBOLS:,} are taken")
         tree = self.value()
@@ -74,6 +83,7 @@ class Parser:
         raise Fault("Syntax", symbol.place, wanted)
 
     def operation(self, signs: str, part: Callable[[], Tree]) -> Tree:
+        """Parts with these signs between them, from the left."""
         tree = part()
         while self.next().text in signs and self.next().kind == "mark":
             sign = self.next()
@@ -82,17 +92,22 @@ class Parser:
         return tree
 
     def value(self) -> Tree:
+        """A sum."""
         return self.operation("+-", self.term)
 
     def term(self) -> Tree:
+        """A product."""
         return self.operation("*/", self.factor)
 
     def deeper(self) -> None:
+        """One more parenthesis or unary minus."""
         self.depth += 1
         if self.depth > MOST_DEPTH:
-            raise Fault("Deep", self.next().place, f"more than {MOST_DEPTH} parentheses and unary minus signs stand around this place")
+            what = f"more than {MOST_DEPTH} parentheses and unary minus signs stand around this place"
+            raise Fault("Deep", self.next().place, what)
 
     def factor(self) -> Tree:
+        """A number, a parameter, a minus with its factor, or a value in parentheses."""
         symbol = self.next()
         place = symbol.place
         if symbol.text in ("-", "("):
@@ -118,6 +133,7 @@ class Parser:
 
 
 def literal_at(symbol: Symbol) -> Fraction:
+    """The number that a literal writes."""
     match = LITERAL.fullmatch(symbol.text)
     try:
         return literal_value(*match.groups()) if match else Fraction(0)
@@ -126,14 +142,17 @@ def literal_at(symbol: Symbol) -> Fraction:
 
 
 def constant(number: Fraction) -> Polynomial:
+    """A number as a polynomial."""
     return {frozenset(): number} if number else {}
 
 
 def parameters_in(poly: Polynomial) -> List[str]:
+    """The parameters that occur in a polynomial."""
     return sorted({name for product in poly for name in product})
 
 
 def product(tree: Tree, a: Polynomial, b: Polynomial) -> Polynomial:
+    """The product, whose factors share no parameter."""
     shared = sorted(set(parameters_in(a)) & set(parameters_in(b)))
     if shared:
         raise Fault("SharedParameter", tree.place, shared[0])
@@ -141,6 +160,7 @@ def product(tree: Tree, a: Polynomial, b: Polynomial) -> Polynomial:
 
 
 def quotient(tree: Tree, a: Polynomial, b: Polynomial) -> Polynomial:
+    """The quotient by a number."""
     if parameters_in(b):
         raise Fault("ParametricDivisor", tree.place, ", ".join(parameters_in(b)))
     if not b:
@@ -149,6 +169,7 @@ def quotient(tree: Tree, a: Polynomial, b: Polynomial) -> Polynomial:
 
 
 def total(a: Polynomial, b: Polynomial, sign: int) -> Polynomial:
+    """The sum, or with the sign -1 the difference."""
     keys = list(a) + [names for names in b if names not in a]
     sums = {names: a.get(names, Fraction(0)) + sign * b.get(names, Fraction(0)) for names in keys}
     return {names: c for names, c in sums.items() if c}
@@ -163,6 +184,7 @@ def common_of(poly: Polynomial) -> int:
 
 
 def narrow(tree: Tree, poly: Polynomial) -> Polynomial:
+    """The polynomial, unless its numbers are too large."""
     common = common_of(poly)
     if max([common] + [abs(c * common) for c in poly.values()]) >= SIZE:
         raise Fault("Wide", tree.place, "what this operation gives needs 2^62 or more above or below the line")
@@ -193,8 +215,9 @@ def expanded(tree: Tree) -> Polynomial:
 def read_value(text: str, names: Sequence[str]) -> Polynomial:
     """What a value comes to."""
     poly = expanded(Parser(text, names).parse())
-    if len(parameters_in(poly)) > MOST_PARAMETERS:
-        raise Fault("LimitValueParameters", 0, f"{len(parameters_in(poly))} parameters: {', '.join(parameters_in(poly))}")
+    names = parameters_in(poly)
+    if len(names) > MOST_PARAMETERS:
+        raise Fault("LimitValueParameters", 0, f"{len(names)} parameters: {', '.join(names)}")
     return poly
 
 

@@ -40,7 +40,8 @@ def about_word(word: str) -> str:
     if re.fullmatch(r"[A-Za-z_]\w*=.*", word):
         return f"{shown(word)}: a value is given by --at {word}"
     guess = next((known for known in FLAGS if known == "--" + word), None)
-    return f"{shown(word)} is no option" + (f"; is {guess} meant?" if guess else "; all words of plift-view are options")
+    told = f"is {guess} meant?" if guess else "all words of plift-view are options"
+    return f"{shown(word)} is no option; {told}"
 
 
 def walk(words: Sequence[str]) -> List[str]:
@@ -67,7 +68,8 @@ def walk(words: Sequence[str]) -> List[str]:
                 at += 1
         elif not value:
             faults.append(f"{name}= has no value")
-    faults.extend(f"{name} stands {count} times: once is enough" for name, count in seen.items() if count > 1 and name != "--at")
+    twice = {name: count for name, count in seen.items() if count > 1 and name != "--at"}
+    faults.extend(f"{name} stands {count} times: once is enough" for name, count in twice.items())
     return faults + of_flags(seen)
 
 
