@@ -4,10 +4,15 @@ from __future__ import annotations
 
 import os
 import shlex
+import sys
+from functools import lru_cache
 from pathlib import Path
 from typing import List, NamedTuple, Optional, Tuple
 
 TOP = Path(__file__).resolve().parent.parent.parent
+sys.path.insert(0, str(TOP / "tools"))
+
+import hints  # noqa: E402
 
 
 def example(name: str) -> bytes:
@@ -43,6 +48,12 @@ class Mistake(NamedTuple):
 
     def split(self) -> List[str]:
         return shlex.split(self.words)
+
+
+@lru_cache(maxsize=None)
+def told_of(mistake: Mistake) -> List[str]:
+    """The hints for a mistake, as they are made."""
+    return hints.explained(hints.Refusal(mistake.status, mistake.note, mistake.split(), mistake.text, mistake.program))
 
 
 def program(name: str = "plift") -> Optional[str]:

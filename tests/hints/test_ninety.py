@@ -22,7 +22,7 @@ import of_models  # noqa: E402
 import of_regions  # noqa: E402
 import of_reports  # noqa: E402
 import of_rows  # noqa: E402
-from table import Mistake, program  # noqa: E402
+from table import Mistake, program, told_of  # noqa: E402
 
 TABLES = {module.__name__: module.MISTAKES for module in (of_lines, of_models, of_regions, of_reports, of_rows)}
 LEAST = 200  # mistakes in all tables
@@ -87,8 +87,7 @@ class Mistakes(unittest.TestCase):
         """The hints hold what the table asks for, in a few printable lines."""
 
         def helps(mistake: Mistake) -> None:
-            asked = hints.Refusal(mistake.status, mistake.note, mistake.split(), mistake.text, mistake.program)
-            lines = hints.explained(asked)
+            lines = told_of(mistake)
             for part in mistake.told:
                 self.assertIn(part, "\n".join(lines))
             self.assertEqual(bool(lines), mistake.status != 0)

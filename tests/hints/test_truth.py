@@ -18,7 +18,7 @@ sys.dont_write_bytecode = True
 sys.path[:0] = [str(Path(__file__).resolve().parent), str(Path(__file__).resolve().parent.parent.parent / "tools")]
 
 import hints  # noqa: E402
-from table import Mistake, program  # noqa: E402
+from table import Mistake, program, told_of  # noqa: E402
 from test_ninety import TABLES, named  # noqa: E402
 
 
@@ -138,11 +138,6 @@ PROPOSALS = [
 ]
 LEAST = 60  # proposals that are taken
 OTHERS = ("is verify meant?",)  # proposals of a command, which needs more words than that
-
-
-def told_of(mistake: Mistake) -> List[str]:
-    asked = hints.Refusal(mistake.status, mistake.note, mistake.split(), mistake.text, mistake.program)
-    return hints.finished(hints.explained(asked))
 
 
 class Truth(unittest.TestCase):
