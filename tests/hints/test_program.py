@@ -6,6 +6,7 @@ import importlib.util
 import os
 import random
 import resource
+import shutil
 import subprocess
 import sys
 import tempfile
@@ -49,7 +50,7 @@ class Ended:
             environment[b"PLIFT_NOTE"] = note if isinstance(note, bytes) else note.encode()
         for name, value in streams.pop("more", {}).items():
             environment[name.encode()] = value.encode()
-        command = [sys.executable, "-B", str(PROGRAM)] + arguments
+        command = [sys.executable, "-B", str(streams.pop("program", PROGRAM))] + arguments
         streams.setdefault("stdin", subprocess.DEVNULL)
         ran = subprocess.run(command, env=environment, stdout=subprocess.PIPE, stderr=subprocess.PIPE, timeout=60, **streams)
         self.status, self.out, self.lines = ran.returncode, ran.stdout, ran.stderr.decode("utf-8").splitlines()
@@ -81,6 +82,19 @@ class Program(unittest.TestCase):
             file.seek(7)
             self.ended(["3", "--"] + LABEL, stdin=file)
             self.assertEqual(file.tell(), 7)
+
+    def test_installed(self) -> None:
+        """Where they are installed, hints find the page among the documents; without it they tell what they find."""
+        with tempfile.TemporaryDirectory() as prefix:
+            tools, docs = Path(prefix, "libexec", "plift", "tools"), Path(prefix, "share", "doc", "plift", "docs")
+            shutil.copytree(TOP / "tools" / "hints", tools / "hints", ignore=shutil.ignore_patterns("__pycache__"))
+            shutil.copy(PROGRAM, tools)
+            self.assertEqual(self.ended(["3", "--"] + LABEL, program=tools / "hints.py"), [])
+            found = self.with_text(RETRY, ["3", "--"] + LABEL, program=tools / "hints.py")
+            self.assertIn("is lost meant?", found[0])
+            docs.mkdir(parents=True)
+            shutil.copy(TOP / "docs" / "MESSAGES.md", docs)
+            self.assertIn("No state has the label", self.ended(["3", "--"] + LABEL, program=tools / "hints.py")[0])
 
     def test_no_text(self) -> None:
         """Without a file, the rule is told."""

@@ -6,7 +6,9 @@ import re
 from pathlib import Path
 from typing import Dict, List, NamedTuple, Optional
 
-PAGE = Path(__file__).resolve().parent.parent.parent / "docs" / "MESSAGES.md"
+TOP = Path(__file__).resolve().parent.parent.parent
+PAGE = TOP / "docs" / "MESSAGES.md"
+INSTALLED = TOP.parent.parent / "share" / "doc" / "plift" / "docs" / "MESSAGES.md"  # TOP is libexec/plift there
 HEADING = re.compile(r"## Status ([0-9]+(?: of plift-view)?)\b")
 
 
@@ -48,13 +50,19 @@ def matches(told: str, note: str) -> bool:
     return bool(re.fullmatch(re.sub(r"(?<![A-Za-z])[A-Z](?![A-Za-z])", r"[^ :]+", re.escape(told)), note))
 
 
+def page() -> str:
+    """The text of the page; nothing where it isn't there."""
+    for place in (PAGE, INSTALLED):
+        try:
+            return place.read_text(encoding="utf-8")
+        except OSError:
+            continue
+    return ""
+
+
 def advice_on(section: str, note: str) -> Optional[Advice]:
     """The page's row for a note, without the front that all notes of the section share."""
-    try:
-        rows = rows_of(PAGE.read_text(encoding="utf-8"))
-    except OSError:
-        return None
-    for row in rows.get(section, []):
+    for row in rows_of(page()).get(section, []):
         if any(matches(told, note) for told in row.notes):
             return row.advice
     return None
