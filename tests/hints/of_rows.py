@@ -33,7 +33,7 @@ NARROW = ",".join(f"1/1000003<={name}<=1/2" for name in "pqrs")
 
 MISTAKES = [
     coin(WHOLE, "0 : 0.3333\n1 : 0.3333\n2 : 0.3333", "set 0 sums to 9999", "lines 6 to 8", "9999/10000, not to 1", "9999 of 10000", "2 : 1-0.3333-0.3333"),
-    coin(WHOLE, "1 : 0.97999999999999998\n2 : 0.02", "set 0 sums to 49999999999999999", "49999999999999999 of 50000000000000000", "2 : 1-0.97999999999999998"),
+    coin(WHOLE, "1 : 0.97999999999999998\n2 : 0.02", "set 0 sums to 49999999999999999", "49999999999999999 of 50000000000000000", "2 : 1-0.97999999999999998", "docs/STORM.md has a command"),
     coin(WHOLE, "1 : 1/2\n2 : 1/3", "set 0 sums to 5", "5/6, not to 1", "5 of 6"),
     coin(WHOLE, "1 : 1\n2 : 1", "set 0 sums to 2", "sum to 2, not to 1"),
     coin(WHOLE, "1 : 0", "set 0 sums to 0", "sum to 0, not to 1"),

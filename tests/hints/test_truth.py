@@ -148,12 +148,12 @@ class Truth(unittest.TestCase):
     def test_proposals(self) -> None:
         """With what a hint proposes, the program has another note, or none."""
         programs = {name: program(name) for name in ("plift", "plift-view")}
-        if not all(programs.values()):
+        if not programs["plift"]:
             self.skipTest("no program is built")
         taken = 0
         for mistakes in TABLES.values():
             for mistake in mistakes:
-                for line in told_of(mistake):
+                for line in told_of(mistake) if programs[mistake.program] else []:
                     for form, take in PROPOSALS:
                         match = re.search(form, line)
                         if match and not line.endswith(OTHERS):

@@ -3,9 +3,9 @@
     hints(status, note, words, text, program) -> lines
 
 `note` is what plift (or plift-view, by `program`) wrote on standard error, `words` its words, and `text` the bytes that
-it read, or None where they aren't there. At most four lines come back; a refusal that isn't known has none. The notes
-are exact; a hint is an explanation of one that nobody has to believe. What can't be seen in the text is told by the
-rule that stands in docs/MESSAGES.md.
+it read, or None where they aren't there. `status` counts where there is no note. At most four lines come back; a
+refusal that isn't known has none. What can't be seen in the words and the text is told by the rule that stands in
+docs/MESSAGES.md. Nothing is proved of a hint: the note is the answer.
 """
 
 from __future__ import annotations
@@ -15,12 +15,22 @@ from typing import List, Optional, Sequence
 
 from hints import advice, amounts, bounds, line, model, outside, rows, unsound, view
 from hints.refusal import Refusal
-from hints.told import cut, printable
+from hints.told import cut, printable, shown
 
 MOST_LINES = 4
 MOST_LENGTH = 300  # characters of a line
 MOST_TEXT_LINES = 2_500_000  # a text of more lines isn't looked into
-FRONTS = ("usage: ", "model: ", "rows: ", "not sound: ", "read fault", "write fault", "too long", "out of memory")
+STATUSES = {
+    "not sound: ": 1,
+    "usage: ": 2,
+    "model: ": 3,
+    "rows: ": 4,
+    "read fault": 5,
+    "write fault": 6,
+    "too long": 7,
+    "out of memory": 8,
+}
+FRONTS = tuple(STATUSES)
 VALUES = {
     "--goal": amounts.goal_hints,
     "--bound": amounts.bound_hints,
@@ -68,7 +78,7 @@ def found(refusal: Refusal) -> List[str]:
         return rows_hints(refusal, refusal.note[6:])
     if refusal.note.startswith("not sound: "):
         return unsound.unsound_hints(refusal, refusal.note[11:])
-    return outside.outside_hints(refusal) if 5 <= refusal.status <= 8 else []
+    return outside.outside_hints(refusal, STATUSES.get(refusal.note, 0))
 
 
 def rule(refusal: Refusal) -> Optional[advice.Advice]:
@@ -79,13 +89,14 @@ def rule(refusal: Refusal) -> Optional[advice.Advice]:
         return advice.advice_on("2 of plift-view", rest)
     if front in ("model: ", "rows: "):
         rest = rest.split(": ", 1)[-1]
-    return advice.advice_on(str(refusal.status), rest) if front else None
+    return advice.advice_on(str(STATUSES[front]), rest) if front else None
 
 
 def without_note(refusal: Refusal) -> List[str]:
     """What is told of an ending that has no note."""
-    if refusal.status == 2:
-        return ["a word of the command line isn't UTF-8 text: a label or a name in another encoding"]
+    odd = next((word for word in refusal.words if any("\ud800" <= c <= "\udfff" for c in word)), None)
+    if refusal.status == 2 and odd is not None:
+        return [f"the word {shown(odd)} isn't UTF-8 text: is it a label or a name in another encoding?"]
     if refusal.status == 8:
         return ["no memory was found even for the list of words"]
     return []

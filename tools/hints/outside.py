@@ -66,10 +66,11 @@ def memory_hints(refusal: Refusal) -> List[str]:
     return told
 
 
-def outside_hints(refusal: Refusal) -> List[str]:
+def outside_hints(refusal: Refusal, status: int) -> List[str]:
     """What is told of the statuses 5 to 8."""
-    if refusal.status == 5:
-        return [told for told in [source_hint()] if told]
-    if refusal.status == 6:
-        return [told for told in [sink_hint()] if told]
-    return size_hints(refusal) if refusal.status == 7 else memory_hints(refusal)
+    if status in (5, 6):
+        told = source_hint() if status == 5 else sink_hint()
+        return [told] if told else []
+    if status == 7:
+        return size_hints(refusal)
+    return memory_hints(refusal) if status == 8 else []
