@@ -18,7 +18,7 @@ from typing import List, Optional
 
 sys.path.insert(0, str(Path(__file__).resolve().parent))
 
-SECONDS = 1.0  # for looking into words and text
+SECONDS = 1.5  # for looking into words and text
 MOST_BYTES = 2**26  # of a text
 PIECE = 2**20
 STATUS = re.compile("[0-9]{1,3}")
