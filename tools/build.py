@@ -7,7 +7,8 @@ kit's command `rt`, several side by side.
 `rt lib` keeps every other `rt` out of the crates below the one that it works on, so side by side each
 crate is built in a room of its own: a copy of the sources and of the built libraries that it needs,
 by hard links. What a crate's build has kept is put back also where the build is interrupted, so the
-next one goes on from there. Ends with 0, or with 70 where the program can't be built.
+next one goes on from there. The program's time is set to when its build began, so that a source that
+was changed meanwhile is newer. Ends with 0, or with 70 where the program can't be built.
 """
 
 import contextlib
@@ -18,6 +19,7 @@ import shutil
 import signal
 import subprocess
 import sys
+import threading
 import time
 from concurrent.futures import FIRST_COMPLETED, Future, ThreadPoolExecutor, wait
 from pathlib import Path
@@ -26,18 +28,29 @@ from typing import Dict, Iterator, List, Optional, Set
 TOP = Path(__file__).resolve().parent.parent
 CRATES = TOP / "crates"
 PARTS = ("src", "specs", "proofs")
+SOURCES = (".rt", ".antt")
 CANNOT_BUILD = 70
-# A crate's share of the work where the table of docs/ARCHITECTURE.md doesn't name it, in minutes.
+# What the build of plift from nothing took when it was measured last, and where.
+USUAL_MINUTES = 25
+USUAL_MACHINE = "four processors"
+# A crate's share of the work where the table of docs/ARCHITECTURE.md doesn't name it, and where its
+# library is kept, in minutes.
 UNKNOWN_MINUTES = 2.0
+KEPT_MINUTES = 0.05
+# Memory that a crate's proof may take, as measured: some 1 to 2.6 GB.
+LANE_BYTES = 2 << 30
+TICK_SECONDS = 30
+# Runs its words in a process group that ends when the other end of standard input is closed, which
+# the end of this program does, however it ends.
+LEASH = 'exec 3<&0; { read -r _ <&3; kill 0; } >/dev/null 2>&1 & exec "$@" </dev/null 3<&-'
 
 
 class BuildError(Exception):
     """Why the program can't be built, in words for the user."""
 
 
-def say(text: str) -> None:
-    """Tells the user how far the build is."""
-    print(f"plift: {text}", file=sys.stderr, flush=True)
+class Interrupted(Exception):
+    """The build was told to stop."""
 
 
 def dependencies(text: str) -> Dict[str, List[str]]:
@@ -62,10 +75,25 @@ def closure(needs: Dict[str, List[str]], top: str) -> List[str]:
     return found
 
 
+def cells(line: str) -> List[str]:
+    """Returns what stands in the columns of a table's row."""
+    return [cell.strip() for cell in line.strip().strip("|").split("|")]
+
+
 def minutes_of(text: str) -> Dict[str, float]:
-    """Returns what each crate's own proof takes by the table of docs/ARCHITECTURE.md."""
-    rows = re.findall(r"^\| `(\w+)` \|.*\| ~?([0-9.]+) \|$", text, re.MULTILINE)
-    return {name: float(minutes) for name, minutes in rows}
+    """Returns what each crate's own proof takes by the table of docs/ARCHITECTURE.md: its column
+    `Own proof`, or the last one where no column has that name."""
+    minutes: Dict[str, float] = {}
+    column = -1
+    for line in text.splitlines():
+        row = cells(line) if line.startswith("|") else []
+        if row and row[0] == "Crate":
+            column = row.index("Own proof") if "Own proof" in row else -1
+        name = re.fullmatch(r"`(\w+)`", row[0]) if len(row) > 1 else None
+        number = re.fullmatch(r"~?([0-9]+(?:\.[0-9]+)?)", row[column]) if name and column < len(row) else None
+        if name and number:
+            minutes[name[1]] = float(number[1])
+    return minutes
 
 
 def longest_chains(order: List[str], needs: Dict[str, List[str]], cost: Dict[str, float]) -> Dict[str, float]:
@@ -79,6 +107,40 @@ def longest_chains(order: List[str], needs: Dict[str, List[str]], cost: Dict[str
     return chain
 
 
+def lanes_for(processors: int, free_bytes: Optional[int]) -> int:
+    """Returns how many crates are proved at a time: one a processor, as far as the memory goes."""
+    fit = processors if free_bytes is None else free_bytes // LANE_BYTES
+    return max(1, min(processors, fit))
+
+
+def free_memory() -> Optional[int]:
+    """Returns the memory that is free, in bytes, where the system tells it."""
+    try:
+        found = re.search(r"^MemAvailable:\s*([0-9]+) kB", Path("/proc/meminfo").read_text(), re.MULTILINE)
+    except OSError:
+        return None
+    return int(found[1]) * 1024 if found else None
+
+
+def pace_of(spent: float, work: float, usual_pace: float, total: float) -> float:
+    """Returns the minutes that a minute of the table takes here: what was seen so far, and as if a
+    tenth of the work had been seen before at the usual pace."""
+    before = total / 10
+    return (spent + usual_pace * before) / (work + before)
+
+
+def newest_source(crate: str) -> float:
+    """Returns when a source of this crate was changed last."""
+    files = (path for part in PARTS for path in (CRATES / crate / part).rglob("*") if path.suffix in SOURCES)
+    return max((path.stat().st_mtime for path in files), default=0.0)
+
+
+def is_kept(crate: str, newest: float) -> bool:
+    """Whether the crate's library was built behind this time."""
+    built = CRATES / crate / "out" / "rlib"
+    return built.is_dir() and max((path.stat().st_mtime for path in built.iterdir()), default=-1.0) >= newest
+
+
 def link_or_copy(source: str, target: str) -> None:
     """Makes `target` the same file as `source`, or a copy of it where the file system has no links."""
     try:
@@ -87,21 +149,11 @@ def link_or_copy(source: str, target: str) -> None:
         shutil.copy2(source, target)
 
 
-def lay_out(crate: str, below: List[str], room: Path) -> None:
-    """Lays the sources of a crate and of those below it into a folder, with the libraries that are built below."""
-    for name in [*below, crate]:
-        for part in PARTS:
-            source = CRATES / name / part
-            if source.is_dir():
-                shutil.copytree(source, room / "crates" / name / part, copy_function=link_or_copy)
-    for name in below:
-        library = CRATES / name / "out" / "rlib"
-        if library.is_dir():
-            shutil.copytree(library, room / "crates" / name / "out" / "rlib", copy_function=link_or_copy)
-    lines = (TOP / "crates.txt").read_text(encoding="utf-8").splitlines(keepends=True)
-    known = [line for line in lines if line.partition(":")[0].split()[:1] in [[it] for it in (*below, crate)]]
-    (room / "crates.txt").write_text("".join(known), encoding="utf-8")
-    shutil.copyfile(TOP / "HANDLES", room / "HANDLES")
+def remove(path: Path) -> None:
+    """Removes a file or a folder, if it is there."""
+    shutil.rmtree(path, ignore_errors=True)
+    with contextlib.suppress(FileNotFoundError, NotADirectoryError, IsADirectoryError):
+        path.unlink()
 
 
 class Room:
@@ -110,151 +162,279 @@ class Room:
     def __init__(self, crate: str, below: List[str]):
         self.crate = crate
         self.below = below
-        self.path = CRATES / crate / "out" / "room"
+        self.home = CRATES / crate / "out"
+        self.path = self.home / "room"
 
     @property
-    def _kept(self) -> Path:
-        return self.path / "crates" / self.crate / "out"
+    def folder(self) -> Path:
+        """The crate's folder in the room."""
+        return self.path / "crates" / self.crate
+
+    @property
+    def kept(self) -> Path:
+        """What the crate's build keeps, in the room."""
+        return self.folder / "out"
 
     def take_back(self) -> None:
         """Puts what the room's crate has kept where `rt` looks for it, and removes the room."""
-        home = CRATES / self.crate / "out"
-        if self._kept.is_dir():
-            for entry in list(self._kept.iterdir()):
-                target = home / entry.name
-                shutil.rmtree(target, ignore_errors=True)
-                with contextlib.suppress(FileNotFoundError):
-                    target.unlink()
-                entry.rename(target)
-        shutil.rmtree(self.path, ignore_errors=True)
+        if self.kept.is_dir():
+            for entry in list(self.kept.iterdir()):
+                remove(self.home / entry.name)
+                entry.rename(self.home / entry.name)
+        remove(self.path)
 
     def make(self) -> None:
         """Makes the room; what an earlier build left in it is taken back first."""
+        self.home.mkdir(exist_ok=True)
         self.take_back()
-        lay_out(self.crate, self.below, self.path)
-        self._kept.mkdir(parents=True)
-        for entry in list((CRATES / self.crate / "out").iterdir()):
-            if entry.name != "room":
-                entry.rename(self._kept / entry.name)
+        crates = [*self.below, self.crate]
+        for name in crates:
+            for part in PARTS:
+                source = CRATES / name / part
+                if source.is_dir():
+                    shutil.copytree(source, self.path / "crates" / name / part, copy_function=link_or_copy)
+        lines = (TOP / "crates.txt").read_text(encoding="utf-8").splitlines(keepends=True)
+        known = [line for line in lines if line.partition(":")[0].split()[:1] in [[name] for name in crates]]
+        (self.path / "crates.txt").write_text("".join(known), encoding="utf-8")
+        for name in self.below:
+            shutil.copytree(CRATES / name / "out" / "rlib", self.path / "crates" / name / "out" / "rlib", copy_function=link_or_copy)
+        self.kept.mkdir(parents=True)
+        for entry in list(self.home.iterdir()):
+            if entry != self.path:
+                entry.rename(self.kept / entry.name)
+
+
+class Running:
+    """The commands that run now, for which crate and since when, and how they are ended."""
+
+    def __init__(self, locks: List[int]):
+        self._locks = locks
+        self._guard = threading.Lock()
+        self._started: Dict[str, subprocess.Popen] = {}
+        self._since: Dict[str, float] = {}
+        self._stopping = False
+
+    def call(self, crate: str, words: List[str], folder: Path, log: Path) -> int:
+        """Runs a command for a crate and returns its status."""
+        with open(log, "wb") as out:
+            with self._guard:
+                if self._stopping:
+                    return CANNOT_BUILD
+                # The locks are held by the command too, so that no other build comes before its end.
+                started = subprocess.Popen(
+                    ["sh", "-c", LEASH, "sh", *words], cwd=folder, stdin=subprocess.PIPE, stdout=out, stderr=out,
+                    start_new_session=True, pass_fds=self._locks,
+                )
+                self._started[crate], self._since[crate] = started, time.monotonic()
+            try:
+                return started.wait()
+            finally:
+                with self._guard:
+                    del self._started[crate], self._since[crate]
+                started.stdin.close()
+
+    def minutes(self) -> Dict[str, float]:
+        """Returns for how long each crate has been worked on."""
+        with self._guard:
+            return {crate: (time.monotonic() - since) / 60 for crate, since in self._since.items()}
+
+    def stop(self) -> None:
+        """Ends all commands, and lets none begin any more."""
+        with self._guard:
+            self._stopping = True
+            for started in self._started.values():
+                with contextlib.suppress(ProcessLookupError):
+                    os.killpg(started.pid, signal.SIGTERM)
 
 
 class Build:
     """One build: the crates that it needs, what is done of them, and what is told meanwhile."""
 
-    def __init__(self, program: str, logs: Path):
+    def __init__(self, crate: str, logs: Path):
         needs = dependencies((TOP / "crates.txt").read_text(encoding="utf-8"))
-        if program not in needs:
-            raise BuildError(f"crates.txt names no crate {program}")
-        self.program = program
+        if crate not in needs:
+            raise BuildError(f"crates.txt names no crate {crate}")
+        self.crate = crate
         self.logs = logs
-        self.order = closure(needs, program)
+        self.program = CRATES / crate / "out" / crate
+        self.order = closure(needs, crate)
         self.needs = needs
-        known = minutes_of((TOP / "docs" / "ARCHITECTURE.md").read_text(encoding="utf-8"))
-        self.cost = {name: known.get(name, UNKNOWN_MINUTES) for name in self.order}
-        self.chain = longest_chains(self.order, needs, self.cost)
-        self.started = time.monotonic()
-        self.running: Dict[str, subprocess.Popen] = {}
-        self.lanes = len(os.sched_getaffinity(0))
+        self.cost: Dict[str, float] = {}
+        self.lanes = lanes_for(len(os.sched_getaffinity(0)), free_memory())
+        self.began = 0.0
+        self.started = 0.0
+
+    def say(self, text: str) -> None:
+        """Tells the user how far the build is."""
+        with contextlib.suppress(OSError):
+            print(f"{self.crate.replace('_', '-')}: {text}", file=sys.stderr, flush=True)
 
     def _below(self, name: str) -> List[str]:
         return closure(self.needs, name)[:-1]
 
-    def _progress(self, done: Set[str]) -> str:
+    def _newest(self) -> Dict[str, float]:
+        """Returns for each crate when a source of it or of a crate below it was changed last."""
+        own = {name: newest_source(name) for name in self.order}
+        return {name: max(own[it] for it in closure(self.needs, name)) for name in self.order}
+
+    def is_fresh(self) -> bool:
+        """Whether the program is built, and no source is newer."""
+        newest = max(self._newest()[self.crate], (TOP / "crates.txt").stat().st_mtime)
+        return os.access(self.program, os.X_OK) and self.program.stat().st_mtime >= newest
+
+    def begin(self) -> None:
+        """Notes the time, finds what there is to do, by the table of what each crate costs, and tells it."""
+        self.began = time.time()
+        self.started = time.monotonic()
+        table = TOP / "docs" / "ARCHITECTURE.md"
+        known = minutes_of(table.read_text(encoding="utf-8")) if table.is_file() else {}
+        whole = {name: known.get(name, UNKNOWN_MINUTES) for name in self.order}
+        newest = self._newest()
+        kept = [name for name in self.order if is_kept(name, newest[name])]
+        self.cost = {**whole, **{name: KEPT_MINUTES for name in kept}}
+        self.usual_pace = USUAL_MINUTES / sum(whole.values())
+        minutes = self.usual_pace * sum(self.cost.values())
+        begun = f", {len(kept)} of them in an earlier build" if kept else ""
+        self.say(
+            f"each of {len(self.order)} crates is proved and then compiled{begun}: about {minutes:.0f} minutes on"
+            f" {USUAL_MACHINE}, {self.lanes} at a time here; logs are in {self.logs}"
+        )
+
+    def _how_far(self, done: Set[str], running: Dict[str, float]) -> str:
         spent = (time.monotonic() - self.started) / 60
-        share = sum(self.cost[name] for name in done) / sum(self.cost.values())
-        left = f", some {spent * (1 - share) / share:.0f} left" if share > 0.1 else ""
-        return f"{len(done)} of {len(self.order)} crates, {spent:.0f} minutes so far{left}"
+        total = sum(self.cost.values())
+        # A crate that is worked on counts as half done at most: what it costs is only estimated.
+        begun = sum(min(minutes / self.usual_pace, self.cost[name] / 2) for name, minutes in running.items())
+        work = sum(self.cost[name] for name in done) + begun
+        left = pace_of(spent, work, self.usual_pace, total) * (total - work)
+        return f"{len(done)} of {len(self.order)} crates, {spent:.0f} minutes so far, some {max(left, 1):.0f} left"
 
-    def _work(self, name: str, jobs: int, is_first: bool) -> int:
-        """Proves and compiles one crate in its room, and returns the status of `rt`."""
+    def _tell_running(self, done: Set[str], running: Dict[str, float]) -> None:
+        work = ", ".join(f"{name} for {minutes:.0f} minutes" for name, minutes in sorted(running.items(), key=lambda it: -it[1]))
+        self.say(f"proving {work} ({self._how_far(done, running)})")
+
+    def _work(self, name: str, jobs: int, is_first: bool, running: Running) -> int:
+        """Proves and compiles one crate in its room, and returns its status."""
         room = Room(name, self._below(name))
-        (CRATES / name / "out").mkdir(exist_ok=True)
         room.make()
-        verb = ["run", "--jobs", str(jobs)] if name == self.program else ["lib", "--jobs", str(jobs)]
-        with open(self.logs / f"{name}.log", "ab") as log:
-            started = subprocess.Popen(
-                ["nice", "-n", "0" if is_first else "5", "rt", *verb],
-                cwd=room.path / "crates" / name, stdin=subprocess.DEVNULL, stdout=log, stderr=log, start_new_session=True,
-            )
-            self.running[name] = started
-            status = started.wait()
-        del self.running[name]
-        room.take_back()
-        if name == self.program:
-            return 0 if os.access(CRATES / name / "out" / name, os.X_OK) else 1
-        return status
+        try:
+            made = room.kept / name
+            if name == self.crate:
+                # What `rt` doesn't build now isn't there afterwards.
+                remove(made)
+            verb = "run" if name == self.crate else "lib"
+            words = ["nice", "-n", "0" if is_first else "5", "rt", verb, "--jobs", str(jobs)]
+            status = running.call(name, words, room.folder, self.logs / f"{name}.log")
+            if name == self.crate:
+                # There is no call that builds only: the program ran without words, and refused that.
+                status = 0 if os.access(made, os.X_OK) else status or CANNOT_BUILD
+            return status
+        finally:
+            room.take_back()
 
-    def stop(self) -> None:
-        """Ends what still runs, and waits for it."""
-        for started in list(self.running.values()):
-            with contextlib.suppress(ProcessLookupError):
-                os.killpg(started.pid, signal.SIGTERM)
+    def _start(self, waiting: List[str], done: Set[str], busy: List[str]) -> Iterator[tuple]:
+        """Takes the crates that can begin now off the list, each with its number of jobs: as many as
+        there are lanes for the one with the longest chain above it, one for each other."""
+        chain = longest_chains(self.order, self.needs, self.cost)
+        ready = sorted((name for name in waiting if done.issuperset(self.needs[name])), key=lambda name: -chain[name])
+        for name in ready[: self.lanes - len(busy)]:
+            is_first = all(chain[name] >= chain[it] for it in busy)
+            waiting.remove(name)
+            busy.append(name)
+            yield name, self.lanes if is_first else 1, is_first
 
-    def run(self) -> None:
+    def run(self, locks: List[int]) -> None:
         """Builds all crates, those with the longest chain above them first."""
-        done: Set[str] = set()
-        waiting = sorted(self.order, key=lambda name: -self.chain[name])
-        running: Dict[Future, str] = {}
+        waiting, done = list(self.order), set()
+        running = Running(locks)
+        futures: Dict[Future, str] = {}
         failed: Optional[str] = None
         with ThreadPoolExecutor(self.lanes) as pool:
             try:
-                while (waiting and not failed) or running:
-                    ready = [name for name in waiting if all(dep in done for dep in self.needs[name])]
-                    for name in ready[: self.lanes - len(running)] if not failed else []:
-                        waiting.remove(name)
-                        busy = [self.chain[it] for it in running.values()]
-                        is_first = all(self.chain[name] >= it for it in busy)
-                        say(f"proving {name} ({self._progress(done)})")
-                        running[pool.submit(self._work, name, self.lanes if is_first else 1, is_first)] = name
-                    for future in wait(running, return_when=FIRST_COMPLETED).done:
-                        name = running.pop(future)
+                while futures or (waiting and not failed):
+                    for name, jobs, is_first in self._start(waiting, done, list(futures.values())) if not failed else ():
+                        self.say(f"proving {name} ({self._how_far(done, running.minutes())})")
+                        futures[pool.submit(self._work, name, jobs, is_first, running)] = name
+                    ended = wait(futures, timeout=TICK_SECONDS, return_when=FIRST_COMPLETED).done
+                    if not ended and sys.stderr.isatty():
+                        self._tell_running(done, running.minutes())
+                    for future in ended:
+                        name = futures.pop(future)
                         if future.result() == 0:
                             done.add(name)
                         else:
                             failed = failed or name
+                            self.say(f"{failed} was not built; what else is being proved is brought to its end")
             except BaseException:
-                self.stop()
+                running.stop()
                 raise
         if failed:
             raise BuildError(f"{failed} was not built; see {self.logs / failed}.log")
+        os.utime(self.program, (self.began, self.began))
 
 
 @contextlib.contextmanager
-def lone(order: List[str]) -> Iterator[None]:
-    """Keeps other builds, and `rt`, out of these crates meanwhile, and waits for those that are in them."""
-    held = [os.open(CRATES / name, os.O_RDONLY) for name in sorted(order)]
+def locked(build: Build) -> Iterator[List[int]]:
+    """Keeps other builds, and `rt`, out of the crates meanwhile, and waits for those that are in them."""
+    held = []
     try:
-        for descriptor in held:
+        for name in sorted(build.order):
+            held.append(os.open(CRATES / name, os.O_RDONLY))
             try:
-                fcntl.flock(descriptor, fcntl.LOCK_EX | fcntl.LOCK_NB)
+                fcntl.flock(held[-1], fcntl.LOCK_EX | fcntl.LOCK_NB)
             except BlockingIOError:
-                say("another build is under way, and this one waits for it")
-                fcntl.flock(descriptor, fcntl.LOCK_EX)
-        yield
+                build.say(f"another build, or rt, is at work in crates/{name}, and this one waits for it")
+                fcntl.flock(held[-1], fcntl.LOCK_EX)
+        yield held
     finally:
         for descriptor in held:
             os.close(descriptor)
 
 
+def end_on_signals() -> None:
+    """Makes the usual signals stop the build in order."""
+    def end(*_: object) -> None:
+        for number in (signal.SIGINT, signal.SIGTERM, signal.SIGHUP):
+            signal.signal(number, signal.SIG_IGN)
+        raise Interrupted
+
+    for number in (signal.SIGINT, signal.SIGTERM, signal.SIGHUP):
+        if signal.getsignal(number) is not signal.SIG_IGN:
+            signal.signal(number, end)
+
+
+def make(build: Build) -> None:
+    """Builds the program, unless another build has done so meanwhile."""
+    if not shutil.which("rt"):
+        raise BuildError("the command rt of the Rattle kit is not on the PATH")
+    build.logs.mkdir(parents=True, exist_ok=True)
+    with locked(build) as locks:
+        if build.is_fresh():
+            return
+        build.begin()
+        build.run(locks)
+
+
 def main(words: List[str]) -> int:
     """Builds the program that the words name."""
-    def end(*_: object) -> None:
-        raise KeyboardInterrupt
-
-    signal.signal(signal.SIGTERM, end)
+    if len(words) != 2:
+        print("usage: tools/build.py CRATE LOGS", file=sys.stderr)
+        return CANNOT_BUILD
+    name = words[0].replace("_", "-")
     try:
-        program, logs = words[0], Path(words[1])
-        build = Build(program, logs)
-        logs.mkdir(parents=True, exist_ok=True)
-        with lone(build.order):
-            build.run()
+        end_on_signals()
+        make(Build(words[0], Path(words[1])))
+        return 0
     except BuildError as error:
-        say(str(error))
-        return CANNOT_BUILD
-    except KeyboardInterrupt:
-        say("interrupted; the next build goes on from here")
-        return CANNOT_BUILD
-    return 0
+        why = str(error)
+    except Interrupted:
+        why = "interrupted; the next build goes on from here"
+    except OSError as error:
+        where = f"{error.filename}: " if error.filename else ""
+        why = f"it was not built: {where}{error.strerror or error}"
+    with contextlib.suppress(OSError):
+        print(f"{name}: {why}", file=sys.stderr, flush=True)
+    return CANNOT_BUILD
 
 
 if __name__ == "__main__":

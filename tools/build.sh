@@ -1,75 +1,126 @@
-# Read by ./plift and ./plift-view: builds a program where it isn't built yet or its sources are newer.
-# Every crate that it stands on is proved, lowest first, and then compiled. Needs the kit's command `rt`.
-# The script that reads this has set `name`, which it is called by, and `top`, the repository's folder.
+# Read by tools/door.sh in a checkout: finds the program, and makes it where it isn't built yet or a source is
+# newer. The proved one is made by the kit's command `rt` (tools/build.py), the one that isn't proved by cargo
+# (tools/quick.py).
 
-say() { printf '%s: %s\n' "$name" "$*" >&2; }
+case $name in
+plift-view) crate=plift_view ;;
+*) crate=$name ;;
+esac
+if [ -n "$quick" ]; then
+    program=$top/build/quick/$name
+else
+    program=$top/crates/$crate/out/$crate
+fi
+# The crates that the program stands on, in a line; the file bears the time at which all sources are to be looked
+# at again. The other file is written at each start, to know the time without another process.
+looked=$top/build/$crate.looked
+started=$top/build/$crate.started
 
-fail() {
-    say "$*"
-    exit 70
-}
-
-# The crates that crate $1 stands on, and itself, in the order of crates.txt: lowest first.
+# The crates that crate $1 stands on, and itself.
 crates() {
     awk -F: -v last="$1" '
-        /^[a-z]/ { names[++count] = $1; needs[$1] = $2 }
+        /^[a-z]/ { needs[$1] = $2 }
         function visit(name, parts, n, i) {
             if (name in seen || !(name in needs)) return
             seen[name] = 1
+            printf "%s ", name
             n = split(needs[name], parts, " ")
             for (i = 1; i <= n; i++) visit(parts[i])
         }
-        END {
-            visit(last)
-            for (i = 1; i <= count; i++) if (names[i] in seen) print names[i]
-        }
+        END { visit(last) }
     ' "$top/crates.txt"
 }
 
-# Whether a source of these crates is newer than program $2, which crate $1 makes.
+# Whether the code of these crates, or what its contracts say, is newer than the program. This takes no process.
+is_code_newer() {
+    [ "$top/crates.txt" -nt "$program" ] && return 0
+    for below; do
+        for source in "$top/crates/$below"/src/*.rt "$top/crates/$below"/specs/*.antt; do
+            [ "$source" -nt "$program" ] && return 0
+        done
+    done
+    return 1
+}
+
+# Whether a source of these crates is newer than the program, proofs and all.
+is_source_newer() {
+    folders=$*
+    set -- "$top/crates.txt"
+    for below in $folders; do
+        set -- "$@" "$top/crates/$below"
+    done
+    [ -n "$(find "$@" -name out -prune -o -type f \( -name '*.rt' -o -name '*.antt' -o -name crates.txt \) -newer "$program" -print)" ]
+}
+
+# Whether a source is newer than the proved program. Proofs, on which no byte of the program depends, are looked at
+# once a minute, and where other sources have changed. That a source was removed isn't seen, nor one that was put
+# there with an older time.
 is_stale() {
-    for crate in $(crates "$1"); do
-        found=$(find "$top/crates/$crate" -name out -prune -o -type f \
-            \( -name '*.rt' -o -name '*.antt' \) -newer "$2" -print | head -n 1)
-        [ -z "$found" ] || return 0
-    done
-    [ -n "$(find "$top/crates.txt" -newer "$2")" ]
-}
-
-# Makes program $2 of crate $1, with a log in $3.
-build() {
-    command -v rt >/dev/null 2>&1 || fail 'the command rt of the Rattle kit is not on the PATH'
-    # `true` is no special builtin, so a shell goes on where the file can't be written.
-    true 2>/dev/null >"$3" || fail "$3 can't be written"
-    rm -f "$2" || fail "$2 can't be replaced"
-    count=$(crates "$1" | wc -l)
-    say "each of $count crates is proved and then compiled: about half an hour the first time"
-    place=0
-    for crate in $(crates "$1"); do
-        place=$((place + 1))
-        say "proving $crate ($place of $count)"
-        if [ "$crate" = "$1" ]; then
-            # There is no call that builds only: the program runs without words, and answers so.
-            (cd "$top/crates/$crate" && rt run </dev/null) >>"$3" 2>&1
-        elif ! (cd "$top/crates/$crate" && rt lib) >>"$3" 2>&1; then
-            break
-        fi
-    done
-    [ -x "$2" ] || fail "it was not built; see $3"
-    touch "$2"
-}
-
-# Runs the program of crate $1 on the words behind $2, and builds it first where need be, with a log
-# in $2. Ends with the program's status, or with 70 where it can't be built.
-run_built() {
-    program=$top/crates/$1/out/$1
-    if [ ! -x "$program" ]; then
-        say 'not built yet'
-        build "$1" "$program" "$2"
-    elif is_stale "$1" "$program"; then
-        say 'the sources are newer than the program'
-        build "$1" "$program" "$2"
+    # Another user's checkout may not be written in; `true` is no special builtin, so the shell goes on.
+    { true >"$started"; } 2>/dev/null
+    if [ -f "$looked" ] && ! [ "$started" -nt "$looked" ] && read -r known <"$looked"; then
+        is_code_newer $known || return 1
     fi
-    shift 2
-    exec "$program" "$@"
+    known=$(crates "$crate")
+    is_source_newer $known && return 0
+    { mkdir -p "$top/build" && printf '%s\n' "$known" >"$looked" && touch -d '1 minute' "$looked"; } 2>/dev/null
+    return 1
+}
+
+# Whether something is newer that the program without proofs is made from.
+is_quick_stale() {
+    [ -n "$(find "$top/crates.txt" "$top/tools/quick.py" "$top/tools/native" "$top"/crates/*/src -newer "$program" -print)" ]
+}
+
+describe_program() {
+    if ! [ -x "$program" ]; then
+        what='not built'
+    elif [ -n "$quick" ]; then
+        what=quick
+        ! is_quick_stale || what='quick, sources are newer'
+    else
+        what=proved
+        ! is_stale || what='proved, sources are newer'
+    fi
+    commit=
+    if [ -e "$top/.git" ] && commit=$(git -C "$top" rev-parse --short=7 HEAD 2>/dev/null); then
+        git -C "$top" diff --quiet HEAD -- crates crates.txt 2>/dev/null || commit="$commit with changes"
+        commit="commit $commit, "
+    fi
+    printf '%s%s\n' "$commit" "$what"
+}
+
+find_program() {
+    if [ -n "$quick" ]; then
+        find_quick "$@"
+    elif ! [ -x "$program" ]; then
+        refuse_plain_faults "$@"
+        say 'the proved program is not built yet'
+        build "$@"
+    elif is_stale; then
+        refuse_plain_faults "$@"
+        say 'the sources are newer than the proved program'
+        build "$@"
+    fi
+}
+
+find_quick() {
+    [ -x "$program" ] && ! is_quick_stale && return
+    refuse_plain_faults "$@"
+    require python3 'quick.py needs it'
+    program=$(python3 "$top/tools/quick.py" "$name" </dev/null) || exit 70
+}
+
+require() {
+    command -v "$1" >/dev/null 2>&1 || fail "$1 is not on the PATH: $2"
+}
+
+# Makes the proved program.
+build() {
+    now="for an answer now, without a proof of the program: $0 --quick ${1-} .."
+    command -v rt >/dev/null 2>&1 || fail "the command rt of the Rattle kit is not on the PATH; $now"
+    require python3 'tools/build.py needs it'
+    say "$now (its reports can be checked: python3 recheck/recheck.py, or plift check)"
+    python3 "$top/tools/build.py" "$crate" "$top/build/logs" </dev/null >&2 || exit 70
+    [ -x "$program" ] || fail "it was not built; see $top/build/logs"
 }

@@ -1,0 +1,118 @@
+"""What the tests of the door share: a copy of the launchers in a folder of its own, with programs that stand in."""
+
+import importlib.util
+import os
+import shutil
+import subprocess
+import sys
+import tempfile
+import unittest
+from pathlib import Path
+from types import ModuleType
+from typing import Dict, List, Optional
+
+sys.dont_write_bytecode = True
+TOP = Path(__file__).resolve().parents[2]
+# Tells its words, and then does what the environment says.
+STAND_IN = """#!/bin/sh
+for word; do printf '<%s>' "$word"; done
+printf '\\n'
+[ -z "${COPY-}" ] || cat
+[ -z "${SLEEP-}" ] || { echo $$ >"$SLEEP"; exec sleep 60; }
+[ -z "${NOTE-}" ] || printf '%s\\n' "$NOTE" >&2
+[ -z "${DIE-}" ] || kill -s "$DIE" $$
+exit "${STATUS-0}"
+"""
+# Proves nothing, and keeps what the real one keeps. It tells what it does in the file $CALLS.
+FAKE_RT = """#!/bin/sh
+crate=$(basename "$PWD")
+echo "begin $crate $*" >>"$CALLS"
+case " ${SLOW_CRATES-} " in
+*" $crate "*)
+    mkdir -p out/incremental
+    echo part >out/incremental/part
+    echo "slow $crate $$" >>"$CALLS"
+    sleep 60
+    ;;
+esac
+case " ${BROKEN_CRATES-} " in
+*" $crate "*) echo "error in $crate"; exit 1 ;;
+esac
+mkdir -p out/incremental out/rlib
+echo whole >out/incremental/part
+case $1 in
+lib) echo "$crate" >"out/rlib/lib$crate.rlib" ;;
+run) cp "$STAND_IN" "out/$crate"; chmod +x "out/$crate" ;;
+esac
+echo "end $crate" >>"$CALLS"
+[ "$1" = lib ] || exit 2
+"""
+
+
+def tool(name: str) -> ModuleType:
+    """Loads a module of tools/."""
+    sys.path.insert(0, str(TOP / "tools"))
+    spec = importlib.util.spec_from_file_location(name, TOP / "tools" / f"{name}.py")
+    module = importlib.util.module_from_spec(spec)
+    spec.loader.exec_module(module)
+    return module
+
+
+def quick_program(name: str) -> Optional[Path]:
+    """Returns the program that isn't proved, where it is built."""
+    program = TOP / "build" / "quick" / name
+    return program if os.access(program, os.X_OK) else None
+
+
+def write_program(path: Path, text: str) -> None:
+    """Writes a script that can be run."""
+    path.parent.mkdir(parents=True, exist_ok=True)
+    path.write_text(text)
+    path.chmod(0o755)
+
+
+class DoorCase(unittest.TestCase):
+    """A test with a checkout of its own: launchers, crates that stand for the real ones, and a fake `rt`."""
+
+    CRATES = {"lift_base": [], "lift_poly": [], "plift_top": ["lift_base", "lift_poly", "clap"], "plift": ["plift_top"], "view_top": ["lift_base"], "plift_view": ["view_top"], "other": []}
+
+    def setUp(self):
+        self.room = Path(tempfile.mkdtemp(prefix="door test-"))
+        self.addCleanup(shutil.rmtree, self.room, ignore_errors=True)
+        self.top = self.room / "a checkout"
+        for part in ("plift", "plift-view", "VERSION", "tools", "man", "completion", "install"):
+            if (TOP / part).is_dir():
+                shutil.copytree(TOP / part, self.top / part, ignore=shutil.ignore_patterns("__pycache__", "native"))
+            elif (TOP / part).exists():
+                self.top.mkdir(exist_ok=True)
+                shutil.copy2(TOP / part, self.top / part)
+        (self.top / "tools/native").mkdir()
+        for crate in self.CRATES:
+            for part in ("src/lib.rt", "specs/Lib.antt", "proofs/deep/proof.antt"):
+                path = self.top / "crates" / crate / part
+                path.parent.mkdir(parents=True, exist_ok=True)
+                path.write_text("text\n")
+                os.utime(path, (1000, 1000))
+        (self.top / "crates.txt").write_text("".join(f"{name}: {' '.join(deps)}\n" for name, deps in self.CRATES.items()))
+        os.utime(self.top / "crates.txt", (1000, 1000))
+        self.calls = self.room / "calls"
+        write_program(self.room / "bin/rt", FAKE_RT)
+        write_program(self.room / "stand-in", STAND_IN)
+        self.environment = {**os.environ, "CALLS": str(self.calls), "STAND_IN": str(self.room / "stand-in")}
+        self.environment["PATH"] = f"{self.room / 'bin'}:{os.environ['PATH']}"
+        self.environment.pop("PLIFT_HINTS", None)
+
+    def built(self, crate: str = "plift") -> Path:
+        """Puts a program that stands in where the proved one is found."""
+        program = self.top / "crates" / crate / "out" / crate
+        write_program(program, STAND_IN)
+        return program
+
+    def run_door(self, *words: str, door: Optional[Path] = None, shell: Optional[List[str]] = None, input: bytes = b"", environment: Optional[Dict[str, str]] = None, **how):
+        """Runs ./plift, or another launcher, on these words."""
+        command = [*(shell or []), str(door or self.top / "plift"), *words]
+        return subprocess.run(command, input=input, capture_output=True, env={**self.environment, **(environment or {})}, **how)
+
+    def lines(self) -> List[str]:
+        """Returns what the fake `rt` did."""
+        return self.calls.read_text().splitlines() if self.calls.exists() else []

@@ -1,0 +1,100 @@
+"""What tools/line.py refuses, it refuses as the program does."""
+
+import random
+import subprocess
+import unittest
+
+from common import TOP, quick_program, tool
+
+line = tool("line")
+
+WORDS = [
+    "verify", "check", "generate", "selftest", "--goal", "--bound", "--region", "--depth", "--precision", "--goal=a",
+    "--bound=1/2", "--bound=", "--depth=3", "--depth=21", "--precision=0", "--precision=040", "-1", "", " ", "a", "1/2", "3%", "1e-3",
+    "0.5", "2", "1/4294967295", "1/4294967296", "9223372036854775808/9223372036854775809", "1e-19", "20", "32767", "32768", "000001", "p=1", "--x", "--y",
+    "--at", "--x=", "--at=p=1", "--at=p", "--summary", "--follow", "--summary=", "--help", "help", "--", "-", "\u00fc", "a\nb", "=", "--goal=--bound", "\u0663",
+]
+PLIFT = {
+    "": "usage: words",
+    "verfy": "usage: words",
+    "verify": "usage: words",
+    "verify --goal a": "usage: words",
+    "verify --bound 1/2": "usage: words",
+    "verify --goal a --bound 1/2 --goal b": "usage: words",
+    "verify --goal a --bound 1/2 --colour red": "usage: words",
+    "verify --goal a --bound 1/2 --region -1<=p<=1": "usage: words",
+    "verify --goal a --bound 1/2 model.drn": "usage: words",
+    "verify --goal a --bound 1/2 --depth 21": "usage: --depth",
+    "verify --goal a --bound 1/2 --precision 41": "usage: --precision",
+    "verify --goal \u00fc --bound 1/2": "usage: --goal",
+    "check report": "usage: words",
+    "generate": "usage: words",
+    "generate 0": "usage: N",
+    "generate -1": "usage: words",
+    "generate 000001": "usage: N",
+    "selftest 32768": "usage: N",
+    "selftest 1 2": "usage: words",
+}
+PLAIN = ["check", "generate 1", "selftest 32767", "verify --bound=1/2 --goal=a", "verify --goal a --bound 1/2 --region x --depth 020 --precision 1"]
+VIEW = {"x": True, "--x": True, "--x p --x q": True, "--summary --follow": True, "--summary": False, "": False, "--at p=1 --at=q=2 --x=": False, "--summary=": True}
+
+
+class Line(unittest.TestCase):
+    def test_faults_of_plift(self):
+        for words, note in PLIFT.items():
+            self.assertEqual(line.plift_note(words.split()), note, words)
+
+    def test_plain_lines_pass(self):
+        for words in PLAIN:
+            self.assertIsNone(line.plift_note(words.split()), words)
+
+    def test_faults_of_view(self):
+        for words, is_fault in VIEW.items():
+            self.assertEqual(line.view_note(words.split()), "usage: words" if is_fault else None, words)
+
+    def test_note_and_hint(self):
+        ran = subprocess.run(["python3", TOP / "tools/line.py", "plift", "verfy"], capture_output=True, text=True)
+        self.assertEqual((ran.returncode, ran.stdout), (2, ""))
+        note, *hints = ran.stderr.splitlines()
+        self.assertEqual(note, "usage: words")
+        self.assertTrue(hints and all(it.startswith("hint: ") for it in hints), hints)
+
+    def test_word_that_is_no_text_has_no_note(self):
+        ran = subprocess.run(["python3", TOP / "tools/line.py", "plift", b"\xff"], capture_output=True)
+        self.assertEqual(ran.returncode, 2)
+        self.assertTrue(ran.stderr.startswith(b"hint: "), ran.stderr)
+
+
+class AgainstTheProgram(unittest.TestCase):
+    """Lines made at random, asked of the program that isn't proved, where it is built."""
+
+    def asked(self, program, words):
+        ran = subprocess.run([program, *words], stdin=subprocess.DEVNULL, capture_output=True, text=True)
+        note = ran.stderr.rstrip("\n")
+        return note if note.startswith("usage: ") and ran.returncode == 2 else None
+
+    def compare(self, name, front, note_of):
+        program, chance = quick_program(name), random.Random(1)
+        if program is None:
+            self.skipTest("build/quick has no program")
+        for _ in range(400):
+            words = front(chance) + [chance.choice(WORDS) for _ in range(chance.randrange(5))]
+            note = note_of(words)
+            if note is None and (words[:1] in (["generate"], ["selftest"]) or "--" in words or not hints_are_there()):
+                continue
+            self.assertEqual(note, self.asked(program, words), words)
+
+    def test_plift(self):
+        fronts = [[], ["verify"], ["verify", "--goal", "a"], ["verify", "--goal", "a", "--bound", "1/2"], ["verify", "--goal=a", "--bound"], ["generate"]]
+        self.compare("plift", lambda chance: list(chance.choice(fronts)), line.plift_note)
+
+    def test_view(self):
+        self.compare("plift-view", lambda chance: [], line.view_note)
+
+
+def hints_are_there():
+    return (TOP / "tools/hints/numbers.py").is_file()
+
+
+if __name__ == "__main__":
+    unittest.main()

@@ -1,0 +1,164 @@
+# Read by plift and plift-view: answers what needs no program at once, and runs the program. In a checkout
+# tools/build.sh finds or makes it; in an unpacked release and where plift is installed, tools/made.sh finds
+# it. The script that reads this has set `name`, which it is called by, and `top`, the folder of all else.
+
+say() { printf '%s: %s\n' "$name" "$*" >&2; }
+
+fail() {
+    say "$*"
+    exit 70
+}
+
+# The refusal that the program has for a line that isn't plain, with a hint.
+refuse() {
+    printf '%s\n' 'usage: words' "hint: $*" >&2
+    exit 2
+}
+
+# Shows the help of a command and ends.
+show_help() {
+    cat "$top/man/help/$1.txt" || fail "its help isn't found in $top/man/help"
+    exit 0
+}
+
+show_version() {
+    read -r version <"$top/VERSION" || version=
+    printf '%s %s (%s)\n' "$name" "$version" "$(describe_program)"
+    exit 0
+}
+
+# Answers a request for help or for the version. A line of a command with the word --help in it is one,
+# since no line that the program takes has that word.
+answer() {
+    case $#:${1-} in
+    1:--version) show_version ;;
+    1:--help | 1:-h | 1:help) show_help "$name" ;;
+    2:--help | 2:-h | 2:help) is_command "$2" && show_help "$2" ;;
+    esac
+    for word; do
+        case $word in
+        --help | -h)
+            if [ "$name" = plift-view ]; then
+                show_help plift-view
+            elif is_command "$1"; then
+                show_help "$1"
+            fi
+            ;;
+        esac
+    done
+}
+
+is_command() {
+    [ "$name" = plift ] || return 1
+    case $1 in
+    verify | check | generate | selftest) ;;
+    *) return 1 ;;
+    esac
+}
+
+# Refuses a line that needs no program to be refused, as the program would.
+refuse_plain_faults() {
+    if command -v python3 >/dev/null 2>&1; then
+        python3 "$top/tools/line.py" "$name" "$@" </dev/null
+        [ $? -ne 2 ] || exit 2
+    elif [ $# -eq 0 ]; then
+        refuse "./$name --help shows the words"
+    fi
+}
+
+# Says what is waited for where standard input is a terminal.
+announce_input() {
+    case $name:${1-} in
+    plift:verify) say 'reading the model from standard input; give a file by < model.drn' ;;
+    plift:check | plift-view:*) say 'reading the report from standard input; give a file by < report' ;;
+    esac
+}
+
+# Whether a refusal gets hints: at a terminal, unless PLIFT_HINTS is 0, and elsewhere where it is 1. The
+# streams that are copied have to be open.
+wants_hints() {
+    [ "$name" = plift ] && [ -r "$top/tools/hints.py" ] && [ -e /proc/self/fd/0 ] && [ -e /proc/self/fd/2 ] || return 1
+    case ${PLIFT_HINTS-} in
+    1) ;;
+    0) return 1 ;;
+    *) [ -t 2 ] ;;
+    esac
+}
+
+# Passes on to the program that this script is to end, by a signal that the program hears: what runs in
+# the background doesn't hear INT and QUIT.
+pass_signal() {
+    ended_by=$1
+    [ -z "$child" ] || kill -s "$2" "$child" 2>/dev/null
+}
+
+# Copies what the program wrote to standard error, and keeps it in `note`.
+copy_note() {
+    note=
+    while IFS= read -r line; do
+        printf '%s\n' "$line" >&2
+        note=$note$line$newline
+    done
+    printf '%s' "$line" >&2
+    note=$note$line
+}
+
+# Runs the program as a child, and adds hints to a refusal. Signals and statuses are those of the program. It
+# writes its note last of all, so the note is copied when the program has ended.
+run_with_hints() {
+    newline='
+'
+    exec 7<&0 8<<BLANK
+
+BLANK
+    # The shell has put the blank line above into a pipe or a file without a name, which takes what is appended, too.
+    [ -w /proc/self/fd/8 ] || exec "$program" "$@" <&7 7<&- 8<&-
+    exec 9>>/proc/self/fd/8
+    read -r note <&8
+    child='' ended_by=''
+    trap 'pass_signal HUP HUP' HUP
+    trap 'pass_signal INT TERM' INT
+    trap 'pass_signal QUIT TERM' QUIT
+    trap 'pass_signal TERM TERM' TERM
+    "$program" "$@" <&7 2>&9 7<&- 8<&- 9>&- &
+    child=$!
+    exec 9>&-
+    [ -z "$ended_by" ] || kill "$child"
+    # Shells tell by which signal a child has died, but whoever waits for this script is to tell it. A signal for
+    # this script ends the first wait.
+    { wait "$child"; status=$?; [ -z "$ended_by" ] || wait "$child"; } 2>/dev/null
+    copy_note <&8
+    if [ -z "$ended_by" ] && [ "$status" -gt 128 ]; then
+        ended_by=$(kill -l "$status")
+    fi
+    if [ -n "$ended_by" ]; then
+        ulimit -c 0
+        trap - HUP INT QUIT TERM
+        kill -s "$ended_by" $$
+    elif [ "$status" -ne 0 ] && command -v python3 >/dev/null 2>&1; then
+        PLIFT_NOTE=${note%"$newline"} python3 "$top/tools/hints.py" "$status" -- "$@" <&7 7<&- 8<&- || :
+    fi
+    exit "$status"
+}
+
+open_door() {
+    quick=
+    if [ "${1-}" = --quick ]; then
+        quick=yes
+        shift
+    fi
+    if [ -r "$top/programs/made" ]; then
+        . "$top/tools/made.sh"
+    else
+        . "$top/tools/build.sh"
+    fi
+    answer "$@"
+    find_program "$@"
+    if [ -t 0 ]; then
+        announce_input "$@"
+    fi
+    if wants_hints; then
+        run_with_hints "$@"
+    fi
+    exec "$program" "$@"
+}

@@ -1,0 +1,146 @@
+#!/usr/bin/env python3
+"""Refuses a command line that needs no program to be refused, so that nothing is built for it:
+
+    tools/line.py plift WORDS..
+    tools/line.py plift-view WORDS..
+
+Writes the note that the program writes (docs/FORMATS.md has the grammar) with hints behind it, and ends with 2;
+or writes nothing and ends with 0: whatever else may be at fault, the program tells.
+"""
+
+import os
+import subprocess
+import sys
+from pathlib import Path
+from typing import Dict, List, NamedTuple, Optional, Sequence, Tuple
+
+sys.dont_write_bytecode = True
+TOOLS = Path(__file__).resolve().parent
+USAGE = 2
+
+Setting = Tuple[str, str]
+
+
+class Grammar(NamedTuple):
+    """The options of a command: those that take a value, flags, those that may stand twice and those that must stand,
+    and whether `--name=` alone is a value."""
+
+    valued: Sequence[str]
+    flags: Sequence[str] = ()
+    often: Sequence[str] = ()
+    needed: Sequence[str] = ()
+    takes_empty: bool = False
+
+
+VERIFY = Grammar(("--goal", "--bound", "--region", "--depth", "--precision"), needed=("--goal", "--bound"))
+VIEW = Grammar(("--x", "--y", "--at"), flags=("--summary", "--follow"), often=("--at",), takes_empty=True)
+# How many words stand behind a command that has no options.
+COUNTS = {"check": 0, "generate": 1, "selftest": 1}
+# Numbers: the greatest number of digits, and the range.
+RANGES = {"--depth": (3, 0, 20), "--precision": (3, 1, 40), "N": (5, 1, 32767)}
+
+
+def settings_of(grammar: Grammar, words: Sequence[str]) -> Optional[List[Setting]]:
+    """Returns the options and their values in order; none where a word doesn't fit."""
+    settings: List[Setting] = []
+    rest = list(words)
+    while rest:
+        name, mark, value = rest.pop(0).partition("=")
+        if name in grammar.flags and not mark:
+            settings.append((name, ""))
+            continue
+        if name not in grammar.valued or not mark and not rest:
+            return None
+        is_empty = mark and not value and not grammar.takes_empty
+        value = value if mark else rest.pop(0)
+        if is_empty or value.startswith("-"):
+            return None
+        settings.append((name, value))
+    return settings
+
+
+def are_counts_right(grammar: Grammar, settings: Sequence[Setting]) -> bool:
+    """Whether each option stands as often as it may, and a flag alone."""
+    names = [name for name, _ in settings]
+    once = [name for name in names if name not in grammar.often]
+    has_flag = any(name in grammar.flags for name in names)
+    return len(set(once)) == len(once) and set(grammar.needed) <= set(names) and (not has_flag or len(names) == 1)
+
+
+def is_number(value: str, name: str) -> bool:
+    """Whether a value is a number in the range of its name."""
+    most, low, high = RANGES[name]
+    return value.isascii() and value.isdigit() and len(value) <= most and low <= int(value) <= high
+
+
+def is_bound(text: str) -> bool:
+    """Whether a value may be a bound: the module of hints that reads numbers decides, where it is there."""
+    try:
+        from hints.numbers import Wide, ratio
+    except ImportError:
+        return True
+    try:
+        value = ratio(text)
+    except Wide:
+        return False
+    return value is not None and 0 <= value <= 1 and value.denominator < 2**32
+
+
+def first_bad_value(values: Dict[str, str]) -> Optional[str]:
+    """Returns the first option of `verify` whose value is at fault, but for the region, which takes a model."""
+    goal = values["--goal"]
+    if not goal or any(not " " <= letter <= "~" for letter in goal):
+        return "--goal"
+    if not is_bound(values["--bound"]):
+        return "--bound"
+    return next((name for name in ("--depth", "--precision") if name in values and not is_number(values[name], name)), None)
+
+
+def plift_note(words: Sequence[str]) -> Optional[str]:
+    """Returns the note of plift for a line that is at fault, as far as the line shows it."""
+    command, behind = (words[0], words[1:]) if words else ("", [])
+    if command in COUNTS:
+        if len(behind) != COUNTS[command] or any(word.startswith("-") for word in behind):
+            return "usage: words"
+        return "usage: N" if behind and not is_number(behind[0], "N") else None
+    settings = settings_of(VERIFY, behind) if command == "verify" else None
+    if settings is None or not are_counts_right(VERIFY, settings):
+        return "usage: words"
+    bad = first_bad_value(dict(settings))
+    return f"usage: {bad}" if bad else None
+
+
+def view_note(words: Sequence[str]) -> Optional[str]:
+    """Returns the note of plift-view for a line that is at fault; what `--` alone means there, the program knows."""
+    if "--" in words:
+        return None
+    settings = settings_of(VIEW, words)
+    return None if settings is not None and are_counts_right(VIEW, settings) else "usage: words"
+
+
+def hints_for(note: str, words: Sequence[str]) -> str:
+    """Returns the lines that tools/hints.py has for this note."""
+    told = subprocess.run(
+        [sys.executable, str(TOOLS / "hints.py"), str(USAGE), "--", *words],
+        env={**os.environ, "PLIFT_NOTE": note}, stdin=subprocess.DEVNULL, stdout=subprocess.DEVNULL, stderr=subprocess.PIPE,
+    )
+    text = told.stderr.decode(errors="replace")
+    return text if told.returncode == 0 and text.startswith("hint: ") else ""
+
+
+def main(program: str, words: Sequence[str]) -> int:
+    """Tells the fault of a line, if it has one that shows."""
+    is_text = all(word.isprintable() or word.encode(errors="surrogateescape").decode(errors="ignore") == word for word in words)
+    note = (plift_note if program == "plift" else view_note)(words) if is_text else ""
+    if note is None:
+        return 0
+    if note:
+        print(note, file=sys.stderr)
+    hints = hints_for(note, words) if program == "plift" else ""
+    why = "hint: a word of the line isn't UTF-8 text\n" if not is_text else ""
+    print(hints or f"{why}hint: ./{program} --help shows what may stand on the line", file=sys.stderr, end="" if hints else "\n")
+    return USAGE
+
+
+if __name__ == "__main__":
+    sys.exit(main(sys.argv[1], sys.argv[2:]))
