@@ -72,22 +72,22 @@ is_quick_stale() {
     [ -n "$(find "$top/crates.txt" "$top/tools/quick.py" "$top/tools/native" "$top"/crates/*/src -newer "$program" -print)" ]
 }
 
-describe_program() {
+# What the program is: proved, quick or not built, and whether a source is newer.
+kind_of_program() {
     if ! [ -x "$program" ]; then
-        what='not built'
+        echo 'not built'
     elif [ -n "$quick" ]; then
-        what=quick
-        ! is_quick_stale || what='quick, sources are newer'
+        is_quick_stale && echo 'quick, sources are newer' || echo quick
     else
-        what=proved
-        ! is_stale || what='proved, sources are newer'
+        is_stale && echo 'proved, sources are newer' || echo proved
     fi
-    commit=
-    if [ -e "$top/.git" ] && commit=$(git -C "$top" rev-parse --short=7 HEAD 2>/dev/null); then
-        git -C "$top" diff --quiet HEAD -- crates crates.txt 2>/dev/null || commit="$commit with changes"
-        commit="commit $commit, "
-    fi
-    printf '%s%s\n' "$commit" "$what"
+}
+
+# The commit that is checked out, if git tells one.
+commit_of_sources() {
+    [ -e "$top/.git" ] && commit=$(git -C "$top" rev-parse --short=7 HEAD 2>/dev/null) || return 0
+    git -C "$top" diff --quiet HEAD -- crates crates.txt 2>/dev/null || commit="$commit with changes"
+    printf '%s\n' "$commit"
 }
 
 find_program() {

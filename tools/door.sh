@@ -22,8 +22,9 @@ show_help() {
 }
 
 show_version() {
-    read -r version <"$top/VERSION" || version=
-    printf '%s %s (%s)\n' "$name" "$version" "$(describe_program)"
+    read -r version <"$top/VERSION" || version='of an unknown version'
+    commit=$(commit_of_sources)
+    printf '%s %s (%s%s)\n' "$name" "$version" "${commit:+commit $commit, }" "$(kind_of_program)"
     exit 0
 }
 
@@ -74,15 +75,15 @@ announce_input() {
     esac
 }
 
-# Whether a refusal gets hints: at a terminal, unless PLIFT_HINTS is 0, and elsewhere where it is 1. The
-# streams that are copied have to be open.
+# Whether a refusal gets hints: at a terminal, unless PLIFT_HINTS is 0, and elsewhere where it is 1. The streams
+# that are handed on have to be open, and `plift-view --follow` looks itself whether standard error is a terminal.
 wants_hints() {
-    [ "$name" = plift ] && [ -r "$top/tools/hints.py" ] && [ -e /proc/self/fd/0 ] && [ -e /proc/self/fd/2 ] || return 1
     case ${PLIFT_HINTS-} in
     1) ;;
     0) return 1 ;;
-    *) [ -t 2 ] ;;
+    *) [ -t 2 ] || return 1 ;;
     esac
+    [ "${1-}" != --follow ] && [ -r "$top/tools/hints.py" ] && [ -e /proc/self/fd/0 ] && [ -e /proc/self/fd/2 ]
 }
 
 # Passes on to the program that this script is to end, by a signal that the program hears: what runs in
@@ -136,7 +137,7 @@ BLANK
         trap - HUP INT QUIT TERM
         kill -s "$ended_by" $$
     elif [ "$status" -ne 0 ] && command -v python3 >/dev/null 2>&1; then
-        PLIFT_NOTE=${note%"$newline"} python3 "$top/tools/hints.py" "$status" -- "$@" <&7 7<&- 8<&- || :
+        PLIFT_PROGRAM=$name PLIFT_NOTE=${note%"$newline"} python3 "$top/tools/hints.py" "$status" -- "$@" <&7 7<&- 8<&- || :
     fi
     exit "$status"
 }
@@ -157,7 +158,7 @@ open_door() {
     if [ -t 0 ]; then
         announce_input "$@"
     fi
-    if wants_hints; then
+    if wants_hints "$@"; then
         run_with_hints "$@"
     fi
     exec "$program" "$@"

@@ -118,11 +118,11 @@ def view_note(words: Sequence[str]) -> Optional[str]:
     return None if settings is not None and are_counts_right(VIEW, settings) else "usage: words"
 
 
-def hints_for(note: str, words: Sequence[str]) -> str:
+def hints_for(program: str, note: str, words: Sequence[str]) -> str:
     """Returns the lines that tools/hints.py has for this note."""
     told = subprocess.run(
         [sys.executable, str(TOOLS / "hints.py"), str(USAGE), "--", *words],
-        env={**os.environ, "PLIFT_NOTE": note}, stdin=subprocess.DEVNULL, stdout=subprocess.DEVNULL, stderr=subprocess.PIPE,
+        env={**os.environ, "PLIFT_PROGRAM": program, "PLIFT_NOTE": note}, stdin=subprocess.DEVNULL, stdout=subprocess.DEVNULL, stderr=subprocess.PIPE,
     )
     text = told.stderr.decode(errors="replace")
     return text if told.returncode == 0 and text.startswith("hint: ") else ""
@@ -136,9 +136,10 @@ def main(program: str, words: Sequence[str]) -> int:
         return 0
     if note:
         print(note, file=sys.stderr)
-    hints = hints_for(note, words) if program == "plift" else ""
-    why = "hint: a word of the line isn't UTF-8 text\n" if not is_text else ""
-    print(hints or f"{why}hint: ./{program} --help shows what may stand on the line", file=sys.stderr, end="" if hints else "\n")
+    if not is_text:
+        print("hint: a word of the line isn't UTF-8 text", file=sys.stderr)
+    hints = hints_for(program, note, words) if is_text else ""
+    print(hints or f"hint: ./{program} --help shows what may stand on the line\n", file=sys.stderr, end="")
     return USAGE
 
 

@@ -75,14 +75,16 @@ class DoorCase(unittest.TestCase):
     """A test with a checkout of its own: launchers, crates that stand for the real ones, and a fake `rt`."""
 
     CRATES = {"lift_base": [], "lift_poly": [], "plift_top": ["lift_base", "lift_poly", "clap"], "plift": ["plift_top"], "view_top": ["lift_base"], "plift_view": ["view_top"], "other": []}
+    # What is copied from this checkout.
+    PARTS = ("plift", "plift-view", "VERSION", "tools", "man", "completion", "install")
 
     def setUp(self):
         self.room = Path(tempfile.mkdtemp(prefix="door test-"))
         self.addCleanup(shutil.rmtree, self.room, ignore_errors=True)
         self.top = self.room / "a checkout"
-        for part in ("plift", "plift-view", "VERSION", "tools", "man", "completion", "install"):
+        for part in self.PARTS:
             if (TOP / part).is_dir():
-                shutil.copytree(TOP / part, self.top / part, ignore=shutil.ignore_patterns("__pycache__", "native"))
+                shutil.copytree(TOP / part, self.top / part, ignore=shutil.ignore_patterns("__pycache__", "native", "quick.py"))
             elif (TOP / part).exists():
                 self.top.mkdir(exist_ok=True)
                 shutil.copy2(TOP / part, self.top / part)

@@ -1,0 +1,116 @@
+"""What ./install puts where, and that it takes all of it away again."""
+
+import os
+import subprocess
+import unittest
+from pathlib import Path
+
+from common import DoorCase, STAND_IN, TOP, write_program
+
+COMMANDS = ["plift", "plift-recheck", "plift-view"]
+
+
+class Install(DoorCase):
+    PARTS = DoorCase.PARTS + ("LICENSE", "CHANGELOG.md", "recheck", "examples")
+
+    def setUp(self):
+        super().setUp()
+        self.prefix = self.room / "it's a prefix"
+
+    def install(self, *words, **environment):
+        return subprocess.run([str(self.top / "install"), *map(str, words)], capture_output=True, text=True, env={**self.environment, **environment}, cwd=self.room)
+
+    def installed(self, root):
+        return sorted(str(path.relative_to(root)) for path in root.rglob("*") if not path.is_dir())
+
+    def both_built(self):
+        self.built("plift")
+        self.built("plift_view")
+
+    def test_what_is_installed_runs_without_the_checkout(self):
+        self.both_built()
+        ran = self.install(self.prefix)
+        self.assertEqual((ran.returncode, ran.stdout), (0, ""), ran.stderr)
+        self.top.rename(self.room / "moved away")
+        self.assertEqual(sorted(path.name for path in (self.prefix / "bin").iterdir()), COMMANDS)
+        for shell in ([], ["sh"], ["bash"]):
+            ran = self.run_door("a  b", "", door=self.prefix / "bin/plift", shell=shell, input=b"x", environment={"COPY": "1", "STATUS": "4"}, cwd="/")
+            self.assertEqual((ran.returncode, ran.stdout, ran.stderr), (4, b"<a  b><>\nx", b""))
+        self.assertEqual(self.run_door("--version", door=self.prefix / "bin/plift").stdout, b"plift 0.9.0 (proved)\n")
+        self.assertEqual(self.run_door("--help", door=self.prefix / "bin/plift-view").stdout, (TOP / "man/help/plift-view.txt").read_bytes())
+        ran = self.run_door("--quick", "check", door=self.prefix / "bin/plift")
+        self.assertEqual((ran.returncode, ran.stderr), (2, b"plift: --quick belongs to a checkout of the sources; this plift is proved\n"))
+        ran = self.run_door(door=self.prefix / "bin/plift-recheck", input=(TOP / "examples/coin.report").read_bytes())
+        self.assertEqual(ran.stdout, b"sound accept 0 reject 1 unknown 0\n")
+        for page in ("man/man1/plift.1", "man/man1/plift-view.1", "bash-completion/completions/plift", "zsh/site-functions/_plift"):
+            self.assertTrue((self.prefix / "share" / page).is_file(), page)
+
+    def test_installed_again_and_removed(self):
+        self.both_built()
+        (self.prefix / "bin").mkdir(parents=True)
+        (self.prefix / "bin/other").write_text("not plift's\n")
+        self.assertEqual(self.install(self.prefix).returncode, 0)
+        first = self.installed(self.prefix)
+        self.assertEqual(self.install(self.prefix).returncode, 0)
+        self.assertEqual(self.installed(self.prefix), first)
+        ran = self.install("--uninstall", self.prefix)
+        self.assertEqual(ran.returncode, 0, ran.stderr)
+        self.assertEqual([str(path.relative_to(self.prefix)) for path in self.prefix.rglob("*")], ["bin", "bin/other"])
+        ran = self.install("--uninstall", self.prefix)
+        self.assertEqual((ran.returncode, ran.stderr.count("\n")), (1, 1))
+
+    def test_below_another_root(self):
+        self.both_built()
+        root = self.room / "root"
+        self.assertEqual(self.install("/usr", DESTDIR=str(root)).returncode, 0)
+        self.assertIn("top='/usr/libexec/plift'\n", (root / "usr/bin/plift").read_text())
+        self.assertEqual(self.install("--uninstall", "/usr", DESTDIR=str(root)).returncode, 0)
+        self.assertEqual(self.installed(root), [])
+
+    def test_a_relative_prefix(self):
+        self.both_built()
+        self.assertEqual(self.install("here").returncode, 0)
+        self.assertEqual(self.run_door("x", door=self.room / "here/bin/plift", cwd="/").stdout, b"<x>\n")
+
+    def refused(self, *words, status=1):
+        ran = self.install(*words)
+        self.assertEqual((ran.returncode, ran.stdout, ran.stderr.count("\n")), (status, "", 1), ran.stderr)
+        self.assertTrue(ran.stderr.startswith("install: "), ran.stderr)
+        return ran.stderr
+
+    def test_refusals(self):
+        self.assertIn("isn't built", self.refused(self.prefix))
+        self.assertFalse((self.prefix / "libexec/plift.new").exists())
+        self.both_built()
+        (self.room / "a file").write_text("")
+        self.assertIn("can't be written", self.refused(self.room / "a file"))
+        self.assertIn("can't be written", self.refused("/proc/plift"))
+        for words in (["--no"], ["a", "b"], ["--quick", "--uninstall"], [""]):
+            self.refused(*words, status=2)
+        os.utime(self.top / "crates/plift/out/plift", (900, 900))
+        self.assertIn("newer", self.refused(self.prefix))
+
+    def test_further_commands_where_they_are_there(self):
+        self.both_built()
+        write_program(self.top / "plift-lab", '#!/bin/sh\ncat "$(dirname "$0")/lab/words"; echo "$@"\n')
+        (self.top / "lab").mkdir()
+        (self.top / "lab/words").write_text("lab\n")
+        self.assertEqual(self.install(self.prefix).returncode, 0)
+        ran = self.run_door("x  y", door=self.prefix / "bin/plift-lab")
+        self.assertEqual(ran.stdout, b"lab\nx  y\n")
+
+    def test_quick_programs(self):
+        write_program(self.top / "tools/quick.py", "import sys; print('quick: no cargo', file=sys.stderr); sys.exit(70)\n")
+        ran = self.install("--quick", self.prefix)
+        self.assertEqual((ran.returncode, ran.stderr), (70, "quick: no cargo\n"))
+        for name in ("plift", "plift-view"):
+            write_program(self.top / "build/quick" / name, STAND_IN)
+        (self.top / "tools/quick.py").write_text("import sys; from pathlib import Path; print(Path(__file__).parent.parent / 'build/quick' / sys.argv[1])\n")
+        os.utime(self.top / "tools/quick.py", (1000, 1000))
+        os.utime(self.top / "tools/native", (1000, 1000))
+        self.assertEqual(self.install("--quick", self.prefix).returncode, 0)
+        self.assertEqual(self.run_door("--version", door=self.prefix / "bin/plift").stdout, b"plift 0.9.0 (quick)\n")
+
+
+if __name__ == "__main__":
+    unittest.main()

@@ -1,0 +1,107 @@
+"""The release: the same bytes each time, and what is unpacked in an empty folder works without the checkout."""
+
+import hashlib
+import os
+import subprocess
+import tarfile
+import unittest
+
+from common import DoorCase, TOP, quick_program
+
+
+class Release(DoorCase):
+    PARTS = DoorCase.PARTS + ("LICENSE", "CHANGELOG.md", "CITATION.cff", "README.md", "recheck", "examples", "docs")
+
+    def setUp(self):
+        super().setUp()
+        (self.top / ".gitignore").write_text("out/\nbuild/\n__pycache__/\n")
+        (self.top / "HANDLES").write_text("Handles allowed: none.\n")
+        for words in (["init", "-q"], ["add", "."], ["commit", "-q", "-m", "x"]):
+            self.git(*words)
+        self.log = self.room / "gate.log"
+        self.log.write_text("more\n" * 100 + "rt: all is well\n306 passed, 0 failed (1 note)\n")
+        self.out = self.room / "out"
+
+    def git(self, *words):
+        subprocess.run(["git", "-C", str(self.top), "-c", "user.name=x", "-c", "user.email=x@example.org", *words], check=True)
+
+    def release(self, *words):
+        return subprocess.run([str(self.top / "tools/release"), str(self.out), *map(str, words)], capture_output=True, text=True, env=self.environment)
+
+    def made(self, *words, name="plift-0.9.0-linux-x86_64"):
+        ran = self.release(*words)
+        self.assertEqual((ran.returncode, ran.stderr), (0, ""))
+        archive = self.out / f"{name}.tar.gz"
+        self.assertEqual(ran.stdout, f"{hashlib.sha256(archive.read_bytes()).hexdigest()}  {archive}\n")
+        return archive
+
+    def unpacked(self, archive):
+        empty = self.room / "empty"
+        empty.mkdir()
+        with tarfile.open(archive) as file:
+            file.extractall(empty)
+        self.top.rename(self.room / "moved away")
+        self.assertEqual([path.name for path in empty.iterdir()], [archive.name[: -len(".tar.gz")]])
+        return next(empty.iterdir())
+
+    def test_proved_programs(self):
+        self.built("plift")
+        self.built("plift_view")
+        archive = self.made("--gate", self.log)
+        first = archive.read_bytes()
+        os.utime(self.top / "README.md")
+        self.assertEqual(self.made("--gate", self.log).read_bytes(), first)
+        folder = self.unpacked(archive)
+        self.assertEqual(subprocess.run(["sha256sum", "-c", "--quiet", "SHA256SUMS"], cwd=folder).returncode, 0)
+        listed = {row.split("  ")[1] for row in (folder / "SHA256SUMS").read_text().splitlines()}
+        there = {str(path.relative_to(folder)) for path in folder.rglob("*") if path.is_file()}
+        self.assertEqual(there - listed, {"SHA256SUMS"})
+        moved = self.room / "moved away"
+        self.assertEqual(subprocess.run(["sha256sum", "-c", "--quiet", str(folder / "SHA256SUMS.sources")], cwd=moved).returncode, 0)
+        self.assertEqual((folder / "GATE.txt").read_text().splitlines()[-1], "306 passed, 0 failed (1 note)")
+        self.assertRegex(self.run_door("--version", door=folder / "plift").stdout.decode(), r"^plift 0\.9\.0 \(commit [0-9a-f]{7}, proved\)\n$")
+        ran = self.run_door("a b", door=folder / "plift", input=b"x", environment={"COPY": "1", "STATUS": "3"}, cwd="/")
+        self.assertEqual((ran.returncode, ran.stdout), (3, b"<a b>\nx"))
+        self.assertEqual(subprocess.run([str(folder / "install"), str(self.room / "prefix")], capture_output=True).returncode, 0)
+        self.assertIn(b", proved)", self.run_door("--version", door=self.room / "prefix/bin/plift-view").stdout)
+
+    def refused(self, *words):
+        ran = self.release(*words)
+        self.assertEqual((ran.returncode, ran.stdout, ran.stderr.count("\n")), (1, "", 1), ran.stderr)
+        self.assertFalse(self.out.exists())
+        return ran.stderr
+
+    def test_refusals(self):
+        self.assertIn("not built", self.refused("--gate", self.log))
+        self.built("plift")
+        self.built("plift_view")
+        self.assertIn("--gate", self.refused())
+        self.assertIn("no.log", self.refused("--gate", self.room / "no.log"))
+        self.log.write_text("305 passed, 1 failed\n")
+        self.assertIn("nothing failed", self.refused("--gate", self.log))
+        (self.top / "README.md").write_text("changed\n")
+        self.assertIn("README.md", self.refused("--gate", self.log))
+
+    def test_quick_programs_verify_in_an_empty_folder(self):
+        if not all(quick_program(name) for name in ("plift", "plift-view")):
+            self.skipTest("build/quick has no programs")
+        for name in ("plift", "plift-view"):
+            program = self.top / "build/quick" / name
+            program.parent.mkdir(parents=True, exist_ok=True)
+            program.write_bytes(quick_program(name).read_bytes())
+            program.chmod(0o755)
+        (self.top / "tools/quick.py").touch()
+        os.utime(self.top / "tools/quick.py", (1000, 1000))
+        os.utime(self.top / "tools/native", (1000, 1000))
+        self.git("add", ".")
+        self.git("commit", "-q", "-m", "y")
+        folder = self.unpacked(self.made("--quick", name="plift-0.9.0-linux-x86_64-quick"))
+        words = ["verify", "--goal", "lost", "--bound", "3/100", "--region", "1/10<=p<=3/10,1/20<=q<=1/5", "--precision", "10"]
+        report = self.run_door(*words, door=folder / "plift", input=(folder / "examples/retry.drn").read_bytes()).stdout
+        self.assertEqual(report, (TOP / "examples/retry.report").read_bytes())
+        self.assertEqual(self.run_door("check", door=folder / "plift", input=report).stdout, b"sound accept 1 reject 0 unknown 0\n")
+        self.assertIn(b"<svg", self.run_door(door=folder / "plift-view", input=report).stdout)
+
+
+if __name__ == "__main__":
+    unittest.main()

@@ -1,0 +1,137 @@
+"""Help, man pages, completion and the grammar name the same commands and options, and the examples of the help work."""
+
+import os
+import re
+import shlex
+import subprocess
+import tempfile
+import unittest
+from pathlib import Path
+
+from common import TOP, quick_program, tool
+
+line = tool("line")
+OPTION = re.compile(r"(?<![\w-])--[a-z]+")
+# What the launchers answer themselves.
+DOOR = {"--help", "--version", "--quick"}
+COMMANDS = ["verify", "check", "generate", "selftest"]
+
+
+def help_of(name):
+    return (TOP / f"man/help/{name}.txt").read_text()
+
+
+def part_of(text, begin, end):
+    """Returns what stands between two pieces of a text."""
+    return text.split(begin, 1)[1].split(end, 1)[0]
+
+
+def rows_of(text):
+    """Returns the options in the first column of a table."""
+    return {option for row in text.splitlines() if row.startswith("| `--") for option in OPTION.findall(row.split("|")[1])}
+
+
+def man_of(name):
+    return (TOP / f"man/{name}.1").read_text().replace("\\-", "-")
+
+
+class Named(unittest.TestCase):
+    formats = (TOP / "docs/FORMATS.md").read_text(encoding="utf-8")
+
+    def test_the_grammar(self):
+        words = part_of(self.formats, "## The command line", "Any other line")
+        self.assertEqual(set(OPTION.findall(words)) - {"--name"}, set(line.VERIFY.valued))
+        self.assertEqual(rows_of(part_of(self.formats, "## The view of a report", "## Notes")), {*line.VIEW.valued, *line.VIEW.flags})
+        named = part_of(words, "The first word is", "\n")
+        self.assertEqual(re.findall(r"`(\w+)`", named), COMMANDS)
+
+    def test_the_ranges(self):
+        values = part_of(self.formats, "| Value | Grammar and range |", "\n\n")
+        for name, row in (("--depth", "`--depth`"), ("--precision", "`--precision`"), ("N", "the number of blocks")):
+            digits, low, high = line.RANGES[name]
+            self.assertIn(f"| {row} | 1 to {digits} digits, {low} to {high:,} |", values)
+        for text in (help_of("verify"), re.sub(r"\s+", " ", man_of("plift"))):
+            for name in ("--depth", "--precision"):
+                self.assertRegex(text, rf"{name} \S+[^-]*{line.RANGES[name][1]} to {line.RANGES[name][2]}\b")
+        self.assertIn(f"1 to {line.RANGES['N'][2]}", help_of("generate"))
+
+    def test_help(self):
+        self.assertEqual(set(OPTION.findall(help_of("verify"))), set(line.VERIFY.valued))
+        self.assertEqual(set(OPTION.findall(help_of("plift-view"))) - set(line.VERIFY.valued), {*line.VIEW.valued, *line.VIEW.flags, *DOOR})
+        self.assertEqual(set(OPTION.findall(help_of("plift"))), {*line.VERIFY.valued, *DOOR})
+        for command in COMMANDS:
+            self.assertIn(f"plift {command}", help_of("plift"))
+            self.assertTrue(help_of(command).startswith(f"plift {command}"))
+        for path in (TOP / "man/help").glob("*.txt"):
+            self.assertLessEqual(max(map(len, path.read_text().splitlines())), 80, path)
+
+    def test_man_pages(self):
+        plift, view = (set(OPTION.findall(man_of(name))) for name in ("plift", "plift-view"))
+        self.assertEqual(plift, {*line.VERIFY.valued, *DOOR})
+        self.assertEqual(view, {*line.VIEW.valued, *line.VIEW.flags, *DOOR})
+        version = (TOP / "VERSION").read_text().strip()
+        for name in ("plift", "plift-view"):
+            self.assertIn(f'"plift {version}"', man_of(name))
+
+    def test_man_pages_are_well_formed(self):
+        for name in ("plift", "plift-view"):
+            try:
+                ran = subprocess.run(["groff", "-man", "-ww", "-Tutf8", str(TOP / f"man/{name}.1")], capture_output=True)
+            except FileNotFoundError:
+                self.skipTest("groff isn't there")
+            self.assertEqual((ran.returncode, ran.stderr), (0, b""))
+
+    def test_the_version_is_the_same_everywhere(self):
+        version = (TOP / "VERSION").read_text().strip()
+        self.assertIn(f"\nversion: {version}\n", (TOP / "CITATION.cff").read_text())
+        self.assertIn(f"\n## {version} - ", (TOP / "CHANGELOG.md").read_text())
+
+    def test_completion_for_zsh(self):
+        text = (TOP / "completion/_plift").read_text()
+        self.assertEqual(set(OPTION.findall(text)), {*line.VERIFY.valued, *line.VIEW.valued, *line.VIEW.flags, *DOOR})
+        self.assertTrue(all(f"'{command}:" in text for command in COMMANDS))
+
+
+class Completed(unittest.TestCase):
+    """What bash offers for a front of a line."""
+
+    def offered(self, *words):
+        script = f'. {shlex.quote(str(TOP / "completion/plift.bash"))}; COMP_WORDS=({" ".join(map(shlex.quote, words))}); COMP_CWORD={len(words) - 1}; '
+        script += "_plift_view" if words[0] == "plift-view" else "_plift"
+        ran = subprocess.run(["bash", "-c", script + '; printf "%s\\n" "${COMPREPLY[@]}"'], capture_output=True, text=True)
+        self.assertEqual(ran.stderr, "")
+        return set(ran.stdout.split())
+
+    def test_plift(self):
+        self.assertEqual(self.offered("plift", ""), {*COMMANDS, *DOOR})
+        self.assertEqual(self.offered("plift", "--quick", ""), {*COMMANDS, *DOOR} - {"--quick"})
+        self.assertEqual(self.offered("plift", "--help", "s"), {"selftest"})
+        self.assertEqual(self.offered("plift", "verify", ""), {*line.VERIFY.valued, "--help"})
+        self.assertEqual(self.offered("plift", "verify", "--goal", "x", "--depth=3", "--"), {"--bound", "--region", "--precision", "--help"})
+        self.assertEqual(self.offered("plift", "--quick", "verify", "--b"), {"--bound"})
+        self.assertEqual(self.offered("plift", "verify", "--goal", "-"), set())
+        self.assertEqual(self.offered("plift", "check", ""), {"--help"})
+
+    def test_view(self):
+        self.assertEqual(self.offered("plift-view", ""), {*line.VIEW.valued, *line.VIEW.flags, *DOOR})
+        self.assertEqual(self.offered("plift-view", "--x", "p", ""), {"--y", "--at"})
+        self.assertEqual(self.offered("plift-view", "--at", "p=1", "--at", "q=1", "-"), {"--x", "--y", "--at"})
+        self.assertEqual(self.offered("plift-view", "--summary", ""), set())
+
+
+class Examples(unittest.TestCase):
+    def test_examples_of_the_help(self):
+        if not all(quick_program(name) for name in ("plift", "plift-view")):
+            self.skipTest("build/quick has no programs")
+        with tempfile.TemporaryDirectory() as folder:
+            environment = {**os.environ, "PATH": f"{TOP / 'build/quick'}:{os.environ['PATH']}"}
+            for path in sorted((TOP / "man/help").glob("*.txt")):
+                for example in path.read_text().split("Example")[1:]:
+                    command = example.split("\n\n")[1].strip()
+                    ran = subprocess.run(["bash", "-c", f"set -eo pipefail; {command}"], cwd=folder, env=environment, capture_output=True)
+                    self.assertEqual((ran.returncode, ran.stderr), (0, b""), command)
+                    self.assertTrue(ran.stdout, command)
+
+
+if __name__ == "__main__":
+    unittest.main()
