@@ -67,11 +67,15 @@ refuse_plain_faults() {
     fi
 }
 
-# Says what is waited for where standard input is a terminal.
+# Says what is waited for where standard input is a terminal. A line without a goal and a bound is refused at once.
 announce_input() {
-    case $name:${1-} in
-    plift:verify) say 'reading the model from standard input; give a file by < model.drn' ;;
-    plift:check | plift-view:*) say 'reading the report from standard input; give a file by < report' ;;
+    case "$name $*" in
+    'plift verify '*--goal*--bound* | 'plift verify '*--bound*--goal*)
+        say 'reading the model from standard input; give a file by < model.drn'
+        ;;
+    'plift check' | plift-view*)
+        say 'reading the report from standard input; give a file by < report'
+        ;;
     esac
 }
 

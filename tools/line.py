@@ -128,18 +128,25 @@ def hints_for(program: str, note: str, words: Sequence[str]) -> str:
     return text if told.returncode == 0 and text.startswith("hint: ") else ""
 
 
+def is_text(word: str) -> bool:
+    """Whether a word is UTF-8 text. The program ends without a note where one isn't."""
+    try:
+        os.fsencode(word).decode("utf-8")
+    except UnicodeDecodeError:
+        return False
+    return True
+
+
 def main(program: str, words: Sequence[str]) -> int:
     """Tells the fault of a line, if it has one that shows."""
-    is_text = all(word.isprintable() or word.encode(errors="surrogateescape").decode(errors="ignore") == word for word in words)
-    note = (plift_note if program == "plift" else view_note)(words) if is_text else ""
+    if not all(map(is_text, words)):
+        print("hint: a word of the line isn't UTF-8 text", file=sys.stderr)
+        return USAGE
+    note = (plift_note if program == "plift" else view_note)(words)
     if note is None:
         return 0
-    if note:
-        print(note, file=sys.stderr)
-    if not is_text:
-        print("hint: a word of the line isn't UTF-8 text", file=sys.stderr)
-    hints = hints_for(program, note, words) if is_text else ""
-    print(hints or f"hint: ./{program} --help shows what may stand on the line\n", file=sys.stderr, end="")
+    hints = hints_for(program, note, words) or f"hint: ./{program} --help shows what may stand on the line\n"
+    print(f"{note}\n{hints}", file=sys.stderr, end="")
     return USAGE
 
 

@@ -11,7 +11,7 @@ import unittest
 from common import DoorCase, write_program
 
 WORDS = ["verify", "", " two  blanks ", "it's \"quoted\"", "a\nline\n", "*", "$HOME", "--goal=-", "\\"]
-SHELLS = [["sh"], ["bash"], []]
+SHELLS = [[], ["bash"], ["bash", "--posix"]]
 HINTS = """import os, sys
 print("hint:", os.environ["PLIFT_NOTE"], sys.argv[1:], sys.stdin.read(), file=sys.stderr)
 """
@@ -95,6 +95,13 @@ class Runs(Door):
                 self.assertTrue(ran.stderr.decode().startswith("a note  \\n\n" + hint), ran.stderr)
                 os.unlink(self.top / "tools/hints.py")
 
+    def test_hints_of_the_view(self):
+        self.built("plift_view")
+        environment = {"STATUS": "2", "NOTE": "note", **self.hinted()}
+        (self.top / "tools/hints.py").write_text("import os, sys\nprint('hint:', os.environ['PLIFT_PROGRAM'], file=sys.stderr)\n")
+        self.assertEqual(self.run_door("--x", "p", door=self.top / "plift-view", environment=environment).stderr, b"note\nhint: plift-view\n")
+        self.assertEqual(self.run_door("--follow", door=self.top / "plift-view", environment=environment).stderr, b"note\n")
+
     def test_no_hints_where_they_are_not_wanted_or_missing(self):
         self.built()
         environment = {"STATUS": "3", "NOTE": "note"}
@@ -142,7 +149,7 @@ class Runs(Door):
         self.hinted()
         leader, follower = pty.openpty()
         environment = {**self.environment, "STATUS": "3", "NOTE": "note"}
-        ran = subprocess.Popen([str(self.top / "plift"), "verify"], stdin=follower, stdout=subprocess.DEVNULL, stderr=follower, env=environment, start_new_session=True)
+        ran = subprocess.Popen([str(self.top / "plift"), "verify", "--goal", "a", "--bound=1"], stdin=follower, stdout=subprocess.DEVNULL, stderr=follower, env=environment, start_new_session=True)
         os.close(follower)
         os.write(leader, b"\x04")
         self.assertEqual(ran.wait(timeout=5), 3)
@@ -164,7 +171,6 @@ class Finds(Door):
         for shell in SHELLS:
             ran = self.run_door("x", door="../a link", shell=shell, cwd=empty, environment={"CDPATH": f"{self.room}:/"})
             self.assertEqual((ran.returncode, ran.stdout), (0, b"<x>\n"), ran.stderr)
-        ran = subprocess.run(["a link", "y"], executable="/usr/bin/env", capture_output=True, cwd=empty, env={**self.environment, "PATH": f"{self.room}:{self.environment['PATH']}"})
         ran = subprocess.run(["env", "a link", "y"], capture_output=True, cwd=empty, env={**self.environment, "PATH": f"{self.room}:{self.environment['PATH']}"})
         self.assertEqual(ran.stdout, b"<y>\n", ran.stderr)
 
