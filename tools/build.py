@@ -37,7 +37,7 @@ USUAL_MACHINE = "four processors"
 # library is kept, in minutes.
 UNKNOWN_MINUTES = 2.0
 KEPT_MINUTES = 0.05
-# Memory that a crate's proof may take, as measured: some 1 to 2.6 GB.
+# Memory that is counted for a crate that is proved: some take 1 GB, the largest 3.1, and four at a time took 6.
 LANE_BYTES = 2 << 30
 TICK_SECONDS = 30
 # Runs its words in a process group that ends when the other end of standard input is closed, which
@@ -147,6 +147,12 @@ def link_or_copy(source: str, target: str) -> None:
         os.link(source, target)
     except OSError:
         shutil.copy2(source, target)
+
+
+def last_lines(log: Path, count: int) -> str:
+    """Returns the last lines of a log, each on a line of its own."""
+    lines = log.read_text(encoding="utf-8", errors="replace").splitlines()
+    return "".join(f"\n    {line}" for line in lines[-count:])
 
 
 def remove(path: Path) -> None:
@@ -369,7 +375,8 @@ class Build:
                 running.stop()
                 raise
         if failed:
-            raise BuildError(f"{failed} was not built; see {self.logs / failed}.log")
+            log = self.logs / f"{failed}.log"
+            raise BuildError(f"{failed} was not built; see {log}, which ends so:{last_lines(log, 5)}")
         os.utime(self.program, (self.began, self.began))
 
 

@@ -22,7 +22,7 @@ show_help() {
 }
 
 show_version() {
-    read -r version <"$top/VERSION" || version='of an unknown version'
+    { read -r version <"$top/VERSION"; } 2>/dev/null || version='of an unknown version'
     commit=$(commit_of_sources)
     printf '%s %s (%s%s)\n' "$name" "$version" "${commit:+commit $commit, }" "$(kind_of_program)"
     exit 0

@@ -1,5 +1,6 @@
 """The build of a proved program, with a fake `rt`: its order, what it keeps when it is ended, and what it tells."""
 
+import fcntl
 import os
 import signal
 import subprocess
@@ -106,7 +107,7 @@ class Builds(DoorCase):
     def test_a_crate_that_is_not_proved(self):
         status, told = self.end(self.start(BROKEN_CRATES="plift_top"))
         self.assertEqual(status, 70)
-        self.assertIn("plift: plift_top was not built; see ", told)
+        self.assertRegex(told, r"plift: plift_top was not built; see .*/plift_top\.log, which ends so:\n    error in plift_top\n")
         self.assertNotIn("Traceback", told)
         self.assertIn("error in plift_top", (self.top / "build/logs/plift_top.log").read_text())
         self.assertNotIn("begin plift run", " ".join(self.lines()))
@@ -168,6 +169,16 @@ class Builds(DoorCase):
         first.send_signal(signal.SIGTERM)
         self.end(first)
         self.assertEqual(self.end(second)[0], 0)
+
+    def test_what_another_build_has_built_meanwhile(self):
+        lock = os.open(self.top / "crates/lift_base", os.O_RDONLY)
+        fcntl.flock(lock, fcntl.LOCK_EX)
+        second = self.start()
+        second.stderr.readline()
+        self.built()
+        os.close(lock)
+        self.assertEqual(self.end(second), (0, ""))
+        self.assertEqual(self.lines(), [])
 
     def test_what_cannot_be_written(self):
         (self.top / "build").write_text("a file, not a folder\n")
