@@ -11,11 +11,8 @@ commit_of_sources() {
     printf '%s\n' "$commit_made"
 }
 
+# The word --quick, which the pages have, changes nothing here: the program is there.
 find_program() {
     program=$top/programs/$name
     [ -x "$program" ] || fail "$program isn't there"
-    if [ -n "$quick" ]; then
-        say "--quick belongs to a checkout of the sources; this $name is $kind_made"
-        exit 2
-    fi
 }

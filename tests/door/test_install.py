@@ -39,7 +39,7 @@ class Install(DoorCase):
         self.assertEqual(self.run_door("--version", door=self.prefix / "bin/plift").stdout, b"plift 0.9.0 (proved)\n")
         self.assertEqual(self.run_door("--help", door=self.prefix / "bin/plift-view").stdout, (TOP / "man/help/plift-view.txt").read_bytes())
         ran = self.run_door("--quick", "check", door=self.prefix / "bin/plift")
-        self.assertEqual((ran.returncode, ran.stderr), (2, b"plift: --quick belongs to a checkout of the sources; this plift is proved\n"))
+        self.assertEqual((ran.returncode, ran.stdout, ran.stderr), (0, b"<check>\n", b""))
         ran = self.run_door(door=self.prefix / "bin/plift-recheck", input=(TOP / "examples/coin.report").read_bytes())
         self.assertEqual(ran.stdout, b"sound accept 0 reject 1 unknown 0\n")
         for page in ("man/man1/plift.1", "man/man1/plift-view.1", "bash-completion/completions/plift", "zsh/site-functions/_plift"):
