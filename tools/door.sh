@@ -9,12 +9,6 @@ fail() {
     exit 70
 }
 
-# The refusal that the program has for a line that isn't plain, with a hint.
-refuse() {
-    printf '%s\n' 'usage: words' "hint: $*" >&2
-    exit 2
-}
-
 # Shows the help of a command and ends.
 show_help() {
     cat "$top/man/help/$1.txt" || fail "its help isn't found in $top/man/help"
@@ -63,7 +57,8 @@ refuse_plain_faults() {
         python3 "$top/tools/line.py" "$name" "$@" </dev/null
         [ $? -ne 2 ] || exit 2
     elif [ $# -eq 0 ]; then
-        refuse "./$name --help shows the words"
+        printf '%s\n' 'usage: words' "hint: $0 --help shows the words" >&2
+        exit 2
     fi
 }
 

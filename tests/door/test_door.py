@@ -213,6 +213,22 @@ class Finds(Door):
         self.assertIn(b"plift: the sources are newer than the proved program\n", ran.stderr)
         self.assertEqual(self.run_door("check").stderr, b"")
 
+    def test_a_start_takes_no_other_process(self):
+        self.built()
+        self.assertEqual(self.run_door("check").stderr, b"")
+        for environment in ({}, self.hinted()):
+            ran = self.run_door("check", environment={**environment, "PATH": str(self.room / "nothing")})
+            self.assertEqual((ran.returncode, ran.stdout, ran.stderr), (0, b"<check>\n", b""))
+
+    def test_without_python(self):
+        alone = {"PATH": str(self.room / "nothing")}
+        ran = self.run_door(environment=alone)
+        self.assertEqual((ran.returncode, ran.stderr[:19]), (2, b"usage: words\nhint: "))
+        for words in (["check"], ["--quick", "check"]):
+            ran = self.run_door(*words, environment=alone)
+            self.assertEqual((ran.returncode, ran.stdout), (70, b""))
+            self.assertIn(b"not on the PATH", ran.stderr)
+
     def test_no_prover(self):
         (self.room / "bin/rt").unlink()
         for name in ("plift", "plift-view"):
