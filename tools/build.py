@@ -30,7 +30,8 @@ CRATES = TOP / "crates"
 PARTS = ("src", "specs", "proofs")
 SOURCES = (".rt", ".antt")
 CANNOT_BUILD = 70
-# What the build of plift from nothing took when it was measured last, and where.
+# What the build of this program from nothing took when it was measured last, and where.
+USUAL_PROGRAM = "plift"
 USUAL_MINUTES = 25
 USUAL_MACHINE = "four processors"
 # A crate's share of the work where the table of docs/ARCHITECTURE.md doesn't name it, and where its
@@ -266,6 +267,7 @@ class Build:
         self.order = closure(needs, crate)
         self.needs = needs
         self.cost: Dict[str, float] = {}
+        self.usual_pace = 1.0
         self.lanes = lanes_for(len(os.sched_getaffinity(0)), free_memory())
         self.began = 0.0
         self.started = 0.0
@@ -294,11 +296,11 @@ class Build:
         self.started = time.monotonic()
         table = TOP / "docs" / "ARCHITECTURE.md"
         known = minutes_of(table.read_text(encoding="utf-8")) if table.is_file() else {}
-        whole = {name: known.get(name, UNKNOWN_MINUTES) for name in self.order}
         newest = self._newest()
         kept = [name for name in self.order if is_kept(name, newest[name])]
-        self.cost = {**whole, **{name: KEPT_MINUTES for name in kept}}
-        self.usual_pace = USUAL_MINUTES / sum(whole.values())
+        self.cost = {name: KEPT_MINUTES if name in kept else known.get(name, UNKNOWN_MINUTES) for name in self.order}
+        measured = closure(self.needs, USUAL_PROGRAM) if USUAL_PROGRAM in self.needs else self.order
+        self.usual_pace = USUAL_MINUTES / sum(known.get(name, UNKNOWN_MINUTES) for name in measured)
         minutes = self.usual_pace * sum(self.cost.values())
         begun = f", {len(kept)} of them in an earlier build" if kept else ""
         self.say(
@@ -370,7 +372,8 @@ class Build:
                             done.add(name)
                         else:
                             failed = failed or name
-                            self.say(f"{failed} was not built; what else is being proved is brought to its end")
+                            if futures:
+                                self.say(f"{name} was not built; what is being proved beside it is brought to its end")
             except BaseException:
                 running.stop()
                 raise
@@ -380,18 +383,35 @@ class Build:
         os.utime(self.program, (self.began, self.began))
 
 
+def is_locked(descriptor: int, how: int) -> bool:
+    """Whether a lock was taken, or the file system has none."""
+    try:
+        fcntl.flock(descriptor, how)
+    except BlockingIOError:
+        return False
+    except OSError:
+        pass
+    return True
+
+
+def take_lock(descriptor: int, crate: str, build: Build) -> None:
+    """Waits for a crate's lock. What a build has left is gone soon, and isn't spoken of."""
+    for _ in range(20):
+        if is_locked(descriptor, fcntl.LOCK_EX | fcntl.LOCK_NB):
+            return
+        time.sleep(0.05)
+    build.say(f"another build, or rt, is at work in crates/{crate}, and this one waits for it")
+    is_locked(descriptor, fcntl.LOCK_EX)
+
+
 @contextlib.contextmanager
 def locked(build: Build) -> Iterator[List[int]]:
     """Keeps other builds, and `rt`, out of the crates meanwhile, and waits for those that are in them."""
-    held = []
+    held: List[int] = []
     try:
         for name in sorted(build.order):
             held.append(os.open(CRATES / name, os.O_RDONLY))
-            try:
-                fcntl.flock(held[-1], fcntl.LOCK_EX | fcntl.LOCK_NB)
-            except BlockingIOError:
-                build.say(f"another build, or rt, is at work in crates/{name}, and this one waits for it")
-                fcntl.flock(held[-1], fcntl.LOCK_EX)
+            take_lock(held[-1], name, build)
         yield held
     finally:
         for descriptor in held:
