@@ -64,12 +64,12 @@ class Builds(DoorCase):
         return subprocess.Popen(words, env={**self.environment, **environment}, stderr=subprocess.PIPE, text=True)
 
     def end(self, started):
-        told = started.communicate(timeout=30)[1]
+        told = started.communicate(timeout=60)[1]
         return started.returncode, told
 
     def wait_for(self, front):
         """Waits for a line of the fake `rt`, and returns its words."""
-        for _ in range(500):
+        for _ in range(1500):
             found = [line.split() for line in self.lines() if line.startswith(front)]
             if found:
                 return found[0]
@@ -128,7 +128,7 @@ class Builds(DoorCase):
         slow = int(self.wait_for("slow")[2])
         started.send_signal(number)
         status, told = self.end(started)
-        for _ in range(200):
+        for _ in range(1500):
             if not os.path.exists(f"/proc/{slow}"):
                 break
             time.sleep(0.02)
