@@ -50,6 +50,7 @@ class Release(DoorCase):
         archive = self.made("--gate", self.log)
         first = archive.read_bytes()
         os.utime(self.top / "README.md")
+        (self.top / "notes").write_text("not known to git, and no source\n")
         self.assertEqual(self.made("--gate", self.log).read_bytes(), first)
         folder = self.unpacked(archive)
         self.assertEqual(subprocess.run(["sha256sum", "-c", "--quiet", "SHA256SUMS"], cwd=folder).returncode, 0)
@@ -79,6 +80,11 @@ class Release(DoorCase):
         self.assertIn("no.log", self.refused("--gate", self.room / "no.log"))
         self.log.write_text("305 passed, 1 failed\n")
         self.assertIn("nothing failed", self.refused("--gate", self.log))
+        extra = self.top / "crates/plift/src/extra.rt"
+        extra.write_text("not known to git\n")
+        os.utime(extra, (1000, 1000))
+        self.assertIn("extra.rt", self.refused("--gate", self.log))
+        extra.unlink()
         (self.top / "README.md").write_text("changed\n")
         self.assertIn("README.md", self.refused("--gate", self.log))
 
