@@ -120,7 +120,10 @@ build() {
     now="for an answer now, without a proof of the program: $0 --quick ${1-} .."
     command -v rt >/dev/null 2>&1 || fail "the command rt of the Rattle kit is not on the PATH; $now"
     require python3 'tools/build.py needs it'
-    say "$now (its reports can be checked: python3 recheck/recheck.py, or plift check)"
+    case $name in
+    plift) say "$now (its reports can be checked: python3 recheck/recheck.py, or plift check)" ;;
+    *) say "$now" ;;
+    esac
     python3 "$top/tools/build.py" "$crate" "$top/build/logs" </dev/null >&2 || exit 70
     [ -x "$program" ] || fail "it was not built; see $top/build/logs"
 }
