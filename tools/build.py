@@ -163,6 +163,22 @@ def remove(path: Path) -> None:
         path.unlink()
 
 
+def lay_out(crate: str, below: List[str], room: Path) -> None:
+    """Lays the sources of a crate and of those below it into a folder, with the libraries that are built below."""
+    for name in [*below, crate]:
+        for part in PARTS:
+            source = CRATES / name / part
+            if source.is_dir():
+                shutil.copytree(source, room / "crates" / name / part, copy_function=link_or_copy)
+    for name in below:
+        library = CRATES / name / "out" / "rlib"
+        if library.is_dir():
+            shutil.copytree(library, room / "crates" / name / "out" / "rlib", copy_function=link_or_copy)
+    lines = (TOP / "crates.txt").read_text(encoding="utf-8").splitlines(keepends=True)
+    known = [line for line in lines if line.partition(":")[0].split()[:1] in [[name] for name in (*below, crate)]]
+    (room / "crates.txt").write_text("".join(known), encoding="utf-8")
+
+
 class Room:
     """A copy of one crate and of what is below it, in which `rt` works on that crate alone."""
 
@@ -194,17 +210,7 @@ class Room:
         """Makes the room; what an earlier build left in it is taken back first."""
         self.home.mkdir(exist_ok=True)
         self.take_back()
-        crates = [*self.below, self.crate]
-        for name in crates:
-            for part in PARTS:
-                source = CRATES / name / part
-                if source.is_dir():
-                    shutil.copytree(source, self.path / "crates" / name / part, copy_function=link_or_copy)
-        lines = (TOP / "crates.txt").read_text(encoding="utf-8").splitlines(keepends=True)
-        known = [line for line in lines if line.partition(":")[0].split()[:1] in [[name] for name in crates]]
-        (self.path / "crates.txt").write_text("".join(known), encoding="utf-8")
-        for name in self.below:
-            shutil.copytree(CRATES / name / "out" / "rlib", self.path / "crates" / name / "out" / "rlib", copy_function=link_or_copy)
+        lay_out(self.crate, self.below, self.path)
         self.kept.mkdir(parents=True)
         for entry in list(self.home.iterdir()):
             if entry != self.path:
