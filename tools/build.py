@@ -169,7 +169,7 @@ def lay_out(crate: str, below: List[str], room: Path) -> None:
         for part in PARTS:
             source = CRATES / name / part
             if source.is_dir():
-                shutil.copytree(source, room / "crates" / name / part, copy_function=link_or_copy)
+                shutil.copytree(source, room / "crates" / name / part)
     for name in below:
         library = CRATES / name / "out" / "rlib"
         if library.is_dir():
