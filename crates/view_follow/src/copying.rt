@@ -11,7 +11,7 @@ use lift_base::{Got, Sink, Source, WriteFault, write_all};
 pub enum CopyError {
     ReadFault,
     WriteFault,
-    /// The source gives bytes in more than 2^64 - 1 reads.
+    /// The source gave bytes in 2^64 - 1 reads, and no end came.
     TooLong,
 }
 
@@ -36,7 +36,7 @@ fn copy<S: Source, K: Sink, E: Sink>(
     ensures { Copies S.left S.faults K.taken K.faults source.old source.new out.old out.new result }
 {
     let mut buffer = [0u8; PIECE];
-    for _ in 0..u64::MAX {
+    for reads in 0..u64::MAX {
         match source.read(&mut buffer) {
             Got::Failed => return Err(CopyError::ReadFault),
             Got::Bytes(0) => return Ok(()),

@@ -1,10 +1,11 @@
-use Rattle.std.proofs.Common.{◌≡◌}
+use Rattle.std.proofs.Common.{◌≡◌, ◌≤◌, length}
 use Rattle.view_follow.specs.Copied.{IsCopied}
 use Rattle.view_follow.proofs.copying.copy.Given as goal
 
-abbrev pub invariant-loop : goal.invariant-loop
-invariant-loop g l = record {
+abbrev pub invariant-loop-reads : goal.invariant-loop-reads
+invariant-loop-reads g l = record {
   copied : IsCopied (g.S.Source.left l.fn.source) (g.S.Source.left l.source) (g.K.Sink.taken l.fn.out) (g.K.Sink.taken l.out);
+  long : l.reads ≤ length copied.0;
   read_well : g.S.Source.faults l.source ≡ g.S.Source.faults l.fn.source;
   written_well : g.K.Sink.faults l.out ≡ g.K.Sink.faults l.fn.out;
 }
