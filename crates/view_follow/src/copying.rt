@@ -1,6 +1,7 @@
 // Copies a report as it comes.
 ghost use Rattle.std.specs.Prelude.{◌≡◌};
-ghost use Rattle.view_follow.specs.Copied.{Copies};
+ghost use Rattle.view_follow.specs.Copied.{Copies, PassedHas, Tells};
+ghost use Rattle.view_follow.specs.Progress.{Passes};
 ghost use Rattle.view_follow.specs.declared.copying.CopyError.TheVariants as copy;
 
 use crate::progress::{Lines, Progress};
@@ -33,7 +34,10 @@ fn copy<S: Source, K: Sink, E: Sink>(
     notes: &mut E,
     progress: &mut Progress,
 ) -> Result<(), CopyError>
-    ensures { Copies S.left S.faults K.taken K.faults source.old source.new out.old out.new result }
+    ensures copied { Copies S.left S.faults K.taken K.faults
+        source.old source.new out.old out.new result }
+    ensures told { PassedHas (Passes E.taken E.faults notes.old notes.new progress.old progress.new)
+        S.left source.old source.new result }
 {
     let mut buffer = [0u8; PIECE];
     for reads in 0..u64::MAX {
@@ -58,7 +62,9 @@ pub fn follow<S: Source, K: Sink, E: Sink>(
     notes: &mut E,
     lines: Lines,
 ) -> Result<(), CopyError>
-    ensures { Copies S.left S.faults K.taken K.faults source.old source.new out.old out.new result }
+    ensures copied { Copies S.left S.faults K.taken K.faults
+        source.old source.new out.old out.new result }
+    ensures told { Tells S.left E.taken E.faults lines source.old source.new notes.old notes.new result }
 {
     let mut progress = Progress::new(lines);
     let copied = copy(source, out, notes, &mut progress);

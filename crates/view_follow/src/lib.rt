@@ -4,6 +4,7 @@
 mod copying;
 mod line;
 mod progress;
+mod shares;
 
 pub use copying::{CopyError, follow};
 pub use progress::Lines;

@@ -1,11 +1,14 @@
 // How far a report has come that is copied.
-ghost use Rattle.std.specs.Prelude.{◌≡◌, ◌+◌, ◌≤◌, ◌^◌};
+ghost use Rattle.std.specs.Prelude.{◌≡◌, ◌∷◌, []};
+ghost use Rattle.lift_base.specs.Outside.{Wrote};
+ghost use Rattle.view_follow.specs.Progress.{beginning, behind_leaf, behind_node, line_end, line_text};
+ghost use Rattle.view_follow.specs.Progress.{lines_due, Passes, progress_data, when_told, WroteEach};
+ghost use Rattle.view_follow.specs.declared.line.Line.TheVariants.{Empty};
+ghost use Rattle.view_follow.specs.declared.progress.Lines.TheVariants.{Apart};
 
 use crate::line::{Line, NodeLine};
+use crate::shares::{Shares, WHOLE};
 use lift_base::{Sink, Word, WriteFault, write_words};
-
-/// The volume of the region, in the units of shares.
-const WHOLE: u32 = 1 << 20;
 
 /// How lines of progress follow one another.
 #[derive(Clone, Copy)]
@@ -16,77 +19,36 @@ pub enum Lines {
     Apart,
 }
 
-/// The shares of the leaves that have come, of each kind, in units of 1/2^20 of the region's volume.
-#[derive(Clone, Copy)]
-struct Shares {
-    accept: u32,
-    reject: u32,
-    unknown: u32,
-    ghost within: { accept + reject + unknown ≤ 2 ^ 20 },
-}
-
-// The greatest power of 2 that divides a number above 0.
-fn power_in(n: u32) -> u32 {
-    n & n.wrapping_neg()
-}
-
-// A share in percent, rounded down.
-fn percent(share: u32) -> u64 {
-    u64::from(share) * 100 / u64::from(WHOLE)
-}
-
-impl Shares {
-    fn sum(self) -> u32
-        ensures { result ≡ self.accept + self.reject + self.unknown }
-    {
-        self.accept + self.reject + self.unknown
-    }
-
-    // With a leaf of that share more. What would go beyond the whole isn't counted.
-    fn with(self, leaf: NodeLine, share: u32) -> Shares {
-        let Shares {
-            accept,
-            reject,
-            unknown,
-        } = self;
-        let more = share.min(WHOLE - self.sum());
-        match leaf {
-            NodeLine::Split => self,
-            NodeLine::Accept => Shares {
-                accept: accept + more,
-                reject,
-                unknown,
-            },
-            NodeLine::Reject => Shares {
-                accept,
-                reject: reject + more,
-                unknown,
-            },
-            NodeLine::Unknown => Shares {
-                accept,
-                reject,
-                unknown: unknown + more,
-            },
-        }
-    }
-}
-
 /// What has come of a report, and what was told of it.
 #[derive(Clone, Copy)]
 pub struct Progress {
-    line: Line,
-    shares: Shares,
+    pub line: Line,
+    pub shares: Shares,
     /// The share of the node that comes next.
-    next: u32,
-    leaves: u64,
+    pub next: u32,
+    pub leaves: u64,
     /// How many percent had come when it was told last.
-    told: u64,
-    lines: Lines,
+    pub told: u64,
+    pub lines: Lines,
+}
+
+// How a line of progress ends.
+fn line_end(lines: Lines) -> &'static [u8]
+    ensures { result.now ≡ line_end lines }
+{
+    match lines {
+        Lines::Over => b"\r",
+        Lines::Apart => b"\n",
+    }
 }
 
 impl Progress {
     /// Nothing has come yet.
-    pub fn new(lines: Lines) -> Self {
+    pub fn new(lines: Lines) -> Self
+        ensures state { progress_data result ≡ beginning }
+        ensures line { result.line ≡ Empty }
+        ensures lines { result.lines ≡ lines }
+    {
         Progress {
             line: Line::Empty,
             shares: Shares {
@@ -101,76 +63,100 @@ impl Progress {
         }
     }
 
-    // A node has come. Both halves of a split have half of its share; and what comes before a node is
-    // a multiple of its share, so that the next one's is the greatest power of 2 in all that has come.
-    fn meet(&mut self, node: NodeLine) {
+    // A leaf has come. What comes before a node is a multiple of its share, so that the next one's is
+    // the greatest power of 2 in all that has come.
+    fn meet_leaf(&mut self, leaf: NodeLine)
+        ensures state { progress_data self.new ≡ behind_leaf (progress_data self.old) leaf }
+        ensures line { self.new.line ≡ self.old.line }
+        ensures lines { self.new.lines ≡ self.old.lines }
+    {
+        self.shares = self.shares.with(leaf, self.next);
+        self.next = self.shares.greatest_power();
+        self.leaves = self.leaves.saturating_add(1);
+    }
+
+    // A node has come. Both halves of a split have half of its share.
+    fn meet(&mut self, node: NodeLine)
+        ensures state { progress_data self.new ≡ behind_node (progress_data self.old) node }
+        ensures line { self.new.line ≡ self.old.line }
+        ensures lines { self.new.lines ≡ self.old.lines }
+    {
         match node {
             NodeLine::Split => self.next /= 2,
-            leaf => {
-                self.shares = self.shares.with(leaf, self.next);
-                self.next = power_in(self.shares.sum());
-                self.leaves = self.leaves.saturating_add(1);
-            }
+            NodeLine::Accept | NodeLine::Reject | NodeLine::Unknown => self.meet_leaf(node),
         }
     }
 
     // Writes how far the report has come.
-    fn write<E: Sink>(&self, notes: &mut E) -> Result<(), WriteFault> {
+    fn write<E: Sink>(&self, notes: &mut E, lines: Lines) -> Result<(), WriteFault>
+        ensures { Wrote E.taken E.faults notes.old notes.new result
+            (line_text lines (progress_data self.now)) }
+    {
         let Shares {
             accept,
             reject,
             unknown,
         } = self.shares;
-        let end: &[u8] = match self.lines {
-            Lines::Over => b"\r",
-            Lines::Apart => b"\n",
-        };
         write_words(
             notes,
             &[
                 Word::Text(b"decided "),
-                Word::Count(percent(accept + reject)),
+                Word::Count(Shares::percent(accept + reject)),
                 Word::Text(b" %, accepted "),
-                Word::Count(percent(accept)),
+                Word::Count(Shares::percent(accept)),
                 Word::Text(b" %, rejected "),
-                Word::Count(percent(reject)),
+                Word::Count(Shares::percent(reject)),
                 Word::Text(b" %, unknown "),
-                Word::Count(percent(unknown)),
+                Word::Count(Shares::percent(unknown)),
                 Word::Text(b" %, leaves "),
                 Word::Count(self.leaves),
-                Word::Text(end),
+                Word::Text(line_end(lines)),
             ],
         )
     }
 
-    /// Some bytes have come. A line is told for each percent.
-    pub fn pass<E: Sink>(&mut self, bytes: &[u8], notes: &mut E) {
-        for byte in bytes {
-            let (line, node) = self.line.behind(*byte);
-            self.line = line;
-            if let Some(node) = node {
-                self.meet(node);
-                self.tell(notes);
-            }
+    // Tells how far the report has come, where it is a percent more than was told. That it can't be
+    // written changes nothing.
+    fn tell<E: Sink>(&mut self, notes: &mut E)
+        ensures state { progress_data self.new ≡ when_told (progress_data self.old) }
+        ensures line { self.new.line ≡ self.old.line }
+        ensures lines { self.new.lines ≡ self.old.lines }
+        ensures told { WroteEach E.taken E.faults notes.old notes.new
+            (lines_due self.old.lines (progress_data self.old)) }
+    {
+        let percent = Shares::percent(self.shares.sum());
+        if self.told < percent {
+            let _ = self.write(notes, self.lines);
+            self.told = percent;
         }
     }
 
-    // Tells how far the report has come, where it is a percent more than was told. That it can't be
-    // written changes nothing.
-    fn tell<E: Sink>(&mut self, notes: &mut E) {
-        let percent = percent(self.shares.sum());
-        if self.told < percent {
-            self.told = percent;
-            let _ = self.write(notes);
+    // A byte has come.
+    fn take<E: Sink>(&mut self, byte: u8, notes: &mut E)
+        ensures { Passes E.taken E.faults notes.old notes.new self.old self.new (byte ∷ []) }
+    {
+        let (line, node) = self.line.behind(byte);
+        self.line = line;
+        if let Some(node) = node {
+            self.meet(node);
+            self.tell(notes);
+        }
+    }
+
+    /// Some bytes have come. A line is told for each percent.
+    pub fn pass<E: Sink>(&mut self, bytes: &[u8], notes: &mut E)
+        ensures { Passes E.taken E.faults notes.old notes.new self.old self.new bytes.now }
+    {
+        for byte in bytes {
+            self.take(*byte, notes);
         }
     }
 
     /// Nothing more comes: tells how far the report has come.
-    pub fn end<E: Sink>(&self, notes: &mut E) {
-        let last = Progress {
-            lines: Lines::Apart,
-            ..*self
-        };
-        let _ = last.write(notes);
+    pub fn end<E: Sink>(&self, notes: &mut E)
+        ensures { WroteEach E.taken E.faults notes.old notes.new
+            (line_text Apart (progress_data self.now) ∷ []) }
+    {
+        let _ = self.write(notes, Lines::Apart);
     }
 }
