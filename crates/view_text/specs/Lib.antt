@@ -1,4 +1,5 @@
 pub mod Numbers
+pub mod Style
 pub mod Field
 pub mod Picture
 pub mod Summary

@@ -5,10 +5,11 @@ use Rattle.cert_text.specs.Head.{HeadData}
 use Rattle.view_map.specs.Parts.{PartData, MapData}
 use Rattle.view_map.specs.Share.{share_of}
 use Rattle.view_map.specs.Slice.{CutData, SliceData, span_at}
+use Rattle.view_map.specs.declared.part.LeafKind.{LeafKind}
 use Rattle.view_map.specs.declared.part.LeafKind.TheVariants.{Accept, Reject, Unknown}
 use Rattle.view_text.specs.Numbers.{percent_text, fraction_text}
 use Rattle.view_text.specs.Field.{outlines}
-use Rattle.view_text.specs.declared.style.TheConstants as style
+use Rattle.view_text.specs.Style.{each_kind, legend_text, title_start, shares_start, shares_end, field_start, path_start, path_end, svg_end, x_low, x_name, x_high, y_low, y_name, y_high, cuts_start, text_end}
 
 -- what was asked
 abbrev pub title_text : HeadData → List ℕ
@@ -24,23 +25,17 @@ shares_text ps =
     ++ (codes ", rejected " ++ percent_text (share_of Reject ps)
     ++ (codes ", unknown " ++ percent_text (share_of Unknown ps)))
 
--- the title
+-- the legend and the title
 abbrev pub top_text : MapData → List ℕ
-top_text m = style.START.now ++ (title_text m.head ++ (style.SHARES.now ++ (shares_text m.parts ++ style.SHARES_END.now)))
+top_text m = legend_text ++ (title_start ++ (title_text m.head ++ (shares_start ++ (shares_text m.parts ++ shares_end))))
 
--- what stands before the field: it is a bar where no parameter lies on the upright axis
-abbrev pub field_start : Option ℕ → List ℕ
-field_start None = style.BAR.now
-field_start (Some y) = style.SQUARE.now
+-- the path of a kind of leaf: its rectangles
+abbrev pub path_text : MapData → SliceData → LeafKind → List ℕ
+path_text m s kind = path_start kind ++ (outlines m s kind ++ path_end)
 
--- the field: the rectangles of each kind of leaf
+-- the field: the path of each kind
 abbrev pub field_text : MapData → SliceData → List ℕ
-field_text m s =
-    field_start s.y
-    ++ ((style.ACCEPTED.now ++ (outlines m s Accept ++ style.PATH_END.now))
-    ++ ((style.REJECTED.now ++ (outlines m s Reject ++ style.PATH_END.now))
-    ++ ((style.UNKNOWN.now ++ (outlines m s Unknown ++ style.PATH_END.now))
-    ++ style.FIELD_END.now)))
+field_text m s = field_start s.y ++ (each_kind (path_text m s) ++ svg_end)
 
 -- the name of a parameter
 abbrev pub parameter_name : HeadData → ℕ → List ℕ
@@ -63,7 +58,7 @@ abbrev pub span_text : HeadData → ℕ → List ℕ → List ℕ → List ℕ �
 span_text h parameter low name high =
     low ++ (low_text h parameter
     ++ (name ++ (parameter_name h parameter
-    ++ (high ++ (high_text h parameter ++ style.TEXT_END.now)))))
+    ++ (high ++ (high_text h parameter ++ text_end)))))
 
 -- the same of the parameter on an axis, where there is one
 abbrev pub axis_text : HeadData → Option ℕ → List ℕ → List ℕ → List ℕ → List ℕ
@@ -77,10 +72,10 @@ cut_text h cut = parameter_name h cut.parameter ++ (codes " = " ++ (fraction_tex
 -- both axes, and the values of the other parameters
 abbrev pub axes_text : HeadData → SliceData → List ℕ
 axes_text h s =
-    axis_text h s.x style.X_LOW.now style.X_NAME.now style.X_HIGH.now
-    ++ (axis_text h s.y style.Y_LOW.now style.Y_NAME.now style.Y_HIGH.now
-    ++ (style.CUTS.now ++ (flat_map (cut_text h) s.cuts ++ style.TEXT_END.now)))
+    axis_text h s.x x_low x_name x_high
+    ++ (axis_text h s.y y_low y_name y_high
+    ++ (cuts_start ++ (flat_map (cut_text h) s.cuts ++ text_end)))
 
--- the picture: title, field and axes
+-- the picture: legend, title, field and axes
 abbrev pub svg_text : MapData → SliceData → List ℕ
-svg_text m s = top_text m ++ (field_text m s ++ (axes_text m.head s ++ style.END.now))
+svg_text m s = top_text m ++ (field_text m s ++ (axes_text m.head s ++ svg_end))

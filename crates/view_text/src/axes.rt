@@ -5,7 +5,7 @@ ghost use Rattle.view_text.specs.Numbers.{fraction_text};
 ghost use Rattle.view_text.specs.Picture.{axes_text, axis_text, cut_text, end_text, high_text, low_text, parameter_name, span_text};
 
 use crate::fraction::write_fraction;
-use crate::style::{CUTS, TEXT_END, X_HIGH, X_LOW, X_NAME, Y_HIGH, Y_LOW, Y_NAME};
+use crate::style::{CUTS_START, TEXT_END, X_HIGH, X_LOW, X_NAME, Y_HIGH, Y_LOW, Y_NAME};
 use cert_text::Head;
 use lift_base::{Sink, WriteFault, write_all, writes_in_turn};
 use view_map::{Cut, Slice, span_at};
@@ -127,7 +127,7 @@ pub(crate) fn write_axes<K: Sink>(out: &mut K, head: &Head, slice: &Slice) -> Re
     writes_in_turn::<K>();
     write_axis(out, head, slice.x(), X_LOW, X_NAME, X_HIGH)?;
     write_axis(out, head, slice.y(), Y_LOW, Y_NAME, Y_HIGH)?;
-    write_all(out, CUTS)?;
+    write_all(out, CUTS_START)?;
     write_cuts(out, head, slice)?;
     write_all(out, TEXT_END)
 }

@@ -1,14 +1,14 @@
 // The field of a picture.
-ghost use Rattle.std.specs.Prelude.{◌≡◌, ◌<◌, ◌≤◌, ◌++◌, ◌-ℤ◌, max, min, unsigned_abs};
+ghost use Rattle.std.specs.Prelude.{◌≡◌, ◌<◌, ◌≤◌, ◌-ℤ◌, max, min, unsigned_abs};
 ghost use Rattle.lift_base.specs.Outside.{Wrote};
 ghost use Rattle.lift_grid.specs.Rectangle.{spans_of};
 ghost use Rattle.view_map.specs.Share.{is_kind};
 ghost use Rattle.view_map.specs.Slice.{meets_all};
 ghost use Rattle.view_text.specs.Field.{band, canvas, is_shown, leaf_outline, outline, outlines, shown_outline, canvas_place};
-ghost use Rattle.view_text.specs.Picture.{field_start, field_text};
-ghost use Rattle.view_text.specs.declared.style.TheConstants.{PATH_END};
+ghost use Rattle.view_text.specs.Picture.{field_text, path_text};
+ghost use Rattle.view_text.specs.Style.{each_kind};
 
-use crate::style::{ACCEPTED, BAR, FIELD_END, PATH_END, REJECTED, SQUARE, UNKNOWN};
+use crate::style::{PATH_END, SVG_END, field_start, write_path_start};
 use lift_base::{Sink, Word, WriteFault, write_all, write_words, writes_in_turn};
 use view_map::{LeafKind, Part, ReportMap, Slice, span_at};
 
@@ -160,31 +160,29 @@ fn write_outlines<K: Sink>(
     Ok(())
 }
 
-// Writes the path of a kind, behind what begins it.
+// Writes the path of a kind: its rectangles.
 fn write_path<K: Sink>(
     out: &mut K,
     map: &ReportMap,
     slice: &Slice,
     kind: LeafKind,
-    start: &[u8],
 ) -> Result<(), WriteFault>
-    ensures { Wrote K.taken K.faults out.old out.new result
-        (start.now ++ (outlines map.now slice.now kind ++ PATH_END.now)) }
+    ensures { Wrote K.taken K.faults out.old out.new result (path_text map.now slice.now kind) }
 {
     writes_in_turn::<K>();
-    write_all(out, start)?;
+    write_path_start(out, kind)?;
     write_outlines(out, map, slice, kind)?;
     write_all(out, PATH_END)
 }
 
-// What stands before the field.
-fn field_start(y: Option<u32>) -> &'static [u8]
-    ensures { result.now ≡ field_start y }
+// Writes the path of each kind.
+fn write_paths<K: Sink>(out: &mut K, map: &ReportMap, slice: &Slice) -> Result<(), WriteFault>
+    ensures { Wrote K.taken K.faults out.old out.new result (each_kind (path_text map.now slice.now)) }
 {
-    match y {
-        None => BAR,
-        Some(_) => SQUARE,
-    }
+    writes_in_turn::<K>();
+    write_path(out, map, slice, LeafKind::Accept)?;
+    write_path(out, map, slice, LeafKind::Reject)?;
+    write_path(out, map, slice, LeafKind::Unknown)
 }
 
 /// Writes the field: the rectangles of each kind of leaf.
@@ -197,8 +195,6 @@ pub(crate) fn write_field<K: Sink>(
 {
     writes_in_turn::<K>();
     write_all(out, field_start(slice.y()))?;
-    write_path(out, map, slice, LeafKind::Accept, ACCEPTED)?;
-    write_path(out, map, slice, LeafKind::Reject, REJECTED)?;
-    write_path(out, map, slice, LeafKind::Unknown, UNKNOWN)?;
-    write_all(out, FIELD_END)
+    write_paths(out, map, slice)?;
+    write_all(out, SVG_END)
 }

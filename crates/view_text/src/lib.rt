@@ -4,6 +4,7 @@
 mod axes;
 mod field;
 mod fraction;
+mod legend;
 mod picture;
 mod share;
 mod style;

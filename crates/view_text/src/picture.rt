@@ -5,8 +5,9 @@ ghost use Rattle.view_text.specs.Picture.{shares_text, svg_text, title_text, top
 
 use crate::axes::write_axes;
 use crate::field::write_field;
+use crate::legend::write_legend;
 use crate::share::write_percent;
-use crate::style::{END, SHARES, SHARES_END, START};
+use crate::style::{SHARES_END, SHARES_START, SVG_END, TITLE_START};
 use cert_text::Head;
 use lift_base::{Sink, Text, Word, WriteFault, write_all, write_words, writes_in_turn};
 use view_map::{LeafKind, ReportMap, Slice};
@@ -48,14 +49,15 @@ fn write_shares<K: Sink>(out: &mut K, map: &ReportMap) -> Result<(), WriteFault>
     write_percent(out, b", unknown ", map.share_of(LeafKind::Unknown))
 }
 
-// Writes the title.
+// Writes the legend and the title.
 fn write_top<K: Sink>(out: &mut K, map: &ReportMap) -> Result<(), WriteFault>
     ensures { Wrote K.taken K.faults out.old out.new result (top_text map.now) }
 {
     writes_in_turn::<K>();
-    write_all(out, START)?;
+    write_legend(out)?;
+    write_all(out, TITLE_START)?;
     write_title(out, map.head())?;
-    write_all(out, SHARES)?;
+    write_all(out, SHARES_START)?;
     write_shares(out, map)?;
     write_all(out, SHARES_END)
 }
@@ -68,7 +70,7 @@ fn write_picture<K: Sink>(out: &mut K, map: &ReportMap, slice: &Slice) -> Result
     write_top(out, map)?;
     write_field(out, map, slice)?;
     write_axes(out, map.head(), slice)?;
-    write_all(out, END)
+    write_all(out, SVG_END)
 }
 
 impl<'a> Text for Picture<'a> {

@@ -3,14 +3,8 @@ use Rattle.view_text.proofs.field.write_field.Goals as goal
 pub returns-in_err-write_all : goal.returns-in_err-write_all
 returns-in_err-write_all g c = c.writes_in_turn.ensures.stopped _ _ _ _ _ _ c.from_residual.ensures.0 (rw (c.field_start.ensures, c.y.ensures) at c.in_err-write_all.ensures.wrote)
 
-pub returns-in_err-write_path : goal.returns-in_err-write_path
-returns-in_err-write_path g c = c.writes_in_turn.ensures.both _ _ _ _ _ _ (rw (c.field_start.ensures, c.y.ensures) at c.in_ok-write_all.ensures.wrote) (c.writes_in_turn.ensures.stopped _ _ _ _ _ _ c.from_residual-in_err-write_path.ensures.0 c.in_err-write_path.ensures)
-
-pub returns-in_err-write_path-2 : goal.returns-in_err-write_path-2
-returns-in_err-write_path-2 g c = c.writes_in_turn.ensures.both _ _ _ _ _ _ (rw (c.field_start.ensures, c.y.ensures) at c.in_ok-write_all.ensures.wrote) (c.writes_in_turn.ensures.both _ _ _ _ _ _ c.in_ok-write_path.ensures (c.writes_in_turn.ensures.stopped _ _ _ _ _ _ c.from_residual-in_err-write_path-2.ensures.0 c.in_err-write_path-2.ensures))
-
-pub returns-in_err-write_path-3 : goal.returns-in_err-write_path-3
-returns-in_err-write_path-3 g c = c.writes_in_turn.ensures.both _ _ _ _ _ _ (rw (c.field_start.ensures, c.y.ensures) at c.in_ok-write_all.ensures.wrote) (c.writes_in_turn.ensures.both _ _ _ _ _ _ c.in_ok-write_path.ensures (c.writes_in_turn.ensures.both _ _ _ _ _ _ c.in_ok-write_path-2.ensures (c.writes_in_turn.ensures.stopped _ _ _ _ _ _ c.from_residual-in_err-write_path-3.ensures.0 c.in_err-write_path-3.ensures)))
+pub returns-in_err-write_paths : goal.returns-in_err-write_paths
+returns-in_err-write_paths g c = c.writes_in_turn.ensures.both _ _ _ _ _ _ (rw (c.field_start.ensures, c.y.ensures) at c.in_ok-write_all.ensures.wrote) (c.writes_in_turn.ensures.stopped _ _ _ _ _ _ c.from_residual-in_err-write_paths.ensures.0 c.in_err-write_paths.ensures)
 
 pub returns : goal.returns
-returns g c = c.writes_in_turn.ensures.both _ _ _ _ _ _ (rw (c.field_start.ensures, c.y.ensures) at c.in_ok-write_all.ensures.wrote) (c.writes_in_turn.ensures.both _ _ _ _ _ _ c.in_ok-write_path.ensures (c.writes_in_turn.ensures.both _ _ _ _ _ _ c.in_ok-write_path-2.ensures (c.writes_in_turn.ensures.both _ _ _ _ _ _ c.in_ok-write_path-3.ensures c.write_all-2.ensures.wrote)))
+returns g c = c.writes_in_turn.ensures.both _ _ _ _ _ _ (rw (c.field_start.ensures, c.y.ensures) at c.in_ok-write_all.ensures.wrote) (c.writes_in_turn.ensures.both _ _ _ _ _ _ c.in_ok-write_paths.ensures c.write_all-2.ensures.wrote)
