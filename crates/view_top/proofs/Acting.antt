@@ -1,17 +1,17 @@
 -- What the words come to.
-use Rattle.std.proofs.Common.{◌≡◌, ℕ, List, Ok, Err, Result, refl, sym, ap, ◌∙◌, subst, inl, inr, IsErrAnd}
+use Rattle.std.proofs.Common.{◌≡◌, ℕ, List, Ok, Err, Result, refl, sym, ap, subst, inl, inr, IsErrAnd}
 use Rattle.std.specs.declared.option.Option.{Option}
 use Rattle.view_words.specs.Words.{JobData, ViewData, show, follow}
-use Rattle.view_words.specs.Given.{Asks, job_data}
-use Rattle.view_words.specs.declared.job.Job.{Job}
+use Rattle.view_words.specs.Given.{Asks}
 use Rattle.view_words.specs.declared.job.Usage.{Usage}
 use Rattle.view_words.specs.declared.error.WordsError.{WordsError}
 use Rattle.view_words.specs.declared.error.WordsError.TheVariants as words
-use Rattle.view_follow.specs.Copied.{Copies}
+use Rattle.view_follow.specs.Copied.{Copies, Tells}
+use Rattle.view_follow.specs.declared.progress.Lines.{Lines}
 use Rattle.view_follow.specs.declared.copying.CopyError.{CopyError}
 use Rattle.view_top.specs.Refused.{words_refusal, copy_refusal}
 use Rattle.view_top.specs.Shown.{Shows}
-use Rattle.view_top.specs.Answers.{Acts, Follows, IsQuiet, copied}
+use Rattle.view_top.specs.Answers.{Acts, Follows, TellsFirst, TellsOfCopy}
 use Rattle.view_top.specs.declared.refusal.Refusal.{Refusal}
 use Rattle.view_top.specs.declared.refusal.Refusal.TheVariants as refusal
 
@@ -51,12 +51,40 @@ module _ {S K : Type 0} (left : S → Option (List ℕ)) (faults : S → ℕ) (t
       → Acts left faults taken counts asked source source' out out' result
   does_follow asked source source' out out' result is h = subst (λ (a : Result JobData Usage). Acts left faults taken counts a source source' out out' result) (sym is) h
 
--- nothing was told
-pub silent : {E : Type 0} (asked : Result JobData Usage) (notes : E) → IsQuiet asked notes notes
-silent (Ok follow) notes = tt
-silent (Ok (show v)) notes = refl
-silent (Err fault) notes = refl
+-- ---- what is told before the note
 
--- of a copy nothing is asked
-pub loud : {E : Type 0} (asked : Result JobData Usage) (old new : E) → asked ≡ Ok follow → IsQuiet asked old new
-loud asked old new is = subst (λ (a : Result JobData Usage). IsQuiet a old new) (sym is) tt
+module _ {S E : Type 0} (left : S → Option (List ℕ)) (told : E → Option (List ℕ)) (misses : E → ℕ) (lines : Lines) where
+  -- a copy that was cut off
+  pub cut_told : (source source' : S) (old new : E) (e : CopyError) (result : Result (Unit {0}) Refusal) → IsErrAnd result (λ r. r ≡ copy_refusal e) → Tells {T = Unit {0}} left told misses lines source source' old new (Err e)
+      → TellsOfCopy left told misses lines source source' old new result
+  cut_told source source' old new e (Ok x) is h = absurd is
+  cut_told source source' old new e (Err r) is h = inl (Err e, h, ap Err is)
+
+  -- a whole one
+  pub all_told : (source source' : S) (old new : E) (x : Unit {0}) → Tells left told misses lines source source' old new (Ok x) → TellsOfCopy left told misses lines source source' old new (Ok tt)
+  all_told source source' old new x h = inl (Ok tt, h, refl)
+
+  -- nothing was told where memory ran out first
+  silent : (asked : Result JobData Usage) (source : S) (notes : E) → TellsFirst left told misses lines asked source source notes notes (Err refusal.Memory)
+  silent (Ok follow) source notes = inr (refl, refl)
+  silent (Ok (show v)) source notes = refl
+  silent (Err fault) source notes = refl
+
+  unasked : (asked : Result JobData Usage) (source : S) (notes : E) (e : WordsError) → Asks asked (Err e) → TellsFirst left told misses lines asked source source notes notes (Err (words_refusal e))
+  unasked asked source notes words.Memory h = silent asked source notes
+  unasked asked source notes (words.Usage fault) h = subst (λ (a : Result JobData Usage). TellsFirst left told misses lines a source source notes notes (Err (refusal.Usage fault))) (sym h) refl
+
+  -- nor of words that ask for nothing
+  pub no_job_told : (asked : Result JobData Usage) (source : S) (notes : E) (e : WordsError) (result : Result (Unit {0}) Refusal) → IsErrAnd result (λ r. r ≡ words_refusal e) → Asks asked (Err e)
+      → TellsFirst left told misses lines asked source source notes notes result
+  no_job_told asked source notes e (Ok x) is h = absurd is
+  no_job_told asked source notes e (Err r) is h = subst (λ (r : Refusal). TellsFirst left told misses lines asked source source notes notes (Err r)) (sym is) (unasked asked source notes e h)
+
+  -- nor of a report that is shown
+  pub show_told : (asked : Result JobData Usage) (v : ViewData) (source source' : S) (notes : E) (result : Result (Unit {0}) Refusal) → asked ≡ Ok (show v) → TellsFirst left told misses lines asked source source' notes notes result
+  show_told asked v source source' notes result is = subst (λ (a : Result JobData Usage). TellsFirst left told misses lines a source source' notes notes result) (sym is) refl
+
+  -- of one that is copied, what is told of the copy
+  pub follow_told : (asked : Result JobData Usage) (source source' : S) (old new : E) (result : Result (Unit {0}) Refusal) → asked ≡ Ok follow → TellsOfCopy left told misses lines source source' old new result
+      → TellsFirst left told misses lines asked source source' old new result
+  follow_told asked source source' old new result is h = subst (λ (a : Result JobData Usage). TellsFirst left told misses lines a source source' old new result) (sym is) h

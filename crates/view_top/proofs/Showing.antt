@@ -1,9 +1,8 @@
 -- What reading a report and writing a view of it come to together.
 use Rattle.std.proofs.Common.{◌≡◌, ◌≢◌, ◌≤◌, ℕ, List, length, Ok, Err, Result, refl, sym, ap, subst, IsErrAnd}
-use Rattle.std.specs.Prelude.{IfOk, IfErr}
 use Rattle.std.specs.declared.option.Option.{Option}
 use Rattle.std.specs.Io.KnownBytes.{Consumes, IsAtEnd}
-use Rattle.lift_base.specs.Outside.{Rose, Wrote, TakenHas}
+use Rattle.lift_base.specs.Outside.{Wrote}
 use Rattle.cert_text.specs.Head.{HeadData}
 use Rattle.cert_check.specs.Answer.{Answers}
 use Rattle.cert_check.specs.Source.{WasRead, file_limit}

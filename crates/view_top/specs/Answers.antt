@@ -9,8 +9,9 @@ use Rattle.lift_base.specs.Outside.{Wrote}
 use Rattle.lift_base.specs.Laws.{Written}
 use Rattle.view_words.specs.Words.{JobData, show, follow}
 use Rattle.view_top.specs.Shown.{Shows}
-use Rattle.view_follow.specs.Copied.{Copies}
+use Rattle.view_follow.specs.Copied.{Copies, Tells}
 use Rattle.view_follow.specs.declared.copying.CopyError.{CopyError}
+use Rattle.view_follow.specs.declared.progress.Lines.{Lines}
 use Rattle.view_top.specs.Refused.{copy_refusal}
 use Rattle.view_words.specs.declared.job.Cause.{Cause}
 use Rattle.view_words.specs.declared.job.Cause.TheVariants as cause
@@ -84,16 +85,22 @@ Acts left faults taken counts (Ok (show v)) source source' out out' result = Sho
 Acts left faults taken counts (Ok follow) source source' out out' result = Follows left faults taken counts source source' out out' result
 Acts left faults taken counts (Err fault) source source' out out' result = RefusesLine fault result × (source' ≡ source) × (out' ≡ out)
 
--- Only the copying of a report tells of its progress.
-abbrev pub IsQuiet : {E : Type 0} → Result JobData Usage → E → E → Type 0
-IsQuiet (Ok follow) old new = ⊤
-IsQuiet _ old new = new ≡ old
+-- what was told of a copy: its lines of progress, by the bytes that were read; or memory ran out before, and nothing was told
+abbrev pub TellsOfCopy : {S E : Type 0} → (S → Option (List ℕ)) → (E → Option (List ℕ)) → (E → ℕ) → Lines → S → S → E → E → Result (Unit {0}) Refusal → Type 0
+TellsOfCopy left told misses lines source source' notes notes' result =
+    ((copy : Result (Unit {0}) CopyError) × Tells left told misses lines source source' notes notes' copy × (result ≡ copied copy))
+    ⊎ ((result ≡ Err refusal.Memory) × (notes' ≡ notes))
+
+-- What was told before the note: only the copying of a report tells of its progress.
+abbrev pub TellsFirst : {S E : Type 0} → (S → Option (List ℕ)) → (E → Option (List ℕ)) → (E → ℕ) → Lines → Result JobData Usage → S → S → E → E → Result (Unit {0}) Refusal → Type 0
+TellsFirst left told misses lines (Ok follow) source source' notes notes' result = TellsOfCopy left told misses lines source source' notes notes' result
+TellsFirst left told misses lines _ source source' notes notes' result = notes' ≡ notes
 
 -- How a run ends: what the words ask for was done or refused, and the status and the note are those of that answer. Lines of progress may stand before the note.
-pub record Ends {S K E : Type 0} (left : S → Option (List ℕ)) (faults : S → ℕ) (taken : K → Option (List ℕ)) (counts : K → ℕ) (told : E → Option (List ℕ)) (misses : E → ℕ) (asked : Result JobData Usage) (source source' : S) (out out' : K) (notes notes' : E) (end : Status) : Type 0 where
+pub record Ends {S K E : Type 0} (left : S → Option (List ℕ)) (faults : S → ℕ) (taken : K → Option (List ℕ)) (counts : K → ℕ) (told : E → Option (List ℕ)) (misses : E → ℕ) (lines : Lines) (asked : Result JobData Usage) (source source' : S) (out out' : K) (notes notes' : E) (end : Status) : Type 0 where
   pub answer : Result (Unit {0}) Refusal
   pub between : E
   pub acts : Acts left faults taken counts asked source source' out out' answer
   pub status : end ≡ answered answer
-  pub quiet : IsQuiet asked notes between
+  pub first : TellsFirst left told misses lines asked source source' notes between answer
   pub noted : IsNoted told misses between notes' answer

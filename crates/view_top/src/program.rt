@@ -1,7 +1,7 @@
 // The whole program, over any source and sinks.
 ghost use Rattle.std.specs.Prelude.{◌≡◌, map, string_bytes};
 ghost use Rattle.view_words.specs.Words.{job};
-ghost use Rattle.view_top.specs.Answers.{Acts, Ends, Follows, IsQuiet};
+ghost use Rattle.view_top.specs.Answers.{Acts, Ends, Follows, TellsFirst, TellsOfCopy};
 
 use crate::notes::end;
 use crate::refusal::Refusal;
@@ -19,7 +19,10 @@ fn follow_report<S: Source, K: Sink, E: Sink>(
     notes: &mut E,
     lines: Lines,
 ) -> Result<(), Refusal>
-    ensures { Follows S.left S.faults K.taken K.faults source.old source.new out.old out.new result }
+    ensures follows { Follows S.left S.faults K.taken K.faults
+        source.old source.new out.old out.new result }
+    ensures told { TellsOfCopy S.left E.taken E.faults lines
+        source.old source.new notes.old notes.new result }
 {
     follow(source, out, notes, lines)?;
     Ok(())
@@ -36,7 +39,8 @@ fn act<S: Source, K: Sink, E: Sink>(
 ) -> Result<(), Refusal>
     ensures acts { Acts S.left S.faults K.taken K.faults (job (map string_bytes words.now))
         source.old source.new out.old out.new result }
-    ensures quiet { IsQuiet (job (map string_bytes words.now)) notes.old notes.new }
+    ensures first { TellsFirst S.left E.taken E.faults lines (job (map string_bytes words.now))
+        source.old source.new notes.old notes.new result }
 {
     match job_of(alloc, words)? {
         Job::Show(view) => show(alloc, &view, source, out),
@@ -50,7 +54,8 @@ fn act<S: Source, K: Sink, E: Sink>(
 /// At `Done` of a picture or a table the source was read to its end and gave a sound report, and `out`
 /// took the picture of the slice that the words name, or the table, of that report's map. A report
 /// that isn't sound is refused with the status and the note that `plift check` gives it. At `Done` of
-/// `--follow` the source was read to its end, and `out` took what it gave, byte for byte.
+/// `--follow` the source was read to its end, and `out` took what it gave, byte for byte; `notes` was
+/// told the lines of progress of these bytes.
 pub fn run<S: Source, K: Sink, E: Sink>(
     alloc: Global,
     words: &Vec<String>,
@@ -59,7 +64,7 @@ pub fn run<S: Source, K: Sink, E: Sink>(
     notes: &mut E,
     lines: Lines,
 ) -> Status
-    ensures { Ends S.left S.faults K.taken K.faults E.taken E.faults
+    ensures { Ends S.left S.faults K.taken K.faults E.taken E.faults lines
         (job (map string_bytes words.now.items))
         source.old source.new out.old out.new notes.old notes.new result }
 {

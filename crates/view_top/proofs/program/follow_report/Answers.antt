@@ -1,8 +1,14 @@
-use Rattle.view_top.proofs.Acting.{cut_off, all_copied}
+use Rattle.view_top.proofs.Acting.{cut_off, all_copied, cut_told, all_told}
 use Rattle.view_top.proofs.program.follow_report.Goals as goal
 
 pub returns-in_err-follow : goal.returns-in_err-follow
-returns-in_err-follow g c = cut_off g.S.Source.left g.S.Source.faults g.K.Sink.taken g.K.Sink.faults _ _ _ _ _ c.from_residual.result c.from_residual.ensures.1 c.in_err-follow.ensures
+returns-in_err-follow g c = record {
+  follows = cut_off g.S.Source.left g.S.Source.faults g.K.Sink.taken g.K.Sink.faults _ _ _ _ _ c.from_residual.result c.from_residual.ensures.1 c.in_err-follow.ensures.copied;
+  told = cut_told g.S.Source.left g.E.Sink.taken g.E.Sink.faults c.args.lines _ _ _ _ _ c.from_residual.result c.from_residual.ensures.1 c.in_err-follow.ensures.told;
+}
 
 pub returns : goal.returns
-returns g c = all_copied g.S.Source.left g.S.Source.faults g.K.Sink.taken g.K.Sink.faults _ _ _ _ _ c.in_ok-follow.ensures
+returns g c = record {
+  follows = all_copied g.S.Source.left g.S.Source.faults g.K.Sink.taken g.K.Sink.faults _ _ _ _ _ c.in_ok-follow.ensures.copied;
+  told = all_told g.S.Source.left g.E.Sink.taken g.E.Sink.faults c.args.lines _ _ _ _ _ c.in_ok-follow.ensures.told;
+}

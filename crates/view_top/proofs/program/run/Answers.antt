@@ -6,6 +6,6 @@ returns g c = record {
   between = c.act-answer.new.notes;
   acts = rw c.deref.ensures.value at c.act-answer.ensures.acts;
   status = c.end.ensures.status;
-  quiet = rw c.deref.ensures.value at c.act-answer.ensures.quiet;
+  first = rw c.deref.ensures.value at c.act-answer.ensures.first;
   noted = c.end.ensures.noted;
 }
