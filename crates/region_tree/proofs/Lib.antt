@@ -11,3 +11,11 @@ mod Samples
 pub mod Joining
 pub mod Places
 pub mod Meeting
+pub mod Searches
+pub mod AnyHeight
+pub mod Rows
+pub mod Uppers
+pub mod Staged
+pub mod Lowers
+pub mod Axes
+pub mod Trees

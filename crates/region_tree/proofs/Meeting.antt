@@ -9,12 +9,14 @@ use Rattle.lift_cert.specs.Certificate.{NoneAccepts}
 use Rattle.lift_cert.specs.Laws.{NotBothKindsAtAValuation}
 use Rattle.lift_cert.specs.declared.bound.Bound.{Bound}
 use Rattle.corner_lift.specs.Case.{CaseData, IsCase, IsInside, AreSidesInside}
+use Rattle.lower_cert.specs.AnyRanks.{RanksFit}
 use Rattle.region_tree.specs.Decided.{IsDecidedBy}
 use Rattle.region_tree.specs.Recent.{RecentData, DecidedData, Meet, MeetsOne, sides_at, IsNoted, Notes, IsForetold, HasAccepting, HasRejecting, AreCertified, IsSound, forgotten}
 use Rattle.region_tree.specs.Right.{NoneRejects}
 use Rattle.region_tree.specs.declared.decided.Outlook.{Outlook}
 use Rattle.region_tree.specs.declared.verdict.Verdict.{Verdict}
 use Rattle.region_tree.specs.declared.verdict.Verdict.TheVariants.{Accept, Reject, Unknown}
+use Rattle.region_tree.proofs.AnyHeight.{none_at_any_height}
 
 -- ---- the sides of two rectangles, span by span
 
@@ -61,7 +63,7 @@ shared_valuation d (s ∷ ss) [] positive are others meet = absurd meet
 
 -- ---- what is foretold holds
 
-module _ (one_kind : NotBothKindsAtAValuation) (k : CaseData) (is : IsCase k) (bound : Bound) (d : DecidedData) (certified : AreCertified k bound d) (spans : Spans) (inside : IsInside k.root spans) where
+module _ (one_kind : NotBothKindsAtAValuation) (fit : RanksFit) (k : CaseData) (is : IsCase k) (bound : Bound) (d : DecidedData) (certified : AreCertified k bound d) (spans : Spans) (inside : IsInside k.root spans) where
   rectangle_inside : (sides : List ℤ) → AreSidesInside k.root sides → IsInside k.root (spans_of sides)
   rectangle_inside sides h = record { rectangle = h.rectangle.spans; within = h.within }
 
@@ -74,12 +76,12 @@ module _ (one_kind : NotBothKindsAtAValuation) (k : CaseData) (is : IsCase k) (b
       one_kind k spans (spans_of sides) bound x other.certificate.0 v.0 is inside there v.1.1 v.1.0 accepting other.certificate.1
 
   none_rejects : MeetsOne spans d.accepted → NoneRejects k spans bound
-  none_rejects meets r rejecting =
+  none_rejects meets =
       let sides = sides_at d.accepted meets.0 in
       let other = certified.accepted meets.0 meets.1.0 in
       let there = rectangle_inside sides other.inside in
       let v = shared_valuation k.d (spans_of sides) spans is.asked.grid.positive there.rectangle inside.rectangle meets.1.1 in
-      one_kind k (spans_of sides) spans bound other.certificate.0 r v.0 is there inside v.1.0 v.1.1 other.certificate.1 rejecting
+      none_at_any_height fit k spans bound is (λ r rejecting. one_kind k (spans_of sides) spans bound other.certificate.0 r v.0 is there inside v.1.0 v.1.1 other.certificate.1 rejecting)
 
   pub foretold_is_sound : (o : Outlook) → IsForetold d spans o → IsSound k bound spans o
   foretold_is_sound o told = record { accepts = λ no. none_accepts (told.accepts.0 no); rejects = λ no. none_rejects (told.rejects.0 no) }

@@ -20,6 +20,7 @@ use Rattle.region_tree.specs.Right.{IsRight, IsAccepted, IsRejected, IsOpen, IsH
 use Rattle.region_tree.specs.Visits.{AreShown, IsShown, Takes, Visits, Walks, entries}
 use Rattle.region_tree.specs.declared.visitor.Seen.{Seen}
 use Rattle.region_tree.specs.declared.visitor.Seen.TheVariants.{Kept, Failed}
+use Rattle.region_tree.proofs.AnyHeight.{none_with_ranks}
 
 kept_not_failed : Failed ≡ Kept → ⊥
 kept_not_failed e = cc
@@ -77,8 +78,8 @@ module _ {V : Type 0} (k : CaseData) (ss : Spans) (bound : Bound) (depth : ℕ) 
       took (reject u q) right =
           let same : r ≡ q = one k ss r q is inside h.greatest right.1.greatest in
           subst (λ bytes. Takes (taken old) (taken new) seen bytes) (ap (λ n. entry (reject-node n)) same ∙ sym (entries_leaf entry (reject-node q))) saw.took
-      took (split i a b) right = absurd (right.0.is_open.rejects r h.rejecting)
-      took unknown right = absurd (right.0.rejects r h.rejecting)
+      took (split i a b) right = absurd (none_with_ranks k ss bound r right.0.is_open.rejects h.rejecting)
+      took unknown right = absurd (none_with_ranks k ss bound r right.0.rejects h.rejecting)
 
   -- an unknown leaf
   pub unknown_walks : IsOpen k ss bound → depth ≡ greatest_depth k → Visits taken faults old new seen (entry unknown-node) → Walks k ss bound depth taken faults entry old new seen
@@ -91,7 +92,7 @@ module _ {V : Type 0} (k : CaseData) (ss : Spans) (bound : Bound) (depth : ℕ) 
     where
       took : (t : Tree) → IsRight k ss bound depth t → Takes (taken old) (taken new) seen (entries entry t)
       took (accept u x) right = absurd (h.accepts x right.1.accepting)
-      took (reject u q) right = absurd (h.rejects q right.1.rejecting)
+      took (reject u q) right = absurd (none_with_ranks k ss bound q h.rejects right.1.rejecting)
       took (split i a b) right = absurd (omega (arith, right.0.left, last))
       took unknown right = subst (λ r. Takes (taken old) (taken new) seen r) (sym (entries_leaf entry unknown-node)) saw.took
 
@@ -101,7 +102,7 @@ module _ {V : Type 0} (k : CaseData) (ss : Spans) (bound : Bound) (depth : ℕ) 
 split_is : SplitAxesAreOne → (k : CaseData) (ss : Spans) (bound : Bound) (depth axis : ℕ) → IsHalved k ss bound depth axis → (t : Tree) → IsRight k ss bound depth t
     → (a : Tree) × ((b : Tree) × ((t ≡ split axis a b) × (IsRight k (lower_half axis ss) bound (depth + 1) a × IsRight k (upper_half axis ss) bound (depth + 1) b)))
 split_is one k ss bound depth axis h (accept u x) right = absurd (h.is_open.accepts x right.1.accepting)
-split_is one k ss bound depth axis h (reject u r) right = absurd (h.is_open.rejects r right.1.rejecting)
+split_is one k ss bound depth axis h (reject u r) right = absurd (none_with_ranks k ss bound r h.is_open.rejects right.1.rejecting)
 split_is one k ss bound depth axis h (split i a b) right =
     let same : i ≡ axis = one _ ss i axis right.0.axis_is h.axis_is in
     (a, (b, (ap (λ n. split n a b) same, (subst (λ n. IsRight k (lower_half n ss) bound (depth + 1) a) same right.1, subst (λ n. IsRight k (upper_half n ss) bound (depth + 1) b) same right.2))))

@@ -15,6 +15,7 @@ use Rattle.corner_lift.specs.Stages.{IsAllowed, LeadsBelow, AreStages, IsGreates
 use Rattle.lift_cert.specs.declared.bound.Bound.{Bound}
 use Rattle.region_tree.specs.Laws.{LeastUppersAreOne, GreatestLowersAreOne, SplitAxesAreOne, HalvesAreDeeper}
 use Rattle.region_tree.specs.Right.{IsRight, IsAtDepth}
+use Rattle.region_tree.proofs.AnyHeight.{none_with_ranks}
 
 either_way : {P : Type 0} (b : Bool) → (b ≡ true → P) → (b ≡ false → P) → P
 either_way true f g = f refl
@@ -44,7 +45,7 @@ upper_is_one k ss x y h g = numbers_same x y (h.upper.numbers.size ∙ sym g.upp
 -- ---- lower vectors
 
 -- a number past the last state has no choices
-no_state : (m : ModelData) (s a : ℕ) → a < length (choices m s) → s < length m.states
+pub no_state : (m : ModelData) (s a : ℕ) → a < length (choices m s) → s < length m.states
 no_state m s a lt =
     either_way (nat_lt s (length m.states))
     (λ e. ltb-true s (length m.states) e)
@@ -174,10 +175,10 @@ module _ (uppers : LeastUppersAreOne) (lowers : GreatestLowersAreOne) (axes : Sp
   tree_is_one depth ss (accept u x) unknown at h g = absurd (g.0.accepts x h.1.accepting)
   tree_is_one depth ss (reject u r) (accept v y) at h g = absurd (h.1.none y g.1.accepting)
   tree_is_one depth ss (reject u r) (reject v q) at h g = let w : u ≡ v = h.0 ∙ sym g.0 in let same : r ≡ q = lowers k ss r q is at.inside h.1.greatest g.1.greatest in cc
-  tree_is_one depth ss (reject u r) (split axis lower upper) at h g = absurd (g.0.is_open.rejects r h.1.rejecting)
-  tree_is_one depth ss (reject u r) unknown at h g = absurd (g.0.rejects r h.1.rejecting)
+  tree_is_one depth ss (reject u r) (split axis lower upper) at h g = absurd (none_with_ranks k ss bound r g.0.is_open.rejects h.1.rejecting)
+  tree_is_one depth ss (reject u r) unknown at h g = absurd (none_with_ranks k ss bound r g.0.rejects h.1.rejecting)
   tree_is_one depth ss (split axis lower upper) (accept v y) at h g = absurd (h.0.is_open.accepts y g.1.accepting)
-  tree_is_one depth ss (split axis lower upper) (reject v q) at h g = absurd (h.0.is_open.rejects q g.1.rejecting)
+  tree_is_one depth ss (split axis lower upper) (reject v q) at h g = absurd (none_with_ranks k ss bound q h.0.is_open.rejects g.1.rejecting)
   tree_is_one depth ss (split axis lower upper) (split other low up) at h g =
       let same : other ≡ axis = axes _ ss other axis g.0.axis_is h.0.axis_is in
       let deeper = halves k ss depth axis is at h.0.left h.0.axis_is in
@@ -186,6 +187,6 @@ module _ (uppers : LeastUppersAreOne) (lowers : GreatestLowersAreOne) (axes : Sp
       cc
   tree_is_one depth ss (split axis lower upper) unknown at h g = absurd (omega (arith, h.0.left, g.1))
   tree_is_one depth ss unknown (accept v y) at h g = absurd (h.0.accepts y g.1.accepting)
-  tree_is_one depth ss unknown (reject v q) at h g = absurd (h.0.rejects q g.1.rejecting)
+  tree_is_one depth ss unknown (reject v q) at h g = absurd (none_with_ranks k ss bound q h.0.rejects g.1.rejecting)
   tree_is_one depth ss unknown (split axis lower upper) at h g = absurd (omega (arith, g.0.left, h.1))
   tree_is_one depth ss unknown unknown at h g = refl

@@ -12,10 +12,12 @@ use Rattle.lift_cert.specs.Certificate.{IsWithin, IsBeyond, NoneAccepts}
 use Rattle.corner_lift.specs.Case.{CaseData, IsCase, number}
 use Rattle.corner_lift.specs.Certificate.{IsUpper, IsLeastUpper}
 use Rattle.lower_cert.specs.declared.greatest.Rate.{Rate}
+use Rattle.lower_cert.specs.AnyRanks.{RanksFit}
 use Rattle.lower_cert.specs.Limit.{IsGreatestAbove, NoneIsAbove}
 use Rattle.region_tree.specs.Decided.{IsGreatestBeyond, lane, reject_of}
 use Rattle.region_tree.specs.Right.{IsAccepted, NoneRejects}
 use Rattle.region_tree.specs.Rooms.{HasLane, IsSameShape}
+use Rattle.region_tree.proofs.AnyHeight.{none_at_any_height}
 use Rattle.region_tree.proofs.Lanes.{one_of, written_one}
 
 -- ---- the greatest number within a bound
@@ -87,10 +89,11 @@ module _ (k : CaseData) (ss : Spans) (bound : Bound) where
   pub none_accepts : (limit : ℤ) → IsBeyond bound k.w (limit +ℤ pos 1) → ((y : List ℤ) → IsUpper k ss y → limit <ℤ number y k.model.init) → NoneAccepts k ss bound
   none_accepts limit beyond past x h = beyond_above bound k.w limit (number x k.model.init) beyond (past x h.upper) h.limit
 
-  pub none_rejects : (limit : ℤ) → IsWithin bound k.w limit → NoneIsAbove k ss limit → NoneRejects k ss bound
-  none_rejects limit within none q rejecting =
-      let scaled = mul-le (pos bound.den) (number q.numbers k.model.init) limit (omega (arith, linear)) (none q rejecting.holds) in
-      omega (arith, linear, scaled, within, rejecting.limit, mul-comm (pos bound.den) (number q.numbers k.model.init), mul-comm (pos bound.den) limit)
+  pub none_rejects : RanksFit → IsCase k → (limit : ℤ) → IsWithin bound k.w limit → NoneIsAbove k ss limit → NoneRejects k ss bound
+  none_rejects fit is limit within none =
+      none_at_any_height fit k ss bound is
+      (λ q rejecting. let scaled = mul-le (pos bound.den) (number q.numbers k.model.init) limit (omega (arith, linear)) (none q rejecting.holds) in
+      omega (arith, linear, scaled, within, rejecting.limit, mul-comm (pos bound.den) (number q.numbers k.model.init), mul-comm (pos bound.den) limit))
 
   beyond_at : (limit : ℤ) → IsBeyond bound k.w (limit +ℤ pos 1) → (r : RejectData) → IsCase k → IsGreatestAbove k ss limit r → IsGreatestBeyond k ss bound r
   beyond_at limit beyond r is above =

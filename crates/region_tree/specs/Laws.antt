@@ -18,6 +18,22 @@ use Rattle.region_tree.specs.Rooms.{RoomData, IsMadeFor, StandsAtDepth, StepsDow
 use Rattle.region_tree.specs.Visits.{Walks, entries}
 use Rattle.region_tree.specs.declared.visitor.Seen.{Seen}
 
+-- a case has a right tree for each bound
+abbrev pub RightTreesExist : Type 0
+RightTreesExist = (k : CaseData) (bound : Bound) → IsCase k → (tree : Tree) × IsRightTree k bound tree
+
+-- a rectangle inside the root has a least upper vector
+abbrev pub LeastUppersExist : Type 0
+LeastUppersExist = (k : CaseData) (spans : Spans) → IsCase k → IsInside k.root spans → (x : List ℤ) × IsLeastUpper k spans x
+
+-- a rectangle inside the root has a greatest lower vector, with ranks, picks, e and k
+abbrev pub GreatestLowersExist : Type 0
+GreatestLowersExist = (k : CaseData) (spans : Spans) → IsCase k → IsInside k.root spans → (r : RejectData) × IsGreatestLower k spans r
+
+-- while a halving is left, the split rule chooses an axis
+abbrev pub SplitAxesExist : Type 0
+SplitAxesExist = (k : CaseData) (spans : Spans) (depth : ℕ) → IsCase k → IsInside k.root spans → depth < greatest_depth k → (axis : ℕ) × IsSplitAxis (live k.model) spans axis
+
 -- a case has at most one right tree for a bound
 abbrev pub RightTreesAreOne : Type 0
 RightTreesAreOne = (k : CaseData) (bound : Bound) (tree other : Tree) → IsCase k → IsRightTree k bound tree → IsRightTree k bound other → tree ≡ other

@@ -5,15 +5,21 @@ use Rattle.lift_grid.specs.Splitting.{IsSplitAxis, HasHalvings}
 use Rattle.lift_grid.specs.Tree.{Tree, RejectData, lower_half, upper_half}
 use Rattle.lift_grid.specs.Tree.Tree.{split, accept, reject, unknown}
 use Rattle.lift_model.specs.Model.{live}
-use Rattle.corner_lift.specs.Case.{CaseData, IsInside, greatest_depth}
+use Rattle.corner_lift.specs.Case.{CaseData, IsInside, greatest_depth, number}
 use Rattle.corner_lift.specs.Certificate.{IsLeastUpper}
 use Rattle.corner_lift.specs.Stages.{IsGreatestLower}
-use Rattle.lift_cert.specs.Certificate.{IsAccepting, IsRejecting, NoneAccepts}
+use Rattle.lift_cert.specs.Certificate.{IsAccepting, IsRejecting, IsBeyond, NoneAccepts}
 use Rattle.lift_cert.specs.declared.bound.Bound.{Bound}
+use Rattle.lower_cert.specs.AnyRanks.{UnboundedReject, IsUnboundedLower}
 
--- no rejecting certificate of the rectangle exists
+-- a rejecting certificate whose ranks and k have no bound: a lower vector whose number of the initial state is beyond the bound
+pub record IsRejectingAtAnyHeight (k : CaseData) (spans : Spans) (bound : Bound) (u : UnboundedReject) : Type 0 where
+  pub holds : IsUnboundedLower k spans u
+  pub limit : IsBeyond bound k.w (number u.numbers k.model.init)
+
+-- no rejecting certificate of the rectangle exists, with any ranks and any k
 abbrev pub NoneRejects : CaseData → Spans → Bound → Type 0
-NoneRejects k spans bound = (r : RejectData) → IsRejecting k spans bound r → ⊥
+NoneRejects k spans bound = (u : UnboundedReject) → IsRejectingAtAnyHeight k spans bound u → ⊥
 
 -- the rectangle is accepted: an accepting certificate exists, and x is the least upper vector, which is one
 pub record IsAccepted (k : CaseData) (spans : Spans) (bound : Bound) (x : List ℤ) : Type 0 where

@@ -24,7 +24,7 @@ use lift_cert::{Bound, certificates_are_of_one_kind};
 use lift_collapse::Collapse;
 use lift_model::Links;
 use lift_pool::{Pool, lanes_stand_alone};
-use lower_cert::{Rate, greatest_reject_above, greatest_reject_from};
+use lower_cert::{Rate, greatest_reject_above, greatest_reject_from, ranks_fit};
 use rounded_iter::least_upper_within;
 
 /// Makes the table of a rectangle in the pool's one lane.
@@ -200,6 +200,7 @@ fn find_rejecting(
     if !may {
         return None;
     }
+    ranks_fit();
     lanes_stand_alone::<i64>();
     lanes_stand_alone::<u32>();
     let limit = greatest_within(bound, case.w());
@@ -346,6 +347,7 @@ pub(crate) fn decide_next(case: &Case, links: &Links, bound: Bound, room: &mut R
     ensures decided { IsDecided case.now (spans_of (last_sides room.old)) bound room.new result }
 {
     certificates_are_of_one_kind();
+    ranks_fit();
     let _ = case.w();
     let last = room.sides.lanes() - 1;
     let outlook = room.decided.outlook(room.sides.lane(last));

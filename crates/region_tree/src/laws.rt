@@ -3,12 +3,16 @@
 ghost use Rattle.region_tree.specs.Laws.{
   CalmWalksShowAll,
   GreatestLowersAreOne,
+  GreatestLowersExist,
   HalvesAreDeeper,
   LeastUppersAreOne,
+  LeastUppersExist,
   RightTreesAreOne,
+  RightTreesExist,
   RightTreesTile,
   RootIsAtDepth,
   SplitAxesAreOne,
+  SplitAxesExist,
   WalksBeginAtRoot,
   WalksStepDown,
 };
@@ -17,6 +21,8 @@ use crate::visitor::Visitor;
 use corner_lift::{halves_are_inside, live_parameters_have_spans, rows_at_corners, rows_inside};
 use lift_grid::{halves_stay_on_grid, rows_are_rectangles, trees_tile};
 use lift_pool::lanes_stand_alone;
+use lower_cert::{ranks_fit, vectors_are_lowered};
+use robust_rank::ranks_go_by_stages;
 
 /// What a decided leaf holds and where a rectangle is halved is one: a rectangle has at most one least
 /// upper vector, at most one greatest lower vector with its ranks, picks, e and k, and at most one axis
@@ -27,6 +33,20 @@ pub fn certificates_are_one()
     ensures axis { SplitAxesAreOne }
 {
     rows_at_corners();
+}
+
+/// What a decided leaf holds, and where a rectangle is halved, is always there: a rectangle inside the root
+/// has a least upper vector and a greatest lower one, with its ranks, picks, e and k, and while a halving
+/// is left the split rule chooses an axis.
+pub fn certificates_exist()
+    ensures least { LeastUppersExist }
+    ensures greatest { GreatestLowersExist }
+    ensures axis { SplitAxesExist }
+{
+    rows_at_corners();
+    ranks_go_by_stages();
+    vectors_are_lowered();
+    live_parameters_have_spans();
 }
 
 /// The root stands at depth 0, and the halves of a rectangle one deeper than it.
@@ -46,6 +66,15 @@ pub fn right_trees_are_one()
 {
     certificates_are_one();
     rectangles_at_depths();
+}
+
+/// A case has a right tree for each bound. So it has exactly one.
+pub fn right_trees_exist()
+    ensures { RightTreesExist }
+{
+    certificates_exist();
+    rectangles_at_depths();
+    ranks_fit();
 }
 
 /// The leaves of a right tree tile the root.

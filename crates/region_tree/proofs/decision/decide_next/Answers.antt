@@ -26,7 +26,7 @@ decide_by-verdict-requires-clause-outlook c =
     let told : IsForetold room.decided (spans_of (last_sides room)) c.outlook-outlook.result = rw (decided, same) at c.outlook-outlook.ensures in
     let sides = c.requires.can.sides in
     let inside : IsInside k.root (spans_of (last_sides room)) = record { rectangle = sides.rectangle.spans; within = sides.within } in
-    foretold_is_sound c.certificates_are_of_one_kind.ensures.shared k c.w.ensures.case c.args.bound room.decided c.requires.known (spans_of (last_sides room)) inside c.outlook-outlook.result told
+    foretold_is_sound c.certificates_are_of_one_kind.ensures.shared c.ranks_fit.ensures.any k c.w.ensures.case c.args.bound room.decided c.requires.known (spans_of (last_sides room)) inside c.outlook-outlook.result told
 
 pub note-requires : goal.note-requires
 note-requires c =

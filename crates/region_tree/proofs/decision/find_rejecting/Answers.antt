@@ -80,4 +80,4 @@ returns-clause-none g c none =
     let limit = c.greatest_within-limit.result in
     let fits : SFits w64 limit = search rules in
     let same : to_z w64 (of_z w64 limit) ≡ limit = to_z-of_z fits in
-    none_rejects c.args.case.now g.spans c.args.bound limit (rw c.w.ensures.value at c.greatest_within-limit.ensures.within) (rw same at c.greatest_lower.ensures.none none)
+    none_rejects c.args.case.now g.spans c.args.bound c.ranks_fit.ensures.any c.w.ensures.case limit (rw c.w.ensures.value at c.greatest_within-limit.ensures.within) (rw same at c.greatest_lower.ensures.none none)
