@@ -1,15 +1,15 @@
 -- A rectangle inside the root has a greatest lower vector: from 2 ^ w on, the highest of the states that can't be ranked are lowered, until none of them has a number above 0.
-use Rattle.std.proofs.Common.{◌≡◌, ℕ, zero, suc, ◌^◌, ◌<◌, ◌≤◌, ◌⊎◌, inl, inr, ⊎_elim, true, false, cond, not, nat_lt, List, [], length, ℤ, pos, ◌-ℤ◌, ◌*ℤ◌, ◌≤ℤ◌, ◌<ℤ◌, All, refl, sym, ap, ◌∙◌, subst, arith}
+use Rattle.std.proofs.Common.{◌≡◌, ℕ, zero, suc, ◌^◌, ◌<◌, ◌≤◌, ◌⊎◌, inl, inr, ⊎_elim, true, false, cond, not, nat_lt, List, [], length, ℤ, pos, ◌-ℤ◌, ◌*ℤ◌, ◌≤ℤ◌, ◌<ℤ◌, refl, sym, ap, ◌∙◌, subst, arith}
 use Rattle.std.proofs.lemmas.Bool.{cases_lt, cases_Bool, both_ways, and_parts, not-true, cond_both, cond-true, cond-false, ltb-true, ltb-false, lt-ltb, le-ltb}
 use Rattle.std.proofs.lemmas.List.{get_or_past}
 use Rattle.std.proofs.lemmas.List.Elements.{All-from_get_or}
 use Rattle.lift_poly.proofs.Ring.{linear}
 use Rattle.lift_grid.specs.Rectangle.{Spans}
 use Rattle.lift_grid.specs.Tree.{RejectData}
-use Rattle.lift_model.specs.Model.{is_goal, choices, row_at}
+use Rattle.lift_model.specs.Model.{is_goal, row_at}
 use Rattle.corner_lift.specs.Corner.{corner_sum, whole}
 use Rattle.corner_lift.specs.Case.{CaseData, IsCase, IsInside, number, engine_limit}
-use Rattle.corner_lift.specs.Certificate.{unmarked, mark, ranked_below, IsLower, IsRate}
+use Rattle.corner_lift.specs.Certificate.{unmarked, mark, ranked_below, IsRate}
 use Rattle.corner_lift.specs.Stages.{IsAllowed, AreStages, IsAboveLower, IsGreatestLower}
 use Rattle.lower_cert.specs.Laws.{is_stuck, CappingKeeps, StuckAreCapped, StagesAreGreatest}
 use Rattle.lower_cert.specs.Premises.{Premises}

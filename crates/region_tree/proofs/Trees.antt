@@ -1,15 +1,15 @@
 -- A case has a right tree for each bound: a rectangle is accepted, rejected or open, and the tree goes on in both halves of an open one while a halving is left.
-use Rattle.std.proofs.Common.{◌≡◌, ℕ, zero, suc, ◌+◌, ◌-◌, ◌^◌, ◌<◌, ◌≤◌, ◌⊎◌, inl, inr, ⊎_elim, List, ℤ, pos, ◌*ℤ◌, ◌≤ℤ◌, ◌<ℤ◌, refl, arith}
+use Rattle.std.proofs.Common.{◌≡◌, ℕ, zero, suc, ◌+◌, ◌-◌, ◌^◌, ◌<◌, ◌≤◌, ◌⊎◌, inl, inr, ⊎_elim, List, ℤ, pos, ◌*ℤ◌, ◌≤ℤ◌, refl, arith}
 use Rattle.std.proofs.lemmas.Int.{by_lt_z}
 use Rattle.lift_poly.proofs.Ring.{linear, mul-comm, mul-le}
 use Rattle.lift_grid.specs.Rectangle.{Spans}
 use Rattle.lift_grid.specs.Tree.{Tree, RejectData, lower_half, upper_half}
 use Rattle.lift_grid.specs.Tree.Tree.{split, accept, reject, unknown}
 use Rattle.corner_lift.specs.Case.{CaseData, IsCase, IsInside, number, greatest_depth}
-use Rattle.lift_cert.specs.Certificate.{IsWithin, IsBeyond, IsAccepting, IsRejecting}
+use Rattle.lift_cert.specs.Certificate.{IsWithin, IsBeyond, IsAccepting}
 use Rattle.lift_cert.specs.declared.bound.Bound.{Bound}
 use Rattle.lower_cert.specs.AnyRanks.{RanksFit}
-use Rattle.region_tree.specs.Laws.{LeastUppersExist, GreatestLowersExist, SplitAxesExist, HalvesAreDeeper, RootIsAtDepth}
+use Rattle.region_tree.specs.Laws.{LeastUppersExist, GreatestLowersExist, SplitAxesExist, HalvesAreDeeper}
 use Rattle.region_tree.specs.Right.{IsRight, IsRightTree, IsAccepted, IsRejected, IsOpen, IsAtDepth}
 use Rattle.region_tree.proofs.AnyHeight.{none_at_any_height}
 
