@@ -108,6 +108,8 @@ def locked() -> Iterator[None]:
         except BlockingIOError:
             say("another start is building them: waiting for it")
             fcntl.flock(file, fcntl.LOCK_EX)
+        except OSError:
+            say("this file system has no locks: don't start two builds at a time")
         yield
 
 
