@@ -226,7 +226,7 @@ def main() -> int:
     signal.signal(signal.SIGTERM, lambda *_: sys.exit(143))
     try:
         ensure_built()
-    except Refused as refused:
+    except (Refused, workspace.Unreadable) as refused:
         say(str(refused))
         return 70
     except OSError as error:

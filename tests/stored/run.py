@@ -26,6 +26,8 @@ from cases import DONE, UNREADABLE, Answer, Case, left_out, stored
 from tables import TOP
 
 SECONDS = 120
+# The status of a run that took longer.
+STOPPED = -1
 
 
 def ask(program: str, words: list[str], given: bytes | None) -> Answer:
@@ -39,6 +41,8 @@ def ask(program: str, words: list[str], given: bytes | None) -> Answer:
             source = os.dup(file.fileno())
         try:
             done = subprocess.run([program, *words], stdin=source, capture_output=True, timeout=SECONDS)
+        except subprocess.TimeoutExpired:
+            return Answer(STOPPED, b"", b"")
         finally:
             os.close(source)
     return Answer(done.returncode, done.stdout, done.stderr)
@@ -96,6 +100,9 @@ def main() -> int:
     programs = {"plift": given.program or quick("plift"), "plift-view": given.view or quick("plift-view")}
     proved = {"plift": given.proved, "plift-view": given.proved_view}
     proved = {name: path for name, path in proved.items() if path}
+    for path in [*programs.values(), *proved.values()]:
+        if not os.access(path, os.X_OK):
+            sys.exit(f"stored: {path} is no program")
     parts = {"stored": stored(), "mistakes": list(mistakes.cases()), "examples": list(examples.cases()) if proved else []}
     wrong = 0
     for name, cases in parts.items():

@@ -127,6 +127,16 @@ class Quick(unittest.TestCase):
         self.assertEqual((status, output, notes.count("\n")), (70, "", 1))
         self.assertRegex(notes, "^quick: .*build.* can't be written or read")
 
+    def test_a_source_that_is_no_code_is_told(self) -> None:
+        self.install()
+        source = self.top / "crates" / "lift_base" / "src" / "lib.rt"
+        for content, what in ((b"fn f()\n    ensures { x\n", "a bracket isn't closed"), (b"\xff\n", "isn't text")):
+            source.write_bytes(content)
+            status, output, notes = self.run_quick()
+            self.assertEqual((status, output, notes.count("\n"), self.count()), (70, "", 1, 0))
+            self.assertIn(what, notes)
+            self.assertIn(str(Path("lift_base") / "src" / "lib.rt"), notes)
+
     def test_words_that_name_no_program(self) -> None:
         self.assertEqual(self.run_quick("plif")[0], 2)
         self.assertEqual(self.run_quick("--help")[0], 0)

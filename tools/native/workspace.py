@@ -14,6 +14,10 @@ PROFILE = 'opt-level = 3\ncodegen-units = 1\npanic = "abort"\n'
 WHOLE = PROFILE + 'lto = "fat"\n'
 
 
+class Unreadable(Exception):
+    """A source that isn't as it should be: which one, and why."""
+
+
 def read(path: str) -> str:
     with open(path, encoding="utf-8") as file:
         return file.read()
@@ -22,10 +26,12 @@ def read(path: str) -> str:
 def write(path: str, text: str) -> None:
     """Writes a file where it isn't so already, so that cargo sees what changed."""
     os.makedirs(os.path.dirname(path), exist_ok=True)
-    if os.path.exists(path) and read(path) == text:
-        return
-    with open(path, "w", encoding="utf-8") as file:
-        file.write(text)
+    content = text.encode()
+    with open(path, "ab+") as file:
+        file.seek(0)
+        if file.read() != content:
+            file.truncate(0)
+            file.write(content)
 
 
 def dependencies() -> dict[str, list[str]]:
@@ -75,13 +81,23 @@ def as_program(text: str) -> str:
 ROOTS = {"lib.rt": as_root, "main.rt": as_program}
 
 
+def translated(path: str) -> str:
+    """A source of a crate, in Rust."""
+    dress = ROOTS.get(os.path.basename(path), str)
+    try:
+        return dress(as_rust(read(path)))
+    except UnicodeError:
+        raise Unreadable(f"{path} isn't text") from None
+    except (IndexError, ValueError):
+        raise Unreadable(f"{path} can't be read as code: a bracket isn't closed") from None
+
+
 def write_crate(out: str, crate: str, below: list[str]) -> None:
     name = PROGRAMS.get(crate, crate)
     write(f"{out}/{crate}/Cargo.toml", package(name, ["rstd", *below]))
     source = os.path.join(ROOT, "crates", crate, "src")
     for file in os.listdir(source):
-        dress = ROOTS.get(file, str)
-        write(f"{out}/{crate}/src/{file[:-3]}.rs", dress(as_rust(read(os.path.join(source, file)))))
+        write(f"{out}/{crate}/src/{file[:-3]}.rs", translated(os.path.join(source, file)))
 
 
 def write_part(out: str, part: str, name: str, below: list[str]) -> None:
