@@ -10,6 +10,8 @@ import time
 import unittest
 from pathlib import Path
 
+# Longer than anything here takes on a busy machine.
+SECONDS = 120
 TOP = Path(__file__).resolve().parent.parent.parent
 
 # It tells its version, and counts its builds; a build does what the test says and then makes both programs.
@@ -52,7 +54,7 @@ class Quick(unittest.TestCase):
 
     def run_quick(self, *words: str) -> tuple[int, str, str]:
         started = self.start(*words)
-        output, notes = started.communicate(timeout=60)
+        output, notes = started.communicate(timeout=SECONDS)
         return started.returncode, output, notes
 
     def count(self) -> int:
@@ -62,7 +64,8 @@ class Quick(unittest.TestCase):
         return self.top / "build" / "quick" / name
 
     def wait_for_build(self) -> None:
-        for _ in range(300):
+        end = time.monotonic() + SECONDS
+        while time.monotonic() < end:
             if self.count():
                 return
             time.sleep(0.1)
@@ -99,21 +102,23 @@ class Quick(unittest.TestCase):
         self.assertFalse(self.program("plift").exists())
 
     def test_a_second_start_waits(self) -> None:
-        self.install(build="sleep 2")
+        self.install(build='while [ ! -e "$BUILDS.go" ]; do sleep 0.1; done')
         first = self.start()
         self.wait_for_build()
-        status, output, notes = self.run_quick()
-        first.communicate(timeout=60)
-        self.assertEqual((status, first.returncode, self.count()), (0, 0, 1))
-        self.assertIn("waiting for it", notes)
+        second = self.start()
+        self.assertIn("waiting for it", second.stderr.readline())
+        Path(f"{self.builds}.go").touch()
+        output, _ = second.communicate(timeout=SECONDS)
+        first.communicate(timeout=SECONDS)
+        self.assertEqual((second.returncode, first.returncode, self.count()), (0, 0, 1))
         self.assertTrue(os.path.exists(output.strip()))
 
     def test_a_build_that_is_stopped_leaves_nothing_half_done(self) -> None:
-        self.install(build="exec sleep 30")
+        self.install(build="exec sleep 1000")
         first = self.start()
         self.wait_for_build()
         first.send_signal(signal.SIGINT)
-        _, notes = first.communicate(timeout=20)
+        _, notes = first.communicate(timeout=SECONDS)
         self.assertEqual(first.returncode, 130)
         self.assertNotIn("Traceback", notes)
         self.assertFalse(self.program("plift").exists())
