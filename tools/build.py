@@ -324,7 +324,8 @@ class Build:
         return f"{len(done)} of {len(self.order)} crates, {spent:.0f} minutes so far, some {max(left, 1):.0f} left"
 
     def _tell_running(self, done: Set[str], running: Dict[str, float]) -> None:
-        work = ", ".join(f"{name} for {minutes:.0f} minutes" for name, minutes in sorted(running.items(), key=lambda it: -it[1]))
+        longest_first = sorted(running.items(), key=lambda it: -it[1])
+        work = ", ".join(f"{name} for {minutes:.0f} minutes" for name, minutes in longest_first)
         self.say(f"proving {work} ({self._how_far(done, running)})")
 
     def _work(self, name: str, jobs: int, is_first: bool, running: Running) -> int:
@@ -366,7 +367,8 @@ class Build:
         with ThreadPoolExecutor(self.lanes) as pool:
             try:
                 while futures or (waiting and not failed):
-                    for name, jobs, is_first in self._start(waiting, done, list(futures.values())) if not failed else ():
+                    busy = list(futures.values())
+                    for name, jobs, is_first in self._start(waiting, done, busy) if not failed else ():
                         self.say(f"proving {name} ({self._how_far(done, running.minutes())})")
                         futures[pool.submit(self._work, name, jobs, is_first, running)] = name
                     ended = wait(futures, timeout=TICK_SECONDS, return_when=FIRST_COMPLETED).done

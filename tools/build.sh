@@ -31,7 +31,8 @@ crates() {
     ' "$top/crates.txt"
 }
 
-# Whether the code of these crates, or what its contracts say, is newer than the program. This takes no process.
+# Whether the code of these crates, or what its contracts say, is newer than the program. This takes no process:
+# the usual shells have -nt, and POSIX has it since 2024.
 is_code_newer() {
     [ "$top/crates.txt" -nt "$program" ] && return 0
     for below; do
@@ -49,7 +50,9 @@ is_source_newer() {
     for below in $folders; do
         set -- "$@" "$top/crates/$below"
     done
-    [ -n "$(find "$@" -name out -prune -o -type f \( -name '*.rt' -o -name '*.antt' -o -name crates.txt \) -newer "$program" -print)" ]
+    newer=$(find "$@" -name out -prune -o -type f \( -name '*.rt' -o -name '*.antt' -o -name crates.txt \) \
+        -newer "$program" -print)
+    [ -n "$newer" ]
 }
 
 # Whether a source is newer than the proved program. Proofs, on which no byte of the program depends, are looked at
@@ -69,7 +72,8 @@ is_stale() {
 
 # Whether something is newer that the program without proofs is made from.
 is_quick_stale() {
-    [ -n "$(find "$top/crates.txt" "$top/tools/quick.py" "$top/tools/native" "$top"/crates/*/src -newer "$program" -print)" ]
+    newer=$(find "$top/crates.txt" "$top/tools/quick.py" "$top/tools/native" "$top"/crates/*/src -newer "$program")
+    [ -n "$newer" ]
 }
 
 # What the program is: proved, quick or not built, and whether a source is newer.

@@ -93,7 +93,8 @@ def first_bad_value(values: Dict[str, str]) -> Optional[str]:
         return "--goal"
     if not is_bound(values["--bound"]):
         return "--bound"
-    return next((name for name in ("--depth", "--precision") if name in values and not is_number(values[name], name)), None)
+    numbers = [name for name in ("--depth", "--precision") if name in values]
+    return next((name for name in numbers if not is_number(values[name], name)), None)
 
 
 def plift_note(words: Sequence[str]) -> Optional[str]:
@@ -122,7 +123,8 @@ def hints_for(program: str, note: str, words: Sequence[str]) -> str:
     """Returns the lines that tools/hints.py has for this note."""
     told = subprocess.run(
         [sys.executable, str(TOOLS / "hints.py"), str(USAGE), "--", *words],
-        env={**os.environ, "PLIFT_PROGRAM": program, "PLIFT_NOTE": note}, stdin=subprocess.DEVNULL, stdout=subprocess.DEVNULL, stderr=subprocess.PIPE,
+        env={**os.environ, "PLIFT_PROGRAM": program, "PLIFT_NOTE": note},
+        stdin=subprocess.DEVNULL, stdout=subprocess.DEVNULL, stderr=subprocess.PIPE,
     )
     text = told.stderr.decode(errors="replace")
     return text if told.returncode == 0 and text.startswith("hint: ") else ""

@@ -9,7 +9,7 @@ import tempfile
 import unittest
 from pathlib import Path
 from types import ModuleType
-from typing import Dict, List, Optional
+from typing import List, Mapping, Optional, Sequence, Union
 
 sys.dont_write_bytecode = True
 TOP = Path(__file__).resolve().parents[2]
@@ -74,7 +74,10 @@ def write_program(path: Path, text: str) -> None:
 class DoorCase(unittest.TestCase):
     """A test with a checkout of its own: launchers, crates that stand for the real ones, and a fake `rt`."""
 
-    CRATES = {"lift_base": [], "lift_poly": [], "plift_top": ["lift_base", "lift_poly", "clap"], "plift": ["plift_top"], "view_top": ["lift_base"], "plift_view": ["view_top"], "other": []}
+    CRATES = {
+        "lift_base": [], "lift_poly": [], "plift_top": ["lift_base", "lift_poly", "clap"], "plift": ["plift_top"],
+        "view_top": ["lift_base"], "plift_view": ["view_top"], "other": [],
+    }
     # What is copied from this checkout.
     PARTS = ("plift", "plift-view", "VERSION", "tools", "man", "completion", "install")
 
@@ -84,7 +87,8 @@ class DoorCase(unittest.TestCase):
         self.top = self.room / "a checkout"
         for part in self.PARTS:
             if (TOP / part).is_dir():
-                shutil.copytree(TOP / part, self.top / part, ignore=shutil.ignore_patterns("__pycache__", "native", "quick.py"))
+                others = shutil.ignore_patterns("__pycache__", "native", "quick.py")
+                shutil.copytree(TOP / part, self.top / part, ignore=others)
             elif (TOP / part).exists():
                 self.top.mkdir(exist_ok=True)
                 shutil.copy2(TOP / part, self.top / part)
@@ -95,7 +99,8 @@ class DoorCase(unittest.TestCase):
                 path.parent.mkdir(parents=True, exist_ok=True)
                 path.write_text("text\n")
                 os.utime(path, (1000, 1000))
-        (self.top / "crates.txt").write_text("".join(f"{name}: {' '.join(deps)}\n" for name, deps in self.CRATES.items()))
+        lines = [f"{name}: {' '.join(deps)}\n" for name, deps in self.CRATES.items()]
+        (self.top / "crates.txt").write_text("".join(lines))
         os.utime(self.top / "crates.txt", (1000, 1000))
         self.calls = self.room / "calls"
         write_program(self.room / "bin/rt", FAKE_RT)
@@ -110,10 +115,15 @@ class DoorCase(unittest.TestCase):
         write_program(program, STAND_IN)
         return program
 
-    def run_door(self, *words: str, door: Optional[Path] = None, shell: Optional[List[str]] = None, input: bytes = b"", environment: Optional[Dict[str, str]] = None, **how):
+    def run_door(self, *words: str, door: Union[Path, str] = "", shell: Sequence[str] = (), environment: Mapping[str, str] = {}, **how):
         """Runs ./plift, or another launcher, on these words."""
-        command = [*(shell or []), str(door or self.top / "plift"), *words]
-        return subprocess.run(command, input=input, capture_output=True, env={**self.environment, **(environment or {})}, **how)
+        command = [*shell, str(door or self.top / "plift"), *words]
+        how = {"input": b"", **how} if "stdin" not in how else how
+        return subprocess.run(command, capture_output=True, env={**self.environment, **environment}, **how)
+
+    def version(self, *words: str, name: str = "plift") -> str:
+        """Returns what a launcher says of itself."""
+        return self.run_door(*words, "--version", door=self.top / name).stdout.decode()
 
     def lines(self) -> List[str]:
         """Returns what the fake `rt` did."""

@@ -33,7 +33,8 @@ NEW_TABLE = """
 
 class Parts(unittest.TestCase):
     def test_crates_and_what_they_need(self):
-        self.assertEqual(build.dependencies("# a comment\nlow:\nhigh may_abort=2: low std # more\n"), {"low": [], "high": ["low"]})
+        text = "# a comment\nlow:\nhigh may_abort=2: low std # more\n"
+        self.assertEqual(build.dependencies(text), {"low": [], "high": ["low"]})
         self.assertEqual(build.closure(NEEDS, "high"), ["low", "middle", "side", "high"])
 
     def test_minutes_are_in_the_column_of_that_name_or_the_last(self):
@@ -48,7 +49,8 @@ class Parts(unittest.TestCase):
     def test_longest_chains(self):
         order = build.closure(NEEDS, "high")
         cost = {"low": 1.0, "side": 5.0, "middle": 2.0, "high": 3.0}
-        self.assertEqual(build.longest_chains(order, NEEDS, cost), {"high": 3.0, "middle": 5.0, "low": 6.0, "side": 8.0})
+        chains = {"high": 3.0, "middle": 5.0, "low": 6.0, "side": 8.0}
+        self.assertEqual(build.longest_chains(order, NEEDS, cost), chains)
 
     def test_as_many_at_a_time_as_processors_and_memory_allow(self):
         self.assertEqual([build.lanes_for(4, it) for it in (None, 64 << 30, 5 << 30, 0)], [4, 4, 2, 1])
@@ -88,7 +90,8 @@ class Builds(DoorCase):
         ended = [line.split()[1] for line in self.lines() if line.startswith("end")]
         self.assertEqual(sorted(ended), ["lift_base", "lift_poly", "plift", "plift_top"])
         self.assertEqual(ended[2:], ["plift_top", "plift"])
-        self.assertEqual(sorted(path.name for path in self.top.glob("build/logs/*")), [f"{name}.log" for name in sorted(ended)])
+        logs = sorted(path.name for path in self.top.glob("build/logs/*"))
+        self.assertEqual(logs, [f"{name}.log" for name in sorted(ended)])
         self.assertTrue(os.access(self.out("plift") / "plift", os.X_OK))
         self.assertRegex(told, r"plift: each of 4 crates is proved .*about [0-9]+ minutes")
         self.assertRegex(told, r"plift: proving plift_top \(2 of 4 crates, 0 minutes so far, some [0-9]+ left\)")
@@ -107,7 +110,8 @@ class Builds(DoorCase):
     def test_a_crate_that_is_not_proved(self):
         status, told = self.end(self.start(BROKEN_CRATES="plift_top"))
         self.assertEqual(status, 70)
-        self.assertRegex(told, r"plift: plift_top was not built; see .*/plift_top\.log, which ends so:\n    error in plift_top\n")
+        self.assertRegex(told, r"plift: plift_top was not built; see .*/plift_top\.log, which ends so:\n")
+        self.assertIn("\n    error in plift_top\n", told)
         self.assertNotIn("Traceback", told)
         self.assertIn("error in plift_top", (self.top / "build/logs/plift_top.log").read_text())
         self.assertNotIn("begin plift run", " ".join(self.lines()))

@@ -8,13 +8,23 @@ import subprocess
 import time
 import unittest
 
-from common import DoorCase, write_program
+from common import DoorCase
 
 WORDS = ["verify", "", " two  blanks ", "it's \"quoted\"", "a\nline\n", "*", "$HOME", "--goal=-", "\\"]
 SHELLS = [[], ["bash"], ["bash", "--posix"]]
 HINTS = """import os, sys
 print("hint:", os.environ["PLIFT_NOTE"], sys.argv[1:], sys.stdin.read(), file=sys.stderr)
 """
+# What builds the quick program, and where that fails.
+QUICK = """import os, shutil, sys
+from pathlib import Path
+print("quick: built", file=sys.stderr)
+path = Path(__file__).resolve().parent.parent / "build" / "quick" / sys.argv[1]
+path.parent.mkdir(parents=True, exist_ok=True)
+shutil.copy(os.environ["STAND_IN"], path)
+print(path)
+"""
+NO_CARGO = "import sys; print('quick: no cargo', file=sys.stderr); sys.exit(70)\n"
 
 
 class Door(DoorCase):
@@ -35,30 +45,32 @@ class Answers(Door):
                 view = self.run_door(*words, shell=shell, door=self.top / "plift-view")
                 self.assertEqual(view.stdout, texts["plift-view"], words)
         for command in ("verify", "check", "generate", "selftest"):
-            for words in (["help", command], ["--help", command], [command, "--help"], [command, "-h"], [command, "--goal", "x", "--help"]):
+            asked = (["help", command], ["--help", command], [command, "--help"], [command, "-h"], [command, "--goal", "x", "--help"])
+            for words in asked:
                 ran = self.run_door(*words)
                 self.assertEqual((ran.returncode, ran.stdout, ran.stderr), (0, texts[command], b""), words)
 
     def test_version(self):
-        self.assertEqual(self.run_door("--version").stdout, b"plift 0.9.0 (not built)\n")
+        self.assertEqual(self.version(), "plift 0.9.0 (not built)\n")
         program = self.built()
-        self.assertEqual(self.run_door("--version").stdout, b"plift 0.9.0 (proved)\n")
-        self.assertEqual(self.run_door("--version", door=self.top / "plift-view").stdout, b"plift-view 0.9.0 (not built)\n")
+        self.assertEqual(self.version(), "plift 0.9.0 (proved)\n")
+        self.assertEqual(self.version(name="plift-view"), "plift-view 0.9.0 (not built)\n")
         os.utime(program, (900, 900))
-        self.assertEqual(self.run_door("--version").stdout, b"plift 0.9.0 (proved, sources are newer)\n")
-        self.assertEqual(self.run_door("--quick", "--version").stdout, b"plift 0.9.0 (not built)\n")
+        self.assertEqual(self.version(), "plift 0.9.0 (proved, sources are newer)\n")
+        self.assertEqual(self.version("--quick"), "plift 0.9.0 (not built)\n")
 
     def test_version_tells_the_commit(self):
         git = ["git", "-C", str(self.top), "-c", "user.name=x", "-c", "user.email=x@example.org"]
         for words in (["init", "-q"], ["add", "."], ["commit", "-q", "-m", "x"]):
             subprocess.run([*git, *words], check=True)
         commit = subprocess.run([*git, "rev-parse", "--short=7", "HEAD"], capture_output=True, text=True).stdout.strip()
-        self.assertEqual(self.run_door("--version").stdout.decode(), f"plift 0.9.0 (commit {commit}, not built)\n")
+        self.assertEqual(self.version(), f"plift 0.9.0 (commit {commit}, not built)\n")
         (self.top / "crates/plift/src/lib.rt").write_text("changed\n")
-        self.assertEqual(self.run_door("--version").stdout.decode(), f"plift 0.9.0 (commit {commit} with changes, not built)\n")
+        self.assertEqual(self.version(), f"plift 0.9.0 (commit {commit} with changes, not built)\n")
 
     def test_plain_faults_are_told_before_a_build(self):
-        for name, words in (("plift", []), ("plift", ["verfy"]), ("plift", ["help", "me"]), ("plift", ["verify", "--goal", "x"]), ("plift-view", ["x"]), ("plift", ["--quick"])):
+        for line in ("plift", "plift verfy", "plift help me", "plift verify --goal x", "plift-view x", "plift --quick"):
+            name, *words = line.split()
             ran = self.run_door(*words, door=self.top / name)
             note, *hints = ran.stderr.decode().splitlines()
             self.assertEqual((ran.returncode, ran.stdout, note), (2, b"", "usage: words"), words)
@@ -78,8 +90,9 @@ class Runs(Door):
         told = "".join(f"<{word}>" for word in WORDS) + "\n"
         for environment in ({}, self.hinted()):
             for shell in SHELLS:
-                ran = self.run_door(*WORDS, shell=shell, input=b"in\0put\n", environment={**environment, "COPY": "1"})
-                self.assertEqual((ran.returncode, ran.stdout, ran.stderr), (0, told.encode() + b"in\0put\n", b""), shell)
+                given = b"in\0put\n"
+                ran = self.run_door(*WORDS, shell=shell, input=given, environment={**environment, "COPY": "1"})
+                self.assertEqual((ran.returncode, ran.stdout, ran.stderr), (0, told.encode() + given, b""), shell)
 
     def test_statuses_and_notes(self):
         self.built()
@@ -88,8 +101,9 @@ class Runs(Door):
                 environment = {"STATUS": str(status), "NOTE": "a note  \\n"}
                 ran = self.run_door("check", shell=shell, environment=environment)
                 self.assertEqual((ran.returncode, ran.stderr), (status, b"a note  \\n\n"))
+                environment = {**environment, **self.hinted(), "COPY": "1"}
                 with open(self.top / "VERSION", "rb") as file:
-                    ran = subprocess.run([*shell, str(self.top / "plift"), "check", "a b"], stdin=file, capture_output=True, env={**self.environment, **environment, **self.hinted(), "COPY": "1"})
+                    ran = self.run_door("check", "a b", shell=shell, stdin=file, environment=environment)
                 hint = f"hint: a note  \\n ['{status}', '--', 'check', 'a b'] " if status else ""
                 self.assertEqual(ran.returncode, status)
                 self.assertTrue(ran.stderr.decode().startswith("a note  \\n\n" + hint), ran.stderr)
@@ -98,9 +112,12 @@ class Runs(Door):
     def test_hints_of_the_view(self):
         self.built("plift_view")
         environment = {"STATUS": "2", "NOTE": "note", **self.hinted()}
-        (self.top / "tools/hints.py").write_text("import os, sys\nprint('hint:', os.environ['PLIFT_PROGRAM'], file=sys.stderr)\n")
-        self.assertEqual(self.run_door("--x", "p", door=self.top / "plift-view", environment=environment).stderr, b"note\nhint: plift-view\n")
-        self.assertEqual(self.run_door("--follow", door=self.top / "plift-view", environment=environment).stderr, b"note\n")
+        script = "import os, sys\nprint('hint:', os.environ['PLIFT_PROGRAM'], file=sys.stderr)\n"
+        (self.top / "tools/hints.py").write_text(script)
+        view = self.top / "plift-view"
+        ran = self.run_door("--x", "p", door=view, environment=environment)
+        self.assertEqual(ran.stderr, b"note\nhint: plift-view\n")
+        self.assertEqual(self.run_door("--follow", door=view, environment=environment).stderr, b"note\n")
 
     def test_no_hints_where_they_are_not_wanted_or_missing(self):
         self.built()
@@ -117,7 +134,8 @@ class Runs(Door):
         self.built()
         for environment in ({}, self.hinted()):
             for shut in ("<&-", "2>&-", "<&- 2>&-"):
-                ran = subprocess.run(["sh", "-c", f'"$1" check {shut}', "", str(self.top / "plift")], capture_output=True, env={**self.environment, **environment, "STATUS": "5"})
+                shell = ["sh", "-c", f'"$@" {shut}', "sh"]
+                ran = self.run_door("check", shell=shell, environment={**environment, "STATUS": "5"})
                 self.assertEqual((ran.returncode, ran.stdout), (5, b"<check>\n"), shut)
 
     def test_a_program_that_dies_by_a_signal(self):
@@ -126,7 +144,8 @@ class Runs(Door):
             for shell in SHELLS:
                 for name in ("TERM", "KILL", "SEGV"):
                     ran = self.run_door(shell=shell, environment={**environment, "DIE": name})
-                    self.assertEqual((ran.returncode, ran.stderr), (-getattr(signal, f"SIG{name}"), b""), (shell, name, environment))
+                    status = -getattr(signal, f"SIG{name}")
+                    self.assertEqual((ran.returncode, ran.stderr), (status, b""), (shell, name, environment))
 
     def test_a_signal_ends_the_program_too(self):
         self.built()
@@ -134,12 +153,16 @@ class Runs(Door):
         for environment in ({}, self.hinted()):
             for shell in SHELLS:
                 for number in (signal.SIGTERM, signal.SIGINT, signal.SIGHUP):
-                    started = subprocess.Popen([*shell, str(self.top / "plift"), "check"], env={**self.environment, **environment, "SLEEP": str(slept)}, stdout=subprocess.DEVNULL, stderr=subprocess.PIPE)
+                    started = subprocess.Popen(
+                        [*shell, str(self.top / "plift"), "check"], stdout=subprocess.DEVNULL, stderr=subprocess.PIPE,
+                        env={**self.environment, **environment, "SLEEP": str(slept)},
+                    )
                     while not (slept.exists() and slept.read_text()):
                         time.sleep(0.01)
                     program = int(slept.read_text())
                     started.send_signal(number)
-                    self.assertEqual((started.wait(timeout=30), started.stderr.read()), (-number, b""), (shell, number, environment))
+                    ended = started.wait(timeout=30), started.stderr.read()
+                    self.assertEqual(ended, (-number, b""), (shell, environment))
                     started.stderr.close()
                     self.assertFalse(os.path.exists(f"/proc/{program}"))
                     slept.unlink()
@@ -152,7 +175,10 @@ class Runs(Door):
         except OSError:
             self.skipTest("no terminal can be opened here")
         environment = {**self.environment, "STATUS": "3", "NOTE": "note"}
-        ran = subprocess.Popen([str(self.top / "plift"), "verify", "--goal", "a", "--bound=1"], stdin=follower, stdout=subprocess.DEVNULL, stderr=follower, env=environment, start_new_session=True)
+        ran = subprocess.Popen(
+            [str(self.top / "plift"), "verify", "--goal", "a", "--bound=1"], env=environment, start_new_session=True,
+            stdin=follower, stdout=subprocess.DEVNULL, stderr=follower,
+        )
         os.close(follower)
         os.write(leader, b"\x04")
         self.assertEqual(ran.wait(timeout=30), 3)
@@ -174,7 +200,8 @@ class Finds(Door):
         for shell in SHELLS:
             ran = self.run_door("x", door="../a link", shell=shell, cwd=empty, environment={"CDPATH": f"{self.room}:/"})
             self.assertEqual((ran.returncode, ran.stdout), (0, b"<x>\n"), ran.stderr)
-        ran = subprocess.run(["env", "a link", "y"], capture_output=True, cwd=empty, env={**self.environment, "PATH": f"{self.room}:{self.environment['PATH']}"})
+        path = {"PATH": f"{self.room}:{self.environment['PATH']}"}
+        ran = self.run_door("y", door="a link", shell=["env"], cwd=empty, environment=path)
         self.assertEqual(ran.stdout, b"<y>\n", ran.stderr)
 
     def test_its_folder_is_lost(self):
@@ -199,7 +226,7 @@ class Finds(Door):
     def test_sources_that_are_newer(self):
         program = self.built()
         os.utime(program, (2000, 2000))
-        self.assertEqual(self.run_door("--version").stdout, b"plift 0.9.0 (proved)\n")
+        self.assertEqual(self.version(), "plift 0.9.0 (proved)\n")
         now = (3000, 3000)
         for source in ("crates/other/src/lib.rt", "crates/view_top/src/lib.rt"):
             os.utime(self.top / source, now)
@@ -208,7 +235,7 @@ class Finds(Door):
             os.utime(self.top / source, now)
             self.assertIn(b"newer", self.run_door("--version").stdout, source)
             os.utime(self.top / source, (1000, 1000))
-        self.assertEqual(self.run_door("--version").stdout, b"plift 0.9.0 (proved)\n")
+        self.assertEqual(self.version(), "plift 0.9.0 (proved)\n")
         os.utime(self.top / "crates/lift_base/proofs/deep/proof.antt", now)
         os.utime(self.top / "build/plift.looked", now)
         self.assertIn(b"newer", self.run_door("--version").stdout)
@@ -235,7 +262,8 @@ class Finds(Door):
     def test_no_prover(self):
         (self.room / "bin/rt").unlink()
         for name in ("plift", "plift-view"):
-            ran = self.run_door(*(["check"] if name == "plift" else []), door=self.top / name, environment={"PATH": f"{self.room / 'bin'}:/usr/bin:/bin"})
+            words = ["check"] if name == "plift" else []
+            ran = self.run_door(*words, door=self.top / name, environment={"PATH": f"{self.room / 'bin'}:/usr/bin:/bin"})
             self.assertEqual((ran.returncode, ran.stdout), (70, b""))
             self.assertIn(f"{name}: the command rt of the Rattle kit is not on the PATH".encode(), ran.stderr)
 
@@ -253,15 +281,15 @@ class Finds(Door):
         self.assertNotIn(b"Traceback", ran.stderr)
 
     def test_quick(self):
-        write_program(self.top / "tools/quick.py", f'import os, sys\nprint("quick: built", file=sys.stderr)\npath = {str(self.top)!r} + "/build/quick/" + sys.argv[1]\nos.makedirs(os.path.dirname(path), exist_ok=True)\nos.system("cp \\"$STAND_IN\\" \'" + path + "\'")\nprint(path)\n')
+        (self.top / "tools/quick.py").write_text(QUICK)
         ran = self.run_door("--quick", "check", "--quick", environment={"STATUS": "1"})
         self.assertEqual((ran.returncode, ran.stderr[:14]), (2, b"usage: words\nh"))
         ran = self.run_door("--quick", "check", environment={"STATUS": "1"})
         self.assertEqual((ran.returncode, ran.stdout, ran.stderr), (1, b"<check>\n", b"quick: built\n"))
         ran = self.run_door("--quick", "check", environment={"STATUS": "1"})
         self.assertEqual((ran.returncode, ran.stdout, ran.stderr), (1, b"<check>\n", b""))
-        self.assertEqual(self.run_door("--quick", "--version").stdout, b"plift 0.9.0 (quick)\n")
-        (self.top / "tools/quick.py").write_text("import sys; print('quick: no cargo', file=sys.stderr); sys.exit(70)\n")
+        self.assertEqual(self.version("--quick"), "plift 0.9.0 (quick)\n")
+        (self.top / "tools/quick.py").write_text(NO_CARGO)
         ran = self.run_door("--quick", "check")
         self.assertEqual((ran.returncode, ran.stdout, ran.stderr), (70, b"", b"quick: no cargo\n"))
 

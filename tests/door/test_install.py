@@ -3,7 +3,6 @@
 import os
 import subprocess
 import unittest
-from pathlib import Path
 
 from common import DoorCase, STAND_IN, TOP, write_program
 
@@ -18,7 +17,12 @@ class Install(DoorCase):
         self.prefix = self.room / "it's a prefix"
 
     def install(self, *words, **environment):
-        return subprocess.run([str(self.top / "install"), *map(str, words)], capture_output=True, text=True, env={**self.environment, **environment}, cwd=self.room)
+        environment = {**self.environment, **environment}
+        command = [str(self.top / "install"), *map(str, words)]
+        return subprocess.run(command, capture_output=True, text=True, env=environment, cwd=self.room)
+
+    def run_installed(self, name, *words, **how):
+        return self.run_door(*words, door=self.prefix / "bin" / name, **how)
 
     def installed(self, root):
         return sorted(str(path.relative_to(root)) for path in root.rglob("*") if not path.is_dir())
@@ -34,15 +38,18 @@ class Install(DoorCase):
         self.top.rename(self.room / "moved away")
         self.assertEqual(sorted(path.name for path in (self.prefix / "bin").iterdir()), COMMANDS)
         for shell in ([], ["sh"], ["bash"]):
-            ran = self.run_door("a  b", "", door=self.prefix / "bin/plift", shell=shell, input=b"x", environment={"COPY": "1", "STATUS": "4"}, cwd="/")
+            wish = {"COPY": "1", "STATUS": "4"}
+            ran = self.run_installed("plift", "a  b", "", shell=shell, input=b"x", environment=wish, cwd="/")
             self.assertEqual((ran.returncode, ran.stdout, ran.stderr), (4, b"<a  b><>\nx", b""))
-        self.assertEqual(self.run_door("--version", door=self.prefix / "bin/plift").stdout, b"plift 0.9.0 (proved)\n")
-        self.assertEqual(self.run_door("--help", door=self.prefix / "bin/plift-view").stdout, (TOP / "man/help/plift-view.txt").read_bytes())
-        ran = self.run_door("--quick", "check", door=self.prefix / "bin/plift")
+        self.assertEqual(self.run_installed("plift", "--version").stdout, b"plift 0.9.0 (proved)\n")
+        text = (TOP / "man/help/plift-view.txt").read_bytes()
+        self.assertEqual(self.run_installed("plift-view", "--help").stdout, text)
+        ran = self.run_installed("plift", "--quick", "check")
         self.assertEqual((ran.returncode, ran.stdout, ran.stderr), (0, b"<check>\n", b""))
-        ran = self.run_door(door=self.prefix / "bin/plift-recheck", input=(TOP / "examples/coin.report").read_bytes())
+        ran = self.run_installed("plift-recheck", input=(TOP / "examples/coin.report").read_bytes())
         self.assertEqual(ran.stdout, b"sound accept 0 reject 1 unknown 0\n")
-        for page in ("man/man1/plift.1", "man/man1/plift-view.1", "bash-completion/completions/plift", "zsh/site-functions/_plift"):
+        pages = ("man/man1/plift.1", "man/man1/plift-view.1")
+        for page in (*pages, "bash-completion/completions/plift", "zsh/site-functions/_plift"):
             self.assertTrue((self.prefix / "share" / page).is_file(), page)
 
     def test_installed_again_and_removed(self):
@@ -96,20 +103,21 @@ class Install(DoorCase):
         (self.top / "lab").mkdir()
         (self.top / "lab/words").write_text("lab\n")
         self.assertEqual(self.install(self.prefix).returncode, 0)
-        ran = self.run_door("x  y", door=self.prefix / "bin/plift-lab")
+        ran = self.run_installed("plift-lab", "x  y")
         self.assertEqual(ran.stdout, b"lab\nx  y\n")
 
     def test_quick_programs(self):
-        write_program(self.top / "tools/quick.py", "import sys; print('quick: no cargo', file=sys.stderr); sys.exit(70)\n")
+        quick = self.top / "tools/quick.py"
+        quick.write_text("import sys; print('quick: no cargo', file=sys.stderr); sys.exit(70)\n")
         ran = self.install("--quick", self.prefix)
         self.assertEqual((ran.returncode, ran.stderr), (70, "quick: no cargo\n"))
         for name in ("plift", "plift-view"):
             write_program(self.top / "build/quick" / name, STAND_IN)
-        (self.top / "tools/quick.py").write_text("import sys; from pathlib import Path; print(Path(__file__).parent.parent / 'build/quick' / sys.argv[1])\n")
-        os.utime(self.top / "tools/quick.py", (1000, 1000))
+        quick.write_text(f"import sys; print({str(self.top)!r} + '/build/quick/' + sys.argv[1])\n")
+        os.utime(quick, (1000, 1000))
         os.utime(self.top / "tools/native", (1000, 1000))
         self.assertEqual(self.install("--quick", self.prefix).returncode, 0)
-        self.assertEqual(self.run_door("--version", door=self.prefix / "bin/plift").stdout, b"plift 0.9.0 (quick)\n")
+        self.assertEqual(self.run_installed("plift", "--version").stdout, b"plift 0.9.0 (quick)\n")
 
 
 if __name__ == "__main__":

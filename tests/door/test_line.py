@@ -10,9 +10,10 @@ line = tool("line")
 
 WORDS = [
     "verify", "check", "generate", "selftest", "--goal", "--bound", "--region", "--depth", "--precision", "--goal=a",
-    "--bound=1/2", "--bound=", "--depth=3", "--depth=21", "--precision=0", "--precision=040", "-1", "", " ", "a", "1/2", "3%", "1e-3",
-    "0.5", "2", "1/4294967295", "1/4294967296", "9223372036854775808/9223372036854775809", "1e-19", "20", "32767", "32768", "000001", "p=1", "--x", "--y",
-    "--at", "--x=", "--at=p=1", "--at=p", "--summary", "--follow", "--summary=", "--help", "help", "--", "-", "\u00fc", "a\nb", "=", "--goal=--bound", "\u0663",
+    "--bound=1/2", "--bound=", "--depth=3", "--depth=21", "--precision=0", "--precision=040", "-1", "", " ", "a", "1/2",
+    "3%", "1e-3", "0.5", "2", "1/4294967295", "1/4294967296", "9223372036854775808/9223372036854775809", "1e-19", "20",
+    "32767", "32768", "000001", "p=1", "--x", "--y", "--at", "--x=", "--at=p=1", "--at=p", "--summary", "--follow",
+    "--summary=", "--help", "help", "--", "-", "\u00fc", "a\nb", "=", "--goal=--bound", "\u0663",
 ]
 PLIFT = {
     "": "usage: words",
@@ -35,8 +36,14 @@ PLIFT = {
     "selftest 32768": "usage: N",
     "selftest 1 2": "usage: words",
 }
-PLAIN = ["check", "generate 1", "selftest 32767", "verify --bound=1/2 --goal=a", "verify --goal a --bound 1/2 --region x --depth 020 --precision 1"]
-VIEW = {"x": True, "--x": True, "--x p --x q": True, "--summary --follow": True, "--summary": False, "": False, "--at p=1 --at=q=2 --x=": False, "--summary=": True}
+PLAIN = [
+    "check", "generate 1", "selftest 32767", "verify --bound=1/2 --goal=a",
+    "verify --goal a --bound 1/2 --region x --depth 020 --precision 1",
+]
+VIEW = {
+    "x": True, "--x": True, "--x p --x q": True, "--summary --follow": True, "--summary=": True,
+    "--summary": False, "": False, "--at p=1 --at=q=2 --x=": False,
+}
 
 
 class Line(unittest.TestCase):
@@ -85,8 +92,8 @@ class AgainstTheProgram(unittest.TestCase):
             self.assertEqual(note, self.asked(program, words), words)
 
     def test_plift(self):
-        fronts = [[], ["verify"], ["verify", "--goal", "a"], ["verify", "--goal", "a", "--bound", "1/2"], ["verify", "--goal=a", "--bound"], ["generate"]]
-        self.compare("plift", lambda chance: list(chance.choice(fronts)), line.plift_note)
+        fronts = ["", "verify", "verify --goal a", "verify --goal a --bound 1/2", "verify --goal=a --bound", "generate"]
+        self.compare("plift", lambda chance: chance.choice(fronts).split(), line.plift_note)
 
     def test_view(self):
         self.compare("plift-view", lambda chance: [], line.view_note)

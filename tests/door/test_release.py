@@ -7,6 +7,7 @@ import tarfile
 import unittest
 
 from common import DoorCase, TOP, quick_program
+SUMS = ["sha256sum", "-c", "--quiet"]
 
 
 class Release(DoorCase):
@@ -23,10 +24,12 @@ class Release(DoorCase):
         self.out = self.room / "out"
 
     def git(self, *words):
-        subprocess.run(["git", "-C", str(self.top), "-c", "user.name=x", "-c", "user.email=x@example.org", *words], check=True)
+        who = ["-c", "user.name=x", "-c", "user.email=x@example.org"]
+        subprocess.run(["git", "-C", str(self.top), *who, *words], check=True)
 
     def release(self, *words):
-        return subprocess.run([str(self.top / "tools/release"), str(self.out), *map(str, words)], capture_output=True, text=True, env=self.environment)
+        command = [str(self.top / "tools/release"), str(self.out), *map(str, words)]
+        return subprocess.run(command, capture_output=True, text=True, env=self.environment)
 
     def made(self, *words, name="plift-0.9.0-linux-x86_64"):
         ran = self.release(*words)
@@ -53,17 +56,19 @@ class Release(DoorCase):
         (self.top / "notes").write_text("not known to git, and no source\n")
         self.assertEqual(self.made("--gate", self.log).read_bytes(), first)
         folder = self.unpacked(archive)
-        self.assertEqual(subprocess.run(["sha256sum", "-c", "--quiet", "SHA256SUMS"], cwd=folder).returncode, 0)
+        self.assertEqual(subprocess.run([*SUMS, "SHA256SUMS"], cwd=folder).returncode, 0)
         listed = {row.split("  ")[1] for row in (folder / "SHA256SUMS").read_text().splitlines()}
         there = {str(path.relative_to(folder)) for path in folder.rglob("*") if path.is_file()}
         self.assertEqual(there - listed, {"SHA256SUMS"})
         moved = self.room / "moved away"
-        self.assertEqual(subprocess.run(["sha256sum", "-c", "--quiet", str(folder / "SHA256SUMS.sources")], cwd=moved).returncode, 0)
+        self.assertEqual(subprocess.run([*SUMS, str(folder / "SHA256SUMS.sources")], cwd=moved).returncode, 0)
         self.assertEqual((folder / "GATE.txt").read_text().splitlines()[-1], "306 passed, 0 failed (1 note)")
-        self.assertRegex(self.run_door("--version", door=folder / "plift").stdout.decode(), r"^plift 0\.9\.0 \(commit [0-9a-f]{7}, proved\)\n$")
+        version = self.run_door("--version", door=folder / "plift").stdout.decode()
+        self.assertRegex(version, r"^plift 0\.9\.0 \(commit [0-9a-f]{7}, proved\)\n$")
         ran = self.run_door("a b", door=folder / "plift", input=b"x", environment={"COPY": "1", "STATUS": "3"}, cwd="/")
         self.assertEqual((ran.returncode, ran.stdout), (3, b"<a b>\nx"))
-        self.assertEqual(subprocess.run([str(folder / "install"), str(self.room / "prefix")], capture_output=True).returncode, 0)
+        install = [str(folder / "install"), str(self.room / "prefix")]
+        self.assertEqual(subprocess.run(install, capture_output=True).returncode, 0)
         self.assertIn(b", proved)", self.run_door("--version", door=self.room / "prefix/bin/plift-view").stdout)
 
     def refused(self, *words):
@@ -102,10 +107,11 @@ class Release(DoorCase):
         self.git("add", ".")
         self.git("commit", "-q", "-m", "y")
         folder = self.unpacked(self.made("--quick", name="plift-0.9.0-linux-x86_64-quick"))
-        words = ["verify", "--goal", "lost", "--bound", "3/100", "--region", "1/10<=p<=3/10,1/20<=q<=1/5", "--precision", "10"]
+        words = "verify --goal lost --bound 3/100 --region 1/10<=p<=3/10,1/20<=q<=1/5 --precision 10".split()
         report = self.run_door(*words, door=folder / "plift", input=(folder / "examples/retry.drn").read_bytes()).stdout
         self.assertEqual(report, (TOP / "examples/retry.report").read_bytes())
-        self.assertEqual(self.run_door("check", door=folder / "plift", input=report).stdout, b"sound accept 1 reject 0 unknown 0\n")
+        ran = self.run_door("check", door=folder / "plift", input=report)
+        self.assertEqual(ran.stdout, b"sound accept 1 reject 0 unknown 0\n")
         self.assertIn(b"<svg", self.run_door(door=folder / "plift-view", input=report).stdout)
 
 

@@ -28,7 +28,8 @@ def part_of(text, begin, end):
 
 def rows_of(text):
     """Returns the options in the first column of a table."""
-    return {option for row in text.splitlines() if row.startswith("| `--") for option in OPTION.findall(row.split("|")[1])}
+    rows = [row for row in text.splitlines() if row.startswith("| `--")]
+    return {option for row in rows for option in OPTION.findall(row.split("|")[1])}
 
 
 def man_of(name):
@@ -41,7 +42,8 @@ class Named(unittest.TestCase):
     def test_the_grammar(self):
         words = part_of(self.formats, "## The command line", "Any other line")
         self.assertEqual(set(OPTION.findall(words)) - {"--name"}, set(line.VERIFY.valued))
-        self.assertEqual(rows_of(part_of(self.formats, "## The view of a report", "## Notes")), {*line.VIEW.valued, *line.VIEW.flags})
+        view = part_of(self.formats, "## The view of a report", "## Notes")
+        self.assertEqual(rows_of(view), {*line.VIEW.valued, *line.VIEW.flags})
         named = part_of(words, "The first word is", "\n")
         self.assertEqual(re.findall(r"`(\w+)`", named), COMMANDS)
 
@@ -57,7 +59,8 @@ class Named(unittest.TestCase):
 
     def test_help(self):
         self.assertEqual(set(OPTION.findall(help_of("verify"))), set(line.VERIFY.valued))
-        self.assertEqual(set(OPTION.findall(help_of("plift-view"))) - set(line.VERIFY.valued), {*line.VIEW.valued, *line.VIEW.flags, *DOOR})
+        view = set(OPTION.findall(help_of("plift-view"))) - set(line.VERIFY.valued)
+        self.assertEqual(view, {*line.VIEW.valued, *line.VIEW.flags, *DOOR})
         self.assertEqual(set(OPTION.findall(help_of("plift"))), {*line.VERIFY.valued, *DOOR})
         for command in COMMANDS:
             self.assertIn(f"plift {command}", help_of("plift"))
@@ -76,7 +79,8 @@ class Named(unittest.TestCase):
     def test_man_pages_are_well_formed(self):
         for name in ("plift", "plift-view"):
             try:
-                ran = subprocess.run(["groff", "-man", "-ww", "-Tutf8", str(TOP / f"man/{name}.1")], capture_output=True)
+                command = ["groff", "-man", "-ww", "-Tutf8", str(TOP / f"man/{name}.1")]
+                ran = subprocess.run(command, capture_output=True)
             except FileNotFoundError:
                 self.skipTest("groff isn't there")
             self.assertEqual((ran.returncode, ran.stderr), (0, b""))
@@ -96,9 +100,14 @@ class Completed(unittest.TestCase):
     """What bash offers for a front of a line."""
 
     def offered(self, *words):
-        script = f'. {shlex.quote(str(TOP / "completion/plift.bash"))}; COMP_WORDS=({" ".join(map(shlex.quote, words))}); COMP_CWORD={len(words) - 1}; '
-        script += "_plift_view" if words[0] == "plift-view" else "_plift"
-        ran = subprocess.run(["bash", "-c", script + '; printf "%s\\n" "${COMPREPLY[@]}"'], capture_output=True, text=True)
+        lines = [
+            f". {shlex.quote(str(TOP / 'completion/plift.bash'))}",
+            f"COMP_WORDS=({' '.join(map(shlex.quote, words))})",
+            f"COMP_CWORD={len(words) - 1}",
+            "_plift_view" if words[0] == "plift-view" else "_plift",
+            'printf "%s\\n" "${COMPREPLY[@]}"',
+        ]
+        ran = subprocess.run(["bash", "-c", "\n".join(lines)], capture_output=True, text=True)
         self.assertEqual(ran.stderr, "")
         return set(ran.stdout.split())
 
@@ -107,7 +116,8 @@ class Completed(unittest.TestCase):
         self.assertEqual(self.offered("plift", "--quick", ""), {*COMMANDS, *DOOR} - {"--quick"})
         self.assertEqual(self.offered("plift", "--help", "s"), {"selftest"})
         self.assertEqual(self.offered("plift", "verify", ""), {*line.VERIFY.valued, "--help"})
-        self.assertEqual(self.offered("plift", "verify", "--goal", "x", "--depth=3", "--"), {"--bound", "--region", "--precision", "--help"})
+        left = {"--bound", "--region", "--precision", "--help"}
+        self.assertEqual(self.offered("plift", "verify", "--goal", "x", "--depth=3", "--"), left)
         self.assertEqual(self.offered("plift", "--quick", "verify", "--b"), {"--bound"})
         self.assertEqual(self.offered("plift", "verify", "--goal", "-"), set())
         self.assertEqual(self.offered("plift", "check", ""), {"--help"})
@@ -128,7 +138,8 @@ class Examples(unittest.TestCase):
             for path in sorted((TOP / "man/help").glob("*.txt")):
                 for example in path.read_text().split("Example")[1:]:
                     command = example.split("\n\n")[1].strip()
-                    ran = subprocess.run(["bash", "-c", f"set -eo pipefail; {command}"], cwd=folder, env=environment, capture_output=True)
+                    shell = ["bash", "-c", f"set -eo pipefail; {command}"]
+                    ran = subprocess.run(shell, cwd=folder, env=environment, capture_output=True)
                     self.assertEqual((ran.returncode, ran.stderr), (0, b""), command)
                     self.assertTrue(ran.stdout, command)
 
