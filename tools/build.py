@@ -114,6 +114,11 @@ def lanes_for(processors: int, free_bytes: Optional[int]) -> int:
     return max(1, min(processors, fit))
 
 
+def in_minutes(minutes: float) -> str:
+    """Returns a time in whole minutes, in words."""
+    return f"{minutes:.0f} minute{'' if round(minutes) == 1 else 's'}"
+
+
 def free_memory() -> Optional[int]:
     """Returns the memory that is free, in bytes, where the system tells it."""
     try:
@@ -310,7 +315,7 @@ class Build:
         minutes = self.usual_pace * sum(self.cost.values())
         begun = f", {len(kept)} of them in an earlier build" if kept else ""
         self.say(
-            f"each of {len(self.order)} crates is proved and then compiled{begun}: about {minutes:.0f} minutes on"
+            f"each of {len(self.order)} crates is proved and then compiled{begun}: about {in_minutes(minutes)} on"
             f" {USUAL_MACHINE}, {self.lanes} at a time here; logs are in {self.logs}"
         )
 
@@ -321,11 +326,11 @@ class Build:
         begun = sum(min(minutes / self.usual_pace, self.cost[name] / 2) for name, minutes in running.items())
         work = sum(self.cost[name] for name in done) + begun
         left = pace_of(spent, work, self.usual_pace, total) * (total - work)
-        return f"{len(done)} of {len(self.order)} crates, {spent:.0f} minutes so far, some {max(left, 1):.0f} left"
+        return f"{len(done)} of {len(self.order)} crates, {in_minutes(spent)} so far, some {max(left, 1):.0f} left"
 
     def _tell_running(self, done: Set[str], running: Dict[str, float]) -> None:
         longest_first = sorted(running.items(), key=lambda it: -it[1])
-        work = ", ".join(f"{name} for {minutes:.0f} minutes" for name, minutes in longest_first)
+        work = ", ".join(f"{name} for {in_minutes(minutes)}" for name, minutes in longest_first)
         self.say(f"proving {work} ({self._how_far(done, running)})")
 
     def _work(self, name: str, jobs: int, is_first: bool, running: Running) -> int:
