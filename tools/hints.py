@@ -8,6 +8,7 @@ its words, and TEXT what it read, which is looked at where it is a file. Writes 
 
 from __future__ import annotations
 
+import gc
 import os
 import re
 import signal
@@ -75,6 +76,7 @@ def told(arguments: List[str]) -> bytes:
 
 def main() -> None:
     """Writes the hints. One that fails is none: the note has been told, and no trace is to hide it."""
+    gc.disable()  # for so short a time
     try:
         os.write(2, told(sys.argv[1:]))
     finally:

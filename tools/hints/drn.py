@@ -34,10 +34,10 @@ class Choice(NamedTuple):
 
 
 class State(NamedTuple):
-    """A state: its line, and the words of that line."""
+    """A state: its line, and what stands there."""
 
     line: int
-    words: List[bytes]
+    content: bytes
 
 
 class Model:
@@ -133,7 +133,7 @@ def read_states(model: Model, lines: Iterator[Tuple[int, bytes]], stop: int, sta
         elif content.startswith(b"state"):
             if len(model.states) == state + 1 and state >= 0:
                 return
-            model.states.append(State(number, words_of(content)))
+            model.states.append(State(number, content))
             model.choices = []
         elif content.startswith(b"action"):
             transitions = begin_choice(model, number)
@@ -173,4 +173,4 @@ def parameters_of(text: bytes) -> List[str]:
 
 def labels_of(state: State) -> List[bytes]:
     """The labels of a state's line, without quotes."""
-    return [word.strip(b'"') if word[:1] == b'"' else word for word in state.words[2:] if word[:1] != b"["]
+    return [word.strip(b'"') if word[:1] == b'"' else word for word in words_of(state.content)[2:] if word[:1] != b"["]

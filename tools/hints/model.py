@@ -50,6 +50,9 @@ CAUSES: Dict[str, Told] = {
     "CommonDenominator": states.common_denominator,
 }
 
+# Causes that speak of the whole text.
+WHOLE = ("NoState", "CountMismatch", "InitCount", "UnknownLabel", "CommonDenominator")
+
 # Causes whose details tell what to do, too.
 MENDED = ("Syntax", "UnsupportedType", "UnknownSection", "RepeatedSection")
 
@@ -58,9 +61,9 @@ def model_hints(refusal: Refusal, number: int, cause: str) -> List[str]:
     """What a line is at fault with, where it can be seen in the text."""
     if refusal.text is None or cause not in CAUSES:
         return []
-    model = read_model(refusal.text, stop=number)
+    model = read_model(refusal.text, stop=0 if cause in WHOLE else number)
     place = Place(number, model.line or b"", model, refusal)
-    if model.line is None and number > 0:
+    if model.line is None and number > 0 and cause not in WHOLE:
         return []  # the text has no such line: it isn't the text that was read
     return CAUSES[cause](place)
 

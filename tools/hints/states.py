@@ -112,8 +112,7 @@ def no_state(place: Place) -> List[str]:
 
 def count_mismatch(place: Place) -> List[str]:
     """What was announced, and what is there."""
-    model = read_model(place.text)
-    told = []
+    model, told = place.model, []
     counts = (("@nr_states", "state", len(model.states)), ("@nr_choices", "choice", model.choice_count))
     for name, what, count in counts:
         line, number = model.numbers.get(name, (0, b""))
@@ -135,7 +134,7 @@ def target_range(place: Place) -> List[str]:
 
 def init_count(place: Place) -> List[str]:
     """Which states are initial."""
-    states = read_model(place.text).states
+    states = place.model.states
     initial = [(i, state) for i, state in enumerate(states) if b"init" in labels_of(state)]
     if len(initial) == 1:
         return []
@@ -171,7 +170,7 @@ def unknown_label(place: Place) -> List[str]:
     goal = place.refusal.option("--goal")
     if goal is None:
         return []
-    labels = labels_in(read_model(place.text).states)
+    labels = labels_in(place.model.states)
     if goal.encode("utf-8", "surrogateescape") in labels:
         return []
     why = ""
@@ -195,8 +194,7 @@ def unknown_label(place: Place) -> List[str]:
 
 def common_denominator(place: Place) -> List[str]:
     """At which line the common denominator gets too large."""
-    model = read_model(place.text, stop=-1)
-    names, common, seen = model.parameters, 1, {}
+    model, names, common, seen = place.model, place.names(), 1, {}
     for number, content in lines_of(place.text):
         match = TRANSITION.fullmatch(content)
         if not match or match[2] in seen:
