@@ -31,6 +31,7 @@ STATUSES = {
     "out of memory": 8,
 }
 FRONTS = tuple(STATUSES)
+MENDED = ("usage: --bound", "usage: --depth")  # notes whose details tell what to do, too
 VALUES = {
     "--goal": amounts.goal_hints,
     "--bound": amounts.bound_hints,
@@ -104,7 +105,7 @@ def without_note(refusal: Refusal) -> List[str]:
 
 def lacks_remedy(note: str, lines: Sequence[str]) -> bool:
     """Whether lines tell what is wrong and not what to do."""
-    if lines and note.startswith("model: ") and note.endswith(model.MENDED):
+    if lines and (note in MENDED or note.startswith("model: ") and note.endswith(model.MENDED)):
         return False
     return len(lines) < 2 or len(lines) == 2 and lines[1].lstrip().startswith("^")
 
