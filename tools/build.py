@@ -6,7 +6,7 @@ kit's command `rt`, several side by side.
 
 `rt lib` keeps every other `rt` out of the crates below the one that it works on, so side by side each
 crate is built in a room of its own: a copy of the sources and of the built libraries that it needs,
-by hard links. What a crate's build has kept is put back also where the build is interrupted, so the
+with hard links to the latter. What a crate's build has kept is put back also where the build is interrupted, so the
 next one goes on from there. The program's time is set to when its build began, so that a source that
 was changed meanwhile is newer. Ends with 0, or with 70 where the program can't be built.
 """
