@@ -1,5 +1,5 @@
 -- What holds of the reports that are written, for who reasons about them.
-use Rattle.std.specs.Prelude.{◌≡◌, ℕ, List, Ok}
+use Rattle.std.specs.Prelude.{◌≡◌, ◌≤◌, ℕ, List, Ok}
 use Rattle.lift_grid.specs.Region.{Region}
 use Rattle.lift_grid.specs.Tree.{Tree}
 use Rattle.lift_model.specs.Model.{ModelData}
@@ -7,11 +7,17 @@ use Rattle.corner_lift.specs.Case.{IsCase, case_of}
 use Rattle.lift_cert.specs.declared.bound.Bound.{Bound}
 use Rattle.region_tree.specs.Right.{IsRightTree}
 use Rattle.drn_read.specs.Reading.{drn}
+use Rattle.model_gen.specs.Ladder.{most_blocks}
 use Rattle.cert_text.specs.Report.{report_text}
 use Rattle.cert_text.specs.Forms.{IsToldBound}
 use Rattle.cert_check.specs.Sound.{IsSoundFile, leaf_counts}
+use Rattle.plift_top.specs.Selftest.{IsLadderTree}
 
 -- where a case is of a model that a text stands for, the report of its right tree is a sound file with that tree's leaves
 abbrev pub RightReportsAreSound : Type 0
 RightReportsAreSound = (text label : List ℕ) (m : ModelData) (root : Region) (w : ℕ) (bound : Bound) (tree : Tree) → drn text label ≡ Ok m → IsCase (case_of m root w) → IsToldBound bound
     → IsRightTree (case_of m root w) bound tree → IsSoundFile (report_text (case_of m root w) bound tree) (leaf_counts tree)
+
+-- each ladder that can be asked for has a right tree
+abbrev pub LaddersHaveTrees : Type 0
+LaddersHaveTrees = (n : ℕ) → 1 ≤ n → n ≤ most_blocks → (tree : Tree) × IsLadderTree n tree

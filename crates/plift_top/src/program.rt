@@ -8,6 +8,7 @@ ghost use Rattle.lift_grid.specs.Tree.{Tree};
 ghost use Rattle.lift_model.specs.Model.{ModelData};
 ghost use Rattle.corner_lift.specs.Case.{IsCase, IsAdmitted, case_of};
 ghost use Rattle.region_tree.specs.Right.{IsRightTree};
+ghost use Rattle.region_tree.specs.Laws.{RightTreesExist, RightTreesAreOne};
 ghost use Rattle.cert_text.specs.Report.{report_text};
 ghost use Rattle.cert_text.specs.Forms.{IsToldBound};
 ghost use Rattle.drn_read.specs.Reading.{drn};
@@ -19,6 +20,7 @@ ghost use Rattle.model_gen.specs.Ladder.{ladder_text, ladder_case};
 ghost use Rattle.plift_top.specs.Answers.{status_of, wanted, AsksToVerify, AsksToCheck};
 ghost use Rattle.plift_top.specs.Answers.{AsksToGenerate, AsksToSelftest, IsTooLong};
 ghost use Rattle.plift_top.specs.Selftest.{one_half, tested_line};
+ghost use Rattle.plift_top.specs.Laws.{LaddersHaveTrees};
 ghost use Rattle.cert_check.specs.Sound.{IsSoundFile, leaf_counts};
 ghost use Rattle.cert_check.specs.Source.{NoFault, file_limit};
 ghost use Rattle.cert_check.specs.declared.summary.Summary.{Summary};
@@ -35,9 +37,9 @@ use cert_check::{answers_are_one, sound_files_pass};
 use check_notes::Status;
 use lift_base::{Sink, Source, write_buffered};
 use lift_rows::first_fault_is_one;
-use model_gen::Ladder;
+use model_gen::{Ladder, ladders_are_cases};
 use plift_words::{Job, job_of};
-use region_tree::right_trees_are_one;
+use region_tree::{right_trees_are_one, right_trees_exist};
 use std::alloc::Global;
 
 // Writes a ladder.
@@ -213,6 +215,12 @@ pub fn run<S: Source, K: Sink, E: Sink>(
     ensures kept { result ≢ Status.Done → result ≢ Status.WriteFault → out.new ≡ out.old }
     ensures unread { IsErr (wanted words.now.items) → source.new ≡ source.old }
 
+    // A case has exactly one right tree for each bound, and each ladder is a case: so what is said
+    // above of whichever tree is right is said of one.
+    ensures right_tree { RightTreesExist }
+    ensures no_other_tree { RightTreesAreOne }
+    ensures ladder_tree { LaddersHaveTrees }
+
     // A refusal is told by its note, and nothing else is.
     ensures silent { result ≡ Status.Done → notes.new ≡ notes.old }
     ensures told { result ≢ Status.Done → (note : List ℕ)
@@ -224,6 +232,8 @@ pub fn run<S: Source, K: Sink, E: Sink>(
     answers_are_one();
     right_reports_are_sound();
     right_trees_are_one();
+    right_trees_exist();
+    ladders_are_cases();
     let answer = act(alloc, words, source, out);
     end(notes, answer)
 }

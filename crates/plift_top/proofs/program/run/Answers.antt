@@ -1,4 +1,6 @@
 use Rattle.std.proofs.Common.{◌∙◌, sym}
+use Rattle.model_gen.specs.Ladder.{ladder_case}
+use Rattle.plift_top.specs.Selftest.{one_half}
 use Rattle.plift_top.proofs.Acts as acts
 use Rattle.plift_top.proofs.program.run.Goals as goal
 
@@ -99,3 +101,12 @@ returns-clause-short_tested g c n tree is right few sure = rw c.end.ensures.stat
 
 pub returns-clause-long_tested : goal.returns-clause-long_tested
 returns-clause-long_tested g c n tree is right long = rw c.end.ensures.status (acts.long_tested g.S.Source.left g.S.Source.faults g.K.Sink.taken g.K.Sink.faults _ _ _ _ c.right_trees_are_one.ensures tree _ _ (rw c.deref.ensures.value at c.act-answer.ensures.answer) n is right long)
+
+pub returns-clause-right_tree : goal.returns-clause-right_tree
+returns-clause-right_tree g c = c.right_trees_exist.ensures
+
+pub returns-clause-no_other_tree : goal.returns-clause-no_other_tree
+returns-clause-no_other_tree g c = c.right_trees_are_one.ensures
+
+pub returns-clause-ladder_tree : goal.returns-clause-ladder_tree
+returns-clause-ladder_tree g c n some few = c.right_trees_exist.ensures (ladder_case n) one_half (c.ladders_are_cases.ensures.case n some few)
