@@ -135,10 +135,9 @@ def malformed() -> Iterator[Case]:
 
 def limits() -> Iterator[Case]:
     """Texts of as many bytes as may be, and of one more."""
-    words = words_of("verify --goal heads --bound 1/2 --precision 4")
     for row in rows(constants("plift_tests", "limits")["LIMITS"]):
-        count, status, notes = row.split(" | ")
-        yield Case(f"limits: {row}", "plift", words, b"\n" * int(count), answer(status, "-", notes))
+        words, count, status, notes = row.split(" | ")
+        yield Case(f"limits: {row}", "plift", words_of(words), b"\n" * int(count), answer(status, "-", notes))
 
 
 def views() -> Iterator[Case]:

@@ -8,10 +8,12 @@ use plift_top::run;
 use std::alloc::Global;
 use std::test::Fail;
 
-// Each row: how many line feeds the source gives, the status, and the note.
+// Each row: the words, how many line feeds the source gives, the status, and the note.
 const LIMITS: &str = "\
-67108864 | ModelRefused | model: line 67108864: MissingSection;
-67108865 | TooLong | too long;
+verify --goal heads --bound 1/2 --precision 4 | 67108864 | ModelRefused | model: line 67108864: MissingSection;
+verify --goal heads --bound 1/2 --precision 4 | 67108865 | TooLong | too long;
+check | 67108864 | NotSound | not sound: line 1: Syntax;
+check | 67108865 | TooLong | too long;
 ";
 
 // Gives so many line feeds, made as they are read.
@@ -36,8 +38,14 @@ impl Source for LineFeeds {
 }
 
 // Whether so many line feeds are answered by that status and that note, and nothing is written.
-fn is_answered(alloc: Global, left: usize, status: &str, told: &str) -> Result<bool, Fail> {
-    let words = words_of(alloc, "verify --goal heads --bound 1/2 --precision 4", ' ')?;
+fn is_answered(
+    alloc: Global,
+    words: &str,
+    left: usize,
+    status: &str,
+    told: &str,
+) -> Result<bool, Fail> {
+    let words = words_of(alloc, words, ' ')?;
     let mut source = LineFeeds { left };
     let mut out = MemSink::new(alloc, 10, 1, Vec::new(alloc))?;
     let mut notes = MemSink::new(alloc, 100, 3, Vec::new(alloc))?;
@@ -46,19 +54,27 @@ fn is_answered(alloc: Global, left: usize, status: &str, told: &str) -> Result<b
     Ok(status_name(got) == status && out.taken().is_empty() && notes.taken() == told.as_slice())
 }
 
-// A row's cells; none where there are fewer, or the first isn't a number.
-fn limit_of(row: &str) -> Option<(usize, &str, &str)> {
+// A row's cells; none where there are fewer, or the second isn't a number.
+fn limit_of(row: &str) -> Option<(&str, usize, &str, &str)> {
     let mut cells = row.split(" | ");
-    Some((cells.next()?.parse().ok()?, cells.next()?, cells.next()?))
+    Some((
+        cells.next()?,
+        cells.next()?.parse().ok()?,
+        cells.next()?,
+        cells.next()?,
+    ))
 }
 
 #[test]
 fn a_text_has_at_most_2_to_the_26_bytes(rt: HostRuntime) -> Result<(), Fail> {
     for row in LIMITS.lines() {
-        let Some((left, status, told)) = limit_of(row) else {
+        let Some((words, left, status, told)) = limit_of(row) else {
             return Err(Fail::new("a row has too few cells"));
         };
-        assert!(rt; is_answered(rt.alloc(), left, status, told)?, "{row}");
+        assert!(rt;
+            is_answered(rt.alloc(), words, left, status, told)?,
+            "{row}"
+        );
     }
     Ok(())
 }

@@ -154,6 +154,7 @@ const TESTED: &str = "\
 2 | selftest 2 states 6 accept 0 reject 1 unknown 2;
 3 | selftest 3 states 8 accept 1 reject 0 unknown 0;
 1000 | selftest 1000 states 2002 accept 1 reject 0 unknown 0;
+32767 | selftest 32767 states 65536 accept 1 reject 0 unknown 0;
 ";
 
 // Whether the ladder of so many blocks is tested, with that line, and nothing is told.
