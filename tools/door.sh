@@ -57,7 +57,7 @@ refuse_plain_faults() {
         python3 "$top/tools/line.py" "$name" "$@" </dev/null
         [ $? -ne 2 ] || exit 2
     elif [ $# -eq 0 ]; then
-        printf '%s\n' 'usage: words' "hint: $0 --help shows the words" >&2
+        printf '%s\n' 'usage: words' >&2
         exit 2
     fi
 }
@@ -136,6 +136,8 @@ BLANK
         trap - HUP INT QUIT TERM
         kill -s "$ended_by" $$
     elif [ "$status" -ne 0 ] && command -v python3 >/dev/null 2>&1; then
+        # Python doesn't start where standard input is a folder.
+        [ ! -d /proc/self/fd/7 ] || exec 7</dev/null
         PLIFT_PROGRAM=$name PLIFT_NOTE=${note%"$newline"} python3 "$top/tools/hints.py" "$status" -- "$@" <&7 7<&- 8<&- || :
     fi
     exit "$status"

@@ -4,8 +4,9 @@
     tools/line.py plift WORDS..
     tools/line.py plift-view WORDS..
 
-Writes the note that the program writes (docs/FORMATS.md has the grammar) with hints behind it, and ends with 2;
-or writes nothing and ends with 0: whatever else may be at fault, the program tells.
+Writes the note that the program writes (docs/FORMATS.md has the grammar), at a terminal or with PLIFT_HINTS=1
+with hints behind it, and ends with 2; or writes nothing and ends with 0: whatever else may be at fault, the
+program tells.
 """
 
 import os
@@ -15,6 +16,10 @@ from pathlib import Path
 from typing import Dict, List, NamedTuple, Optional, Sequence, Tuple
 
 sys.dont_write_bytecode = True
+
+from hints.numbers import Wide, ratio  # noqa: E402
+from hints.options import FLAGS, VALUED, VIEWED  # noqa: E402
+
 TOOLS = Path(__file__).resolve().parent
 USAGE = 2
 
@@ -32,8 +37,8 @@ class Grammar(NamedTuple):
     takes_empty: bool = False
 
 
-VERIFY = Grammar(("--goal", "--bound", "--region", "--depth", "--precision"), needed=("--goal", "--bound"))
-VIEW = Grammar(("--x", "--y", "--at"), flags=("--summary", "--follow"), often=("--at",), takes_empty=True)
+VERIFY = Grammar(VALUED, needed=("--goal", "--bound"))
+VIEW = Grammar(VIEWED, flags=FLAGS, often=("--at",), takes_empty=True)
 # How many words stand behind a command that has no options.
 COUNTS = {"check": 0, "generate": 1, "selftest": 1}
 # Numbers: the greatest number of digits, and the range.
@@ -74,11 +79,7 @@ def is_number(value: str, name: str) -> bool:
 
 
 def is_bound(text: str) -> bool:
-    """Whether a value may be a bound: the module of hints that reads numbers decides, where it is there."""
-    try:
-        from hints.numbers import Wide, ratio
-    except ImportError:
-        return True
+    """Whether a value may be a bound."""
     try:
         value = ratio(text)
     except Wide:
@@ -119,15 +120,22 @@ def view_note(words: Sequence[str]) -> Optional[str]:
     return None if settings is not None and are_counts_right(VIEW, settings) else "usage: words"
 
 
+def wants_hints() -> bool:
+    """Whether hints are wanted: at a terminal, unless PLIFT_HINTS is 0, and elsewhere where it is 1."""
+    setting = os.environ.get("PLIFT_HINTS")
+    return setting == "1" or setting != "0" and sys.stderr.isatty()
+
+
 def hints_for(program: str, note: str, words: Sequence[str]) -> str:
-    """Returns the lines that tools/hints.py has for this note."""
+    """Returns the lines that tools/hints.py has for this note, or where help is found."""
     told = subprocess.run(
         [sys.executable, str(TOOLS / "hints.py"), str(USAGE), "--", *words],
         env={**os.environ, "PLIFT_PROGRAM": program, "PLIFT_NOTE": note},
         stdin=subprocess.DEVNULL, stdout=subprocess.DEVNULL, stderr=subprocess.PIPE,
     )
     text = told.stderr.decode(errors="replace")
-    return text if told.returncode == 0 and text.startswith("hint: ") else ""
+    is_hint = told.returncode == 0 and text.startswith("hint: ")
+    return text if is_hint else f"hint: ./{program} --help shows what may stand on the line\n"
 
 
 def is_text(word: str) -> bool:
@@ -142,12 +150,13 @@ def is_text(word: str) -> bool:
 def main(program: str, words: Sequence[str]) -> int:
     """Tells the fault of a line, if it has one that shows."""
     if not all(map(is_text, words)):
-        print("hint: a word of the line isn't UTF-8 text", file=sys.stderr)
+        if wants_hints():
+            print("hint: a word of the line isn't UTF-8 text", file=sys.stderr)
         return USAGE
     note = (plift_note if program == "plift" else view_note)(words)
     if note is None:
         return 0
-    hints = hints_for(program, note, words) or f"hint: ./{program} --help shows what may stand on the line\n"
+    hints = hints_for(program, note, words) if wants_hints() else ""
     print(f"{note}\n{hints}", file=sys.stderr, end="")
     return USAGE
 

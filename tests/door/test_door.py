@@ -71,7 +71,7 @@ class Answers(Door):
     def test_plain_faults_are_told_before_a_build(self):
         for line in ("plift", "plift verfy", "plift help me", "plift verify --goal x", "plift-view x", "plift --quick"):
             name, *words = line.split()
-            ran = self.run_door(*words, door=self.top / name)
+            ran = self.run_door(*words, door=self.top / name, environment={"PLIFT_HINTS": "1"})
             note, *hints = ran.stderr.decode().splitlines()
             self.assertEqual((ran.returncode, ran.stdout, note), (2, b"", "usage: words"), words)
             self.assertTrue(hints and all(hint.startswith("hint: ") for hint in hints), hints)
@@ -253,7 +253,7 @@ class Finds(Door):
     def test_without_python(self):
         alone = {"PATH": str(self.room / "nothing")}
         ran = self.run_door(environment=alone)
-        self.assertEqual((ran.returncode, ran.stderr[:19]), (2, b"usage: words\nhint: "))
+        self.assertEqual((ran.returncode, ran.stderr), (2, b"usage: words\n"))
         for words in (["check"], ["--quick", "check"]):
             ran = self.run_door(*words, environment=alone)
             self.assertEqual((ran.returncode, ran.stdout), (70, b""))
@@ -283,7 +283,7 @@ class Finds(Door):
     def test_quick(self):
         (self.top / "tools/quick.py").write_text(QUICK)
         ran = self.run_door("--quick", "check", "--quick", environment={"STATUS": "1"})
-        self.assertEqual((ran.returncode, ran.stderr[:14]), (2, b"usage: words\nh"))
+        self.assertEqual((ran.returncode, ran.stderr), (2, b"usage: words\n"))
         ran = self.run_door("--quick", "check", environment={"STATUS": "1"})
         self.assertEqual((ran.returncode, ran.stdout, ran.stderr), (1, b"<check>\n", b"quick: built\n"))
         ran = self.run_door("--quick", "check", environment={"STATUS": "1"})

@@ -1,5 +1,6 @@
 """What tools/line.py refuses, it refuses as the program does."""
 
+import os
 import random
 import subprocess
 import unittest
@@ -59,17 +60,28 @@ class Line(unittest.TestCase):
         for words, is_fault in VIEW.items():
             self.assertEqual(line.view_note(words.split()), "usage: words" if is_fault else None, words)
 
+    def told(self, word, hints):
+        """What is told of a word, where hints are asked for or not."""
+        words = ["python3", TOP / "tools/line.py", "plift", word]
+        return subprocess.run(words, env={**os.environ, "PLIFT_HINTS": hints}, capture_output=True)
+
     def test_note_and_hint(self):
-        ran = subprocess.run(["python3", TOP / "tools/line.py", "plift", "verfy"], capture_output=True, text=True)
-        self.assertEqual((ran.returncode, ran.stdout), (2, ""))
+        ran = self.told("verfy", "1")
+        self.assertEqual((ran.returncode, ran.stdout), (2, b""))
         note, *hints = ran.stderr.splitlines()
-        self.assertEqual(note, "usage: words")
-        self.assertTrue(hints and all(it.startswith("hint: ") for it in hints), hints)
+        self.assertEqual(note, b"usage: words")
+        self.assertTrue(hints and all(it.startswith(b"hint: ") for it in hints), hints)
+
+    def test_note_alone_where_no_hints_are_wanted(self):
+        for hints in ("", "0"):
+            ran = self.told("verfy", hints)
+            self.assertEqual((ran.returncode, ran.stdout, ran.stderr), (2, b"", b"usage: words\n"))
 
     def test_word_that_is_no_text_has_no_note(self):
-        ran = subprocess.run(["python3", TOP / "tools/line.py", "plift", b"\xff"], capture_output=True)
+        ran = self.told(b"\xff", "1")
         self.assertEqual(ran.returncode, 2)
         self.assertTrue(ran.stderr.startswith(b"hint: "), ran.stderr)
+        self.assertEqual(self.told(b"\xff", "0").stderr, b"")
 
 
 class AgainstTheProgram(unittest.TestCase):
@@ -87,7 +99,7 @@ class AgainstTheProgram(unittest.TestCase):
         for _ in range(400):
             words = front(chance) + [chance.choice(WORDS) for _ in range(chance.randrange(5))]
             note = note_of(words)
-            if note is None and (words[:1] in (["generate"], ["selftest"]) or "--" in words or not hints_are_there()):
+            if note is None and (words[:1] in (["generate"], ["selftest"]) or "--" in words):
                 continue
             self.assertEqual(note, self.asked(program, words), words)
 
@@ -97,10 +109,6 @@ class AgainstTheProgram(unittest.TestCase):
 
     def test_view(self):
         self.compare("plift-view", lambda chance: [], line.view_note)
-
-
-def hints_are_there():
-    return (TOP / "tools/hints/numbers.py").is_file()
 
 
 if __name__ == "__main__":
