@@ -1,0 +1,120 @@
+"""The library: what the commands do, for notebooks and scripts.
+
+    from plift_lab import verify, bounds, threshold, read, Report
+"""
+
+from __future__ import annotations
+
+from dataclasses import dataclass, replace
+from fractions import Fraction
+from pathlib import Path
+from typing import Optional, Union
+
+from .cover import cover
+from .edge import Edge, find_edge
+from .evidence import read_file
+from .faults import Fault
+from .models import Model
+from .regions import Region
+from .report import UNKNOWN, Report
+from .search import Limits, Search, Side
+from .session import Question, Session
+from .values import exact, near, percent, read_bound, read_number, read_share
+
+Number = Union[str, int, Fraction]
+Source = Union[str, Path, bytes]
+
+
+@dataclass(frozen=True)
+class Bounds:
+    """Supremum and infimum of a probability over a region."""
+    sup: Side
+    inf: Side
+    precision: int
+    calls: int
+
+
+def find_bounds(session: Session, model: Model, goal: str, region: Region, precision: Optional[int],
+                width: Optional[Fraction], calls: int) -> Bounds:
+    """Asks for numbers over rectangles until both sides are known to the width."""
+    question = Question(model, goal, Fraction(1), region, 0, precision)
+    first = session.ask(question)
+    bits = first.precision
+
+    def ask(part: Region, bound: Fraction) -> Report:
+        return session.ask(replace(question, region=part, bound=bound))
+
+    def tell(name: str, least: Fraction, most: Fraction, done: int) -> None:
+        session.progress.say('%s between %s and %s after %d questions' % (name, near(least), near(most), done))
+
+    live = [name for name in first.live if name in region.names]
+    sides = [Search(ask, is_sup, region, live, Limits(width, calls), tell, session.evidence.forget) for is_sup in (True, False)]
+    sup, inf = (side.run() for side in sides)
+    return Bounds(sup, inf, bits, sum(side.calls for side in sides))
+
+
+def find_threshold(session: Session, question: Question, parameter: str, width: Optional[Fraction],
+                   is_greatest: bool) -> Edge:
+    """The edge of what is accepted, along one parameter."""
+    question.region.fit(question.model.parameters)
+    low, high = question.region[parameter]
+
+    def tell(good: Fraction, bad: Fraction) -> None:
+        session.progress.say('%s between %s and %s' % (parameter, near(good), near(bad)))
+
+    return find_edge(session, question, parameter, width or (high - low) / 1000, is_greatest, tell)
+
+
+def find_verdict(session: Session, question: Question, share: Optional[Fraction]) -> Report:
+    """The report of a question, or of one as deep as it takes to decide a share."""
+    def tell(report: Report) -> None:
+        session.progress.say('%s is decided at depth %d' % (percent(1 - report.shares[UNKNOWN]), report.depth))
+
+    return session.ask(question) if share is None else cover(session, question, share, tell)
+
+
+def _model(source: Source) -> Model:
+    return Model(source if isinstance(source, bytes) else read_file(str(source)))
+
+
+def _number(value: Number) -> Fraction:
+    if isinstance(value, float):
+        raise Fault('%r is a float, which isn\'t exact: write it as a text, as 0.1 or 1/10' % value)
+    return read_number(value) if isinstance(value, str) else Fraction(value)
+
+
+def _region(region: Union[str, Region]) -> Region:
+    return region if isinstance(region, Region) else Region.read(region)
+
+
+def verify(model: Source, goal: str, bound: Number, region: Union[str, Region] = '', depth: int = 0,
+           precision: Optional[int] = None, relative: bool = False, coverage: Optional[Number] = None,
+           keep: Optional[str] = None) -> Report:
+    """The report that answers whether the goal is reached with at most the bound, all over the region."""
+    question = Question(_model(model), goal, read_bound(exact(_number(bound))), _region(region), depth, precision, relative)
+    share = None if coverage is None else read_share(coverage if isinstance(coverage, str) else exact(_number(coverage)))
+    with Session(keep) as session:
+        return find_verdict(session, question, share)
+
+
+def bounds(model: Source, goal: str, region: Union[str, Region] = '', width: Optional[Number] = None,
+           precision: Optional[int] = None, calls: int = 1000, keep: Optional[str] = None) -> Bounds:
+    """Supremum and infimum over the region, to a width if one is given."""
+    with Session(keep) as session:
+        return find_bounds(session, _model(model), goal, _region(region), precision,
+                           None if width is None else _number(width), calls)
+
+
+def threshold(model: Source, goal: str, bound: Number, parameter: str, region: Union[str, Region],
+              width: Optional[Number] = None, least: bool = False, depth: int = 8, precision: Optional[int] = None,
+              relative: bool = False, keep: Optional[str] = None) -> Edge:
+    """Up to which value of a parameter the rest of the region is accepted."""
+    question = Question(_model(model), goal, read_bound(exact(_number(bound))), _region(region), depth, precision, relative)
+    with Session(keep) as session:
+        return find_threshold(session, question, parameter, None if width is None else _number(width), not least)
+
+
+def read(report: Union[str, Path]) -> Report:
+    """A report from a file, once `plift check` has called it sound."""
+    with Session() as session:
+        return session.read(str(report))

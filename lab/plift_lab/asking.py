@@ -1,0 +1,76 @@
+"""Words that several commands take, and how an answer names what stands behind it."""
+
+from __future__ import annotations
+
+import argparse
+import json
+import sys
+from typing import Any, Dict, Iterable, List
+
+from .evidence import read_file
+from .models import Model
+from .regions import Region
+from .report import Report
+from .session import MOST_BITS, Session
+from .values import read_count
+
+
+def add_model(words: argparse.ArgumentParser) -> None:
+    """The model, the goal and the region."""
+    words.add_argument('model', metavar='MODEL', help='a file with a model text; - for standard input')
+    words.add_argument('--goal', required=True, metavar='LABEL', help='the label of the states to be reached')
+    words.add_argument('--region', default='', metavar='R',
+                       help='an interval for each parameter: 1/10<=p<=3/10,0<=q<=1 or p=1/10..3/10,q=0..1; '
+                            'p=1/10 writes a value into the model')
+    words.add_argument('--precision', metavar='W', help='bits of a certificate\'s numbers, 1 to 40; if left out 40, '
+                                                        'or as many as the rows leave room for')
+
+
+def add_session(words: argparse.ArgumentParser) -> None:
+    """Where reports are kept, and what is told meanwhile."""
+    words.add_argument('--keep', metavar='FOLDER', help='keeps the reports behind the answer in a folder; the same words '
+                                                        'with the same folder go on where they stopped')
+    words.add_argument('--progress', action='store_true', help='tells how far it is also where standard error is no terminal')
+    words.add_argument('--quiet', action='store_true', help='tells no progress')
+    words.add_argument('--json', action='store_true', help='writes the answer as JSON')
+
+
+def session(given: argparse.Namespace) -> Session:
+    """The session that the words ask for."""
+    return Session(given.keep, is_told=not given.quiet and (given.progress or sys.stderr.isatty()))
+
+
+def model_of(given: argparse.Namespace) -> Model:
+    """The model that the words name."""
+    return Model(read_file(given.model))
+
+
+def region_of(given: argparse.Namespace) -> Region:
+    """The region that the words name."""
+    return Region.read(given.region)
+
+
+def precision_of(given: argparse.Namespace):
+    """The precision that was asked for, if any."""
+    return read_count(given.precision, '--precision', 1, MOST_BITS) if given.precision else None
+
+
+def behind(report: Report) -> Dict[str, Any]:
+    """A report as evidence, for JSON."""
+    return {'report': report.path, 'check': report.soundness, 'question': report.question, 'region': report.region.text,
+            'depth': report.depth, 'precision': report.precision, 'words': report.origin.get('words', [])}
+
+
+def behind_lines(reports: Iterable[Report], asked: Session) -> List[str]:
+    """The reports behind an answer, for people."""
+    if asked.evidence.is_kept:
+        lines = ['  %s: %s' % (report.path, report.soundness) for report in reports]
+    else:
+        lines = ['  %s' % report.soundness for report in reports]
+        lines.append('  (kept nowhere: --keep FOLDER keeps what stands behind the answer)')
+    return lines + ['  judged by %s' % asked.program.judge]
+
+
+def put_json(answer: Any) -> None:
+    """An answer as JSON."""
+    sys.stdout.write(json.dumps(answer, indent=1) + '\n')

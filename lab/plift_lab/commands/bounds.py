@@ -1,0 +1,94 @@
+"""Least upper and greatest lower bound of a probability over a region.
+
+Two numbers: no scheduler reaches the goal with more than the upper one, at no valuation inside the region; and at each
+some scheduler reaches it with the lower one or more. With --width the region is split where it helps, until supremum
+and infimum (of what the best choices reach) are known to that width, or the calls are used up (status 1).
+
+    plift-lab bounds examples/retry.drn --goal lost --region p=1/10..3/10,q=1/20..1/5 --width 1/1000
+"""
+
+from __future__ import annotations
+
+import argparse
+from typing import Any, Dict, List
+
+from .. import asking
+from ..api import Bounds, find_bounds
+from ..brackets import End
+from ..faults import DONE, SHORT, Fault
+from ..search import Side
+from ..session import Session
+from ..values import above, below, exact, read_count, read_number
+
+def add_words(words: argparse.ArgumentParser) -> None:
+    """The words of the command."""
+    asking.add_model(words)
+    words.add_argument('--width', metavar='E', help='splits the region until both are known to this width')
+    words.add_argument('--calls', default='1000', metavar='N', help='at most so many questions; 1000 if left out')
+    words.add_argument('--list', action='store_true', help='tells all rectangles, not only those that decide')
+    asking.add_session(words)
+
+
+def run(given: argparse.Namespace) -> int:
+    """Does it."""
+    width = read_number(given.width) if given.width else None
+    if width is not None and width <= 0:
+        raise Fault('--width is a number above 0, and not %s' % given.width)
+    calls = read_count(given.calls, '--calls', 2, 10 ** 6)
+    with asking.session(given) as session:
+        found = find_bounds(session, asking.model_of(given), given.goal, asking.region_of(given),
+                            asking.precision_of(given), width, calls)
+        session.progress.clear()
+        if given.json:
+            asking.put_json(_data(found, session))
+        else:
+            print('\n'.join(_lines(found, given.goal, width is not None, given.list, session)))
+    return SHORT if found.sup.is_short or found.inf.is_short else DONE
+
+
+def _lines(found: Bounds, goal: str, is_split: bool, is_listed: bool, session: Session) -> List[str]:
+    if is_split:
+        lines = [line for side in (found.sup, found.inf) for line in _side_lines(side, found, session, is_listed)]
+    else:
+        (_, upper), (_, lower) = found.sup.critical, found.inf.critical
+        lines = ['at most %s: no scheduler reaches %s with more, anywhere in the region' % (above(upper.value, 9), goal),
+                 '  %s%s' % (exact(upper.value), _file(upper, session)),
+                 'at least %s: some scheduler reaches it with so much, everywhere in the region' % below(lower.value, 9),
+                 '  %s%s' % (exact(lower.value), _file(lower, session))]
+    lines.append('%d bits; judged by %s' % (found.precision, session.program.judge))
+    if not session.evidence.is_kept:
+        lines.append('(kept nowhere: --keep FOLDER keeps the reports behind the answer)')
+    return lines
+
+
+def _file(end: End, session: Session) -> str:
+    return ' (%s)' % end.path if session.evidence.is_kept else ''
+
+
+def _side_lines(side: Side, found: Bounds, session: Session, is_listed: bool) -> List[str]:
+    further, reached = ('at most', 'at least') if side.name == 'sup' else ('at least', 'at most')
+    lines = ['%s between %s and %s' % (side.name, below(side.least, 9), above(side.most, 9))]
+    rows = [(reached, *side.witness)]
+    rows += [(further, region, end) for region, end in (side.cover if is_listed else [side.critical])]
+    for what, region, end in rows:
+        where = ' for %s' % region.text.strip() if region.text else ''
+        lines.append('  %s %s%s%s' % (what, exact(end.value), where, _file(end, session)))
+    others = len(side.cover) - 1
+    if others and not is_listed:
+        lines.append('  and no %s in %d other rectangle%s' % ('more' if side.name == 'sup' else 'less', others, 's' * (others > 1)))
+    if side.is_short:
+        lines.append('  stopped before the width was reached, after %d questions' % found.calls)
+    return lines
+
+
+def _data(found: Bounds, session: Session) -> Dict[str, Any]:
+    def row(part: Any, end: Any) -> Dict[str, Any]:
+        return {'region': part.text.strip(), 'value': exact(end.value), 'check': end.soundness,
+                'report': end.path if session.evidence.is_kept else None}
+
+    def side(one: Side) -> Dict[str, Any]:
+        return {'least': exact(one.least), 'most': exact(one.most), 'short': one.is_short, 'witness': row(*one.witness),
+                'cover': [row(part, end) for part, end in one.cover]}
+
+    return {'sup': side(found.sup), 'inf': side(found.inf), 'precision': found.precision, 'questions': found.calls,
+            'program': str(session.program.path)}

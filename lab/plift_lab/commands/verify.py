@@ -1,0 +1,78 @@
+"""Whether a bound holds over a region, for one bound or several.
+
+Asks what `plift verify` asks, with the model's file as a word, tells the verdict with its shares, and keeps the report
+where --report or --keep says. With --coverage the depth grows until so much of the region is decided.
+
+    plift-lab verify examples/retry.drn --goal lost --bound 1/40 --bound 1/20 --region p=1/10..1/2,q=1/10..1/2 --depth 4
+"""
+
+from __future__ import annotations
+
+import argparse
+import sys
+from fractions import Fraction
+from pathlib import Path
+
+from .. import asking
+from ..api import find_verdict
+from ..evidence import read_file, write_file
+from ..faults import DONE, SHORT, Fault
+from ..report import UNKNOWN
+from ..session import MOST_DEPTH, Question
+from ..values import percent, read_bound, read_count, read_share
+
+
+def add_words(words: argparse.ArgumentParser) -> None:
+    """The words of the command."""
+    asking.add_model(words)
+    words.add_argument('--bound', required=True, action='append', metavar='B', help='the bound; as often as there are bounds')
+    words.add_argument('--depth', default='0', metavar='H', help='how often the region may be halved; 0 if left out')
+    words.add_argument('--relative', action='store_true',
+                       help='rescales each parameter to its interval, so that sides are compared by what they are of it')
+    words.add_argument('--coverage', metavar='SHARE', help='goes deeper until so much is decided, as 95%%')
+    words.add_argument('--report', metavar='FILE', help='writes the report of a single bound there; - for standard output')
+    asking.add_session(words)
+
+
+def run(given: argparse.Namespace) -> int:
+    """Does it."""
+    share = read_share(given.coverage) if given.coverage else None
+    if given.report and len(given.bound) > 1:
+        raise Fault('--report takes the report of one bound; --keep FOLDER keeps those of several')
+    bounds, depth = [read_bound(bound) for bound in given.bound], read_count(given.depth, '--depth', 0, MOST_DEPTH)
+    model, region, precision = asking.model_of(given), asking.region_of(given), asking.precision_of(given)
+    told = sys.stderr if given.report == '-' else sys.stdout
+    status, answers = DONE, []
+    with asking.session(given) as session:
+        for bound in bounds:
+            question = Question(model, given.goal, bound, region, depth, precision, given.relative)
+            report = find_verdict(session, question, share)
+            session.progress.clear()
+            if share is not None and report.shares[UNKNOWN] > 1 - share:
+                status = SHORT
+            if given.report:
+                _put(given.report, report)
+            if given.json:
+                answers.append({'verdict': report.verdict, 'bound': str(bound), 'behind': asking.behind(report),
+                                'shares': {kind: str(part) for kind, part in report.shares.items()}})
+                continue
+            told.write(report.verdict_line + '\n')
+            if share is not None:
+                told.write('  decided: %s at depth %d, and %s was asked\n'
+                           % (percent(1 - report.shares[UNKNOWN]), report.depth, percent(Fraction(share))))
+            told.write('\n'.join(asking.behind_lines([report], session)) + '\n')
+        if given.json:
+            told.write(asking.json.dumps(answers, indent=1) + '\n')
+    return status
+
+
+def _put(name: str, report) -> None:
+    """Writes a report where the user wants it, and beside a file how it came to be."""
+    if name == '-':
+        sys.stdout.buffer.write(report.data)
+        sys.stdout.buffer.flush()
+        return
+    path = Path(name)
+    write_file(path, report.data)
+    write_file(path.with_name(path.name + '.json'), read_file(report.path + '.json'))
+    report.path = name

@@ -1,0 +1,3 @@
+"""A page."""
+def add_words(words): words.add_argument('report')
+def run(given): return 0

@@ -1,0 +1,139 @@
+"""The folder of the reports that stand behind an answer.
+
+Each report `N.report` has a file `N.report.json` beside it that tells how it came to be: the words, the model's file,
+what its own numbers mean in the user's, and the report's hash. A job whose report is there already isn't run again.
+"""
+
+from __future__ import annotations
+
+import hashlib
+import json
+import os
+import shutil
+import tempfile
+from fractions import Fraction
+from pathlib import Path
+from typing import Any, Dict, List, Optional
+
+from .faults import Fault
+from .models import Scale
+from .values import exact, read_number
+
+MARK = 'plift-lab.json'
+MOST_BYTES = 2 ** 26
+
+
+def read_file(name: str) -> bytes:
+    """A file's bytes, or standard input's for `-`; one byte more than plift takes at most."""
+    try:
+        if name == '-':
+            import sys
+            return sys.stdin.buffer.read(MOST_BYTES + 1)
+        with open(name, 'rb') as source:
+            return source.read(MOST_BYTES + 1)
+    except (OSError, ValueError) as fault:
+        raise Fault('%s can\'t be read: %s' % (name or 'a file without a name', getattr(fault, 'strerror', None) or fault)) from None
+
+
+def write_file(path: Path, data: bytes) -> None:
+    """Writes a file as a whole: what stands there before is replaced at once, or stays."""
+    part = path.with_name(path.name + '.part')
+    try:
+        part.write_bytes(data)
+        os.replace(str(part), str(path))
+    except OSError as fault:
+        raise Fault('%s can\'t be written: %s' % (path, fault.strerror or fault)) from None
+
+
+def digest(data: bytes) -> str:
+    """A hash that names these bytes."""
+    return hashlib.sha256(data).hexdigest()
+
+
+def read_origin(path: Path, report: bytes) -> Dict[str, Any]:
+    """What the file beside a report tells of it: nothing where there is none, or it is of another report."""
+    beside = path.with_name(path.name + '.json')
+    if not beside.is_file():
+        return {}
+    try:
+        told = json.loads(beside.read_text('utf-8'))
+        if told.get('sha256') != digest(report):
+            return {}
+        scale = {str(name): (read_number(low), read_number(high)) for name, (low, high) in told['scale'].items()}
+        fixed = {str(name): read_number(value) for name, value in told['fixed'].items()}
+        if any(low >= high for low, high in scale.values()):
+            raise ValueError('an empty interval')
+        return {'goal': str(told['goal']), 'scale': scale, 'fixed': fixed, 'words': told['words'], 'model': told['model']}
+    except (Fault, OSError, ValueError, KeyError, TypeError, AttributeError, RecursionError) as fault:
+        raise Fault('%s isn\'t in the form that plift-lab writes (%s); move it away to read the report by itself'
+                    % (beside, fault)) from None
+
+
+class Evidence:
+    """A folder that the user named, or one that is gone at the end."""
+
+    def __init__(self, named: Optional[str] = None) -> None:
+        self.is_kept = named is not None
+        self.folder = Path(named) if named is not None else Path(tempfile.mkdtemp(prefix='plift-lab.'))
+        self._jobs: Dict[str, str] = {}
+        self._count = 0
+        if self.is_kept:
+            self._open()
+
+    def _open(self) -> None:
+        try:
+            self.folder.mkdir(parents=True, exist_ok=True)
+            names = sorted(entry.name for entry in self.folder.iterdir())
+            if names and MARK not in names:
+                raise Fault('the folder %s holds other files: name one that is empty or new' % self.folder)
+            (self.folder / MARK).write_text('{"what": "reports behind answers of plift-lab"}\n')
+        except OSError as fault:
+            raise Fault('the folder %s can\'t be used: %s' % (self.folder, fault.strerror or fault)) from None
+        for name in names:
+            number = name[:-len('.report')]
+            if name.endswith('.report') and number.isdigit():
+                self._count = max(self._count, int(number))
+                try:
+                    self._jobs[json.loads((self.folder / (name + '.json')).read_text('utf-8'))['job']] = name
+                except (OSError, ValueError, KeyError, TypeError):
+                    continue
+
+    def model_file(self, text: bytes) -> Path:
+        """A file with a model's text."""
+        path = self.folder / ('model-%s.drn' % digest(text)[:10])
+        if not path.is_file() or path.read_bytes() != text:
+            write_file(path, text)
+        return path
+
+    def find(self, job: str) -> Optional[Path]:
+        """The report of a job that was done before."""
+        name = self._jobs.get(job)
+        return self.folder / name if name and (self.folder / name).is_file() else None
+
+    def next_report(self) -> Path:
+        """Where the next report belongs."""
+        self._count += 1
+        return self.folder / ('%d.report' % self._count)
+
+    def note(self, path: Path, job: str, report: bytes, words: List[str], model: Path, goal: str, scale: Scale,
+             fixed: Dict[str, Fraction], soundness: str) -> None:
+        """Tells of a report how it came to be."""
+        told = {'job': job, 'sha256': digest(report), 'check': soundness, 'words': words, 'model': model.name, 'goal': goal,
+                'scale': {name: [exact(low), exact(high)] for name, (low, high) in scale.items()},
+                'fixed': {name: exact(value) for name, value in fixed.items()}}
+        lines = ',\n'.join('%s: %s' % (json.dumps(name), json.dumps(value)) for name, value in told.items())
+        write_file(path.with_name(path.name + '.json'), ('{\n%s\n}\n' % lines).encode())
+        self._jobs[job] = path.name
+
+    def forget(self, path: str) -> None:
+        """Removes a report that is needed no longer, unless the folder is kept."""
+        if not self.is_kept:
+            for name in (path, path + '.json'):
+                if os.path.exists(name):
+                    os.unlink(name)
+            self._jobs = {job: name for job, name in self._jobs.items() if name != Path(path).name}
+
+    def close(self) -> None:
+        """Removes a folder that nobody asked to keep."""
+        if not self.is_kept:
+            shutil.rmtree(str(self.folder), ignore_errors=True)

@@ -1,0 +1,29 @@
+"""What ends a command before its answer: one line for a person, and a status."""
+
+from __future__ import annotations
+
+from typing import List
+
+DONE, SHORT, WRONG, LOST, INTERRUPTED = 0, 1, 2, 70, 130
+"""Statuses: done; stopped short of what was asked; wrong words or files; no program to ask; interrupted."""
+
+
+class Fault(Exception):
+    """Why a command can't go on, told in one line."""
+
+    def __init__(self, text: str, status: int = WRONG) -> None:
+        super().__init__(text)
+        self.status = status
+
+
+class Refused(Fault):
+    """What plift refused: its status and its note, its words, and the text that it read."""
+
+    def __init__(self, status: int, note: str, words: List[str], text: bytes) -> None:
+        self.plift_status, self.note, self.words, self.text = status, note, words, text
+        if status in (1, 2, 3, 4, 7):
+            super().__init__('plift refuses this: %s' % (note or 'without a note'))
+        elif status < 0:
+            super().__init__('plift was stopped by signal %d' % -status, LOST)
+        else:
+            super().__init__('plift ended with status %d: %s' % (status, note or 'without a note'), LOST)

@@ -1,0 +1,84 @@
+"""Model texts: which parameters they declare, and the same model in other parameters.
+
+A text is changed only inside values, so lines, states and choices keep their numbers. Whether it stands for a model
+at all is for plift to say.
+"""
+
+from __future__ import annotations
+
+import re
+from dataclasses import dataclass
+from fractions import Fraction
+from typing import Callable, Dict, Iterator, List, Tuple
+
+from .regions import Region
+from .values import exact
+
+SYMBOL = re.compile(rb'[0-9]+(?:\.[0-9]+)?(?:[eE][+-]?[0-9]+)?|[A-Za-z_][A-Za-z0-9_]*')
+VALUED = re.compile(rb'([ \t]*(?:[0-9]+|\$[A-Za-z0-9_]+)[ \t]*:)(.*)', re.S)
+Scale = Dict[str, Tuple[Fraction, Fraction]]
+"""For each parameter p of a rescaled model the ends between which low + (high - low) p runs."""
+
+
+def _lines(text: bytes) -> Iterator[Tuple[str, bytes]]:
+    """Each line, with what it is: of the parameters' names, with a value behind a colon, or anything else."""
+    section, is_list = b'', False
+    for line in text.split(b'\n'):
+        bare = line.strip(b' \t\r')
+        if bare.startswith(b'//'):
+            yield 'other', line
+        elif bare.startswith(b'@'):
+            section, is_list = bare, bare == b'@parameters'
+            yield 'other', line
+        elif is_list:
+            is_list = False
+            yield 'names', line
+        elif section in (b'@model', b'@placeholders') and VALUED.match(line):
+            yield 'value', line
+        else:
+            yield 'other', line
+
+
+@dataclass(frozen=True)
+class Model:
+    """A model text."""
+    text: bytes
+
+    @property
+    def parameters(self) -> List[str]:
+        """The names that it declares."""
+        for what, line in _lines(self.text):
+            if what == 'names':
+                return [name.decode('ascii', 'replace') for name in line.split()]
+        return []
+
+    def _changed(self, terms: Dict[bytes, bytes], is_kept: Callable[[bytes], bool]) -> 'Model':
+        def value(line: bytes) -> bytes:
+            parts = VALUED.match(line)
+            if not parts or parts.group(2).lstrip(b' \t').startswith(b'$'):
+                return line
+            return parts.group(1) + SYMBOL.sub(lambda found: terms.get(found.group(), found.group()), parts.group(2))
+
+        changed = []
+        for what, line in _lines(self.text):
+            if what == 'names':
+                line = b' '.join(name for name in line.split() if is_kept(name))
+            changed.append(value(line) if what == 'value' else line)
+        return Model(b'\n'.join(changed))
+
+    def fixed(self, region: Region) -> 'Model':
+        """With the values of the region's fixed parameters written in."""
+        if not region.fixed:
+            return self
+        terms = {name.encode(): b'(%s)' % exact(value).encode() for name, value in region.fixed}
+        return self._changed(terms, lambda name: name not in terms)
+
+    def rescaled(self, region: Region) -> Tuple['Model', Region, Scale]:
+        """Each parameter p of the region written as low + (high - low) p, with p from 0 to 1, exactly."""
+        terms, scale = {}, {}
+        for name, low, high in region.intervals:
+            term = '%s*%s' % (exact(high - low), name)
+            terms[name.encode()] = b'(%s)' % (term if low == 0 else '%s+%s' % (exact(low), term)).encode()
+            scale[name] = low, high
+        units = tuple((name, Fraction(0), Fraction(1)) for name in region.names)
+        return self._changed(terms, lambda name: True), Region(units, region.fixed), scale

@@ -1,0 +1,244 @@
+"""Reports as data: the question in the head, and the leaves of the tree.
+
+This reads; it doesn't judge. A report is given to it once `plift check` has called it sound.
+"""
+
+from __future__ import annotations
+
+import re
+from collections import Counter
+from dataclasses import dataclass, field
+from fractions import Fraction
+from typing import Any, Dict, Iterator, List, Optional, Tuple
+
+from .faults import Fault
+from .models import Scale
+from .regions import Interval, Region
+from .values import percent
+
+ACCEPT, REJECT, UNKNOWN = 'accept', 'reject', 'unknown'
+KINDS = (ACCEPT, REJECT, UNKNOWN)
+PAST = {ACCEPT: 'accepted', REJECT: 'rejected', UNKNOWN: 'unknown'}
+
+
+@dataclass(frozen=True)
+class Leaf:
+    """A rectangle that wasn't halved further, and what is said of it."""
+    report: 'Report' = field(repr=False)
+    number: int
+    kind: str
+    depth: int
+    ends: Tuple[int, ...]
+    value: Optional[Fraction]
+    """Of the initial state: no more is reached where it is accepted, no less where it is rejected."""
+    scheduler: Optional[int]
+    """Its place in the report's list of schedulers; only of a rejecting leaf."""
+
+    @property
+    def rectangle(self) -> Dict[str, Interval]:
+        """An interval for each parameter, in the user's own numbers."""
+        return {name: (self.report.user(name, low), self.report.user(name, high))
+                for name, (low, high) in self.own_rectangle.items()}
+
+    @property
+    def own_rectangle(self) -> Dict[str, Interval]:
+        """An interval for each parameter of the report's model, which may be a rescaled one."""
+        ends = [Fraction(end, self.report.grid) for end in self.ends]
+        return dict(zip(self.report.parameters, zip(ends[::2], ends[1::2])))
+
+    @property
+    def precision(self) -> int:
+        """Its certificate's numbers are over 2 to this power."""
+        return self.report.precision
+
+    @property
+    def share(self) -> Fraction:
+        """Of the whole region's volume."""
+        return Fraction(1, 2 ** self.depth)
+
+
+class Report:
+    """A sound report. `origin` is what is known of how it came to be (the goal's label, a rescaling, a file)."""
+
+    def __init__(self, data: bytes, soundness: str, origin: Optional[Dict[str, Any]] = None, path: str = '') -> None:
+        self.data, self.soundness, self.path = data, soundness, path
+        self.origin = origin or {}
+        try:
+            self._read_head()
+            self._read_tree()
+        except (ValueError, IndexError, KeyError, AttributeError):
+            raise Fault('%s was called sound, but it isn\'t in a form that is known here' % (path or 'the report')) from None
+
+    def _read_head(self) -> None:
+        box = re.search(rb'^box(.*)$', self.data, re.M)
+        head = self.data[:box.start()].decode('ascii')
+        self._model_begin = head.index('\nrow ') + 1
+        self._model_end = head.index('\nbound ') + 1
+        lines = dict(line.partition(' ')[::2] for line in (head[:self._model_begin] + head[self._model_end:]).splitlines())
+        if lines['plift'] != '1':
+            raise Fault('a report of version %s isn\'t read here; this reads version 1' % lines['plift'])
+        self.kind, self.parameters = lines['kind'], lines['parameters'].split()[1:]
+        self.common, self.states, self.init = int(lines['common']), int(lines['states']), int(lines['init'])
+        self.goals = [int(word) for word in lines['goal'].split()[1:]]
+        self.bound, self.precision = Fraction(lines['bound']), int(lines['precision'])
+        self.depth, self.grid = int(lines['depth']), int(lines['grid'])
+        self.box = tuple(int(word) for word in box.group(1).split())
+        sets = {int(word) for word in re.findall(r' ([0-9]+):', head[self._model_begin:self._model_end])}
+        self.live = [name for i, name in enumerate(self.parameters) if any(one >> i & 1 for one in sets)]
+        self._tree_begin = box.end() + 1
+
+    def _read_tree(self) -> None:
+        """Notes the nodes in their order: for a split its axis, for a leaf its kind, number and scheduler."""
+        self.nodes: List[Any] = []
+        self.values: List[Optional[int]] = []
+        self._picks: List[Optional[int]] = []
+        self._schedulers: Dict[bytes, int] = {}
+        start, end, line = self._tree_begin, len(self.data), b''
+        while start < end:
+            stop = self.data.index(b'\n', start)
+            line = self.data[start:stop]
+            key = line[:6]
+            if key == b'split ':
+                self.nodes.append(int(line[6:]))
+            elif key == b'unknow':
+                self._add(UNKNOWN, None, None)
+            elif key == b'accept':
+                self._add(ACCEPT, int(line.split(b' ', self.init + 2)[self.init + 1]), None)
+            else:
+                number = int(line.rpartition(b' ')[2].partition(b'/')[0])
+                stop = self.data.index(b'\n', stop + 1)
+                rank = self.data.index(b'\n', stop + 1)
+                choices = self.data[stop + 8:rank]
+                self._add(REJECT, number, self._schedulers.setdefault(choices, len(self._schedulers)))
+                stop = self.data.index(b'\n', rank + 1)
+            start = stop + 1
+
+    def _add(self, kind: str, value: Optional[int], pick: Optional[int]) -> None:
+        self.nodes.append(kind)
+        self.values.append(value)
+        self._picks.append(pick)
+
+    @property
+    def scale(self) -> Scale:
+        """For each parameter that was rescaled, the user's own ends."""
+        return self.origin.get('scale', {})
+
+    @property
+    def fixed(self) -> Dict[str, Fraction]:
+        """Values that were written into the model."""
+        return self.origin.get('fixed', {})
+
+    @property
+    def goal(self) -> str:
+        """The label that was asked for; a report doesn't hold it."""
+        return self.origin.get('goal', 'goal')
+
+    @property
+    def question(self) -> str:
+        """What was asked, as a line."""
+        return 'P( reach %s ) <= %s' % (self.goal, self.bound)
+
+    def user(self, name: str, value: Fraction) -> Fraction:
+        """A parameter's value in the user's own numbers."""
+        low, high = self.scale.get(name, (Fraction(0), Fraction(1)))
+        return low + (high - low) * value
+
+    def own(self, name: str, value: Fraction) -> Fraction:
+        """The other way: in the report's numbers."""
+        low, high = self.scale.get(name, (Fraction(0), Fraction(1)))
+        return (value - low) / (high - low)
+
+    @property
+    def region(self) -> Region:
+        """The whole region, in the user's own numbers."""
+        ends = [Fraction(end, self.grid) for end in self.box]
+        return Region(tuple((name, self.user(name, low), self.user(name, high))
+                            for name, low, high in zip(self.parameters, ends[::2], ends[1::2])),
+                      tuple(sorted(self.fixed.items())))
+
+    def leaves(self) -> Iterator[Leaf]:
+        """The leaves, in the order of the report."""
+        one, number, due = 2 ** self.precision, 0, [(0, self.box)]
+        for node in self.nodes:
+            depth, ends = due.pop()
+            if isinstance(node, int):
+                low, high = ends[2 * node], ends[2 * node + 1]
+                middle = (low + high) // 2
+                due.append((depth + 1, ends[:2 * node] + (middle,) + ends[2 * node + 1:]))
+                due.append((depth + 1, ends[:2 * node + 1] + (middle,) + ends[2 * node + 2:]))
+                continue
+            value = self.values[number]
+            yield Leaf(self, number, node, depth, ends, None if value is None else Fraction(value, one), self._picks[number])
+            number += 1
+
+    @property
+    def counts(self) -> Dict[Tuple[str, int], int]:
+        """How many leaves there are of a kind, below so many splits."""
+        counts: Counter = Counter()
+        due = [0]
+        for node in self.nodes:
+            depth = due.pop()
+            if isinstance(node, int):
+                due += [depth + 1, depth + 1]
+            else:
+                counts[node, depth] += 1
+        return dict(counts)
+
+    @property
+    def shares(self) -> Dict[str, Fraction]:
+        """Of the region's volume, by kind."""
+        shares = dict.fromkeys(KINDS, Fraction(0))
+        for (kind, depth), count in self.counts.items():
+            shares[kind] += Fraction(count, 2 ** depth)
+        return shares
+
+    @property
+    def verdict(self) -> str:
+        """`accepted` everywhere; `rejected` everywhere; `mixed`: rejected in a part alone; else `unknown`."""
+        shares = self.shares
+        if shares[ACCEPT] == 1:
+            return 'accepted'
+        if shares[REJECT]:
+            return 'rejected' if shares[REJECT] == 1 else 'mixed'
+        return 'unknown'
+
+    @property
+    def verdict_line(self) -> str:
+        """The verdict with the shares of what there is."""
+        return '%s: %s%s' % (self.verdict, self.question, '' if 1 in self.shares.values() else ' (%s)' % shares_text(self))
+
+    @property
+    def schedulers(self) -> List[List[Optional[int]]]:
+        """The different schedulers of rejecting leaves: for each state its choice, none where none is made."""
+        return [[None if word == b'-' else int(word) for word in line.split()] for line in self._schedulers]
+
+    def model_text(self, label: str = 'goal') -> bytes:
+        """The report's model as a text, whose goal states carry this label."""
+        lines = ['@type: ' + self.kind.upper()]
+        if self.parameters:
+            lines += ['@parameters', ' '.join(self.parameters)]
+        lines.append('@model')
+        before, goals = -1, set(self.goals)
+        for line in self.data[self._model_begin:self._model_end].decode('ascii').splitlines():
+            words = line.split(' ')
+            if words[0] == 'row':
+                state = int(words[1])
+                if state != before:
+                    labels = ' init' * (state == self.init) + (' ' + label) * (state in goals)
+                    lines.append('state %d%s' % (state, labels))
+                    before = state
+                if self.kind == 'mdp':
+                    lines.append('action %s' % words[2])
+            else:
+                lines.append('%s : %s' % (words[1], '+'.join(map(self._term, words[2:])) or '0'))
+        return ('\n'.join(lines) + '\n').encode()
+
+    def _term(self, word: str) -> str:
+        members, _, coefficient = word.partition(':')
+        names = [name for i, name in enumerate(self.parameters) if int(members) >> i & 1]
+        return '*'.join([str(Fraction(int(coefficient), self.common))] + names)
+
+
+def shares_text(report: Report) -> str:
+    """The kinds that there are, each with its share."""
+    return ', '.join('%s %s' % (PAST[kind], percent(share)) for kind, share in report.shares.items() if share)

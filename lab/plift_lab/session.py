@@ -1,0 +1,204 @@
+"""Questions, and the session that asks them: each answer is a report that `plift check` has judged."""
+
+from __future__ import annotations
+
+import json
+import sys
+import time
+from dataclasses import dataclass, replace
+from fractions import Fraction
+from pathlib import Path
+from typing import Any, Callable, Dict, List, Optional, Tuple
+
+from .evidence import Evidence, digest, read_file, read_origin
+from .faults import Fault, Refused
+from .models import Model, Scale
+from .program import find_program
+from .regions import Region
+from .report import Report
+from .values import exact
+
+MOST_DEPTH, MOST_BITS = 20, 40
+
+
+@dataclass(frozen=True)
+class Question:
+    """What is asked of a model: whether a label is reached with at most the bound, all over the region."""
+    model: Model
+    goal: str
+    bound: Fraction
+    region: Region
+    depth: int = 0
+    precision: Optional[int] = None
+    """None: the most bits that its rows leave room for."""
+    is_relative: bool = False
+    """Whether each parameter is rescaled to its interval."""
+
+    def prepared(self) -> Tuple[Model, Region, Scale]:
+        """The model and the region as they are given to the program, and what its numbers mean."""
+        self.region.fit(self.model.parameters)
+        model = self.model.fixed(self.region)
+        if self.is_relative:
+            return model.rescaled(self.region)
+        return model, self.region, {}
+
+    def words(self, region: Region, precision: int) -> List[str]:
+        """The program's command line."""
+        options = ['verify', '--goal', self.goal, '--bound', exact(self.bound)]
+        if region.text:
+            options += ['--region', region.text]
+        return options + ['--depth', str(self.depth), '--precision', str(precision)]
+
+
+class Progress:
+    """Tells on standard error how much of the region a running job has settled, and how long it may still take."""
+
+    def __init__(self, is_on: bool) -> None:
+        self.is_on = is_on
+        self.is_terminal = sys.stderr.isatty()
+        self._begin, self._told, self._width = 0.0, 0.0, 0
+
+    def begin(self) -> Optional[Callable[[Path], None]]:
+        """What is called while a job runs."""
+        if not self.is_on:
+            return None
+        self._begin = self._told = time.monotonic()
+        follower = Follower()
+
+        def watch(path: Path) -> None:
+            now = time.monotonic()
+            if now - self._told < (0.5 if self.is_terminal else 10):
+                return
+            self._told = now
+            share, spent = follower.settled(path), now - self._begin
+            left = ', some %s left' % seconds_shown(spent / share - spent) if share > 0.01 else ''
+            self.say('%.1f %% of the region is settled after %s%s' % (100 * share, seconds_shown(spent), left))
+
+        return watch
+
+    def say(self, text: str) -> None:
+        """One line, written over the last one on a terminal."""
+        if self.is_on:
+            self._width = max(self._width, len(text)) if self.is_terminal else 0
+            sys.stderr.write(('\r' + text.ljust(self._width)) if self.is_terminal else text + '\n')
+            sys.stderr.flush()
+
+    def clear(self) -> None:
+        """Takes the line on a terminal away."""
+        if self.is_terminal and self._width:
+            sys.stderr.write('\r' + ' ' * self._width + '\r')
+            sys.stderr.flush()
+            self._width = 0
+
+
+class Follower:
+    """How much of the region's volume the leaves of a growing report have."""
+
+    def __init__(self) -> None:
+        self._place, self._rest, self._is_head, self._share = 0, b'', True, 0.0
+        self._due = [1.0]
+
+    def settled(self, path: Path) -> float:
+        """Reads what has come since it was called last."""
+        try:
+            with open(path, 'rb') as source:
+                source.seek(self._place)
+                new = source.read()
+        except OSError:
+            return self._share
+        self._place += len(new)
+        lines = (self._rest + new).split(b'\n')
+        self._rest = lines.pop()
+        for line in lines:
+            key = line[:6]
+            if self._is_head:
+                self._is_head = line[:3] != b'box'
+            elif key == b'split ':
+                half = self._due.pop() / 2
+                self._due += [half, half]
+            elif key in (b'accept', b'reject', b'unknow') and self._due:
+                self._share += self._due.pop()
+        return self._share
+
+
+def seconds_shown(seconds: float) -> str:
+    """A time for people."""
+    if seconds < 100:
+        return '%d s' % round(seconds)
+    return '%d min' % round(seconds / 60) if seconds < 6000 else '%.1f h' % (seconds / 3600)
+
+
+class Session:
+    """Asks questions of one program, and keeps the reports in one folder."""
+
+    def __init__(self, keep: Optional[str] = None, is_told: bool = False) -> None:
+        self.program = find_program()
+        self.evidence = Evidence(keep)
+        self.progress = Progress(is_told)
+        self.calls = 0
+        self._room: Dict[str, int] = {}
+
+    def __enter__(self) -> 'Session':
+        return self
+
+    def __exit__(self, *_: Any) -> None:
+        self.progress.clear()
+        self.evidence.close()
+
+    def ask(self, question: Question) -> Report:
+        """The report that answers a question, once `plift check` has called it sound."""
+        model, region, scale = question.prepared()
+        path = self.evidence.model_file(model.text)
+        bits = question.precision or self._room.get(path.name, MOST_BITS)
+        while True:
+            try:
+                return self._run(question, region, scale, path, bits)
+            except Refused as refusal:
+                if question.precision or bits <= 4 or not refusal.note.endswith('too wide'):
+                    raise
+                bits -= 4
+                self._room[path.name] = bits
+
+    def _run(self, question: Question, region: Region, scale: Scale, model: Path, bits: int) -> Report:
+        words = question.words(region, bits)
+        fixed = dict(question.region.fixed)
+        job = digest(json.dumps([model.name, words, sorted((name, exact(low), exact(high)) for name, (low, high) in scale.items()),
+                                 sorted((name, exact(value)) for name, value in fixed.items())]).encode())
+        known = self.evidence.find(job)
+        if known:
+            data = read_file(str(known))
+            origin = read_origin(known, data)
+            if origin:
+                return Report(data, self.program.check(data), origin, str(known))
+        report = self.evidence.next_report()
+        part = report.with_name(report.name + '.part')
+        try:
+            self.calls += 1
+            self.program.verify(words, model, part, self.progress.begin())
+            data = read_file(str(part))
+            soundness = self.program.check(data)
+            part.replace(report)
+        finally:
+            if part.exists():
+                part.unlink()
+        self.evidence.note(report, job, data, words, model, question.goal, scale, fixed, soundness)
+        origin = {'goal': question.goal, 'scale': scale, 'fixed': fixed, 'words': words, 'model': model.name}
+        return Report(data, soundness, origin, str(report))
+
+    def read(self, name: str) -> Report:
+        """A report that somebody wrote, once `plift check` has called it sound."""
+        data = read_file(name)
+        try:
+            soundness = self.program.check(data)
+        except Refused as refusal:
+            raise Fault('%s: %s' % ('the report' if name == '-' else name, refusal.note or refusal), refusal.status) from None
+        return Report(data, soundness, {} if name == '-' else read_origin(Path(name), data), '' if name == '-' else name)
+
+    def ask_again(self, report: Report, region: Region, bound: Fraction, depth: int = 0,
+                  precision: Optional[int] = None) -> Report:
+        """Asks of a part of a report's region, in the report's own numbers and of its own model."""
+        return self.ask(Question(Model(report.model_text()), 'goal', bound, region, depth, precision))
+
+    def widen(self, question: Question, depth: int) -> Report:
+        """The same question at a greater depth. A program that goes on from a finished report would do less here."""
+        return self.ask(replace(question, depth=depth))

@@ -1,0 +1,95 @@
+"""Suprema, infima and thresholds against values by hand."""
+
+import unittest
+from fractions import Fraction
+
+import plift_lab
+
+from .helpers import LINKS, RETRY
+
+
+def lost(p, q):
+    """What examples/links.drn loses: four attempts over two links."""
+    total = Fraction(0)
+    for first in range(1, 5):  # the first link succeeds at this attempt
+        total += p ** (first - 1) * (1 - p) * q ** (4 - first)
+    return total + p ** 4
+
+
+class Bounds(unittest.TestCase):
+
+    def test_hull(self):
+        found = plift_lab.bounds(RETRY, 'lost', 'p=1/10..3/10,q=1/20..1/5')
+        self.assertEqual((found.sup.most, found.inf.least, found.precision),
+                         (Fraction(14843406975, 549755813888), Fraction(1099511627, 1099511627776), 40))
+
+    def test_width(self):
+        width = Fraction(1, 10000)
+        found = plift_lab.bounds(LINKS, 'lost', 'p=1/10..1/2,q=1/10..1/2', width)
+        half, tenth = Fraction(1, 2), Fraction(1, 10)
+        for side, value in ((found.sup, lost(half, half)), (found.inf, lost(tenth, tenth))):
+            self.assertLessEqual(side.most - side.least, width)
+            self.assertTrue(side.least <= value <= side.most)
+            self.assertEqual(sum(share(region) for region, _ in side.cover), 1)
+            self.assertFalse(side.is_short)
+        self.assertTrue(all(end.value <= found.sup.most for _, end in found.sup.cover))
+        self.assertTrue(all(end.value >= found.inf.least for _, end in found.inf.cover))
+
+    def test_inside(self):
+        """p (1 - p), which is greatest in the middle: 1/4 at p = 1/2."""
+        model = (b'@type: DTMC\n@parameters\np\n@model\nstate 0 init\n1 : p\n2 : 1-p\nstate 1\n2 : p\n3 : 1-p\n'
+                 b'state 2\n2 : 1\nstate 3 both\n3 : 1\n')
+        found = plift_lab.bounds(model, 'both', 'p=1/10..9/10', '1/1000')
+        self.assertTrue(found.sup.least <= Fraction(1, 4) <= found.sup.most)
+        self.assertTrue(found.inf.least <= Fraction(9, 100) <= found.inf.most)
+        self.assertLessEqual(found.sup.most - found.sup.least, Fraction(1, 1000))
+
+    def test_stops_at_its_calls(self):
+        found = plift_lab.bounds(LINKS, 'lost', 'p=1/10..1/2,q=1/10..1/2', '1e-12', calls=20)
+        self.assertTrue(found.sup.is_short and found.inf.is_short)
+
+    def test_a_width_below_rounding(self):
+        found = plift_lab.bounds(str(RETRY), 'lost', 'p=1/10..3/10,q=1/20', '1e-14', precision=8, calls=60)
+        self.assertTrue(found.sup.is_short)
+        self.assertLessEqual(found.sup.least, Fraction(27, 1000))
+        self.assertGreaterEqual(found.sup.most, Fraction(27, 1000))
+
+    def test_unreachable(self):
+        found = plift_lab.bounds(b'@type: DTMC\n@model\nstate 0 init\n0 : 1\nstate 1 goal\n1 : 1\n', 'goal', width='1e-6')
+        self.assertEqual((found.sup.most, found.inf.least), (0, 0))
+
+
+def share(region):
+    """Of the unit that the tests' regions of two sides of 2/5 have."""
+    volume = Fraction(1)
+    for _, low, high in region.intervals:
+        volume *= (high - low) / Fraction(2, 5)
+    return volume
+
+
+class Threshold(unittest.TestCase):
+
+    def test_greatest(self):
+        edge = plift_lab.threshold(LINKS, 'lost', '1/20', 'p', 'p=1/10..1/2,q=1/10..1/5', '1e-5')
+        fifth = Fraction(1, 5)
+        self.assertLessEqual(lost(edge.good, fifth), Fraction(1, 20))
+        self.assertGreater(lost(edge.limit, fifth), Fraction(1, 20))
+        self.assertLess(edge.limit - edge.good, Fraction(1, 10 ** 4))
+        self.assertEqual((edge.inside.verdict, edge.inside.region['p']), ('accepted', (Fraction(1, 10), edge.good)))
+
+    def test_least(self):
+        edge = plift_lab.threshold(LINKS, 'delivered', '9/10', 'p', 'p=1/10..1/2,q=1/10..1/5', '1e-4', least=True)
+        tenth = Fraction(1, 10)
+        self.assertLessEqual(1 - lost(edge.good, tenth), Fraction(9, 10))
+        self.assertGreater(1 - lost(edge.limit, tenth), Fraction(9, 10))
+        self.assertLess(edge.good - edge.limit, Fraction(1, 1000))
+
+    def test_all_and_nothing(self):
+        self.assertEqual(plift_lab.threshold(LINKS, 'lost', 1, 'p', 'p=1/10..1/2,q=1/10..1/5').good, Fraction(1, 2))
+        nothing = plift_lab.threshold(LINKS, 'lost', 0, 'p', 'p=1/10..1/2,q=1/10..1/5')
+        self.assertIsNone(nothing.inside)
+        self.assertIsNotNone(nothing.limit)
+
+
+if __name__ == '__main__':
+    unittest.main()
