@@ -32,13 +32,13 @@ class Leaf:
     value: Optional[Fraction]
     """Of the initial state: no more is reached where it is accepted, no less where it is rejected."""
     scheduler: Optional[int]
-    """Its place in the report's list of schedulers; only of a rejecting leaf."""
+    """Its place in the report's list of schedulers; only of a rejecting leaf of a decision process."""
 
     @property
     def rectangle(self) -> Dict[str, Interval]:
         """An interval for each parameter, in the user's own numbers."""
-        return {name: (self.report.user(name, low), self.report.user(name, high))
-                for name, (low, high) in self.own_rectangle.items()}
+        ends = [self.report.user_end(place, end) for place, end in enumerate(self.ends)]
+        return dict(zip(self.report.parameters, zip(ends[::2], ends[1::2])))
 
     @property
     def own_rectangle(self) -> Dict[str, Interval]:
@@ -63,6 +63,7 @@ class Report:
     def __init__(self, data: bytes, soundness: str, origin: Optional[Dict[str, Any]] = None, path: str = '') -> None:
         self.data, self.soundness, self.path = data, soundness, path
         self.origin = origin or {}
+        self._ends: Dict[Tuple[int, int], Fraction] = {}
         try:
             self._read_head()
             self._read_tree()
@@ -143,10 +144,12 @@ class Report:
         low, high = self.scale.get(name, (Fraction(0), Fraction(1)))
         return low + (high - low) * value
 
-    def own(self, name: str, value: Fraction) -> Fraction:
-        """The other way: in the report's numbers."""
-        low, high = self.scale.get(name, (Fraction(0), Fraction(1)))
-        return (value - low) / (high - low)
+    def user_end(self, place: int, end: int) -> Fraction:
+        """The same of an end over the grid, by its place in a rectangle; neighbours share their ends."""
+        key = place // 2, end
+        if key not in self._ends:
+            self._ends[key] = self.user(self.parameters[place // 2], Fraction(end, self.grid))
+        return self._ends[key]
 
     @property
     def region(self) -> Region:
@@ -168,7 +171,8 @@ class Report:
                 due.append((depth + 1, ends[:2 * node + 1] + (middle,) + ends[2 * node + 2:]))
                 continue
             value = self.values[number]
-            yield Leaf(self, number, node, depth, ends, None if value is None else Fraction(value, one), self._picks[number])
+            yield Leaf(self, number, node, depth, ends, None if value is None else Fraction(value, one),
+                       self._picks[number] if self.kind == 'mdp' else None)
             number += 1
 
     @property
@@ -208,9 +212,19 @@ class Report:
         return '%s: %s%s' % (self.verdict, self.question, '' if 1 in self.shares.values() else ' (%s)' % shares_text(self))
 
     @property
+    def picks(self) -> List[int]:
+        """Of each rejecting leaf, in their order, the place of its scheduler."""
+        return [pick for pick in self._picks if pick is not None]
+
+    @property
+    def scheduler_texts(self) -> List[str]:
+        """The different schedulers of rejecting leaves as the report writes them."""
+        return [line.decode('ascii') for line in self._schedulers]
+
+    @property
     def schedulers(self) -> List[List[Optional[int]]]:
         """The different schedulers of rejecting leaves: for each state its choice, none where none is made."""
-        return [[None if word == b'-' else int(word) for word in line.split()] for line in self._schedulers]
+        return [[None if word == '-' else int(word) for word in text.split()] for text in self.scheduler_texts]
 
     def model_text(self, label: str = 'goal') -> bytes:
         """The report's model as a text, whose goal states carry this label."""

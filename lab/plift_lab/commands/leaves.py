@@ -14,7 +14,8 @@ import argparse
 import csv
 import json
 import sys
-from typing import Any, Callable, Iterator, List
+from fractions import Fraction
+from typing import Any, Callable, Dict, List
 
 from .. import asking
 from ..faults import DONE
@@ -38,50 +39,58 @@ def run(given: argparse.Namespace) -> int:
     """Does it."""
     with Session() as session:
         report = session.read(given.report)
-    number: Callable[[Any], Any] = (lambda value: repr(float(value))) if given.decimals else exact
     if given.unknown:
         for leaf in report.leaves():
             if leaf.kind == UNKNOWN:
                 sys.stdout.write(shown(leaf.rectangle) + '\n')
     elif given.csv:
-        _write_csv(report, number)
+        _write_csv(Told(report, float if given.decimals else exact))
     else:
-        _write_json(report, str(session.program.path), float if given.decimals else exact)
+        _write_json(Told(report, float if given.decimals else exact), str(session.program.path))
     return DONE
 
 
-def columns(report: Report) -> List[str]:
-    """The names of the columns."""
-    ends = [name + end for name in report.parameters for end in ('_low', '_high')]
-    return ['leaf'] + ends + ['kind', 'value', 'precision', 'depth', 'share', 'scheduler']
+class Told:
+    """A report's leaves as they are written. Leaves share ends, so each of these is written once."""
+
+    def __init__(self, report: Report, number: Callable[[Fraction], Any]) -> None:
+        self.report, self.number = report, number
+        self._ends: List[Dict[int, Any]] = [{} for _ in report.parameters]
+
+    def ends(self, leaf: Leaf) -> List[Any]:
+        """The ends of its rectangle."""
+        told = []
+        for place, end in enumerate(leaf.ends):
+            known = self._ends[place // 2]
+            if end not in known:
+                known[end] = self.number(self.report.user_end(place, end))
+            told.append(known[end])
+        return told
+
+    def rest(self, leaf: Leaf) -> List[Any]:
+        """Kind, value, precision, depth, share and scheduler."""
+        return [PAST[leaf.kind], None if leaf.value is None else self.number(leaf.value), leaf.precision, leaf.depth,
+                self.number(leaf.share), leaf.scheduler]
 
 
-def _write_csv(report: Report, number: Callable[[Any], str]) -> None:
+REST = ('kind', 'value', 'precision', 'depth', 'share', 'scheduler')
+
+
+def _write_csv(told: Told) -> None:
     table = csv.writer(sys.stdout, lineterminator='\n')
-    table.writerow(columns(report))
-    for leaf in report.leaves():
-        ends = [number(end) for interval in leaf.rectangle.values() for end in interval]
-        table.writerow([leaf.number] + ends + [
-            PAST[leaf.kind], '' if leaf.value is None else number(leaf.value), leaf.precision, leaf.depth,
-            number(leaf.share), '' if leaf.scheduler is None else leaf.scheduler])
+    table.writerow(['leaf'] + [name + end for name in told.report.parameters for end in ('_low', '_high')] + list(REST))
+    for leaf in told.report.leaves():
+        table.writerow([leaf.number] + told.ends(leaf) + told.rest(leaf))
 
 
-def _write_json(report: Report, program: str, number: Callable[[Any], Any]) -> None:
-    head = dict(asking.behind(report), verdict=report.verdict, goal=report.goal, bound=number(report.bound), program=program,
-                parameters=report.parameters, fixed={name: number(value) for name, value in report.fixed.items()},
-                schedulers=report.schedulers)
+def _write_json(told: Told, program: str) -> None:
+    report = told.report
+    head = dict(asking.behind(report), verdict=report.verdict, goal=report.goal, bound=told.number(report.bound), program=program,
+                parameters=report.parameters, fixed={name: told.number(value) for name, value in report.fixed.items()},
+                schedulers=report.schedulers if report.kind == 'mdp' else [])
     sys.stdout.write(json.dumps(head)[:-1] + ',\n"leaves": [')
-    for place, leaf in enumerate(_rows(report, number)):
-        sys.stdout.write((',\n ' if place else '\n ') + json.dumps(leaf))
-    sys.stdout.write('\n]}\n')
-
-
-def _rows(report: Report, number: Callable[[Any], Any]) -> Iterator[Any]:
     for leaf in report.leaves():
-        yield {'leaf': leaf.number, 'rectangle': _rectangle(leaf, number), 'kind': PAST[leaf.kind],
-               'value': None if leaf.value is None else number(leaf.value), 'precision': leaf.precision,
-               'depth': leaf.depth, 'share': number(leaf.share), 'scheduler': leaf.scheduler}
-
-
-def _rectangle(leaf: Leaf, number: Callable[[Any], Any]) -> Any:
-    return {name: [number(low), number(high)] for name, (low, high) in leaf.rectangle.items()}
+        ends = told.ends(leaf)
+        row = {'leaf': leaf.number, 'rectangle': dict(zip(report.parameters, zip(ends[::2], ends[1::2])))}
+        sys.stdout.write((',\n ' if leaf.number else '\n ') + json.dumps(dict(row, **dict(zip(REST, told.rest(leaf))))))
+    sys.stdout.write('\n]}\n')

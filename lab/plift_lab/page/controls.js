@@ -1,0 +1,274 @@
+// Controls, and what is told beside the picture.
+
+const data = JSON.parse(document.getElementById('data').textContent);
+const NAMES = ['accepted', 'rejected', 'unknown'];
+const byId = (id) => document.getElementById(id);
+const parameters = data.parameters.map((one) => ({
+  ...one, from: toNumber(readFraction(one.low)), to: toNumber(readFraction(one.high)) }));
+const tree = new Tree(data.tree, Math.max(parameters.length, 1));
+const plot = new Plot(byId('picture'), byId('cursor'), tree, parameters);
+let kept = null;  // a leaf that was chosen stays told
+let due = false;
+
+// Values and schedulers stand in the order of the leaves that have one.
+const places = new Int32Array(tree.count), picks = new Int32Array(tree.count);
+{
+  let decided = 0, rejected = 0;
+  for (let node = 0; node < tree.kind.length; node++) {
+    const kind = tree.kind[node];
+    if (kind === ACCEPT || kind === REJECT) places[tree.leaf[node]] = decided++;
+    if (kind === REJECT) picks[tree.leaf[node]] = rejected++;
+  }
+}
+
+function element(name, text, properties = {}) {
+  const made = Object.assign(document.createElement(name), properties);
+  if (text !== undefined) made.textContent = text;
+  return made;
+}
+
+// Fills a table; a cell is a text, or a text with what is told below it.
+function rows(table, head, body, isExact = false) {
+  const line = (cells, kind) => {
+    const row = element('tr');
+    cells.forEach((cell, place) => {
+      const [text, below] = Array.isArray(cell) ? cell : [cell];
+      const made = element(kind, text, { className: isExact && place > 0 ? 'exact' : '' });
+      if (below) made.append(element('small', below));
+      row.append(made);
+    });
+    return row;
+  };
+  table.replaceChildren(line(head, 'th'), ...body.map((cells) => line(cells, 'td')));
+}
+
+function percent(share) {
+  const text = (100 * share).toFixed(2);
+  return share > 0 && text === '0.00' ? '< 0.01 %' : share < 1 && text === '100.00' ? '> 99.99 %' : text + ' %';
+}
+
+function redraw() {
+  if (due) return;
+  due = true;
+  requestAnimationFrame(() => {
+    due = false;
+    const { seen, counts } = plot.draw(), whole = seen[0] + seen[1] + seen[2];
+    rows(byId('shares'), ['', 'leaves', 'of the region', 'seen', 'of the picture'], NAMES.map((name, kind) => [
+      name, data.counts[kind].toLocaleString('en'), [data.shares[kind].percent, data.shares[kind].exact],
+      counts[kind].toLocaleString('en'), percent(whole ? seen[kind] / whole : 0)]));
+    document.documentElement.dataset.drawn = Math.round(performance.now());
+  });
+}
+
+function interval(axis, low, high) {
+  const { name, low: from, high: to } = parameters[axis], ends = [between(from, to, low), between(from, to, high)];
+  return [name, ends.map((end) => decimal(toNumber(end), 9)).join(' to '), ends.map(exactText).join(' to ')];
+}
+
+// What is known of a leaf, as a table and a sentence.
+function tell(leaf) {
+  const card = byId('leaf');
+  if (!leaf) { card.textContent = 'Point at the picture.'; byId('leaf-title').textContent = 'Leaf'; return; }
+  byId('leaf-title').textContent = `Leaf ${leaf.number}: ${NAMES[leaf.kind]}${kept ? ' (kept)' : ''}`;
+  card.replaceChildren();
+  if (leaf.kind === UNKNOWN) {
+    card.append(element('p', 'No certificate of either kind was found for all of it at this precision and depth.'));
+  } else {
+    const value = fraction(BigInt(data.values[places[leaf.number]]), 1n << BigInt(data.precision));
+    card.append(element('p', leaf.kind === ACCEPT
+      ? `At most ${exactText(value)} (${decimal(toNumber(value), 9)}) is reached, whatever is chosen.`
+      : `At least ${exactText(value)} (${decimal(toNumber(value), 9)}) is reached${data.isProcess ? ' by the choices below' : ''}.`));
+  }
+  const table = element('table');
+  rows(table, ['', 'about', 'exactly'], parameters.map((_, axis) => interval(axis, leaf.low[axis], leaf.high[axis])), true);
+  card.append(table, element('p', `Depth ${leaf.depth}, ${percent(2 ** -leaf.depth)} of the region.`));
+  if (leaf.kind === REJECT && data.isProcess) {
+    const pick = data.picks[picks[leaf.number]], text = data.schedulers ? data.schedulers[pick] : null;
+    card.append(element('p', `Scheduler ${pick}` + (text === null ? ' (too long for this page: leaves --json tells it).' : ', for each state its choice:')));
+    if (text !== null) card.append(element('code', text.length > 4000 ? text.slice(0, 4000) + ' ..' : text));
+  }
+}
+
+function mark(leaf) {
+  plot.marked = leaf;
+  plot.drawMark();
+  tell(leaf);
+}
+
+function place(event) {
+  const frame = byId('picture').getBoundingClientRect();
+  return [event.clientX - frame.left, event.clientY - frame.top];
+}
+
+function parts(event) {
+  const [x, y] = place(event), { left, top, width, height } = plot.area;
+  return [(x - left) / width, 1 - (y - top) / height];
+}
+
+// From the marked leaf to the one behind its side.
+function step(name, sign) {
+  if (plot[name] < 0) return;
+  const from = plot.marked, axis = plot[name];
+  const point = Float64Array.from(plot.point);
+  for (const other of ['x', 'y']) {
+    const along = plot[other], [low, high] = plot.view[other];
+    if (along >= 0) point[along] = from ? (from.low[along] + from.high[along]) / 2 : (low + high) / 2;
+  }
+  if (from) point[axis] = sign > 0 ? from.high[axis] : from.low[axis] - 0.5;
+  if (point[axis] < 0 || point[axis] >= UNIT) return;
+  const leaf = tree.find(point);
+  kept = kept ? leaf : null;
+  plot.reveal(leaf);
+  mark(leaf);
+  redraw();
+}
+
+const KEYS = {
+  '+': () => plot.zoom(0.5), '=': () => plot.zoom(0.5), '-': () => plot.zoom(2), '0': () => plot.whole(), Home: () => plot.whole(),
+};
+const ARROWS = { ArrowLeft: ['x', -1], ArrowRight: ['x', 1], ArrowDown: ['y', -1], ArrowUp: ['y', 1] };
+
+function onKey(event) {
+  if (event.ctrlKey || event.metaKey || event.altKey) return;
+  const arrow = ARROWS[event.key];
+  if (arrow && event.shiftKey) plot.pan(arrow[0], arrow[1] / 4);
+  else if (arrow) step(...arrow);
+  else if (KEYS[event.key]) KEYS[event.key]();
+  else if (event.key === 'Enter') { kept = plot.marked; tell(kept); }
+  else if (event.key === 'Escape') { kept = null; mark(null); }
+  else return;
+  event.preventDefault();
+  redraw();
+}
+
+function onPointers(canvas) {
+  let held = null;
+  canvas.addEventListener('pointerdown', (event) => {
+    held = { at: place(event), moved: false };
+    canvas.setPointerCapture(event.pointerId);
+  });
+  canvas.addEventListener('pointermove', (event) => {
+    const at = place(event);
+    if (held && (held.moved || Math.hypot(at[0] - held.at[0], at[1] - held.at[1]) > 4)) {
+      plot.pan('x', (held.at[0] - at[0]) / plot.area.width);
+      plot.pan('y', (at[1] - held.at[1]) / plot.area.height);
+      held = { at, moved: true };
+      redraw();
+    } else if (!kept) {
+      mark(plot.leafAt(...at));
+    }
+  });
+  canvas.addEventListener('pointerup', (event) => {
+    if (held && !held.moved) {
+      const leaf = plot.leafAt(...place(event));
+      kept = kept && leaf && leaf.node === kept.node ? null : leaf;
+      mark(leaf);
+    }
+    held = null;
+  });
+  canvas.addEventListener('pointercancel', () => { held = null; });
+  canvas.addEventListener('pointerleave', () => { if (!kept && document.activeElement !== canvas) mark(null); });
+  canvas.addEventListener('wheel', (event) => {
+    event.preventDefault();
+    plot.zoom(Math.exp(Math.max(-1, Math.min(1, event.deltaY / 300))), ...parts(event));
+    redraw();
+  }, { passive: false });
+}
+
+// Choice of the axes, and a slider for each other parameter that a row depends on.
+function buildAxes() {
+  const card = byId('axes'), live = data.live;
+  card.replaceChildren();
+  if (live.length > 2) {
+    for (const name of ['x', 'y']) {
+      const label = element('label', name === 'x' ? 'From left to right ' : 'From below up '), choice = element('select');
+      for (const axis of live) choice.append(element('option', parameters[axis].name, { value: axis, selected: axis === plot[name] }));
+      choice.addEventListener('change', () => {
+        const chosen = Number(choice.value), other = name === 'x' ? plot.y : plot.x;
+        const rest = chosen === other ? plot[name] : other;
+        plot.setAxes(name === 'x' ? chosen : rest, name === 'x' ? rest : chosen);
+        kept = null;
+        mark(null);
+        buildAxes();
+        redraw();
+      });
+      label.append(choice);
+      card.append(label);
+    }
+  }
+  for (const axis of live) {
+    if (axis === plot.x || axis === plot.y) continue;
+    const label = element('label', '', { className: 'slider' }), shown = element('output');
+    const slider = element('input', undefined, { type: 'range', min: 0, max: UNIT, step: UNIT / 256, value: plot.point[axis] });
+    const update = () => { shown.textContent = decimal(plot.value(axis, plot.point[axis]), 6); };
+    slider.addEventListener('input', () => {
+      plot.point[axis] = Number(slider.value);
+      kept = null;
+      mark(null);
+      update();
+      redraw();
+    });
+    update();
+    label.append(element('span', parameters[axis].name), shown, slider);
+    card.append(label);
+  }
+}
+
+function buildFacts() {
+  const list = byId('facts');
+  for (const [name, text] of data.facts) list.append(element('dt', name), element('dd', text));
+  rows(byId('depths'), ['depth', ...NAMES], tree.depths().map((counts, depth) => [depth, ...counts.map((count) => count.toLocaleString('en'))]));
+}
+
+function buildLegend() {
+  const list = byId('legend'), ratio = window.devicePixelRatio || 1;
+  list.replaceChildren();
+  KINDS.forEach((_, kind) => {
+    const item = element('li'), sample = element('canvas', undefined, { width: 34 * ratio, height: 18 * ratio });
+    sample.setAttribute('aria-hidden', 'true');
+    const context = sample.getContext('2d');
+    context.fillStyle = plot.fill(context, kind, ratio, plot.color);
+    context.fillRect(0, 0, sample.width, sample.height);
+    item.append(sample, `${NAMES[kind]}, ${data.shares[kind].percent}`);
+    list.append(item);
+  });
+}
+
+const THEMES = ['system', 'dark', 'light'];
+const system = window.matchMedia('(prefers-color-scheme: dark)');
+let theme = THEMES.includes(location.hash.slice(1)) ? location.hash.slice(1) : 'system';
+
+function showTheme() {
+  document.documentElement.dataset.theme = theme === 'system' ? (system.matches ? 'dark' : 'light') : theme;
+  byId('theme').textContent = 'Theme: ' + theme;
+  buildLegend();
+  redraw();
+}
+
+function savePicture() {
+  const made = element('canvas', undefined, { width: plot.canvas.width, height: plot.canvas.height }), context = made.getContext('2d');
+  context.fillStyle = plot.color('ground');
+  context.fillRect(0, 0, made.width, made.height);
+  context.drawImage(plot.canvas, 0, 0);
+  const link = element('a', undefined, { href: made.toDataURL('image/png'), download: 'region.png' });
+  link.click();
+}
+
+function start() {
+  plot.setAxes(data.axes[0], data.axes[1]);
+  buildAxes();
+  buildFacts();
+  byId('picture').addEventListener('keydown', onKey);
+  onPointers(byId('picture'));
+  const does = (id, act) => byId(id).addEventListener('click', () => { act(); redraw(); });
+  does('zoom-in', () => plot.zoom(0.5));
+  does('zoom-out', () => plot.zoom(2));
+  does('reset', () => plot.whole());
+  does('save', savePicture);
+  does('theme', () => { theme = THEMES[(THEMES.indexOf(theme) + 1) % THEMES.length]; showTheme(); });
+  system.addEventListener('change', showTheme);
+  window.addEventListener('resize', redraw);
+  showTheme();
+}
+
+start();
