@@ -1,0 +1,56 @@
+"""Packs plift-lab for pip: the calls of a build backend, by the standard library alone."""
+
+import base64
+import hashlib
+import re
+import tarfile
+import zipfile
+from pathlib import Path
+
+HERE = Path(__file__).resolve().parent
+PACKAGE = HERE / 'plift_lab'
+NAME = 'plift_lab'
+VERSION = re.search("^__version__ = '([^']+)'", (PACKAGE / '__init__.py').read_text('utf-8'), re.M).group(1)
+INFO = '%s-%s.dist-info' % (NAME, VERSION)
+TOLD = {
+    'METADATA': 'Metadata-Version: 2.1\nName: plift-lab\nVersion: %s\nLicense: MIT\nRequires-Python: >=3.8\nSummary: Numbers, thresholds, '
+                'leaves as data and pages to explore, over the proved program plift\n' % VERSION,
+    'WHEEL': 'Wheel-Version: 1.0\nGenerator: plift-lab\nRoot-Is-Purelib: true\nTag: py3-none-any\n',
+    'entry_points.txt': '[console_scripts]\nplift-lab = plift_lab.cli:main\n',
+}
+
+
+def _sources():
+    """The files of the package: modules, and what a page is made of."""
+    return sorted(path for path in PACKAGE.rglob('*') if path.is_file() and path.suffix in ('.py', '.html', '.css', '.js'))
+
+
+def _wheel(folder, files):
+    name = '%s-%s-py3-none-any.whl' % (NAME, VERSION)
+    files = dict(files, **{'%s/%s' % (INFO, part): text.encode() for part, text in TOLD.items()})
+    record = ''.join('%s,sha256=%s,%d\n' % (path, base64.urlsafe_b64encode(hashlib.sha256(data).digest()).decode().rstrip('='), len(data))
+                     for path, data in files.items())
+    with zipfile.ZipFile(str(Path(folder) / name), 'w', zipfile.ZIP_DEFLATED) as wheel:
+        for path, data in files.items():
+            wheel.writestr(path, data)
+        wheel.writestr(INFO + '/RECORD', record + INFO + '/RECORD,,\n')
+    return name
+
+
+def build_wheel(wheel_directory, config_settings=None, metadata_directory=None):
+    """A wheel with the package."""
+    return _wheel(wheel_directory, {path.relative_to(HERE).as_posix(): path.read_bytes() for path in _sources()})
+
+
+def build_editable(wheel_directory, config_settings=None, metadata_directory=None):
+    """A wheel that only says where the package lies."""
+    return _wheel(wheel_directory, {NAME + '.pth': (str(HERE) + '\n').encode()})
+
+
+def build_sdist(sdist_directory, config_settings=None):
+    """The sources."""
+    base = '%s-%s' % (NAME, VERSION)
+    with tarfile.open(str(Path(sdist_directory) / (base + '.tar.gz')), 'w:gz') as archive:
+        for path in _sources() + [HERE / 'pyproject.toml', HERE / 'packing.py']:
+            archive.add(str(path), '%s/%s' % (base, path.relative_to(HERE).as_posix()))
+    return base + '.tar.gz'
