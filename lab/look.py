@@ -106,6 +106,14 @@ class Browser:
         self._process.wait()
 
 
+def point(browser):
+    """Points at a leaf, and tells where."""
+    box = json.loads(browser.tell('JSON.stringify(document.getElementById("picture").getBoundingClientRect())'))
+    x, y = box['x'] + box['width'] * 0.6, box['y'] + box['height'] * 0.4
+    browser.mouse('mouseMoved', x, y)
+    return x, y
+
+
 def use(browser):
     """Uses the page by keyboard and by pointer; each line tells what was done and what the page says."""
     leaf = 'document.getElementById("leaf-title").textContent'
@@ -117,9 +125,7 @@ def use(browser):
     for key in ('+', '+', '-', '0'):
         browser.key(key)
         yield 'key %s' % key, browser.tell(view)
-    box = json.loads(browser.tell('JSON.stringify(document.getElementById("picture").getBoundingClientRect())'))
-    x, y = box['x'] + box['width'] * 0.6, box['y'] + box['height'] * 0.4
-    browser.mouse('mouseMoved', x, y)
+    x, y = point(browser)
     yield 'pointer', browser.tell('document.getElementById("leaf").innerText').replace('\n', ' | ')[:300]
     browser.mouse('mouseWheel', x, y, deltaX=0, deltaY=-300)
     yield 'wheel', browser.tell(view)
@@ -156,6 +162,7 @@ def main():
             for is_dark in (False, True):
                 browser.size(width, height, is_dark)
                 browser.open(url)
+                point(browser)
                 time.sleep(0.5)
                 wide = browser.tell('document.documentElement.scrollWidth')
                 if wide > width:

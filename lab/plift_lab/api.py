@@ -32,6 +32,8 @@ class Bounds:
     inf: Side
     precision: int
     calls: int
+    is_process: bool
+    """Whether the model is a decision process: then both are of what the best choices reach."""
 
 
 def find_bounds(session: Session, model: Model, goal: str, region: Region, precision: Optional[int],
@@ -50,7 +52,7 @@ def find_bounds(session: Session, model: Model, goal: str, region: Region, preci
     live = [name for name in first.live if name in region.names]
     sides = [Search(ask, is_sup, region, live, Limits(width, calls), tell, session.evidence.forget) for is_sup in (True, False)]
     sup, inf = (side.run() for side in sides)
-    return Bounds(sup, inf, bits, sum(side.calls for side in sides))
+    return Bounds(sup, inf, bits, sum(side.calls for side in sides), first.kind == 'mdp')
 
 
 def find_threshold(session: Session, question: Question, parameter: str, width: Optional[Fraction],

@@ -4,7 +4,7 @@ from __future__ import annotations
 
 from dataclasses import dataclass
 from fractions import Fraction
-from typing import List, Tuple
+from typing import List, Optional, Tuple
 
 from .brackets import high, low
 from .faults import Refused
@@ -12,13 +12,7 @@ from .regions import Region
 from .report import UNKNOWN, Leaf, Report
 from .session import MOST_BITS, Session
 
-BITS, DEPTH, SHRINKS, NEITHER = 'bits', 'depth', 'shrinks', 'neither'
-ADVICE = {
-    BITS: 'more precision decides it',
-    DEPTH: 'more depth decides a part of it',
-    SHRINKS: 'more depth brings the two numbers closer together',
-    NEITHER: 'neither more precision nor more depth is seen to help: ask for a bound outside the two numbers',
-}
+BITS, DEPTH, CLOSER, NEITHER = 'bits', 'depth', 'closer', 'neither'
 
 
 @dataclass(frozen=True)
@@ -31,6 +25,21 @@ class Finding:
     sharp: Tuple[Fraction, Fraction]
     """The same at the most bits."""
     help: str
+    axis: Optional[str] = None
+    """The parameter on which a halving helps."""
+    longest: Optional[str] = None
+    """The parameter whose side is the longest, which is halved next."""
+
+    @property
+    def advice(self) -> str:
+        """What to do."""
+        if self.help == BITS:
+            return 'more precision decides it'
+        if self.help == NEITHER:
+            return 'neither more precision nor more depth is seen to help: ask for a bound outside the two numbers'
+        told = {DEPTH: 'halving %s decides a part of it', CLOSER: 'halving %s brings the two numbers closer together'}[self.help]
+        return told % self.axis + ('; more depth does that' if self.axis == self.longest else
+                                   ', but the longest side is that of %s: --relative, and then more depth' % self.longest)
 
 
 def examine(session: Session, report: Report, most: int) -> List[Finding]:
@@ -48,22 +57,29 @@ def _examine(session: Session, report: Report, leaf: Leaf) -> Finding:
         sharp = coarse
     if not sharp[0] <= report.bound < sharp[1]:
         return Finding(leaf, *coarse, sharp, BITS)
-    return Finding(leaf, *coarse, sharp, _helped_by_depth(session, report, region, sharp))
+    # Of axes that help alike the one that is halved next comes first.
+    longest = max(report.live, key=lambda name: region[name][1] - region[name][0]) if report.live else None
+    names = sorted(report.live, key=lambda name: name != longest)
+    helped = {name: _helped_by(session, report, region.halves(name), sharp) for name in names}
+    for help in (DEPTH, CLOSER):
+        for name in names:
+            if helped[name] == help:
+                return Finding(leaf, *coarse, sharp, help, name, longest)
+    return Finding(leaf, *coarse, sharp, NEITHER)
 
 
-def _helped_by_depth(session: Session, report: Report, region: Region, whole: Tuple[Fraction, Fraction]) -> str:
-    """Halves a leaf on each axis that a row depends on, and looks what is said of the halves."""
+def _helped_by(session: Session, report: Report, halves: Tuple[Region, Region], whole: Tuple[Fraction, Fraction]) -> str:
+    """Whether a half is decided, or its two numbers are closer together, at the most bits that have room."""
     answer = NEITHER
-    for name in report.live:
-        for half in region.halves(name):
-            try:
-                least, most = _bracket(session, report, half, None)
-            except Refused:
-                continue
-            if not least <= report.bound < most:
-                return DEPTH
-            if most - least < (whole[1] - whole[0]) * Fraction(9, 10):
-                answer = SHRINKS
+    for half in halves:
+        try:
+            least, most = _bracket(session, report, half, None)
+        except Refused:
+            continue
+        if not least <= report.bound < most:
+            return DEPTH
+        if most - least < (whole[1] - whole[0]) * Fraction(9, 10):
+            answer = CLOSER
     return answer
 
 

@@ -64,7 +64,7 @@ def near(value: Fraction, digits: int = 6, rounding: str = decimal.ROUND_HALF_EV
     with decimal.localcontext() as context:
         context.prec, context.rounding = digits, rounding
         number = (decimal.Decimal(value.numerator) / decimal.Decimal(value.denominator)).normalize()
-    if number and (number.adjusted() < -5 or number.adjusted() > 15):
+    if number and (number.adjusted() < -4 or number.adjusted() > 15):
         return '%se%d' % (number.scaleb(-number.adjusted()).normalize(), number.adjusted())
     return format(number, 'f')
 

@@ -42,18 +42,19 @@ def run(given: argparse.Namespace) -> int:
         if given.json:
             asking.put_json(_data(found, session))
         else:
-            print('\n'.join(_lines(found, given.goal, width is not None, given.list, session)))
+            print('\n'.join(_lines(found, width is not None, given.list, session)))
     return SHORT if found.sup.is_short or found.inf.is_short else DONE
 
 
-def _lines(found: Bounds, goal: str, is_split: bool, is_listed: bool, session: Session) -> List[str]:
+def _lines(found: Bounds, is_split: bool, is_listed: bool, session: Session) -> List[str]:
     if is_split:
         lines = [line for side in (found.sup, found.inf) for line in _side_lines(side, found, session, is_listed)]
     else:
         (_, upper), (_, lower) = found.sup.critical, found.inf.critical
-        lines = ['at most %s: no scheduler reaches %s with more, anywhere in the region' % (above(upper.value, 9), goal),
+        by, at_best = (', whatever is chosen', ' by the best choices') if found.is_process else ('', '')
+        lines = ['at most %s is reached%s, anywhere in the region' % (above(upper.value, 9), by),
                  '  %s%s' % (exact(upper.value), _file(upper, session)),
-                 'at least %s: some scheduler reaches it with so much, everywhere in the region' % below(lower.value, 9),
+                 'at least %s is reached%s, everywhere in the region' % (below(lower.value, 9), at_best),
                  '  %s%s' % (exact(lower.value), _file(lower, session))]
     lines.append('%d bits; judged by %s' % (found.precision, session.program.judge))
     if not session.evidence.is_kept:

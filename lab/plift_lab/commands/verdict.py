@@ -16,7 +16,7 @@ import argparse
 from typing import List
 
 from .. import asking
-from ..diagnosis import ADVICE, Finding, examine
+from ..diagnosis import Finding, examine
 from ..regions import shown
 from ..report import UNKNOWN, Report
 from ..session import Session
@@ -45,7 +45,7 @@ def run(given: argparse.Namespace) -> int:
                 'verdict': report.verdict, 'question': report.question, 'behind': asking.behind(report),
                 'shares': {kind: exact(share) for kind, share in report.shares.items()},
                 'unknown': [{'region': shown(one.leaf.rectangle).strip(), 'least': exact(one.least),
-                             'most': exact(one.most), 'help': one.help} for one in found]})
+                             'most': exact(one.most), 'help': one.help, 'axis': one.axis} for one in found]})
         else:
             print(report.verdict_line)
             if not given.brief:
@@ -61,7 +61,7 @@ def _lines(report: Report, found: List[Finding], session: Session) -> List[str]:
                      % (below(one.least, 9), above(one.most, 9), report.precision, report.bound))
         if one.sharp != (one.least, one.most):
             lines.append('  between %s and %s at the most bits' % (below(one.sharp[0], 13), above(one.sharp[1], 13)))
-        lines.append('  ' + ADVICE[one.help])
+        lines.append('  ' + one.advice)
     others = sum(count for (kind, _), count in report.counts.items() if kind == UNKNOWN) - len(found)
     if found and others:
         lines.append('and %d other unknown leaves, at most as large (--look N looks at more)' % others)

@@ -21,6 +21,9 @@ const places = new Int32Array(tree.count), picks = new Int32Array(tree.count);
   }
 }
 
+// Inside a large enough rejected leaf of a decision process stands the number of its scheduler.
+plot.label = (node) => data.isProcess && tree.kind[node] === REJECT ? `${data.picks[picks[tree.leaf[node]]]}` : '';
+
 function element(name, text, properties = {}) {
   const made = Object.assign(document.createElement(name), properties);
   if (text !== undefined) made.textContent = text;
@@ -43,6 +46,7 @@ function rows(table, head, body, isExact = false) {
 }
 
 function percent(share) {
+  if (share === 0 || share === 1) return `${100 * share} %`;
   const text = (100 * share).toFixed(2);
   return share > 0 && text === '0.00' ? '< 0.01 %' : share < 1 && text === '100.00' ? '> 99.99 %' : text + ' %';
 }
@@ -229,7 +233,8 @@ function buildLegend() {
     const context = sample.getContext('2d');
     context.fillStyle = plot.fill(context, kind, ratio, plot.color);
     context.fillRect(0, 0, sample.width, sample.height);
-    item.append(sample, `${NAMES[kind]}, ${data.shares[kind].percent}`);
+    const note = kind === REJECT && data.isProcess ? ' (inside: the number of the scheduler)' : '';
+    item.append(sample, `${NAMES[kind]}, ${data.shares[kind].percent}${note}`);
     list.append(item);
   });
 }

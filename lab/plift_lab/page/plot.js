@@ -6,6 +6,7 @@ class Plot {
     this.point = new Float64Array(Math.max(parameters.length, 1)).fill(UNIT / 2);
     this.x = this.y = -1;  // parameters on the axes
     this.marked = null;    // a leaf with an outline
+    this.label = () => '';  // what stands inside a leaf
     this.whole();
   }
 
@@ -123,10 +124,24 @@ class Plot {
       context.fillStyle = isSmall ? plain[kind] : fills[kind];
       context.fillRect(x0, y0, wide, tall);
       if (!isSmall) context.strokeRect(x0 + 0.5, y0 + 0.5, wide - 1, tall - 1);
+      this.drawLabel(context, this.label(node), x0, y0, wide, tall, color);
     });
     this.drawAxes(context, xTicks, yTicks, color);
     this.drawMark();
     return { seen, counts };
+  }
+
+  drawLabel(context, text, x, y, wide, tall, color) {
+    const ratio = this.area.ratio, high = 16 * ratio, width = (10 + 8 * text.length) * ratio;
+    if (!text || wide < width + 6 * ratio || tall < high + 6 * ratio) return;
+    const left = Math.round(x + (wide - width) / 2), top = Math.round(y + (tall - high) / 2);
+    context.fillStyle = color('card');
+    context.fillRect(left, top, width, high);
+    context.fillStyle = color('ink');
+    context.font = `${12 * ratio}px system-ui, sans-serif`;
+    context.textAlign = 'center';
+    context.textBaseline = 'middle';
+    context.fillText(text, left + width / 2, top + high / 2 + ratio);
   }
 
   // Which part of the window a leaf has on an axis.
