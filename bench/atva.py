@@ -5,6 +5,7 @@
     bench/atva.py --only brp,nand        # some families
     bench/atva.py --model brp 256 5      # writes one model
     bench/atva.py --published FILE       # a CSV table of other figures: model, and any columns, printed beside
+    bench/atva.py --limit 600            # more than a minute for each model
 
 The models are written anew from the descriptions of the protocols (bounded retransmission, crowds, multiplexing of NAND
 gates, zero configuration, randomized consensus), state by state. Each parameter's interval runs from 1/100000 to
@@ -17,6 +18,7 @@ from __future__ import annotations
 import argparse
 import csv
 import resource
+import signal
 import sys
 import time
 from collections import namedtuple
@@ -249,7 +251,15 @@ JOBS = [
 COLUMNS = ('model', 'parameters', 'states', 'transitions', 'bound', 'depth', 'regions', 'safe', 'unsafe', 'unknown', 'covered', 'seconds')
 
 
-def ask(job: Job, share: Fraction, keep: str) -> Dict[str, str]:
+class TimeUp(Exception):
+    """A model that took too long."""
+
+
+def end_of_time(number: int, frame: object) -> None:
+    raise TimeUp
+
+
+def ask(job: Job, share: Fraction, keep: str, limit: int) -> Dict[str, str]:
     """The columns of a job: regions are the leaves of its last report, seconds those of the processor for all depths."""
     line = {'model': job.name, 'bound': job.bound}
     try:
@@ -258,11 +268,17 @@ def ask(job: Job, share: Fraction, keep: str) -> Dict[str, str]:
         return dict(line, covered='beyond the limits: %s' % large)
     region = Region(tuple((name, Fraction(1, 10 ** 5), 1 - Fraction(1, 10 ** 5)) for name in model.parameters))
     begin = resource.getrusage(resource.RUSAGE_CHILDREN)
+    signal.alarm(limit)
     try:
         with Session(str(Path(keep) / job.name.replace(' ', '')) if keep else None) as session:
             report = find_verdict(session, Question(model, job.goal, Fraction(job.bound), region), share)
     except Fault as fault:
         return dict(line, covered=str(fault))
+    except TimeUp:
+        return dict(line, parameters=str(len(model.parameters)), states=str(model.text.count(b'state ')),
+                    transitions=str(model.text.count(b' : ')), covered='stopped after %d s' % limit)
+    finally:
+        signal.alarm(0)
     spent = resource.getrusage(resource.RUSAGE_CHILDREN)
     counts = dict.fromkeys(('accept', 'reject', 'unknown'), 0)
     for (kind, _), count in report.counts.items():
@@ -286,6 +302,7 @@ def main() -> int:
     words.add_argument('--published', metavar='FILE', help='other figures, printed beside')
     words.add_argument('--coverage', default='95', metavar='PERCENT')
     words.add_argument('--keep', default='', metavar='FOLDER')
+    words.add_argument('--limit', default='60', metavar='SECONDS', help='a model that takes longer is stopped; 60 if left out')
     given = words.parse_args()
     if given.model:
         if given.model[0] not in FAMILIES or not all(word.isdigit() for word in given.model[1:]):
@@ -299,6 +316,10 @@ def main() -> int:
     unknown = [name for name in only if name not in FAMILIES]
     if unknown or not given.coverage.isdigit() or int(given.coverage) > 100:
         words.error('no family %s' % ', '.join(unknown) if unknown else '--coverage is a whole number up to 100')
+    if not given.limit.isdigit() or not 0 < int(given.limit) < 10 ** 6:
+        words.error('--limit is a number of seconds')
+    signal.signal(signal.SIGALRM, end_of_time)
+    signal.signal(signal.SIGTERM, signal.default_int_handler)
     try:
         others = published(given.published) if given.published else {}
     except (OSError, KeyError, csv.Error, UnicodeDecodeError) as fault:
@@ -308,7 +329,7 @@ def main() -> int:
     begin = time.monotonic()
     for job in JOBS:
         if job.family in only:
-            row = dict(ask(job, Fraction(int(given.coverage), 100), given.keep), **others.get(job.name, {}))
+            row = dict(ask(job, Fraction(int(given.coverage), 100), given.keep, int(given.limit)), **others.get(job.name, {}))
             print('| %s |' % ' | '.join(row.get(column, '') for column in columns), flush=True)
     print('\nSeconds are those of the processor, for all depths that were tried and for checking each report; %d seconds passed in all.'
           % (time.monotonic() - begin))

@@ -17,7 +17,7 @@ from .faults import Fault
 from .models import Model
 from .regions import Region
 from .report import UNKNOWN, Report
-from .search import Limits, Search, Side
+from .search import Desk, Limits, Search, Side
 from .session import Question, Session
 from .values import exact, near, percent, read_bound, read_number, read_share
 
@@ -50,7 +50,8 @@ def find_bounds(session: Session, model: Model, goal: str, region: Region, preci
         session.progress.say('%s between %s and %s after %d questions' % (name, near(least), near(most), done))
 
     live = [name for name in first.live if name in region.names]
-    sides = [Search(ask, is_sup, region, live, Limits(width, calls), tell, session.evidence.forget) for is_sup in (True, False)]
+    desk = Desk(ask, tell, session.evidence.forget)
+    sides = [Search(desk, is_sup, region, live, Limits(width, calls)) for is_sup in (True, False)]
     sup, inf = (side.run() for side in sides)
     return Bounds(sup, inf, bits, sum(side.calls for side in sides), first.kind == 'mdp')
 

@@ -5,7 +5,7 @@ from __future__ import annotations
 import argparse
 import json
 import sys
-from typing import Any, Dict, Iterable, List
+from typing import Any, Dict, Iterable, List, Optional, TextIO
 
 from .evidence import read_file
 from .models import Model
@@ -50,7 +50,7 @@ def region_of(given: argparse.Namespace) -> Region:
     return Region.read(given.region)
 
 
-def precision_of(given: argparse.Namespace):
+def precision_of(given: argparse.Namespace) -> Optional[int]:
     """The precision that was asked for, if any."""
     return read_count(given.precision, '--precision', 1, MOST_BITS) if given.precision else None
 
@@ -58,7 +58,7 @@ def precision_of(given: argparse.Namespace):
 def behind(report: Report) -> Dict[str, Any]:
     """A report as evidence, for JSON."""
     return {'report': report.path, 'check': report.soundness, 'question': report.question, 'region': report.region.text,
-            'depth': report.depth, 'precision': report.precision, 'words': report.origin.get('words', [])}
+            'depth': report.depth, 'precision': report.precision, 'words': report.origin.words}
 
 
 def behind_lines(reports: Iterable[Report], asked: Session) -> List[str]:
@@ -71,6 +71,6 @@ def behind_lines(reports: Iterable[Report], asked: Session) -> List[str]:
     return lines + ['  judged by %s' % asked.program.judge]
 
 
-def put_json(answer: Any) -> None:
-    """An answer as JSON."""
-    sys.stdout.write(json.dumps(answer, indent=1) + '\n')
+def put_json(answer: Any, out: Optional[TextIO] = None) -> None:
+    """An answer as JSON; on standard output unless something else is told."""
+    (out or sys.stdout).write(json.dumps(answer, indent=1) + '\n')

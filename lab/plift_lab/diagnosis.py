@@ -45,12 +45,16 @@ class Finding:
 def examine(session: Session, report: Report, most: int) -> List[Finding]:
     """Looks at some unknown leaves, the greatest first."""
     unknown = sorted((leaf for leaf in report.leaves() if leaf.kind == UNKNOWN), key=lambda leaf: leaf.depth)
-    return [_examine(session, report, leaf) for leaf in unknown[:most]]
+    found = [_examine(session, report, leaf) for leaf in unknown[:most]]
+    return [one for one in found if one is not None]
 
 
-def _examine(session: Session, report: Report, leaf: Leaf) -> Finding:
+def _examine(session: Session, report: Report, leaf: Leaf) -> Optional[Finding]:
     region = Region(tuple((name, a, b) for name, (a, b) in leaf.own_rectangle.items()))
-    coarse = _bracket(session, report, region, report.precision)
+    try:
+        coarse = _bracket(session, report, region, report.precision)
+    except Refused:  # its ends have no room as a region of their own
+        return None
     try:
         sharp = _bracket(session, report, region, MOST_BITS)
     except Refused:  # so many bits have no room
@@ -83,7 +87,7 @@ def _helped_by(session: Session, report: Report, halves: Tuple[Region, Region], 
     return answer
 
 
-def _bracket(session: Session, report: Report, region: Region, bits) -> Tuple[Fraction, Fraction]:
+def _bracket(session: Session, report: Report, region: Region, bits: Optional[int]) -> Tuple[Fraction, Fraction]:
     def ask(part: Region, bound: Fraction) -> Report:
         return session.ask_again(report, part, bound, precision=bits)
 

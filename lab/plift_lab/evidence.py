@@ -10,14 +10,13 @@ import hashlib
 import json
 import os
 import shutil
+import sys
 import tempfile
-from fractions import Fraction
 from pathlib import Path
-from typing import Any, Dict, List, Optional
+from typing import Dict, Optional
 
 from .faults import Fault
-from .models import Scale
-from .values import exact, read_number
+from .origin import Origin
 
 MARK = 'plift-lab.json'
 MOST_BYTES = 2 ** 26
@@ -27,12 +26,12 @@ def read_file(name: str) -> bytes:
     """A file's bytes, or standard input's for `-`; one byte more than plift takes at most."""
     try:
         if name == '-':
-            import sys
             return sys.stdin.buffer.read(MOST_BYTES + 1)
         with open(name, 'rb') as source:
             return source.read(MOST_BYTES + 1)
     except (OSError, ValueError) as fault:
-        raise Fault('%s can\'t be read: %s' % (name or 'a file without a name', getattr(fault, 'strerror', None) or fault)) from None
+        cause = getattr(fault, 'strerror', None) or fault
+        raise Fault('%s can\'t be read: %s' % (name or 'a file without a name', cause)) from None
 
 
 def write_file(path: Path, data: bytes) -> None:
@@ -50,20 +49,14 @@ def digest(data: bytes) -> str:
     return hashlib.sha256(data).hexdigest()
 
 
-def read_origin(path: Path, report: bytes) -> Dict[str, Any]:
+def read_origin(path: Path, report: bytes) -> Optional[Origin]:
     """What the file beside a report tells of it: nothing where there is none, or it is of another report."""
     beside = path.with_name(path.name + '.json')
     if not beside.is_file():
-        return {}
+        return None
     try:
         told = json.loads(beside.read_text('utf-8'))
-        if told.get('sha256') != digest(report):
-            return {}
-        scale = {str(name): (read_number(low), read_number(high)) for name, (low, high) in told['scale'].items()}
-        fixed = {str(name): read_number(value) for name, value in told['fixed'].items()}
-        if any(low >= high for low, high in scale.values()):
-            raise ValueError('an empty interval')
-        return {'goal': str(told['goal']), 'scale': scale, 'fixed': fixed, 'words': told['words'], 'model': told['model']}
+        return Origin.read(told) if told.get('sha256') == digest(report) else None
     except (Fault, OSError, ValueError, KeyError, TypeError, AttributeError, RecursionError) as fault:
         raise Fault('%s isn\'t in the form that plift-lab writes (%s); move it away to read the report by itself'
                     % (beside, fault)) from None
@@ -115,12 +108,9 @@ class Evidence:
         self._count += 1
         return self.folder / ('%d.report' % self._count)
 
-    def note(self, path: Path, job: str, report: bytes, words: List[str], model: Path, goal: str, scale: Scale,
-             fixed: Dict[str, Fraction], soundness: str) -> None:
+    def note(self, path: Path, job: str, report: bytes, origin: Origin) -> None:
         """Tells of a report how it came to be."""
-        told = {'job': job, 'sha256': digest(report), 'check': soundness, 'words': words, 'model': model.name, 'goal': goal,
-                'scale': {name: [exact(low), exact(high)] for name, (low, high) in scale.items()},
-                'fixed': {name: exact(value) for name, value in fixed.items()}}
+        told = dict(origin.told, job=job, sha256=digest(report))
         lines = ',\n'.join('%s: %s' % (json.dumps(name), json.dumps(value)) for name, value in told.items())
         write_file(path.with_name(path.name + '.json'), ('{\n%s\n}\n' % lines).encode())
         self._jobs[job] = path.name

@@ -12,7 +12,7 @@ from fractions import Fraction
 from typing import Any, Dict, Iterator, List, Optional, Tuple
 
 from .faults import Fault
-from .models import Scale
+from .origin import Origin
 from .regions import Interval, Region
 from .values import percent
 
@@ -58,24 +58,25 @@ class Leaf:
 
 
 class Report:
-    """A sound report. `origin` is what is known of how it came to be (the goal's label, a rescaling, a file)."""
+    """A sound report, with what `plift check` says of it and what is known of how it came to be."""
 
-    def __init__(self, data: bytes, soundness: str, origin: Optional[Dict[str, Any]] = None, path: str = '') -> None:
-        self.data, self.soundness, self.path = data, soundness, path
-        self.origin = origin or {}
+    def __init__(self, data: bytes, soundness: str, origin: Origin = Origin(), path: str = '') -> None:
+        self.data, self.soundness, self.origin, self.path = data, soundness, origin, path
         self._ends: Dict[Tuple[int, int], Fraction] = {}
         try:
             self._read_head()
             self._read_tree()
         except (ValueError, IndexError, KeyError, AttributeError):
-            raise Fault('%s was called sound, but it isn\'t in a form that is known here' % (path or 'the report')) from None
+            raise Fault('%s was called sound, but it isn\'t in a form that is known here'
+                        % (path or 'the report')) from None
 
     def _read_head(self) -> None:
         box = re.search(rb'^box(.*)$', self.data, re.M)
         head = self.data[:box.start()].decode('ascii')
         self._model_begin = head.index('\nrow ') + 1
         self._model_end = head.index('\nbound ') + 1
-        lines = dict(line.partition(' ')[::2] for line in (head[:self._model_begin] + head[self._model_end:]).splitlines())
+        around = head[:self._model_begin] + head[self._model_end:]
+        lines = dict(line.partition(' ')[::2] for line in around.splitlines())
         if lines['plift'] != '1':
             raise Fault('a report of version %s isn\'t read here; this reads version 1' % lines['plift'])
         self.kind, self.parameters = lines['kind'], lines['parameters'].split()[1:]
@@ -120,28 +121,13 @@ class Report:
         self._picks.append(pick)
 
     @property
-    def scale(self) -> Scale:
-        """For each parameter that was rescaled, the user's own ends."""
-        return self.origin.get('scale', {})
-
-    @property
-    def fixed(self) -> Dict[str, Fraction]:
-        """Values that were written into the model."""
-        return self.origin.get('fixed', {})
-
-    @property
-    def goal(self) -> str:
-        """The label that was asked for; a report doesn't hold it."""
-        return self.origin.get('goal', 'goal')
-
-    @property
     def question(self) -> str:
         """What was asked, as a line."""
-        return 'P( reach %s ) <= %s' % (self.goal, self.bound)
+        return 'P( reach %s ) <= %s' % (self.origin.goal, self.bound)
 
     def user(self, name: str, value: Fraction) -> Fraction:
         """A parameter's value in the user's own numbers."""
-        low, high = self.scale.get(name, (Fraction(0), Fraction(1)))
+        low, high = self.origin.scale.get(name, (Fraction(0), Fraction(1)))
         return low + (high - low) * value
 
     def user_end(self, place: int, end: int) -> Fraction:
@@ -157,7 +143,7 @@ class Report:
         ends = [Fraction(end, self.grid) for end in self.box]
         return Region(tuple((name, self.user(name, low), self.user(name, high))
                             for name, low, high in zip(self.parameters, ends[::2], ends[1::2])),
-                      tuple(sorted(self.fixed.items())))
+                      tuple(sorted(self.origin.fixed.items())))
 
     def leaves(self) -> Iterator[Leaf]:
         """The leaves, in the order of the report."""
@@ -209,7 +195,8 @@ class Report:
     @property
     def verdict_line(self) -> str:
         """The verdict with the shares of what there is."""
-        return '%s: %s%s' % (self.verdict, self.question, '' if 1 in self.shares.values() else ' (%s)' % shares_text(self))
+        shares = '' if 1 in self.shares.values() else ' (%s)' % shares_text(self)
+        return '%s: %s%s' % (self.verdict, self.question, shares)
 
     @property
     def picks(self) -> List[int]:

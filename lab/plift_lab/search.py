@@ -9,7 +9,7 @@ from __future__ import annotations
 import heapq
 from dataclasses import dataclass
 from fractions import Fraction
-from typing import Callable, List, Optional, Tuple
+from typing import Callable, List, NamedTuple, Optional, Tuple
 
 from .brackets import Ask, End, high, low
 from .faults import Refused
@@ -45,13 +45,19 @@ class Limits:
     calls: int
 
 
-class Search:
-    """One search for one side over one region."""
+class Desk(NamedTuple):
+    """Who is asked, who is told how far the search is, and who is told of reports that are needed no longer."""
+    ask: Ask
+    tell: Callable[[str, Fraction, Fraction, int], None]
+    forget: Callable[[str], None]
 
-    def __init__(self, ask: Ask, is_sup: bool, region: Region, live: List[str], limits: Limits,
-                 tell: Callable[[str, Fraction, Fraction, int], None], forget: Callable[[str], None]) -> None:
+
+class Search:
+    """One search for one side over one region, which is split on some of its parameters."""
+
+    def __init__(self, desk: Desk, is_sup: bool, region: Region, live: List[str], limits: Limits) -> None:
         self.is_sup, self.region, self.live, self.limits = is_sup, region, live, limits
-        self._ask, self._tell, self._forget, self.calls = ask, tell, forget, 0
+        self._desk, self.calls = desk, 0
         self._sign = 1 if is_sup else -1
         self._name = 'sup' if is_sup else 'inf'
         self._witness: Optional[Tuple[Region, End]] = None
@@ -62,7 +68,7 @@ class Search:
         self._inner(self.region)
         cover = [(-self._sign * root.value, order, self.region, root)]
         while self.limits.width is not None and self._gap(cover[0][3]) > self.limits.width:
-            self._tell(self._name, *self._ends(cover[0][3]), self.calls)
+            self._desk.tell(self._name, *self._ends(cover[0][3]), self.calls)
             halves = self._split(cover[0][2])
             if halves is None:
                 is_short = True
@@ -88,16 +94,16 @@ class Search:
     def _outer(self, region: Region) -> End:
         """How far a rectangle may get."""
         self.calls += 1
-        return (high if self.is_sup else low)(self._ask, region)
+        return (high if self.is_sup else low)(self._desk.ask, region)
 
     def _inner(self, region: Region) -> Fraction:
         """How far it gets surely. The best one is kept as the witness."""
         self.calls += 1
-        end = (low if self.is_sup else high)(self._ask, region)
+        end = (low if self.is_sup else high)(self._desk.ask, region)
         if self._witness is None or self._sign * end.value > self._sign * self._witness[1].value:
             self._witness = region, end
         else:
-            self._forget(end.path)
+            self._desk.forget(end.path)
         return end.value
 
     def _split(self, region: Region) -> Optional[Halves]:
@@ -119,7 +125,7 @@ class Search:
         for *_, halves in tried:
             if halves is not chosen:
                 for _, end in halves:
-                    self._forget(end.path)
+                    self._desk.forget(end.path)
         return chosen
 
     def _left_open(self, halves: Halves) -> Tuple[Fraction, Fraction]:

@@ -11,8 +11,9 @@ from pathlib import Path
 from typing import Any, Callable, Dict, List, Optional, Tuple
 
 from .evidence import Evidence, digest, read_file, read_origin
-from .faults import Fault, Refused
+from .faults import Refused
 from .models import Model, Scale
+from .origin import Origin
 from .program import find_program
 from .regions import Region
 from .report import Report
@@ -51,44 +52,49 @@ class Question:
 
 
 class Progress:
-    """Tells on standard error how much of the region a running job has settled, and how long it may still take."""
+    """Tells on standard error how far a job is: on a terminal in one line that is written over, else in a line now and
+    then."""
 
     def __init__(self, is_on: bool) -> None:
         self.is_on = is_on
         self.is_terminal = sys.stderr.isatty()
-        self._begin, self._told, self._width = 0.0, 0.0, 0
+        self._told, self._width = time.monotonic(), 0
 
-    def begin(self) -> Optional[Callable[[Path], None]]:
-        """What is called while a job runs."""
+    def watcher(self) -> Optional[Callable[[Path], None]]:
+        """What is called with the growing report while a job runs."""
         if not self.is_on:
             return None
-        self._begin = self._told = time.monotonic()
-        follower = Follower()
+        begin, follower = time.monotonic(), Follower()
 
         def watch(path: Path) -> None:
-            now = time.monotonic()
-            if now - self._told < (0.5 if self.is_terminal else 10):
-                return
-            self._told = now
-            share, spent = follower.settled(path), now - self._begin
-            left = ', some %s left' % seconds_shown(spent / share - spent) if share > 0.01 else ''
-            self.say('%.1f %% of the region is settled after %s%s' % (100 * share, seconds_shown(spent), left))
+            if self._is_due():
+                share, spent = follower.settled(path), time.monotonic() - begin
+                left = ', some %s left' % seconds_shown(spent / share - spent) if share > 0.01 else ''
+                self._put('%.1f %% of the region is settled after %s%s' % (100 * share, seconds_shown(spent), left))
 
         return watch
 
     def say(self, text: str) -> None:
-        """One line, written over the last one on a terminal."""
-        if self.is_on:
-            self._width = max(self._width, len(text)) if self.is_terminal else 0
-            sys.stderr.write(('\r' + text.ljust(self._width)) if self.is_terminal else text + '\n')
-            sys.stderr.flush()
+        """Tells it, unless something was told just before."""
+        if self.is_on and self._is_due():
+            self._put(text)
 
     def clear(self) -> None:
         """Takes the line on a terminal away."""
-        if self.is_terminal and self._width:
+        if self._width:
             sys.stderr.write('\r' + ' ' * self._width + '\r')
             sys.stderr.flush()
             self._width = 0
+
+    def _is_due(self) -> bool:
+        return time.monotonic() - self._told >= (0.2 if self.is_terminal else 10)
+
+    def _put(self, text: str) -> None:
+        self._told = time.monotonic()
+        if self.is_terminal:
+            self._width = max(self._width, len(text))
+        sys.stderr.write('\r' + text.ljust(self._width) if self.is_terminal else text + '\n')
+        sys.stderr.flush()
 
 
 class Follower:
@@ -135,7 +141,6 @@ class Session:
         self.program = find_program()
         self.evidence = Evidence(keep)
         self.progress = Progress(is_told)
-        self.calls = 0
         self._room: Dict[str, int] = {}
 
     def __enter__(self) -> 'Session':
@@ -160,29 +165,24 @@ class Session:
                 self._room[path.name] = bits
 
     def _run(self, question: Question, region: Region, scale: Scale, model: Path, bits: int) -> Report:
-        words = question.words(region, bits)
-        fixed = dict(question.region.fixed)
-        job = digest(json.dumps([model.name, words, sorted((name, exact(low), exact(high)) for name, (low, high) in scale.items()),
-                                 sorted((name, exact(value)) for name, value in fixed.items())]).encode())
+        origin = Origin(question.goal, scale, dict(question.region.fixed), question.words(region, bits), model.name)
+        job = digest(json.dumps(origin.told, sort_keys=True).encode())
         known = self.evidence.find(job)
         if known:
             data = read_file(str(known))
-            origin = read_origin(known, data)
-            if origin:
+            if read_origin(known, data) == origin:
                 return Report(data, self.program.check(data), origin, str(known))
         report = self.evidence.next_report()
         part = report.with_name(report.name + '.part')
         try:
-            self.calls += 1
-            self.program.verify(words, model, part, self.progress.begin())
+            self.program.verify(origin.words, model, part, self.progress.watcher())
             data = read_file(str(part))
             soundness = self.program.check(data)
             part.replace(report)
         finally:
             if part.exists():
                 part.unlink()
-        self.evidence.note(report, job, data, words, model, question.goal, scale, fixed, soundness)
-        origin = {'goal': question.goal, 'scale': scale, 'fixed': fixed, 'words': words, 'model': model.name}
+        self.evidence.note(report, job, data, origin)
         return Report(data, soundness, origin, str(report))
 
     def read(self, name: str) -> Report:
@@ -191,8 +191,11 @@ class Session:
         try:
             soundness = self.program.check(data)
         except Refused as refusal:
-            raise Fault('%s: %s' % ('the report' if name == '-' else name, refusal.note or refusal), refusal.status) from None
-        return Report(data, soundness, {} if name == '-' else read_origin(Path(name), data), '' if name == '-' else name)
+            refusal.args = ('%s: %s' % ('the report' if name == '-' else name, refusal.note or refusal),)
+            raise
+        if name == '-':
+            return Report(data, soundness)
+        return Report(data, soundness, read_origin(Path(name), data) or Origin(), name)
 
     def ask_again(self, report: Report, region: Region, bound: Fraction, depth: int = 0,
                   precision: Optional[int] = None) -> Report:

@@ -59,7 +59,7 @@ class Read(InFolder):
             name = self.file('x.report', data)
             self.file('x.report.json', beside)
             try:
-                self.assertEqual(plift_lab.read(name).scale, {})
+                self.assertEqual(plift_lab.read(name).origin.scale, {})
             except plift_lab.Fault as fault:
                 self.assertIn('move it away', str(fault))
 

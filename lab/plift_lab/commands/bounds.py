@@ -76,7 +76,8 @@ def _side_lines(side: Side, found: Bounds, session: Session, is_listed: bool) ->
         lines.append('  %s %s%s%s' % (what, exact(end.value), where, _file(end, session)))
     others = len(side.cover) - 1
     if others and not is_listed:
-        lines.append('  and no %s in %d other rectangle%s' % ('more' if side.name == 'sup' else 'less', others, 's' * (others > 1)))
+        more = 'more' if side.name == 'sup' else 'less'
+        lines.append('  and no %s in %d other rectangle%s' % (more, others, 's' * (others > 1)))
     if side.is_short:
         lines.append('  stopped before the width was reached, after %d questions' % found.calls)
     return lines

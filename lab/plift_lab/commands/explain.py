@@ -30,7 +30,8 @@ def run(given: argparse.Namespace) -> int:
     note = re.sub(r'^(plift(-lab)?: )?(plift refuses this: )?', '', ' '.join(given.note).strip())
     status = next((status for start, status in STATUSES if note.startswith(start)), None)
     if status is None:
-        raise Fault('%r is no note of plift; notes begin with %s' % (note[:80], ', '.join(start.strip() for start, _ in STATUSES)))
+        known = ', '.join(start.strip() for start, _ in STATUSES)
+        raise Fault('%r is no note of plift; notes begin with %s' % (note[:80], known))
     lines = hints(status, note, []) or _messages(note)
     if not lines:
         raise Fault('nothing is known here of the note %r; docs/FORMATS.md of plift lists all' % note[:80])

@@ -85,8 +85,9 @@ def _write_csv(told: Told) -> None:
 
 def _write_json(told: Told, program: str) -> None:
     report = told.report
-    head = dict(asking.behind(report), verdict=report.verdict, goal=report.goal, bound=told.number(report.bound), program=program,
-                parameters=report.parameters, fixed={name: told.number(value) for name, value in report.fixed.items()},
+    head = dict(asking.behind(report), verdict=report.verdict, goal=report.origin.goal, program=program,
+                bound=told.number(report.bound), parameters=report.parameters,
+                fixed={name: told.number(value) for name, value in report.origin.fixed.items()},
                 schedulers=report.schedulers if report.kind == 'mdp' else [])
     sys.stdout.write(json.dumps(head)[:-1] + ',\n"leaves": [')
     for leaf in report.leaves():

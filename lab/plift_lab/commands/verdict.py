@@ -29,7 +29,8 @@ def add_words(words: argparse.ArgumentParser) -> None:
     """The words of the command."""
     words.add_argument('report', metavar='REPORT', help='a file with a report; - for standard input')
     words.add_argument('--brief', action='store_true', help='one line and no more')
-    words.add_argument('--look', default='3', metavar='N', help='looks at so many unknown leaves, the greatest first; 3 if left out')
+    words.add_argument('--look', default='3', metavar='N',
+                       help='looks at so many unknown leaves, the greatest first; 3 if left out')
     asking.add_session(words)
 
 

@@ -17,7 +17,7 @@ from .. import asking
 from ..api import find_verdict
 from ..evidence import read_file, write_file
 from ..faults import DONE, SHORT, Fault
-from ..report import UNKNOWN
+from ..report import UNKNOWN, Report
 from ..session import MOST_DEPTH, Question
 from ..values import percent, read_bound, read_count, read_share
 
@@ -62,11 +62,11 @@ def run(given: argparse.Namespace) -> int:
                            % (percent(1 - report.shares[UNKNOWN]), report.depth, percent(Fraction(share))))
             told.write('\n'.join(asking.behind_lines([report], session)) + '\n')
         if given.json:
-            told.write(asking.json.dumps(answers, indent=1) + '\n')
+            asking.put_json(answers, told)
     return status
 
 
-def _put(name: str, report) -> None:
+def _put(name: str, report: Report) -> None:
     """Writes a report where the user wants it, and beside a file how it came to be."""
     if name == '-':
         sys.stdout.buffer.write(report.data)

@@ -44,8 +44,9 @@ def run(given: argparse.Namespace) -> int:
 
 def page(report: Report, judge: str, x: Optional[str] = None, y: Optional[str] = None, title: Optional[str] = None) -> str:
     """The page, as one text."""
-    parts = {'TITLE': html.escape(title or report.question), 'SUMMARY': html.escape(report.verdict_line), 'STYLE': _file('page.css'),
-             'SCRIPT': ''.join(map(_file, SCRIPTS)), 'DATA': _json(_data(report, judge, _axes(report, x, y)))}
+    parts = {'TITLE': html.escape(title or report.question), 'SUMMARY': html.escape(report.verdict_line),
+             'STYLE': _file('page.css'), 'SCRIPT': ''.join(map(_file, SCRIPTS)),
+             'DATA': _json(_data(report, judge, _axes(report, x, y)))}
     # One pass: what stands in a part is never taken for a place of another part.
     return re.sub(r'\{\{([A-Z]+)\}\}', lambda place: parts[place.group(1)], _file('page.html'))
 
@@ -82,7 +83,8 @@ def _data(report: Report, judge: str, axes: Tuple[int, int]) -> Dict[str, Any]:
     live = sorted(set(report.parameters.index(name) for name in report.live) | {axis for axis in axes if axis >= 0})
     schedulers = report.scheduler_texts
     return {
-        'parameters': [{'name': name, 'low': exact(low), 'high': exact(high)} for name, low, high in report.region.intervals],
+        'parameters': [{'name': name, 'low': exact(low), 'high': exact(high)}
+                       for name, low, high in report.region.intervals],
         'axes': axes, 'live': live, 'isProcess': report.kind == 'mdp', 'precision': report.precision,
         'tree': ''.join('%x' % node if isinstance(node, int) else node[0].upper() for node in report.nodes),
         'values': [value for value in report.values if value is not None], 'picks': report.picks,
@@ -95,12 +97,12 @@ def _data(report: Report, judge: str, axes: Tuple[int, int]) -> Dict[str, Any]:
 def _facts(report: Report, judge: str) -> List[Tuple[str, str]]:
     facts = [('report', report.path or 'standard input'), ('judged', '%s, by %s' % (report.soundness, judge)),
              ('question', report.question), ('region', report.region.text.strip() or 'no parameters')]
-    facts += [('%s' % name, 'fixed at %s' % exact(value)) for name, value in report.fixed.items()]
+    facts += [('%s' % name, 'fixed at %s' % exact(value)) for name, value in report.origin.fixed.items()]
     dead = [name for name in report.parameters if name not in report.live]
     if dead:
         facts.append(('no row depends on', ', '.join(dead)))
-    facts += [('model', '%s, %d states' % ('decision process' if report.kind == 'mdp' else 'Markov chain', report.states)),
-              ('precision', '%d bits' % report.precision), ('depth', 'at most %d halvings' % report.depth)]
-    if report.scale:
+    kind = 'decision process' if report.kind == 'mdp' else 'Markov chain'
+    facts += [('model', '%s, %d states' % (kind, report.states)), ('precision', '%d bits' % report.precision), ('depth', 'at most %d halvings' % report.depth)]
+    if report.origin.scale:
         facts.append(('rescaled', 'the report\'s own parameters run from 0 to 1; this page tells yours'))
     return facts

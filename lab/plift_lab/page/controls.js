@@ -79,16 +79,17 @@ function tell(leaf) {
     card.append(element('p', 'No certificate of either kind was found for all of it at this precision and depth.'));
   } else {
     const value = fraction(BigInt(data.values[places[leaf.number]]), 1n << BigInt(data.precision));
-    card.append(element('p', leaf.kind === ACCEPT
-      ? `At most ${exactText(value)} (${decimal(toNumber(value), 9)}) is reached, whatever is chosen.`
-      : `At least ${exactText(value)} (${decimal(toNumber(value), 9)}) is reached${data.isProcess ? ' by the choices below' : ''}.`));
+    const number = `${exactText(value)} (${decimal(toNumber(value), 9)})`;
+    const by = !data.isProcess ? '' : leaf.kind === ACCEPT ? ', whatever is chosen' : ' by the choices below';
+    card.append(element('p', `At ${leaf.kind === ACCEPT ? 'most' : 'least'} ${number} is reached${by}.`));
   }
   const table = element('table');
   rows(table, ['', 'about', 'exactly'], parameters.map((_, axis) => interval(axis, leaf.low[axis], leaf.high[axis])), true);
   card.append(table, element('p', `Depth ${leaf.depth}, ${percent(2 ** -leaf.depth)} of the region.`));
   if (leaf.kind === REJECT && data.isProcess) {
     const pick = data.picks[picks[leaf.number]], text = data.schedulers ? data.schedulers[pick] : null;
-    card.append(element('p', `Scheduler ${pick}` + (text === null ? ' (too long for this page: leaves --json tells it).' : ', for each state its choice:')));
+    const rest = text === null ? ' (too long for this page: leaves --json tells it).' : ', for each state its choice:';
+    card.append(element('p', `Scheduler ${pick}${rest}`));
     if (text !== null) card.append(element('code', text.length > 4000 ? text.slice(0, 4000) + ' ..' : text));
   }
 }
@@ -128,7 +129,8 @@ function step(name, sign) {
 }
 
 const KEYS = {
-  '+': () => plot.zoom(0.5), '=': () => plot.zoom(0.5), '-': () => plot.zoom(2), '0': () => plot.whole(), Home: () => plot.whole(),
+  '+': () => plot.zoom(0.5), '=': () => plot.zoom(0.5), '-': () => plot.zoom(2), 0: () => plot.whole(),
+  Home: () => plot.whole(),
 };
 const ARROWS = { ArrowLeft: ['x', -1], ArrowRight: ['x', 1], ArrowDown: ['y', -1], ArrowUp: ['y', 1] };
 
@@ -185,8 +187,11 @@ function buildAxes() {
   card.replaceChildren();
   if (live.length > 2) {
     for (const name of ['x', 'y']) {
-      const label = element('label', name === 'x' ? 'From left to right ' : 'From below up '), choice = element('select');
-      for (const axis of live) choice.append(element('option', parameters[axis].name, { value: axis, selected: axis === plot[name] }));
+      const label = element('label', name === 'x' ? 'From left to right ' : 'From below up ');
+      const choice = element('select');
+      for (const axis of live) {
+        choice.append(element('option', parameters[axis].name, { value: axis, selected: axis === plot[name] }));
+      }
       choice.addEventListener('change', () => {
         const chosen = Number(choice.value), other = name === 'x' ? plot.y : plot.x;
         const rest = chosen === other ? plot[name] : other;
@@ -203,7 +208,8 @@ function buildAxes() {
   for (const axis of live) {
     if (axis === plot.x || axis === plot.y) continue;
     const label = element('label', '', { className: 'slider' }), shown = element('output');
-    const slider = element('input', undefined, { type: 'range', min: 0, max: UNIT, step: UNIT / 256, value: plot.point[axis] });
+    const slider = element('input', undefined,
+      { type: 'range', min: 0, max: UNIT, step: UNIT / 256, value: plot.point[axis] });
     const update = () => { shown.textContent = decimal(plot.value(axis, plot.point[axis]), 6); };
     slider.addEventListener('input', () => {
       plot.point[axis] = Number(slider.value);
@@ -221,7 +227,8 @@ function buildAxes() {
 function buildFacts() {
   const list = byId('facts');
   for (const [name, text] of data.facts) list.append(element('dt', name), element('dd', text));
-  rows(byId('depths'), ['depth', ...NAMES], tree.depths().map((counts, depth) => [depth, ...counts.map((count) => count.toLocaleString('en'))]));
+  const shown = (count) => count.toLocaleString('en');
+  rows(byId('depths'), ['depth', ...NAMES], tree.depths().map((counts, depth) => [depth, ...counts.map(shown)]));
 }
 
 function buildLegend() {
@@ -251,7 +258,8 @@ function showTheme() {
 }
 
 function savePicture() {
-  const made = element('canvas', undefined, { width: plot.canvas.width, height: plot.canvas.height }), context = made.getContext('2d');
+  const made = element('canvas', undefined, { width: plot.canvas.width, height: plot.canvas.height });
+  const context = made.getContext('2d');
   context.fillStyle = plot.color('ground');
   context.fillRect(0, 0, made.width, made.height);
   context.drawImage(plot.canvas, 0, 0);

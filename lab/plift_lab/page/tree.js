@@ -93,12 +93,14 @@ function exactText([above, below]) { return below === 1n ? `${above}` : `${above
 
 function toNumber([above, below]) {
   const digits = Math.max(`${above}`.length, `${below}`.length) - 300;
-  return digits > 0 ? Number(above / 10n ** BigInt(digits)) / Number(below / 10n ** BigInt(digits)) : Number(above) / Number(below);
+  const scale = 10n ** BigInt(Math.max(digits, 0));  // so that both have room in a number
+  return Number(above / scale) / Number(below / scale);
 }
 
 function decimal(value, digits = 6) {
   if (value === 0) return '0';
   const size = Math.abs(value);
-  const text = size < 1e-4 || size >= 1e7 ? value.toExponential(digits - 1).replace(/\.?0+e/, 'e') : value.toPrecision(digits);
+  const isFar = size < 1e-4 || size >= 1e7;
+  const text = isFar ? value.toExponential(digits - 1).replace(/\.?0+e/, 'e') : value.toPrecision(digits);
   return text.includes('e') || !text.includes('.') ? text.replace('e+', 'e') : text.replace(/\.?0+$/, '');
 }
