@@ -237,18 +237,15 @@ class Job(NamedTuple):
         return '%s (%s)' % (self.family, ','.join(map(str, self.arguments)))
 
 
-JOBS = [
-    Job('brp', (64, 4), 'error', '1/10'), Job('brp', (128, 5), 'error', '1/10'), Job('brp', (256, 5), 'error', '1/10'),
-    Job('brp', (512, 5), 'error', '1/10'),
-    Job('crowds', (5, 4), 'observed', '1/10'), Job('crowds', (5, 5), 'observed', '1/10'), Job('crowds', (8, 5), 'observed', '1/10'),
-    Job('crowds', (10, 5), 'observed', '1/10'),
-    Job('nand', (5, 5), 'reliable', '1/10'), Job('nand', (10, 2), 'reliable', '1/10'), Job('nand', (10, 5), 'reliable', '1/10'),
-    Job('nand', (15, 5), 'reliable', '1/10'),
-    Job('zeroconf', (100,), 'collision', '1/2'), Job('zeroconf', (1000,), 'collision', '1/2'), Job('zeroconf', (10000,), 'collision', '1/2'),
-    Job('consensus', (2, 2), 'agree', '1/2'), Job('consensus', (2, 8), 'agree', '1/2'), Job('consensus', (3, 2), 'agree', '1/2'),
-    Job('consensus', (4, 2), 'agree', '1/2'),
-]
-COLUMNS = ('model', 'parameters', 'states', 'transitions', 'bound', 'depth', 'regions', 'safe', 'unsafe', 'unknown', 'covered', 'seconds')
+JOBS = [Job(family, arguments, goal, bound) for family, goal, bound, several in (
+    ('brp', 'error', '1/10', ((64, 4), (128, 5), (256, 5), (512, 5))),
+    ('crowds', 'observed', '1/10', ((5, 4), (5, 5), (8, 5), (10, 5))),
+    ('nand', 'reliable', '1/10', ((5, 5), (10, 2), (10, 5), (15, 5))),
+    ('zeroconf', 'collision', '1/2', ((100,), (1000,), (10000,))),
+    ('consensus', 'agree', '1/2', ((2, 2), (2, 8), (3, 2), (4, 2))),
+) for arguments in several]
+COLUMNS = ('model', 'parameters', 'states', 'transitions', 'bound', 'depth', 'regions', 'safe', 'unsafe', 'unknown', 'covered',
+           'seconds')
 
 
 class TimeUp(Exception):
@@ -283,9 +280,9 @@ def ask(job: Job, share: Fraction, keep: str, limit: int) -> Dict[str, str]:
     counts = dict.fromkeys(('accept', 'reject', 'unknown'), 0)
     for (kind, _), count in report.counts.items():
         counts[kind] += count
-    return dict(line, parameters=str(len(report.parameters)), states=str(report.states), transitions=str(model.text.count(b' : ')),
-                depth=str(report.depth), regions=str(sum(counts.values())), safe=str(counts['accept']), unsafe=str(counts['reject']),
-                unknown=str(counts['unknown']), covered='%.1f %%' % float(100 * (1 - report.shares['unknown'])),
+    return dict(line, parameters=str(len(report.parameters)), states=str(report.states),
+                transitions=str(model.text.count(b' : ')), depth=str(report.depth), regions=str(sum(counts.values())),
+                safe=str(counts['accept']), unsafe=str(counts['reject']), unknown=str(counts['unknown']), covered='%.1f %%' % float(100 * (1 - report.shares['unknown'])),
                 seconds='%.2f' % (spent.ru_utime + spent.ru_stime - begin.ru_utime - begin.ru_stime))
 
 
@@ -331,8 +328,8 @@ def main() -> int:
         if job.family in only:
             row = dict(ask(job, Fraction(int(given.coverage), 100), given.keep, int(given.limit)), **others.get(job.name, {}))
             print('| %s |' % ' | '.join(row.get(column, '') for column in columns), flush=True)
-    print('\nSeconds are those of the processor, for all depths that were tried and for checking each report; %d seconds passed in all.'
-          % (time.monotonic() - begin))
+    print('\nSeconds are those of the processor, for all depths that were tried and for checking each report; '
+          '%d seconds passed in all.' % (time.monotonic() - begin))
     return 0
 
 

@@ -16,6 +16,13 @@ import tempfile
 import time
 from pathlib import Path
 
+SLIDE = '''(() => {
+    const slider = document.querySelectorAll("input[type=range]")[%d];
+    slider.value = 300000;
+    slider.dispatchEvent(new Event("input"));
+})()'''
+ORDER = '''[...document.querySelectorAll("button, canvas[tabindex], select, input, summary")]
+    .map((one) => one.id || one.tagName).join(" ")'''
 SIZES = (('wide', 1440, 900), ('middle', 900, 1100), ('narrow', 390, 844))
 
 
@@ -84,7 +91,8 @@ class Browser:
     def key(self, key):
         """Presses a key."""
         for kind in ('keyDown', 'keyUp'):
-            self.call('Input.dispatchKeyEvent', type=kind, key=key, **({'text': key} if len(key) == 1 and kind == 'keyDown' else {}))
+            text = {'text': key} if len(key) == 1 and kind == 'keyDown' else {}
+            self.call('Input.dispatchKeyEvent', type=kind, key=key, **text)
 
     def mouse(self, kind, x, y, **more):
         """Moves or presses."""
@@ -93,7 +101,8 @@ class Browser:
     def size(self, width, height, is_dark):
         """How large the window is, and whether the system is dark."""
         self.call('Emulation.setDeviceMetricsOverride', width=width, height=height, deviceScaleFactor=1, mobile=False)
-        self.call('Emulation.setEmulatedMedia', features=[{'name': 'prefers-color-scheme', 'value': 'dark' if is_dark else 'light'}])
+        scheme = {'name': 'prefers-color-scheme', 'value': 'dark' if is_dark else 'light'}
+        self.call('Emulation.setEmulatedMedia', features=[scheme])
 
     def picture(self, path):
         """Writes what is seen."""
@@ -134,10 +143,10 @@ def use(browser):
     browser.mouse('mouseReleased', x + 60, y + 30, button='left', clickCount=1)
     yield 'drag', browser.tell(view)
     for slider in range(browser.tell('document.querySelectorAll("input[type=range]").length')):
-        browser.tell('(() => { const s = document.querySelectorAll("input[type=range]")[%d]; s.value = 300000; s.dispatchEvent(new Event("input")); })()' % slider)
+        browser.tell(SLIDE % slider)
         time.sleep(0.3)
-        yield 'slider', browser.tell('document.getElementById("axes").innerText + " " + document.getElementById("shares").innerText').replace('\n', ' | ')
-    yield 'focus order', browser.tell('[...document.querySelectorAll("button, canvas[tabindex], select, input, summary")].map(e => e.id || e.tagName).join(" ")')
+        yield 'slider', browser.tell('byId("axes").innerText + " " + byId("shares").innerText').replace('\n', ' | ')
+    yield 'focus order', browser.tell(ORDER)
     yield 'asks for nothing', browser.tell('performance.getEntriesByType("resource").length')
 
 

@@ -13,8 +13,8 @@ NAME = 'plift_lab'
 VERSION = re.search("^__version__ = '([^']+)'", (PACKAGE / '__init__.py').read_text('utf-8'), re.M).group(1)
 INFO = '%s-%s.dist-info' % (NAME, VERSION)
 TOLD = {
-    'METADATA': 'Metadata-Version: 2.1\nName: plift-lab\nVersion: %s\nLicense: MIT\nRequires-Python: >=3.8\nSummary: Numbers, thresholds, '
-                'leaves as data and pages to explore, over the proved program plift\n' % VERSION,
+    'METADATA': 'Metadata-Version: 2.1\nName: plift-lab\nVersion: %s\nLicense: MIT\nRequires-Python: >=3.8\n'
+                'Summary: Numbers, thresholds, leaves as data and pages to explore, over the proved program plift\n' % VERSION,
     'WHEEL': 'Wheel-Version: 1.0\nGenerator: plift-lab\nRoot-Is-Purelib: true\nTag: py3-none-any\n',
     'entry_points.txt': '[console_scripts]\nplift-lab = plift_lab.cli:main\n',
 }
@@ -25,11 +25,14 @@ def _sources():
     return sorted(path for path in PACKAGE.rglob('*') if path.is_file() and path.suffix in ('.py', '.html', '.css', '.js'))
 
 
+def _hash(data):
+    return base64.urlsafe_b64encode(hashlib.sha256(data).digest()).decode().rstrip('=')
+
+
 def _wheel(folder, files):
     name = '%s-%s-py3-none-any.whl' % (NAME, VERSION)
     files = dict(files, **{'%s/%s' % (INFO, part): text.encode() for part, text in TOLD.items()})
-    record = ''.join('%s,sha256=%s,%d\n' % (path, base64.urlsafe_b64encode(hashlib.sha256(data).digest()).decode().rstrip('='), len(data))
-                     for path, data in files.items())
+    record = ''.join('%s,sha256=%s,%d\n' % (path, _hash(data), len(data)) for path, data in files.items())
     with zipfile.ZipFile(str(Path(folder) / name), 'w', zipfile.ZIP_DEFLATED) as wheel:
         for path, data in files.items():
             wheel.writestr(path, data)

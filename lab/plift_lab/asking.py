@@ -62,13 +62,19 @@ def behind(report: Report) -> Dict[str, Any]:
 
 
 def behind_lines(reports: Iterable[Report], asked: Session) -> List[str]:
-    """The reports behind an answer, for people."""
-    if asked.evidence.is_kept:
-        lines = ['  %s: %s' % (report.path, report.soundness) for report in reports]
-    else:
-        lines = ['  %s' % report.soundness for report in reports]
-        lines.append('  (kept nowhere: --keep FOLDER keeps what stands behind the answer)')
-    return lines + ['  judged by %s' % asked.program.judge]
+    """The reports behind an answer, for people; those that the user has are named by their files."""
+    lines, is_lost = [], False
+    for report in reports:
+        is_held = asked.evidence.holds(report.path)
+        lines.append('  %s' % report.soundness if is_held else '  %s: %s' % (report.path, report.soundness))
+        is_lost = is_lost or is_held
+    return lines + ['  ' + line for line in judge_lines(asked, is_lost)]
+
+
+def judge_lines(asked: Session, is_lost: bool) -> List[str]:
+    """Who judged the reports, and how to keep them where they are lost."""
+    told = ['judged by %s' % asked.program.judge]
+    return told + ['kept nowhere: --keep FOLDER keeps the reports behind the answer'] * is_lost
 
 
 def put_json(answer: Any, out: Optional[TextIO] = None) -> None:

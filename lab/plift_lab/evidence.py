@@ -13,7 +13,12 @@ import shutil
 import sys
 import tempfile
 from pathlib import Path
-from typing import Dict, Optional
+from typing import Dict, Optional, TextIO
+
+try:
+    import fcntl
+except ImportError:  # a system without file locks
+    fcntl = None  # type: ignore[assignment]
 
 from .faults import Fault
 from .origin import Origin
@@ -70,6 +75,7 @@ class Evidence:
         self.folder = Path(named) if named is not None else Path(tempfile.mkdtemp(prefix='plift-lab.'))
         self._jobs: Dict[str, str] = {}
         self._count = 0
+        self._mark: Optional[TextIO] = None
         if self.is_kept:
             self._open()
 
@@ -79,7 +85,7 @@ class Evidence:
             names = sorted(entry.name for entry in self.folder.iterdir())
             if names and MARK not in names:
                 raise Fault('the folder %s holds other files: name one that is empty or new' % self.folder)
-            (self.folder / MARK).write_text('{"what": "reports behind answers of plift-lab"}\n')
+            self._lock()
         except OSError as fault:
             raise Fault('the folder %s can\'t be used: %s' % (self.folder, fault.strerror or fault)) from None
         for name in names:
@@ -90,6 +96,18 @@ class Evidence:
                     self._jobs[json.loads((self.folder / (name + '.json')).read_text('utf-8'))['job']] = name
                 except (OSError, ValueError, KeyError, TypeError):
                     continue
+
+    def _lock(self) -> None:
+        """Marks the folder as one of plift-lab, and keeps others out as long as this process lives."""
+        self._mark = open(str(self.folder / MARK), 'w', encoding='utf-8')
+        self._mark.write('{"what": "reports behind answers of plift-lab"}\n')
+        self._mark.flush()
+        if fcntl:
+            try:
+                fcntl.flock(self._mark, fcntl.LOCK_EX | fcntl.LOCK_NB)
+            except BlockingIOError:
+                self._mark.close()
+                raise Fault('the folder %s is in use by another plift-lab' % self.folder) from None
 
     def model_file(self, text: bytes) -> Path:
         """A file with a model's text."""
@@ -123,7 +141,13 @@ class Evidence:
                     os.unlink(name)
             self._jobs = {job: name for job, name in self._jobs.items() if name != Path(path).name}
 
+    def holds(self, path: str) -> bool:
+        """Whether a report is gone with this folder at the end."""
+        return not self.is_kept and Path(path).parent == self.folder
+
     def close(self) -> None:
-        """Removes a folder that nobody asked to keep."""
+        """Removes a folder that nobody asked to keep, and lets go of one that is kept."""
+        if self._mark:
+            self._mark.close()
         if not self.is_kept:
             shutil.rmtree(str(self.folder), ignore_errors=True)

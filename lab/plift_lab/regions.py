@@ -12,6 +12,7 @@ from .values import exact, read_number
 
 Interval = Tuple[Fraction, Fraction]
 NAME = re.compile('[A-Za-z_][A-Za-z0-9_]*')
+MOST_PARAMETERS = 16
 FORMS = 'write 1/10<=p<=3/10, or p=1/10..3/10, or p=1/10 for a fixed value, with commas between'
 
 
@@ -26,7 +27,10 @@ class Region:
         """Reads plift's own form, and two that need no quotes in a shell."""
         intervals: List[Tuple[str, Fraction, Fraction]] = []
         fixed: List[Tuple[str, Fraction]] = []
-        for clause in text.split(',') if text.strip() else []:
+        clauses = text.split(',') if text.strip() else []
+        if len(clauses) > MOST_PARAMETERS:
+            raise Fault('the region has %d clauses; a model has at most %d parameters' % (len(clauses), MOST_PARAMETERS))
+        for clause in clauses:
             name, low, high = _clause(clause.strip())
             if name in [one[0] for one in intervals] + [one[0] for one in fixed]:
                 raise Fault('the region names %s twice' % name)

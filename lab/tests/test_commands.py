@@ -15,18 +15,24 @@ from fractions import Fraction
 from pathlib import Path
 from unittest import mock
 
+from plift_lab.evidence import Evidence
+
 from .helpers import EXAMPLES, LINKS, RETRY, TOP, TREE, InFolder, run
 
 REGION = 'p=1/10..1/2,q=1/10..1/2'
+THIRD = b'@type: DTMC\n@model\nstate 0 init\n1 : 1/3\n2 : 2/3\nstate 1 a\n1 : 1\nstate 2\n2 : 1\n'
 QUESTION = (RETRY, '--goal', 'lost', '--region', REGION)
 
 
 class Verdict(InFolder):
 
     def test_statuses(self):
-        self.assertEqual([run('verdict', str(EXAMPLES / name))[0] for name in ('retry.report', 'coin.report', 'retry-tree.report')], [10, 20, 30])
+        names = ('retry.report', 'coin.report', 'retry-tree.report')
+        self.assertEqual([run('verdict', str(EXAMPLES / name))[0] for name in names], [10, 20, 30])
         unknown = str(self.folder / 'u.report')
-        self.assertEqual(run('verify', *QUESTION, '--bound', '1/40', '--report', unknown)[0], 0)
+        status, told, _ = run('verify', *QUESTION, '--bound', '1/40', '--report', unknown)
+        self.assertEqual((status, told.splitlines()[1]), (0, '  %s: sound accept 0 reject 0 unknown 1' % unknown))
+        self.assertNotIn('kept nowhere', told)
         self.assertEqual(run('verdict', unknown, '--brief')[0], 40)
 
     def test_brief_is_one_line(self):
@@ -35,7 +41,8 @@ class Verdict(InFolder):
 
     def test_precision_in_the_way(self):
         report = str(self.folder / 'a.report')
-        run('verify', LINKS, '--goal', 'lost', '--bound', '7/250', '--region', 'p=1/10..1/5,q=1/10..1/5', '--precision', '10', '--report', report)
+        run('verify', LINKS, '--goal', 'lost', '--bound', '7/250', '--region', 'p=1/10..1/5,q=1/10..1/5', '--precision', '10',
+            '--report', report)
         self.assertIn('more precision decides it', run('verdict', report)[1])
 
     def test_depth_in_the_way(self):
@@ -48,8 +55,7 @@ class Verdict(InFolder):
 
     def test_neither(self):
         report = str(self.folder / 'a.report')
-        coin = self.file('third.drn', b'@type: DTMC\n@model\nstate 0 init\n1 : 1/3\n2 : 2/3\nstate 1 a\n1 : 1\nstate 2\n2 : 1\n')
-        run('verify', coin, '--goal', 'a', '--bound', '1/3', '--report', report)
+        run('verify', self.file('third.drn', THIRD), '--goal', 'a', '--bound', '1/3', '--report', report)
         status, told, _ = run('verdict', report)
         self.assertEqual(status, 40)
         self.assertIn('between 0.333333333 and 0.333333334', told)
@@ -61,13 +67,15 @@ class Leaves(InFolder):
     def test_csv(self):
         rows = list(csv.DictReader(io.StringIO(run('leaves', TREE, '--csv')[1])))
         self.assertEqual([row['kind'] for row in rows], ['accepted'] + 3 * ['unknown'] + 2 * ['rejected'])
-        self.assertEqual((rows[4]['p_low'], rows[4]['q_high'], rows[4]['value'], rows[4]['scheduler']), ('1/10', '1/2', '27/1024', '0'))
+        columns = ('p_low', 'q_high', 'value', 'scheduler')
+        self.assertEqual([rows[4][column] for column in columns], ['1/10', '1/2', '27/1024', '0'])
         self.assertEqual(sum(Fraction(row['share']) for row in rows), 1)
 
     def test_json_and_decimals(self):
         told = json.loads(run('leaves', TREE, '--json')[1])
         self.assertEqual((told['verdict'], len(told['leaves']), told['schedulers'][1]), ('mixed', 6, [0, 0, 0, None, None]))
-        self.assertEqual(json.loads(run('leaves', TREE, '--json', '--decimals')[1])['leaves'][0]['rectangle'], {'p': [0.1, 0.2], 'q': [0.1, 0.2]})
+        told = json.loads(run('leaves', TREE, '--json', '--decimals')[1])
+        self.assertEqual(told['leaves'][0]['rectangle'], {'p': [0.1, 0.2], 'q': [0.1, 0.2]})
 
     def test_unknown_can_be_asked_again(self):
         regions = run('leaves', TREE, '--unknown')[1].splitlines()
@@ -86,7 +94,8 @@ class Verify(InFolder):
 
     def test_several_bounds(self):
         keep = str(self.folder / 'k')
-        status, told, _ = run('verify', *QUESTION, '--bound', '1/40', '--bound', '1/2000', '--bound', '1', '--depth', '2', '--keep', keep)
+        bounds = ('--bound', '1/40', '--bound', '1/2000', '--bound', '1')
+        status, told, _ = run('verify', *QUESTION, *bounds, '--depth', '2', '--keep', keep)
         self.assertEqual(status, 0)
         self.assertEqual(re.findall('^[a-z]+', told, re.M), ['mixed', 'rejected', 'accepted'])
         for number in (1, 2, 3):
@@ -94,12 +103,13 @@ class Verify(InFolder):
             self.assertTrue((self.folder / ('k/%d.report' % number)).is_file())
 
     def test_coverage_not_reached(self):
-        third = self.file('third.drn', b'@type: DTMC\n@model\nstate 0 init\n1 : 1/3\n2 : 2/3\nstate 1 a\n1 : 1\nstate 2\n2 : 1\n')
-        self.assertEqual(run('verify', third, '--goal', 'a', '--bound', '1/3', '--coverage', '90%')[0], 1)
+        words = ('--goal', 'a', '--bound', '1/3', '--coverage', '90%')
+        self.assertEqual(run('verify', self.file('third.drn', THIRD), *words)[0], 1)
 
     def test_the_report_on_standard_output(self):
-        done = subprocess.run([str(TOP / 'plift-lab'), 'verify', *QUESTION, '--bound', '1/40', '--depth', '4', '--precision', '10', '--report', '-'],
-                              stdout=subprocess.PIPE, stderr=subprocess.PIPE)
+        words = ('--bound', '1/40', '--depth', '4', '--precision', '10', '--report', '-')
+        done = subprocess.run([str(TOP / 'plift-lab'), 'verify', *QUESTION, *words], stdout=subprocess.PIPE,
+                              stderr=subprocess.PIPE)
         self.assertEqual((done.returncode, done.stdout), (0, Path(TREE).read_bytes()))
 
     def test_bounds_and_threshold_as_json(self):
@@ -149,7 +159,8 @@ class View(InFolder):
         asked = script + '''
             const tree = new Tree(%s, 2);
             const seen = [];
-            tree.each([0, 0], {0: [0, UNIT], 1: [0, UNIT]}, (node, low, high) => seen.push([[low[0], high[0]], [low[1], high[1]]]));
+            const note = (node, low, high) => seen.push([[low[0], high[0]], [low[1], high[1]]]);
+            tree.each([0, 0], {0: [0, UNIT], 1: [0, UNIT]}, note);
             const found = %s.map((point) => tree.find(point)).map((leaf) => leaf.number);
             console.log(JSON.stringify([found, seen, exactText(between('1/10', '1/2', UNIT / 4)), tree.depths()]));
         ''' % (json.dumps(data['tree']), json.dumps(points))
@@ -174,41 +185,48 @@ class Mistakes(InFolder):
         report = str(EXAMPLES / 'coin.report')
         self.wrong(says='name a command')
         for words, says in (
-                (('verfy',), 'invalid choice'), (('verify',), 'required'), (('verdict',), 'REPORT'), (('leaves', report), '--csv'),
+                (('verfy',), 'invalid choice'), (('verify',), 'required'), (('verdict',), 'REPORT'),
+                (('leaves', report), '--csv'),
                 (('leaves', report, '--csv', '--json'), 'not allowed'), (('verdict', report, '--look', '-1'), '--look'),
-                (('view', report, '--x', 'z'), 'no parameter z; it has p'), (('view', report, '--x', 'p', '--y', 'p'), 'both axes'),
+                (('view', report, '--x', 'z'), 'no parameter z; it has p'),
+                (('view', report, '--x', 'p', '--y', 'p'), 'both axes'),
                 (('bounds', *QUESTION, '--width', '0'), 'above 0'), (('bounds', *QUESTION, '--width', '-1'), 'above 0'),
                 (('bounds', *QUESTION, '--calls', '1'), '--calls'), (('bounds', *QUESTION, '--precision', '41'), '--precision'),
                 (('verify', *QUESTION, '--bound', '3'), 'no share'), (('verify', *QUESTION, '--bound', '<=0.03'), 'no number'),
                 (('verify', *QUESTION, '--bound', '1/2', '--depth', '21'), '--depth'),
                 (('verify', *QUESTION, '--bound', '1/2', '--coverage', '2'), 'no share'),
                 (('verify', *QUESTION, '--bound', '1/2', '--bound', '1/3', '--report', 'x'), '--keep'),
-                (('verify', *QUESTION, '--bnd', '1/2'), '--bound'), (('explain',), 'no note'), (('explain', 'hello'), 'no note'),
+                (('verify', *QUESTION, '--bnd', '1/2'), '--bound'), (('explain',), 'no note'),
+                (('explain', 'hello'), 'no note'),
                 (('threshold', *QUESTION, '--bound', '1/2', '--parameter', 'z'), 'no interval for z')):
             self.wrong(*words, says=says)
 
     def test_regions(self):
-        for region, says in (('p=0..1', 'no interval for q'), ('p=0..1,q=0..1,z=0..1', 'no parameter z'), ('P=0..1,q=0..1', 'no parameter P'),
-                             ('p<1', 'no part of a region'), ('0.1,0.2', 'no part'), ('p=1..0,q=0..1', 'before it begins'),
-                             ('', 'no interval for p, q'), ('p=0..1,q=0..1,', 'no part'), ('p=0..2,q=0..1', 'rows: state 0')):
+        many = ','.join('p%d=0..1' % number for number in range(99))
+        for region, says in (
+                ('p=0..1', 'no interval for q'), ('p=0..1,q=0..1,z=0..1', 'no parameter z'), ('P=0..1,q=0..1', 'no parameter P'),
+                ('p<1', 'no part of a region'), ('0.1,0.2', 'no part'), ('p=1..0,q=0..1', 'before it begins'),
+                ('', 'no interval for p, q'), (many, 'at most 16'), ('p=0..1,q=0..1,', 'no part'), ('p=0..2,q=0..1', 'rows: state 0')):
             self.wrong('bounds', RETRY, '--goal', 'lost', '--region', region, says=says)
 
     def test_files(self):
-        for name, says in (('nothing-there', 'No such file'), (str(self.folder), 'Is a directory'), ('', 'without a name'), ('a\0b', 'read')):
+        for name, says in (('nothing-there', 'No such file'), (str(self.folder), 'Is a directory'), ('', 'without a name'),
+                           ('a\0b', 'read')):
             self.wrong('verdict', name, says=says)
             self.wrong('bounds', name, '--goal', 'g', says=says)
         self.wrong('verdict', RETRY, says='not sound: line 1: Syntax')
         self.wrong('bounds', TREE, '--goal', 'g', says='model: line 1: Syntax')
         good = (EXAMPLES / 'retry-tree.report').read_bytes()
-        for data in (b'', b'\0' * 1000, b'\xff\xfe', good[:-5], good + b'unknown\n', good.replace(b'9 41', b'8 41'), good.replace(b'\n', b'\r\n'),
-                     b'plift 2\n', b'plift 1\n' * 1000, b'\x1f\x8b\x08'):
+        for data in (b'', b'\0' * 1000, b'\xff\xfe', good[:-5], good + b'unknown\n', good.replace(b'9 41', b'8 41'),
+                     good.replace(b'\n', b'\r\n'), b'plift 2\n', b'plift 1\n' * 1000, b'\x1f\x8b\x08'):
             name = self.file('bad.report', data)
             for words in (('verdict', name), ('leaves', name, '--csv'), ('view', name)):
                 self.wrong(*words, says='not sound: ')
 
     def test_models(self):
-        for text, says in ((b'', 'MissingSection'), (b'\0', 'NotText'), (b'@type: DTMC\n@parameters\np p\n@model\n', 'RepeatedName'),
-                           (b'@type: DTMC\n@model\nstate 0 init g\n0 : 1/2\n', 'sums to'), (b'@type: CTMC\n', 'UnsupportedType')):
+        for text, says in (
+                (b'', 'MissingSection'), (b'\0', 'NotText'), (b'@type: DTMC\n@parameters\np p\n@model\n', 'RepeatedName'),
+                (b'@type: DTMC\n@model\nstate 0 init g\n0 : 1/2\n', 'sums to'), (b'@type: CTMC\n', 'UnsupportedType')):
             region = ('--region', 'p=0..1') if b'p p' in text else ()
             self.wrong('bounds', self.file('m.drn', text), '--goal', 'g', *region, says=says)
         self.wrong('bounds', RETRY, '--goal', 'lsot', '--region', REGION, says='UnknownLabel')
@@ -219,6 +237,13 @@ class Mistakes(InFolder):
         self.wrong('bounds', *QUESTION, '--keep', str(self.folder / 'mine.txt'), says='can\'t be used')
         self.wrong('verify', *QUESTION, '--bound', '1', '--report', str(self.folder), says='can\'t be written')
         self.assertEqual(os.listdir(str(self.folder)), ['mine.txt'])
+
+    def test_one_at_a_time_in_a_folder(self):
+        folder = str(self.folder / 'k')
+        held = Evidence(folder)
+        self.wrong('bounds', *QUESTION, '--keep', folder, says='in use by another')
+        held.close()
+        self.assertEqual(run('bounds', *QUESTION, '--keep', folder)[0], 0)
 
     def test_no_program(self):
         with mock.patch.dict(os.environ, {'PLIFT_PROGRAM': '/nowhere/plift'}):
@@ -239,8 +264,8 @@ class Mistakes(InFolder):
             self.assertIn('statuses: ', told)
 
     def test_explain(self):
-        for note in ('usage: words', 'usage: --region Missing', 'model: line 3: Power', 'rows: state 0 choice 1: set 0 sums to 9999',
-                     'not sound: node 0 axis', 'too long', 'plift-lab: plift refuses this: model: line 31: UnknownLabel'):
+        for note in ('usage: words', 'usage: --region Missing', 'model: line 3: Power',
+                     'rows: state 0 choice 1: set 0 sums to 9999', 'not sound: node 0 axis', 'too long', 'plift-lab: plift refuses this: model: line 31: UnknownLabel'):
             status, told, _ = run('explain', *note.split(' '))
             self.assertEqual(status, 0, note)
             self.assertGreater(len(told.splitlines()), 1, note)
@@ -254,8 +279,9 @@ class Interrupted(InFolder):
         os.chmod(slow, 0o755)
         keep = self.folder / 'kept'
         for number in (signal.SIGINT, signal.SIGTERM):
-            process = subprocess.Popen([sys.executable, str(TOP / 'lab/plift_lab/__main__.py'), 'bounds', *QUESTION, '--keep', str(keep)],
-                                       env=dict(os.environ, PLIFT_PROGRAM=slow), stdout=subprocess.PIPE, stderr=subprocess.PIPE)
+            process = subprocess.Popen(
+                [sys.executable, str(TOP / 'lab/plift_lab/__main__.py'), 'bounds', *QUESTION, '--keep', str(keep)],
+                env=dict(os.environ, PLIFT_PROGRAM=slow), stdout=subprocess.PIPE, stderr=subprocess.PIPE)
             for _ in range(200):
                 if list(keep.glob('*.part')):
                     break
@@ -268,8 +294,8 @@ class Interrupted(InFolder):
         self.assertEqual(run('bounds', *QUESTION, '--keep', str(keep))[0], 0)
 
     def test_a_reader_that_ends(self):
-        done = subprocess.run('"%s" leaves "%s" --json | head -c 5; exit "${PIPESTATUS[0]}"' % (TOP / 'plift-lab', TREE), shell=True,
-                              executable='/bin/bash', stdout=subprocess.PIPE, stderr=subprocess.PIPE)
+        command = '"%s" leaves "%s" --json | head -c 5; exit "${PIPESTATUS[0]}"' % (TOP / 'plift-lab', TREE)
+        done = subprocess.run(['bash', '-c', command], stdout=subprocess.PIPE, stderr=subprocess.PIPE)
         self.assertIn(done.returncode, (0, 6))
         self.assertEqual(done.stderr, b'')
 

@@ -24,7 +24,7 @@ class Bounds(unittest.TestCase):
                          (Fraction(14843406975, 549755813888), Fraction(1099511627, 1099511627776), 40))
 
     def test_width(self):
-        width = Fraction(1, 10000)
+        width = Fraction(1, 1000)
         found = plift_lab.bounds(LINKS, 'lost', 'p=1/10..1/2,q=1/10..1/2', width)
         half, tenth = Fraction(1, 2), Fraction(1, 10)
         for side, value in ((found.sup, lost(half, half)), (found.inf, lost(tenth, tenth))):
@@ -39,10 +39,10 @@ class Bounds(unittest.TestCase):
         """p (1 - p), which is greatest in the middle: 1/4 at p = 1/2."""
         model = (b'@type: DTMC\n@parameters\np\n@model\nstate 0 init\n1 : p\n2 : 1-p\nstate 1\n2 : p\n3 : 1-p\n'
                  b'state 2\n2 : 1\nstate 3 both\n3 : 1\n')
-        found = plift_lab.bounds(model, 'both', 'p=1/10..9/10', '1/1000')
+        found = plift_lab.bounds(model, 'both', 'p=1/10..9/10', '1/100')
         self.assertTrue(found.sup.least <= Fraction(1, 4) <= found.sup.most)
         self.assertTrue(found.inf.least <= Fraction(9, 100) <= found.inf.most)
-        self.assertLessEqual(found.sup.most - found.sup.least, Fraction(1, 1000))
+        self.assertLessEqual(found.sup.most - found.sup.least, Fraction(1, 100))
 
     def test_stops_at_its_calls(self):
         found = plift_lab.bounds(LINKS, 'lost', 'p=1/10..1/2,q=1/10..1/2', '1e-12', calls=20)

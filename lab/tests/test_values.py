@@ -58,7 +58,8 @@ class Regions(unittest.TestCase):
         self.assertEqual(Region.read('').text, '')
 
     def test_refused(self):
-        for text in ('p', '1<p<2', 'p=1..', '0.3<=p<=0.1', '0<=p<=1,p=1/2', '0<=2p<=1', '0<=p<=1,', 'p in [0,1]', '0<=p', '=', 'p=a..b'):
+        for text in ('p', '1<p<2', 'p=1..', '0.3<=p<=0.1', '0<=p<=1,p=1/2', '0<=2p<=1', '0<=p<=1,', 'p in [0,1]', '0<=p', '=',
+                     'p=a..b'):
             with self.assertRaises(Fault, msg=text):
                 Region.read(text)
 

@@ -56,10 +56,7 @@ def _lines(found: Bounds, is_split: bool, is_listed: bool, session: Session) -> 
                  '  %s%s' % (exact(upper.value), _file(upper, session)),
                  'at least %s is reached%s, everywhere in the region' % (below(lower.value, 9), at_best),
                  '  %s%s' % (exact(lower.value), _file(lower, session))]
-    lines.append('%d bits; judged by %s' % (found.precision, session.program.judge))
-    if not session.evidence.is_kept:
-        lines.append('(kept nowhere: --keep FOLDER keeps the reports behind the answer)')
-    return lines
+    return lines + ['%d bits' % found.precision] + asking.judge_lines(session, not session.evidence.is_kept)
 
 
 def _file(end: End, session: Session) -> str:

@@ -108,27 +108,43 @@ class Plot {
 
   // Draws all, and tells how much of the window each kind has and how many leaves are in it.
   draw() {
-    const { context, xTicks, yTicks } = this.layout(), color = this.color, ratio = this.area.ratio;
-    const fills = KINDS.map((_, kind) => this.fill(context, kind, ratio, color)), plain = KINDS.map((name) => color(name));
-    const edge = color('edge'), seen = [0, 0, 0], counts = [0, 0, 0];
-    context.clearRect(0, 0, this.canvas.width, this.canvas.height);
-    context.lineWidth = 1;
-    context.strokeStyle = edge;
+    const { context, xTicks, yTicks } = this.layout(), color = this.color, large = [], seen = [0, 0, 0], counts = [0, 0, 0];
+    const image = context.createImageData(this.canvas.width, this.canvas.height);
+    const pixels = new Uint32Array(image.data.buffer), plain = this.words(color), least = 7 * this.area.ratio;
     this.tree.each(this.point, this.ranges(), (node, low, high) => {
-      const kind = this.tree.kind[node];
+      const kind = this.tree.kind[node], [x0, y0, x1, y1] = this.box(low, high);
       counts[kind] += 1;
       seen[kind] += this.part('x', low, high) * this.part('y', low, high);
-      const [x0, y0, x1, y1] = this.box(low, high), wide = x1 - x0, tall = y1 - y0;
-      if (wide <= 0 || tall <= 0) return;
-      const isSmall = wide < 7 * ratio || tall < 7 * ratio;
-      context.fillStyle = isSmall ? plain[kind] : fills[kind];
-      context.fillRect(x0, y0, wide, tall);
-      if (!isSmall) context.strokeRect(x0 + 0.5, y0 + 0.5, wide - 1, tall - 1);
-      this.drawLabel(context, this.label(node), x0, y0, wide, tall, color);
+      if (x1 - x0 >= least && y1 - y0 >= least) large.push([node, x0, y0, x1 - x0, y1 - y0]);
+      else for (let y = y0; y < y1; y++) pixels.fill(plain[kind], y * image.width + x0, y * image.width + x1);
     });
+    context.putImageData(image, 0, 0);
+    this.drawLarge(context, large, color);
     this.drawAxes(context, xTicks, yTicks, color);
     this.drawMark();
     return { seen, counts };
+  }
+
+  // The colors of the kinds as they stand in an image, where leaves are drawn that are too small for a pattern or a line.
+  words(color) {
+    const sample = document.createElement('canvas').getContext('2d', { willReadFrequently: true });
+    return KINDS.map((name) => {
+      sample.fillStyle = color(name);
+      sample.fillRect(0, 0, 1, 1);
+      return new Uint32Array(sample.getImageData(0, 0, 1, 1).data.buffer)[0];
+    });
+  }
+
+  drawLarge(context, leaves, color) {
+    const fills = KINDS.map((_, kind) => this.fill(context, kind, this.area.ratio, color)), edge = color('edge');
+    for (const [node, x, y, wide, tall] of leaves) {
+      context.fillStyle = fills[this.tree.kind[node]];
+      context.fillRect(x, y, wide, tall);
+      context.lineWidth = 1;
+      context.strokeStyle = edge;
+      context.strokeRect(x + 0.5, y + 0.5, wide - 1, tall - 1);
+      this.drawLabel(context, this.label(node), x, y, wide, tall, color);
+    }
   }
 
   drawLabel(context, text, x, y, wide, tall, color) {
