@@ -80,8 +80,10 @@ def below(value: Fraction, digits: int = 6) -> str:
 
 
 def percent(share: Fraction) -> str:
-    """In percent; all or nothing is said only where it is so."""
+    """In percent; a whole number is said only where it is one, and so are all and nothing."""
+    if (share * 100).denominator == 1:
+        return '%d %%' % (share * 100)
     shown = '%.2f' % float(share * 100)
-    if 0 < share < 1 and shown in ('0.00', '100.00'):
+    if shown in ('0.00', '100.00'):
         return '< 0.01 %' if share < Fraction(1, 2) else '> 99.99 %'
-    return '%s %%' % (shown[:-3] if shown.endswith('.00') else shown)
+    return shown + ' %'

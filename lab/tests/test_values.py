@@ -45,6 +45,7 @@ class Numbers(unittest.TestCase):
         self.assertEqual(percent(Fraction(999999, 1000000)), '> 99.99 %')
         self.assertEqual(percent(Fraction(1, 1000000)), '< 0.01 %')
         self.assertEqual(percent(Fraction(1, 8)), '12.50 %')
+        self.assertEqual((percent(Fraction(41, 1024)), percent(Fraction(1, 25))), ('4.00 %', '4 %'))
 
 
 class Regions(unittest.TestCase):

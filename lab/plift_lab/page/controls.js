@@ -79,7 +79,7 @@ function tell(leaf) {
     card.append(element('p', 'No certificate of either kind was found for all of it at this precision and depth.'));
   } else {
     const value = fraction(BigInt(data.values[places[leaf.number]]), 1n << BigInt(data.precision));
-    const number = `${exactText(value)} (${decimal(toNumber(value), 9)})`;
+    const number = `${exactText(value)} (about ${decimal(toNumber(value), 9)})`;
     const by = !data.isProcess ? '' : leaf.kind === ACCEPT ? ', whatever is chosen' : ' by the choices below';
     card.append(element('p', `At ${leaf.kind === ACCEPT ? 'most' : 'least'} ${number} is reached${by}.`));
   }
