@@ -9,6 +9,7 @@ import re
 from collections import Counter
 from dataclasses import dataclass, field
 from fractions import Fraction
+from functools import cached_property
 from typing import Any, Dict, Iterator, List, Optional, Tuple
 
 from .faults import Fault
@@ -213,8 +214,9 @@ class Report:
         """The different schedulers of rejecting leaves: for each state its choice, none where none is made."""
         return [[None if word == '-' else int(word) for word in text.split()] for text in self.scheduler_texts]
 
-    def model_text(self, label: str = 'goal') -> bytes:
-        """The report's model as a text, whose goal states carry this label."""
+    @cached_property
+    def model_text(self) -> bytes:
+        """The report's model as a text, whose goal states carry the label `goal`."""
         lines = ['@type: ' + self.kind.upper()]
         if self.parameters:
             lines += ['@parameters', ' '.join(self.parameters)]
@@ -225,7 +227,7 @@ class Report:
             if words[0] == 'row':
                 state = int(words[1])
                 if state != before:
-                    labels = ' init' * (state == self.init) + (' ' + label) * (state in goals)
+                    labels = ' init' * (state == self.init) + ' goal' * (state in goals)
                     lines.append('state %d%s' % (state, labels))
                     before = state
                 if self.kind == 'mdp':

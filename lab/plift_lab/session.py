@@ -200,7 +200,7 @@ class Session:
     def ask_again(self, report: Report, region: Region, bound: Fraction, depth: int = 0,
                   precision: Optional[int] = None) -> Report:
         """Asks of a part of a report's region, in the report's own numbers and of its own model."""
-        return self.ask(Question(Model(report.model_text()), 'goal', bound, region, depth, precision))
+        return self.ask(Question(Model(report.model_text), 'goal', bound, region, depth, precision))
 
     def widen(self, question: Question, depth: int) -> Report:
         """The same question at a greater depth. A program that goes on from a finished report would do less here."""

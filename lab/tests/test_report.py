@@ -48,7 +48,7 @@ class Read(InFolder):
         for name, goal, region in (('retry', 'lost', 'p=0..1,q=0..1'), ('relay', 'lost', 'p=0..1,q=0..1'), ('die', 'one', 'p=1/10..9/10'),
                                    ('chain', 'lost', 'p=0..1,q=0..1,r=0..1'), ('plain', 'heads', '')):
             first = plift_lab.verify(EXAMPLES / (name + '.drn'), goal, '1/3', region, precision=12)
-            again = plift_lab.verify(first.model_text(), 'goal', '1/3', region, precision=12)
+            again = plift_lab.verify(first.model_text, 'goal', '1/3', region, precision=12)
             self.assertEqual(first.data, again.data, name)
 
     def test_a_stranger_file_beside_it(self):
