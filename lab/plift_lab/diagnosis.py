@@ -27,8 +27,8 @@ class Finding:
     help: str
     axis: Optional[str] = None
     """The parameter on which a halving helps."""
-    longest: Optional[str] = None
-    """The parameter whose side is the longest, which is halved next."""
+    before: Optional[str] = None
+    """A parameter whose side is more than twice as long, so that it is halved again and again before that one."""
 
     @property
     def advice(self) -> str:
@@ -38,8 +38,9 @@ class Finding:
         if self.help == NEITHER:
             return 'neither more precision nor more depth is seen to help: ask for a bound outside the two numbers'
         told = {DEPTH: 'halving %s decides a part of it', CLOSER: 'halving %s brings the two numbers closer together'}[self.help]
-        return told % self.axis + ('; more depth does that' if self.axis == self.longest else
-                                   ', but the longest side is that of %s: --relative, and then more depth' % self.longest)
+        if self.before is None:
+            return told % self.axis + '; more depth does that'
+        return '%s, but the longest side is that of %s: --relative, and then more depth' % (told % self.axis, self.before)
 
 
 def examine(session: Session, report: Report, most: int) -> List[Finding]:
@@ -62,14 +63,16 @@ def _examine(session: Session, report: Report, leaf: Leaf) -> Optional[Finding]:
     if not sharp[0] <= report.bound < sharp[1]:
         return Finding(leaf, *coarse, sharp, BITS)
     # Of axes that help alike the one that is halved next comes first.
-    longest = max(report.live, key=lambda name: region[name][1] - region[name][0]) if report.live else None
-    names = sorted(report.live, key=lambda name: name != longest)
-    helped = {name: _helped_by(session, report, region.halves(name), sharp) for name in names}
-    for help in (DEPTH, CLOSER):
-        for name in names:
-            if helped[name] == help:
-                return Finding(leaf, *coarse, sharp, help, name, longest)
-    return Finding(leaf, *coarse, sharp, NEITHER)
+    sides = {name: region[name][1] - region[name][0] for name in report.live}
+    names = sorted(report.live, key=lambda name: -sides[name])
+    best = Finding(leaf, *coarse, sharp, NEITHER)
+    for name in names:
+        help = _helped_by(session, report, region.halves(name), sharp)
+        if help == DEPTH or help == CLOSER and best.help == NEITHER:
+            best = Finding(leaf, *coarse, sharp, help, name, names[0] if sides[names[0]] > 2 * sides[name] else None)
+        if help == DEPTH:
+            break
+    return best
 
 
 def _helped_by(session: Session, report: Report, halves: Tuple[Region, Region], whole: Tuple[Fraction, Fraction]) -> str:

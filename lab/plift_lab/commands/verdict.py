@@ -39,6 +39,8 @@ def run(given: argparse.Namespace) -> int:
     most = 0 if given.brief else read_count(given.look, '--look', 0, 1000)
     with asking.session(given) as session:
         report = session.read(given.report)
+        if not given.json:  # at once: looking at unknown leaves may take a while
+            print(report.verdict_line, flush=True)
         found = examine(session, report, most)
         session.progress.clear()
         if given.json:
@@ -47,10 +49,8 @@ def run(given: argparse.Namespace) -> int:
                 'shares': {kind: exact(share) for kind, share in report.shares.items()},
                 'unknown': [{'region': shown(one.leaf.rectangle).strip(), 'least': exact(one.least),
                              'most': exact(one.most), 'help': one.help, 'axis': one.axis} for one in found]})
-        else:
-            print(report.verdict_line)
-            if not given.brief:
-                print('\n'.join(_lines(report, found, session)))
+        elif not given.brief:
+            print('\n'.join(_lines(report, found, session)))
     return STATUS[report.verdict]
 
 
