@@ -282,7 +282,8 @@ def ask(job: Job, share: Fraction, keep: str, limit: int) -> Dict[str, str]:
         counts[kind] += count
     return dict(line, parameters=str(len(report.parameters)), states=str(report.states),
                 transitions=str(model.text.count(b' : ')), depth=str(report.depth), regions=str(sum(counts.values())),
-                safe=str(counts['accept']), unsafe=str(counts['reject']), unknown=str(counts['unknown']), covered='%.1f %%' % float(100 * (1 - report.shares['unknown'])),
+                safe=str(counts['accept']), unsafe=str(counts['reject']),
+                unknown=str(counts['unknown']), covered='%.1f %%' % float(100 * (1 - report.shares['unknown'])),
                 seconds='%.2f' % (spent.ru_utime + spent.ru_stime - begin.ru_utime - begin.ru_stime))
 
 

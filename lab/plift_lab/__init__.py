@@ -12,4 +12,5 @@ from .models import Model  # noqa: E402
 from .regions import Region  # noqa: E402
 from .report import Leaf, Report  # noqa: E402
 
-__all__ = ['Bounds', 'Edge', 'Fault', 'Leaf', 'Model', 'Refused', 'Region', 'Report', 'bounds', 'read', 'threshold', 'verify']
+__all__ = ['Bounds', 'Edge', 'Fault', 'Leaf', 'Model', 'Refused', 'Region', 'Report', 'bounds', 'read', 'threshold',
+           'verify']

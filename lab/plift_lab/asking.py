@@ -30,7 +30,8 @@ def add_session(words: argparse.ArgumentParser) -> None:
     """Where reports are kept, and what is told meanwhile."""
     words.add_argument('--keep', metavar='FOLDER', help='keeps the reports behind the answer in a folder; the same words '
                                                         'with the same folder go on where they stopped')
-    words.add_argument('--progress', action='store_true', help='tells how far it is also where standard error is no terminal')
+    words.add_argument('--progress', action='store_true',
+                       help='tells how far it is also where standard error is no terminal')
     words.add_argument('--quiet', action='store_true', help='tells no progress')
     words.add_argument('--json', action='store_true', help='writes the answer as JSON')
 

@@ -37,10 +37,11 @@ class Finding:
             return 'more precision decides it'
         if self.help == NEITHER:
             return 'neither more precision nor more depth is seen to help: ask for a bound outside the two numbers'
-        told = {DEPTH: 'halving %s decides a part of it', CLOSER: 'halving %s brings the two numbers closer together'}[self.help]
+        does = 'decides a part of it' if self.help == DEPTH else 'brings the two numbers closer together'
         if self.before is None:
-            return told % self.axis + '; more depth does that'
-        return '%s, but the longest side is that of %s: --relative, and then more depth' % (told % self.axis, self.before)
+            return 'halving %s %s; more depth does that' % (self.axis, does)
+        return ('halving %s %s, but the longest side is that of %s: --relative, and then more depth'
+                % (self.axis, does, self.before))
 
 
 def examine(session: Session, report: Report, most: int) -> List[Finding]:

@@ -25,7 +25,8 @@ from ..values import percent, read_bound, read_count, read_share
 def add_words(words: argparse.ArgumentParser) -> None:
     """The words of the command."""
     asking.add_model(words)
-    words.add_argument('--bound', required=True, action='append', metavar='B', help='the bound; as often as there are bounds')
+    words.add_argument('--bound', required=True, action='append', metavar='B',
+                       help='the bound; as often as there are bounds')
     words.add_argument('--depth', default='0', metavar='H', help='how often the region may be halved; 0 if left out')
     words.add_argument('--relative', action='store_true',
                        help='rescales each parameter to its interval, so that sides are compared by what they are of it')

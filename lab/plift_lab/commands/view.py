@@ -29,7 +29,8 @@ MOST_SCHEDULERS = 2 ** 22
 def add_words(words: argparse.ArgumentParser) -> None:
     """The words of the command."""
     words.add_argument('report', metavar='REPORT', help='a file with a report; - for standard input')
-    words.add_argument('--x', metavar='P', help='the parameter from left to right; the first that a row depends on if left out')
+    words.add_argument('--x', metavar='P',
+                       help='the parameter from left to right; the first that a row depends on if left out')
     words.add_argument('--y', metavar='P', help='the parameter from below up; the next one if left out')
     words.add_argument('--title', metavar='TEXT', help='the title; the question if left out')
 
