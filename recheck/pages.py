@@ -16,6 +16,7 @@ of `./plift --quick`. A page's word `--quick` is left out, so that both give wha
 from __future__ import annotations
 
 import argparse
+import os
 import re
 import shutil
 import subprocess
@@ -29,7 +30,7 @@ sys.dont_write_bytecode = True
 sys.path.insert(0, str(Path(__file__).resolve().parent))
 from programs import TOP, needed
 
-PAGES = ['README.md', 'docs/GUIDE.md', 'docs/TUTORIAL.md', 'docs/CHECKING.md', 'docs/PERFORMANCE.md']
+PAGES = ['README.md', 'docs/GUIDE.md', 'docs/TUTORIAL.md', 'docs/CHECKING.md', 'docs/PERFORMANCE.md', 'docs/LAB.md']
 STORM = 'docs/STORM.md'
 LONGEST = 120  # seconds that a command may take
 BLOCK = re.compile(r'^( *)```(\w+)( not-run)?\n(.*?)^ *```\n', re.S | re.M)
@@ -219,8 +220,9 @@ def storm_commands(folder: Path) -> Iterator[Tried]:
 
 def prepared(folder: Path, programs: dict[str, Path]) -> Path:
     """A folder with the examples, the checker and the programs, as a page's commands find them."""
-    for part in ('examples', 'recheck'):
+    for part in ('examples', 'recheck', 'lab'):
         shutil.copytree(TOP / part, folder / part)
+    shutil.copy(TOP / 'plift-lab', folder)
     for name, program in programs.items():
         script = f'#!/bin/sh\n[ "$1" != --quick ] || shift\nexec "{program}" "$@"\n'
         (folder / name).write_text(script)
@@ -247,6 +249,7 @@ def main() -> int:
     words.add_argument('--view', metavar='PATH', help='a built plift-view')
     given = words.parse_args()
     programs = {'plift': needed('plift', given.program), 'plift-view': needed('plift-view', given.view)}
+    os.environ['PLIFT_PROGRAM'] = str(programs['plift'])  # which plift-lab asks
     count = wrong = 0
     with tempfile.TemporaryDirectory() as place:
         for what, fault in tried(Path(place), programs):
