@@ -114,9 +114,11 @@ WroteEach {E} taken faults old new (text ∷ texts) = (mid : E) × (end : Writte
 
 -- ---- for the contracts of private functions
 
+-- the shares that the code keeps
 abbrev pub shares_data : Shares → SharesData
 shares_data s = record { accepted = s.accept; rejected = s.reject; unknown = s.unknown }
 
+-- how far a report has come, as the code keeps it
 abbrev pub progress_data : Progress → ProgressData
 progress_data p = record { shares = shares_data p.shares; next = p.next; leaves = p.leaves; told = p.told }
 

@@ -107,23 +107,27 @@ svg_end = codes "</svg>\n"
 
 -- ---- the axes: the low end, the name and the high end of a parameter
 
--- of the one from left to right: above the field's left end, its middle and its right end
+-- of the one from left to right: what is written before its low end, above the field's left end
 abbrev pub x_low : List ℕ
 x_low = codes "<text x=\"120\" y=\"124\">"
 
+-- before its name, above the field's middle
 abbrev pub x_name : List ℕ
 x_name = codes "</text>\n<text x=\"380\" y=\"124\" text-anchor=\"middle\">"
 
+-- before its high end, above the field's right end
 abbrev pub x_high : List ℕ
 x_high = codes "</text>\n<text x=\"640\" y=\"124\" text-anchor=\"end\">"
 
--- of the one from below up: beside the field's lower end, its middle and its upper end
+-- of the one from below up: before its low end, beside the field's lower end
 abbrev pub y_low : List ℕ
 y_low = codes "<text x=\"112\" y=\"652\" text-anchor=\"end\">"
 
+-- before its name, beside the field's middle
 abbrev pub y_name : List ℕ
 y_name = codes "</text>\n<text x=\"112\" y=\"397\" text-anchor=\"end\">"
 
+-- before its high end, beside the field's upper end
 abbrev pub y_high : List ℕ
 y_high = codes "</text>\n<text x=\"112\" y=\"144\" text-anchor=\"end\">"
 
