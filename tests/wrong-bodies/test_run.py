@@ -1,0 +1,98 @@
+"""Tests of what tries the wrong bodies: that each can be laid in, and that what the prover says is counted."""
+
+import contextlib
+import io
+import os
+import stat
+import sys
+import tempfile
+import unittest
+from pathlib import Path
+from typing import Dict, List
+
+HERE = Path(__file__).resolve().parent
+sys.dont_write_bytecode = True
+sys.path.insert(0, str(HERE))
+import run  # noqa: E402
+
+# Stands in for the kit's command: it refuses each wrong body but those whose name has `passes` in it.
+STAND_IN = """#!/bin/sh
+for edit in crates/"$2"/must-fail/*.edit; do
+    name=${edit##*/}
+    case $name in
+    *passes*) echo "rt: must-fail $2/$name: NOT REFUSED: the crate is still proved with this edit" ;;
+    *) echo "rt: must-fail $2/$name: refused, as it must be: note: src/lib.rt:1:1: it is not proved" ;;
+    esac
+done
+"""
+
+
+def faults_of(edit: Path, crate: Path) -> List[str]:
+    """What keeps a wrong body from being laid into its crate: each old text has to stand there once."""
+    texts: Dict[str, str] = {}
+    path, old, faults = "", "", []
+    for line in edit.read_text(encoding="utf-8").splitlines():
+        word, _, rest = line.partition(": ")
+        if word == "file":
+            path = rest
+        elif word == "old":
+            old = rest
+        elif word == "new" or line == "new:":
+            text = texts.get(path) or (crate / path).read_text(encoding="utf-8")
+            if text.count(old) != 1:
+                faults.append(f"{edit}: its old text stands {text.count(old)} times in {path}")
+            texts[path] = text.replace(old, rest)
+    return faults if texts else [f"{edit}: it changes nothing"]
+
+
+class WrongBodies(unittest.TestCase):
+    def test_each_can_be_laid_in(self):
+        edits = [*HERE.glob("*/*.edit"), *run.TOP.glob("crates/*/must-fail/*.edit")]
+        self.assertGreater(len(edits), 200)
+        for edit in edits:
+            crate = edit.parent.parent if edit.parent.name == "must-fail" else run.TOP / "crates" / edit.parent.name
+            self.assertEqual(faults_of(edit, crate), [])
+
+    def test_few_stand_in_the_gate(self):
+        counts = [len(list(it.glob("*.edit"))) for it in run.TOP.glob("crates/*/must-fail")]
+        self.assertLessEqual(sum(counts), 130)
+
+
+class Counting(unittest.TestCase):
+    def setUp(self):
+        self.room = tempfile.TemporaryDirectory()
+        self.addCleanup(self.room.cleanup)
+        command = Path(self.room.name, "rt")
+        command.write_text(STAND_IN)
+        command.chmod(command.stat().st_mode | stat.S_IXUSR)
+        path = os.environ["PATH"]
+        os.environ["PATH"] = f"{self.room.name}:{path}"
+        self.addCleanup(os.environ.__setitem__, "PATH", path)
+        self.addCleanup(setattr, run, "HERE", run.HERE)
+        run.HERE = Path(self.room.name, "edits")
+        run.HERE.mkdir()
+
+    def tried(self, *edits: str) -> List[str]:
+        """The last lines of what is said of these wrong bodies of `lift_bytes`, with the status."""
+        folder = run.HERE / "lift_bytes"
+        folder.mkdir()
+        for name in edits:
+            (folder / f"{name}.edit").write_text("")
+        said = io.StringIO()
+        with contextlib.redirect_stdout(said):
+            status = run.main(["--jobs", "1"])
+        return [*said.getvalue().splitlines()[-2:], str(status)]
+
+    def test_all_are_refused(self):
+        self.assertEqual(self.tried("one", "two"), ["== lift_bytes: 2 of 2 refused", "2 refused, 0 passed", "0"])
+
+    def test_one_passes(self):
+        self.assertEqual(self.tried("one", "it_passes"), ["== lift_bytes: 1 of 2 refused", "1 refused, 1 passed", "1"])
+
+    def test_a_crate_that_has_none(self):
+        with contextlib.redirect_stderr(io.StringIO()), self.assertRaises(SystemExit):
+            run.main(["lift_bytes"])
+
+
+if __name__ == "__main__":
+    unittest.main()
