@@ -30,7 +30,7 @@ CRATES = TOP / "crates"
 PARTS = ("src", "specs", "proofs")
 SOURCES = (".rt", ".antt")
 CANNOT_BUILD = 70
-# What the build of this program from nothing took when it was measured last, and where.
+# What the build of this program from nothing is thought to take, and where: 27 of 28 crates took 66 minutes there.
 USUAL_PROGRAM = "plift"
 USUAL_MINUTES = 70
 USUAL_MACHINE = "four processors with other work beside it"
