@@ -30,10 +30,10 @@ CRATES = TOP / "crates"
 PARTS = ("src", "specs", "proofs")
 SOURCES = (".rt", ".antt")
 CANNOT_BUILD = 70
-# What the build of this program from nothing is thought to take, and where: 27 of 28 crates took 66 minutes there.
+# What the build of this program from nothing took, and where.
 USUAL_PROGRAM = "plift"
-USUAL_MINUTES = 70
-USUAL_MACHINE = "four processors with other work beside it"
+USUAL_MINUTES = 45
+USUAL_MACHINE = "four processors"
 # A crate's share of the work where the table of docs/ARCHITECTURE.md doesn't name it, and where its
 # library is kept, in minutes.
 UNKNOWN_MINUTES = 2.0
