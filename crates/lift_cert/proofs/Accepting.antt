@@ -7,6 +7,8 @@ use Rattle.lift_poly.specs.Polynomial.{Valuation, weight, denominator}
 use Rattle.lift_poly.proofs.Ring.{linear, mul-comm, mul-le, mul-nonneg, mul-le_cancel, as_diff, diffs, diff-same}
 use Rattle.lift_model.specs.Process.{Move, power, weighted_sum}
 use Rattle.lift_model.specs.Reach.{reach}
+use Rattle.lift_model.specs.Laws.{AreNonNegative}
+use Rattle.lift_model.specs.Tossing.{TossesAreBounded}
 use Rattle.lift_model.specs.declared.entry.Entry.{Entry}
 use Rattle.lift_model.specs.Model.{ModelData, choices, moves_at, process_at}
 use Rattle.lift_grid.specs.Rectangle.{Spans, Inside}
@@ -17,7 +19,7 @@ use Rattle.lift_cert.specs.Certificate.{IsAccepting}
 use Rattle.lift_cert.specs.Laws.{AcceptingBounds, LeastRefutes}
 use Rattle.lift_cert.specs.declared.bound.Bound.{Bound}
 use Rattle.lift_cert.specs.Bounded.{IsBoundedAt}
-use Rattle.lift_cert.proofs.Inductive.{AreNonNegative, IsInductive, reach_bound, power-least}
+use Rattle.lift_cert.proofs.Inductive.{IsInductive, reach_bound, power-least}
 
 swapped : (a r t : ℤ) → a *ℤ (r *ℤ t) ≡ t *ℤ (r *ℤ a)
 swapped a r t = rw (as_diff a, as_diff r, as_diff t) (simp diffs (diff-same _ _ _ _ (omega arith)))
@@ -29,14 +31,14 @@ shuffled_more : (k n t : ℤ) → k *ℤ (n *ℤ t) ≡ t *ℤ (n *ℤ k)
 shuffled_more k n t = rw (as_diff k, as_diff n, as_diff t) (simp diffs (diff-same _ _ _ _ (omega arith)))
 
 -- where the vector is inductive at the valuation, and within the bound at the initial state, every scheduler is bounded
-pub inductive_bounded : (m : ModelData) (v : Valuation) (w : ℕ) (x : List ℤ) (bound : Bound) → IsInductive (process_at m v) (pos (2 ^ w)) (number x) → (number x m.init *ℤ pos bound.den) ≤ℤ (pos bound.num *ℤ pos (2 ^ w)) → IsBoundedAt m v bound
-inductive_bounded m v w x bound inductive limit q n p from_one fits =
+pub inductive_bounded : TossesAreBounded → (m : ModelData) (v : Valuation) (w : ℕ) (x : List ℤ) (bound : Bound) → IsInductive (process_at m v) (pos (2 ^ w)) (number x) → (number x m.init *ℤ pos bound.den) ≤ℤ (pos bound.num *ℤ pos (2 ^ w)) → IsBoundedAt m v bound
+inductive_bounded tosses m v w x bound inductive limit q n p from_one fits =
     let process = process_at m v in
     let top = pos (2 ^ w) in
     let k = power (pos q *ℤ process.total) n in
     let k_least : pos 0 ≤ℤ k = power-least (pos q *ℤ process.total) n (mul-nonneg (pos q) process.total (omega (arith, linear)) inductive.total) in
     let r = reach process q n m.init p in
-    let reached = reach_bound process top (number x) inductive q n m.init p fits in
+    let reached = reach_bound tosses process top (number x) inductive q n m.init p fits in
     let first = mul-le (pos bound.den) (r *ℤ top) (number x m.init *ℤ k) (omega (arith, linear)) reached in
     let second = mul-le k _ _ k_least limit in
     let top_positive : pos 0 <ℤ top = omega (arith, linear, pow_pos w) in
@@ -85,11 +87,11 @@ module _ (numbers : NumbersAreInRange) (weights : WeightsInside) (most : MeansAt
             (λ a r at. most k spans (get_or (choices k.model s) a r) x (number x s) is within (upper.means s e a r at) v inside);
       }
 
-  bounded : (bound : Bound) (x : List ℤ) → IsAccepting k spans bound x → IsBoundedAt k.model v bound
-  bounded bound x accepting = inductive_bounded k.model v k.w x bound (upper_inductive x accepting.upper) accepting.limit
+  bounded : TossesAreBounded → (bound : Bound) (x : List ℤ) → IsAccepting k spans bound x → IsBoundedAt k.model v bound
+  bounded tosses bound x accepting = inductive_bounded tosses k.model v k.w x bound (upper_inductive x accepting.upper) accepting.limit
 
-pub accepting_bounds : NumbersAreInRange → WeightsInside → MeansAtMostInside → AcceptingBounds
-accepting_bounds numbers weights most k spans bound x is within accepting v inside = bounded numbers weights most k spans is within v inside bound x accepting
+pub accepting_bounds : TossesAreBounded → NumbersAreInRange → WeightsInside → MeansAtMostInside → AcceptingBounds
+accepting_bounds tosses numbers weights most k spans bound x is within accepting v inside = bounded numbers weights most k spans is within v inside tosses bound x accepting
 
 -- ---- the least upper vector decides
 

@@ -5,7 +5,7 @@ ghost use Rattle.lift_cert.specs.Laws.{FirstAcceptMissIsOne, AcceptingMissesNone
 ghost use Rattle.lift_cert.specs.Laws.{FirstRejectMissIsOne, RejectingMissesNone};
 
 use corner_lift::{rows_at_corners, rows_inside};
-use lift_model::weighted_sums_follow;
+use lift_model::{tosses_are_bounded, weighted_sums_follow};
 
 /// Holds the laws of certificates, for who reasons about them: an accepting one bounds every
 /// scheduler at every valuation inside its rectangle, and where the least upper vector is beyond
@@ -14,6 +14,7 @@ pub fn certificates_decide()
     ensures accepting { AcceptingBounds }
     ensures least { LeastRefutes }
 {
+    tosses_are_bounded();
     rows_at_corners();
     rows_inside();
 }

@@ -1,5 +1,7 @@
 pub mod Sums
 pub mod Picking
+pub mod Tossing
+pub mod Timing
 pub mod Unions
 mod Samples
 pub mod Listing

@@ -3,9 +3,11 @@ pub mod Plan
 pub mod Reach
 pub mod Pick
 pub mod Memoryless
+pub mod Timed
 pub mod Model
 pub mod Valid
 pub mod Laws
+pub mod Tossing
 pub mod Order
 pub mod Links
 pub mod OnlyRow

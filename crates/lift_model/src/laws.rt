@@ -1,6 +1,8 @@
 ghost use Rattle.lift_model.specs.Pick.{FitsPick, PicksFit, PicksReach};
 ghost use Rattle.lift_model.specs.Twin.{FairPlansReachOneHalf};
 ghost use Rattle.lift_model.specs.Laws.{WeightedSumsAreNotNegative, WeightedSumsRise};
+ghost use Rattle.lift_model.specs.Timed.{SameChoicesAreMemoryless};
+ghost use Rattle.lift_model.specs.Tossing.{TossesAreBounded};
 
 /// Holds the laws of schedulers that don't toss, for who reasons about them: the plans over 1 are
 /// those that pick a choice for each history, and such a plan reaches what its choices reach. It does
@@ -23,4 +25,16 @@ pub fn weighted_sums_follow()
 /// nothing.
 pub fn fair_plans_reach_one_half()
     ensures { FairPlansReachOneHalf }
+{}
+
+/// Holds the law of one step of a plan, for who reasons about schedulers that toss: what bounds the steps that
+/// follow bounds the step. It does nothing.
+pub fn tosses_are_bounded()
+    ensures { TossesAreBounded }
+{}
+
+/// Holds what schedulers reach that make the same choices whatever the number of steps left: what memoryless
+/// ones do. It does nothing.
+pub fn same_choices_are_memoryless()
+    ensures { SameChoicesAreMemoryless }
 {}

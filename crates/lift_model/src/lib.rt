@@ -18,7 +18,10 @@ mod shared;
 pub use blocks::FirstRow;
 pub use entry::Entry;
 pub use kind::Kind;
-pub use laws::{fair_plans_reach_one_half, plans_over_one_pick, weighted_sums_follow};
+pub use laws::{
+    fair_plans_reach_one_half, plans_over_one_pick, same_choices_are_memoryless,
+    tosses_are_bounded, weighted_sums_follow,
+};
 pub use layout::RowPlace;
 pub use links::Links;
 pub use model::Model;
