@@ -4,3 +4,5 @@ pub mod Memory
 pub mod Word
 pub mod Begins
 pub mod Laws
+pub mod Window
+pub mod Lines

@@ -1,5 +1,6 @@
 ghost use Rattle.lift_base.specs.Laws.{WritesNothing, WritesBoth, StopsBefore, BeginsWithAll};
 ghost use Rattle.lift_base.specs.Laws.{GoesOn, StopsThere, EndsWithAll};
+ghost use Rattle.lift_base.specs.Lines.{FrontsAreOne};
 
 use crate::output::Sink;
 
@@ -15,4 +16,10 @@ pub fn writes_in_turn<K: Sink>()
     ensures next { GoesOn K.taken K.faults }
     ensures stops { StopsThere K.taken K.faults }
     ensures ends { EndsWithAll K.taken K.faults }
+{}
+
+/// Holds the law that one thing alone stands at the front of what is left of a source, so that what was told of
+/// it is told again where nothing was given. It does nothing.
+pub fn fronts_are_one()
+    ensures { FrontsAreOne }
 {}

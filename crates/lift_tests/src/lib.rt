@@ -11,6 +11,8 @@ mod example;
 #[cfg(test)]
 mod fractions;
 #[cfg(test)]
+mod lines;
+#[cfg(test)]
 mod models;
 #[cfg(test)]
 mod names;

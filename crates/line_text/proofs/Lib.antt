@@ -7,3 +7,6 @@ mod LongNumbers
 mod ShortNumbers
 mod Comparing
 pub mod FirstFeed
+pub mod Following
+pub mod Dues
+pub mod Ending

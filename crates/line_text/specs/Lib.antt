@@ -2,3 +2,6 @@ pub mod Words
 pub mod Reading
 pub mod Parts
 pub mod Shown
+pub mod Follow
+pub mod Met
+pub mod Laws

@@ -1,7 +1,7 @@
 -- Reading a text line by line: the line that is due, and the first fault.
-use Rattle.std.specs.Prelude.{◌≡◌, ◌≤◌, ◌++◌, ℕ, ◌+◌, ◌^◌, ◌==◌, Bool, List, length, nat_lt, Result, Ok, Err, if◌then◌else◌}
+use Rattle.std.specs.Prelude.{◌≡◌, ◌≤◌, ◌++◌, ℕ, ◌+◌, List, length, nat_lt, Result, Ok, Err, if◌then◌else◌}
 use Rattle.std.specs.List.{position_or_len, before_first, after_first}
-use Prim.Native.Char.{code}
+pub use Rattle.lift_base.specs.Lines.{is_feed, most_line_bytes}
 use Rattle.line_text.specs.declared.error.TextCause.{TextCause}
 use Rattle.line_text.specs.declared.error.TextCause.TheVariants.{Limit, Truncated}
 use Rattle.line_text.specs.declared.error.TextError.{TextError}
@@ -35,14 +35,6 @@ fault n cause = Err (record { line = n; cause = cause })
 abbrev pub at : {A : Type 0} → ℕ → Result A TextCause → Result A TextError
 at n (Ok x) = Ok x
 at n (Err cause) = fault n cause
-
--- a line feed, which ends a line
-abbrev pub is_feed : ℕ → Bool
-is_feed b = b == code "\n"
-
--- how many bytes a line has at most, its line feed not counted, by our own profile
-abbrev pub most_line_bytes : ℕ
-most_line_bytes = 2 ^ 20
 
 -- The line that is due, without its line feed: Limit where one byte more than a line may have is there and no line feed among these bytes, Truncated where the rest holds no line feed.
 unfoldable pub due : Reader (List ℕ)

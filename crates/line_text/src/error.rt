@@ -42,3 +42,14 @@ impl<T: Drop> From<AllocFailed<T>> for TextCause {
         TextCause::Memory
     }
 }
+
+/// Why a text that a source gives line by line isn't read on.
+#[derive(Clone, Copy, Debug, PartialEq, Eq)]
+pub enum FileError {
+    /// The text's first fault. The number of its line stays at the last value of its type.
+    Text(TextError),
+    /// A read failed.
+    Fault,
+    /// More bytes came than the limit allows.
+    TooLong,
+}

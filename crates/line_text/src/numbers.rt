@@ -5,11 +5,14 @@ ghost use Rattle.line_text.specs.Reading.{line_at};
 ghost use Rattle.line_text.specs.Parts.{each, numbers_of, between, number_in};
 ghost use Rattle.std.specs.Ordering.{int_eq};
 ghost use Rattle.line_text.specs.Shown.{Says, Gives};
+ghost use Rattle.line_text.specs.Follow.{Follows};
 
 use crate::cursor::Cursor;
 use crate::decimal::Decimal;
-use crate::error::{TextCause, TextError};
+use crate::error::{FileError, TextCause, TextError};
+use crate::line_due::{due, fault};
 use crate::words::Words;
+use lift_base::{Lines, Source};
 use std::alloc::Global;
 
 /// The numbers that words write.
@@ -86,6 +89,30 @@ pub fn number_line<'t>(
     match number_in(alloc, &Words::of(line), key, low, end) {
         Ok(n) => Ok((n, behind)),
         Err(cause) => Err(cursor.fault(cause)),
+    }
+}
+
+/// The line that is due of a source, as a word and one number from low to below end.
+pub fn number_due<S: Source>(
+    alloc: Global,
+    lines: &mut Lines,
+    src: &mut S,
+    key: &[u8],
+    low: u64,
+    end: u64,
+) -> Result<u64, FileError>
+    requires { end ≤ 2 ^ 62 }
+    ensures follows { Follows S.left S.faults (λ n. n) (line_at (number_in key.now low end))
+        lines.old lines.new src.old src.new result }
+    ensures range { IfOk result (λ n. n < end) }
+{
+    due(lines, src)?;
+    match number_in(alloc, &Words::of(lines.line()), key, low, end) {
+        Ok(n) => {
+            lines.pass();
+            Ok(n)
+        }
+        Err(cause) => Err(fault(lines, cause)),
     }
 }
 
