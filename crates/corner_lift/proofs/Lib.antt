@@ -21,3 +21,4 @@ pub mod RowRead
 pub mod PairedRows
 pub mod OtherStates
 pub mod InLane
+pub mod Quotients

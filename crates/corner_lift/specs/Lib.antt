@@ -8,5 +8,7 @@ pub mod Table
 pub mod Dot
 pub mod Pairs
 pub mod Paired
+pub mod Quotient
+pub mod Lifted
 pub mod ReadRow
 pub mod Premises

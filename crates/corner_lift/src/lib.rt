@@ -4,9 +4,11 @@
 mod case;
 mod ends;
 mod laws;
+mod lifted;
 mod paired;
 mod pairs;
 mod precision;
+mod quotient;
 mod rate;
 mod row;
 mod table;
@@ -18,8 +20,10 @@ pub use laws::{
     corners_bound_weights, halves_are_inside, live_parameters_have_spans, rows_at_corners,
     rows_inside,
 };
+pub use lifted::Lifted;
 pub use paired::{LaneSum, PairTable};
 pub use precision::one_at;
+pub use quotient::{quotient_of, rounded_down, rounded_up, short_rounded_up};
 pub use rate::is_enough;
 pub use row::{raw_weight, row_max, row_min, row_value, weight_into, whole};
 pub use table::{

@@ -4,12 +4,7 @@ use Rattle.lift_model.specs.Model.{is_goal}
 use Rattle.lift_model.specs.Links.{LinksData, AreLinks, position}
 use Rattle.corner_lift.specs.Case.{CaseData, number}
 use Rattle.corner_lift.specs.Certificate.{AreNumbers}
-
--- the state is no goal state, and stands at that position
-pub record StandsAt (k : CaseData) (l : LinksData) (at s : ℕ) : Type 0 where
-  pub state : s < length k.model.states
-  pub goal : is_goal k.model s ≡ false
-  pub is : position l s ≡ at
+pub use Rattle.corner_lift.specs.Lifted.{StandsAt}
 
 -- whether the state is no goal state, and stands in the part
 abbrev pub is_open : CaseData → LinksData → ℕ → ℕ → ℕ → Bool

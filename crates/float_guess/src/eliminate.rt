@@ -8,7 +8,7 @@ ghost use Rattle.float_guess.specs.Part.{IsSameBeyond};
 
 use crate::floats::float_of;
 use crate::part::{Extreme, Part, first_weight};
-use crate::step::{NOWHERE, Outlook, Step};
+use crate::step::{Ahead, NOWHERE, Outlook, Step};
 use std::num::{
     f64_from_bits_with_nan, f64_to_bits_with_nan, nearest_i64_to_f64, saturating_f64_to_u32,
 };
@@ -100,46 +100,41 @@ impl Part<'_> {
         step
     }
 
-    /// An outlook with an entry of the row of the state at a position.
+    /// Where a target of the row of the state at a position leads to.
     fn look_at(
         &self,
         lane: &mut [i64],
         means: &mut [u32],
         targets: &mut [u32],
         position: u32,
-        outlook: Outlook,
         target: u32,
-        weight: f64,
-    ) -> Outlook
+    ) -> Ahead
         requires links { AreLinks self.now.case.now.model self.now.links.now }
         requires size { length lane.old ≡ length self.now.case.now.model.states }
         ensures { IsSameBeyond self.now.case.now self.now.links.now self.now.low self.now.high lane.old lane.new }
     {
         let Some(at) = self.position_of(target) else {
-            return outlook.leave(weight, self.worth_beyond(lane, target));
+            return Ahead::Out(self.worth_beyond(lane, target));
         };
         if at == position {
-            return outlook;
+            return Ahead::Here;
         }
         if at > position {
-            return outlook.come(weight, self.worth_at(lane, at), at);
+            return Ahead::Later(at, self.worth_at(lane, at));
         }
         let step = self.follow(lane, means, targets, at, position);
-        let outlook = outlook.leave(weight * step.leak, step.mean);
         if step.to == position {
-            return outlook.come_back(weight * (1.0 - step.leak));
+            return Ahead::Back(step);
         }
-        let worth = self.worth_at(lane, step.to);
-        outlook.come(weight * (1.0 - step.leak), worth, step.to)
+        Ahead::On(step, self.worth_at(lane, step.to))
     }
 
-    /// The outlook of a row of the state at a position, at a corner.
+    /// The outlook of a row at a corner.
     fn outlook(
         &self,
         lane: &mut [i64],
         means: &mut [u32],
         targets: &mut [u32],
-        position: u32,
         s: u32,
         a: u32,
         corner: u32,
@@ -150,12 +145,14 @@ impl Part<'_> {
         ensures { IsSameBeyond self.now.case.now self.now.links.now self.now.low self.now.high lane.old lane.new }
     {
         let place = self.links.place(s, a);
+        let position = self.links.position(s);
         let mut at = first_weight(place, corner);
         let mut outlook = Outlook::NONE;
         for target in self.links.targets(place) {
             let weight = float_of(self.weights.get(at).copied().unwrap_or(0));
             if weight > 0.0 {
-                outlook = self.look_at(lane, means, targets, position, outlook, *target, weight);
+                let ahead = self.look_at(lane, means, targets, position, *target);
+                outlook = outlook.with(weight, ahead);
             }
             at = at.wrapping_add(1);
         }
@@ -168,7 +165,6 @@ impl Part<'_> {
         lane: &mut [i64],
         means: &mut [u32],
         targets: &mut [u32],
-        position: u32,
         s: u32,
         a: u32,
     ) -> Counted
@@ -178,11 +174,11 @@ impl Part<'_> {
         ensures { IsSameBeyond self.now.case.now self.now.links.now self.now.low self.now.high lane.old lane.new }
     {
         let mut counted = Counted {
-            outlook: self.outlook(lane, means, targets, position, s, a, 0),
+            outlook: self.outlook(lane, means, targets, s, a, 0),
             mark: u64::from(a) << 4,
         };
         for corner in 1..self.links.place(s, a).corners {
-            let outlook = self.outlook(lane, means, targets, position, s, a, corner);
+            let outlook = self.outlook(lane, means, targets, s, a, corner);
             let counts = match self.extreme {
                 Extreme::Greatest => outlook.worth() > counted.outlook.worth(),
                 Extreme::Least => outlook.worth() < counted.outlook.worth(),
@@ -215,7 +211,7 @@ impl Part<'_> {
             return counted;
         };
         for a in 0..self.case.model().choices(s) {
-            let other = self.counted_of_row(lane, means, targets, position, s, a);
+            let other = self.counted_of_row(lane, means, targets, s, a);
             if a == 0 || other.outlook.worth() > counted.outlook.worth() {
                 counted = other;
             }

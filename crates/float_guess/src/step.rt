@@ -30,6 +30,21 @@ impl Step {
     }
 }
 
+/// Where an entry of a row leads to.
+#[derive(Clone, Copy)]
+pub(crate) enum Ahead {
+    /// Out of the part, to what is worth so much.
+    Out(f64),
+    /// To the row's own state.
+    Here,
+    /// To the state at a later position, which is worth so much now.
+    Later(u32, f64),
+    /// To an earlier state, and by its step back to the row's own.
+    Back(Step),
+    /// To an earlier state, and by its step to a later one, which is worth so much now.
+    On(Step, f64),
+}
+
 /// What a row's weight comes to, once the states at earlier positions are put in. What stays in the row's own
 /// state isn't counted, so that nothing is ever taken from 1.
 #[derive(Clone, Copy)]
@@ -60,7 +75,7 @@ impl Outlook {
     };
 
     /// With a weight that leaves the part for what is worth so much.
-    pub(crate) fn leave(self, weight: f64, worth: f64) -> Outlook {
+    fn leave(self, weight: f64, worth: f64) -> Outlook {
         let mut next = self;
         next.leaving += weight;
         next.gain += weight * worth;
@@ -68,14 +83,14 @@ impl Outlook {
     }
 
     /// With a weight that comes back to the row's own state by earlier ones.
-    pub(crate) fn come_back(self, weight: f64) -> Outlook {
+    fn come_back(self, weight: f64) -> Outlook {
         let mut next = self;
         next.back += weight;
         next
     }
 
     /// With a weight that comes to the state at a later position, which is worth so much now.
-    pub(crate) fn come(self, weight: f64, worth: f64, to: u32) -> Outlook {
+    fn come(self, weight: f64, worth: f64, to: u32) -> Outlook {
         if weight <= 0.0 {
             return self;
         }
@@ -85,6 +100,21 @@ impl Outlook {
         next.more = self.more || (self.to != NOWHERE && self.to != to);
         next.to = to;
         next
+    }
+
+    /// With a weight that leads there.
+    pub(crate) fn with(self, weight: f64, ahead: Ahead) -> Outlook {
+        match ahead {
+            Ahead::Out(worth) => self.leave(weight, worth),
+            Ahead::Here => self,
+            Ahead::Later(at, worth) => self.come(weight, worth, at),
+            Ahead::Back(step) => self
+                .leave(weight * step.leak, step.mean)
+                .come_back(weight * (1.0 - step.leak)),
+            Ahead::On(step, worth) => self
+                .leave(weight * step.leak, step.mean)
+                .come(weight * (1.0 - step.leak), worth, step.to),
+        }
     }
 
     /// What the row is worth, given what later states are worth now.

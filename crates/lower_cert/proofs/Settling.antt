@@ -16,7 +16,6 @@ use Rattle.lower_cert.specs.Lowering.{IsHigh, IsSettled, IsRanked, IsHeight, IsS
 use Rattle.lower_cert.specs.Laws.{StagesAreGreatest}
 use Rattle.lower_cert.proofs.Means.{either_way}
 use Rattle.lower_cert.proofs.Heights.{mark-beyond}
-use Rattle.lower_cert.proofs.Sweeping.{floor_fits}
 
 module _ (k : CaseData) (spans : Spans) (x : List ℤ) (picks ranks : List ℕ) (ranked : IsRanked k spans x picks ranks) where
   -- a state with a pick is no goal state, and has a rank
@@ -79,8 +78,11 @@ level_none x ranks v level low s free =
 pub no_goals : (k : CaseData) (spans : Spans) (x : List ℤ) (picks ranks : List ℕ) → IsRanked k spans x picks ranks → (s : ℕ) → unmarked ≤ mark ranks s → is_goal k.model s ≡ false
 no_goals k spans x picks ranks ranked s free = either_way (is_goal k.model s) (λ g. absurd (omega (arith, free, ranked.stages.goal s g))) (λ g. g)
 
+small_fits : (n : ℕ) → n < 2 ^ 41 → SFits w64 (pos n)
+small_fits n lt = record { sfits = omega (arith, linear) }
+
 -- one less than a number above 0
 pub less_fits : (v : ℤ) → pos 0 <ℤ v → v ≤ℤ pos (2 ^ 40) → SFits w64 (v -ℤ pos 1)
 less_fits (pos zero) positive most = absurd (omega (arith, linear, positive))
-less_fits (pos (suc n)) positive most = let one : pos n ≡ pos (suc n) -ℤ pos 1 = omega (arith, linear) in subst (λ i. SFits w64 i) one (floor_fits n (omega (arith, linear, most)))
+less_fits (pos (suc n)) positive most = let one : pos n ≡ pos (suc n) -ℤ pos 1 = omega (arith, linear) in subst (λ i. SFits w64 i) one (small_fits n (omega (arith, linear, most)))
 less_fits (negsuc n) positive most = absurd (omega (arith, linear, positive))

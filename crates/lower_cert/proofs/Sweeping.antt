@@ -1,8 +1,6 @@
 -- What a choice holds, and how far a state is lowered to it.
-use Rattle.std.proofs.Common.{◌≡◌, ◌≢◌, ◌==◌, ℕ, zero, suc, ◌+◌, ◌*◌, ◌/◌, ◌^◌, ◌<◌, ◌≤◌, ◌⊎◌, inl, inr, ⊎_elim, Bool, true, false, List, [], ◌∷◌, length, set, ℤ, pos, negsuc, ◌+ℤ◌, ◌-ℤ◌, ◌*ℤ◌, ◌≤ℤ◌, ◌<ℤ◌, unsigned_abs, SFits, w64, to_z, of_z, to_z-of_z, refl, sym, ap, subst, ◌∙◌, arith, pow_mono, true≢false, length-set, get_or-set_same, get_or-set_other}
-use mir.Syntax.{w128}
-use Rattle.std.proofs.Math.Nat.{lt-div-mul-add, div-lt_iff_lt-mul}
-use Rattle.std.proofs.lemmas.Int.{ints, to_z_pos}
+use Rattle.std.proofs.Common.{◌≡◌, ◌≢◌, ◌==◌, ℕ, zero, suc, ◌+◌, ◌^◌, ◌<◌, ◌≤◌, ◌⊎◌, inl, inr, ⊎_elim, Bool, true, false, List, [], ◌∷◌, length, set, ℤ, pos, ◌+ℤ◌, ◌-ℤ◌, ◌*ℤ◌, ◌≤ℤ◌, ◌<ℤ◌, refl, sym, ap, subst, ◌∙◌, arith, pow_mono, true≢false, length-set, get_or-set_same, get_or-set_other}
+use Rattle.std.proofs.lemmas.Int.{ints}
 use Rattle.std.proofs.lemmas.List.Elements.{All-set}
 use Rattle.std.proofs.lemmas.Nat.{pow_pos}
 use Rattle.lift_poly.proofs.Ring.{linear, add-mul, one-mul, mul-comm, mul-le}
@@ -19,33 +17,6 @@ use Rattle.lower_cert.specs.Capping.{CapsAt}
 use Rattle.lower_cert.specs.Laws.{CappingKeepsUnder}
 use Rattle.lower_cert.proofs.Means.{Place, only, only_inside, positive}
 use Rattle.lower_cert.proofs.Capped.{caps_more}
-
--- ---- quotients
-
--- q is the quotient, rounded down
-pub record IsFloor (sum whole : ℤ) (q : ℕ) : Type 0 where
-  pub fits : q < 2 ^ 41
-  pub less : sum <ℤ ((pos q +ℤ pos 1) *ℤ whole)
-
-is_floor : (sum whole : ℤ) → pos 0 ≤ℤ sum → pos 1 ≤ℤ whole → sum <ℤ (pos (2 ^ 41) *ℤ whole) → IsFloor sum whole (unsigned_abs sum / unsigned_abs whole)
-is_floor (pos o) (pos l) least some most =
-    let l_some : 0 < l = omega (arith, linear) in
-    let o_most : o < 2 ^ 41 * l = omega (arith, linear, most) in
-    record {
-      fits = (div-lt_iff_lt-mul {k = l} {x = o} {y = 2 ^ 41} l_some).1 o_most;
-      less = omega (arith, linear, lt-div-mul-add {a = o} {b = l} l_some, add-mul (pos (o / l)) (pos 1) (pos l), one-mul (pos l));
-    }
-is_floor (negsuc o) whole least some most = absurd (omega (arith, linear))
-is_floor (pos o) (negsuc l) least some most = absurd (omega (arith, linear))
-
-pub floor_of : (sum whole : ℤ) → SFits w128 sum → SFits w128 whole → pos 0 ≤ℤ sum → pos 1 ≤ℤ whole → sum <ℤ (pos (2 ^ 41) *ℤ whole) → IsFloor sum whole (unsigned_abs (to_z w128 (of_z w128 sum)) / unsigned_abs (to_z w128 (of_z w128 whole)))
-floor_of sum whole sum_fits whole_fits least some most = rw (to_z-of_z sum_fits, to_z-of_z whole_fits) (is_floor sum whole least some most)
-
-pub floor_fits : (q : ℕ) → q < 2 ^ 41 → SFits w64 (pos q)
-floor_fits q lt = record { sfits = omega (arith, linear) }
-
-pub floor_is : (q : ℕ) → q < 2 ^ 41 → to_z w64 q ≡ pos q
-floor_is q lt = to_z_pos w64 q (omega arith)
 
 -- ---- what a choice holds
 

@@ -2,23 +2,23 @@
 use Rattle.std.specs.Prelude.{◌≡◌, ℕ, ◌^◌, ◌<◌, ◌≤◌, ◌⊎◌, true, List, ℤ, pos, ◌+ℤ◌, ◌≤ℤ◌, ◌<ℤ◌, length}
 use Rattle.lift_grid.specs.Rectangle.{Spans}
 use Rattle.lift_model.specs.Model.{choices, row_at}
-use Rattle.lift_model.specs.Links.{LinksData}
 use Rattle.corner_lift.specs.Case.{CaseData, number}
 use Rattle.corner_lift.specs.Certificate.{unmarked, mark}
 use Rattle.lower_cert.specs.Capping.{AtSomeCorner, CapsAt, marked, IsLevel}
-use Rattle.lower_cert.specs.Lowering.{IsRead, IsHigh}
+use Rattle.corner_lift.specs.Lifted.{LiftedData, IsLiftedTo}
+use Rattle.lower_cert.specs.Lowering.{IsHigh}
 
 -- the marked states have the number m, and no rank
 abbrev pub AreLevel : List ℕ → List ℤ → List ℕ → ℤ → Type 0
 AreLevel marks x ranks m = (t : ℕ) → marked marks t ≡ true → (unmarked ≤ mark ranks t) × (number x t ≡ m)
 
 -- what it needs to find how high a set of marked states that all have the number m is held
-pub record CanExit (k : CaseData) (l : LinksData) (spans : Spans) (weights x : List ℤ) (marks : List ℕ) (m : ℤ) : Type 0 where
-  pub read : IsRead k l spans weights x
-  pub high : IsHigh k spans x
-  pub size : length marks ≡ length k.model.states
+pub record CanExit (t : LiftedData) (spans : Spans) (x : List ℤ) (marks : List ℕ) (m : ℤ) : Type 0 where
+  pub table : IsLiftedTo t spans
+  pub high : IsHigh t.case spans x
+  pub size : length marks ≡ length t.case.model.states
   pub level : IsLevel marks x m
-  pub range : (pos 0 ≤ℤ m) × (m ≤ℤ pos (2 ^ k.w))
+  pub range : (pos 0 ≤ℤ m) × (m ≤ℤ pos (2 ^ t.case.w))
 
 -- where r is below m, the choice holds no number above r in the set, at some corner
 abbrev pub ExitsAtMost : CaseData → Spans → List ℤ → List ℕ → ℤ → ℕ → ℕ → ℤ → Type 0

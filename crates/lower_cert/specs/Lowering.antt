@@ -7,6 +7,7 @@ use Rattle.corner_lift.specs.Case.{CaseData, number}
 use Rattle.corner_lift.specs.Certificate.{unmarked, mark, AreNumbers, AtMost}
 use Rattle.corner_lift.specs.Stages.{IsAllowed, AreStages}
 use Rattle.corner_lift.specs.Table.{IsTable}
+use Rattle.corner_lift.specs.Lifted.{LiftedData, IsLiftedTo}
 use Rattle.lower_cert.specs.Capping.{AtSomeCorner, CapsAt, IsAboveLowerUnder}
 use Rattle.robust_rank.specs.Attracting.{Pass}
 use Rattle.robust_rank.specs.Staging.{allows, OthersHaveNoPick}
@@ -110,14 +111,14 @@ pub record IsLowered (k : CaseData) (run : Run) (old new : List ℤ) (lower : Bo
   pub less : lower ≡ true → total new < total old
 
 -- a vector whose weighted means are looked at: one number from 0 to 2 ^ w for each state
-pub record CanWeigh (k : CaseData) (l : LinksData) (spans : Spans) (weights x : List ℤ) : Type 0 where
-  pub read : IsRead k l spans weights x
-  pub numbers : AreNumbers k x
+pub record CanWeigh (t : LiftedData) (spans : Spans) (x : List ℤ) : Type 0 where
+  pub table : IsLiftedTo t spans
+  pub numbers : AreNumbers t.case x
 
 -- a vector that is lowered
-pub record CanLower (k : CaseData) (l : LinksData) (run : Run) (weights x : List ℤ) : Type 0 where
-  pub read : IsRead k l run.spans weights x
-  pub high : IsHighUnder k run x
+pub record CanLower (t : LiftedData) (run : Run) (x : List ℤ) : Type 0 where
+  pub table : IsLiftedTo t run.spans
+  pub high : IsHighUnder t.case run x
 
 -- the state's number is v if that is lower, and else all is as it was
 pub record IsWrittenLower (old new : List ℤ) (s : ℕ) (v : ℤ) (lower : Bool) : Type 0 where

@@ -3,20 +3,20 @@
 
 ghost use Rattle.std.specs.Prelude.{◌≡◌, ◌*◌, ◌<◌, ◌≤◌, length, IsTrue, false};
 ghost use Rattle.lift_grid.specs.Rectangle.{Spans};
-ghost use Rattle.lift_model.specs.Links.{AreLinks};
 ghost use Rattle.corner_lift.specs.Certificate.{AreNumbers};
-ghost use Rattle.lower_cert.specs.Lowering.{Run, IsRead, from_top, CanLower, IsHigh, IsLowered};
+ghost use Rattle.corner_lift.specs.Lifted.{IsLiftedTo};
+ghost use Rattle.lower_cert.specs.Lowering.{Run, from_top, CanLower, IsHigh, IsLowered};
 ghost use Rattle.lower_cert.specs.Beginning.{IsOtherAt, AreOther};
 ghost use Rattle.float_guess.specs.Part.{KeepsOthers};
 
+use crate::descent::Descent;
 use crate::laws::vectors_are_lowered;
 use crate::lower::start;
-use crate::part::{clear_part, fill_part, flag_part, note, open_state};
+use crate::part::{Part, clear_part, fill_part, flag_part, note};
 use crate::raise::{Aim, raise_part};
-use crate::sweep::{component_end, is_alone, pass, settle_part, visit, visit_alone};
-use corner_lift::{Case, PairTable, one_at, rows_at_corners};
+use crate::sweep::{component_end, is_alone, pass, visit, visit_alone};
+use corner_lift::{Lifted, rows_at_corners};
 use float_guess::{Extreme, Rounding, Shares, Way, guess_part, low_word_of};
-use lift_model::Links;
 
 /// How many passes over a small component lower it from 1, before it is guessed, which takes as long as some fifty.
 const FIRST_PASSES: u32 = 48;
@@ -40,107 +40,64 @@ const ROUGH_PASSES: u32 = 1;
 
 /// Begins a part anew: from a vector that no choice lets rise, if one is found, and else from 1.
 fn begin_anew(
-    case: &Case,
-    links: &Links,
-    weights: &PairTable,
+    rows: &Lifted,
     lane: &mut [i64],
     flags: &mut [u32],
     noted: &mut [u32],
-    low: u32,
-    high: u32,
+    part: Part,
     aim: Aim,
 )
     ghost spans: { Spans }
-    requires can { CanLower case.now links.now (from_top case.now spans) weights.now lane.old }
-    requires notes { length noted.old ≡ length case.now.model.states }
-    requires high { (high ≤ length flags.old) × (high ≤ length links.now.order) }
-    ensures { IsHigh case.now spans lane.new }
+    requires can { CanLower rows.now (from_top rows.now.case spans) lane.old }
+    requires notes { length noted.old ≡ length rows.now.case.model.states }
+    requires part { (part.high ≤ length flags.old) × (part.high ≤ length rows.now.links.order) }
+    ensures { IsHigh rows.now.case spans lane.new }
 {
     vectors_are_lowered();
     rows_at_corners();
-    let top = one_at(case.w());
-    let found = raise_part(
-        case, links, weights, lane, flags, noted, low, high, aim, top,
-    );
-    flag_part(flags, low, high);
+    let _ = rows.w();
+    let found = raise_part(rows, lane, flags, noted, part, aim);
+    flag_part(flags, part);
     if found {
         return;
     }
-    fill_part(case, links, lane, low, high, top);
-}
-
-/// Lowers the states of a part in so many passes at most. Tells whether none of them is flagged then, or the
-/// initial state's number isn't above the limit.
-fn settle_within(
-    case: &Case,
-    links: &Links,
-    weights: &PairTable,
-    limit: i64,
-    lane: &mut [i64],
-    work: &mut [u32],
-    low: u32,
-    high: u32,
-    passes: u32,
-) -> bool
-    ghost run: { Run }
-    requires can { CanLower case.now links.now run weights.now lane.old }
-    requires high { (high ≤ length work.old) × (high ≤ length links.now.order) }
-    ensures lowered { IsLowered case.now run lane.old lane.new false }
-    ensures kept { KeepsOthers case.now links.now low high lane.old lane.new }
-{
-    let init = case.model().init() as usize;
-    for _ in 0..passes {
-        if !pass(case, links, weights, lane, work, low, high, high) || lane[init] <= limit {
-            return true;
-        }
-    }
-    false
+    fill_part(rows, lane, part, rows.top());
 }
 
 /// Visits the states of a part, the first of those that weren't visited.
-fn visit_first(
-    case: &Case,
-    links: &Links,
-    weights: &PairTable,
-    lane: &mut [i64],
-    work: &mut [u32],
-    low: u32,
-    high: u32,
-)
+fn visit_first(rows: &Lifted, lane: &mut [i64], work: &mut [u32], part: Part)
     ghost run: { Run }
-    requires can { CanLower case.now links.now run weights.now lane.old }
-    requires high { high ≤ length links.now.order }
-    ensures { IsLowered case.now run lane.old lane.new false }
+    requires can { CanLower rows.now run lane.old }
+    requires part { part.high ≤ length rows.now.links.order }
+    ensures { IsLowered rows.now.case run lane.old lane.new false }
 {
-    for position in low..high {
-        visit(case, links, weights, lane, work, position, position + 1);
+    for position in part.low..part.high {
+        visit(rows, lane, work, position, position + 1);
     }
 }
 
 /// Whether the state at a position has another number than the one that was noted.
-fn is_other_at(case: &Case, links: &Links, lane: &[i64], noted: &[u32], position: u32) -> bool
-    requires links { AreLinks case.now.model links.now }
-    requires numbers { AreNumbers case.now lane.now }
-    requires notes { length noted.now ≡ length case.now.model.states }
-    requires position { position < length links.now.order }
-    ensures { IsTrue result → IsOtherAt case.now links.now lane.now noted.now position }
+fn is_other_at(rows: &Lifted, lane: &[i64], noted: &[u32], position: u32) -> bool
+    requires numbers { AreNumbers rows.now.case lane.now }
+    requires notes { length noted.now ≡ length rows.now.case.model.states }
+    requires position { position < length rows.now.links.order }
+    ensures { IsTrue result → IsOtherAt rows.now.case rows.now.links lane.now noted.now position }
 {
-    match open_state(case, links, position) {
+    match rows.open_state(position) {
         Some(s) => noted[s as usize] != low_word_of(lane[s as usize]),
         None => true,
     }
 }
 
 /// Whether so has each state of a part.
-fn are_other(case: &Case, links: &Links, lane: &[i64], noted: &[u32], low: u32, high: u32) -> bool
-    requires links { AreLinks case.now.model links.now }
-    requires numbers { AreNumbers case.now lane.now }
-    requires notes { length noted.now ≡ length case.now.model.states }
-    requires high { high ≤ length links.now.order }
-    ensures { IsTrue result → AreOther case.now links.now lane.now noted.now low high }
+fn are_other(rows: &Lifted, lane: &[i64], noted: &[u32], part: Part) -> bool
+    requires numbers { AreNumbers rows.now.case lane.now }
+    requires notes { length noted.now ≡ length rows.now.case.model.states }
+    requires part { part.high ≤ length rows.now.links.order }
+    ensures { IsTrue result → AreOther rows.now.case rows.now.links lane.now noted.now part.low part.high }
 {
-    for position in low..high {
-        if !is_other_at(case, links, lane, noted, position) {
+    for position in part.low..part.high {
+        if !is_other_at(rows, lane, noted, position) {
             return false;
         }
     }
@@ -170,92 +127,90 @@ impl Guessed {
     }
 }
 
-/// Lowers a part from a guess that is moved by a share of a unit for each step, in so many passes at most.
-/// Unless it was a good one, the part is at 1 again.
+/// A guess that is tried.
+#[derive(Clone, Copy)]
+struct Guess {
+    /// By what share of a unit it is moved for each step.
+    share: u32,
+    /// In how many passes it may lower a part.
+    passes: u32,
+}
+
+/// Lowers a part from a guess. Unless it was a good one, the part is at 1 again.
 fn lower_from_guess(
-    case: &Case,
-    links: &Links,
-    weights: &PairTable,
+    rows: &Lifted,
     lane: &mut [i64],
     flags: &mut [u32],
     noted: &mut [u32],
-    low: u32,
-    high: u32,
-    share: u32,
-    passes: u32,
+    part: Part,
+    guess: Guess,
 ) -> Guessed
     ghost spans: { Spans }
-    requires can { CanLower case.now links.now (from_top case.now spans) weights.now lane.old }
-    requires flags { high ≤ length flags.old }
-    requires notes { length noted.old ≡ length case.now.model.states }
-    requires high { high ≤ length links.now.order }
-    ensures { IsHigh case.now spans lane.new }
+    requires can { CanLower rows.now (from_top rows.now.case spans) lane.old }
+    requires flags { part.high ≤ length flags.old }
+    requires notes { length noted.old ≡ length rows.now.case.model.states }
+    requires part { part.high ≤ length rows.now.links.order }
+    ensures { IsHigh rows.now.case spans lane.new }
 {
     vectors_are_lowered();
     rows_at_corners();
-    let top = one_at(case.w());
-    let (extreme, rounding, way) = (Extreme::Least, Rounding::Up, Way::Elimination(share));
+    let _ = rows.w();
+    let (extreme, rounding) = (Extreme::Least, Rounding::Up);
     let guessed = guess_part(
-        case,
-        links,
-        weights.weights(),
+        rows.case(),
+        rows.links(),
+        rows.weights(),
         extreme,
         rounding,
         lane,
         flags,
         noted,
-        low,
-        high,
-        way,
+        part.low,
+        part.high,
+        Way::Elimination(guess.share),
     );
-    flag_part(flags, low, high);
+    flag_part(flags, part);
     if !guessed {
-        fill_part(case, links, lane, low, high, top);
+        fill_part(rows, lane, part, rows.top());
         return Guessed::Nothing;
     }
-    note(case, links, lane, noted, low, high);
-    let settled = settle_within(case, links, weights, -1, lane, flags, low, high, passes);
-    if settled && are_other(case, links, lane, noted, low, high) {
+    note(rows, lane, noted, part);
+    let boundless = Descent {
+        rows: &*rows,
+        limit: -1,
+    };
+    let settled = boundless.settle_within(lane, flags, part, guess.passes);
+    if settled && are_other(rows, lane, noted, part) {
         return Guessed::Good;
     }
-    flag_part(flags, low, high);
-    fill_part(case, links, lane, low, high, top);
+    flag_part(flags, part);
+    fill_part(rows, lane, part, rows.top());
     if settled { Guessed::Low } else { Guessed::Slow }
 }
 
 /// Lowers a part from guesses, until one is good. False: none was, and the part is at 1 again.
 fn lower_from_guesses(
-    case: &Case,
-    links: &Links,
-    weights: &PairTable,
+    rows: &Lifted,
     lane: &mut [i64],
     flags: &mut [u32],
     noted: &mut [u32],
-    low: u32,
-    high: u32,
+    part: Part,
 ) -> bool
     ghost spans: { Spans }
-    requires can { CanLower case.now links.now (from_top case.now spans) weights.now lane.old }
-    requires flags { high ≤ length flags.old }
-    requires notes { length noted.old ≡ length case.now.model.states }
-    requires high { high ≤ length links.now.order }
-    ensures { IsHigh case.now spans lane.new }
+    requires can { CanLower rows.now (from_top rows.now.case spans) lane.old }
+    requires flags { part.high ≤ length flags.old }
+    requires notes { length noted.old ≡ length rows.now.case.model.states }
+    requires part { part.high ≤ length rows.now.links.order }
+    ensures { IsHigh rows.now.case spans lane.new }
 {
     let mut shares = Shares::unknown();
     let mut share = 0;
     for _ in 0..GUESSES {
-        match lower_from_guess(
-            case,
-            links,
-            weights,
-            lane,
-            flags,
-            noted,
-            low,
-            high,
+        let guess = Guess {
             share,
-            GUESS_PASSES,
-        ) {
+            passes: GUESS_PASSES,
+        };
+        match lower_from_guess(rows, lane, flags, noted, part, guess) {
             Guessed::Good => return true,
             Guessed::Nothing => return false,
             Guessed::Low => shares = shares.below(share),
@@ -266,72 +221,26 @@ fn lower_from_guesses(
             None => break,
         }
     }
-    let (safe, passes) = (shares.safe(), GUESS_PATIENCE);
-    let guessed = lower_from_guess(
-        case, links, weights, lane, flags, noted, low, high, safe, passes,
-    );
+    let safe = Guess {
+        share: shares.safe(),
+        passes: GUESS_PATIENCE,
+    };
+    let guessed = lower_from_guess(rows, lane, flags, noted, part, safe);
     if guessed.is_good() {
         return true;
     }
-    let guessed = lower_from_guess(
-        case, links, weights, lane, flags, noted, low, high, 0, passes,
-    );
+    let plain = Guess {
+        share: 0,
+        passes: GUESS_PATIENCE,
+    };
+    let guessed = lower_from_guess(rows, lane, flags, noted, part, plain);
     guessed.is_good()
-}
-
-/// Lowers the states of a part from where it is begun anew: from a rough vector, and where that doesn't do at
-/// once, from one that is close to the least.
-fn lower_anew(
-    case: &Case,
-    links: &Links,
-    weights: &PairTable,
-    limit: i64,
-    lane: &mut [i64],
-    work: &mut [u32],
-    low: u32,
-    high: u32,
-)
-    ghost spans: { Spans }
-    requires can { CanLower case.now links.now (from_top case.now spans) weights.now lane.old }
-    requires work { length work.old ≡ 2 * length case.now.model.states }
-    requires high { (high ≤ length case.now.model.states) × (high ≤ length links.now.order) }
-    ensures { IsHigh case.now spans lane.new }
-{
-    let (flags, noted) = work.split_at_mut(case.model().states() as usize);
-    begin_anew(
-        case,
-        links,
-        weights,
-        lane,
-        flags,
-        noted,
-        low,
-        high,
-        Aim::Rough,
-    );
-    let passes = ROUGH_PASSES;
-    if settle_within(case, links, weights, limit, lane, work, low, high, passes) {
-        return;
-    }
-    let (flags, noted) = work.split_at_mut(case.model().states() as usize);
-    begin_anew(
-        case,
-        links,
-        weights,
-        lane,
-        flags,
-        noted,
-        low,
-        high,
-        Aim::Close,
-    );
-    settle_part(case, links, weights, limit, lane, work, low, high, high);
 }
 
 /// How many passes lower a part from 1 before it is guessed. Two states settle in less time than it takes to
 /// guess them, and large parts often can't be.
-fn first_passes(low: u32, high: u32) -> u32 {
-    let states = high.saturating_sub(low);
+fn first_passes(part: Part) -> u32 {
+    let states = part.len();
     if states > 2 && states <= SMALL {
         FIRST_PASSES
     } else {
@@ -339,89 +248,104 @@ fn first_passes(low: u32, high: u32) -> u32 {
     }
 }
 
-/// Lowers the states of a component of several from 1, from a guess, or from where it is begun anew.
-#[inline(never)]
-fn begin_cycle(
-    case: &Case,
-    links: &Links,
-    weights: &PairTable,
-    limit: i64,
-    lane: &mut [i64],
-    work: &mut [u32],
-    low: u32,
-    high: u32,
-)
-    ghost spans: { Spans }
-    requires can { CanLower case.now links.now (from_top case.now spans) weights.now lane.old }
-    requires work { length work.old ≡ 2 * length case.now.model.states }
-    requires high { (high ≤ length case.now.model.states) × (high ≤ length links.now.order) }
-    requires low { low < high }
-    ensures { IsHigh case.now spans lane.new }
-{
-    clear_part(work, low, high);
-    visit_first(case, links, weights, lane, work, low, high);
-    let first = first_passes(low, high);
-    if settle_within(case, links, weights, limit, lane, work, low, high, first) {
-        return;
+impl Descent<'_> {
+    /// Lowers the states of a part in so many passes at most. Tells whether none of them is flagged then, or the
+    /// initial state's number isn't above the limit.
+    fn settle_within(&self, lane: &mut [i64], work: &mut [u32], part: Part, passes: u32) -> bool
+        ghost run: { Run }
+        requires can { CanLower self.now.rows.now run lane.old }
+        requires part { (part.high ≤ length work.old) × (part.high ≤ length self.now.rows.now.links.order) }
+        ensures lowered { IsLowered self.now.rows.now.case run lane.old lane.new false }
+        ensures kept { KeepsOthers self.now.rows.now.case self.now.rows.now.links part.low part.high lane.old lane.new }
+    {
+        let init = self.rows.model().init() as usize;
+        for _ in 0..passes {
+            if !pass(self.rows, lane, work, part, part.high) || lane[init] <= self.limit {
+                return true;
+            }
+        }
+        false
     }
-    let (flags, noted) = work.split_at_mut(case.model().states() as usize);
-    if lower_from_guesses(case, links, weights, lane, flags, noted, low, high) {
-        return;
-    }
-    lower_anew(case, links, weights, limit, lane, work, low, high);
-}
 
-/// Lowers the states of the component that begins at a position, and tells where the next one begins. A single
-/// state needs one visit, and what leads to it comes later.
-#[inline(always)]
-fn begin_part(
-    case: &Case,
-    links: &Links,
-    weights: &PairTable,
-    limit: i64,
-    lane: &mut [i64],
-    work: &mut [u32],
-    low: u32,
-    states: u32,
-) -> u32
-    ghost spans: { Spans }
-    requires can { CanLower case.now links.now (from_top case.now spans) weights.now lane.old }
-    requires work { length work.old ≡ 2 * length case.now.model.states }
-    requires states { (states ≤ length case.now.model.states) × (states ≤ length links.now.order) }
-    requires low { low < states }
-    ensures high { IsHigh case.now spans lane.new }
-    ensures later { low < result }
-    ensures inside { result ≤ states }
-{
-    if is_alone(links, low) {
-        visit_alone(case, links, weights, lane, low);
-        return low + 1;
+    /// Lowers the states of a part from where it is begun anew: from a rough vector, and where that doesn't do at
+    /// once, from one that is close to the least.
+    fn lower_anew(&self, lane: &mut [i64], work: &mut [u32], part: Part)
+        ghost spans: { Spans }
+        requires can { CanLower self.now.rows.now (from_top self.now.rows.now.case spans) lane.old }
+        requires work { length work.old ≡ 2 * length self.now.rows.now.case.model.states }
+        requires part { (part.high ≤ length self.now.rows.now.case.model.states) × (part.high ≤ length self.now.rows.now.links.order) }
+        ensures { IsHigh self.now.rows.now.case spans lane.new }
+    {
+        let states = self.rows.model().states() as usize;
+        let (flags, noted) = work.split_at_mut(states);
+        begin_anew(self.rows, lane, flags, noted, part, Aim::Rough);
+        if self.settle_within(lane, work, part, ROUGH_PASSES) {
+            return;
+        }
+        let (flags, noted) = work.split_at_mut(states);
+        begin_anew(self.rows, lane, flags, noted, part, Aim::Close);
+        self.settle_part(lane, work, part, part.high);
     }
-    let high = component_end(links, low, states);
-    begin_cycle(case, links, weights, limit, lane, work, low, high);
-    high
-}
 
-/// Lowers a vector from 1, component by component from those below, until none of its states is flagged, or
-/// the initial state's number isn't above the limit.
-pub(crate) fn begin(
-    case: &Case,
-    links: &Links,
-    weights: &PairTable,
-    limit: i64,
-    lane: &mut [i64],
-    work: &mut [u32],
-)
-    ghost spans: { Spans }
-    requires read { IsRead case.now links.now spans weights.now lane.old }
-    requires work { length work.old ≡ 2 * length case.now.model.states }
-    ensures { IsHigh case.now spans lane.new }
-{
-    start(case, lane);
-    let states = case.model().states();
-    let init = case.model().init() as usize;
-    let mut low = 0;
-    while low < states && lane[init] > limit {
-        low = begin_part(case, links, weights, limit, lane, work, low, states);
+    /// Lowers the states of a component of several from 1, from a guess, or from where it is begun anew.
+    #[inline(never)]
+    fn begin_cycle(&self, lane: &mut [i64], work: &mut [u32], part: Part)
+        ghost spans: { Spans }
+        requires can { CanLower self.now.rows.now (from_top self.now.rows.now.case spans) lane.old }
+        requires work { length work.old ≡ 2 * length self.now.rows.now.case.model.states }
+        requires part { (part.high ≤ length self.now.rows.now.case.model.states) × (part.high ≤ length self.now.rows.now.links.order) }
+        ensures { IsHigh self.now.rows.now.case spans lane.new }
+    {
+        clear_part(work, part);
+        visit_first(self.rows, lane, work, part);
+        if self.settle_within(lane, work, part, first_passes(part)) {
+            return;
+        }
+        let (flags, noted) = work.split_at_mut(self.rows.model().states() as usize);
+        if lower_from_guesses(self.rows, lane, flags, noted, part) {
+            return;
+        }
+        self.lower_anew(lane, work, part);
+    }
+
+    /// Lowers the states of the component that begins at a position, and tells where the next one begins. A single
+    /// state needs one visit, and what leads to it comes later.
+    #[inline(always)]
+    fn begin_part(&self, lane: &mut [i64], work: &mut [u32], low: u32, states: u32) -> u32
+        ghost spans: { Spans }
+        requires can { CanLower self.now.rows.now (from_top self.now.rows.now.case spans) lane.old }
+        requires work { length work.old ≡ 2 * length self.now.rows.now.case.model.states }
+        requires states { (states ≤ length self.now.rows.now.case.model.states) × (states ≤ length self.now.rows.now.links.order) }
+        requires low { low < states }
+        ensures high { IsHigh self.now.rows.now.case spans lane.new }
+        ensures later { low < result }
+        ensures inside { result ≤ states }
+    {
+        if is_alone(self.rows, low) {
+            visit_alone(self.rows, lane, low);
+            return low + 1;
+        }
+        let high = component_end(self.rows, low, states);
+        self.begin_cycle(lane, work, Part { low, high });
+        high
+    }
+
+    /// Lowers a vector from 1, component by component from those below, until none of its states is flagged, or
+    /// the initial state's number isn't above the limit.
+    pub(crate) fn begin(&self, lane: &mut [i64], work: &mut [u32])
+        ghost spans: { Spans }
+        requires table { IsLiftedTo self.now.rows.now spans }
+        requires size { length lane.old ≡ length self.now.rows.now.case.model.states }
+        requires work { length work.old ≡ 2 * length self.now.rows.now.case.model.states }
+        ensures { IsHigh self.now.rows.now.case spans lane.new }
+    {
+        start(self.rows, lane);
+        let _ = self.rows.w();
+        let states = self.rows.model().states();
+        let init = self.rows.model().init() as usize;
+        let mut low = 0;
+        while low < states && lane[init] > self.limit {
+            low = self.begin_part(lane, work, low, states);
+        }
     }
 }

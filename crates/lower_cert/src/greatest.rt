@@ -4,16 +4,17 @@ ghost use Rattle.std.specs.Prelude.{◌≡◌, ◌*◌, ◌<◌, ◌≤◌, ◌<
 ghost use Rattle.lift_grid.specs.Rectangle.{Spans};
 ghost use Rattle.corner_lift.specs.Case.{number};
 ghost use Rattle.corner_lift.specs.Certificate.{unmarked};
+ghost use Rattle.corner_lift.specs.Lifted.{IsLiftedTo};
 ghost use Rattle.corner_lift.specs.Stages.{IsGreatestLower};
 ghost use Rattle.lower_cert.specs.Lowering.{IsRead, HasPlaces, IsHigh, IsSettled, IsHeight, total};
 ghost use Rattle.lower_cert.specs.Limit.{IsGreatestAbove, NoneIsAbove};
 
-use crate::begin::begin;
+use crate::descent::Descent;
 use crate::exit::lower_to_exit;
 use crate::laws::{ranks_fit, vectors_are_lowered};
 use crate::lower::{NONE, lower_level, rank_states, stuck_level};
-use crate::sweep::{clear_flags, flag_marked, settle};
-use corner_lift::{Case, PairTable, rows_at_corners};
+use crate::sweep::{clear_flags, flag_marked};
+use corner_lift::{Case, Lifted, rows_at_corners};
 use lift_model::Links;
 use robust_rank::rate;
 
@@ -22,56 +23,6 @@ use robust_rank::rate;
 pub struct Rate {
     pub e: u32,
     pub k: u32,
-}
-
-/// Whether the initial state's number is above the limit.
-fn is_above(case: &Case, lane: &[i64], limit: i64) -> bool
-    requires { length lane.now ≡ length case.now.model.states }
-    ensures { IsTrue result ↔ limit <ℤ number lane.now case.now.model.init }
-{
-    limit < lane[case.model().init() as usize]
-}
-
-/// Ranks the states, and lowers those without rank that have the greatest number above 0, if there are any:
-/// by 1, then to their best exit, and then all states until each is held by a choice. Tells whether it goes
-/// on: not where there are none, and not where the initial state's number isn't above the limit.
-fn lower_once(
-    case: &Case,
-    links: &Links,
-    weights: &PairTable,
-    limit: i64,
-    lane: &mut [i64],
-    allowed: &mut [u32],
-    ranks: &mut [u32],
-    picks: &mut [u32],
-    work: &mut [u32],
-) -> bool
-    ghost spans: { Spans }
-    requires read { IsRead case.now links.now spans weights.now lane.old }
-    requires high { IsHigh case.now spans lane.old }
-    requires places { HasPlaces case.now allowed.old ranks.old picks.old }
-    requires work { length work.old ≡ 2 * length case.now.model.states }
-    ensures high { IsHigh case.now spans lane.new }
-    ensures lower { IsTrue result → total lane.new < total lane.old }
-    ensures settled { IsFalse result → limit <ℤ number lane.new case.now.model.init
-        → IsSettled case.now spans lane.new picks.new ranks.new }
-{
-    rows_at_corners();
-    let _ = case.w();
-    if !is_above(case, lane, limit) {
-        return false;
-    }
-    rank_states(case, links, weights, lane, allowed, ranks, picks);
-    let level = stuck_level(lane, ranks);
-    if level <= 0 {
-        return false;
-    }
-    lower_level(case, lane, ranks, picks, level);
-    lower_to_exit(case, links, weights, lane, ranks, picks, level - 1);
-    clear_flags(work);
-    flag_marked(case, links, picks, work);
-    settle(case, links, weights, limit, lane, work);
-    true
 }
 
 /// The greatest rank, or 1 where none is greater.
@@ -88,56 +39,122 @@ fn height(ranks: &[u32]) -> u32
     height
 }
 
-/// Lowers a vector that lies at or above each lower vector until it is the greatest lower one, or until the
-/// initial state's number isn't above the limit.
-fn descend(
-    case: &Case,
-    links: &Links,
-    weights: &PairTable,
-    limit: i64,
-    lane: &mut [i64],
-    allowed: &mut [u32],
-    ranks: &mut [u32],
-    picks: &mut [u32],
-    work: &mut [u32],
-)
-    ghost spans: { Spans }
-    requires read { IsRead case.now links.now spans weights.now lane.old }
-    requires high { IsHigh case.now spans lane.old }
-    requires places { HasPlaces case.now allowed.old ranks.old picks.old }
-    requires work { length work.old ≡ 2 * length case.now.model.states }
-    ensures high { IsHigh case.now spans lane.new }
-    ensures settled { limit <ℤ number lane.new case.now.model.init → IsSettled case.now spans lane.new picks.new ranks.new }
-{
-    while lower_once(
-        case, links, weights, limit, lane, allowed, ranks, picks, work,
-    ) {}
-}
-
 /// The least rate and height that the ranks and picks of a settled vector allow.
-fn rate_of(
-    case: &Case,
-    links: &Links,
-    weights: &PairTable,
-    lane: &[i64],
-    ranks: &[u32],
-    picks: &[u32],
-) -> Rate
+fn rate_of(rows: &Lifted, lane: &[i64], ranks: &[u32], picks: &[u32]) -> Rate
     ghost spans: { Spans }
-    requires read { IsRead case.now links.now spans weights.now lane.now }
-    requires high { IsHigh case.now spans lane.now }
-    requires settled { IsSettled case.now spans lane.now picks.now ranks.now }
-    ensures greatest { IsGreatestLower case.now spans
+    requires table { IsLiftedTo rows.now spans }
+    requires high { IsHigh rows.now.case spans lane.now }
+    requires settled { IsSettled rows.now.case spans lane.now picks.now ranks.now }
+    ensures greatest { IsGreatestLower rows.now.case spans
         (record { numbers = lane.now; picks = picks.now; ranks = ranks.now; e = result.e; k = result.k }) }
-    ensures height { result.k ≤ length case.now.model.states }
+    ensures height { result.k ≤ length rows.now.case.model.states }
 {
     vectors_are_lowered();
     ranks_fit();
     rows_at_corners();
-    let _ = case.w();
+    let _ = rows.w();
     Rate {
-        e: rate(case, links, weights.weights(), ranks, picks),
+        e: rate(rows.case(), rows.links(), rows.weights(), ranks, picks),
         k: height(ranks),
+    }
+}
+
+impl Descent<'_> {
+    /// Whether the initial state's number is above the limit.
+    fn is_above(&self, lane: &[i64]) -> bool
+        requires { length lane.now ≡ length self.now.rows.now.case.model.states }
+        ensures { IsTrue result ↔ self.now.limit <ℤ number lane.now self.now.rows.now.case.model.init }
+    {
+        self.limit < lane[self.rows.model().init() as usize]
+    }
+
+    /// Ranks the states, and lowers those without rank that have the greatest number above 0, if there are any:
+    /// by 1, then to their best exit, and then all states until each is held by a choice. Tells whether it goes
+    /// on: not where there are none, and not where the initial state's number isn't above the limit.
+    fn lower_once(
+        &self,
+        lane: &mut [i64],
+        allowed: &mut [u32],
+        ranks: &mut [u32],
+        picks: &mut [u32],
+        work: &mut [u32],
+    ) -> bool
+        ghost spans: { Spans }
+        requires table { IsLiftedTo self.now.rows.now spans }
+        requires high { IsHigh self.now.rows.now.case spans lane.old }
+        requires places { HasPlaces self.now.rows.now.case allowed.old ranks.old picks.old }
+        requires work { length work.old ≡ 2 * length self.now.rows.now.case.model.states }
+        ensures high { IsHigh self.now.rows.now.case spans lane.new }
+        ensures lower { IsTrue result → total lane.new < total lane.old }
+        ensures settled { IsFalse result → self.now.limit <ℤ number lane.new self.now.rows.now.case.model.init
+            → IsSettled self.now.rows.now.case spans lane.new picks.new ranks.new }
+    {
+        rows_at_corners();
+        let rows = self.rows;
+        let _ = rows.w();
+        if !self.is_above(lane) {
+            return false;
+        }
+        rank_states(rows, lane, allowed, ranks, picks);
+        let level = stuck_level(lane, ranks);
+        if level <= 0 {
+            return false;
+        }
+        lower_level(rows, lane, ranks, picks, level);
+        lower_to_exit(rows, lane, ranks, picks, level - 1);
+        clear_flags(work);
+        flag_marked(rows, picks, work);
+        self.settle(lane, work);
+        true
+    }
+
+    /// Lowers a vector that lies at or above each lower vector until it is the greatest lower one, or until the
+    /// initial state's number isn't above the limit.
+    fn descend(
+        &self,
+        lane: &mut [i64],
+        allowed: &mut [u32],
+        ranks: &mut [u32],
+        picks: &mut [u32],
+        work: &mut [u32],
+    )
+        ghost spans: { Spans }
+        requires table { IsLiftedTo self.now.rows.now spans }
+        requires high { IsHigh self.now.rows.now.case spans lane.old }
+        requires places { HasPlaces self.now.rows.now.case allowed.old ranks.old picks.old }
+        requires work { length work.old ≡ 2 * length self.now.rows.now.case.model.states }
+        ensures high { IsHigh self.now.rows.now.case spans lane.new }
+        ensures settled { self.now.limit <ℤ number lane.new self.now.rows.now.case.model.init
+            → IsSettled self.now.rows.now.case spans lane.new picks.new ranks.new }
+    {
+        while self.lower_once(lane, allowed, ranks, picks, work) {}
+    }
+
+    /// Lowers a vector that lies at or above each lower vector to the greatest lower one, and gives the rate, if the
+    /// initial state's number is above the limit.
+    fn reject_from(
+        &self,
+        lane: &mut [i64],
+        allowed: &mut [u32],
+        ranks: &mut [u32],
+        picks: &mut [u32],
+        work: &mut [u32],
+    ) -> Option<Rate>
+        ghost spans: { Spans }
+        requires table { IsLiftedTo self.now.rows.now spans }
+        requires high { IsHigh self.now.rows.now.case spans lane.old }
+        requires places { HasPlaces self.now.rows.now.case allowed.old ranks.old picks.old }
+        requires work { length work.old ≡ 2 * length self.now.rows.now.case.model.states }
+        ensures some { IfSome result (λ rate. IsGreatestAbove self.now.rows.now.case spans self.now.limit
+            (record { numbers = lane.new; picks = picks.new; ranks = ranks.new; e = rate.e; k = rate.k })) }
+        ensures none { IsNone result → NoneIsAbove self.now.rows.now.case spans self.now.limit }
+    {
+        rows_at_corners();
+        self.descend(lane, allowed, ranks, picks, work);
+        if self.is_above(lane) {
+            return Some(rate_of(self.rows, lane, ranks, picks));
+        }
+        None
     }
 }
 
@@ -163,13 +180,12 @@ pub fn greatest_reject(
     ensures height { result.k ≤ length case.now.model.states }
 {
     rows_at_corners();
-    let weights = &PairTable::of(case, links, weights);
+    let rows = Lifted::new(&*case, &*links, &*weights);
     let limit = -1;
-    begin(case, links, weights, limit, lane, work);
-    descend(
-        case, links, weights, limit, lane, allowed, ranks, picks, work,
-    );
-    rate_of(case, links, weights, lane, ranks, picks)
+    let descent = Descent { rows: &rows, limit };
+    descent.begin(lane, work);
+    descent.descend(lane, allowed, ranks, picks, work);
+    rate_of(&rows, lane, ranks, picks)
 }
 
 /// As `greatest_reject`, but stops as soon as the initial state's number isn't above the limit. None: in no
@@ -194,43 +210,10 @@ pub fn greatest_reject_above(
         (record { numbers = lane.new; picks = picks.new; ranks = ranks.new; e = rate.e; k = rate.k })) }
     ensures none { IsNone result → NoneIsAbove case.now spans limit }
 {
-    let weights = &PairTable::of(case, links, weights);
-    begin(case, links, weights, limit, lane, work);
-    reject_from(
-        case, links, weights, limit, lane, allowed, ranks, picks, work,
-    )
-}
-
-/// Lowers a vector that lies at or above each lower vector to the greatest lower one, and gives the rate, if the
-/// initial state's number is above the limit.
-fn reject_from(
-    case: &Case,
-    links: &Links,
-    weights: &PairTable,
-    limit: i64,
-    lane: &mut [i64],
-    allowed: &mut [u32],
-    ranks: &mut [u32],
-    picks: &mut [u32],
-    work: &mut [u32],
-) -> Option<Rate>
-    ghost spans: { Spans }
-    requires read { IsRead case.now links.now spans weights.now lane.old }
-    requires high { IsHigh case.now spans lane.old }
-    requires places { HasPlaces case.now allowed.old ranks.old picks.old }
-    requires work { length work.old ≡ 2 * length case.now.model.states }
-    ensures some { IfSome result (λ rate. IsGreatestAbove case.now spans limit
-        (record { numbers = lane.new; picks = picks.new; ranks = ranks.new; e = rate.e; k = rate.k })) }
-    ensures none { IsNone result → NoneIsAbove case.now spans limit }
-{
-    rows_at_corners();
-    descend(
-        case, links, weights, limit, lane, allowed, ranks, picks, work,
-    );
-    if is_above(case, lane, limit) {
-        return Some(rate_of(case, links, weights, lane, ranks, picks));
-    }
-    None
+    let rows = Lifted::new(&*case, &*links, &*weights);
+    let descent = Descent { rows: &rows, limit };
+    descent.begin(lane, work);
+    descent.reject_from(lane, allowed, ranks, picks, work)
 }
 
 /// Lowers the vector of ones as far as the choices of states ask for, and leaves it in `lane`: it lies at or above each
@@ -251,9 +234,10 @@ pub fn lower_unranked(
     ensures none { IsFalse result → NoneIsAbove case.now spans limit }
 {
     rows_at_corners();
-    let weights = &PairTable::of(case, links, weights);
-    begin(case, links, weights, limit, lane, work);
-    is_above(case, lane, limit)
+    let rows = Lifted::new(&*case, &*links, &*weights);
+    let descent = Descent { rows: &rows, limit };
+    descent.begin(lane, work);
+    descent.is_above(lane)
 }
 
 /// As `greatest_reject_above`, but begins from the vector in `lane`, which lies at or above each lower vector.
@@ -277,8 +261,7 @@ pub fn greatest_reject_from(
         (record { numbers = lane.new; picks = picks.new; ranks = ranks.new; e = rate.e; k = rate.k })) }
     ensures none { IsNone result → NoneIsAbove case.now spans limit }
 {
-    let weights = &PairTable::of(case, links, weights);
-    reject_from(
-        case, links, weights, limit, lane, allowed, ranks, picks, work,
-    )
+    let rows = Lifted::new(&*case, &*links, &*weights);
+    let descent = Descent { rows: &rows, limit };
+    descent.reject_from(lane, allowed, ranks, picks, work)
 }

@@ -2,6 +2,7 @@
 #![tactic(auto)]
 
 mod begin;
+mod descent;
 mod exit;
 mod greatest;
 mod laws;

@@ -1,33 +1,33 @@
 //! Steps that lower a vector, and keep it at or above every lower vector.
 
-ghost use Rattle.std.specs.Prelude.{IfSome, ℕ, ◌≡◌, ◌*◌, ◌+◌, ◌^◌, ◌<◌, ◌≤◌, ◌≤ℤ◌, ◌<ℤ◌, ◌*ℤ◌, ◌↔◌, pos, length, unsigned_abs, IsTrue, nat_lt, true, ◌-ℤ◌, ◌⊎◌};
+ghost use Rattle.std.specs.Prelude.{IfSome, ℕ, ◌≡◌, ◌*◌, ◌+◌, ◌<◌, ◌≤◌, ◌≤ℤ◌, ◌<ℤ◌, ◌*ℤ◌, ◌↔◌, pos, length, unsigned_abs, IsTrue, nat_lt, true, ◌-ℤ◌, ◌⊎◌};
 ghost use Rattle.lift_grid.specs.Rectangle.{Spans};
 ghost use Rattle.lift_model.specs.Model.{choices, row_count};
 ghost use Rattle.lift_model.specs.Links.{HasChoice};
 ghost use Rattle.lift_model.specs.OnlyRow.{IsPairRow};
 ghost use Rattle.corner_lift.specs.Case.{IsInside, corner_count, engine_limit, number, row_value, row_whole};
+ghost use Rattle.corner_lift.specs.Lifted.{IsLiftedTo};
 ghost use Rattle.corner_lift.specs.Certificate.{AreNumbers, mark, unmarked};
 ghost use Rattle.corner_lift.specs.Stages.{IsAllowed};
-ghost use Rattle.lower_cert.specs.Lowering.{IsRead, HasPlaces, IsHigh, IsRanked, AreToldBefore, IsStuckLevel, IsLoweredAt, total};
+ghost use Rattle.lower_cert.specs.Lowering.{HasPlaces, IsHigh, IsRanked, AreToldBefore, IsStuckLevel, IsLoweredAt, total};
 
 use crate::laws::{premises, vectors_are_lowered};
-use crate::sweep::choice_count;
-use corner_lift::{Case, LaneSum, PairTable, is_held, one_at, rows_at_corners};
-use lift_model::{Links, OnlyRow, PairRow};
+use corner_lift::{LaneSum, Lifted, rows_at_corners};
+use lift_model::{OnlyRow, PairRow};
 use robust_rank::{attract, ranks_go_by_stages};
 
 /// In place of a rank or of a pick where a state has none.
 pub(crate) const NONE: u32 = u32::MAX;
 
 /// Writes 1 for each state.
-pub(crate) fn start(case: &Case, lane: &mut [i64])
+pub(crate) fn start(rows: &Lifted, lane: &mut [i64])
     ghost spans: { Spans }
-    requires { length lane.old ≡ length case.now.model.states }
-    ensures { IsHigh case.now spans lane.new }
+    requires { length lane.old ≡ length rows.now.case.model.states }
+    ensures { IsHigh rows.now.case spans lane.new }
 {
     rows_at_corners();
-    let top = one_at(case.w());
-    let _ = case.model();
+    let top = rows.top();
+    let _ = rows.w();
     for s in 0..lane.len() {
         lane[s] = top;
     }
@@ -61,69 +61,53 @@ fn reaches(row: LaneSum, number: i64) -> Option<bool>
 
 /// Whether the state's choice, a row of two entries that is quickly looked up, holds the number at each corner.
 #[inline(always)]
-fn holds(
-    case: &Case,
-    links: &Links,
-    weights: &PairTable,
-    lane: &[i64],
-    s: u32,
-    a: u32,
-    number: i64,
-) -> Option<bool>
+fn holds(rows: &Lifted, lane: &[i64], s: u32, a: u32, number: i64) -> Option<bool>
     ghost spans: { Spans }
-    requires read { IsRead case.now links.now spans weights.now lane.now }
-    requires numbers { AreNumbers case.now lane.now }
-    requires row { HasChoice case.now.model s a }
-    ensures { IfSome result (λ yes. IsTrue yes ↔ ((c : ℕ) → c < corner_count case.now s a
-        → (number *ℤ row_whole case.now s a) ≤ℤ row_value case.now spans s a lane.now c)) }
+    requires table { IsLiftedTo rows.now spans }
+    requires numbers { AreNumbers rows.now.case lane.now }
+    requires row { HasChoice rows.now.case.model s a }
+    ensures { IfSome result (λ yes. IsTrue yes ↔ ((c : ℕ) → c < corner_count rows.now.case s a
+        → (number *ℤ row_whole rows.now.case s a) ≤ℤ row_value rows.now.case spans s a lane.now c)) }
 {
-    let row = weights.least(case, links, s, a, lane)?;
+    let row = rows.least(s, a, lane)?;
     let yes = reaches(row, number)?;
     Some(yes)
 }
 
 /// The same of the only row of a state, which has two entries.
 #[inline(always)]
-fn pair_holds(
-    case: &Case,
-    links: &Links,
-    weights: &PairTable,
-    lane: &[i64],
-    s: u32,
-    row: PairRow,
-    number: i64,
-) -> Option<bool>
+fn pair_holds(rows: &Lifted, lane: &[i64], s: u32, row: PairRow, number: i64) -> Option<bool>
     ghost spans: { Spans }
-    requires read { IsRead case.now links.now spans weights.now lane.now }
-    requires numbers { AreNumbers case.now lane.now }
-    requires state { s < length case.now.model.states }
-    requires row { IsPairRow case.now.model links.now s row }
-    ensures { IfSome result (λ yes. IsTrue yes ↔ ((c : ℕ) → c < corner_count case.now s 0
-        → (number *ℤ row_whole case.now s 0) ≤ℤ row_value case.now spans s 0 lane.now c)) }
+    requires table { IsLiftedTo rows.now spans }
+    requires numbers { AreNumbers rows.now.case lane.now }
+    requires state { s < length rows.now.case.model.states }
+    requires row { IsPairRow rows.now.case.model rows.now.links s row }
+    ensures { IfSome result (λ yes. IsTrue yes ↔ ((c : ℕ) → c < corner_count rows.now.case s 0
+        → (number *ℤ row_whole rows.now.case s 0) ≤ℤ row_value rows.now.case spans s 0 lane.now c)) }
 {
-    let row = weights.least_of(case, links, s, row, lane)?;
+    let row = rows.least_of(s, row, lane)?;
     let yes = reaches(row, number)?;
     Some(yes)
 }
 
 /// Whether the state's choice holds its number at each corner.
 #[inline(always)]
-fn is_allowed(case: &Case, links: &Links, weights: &PairTable, lane: &[i64], s: u32, a: u32) -> bool
+fn is_allowed(rows: &Lifted, lane: &[i64], s: u32, a: u32) -> bool
     ghost spans: { Spans }
-    requires read { IsRead case.now links.now spans weights.now lane.now }
-    requires numbers { AreNumbers case.now lane.now }
-    requires row { HasChoice case.now.model s a }
-    ensures { IsTrue result ↔ IsAllowed case.now spans (number lane.now) s a }
+    requires table { IsLiftedTo rows.now spans }
+    requires numbers { AreNumbers rows.now.case lane.now }
+    requires row { HasChoice rows.now.case.model s a }
+    ensures { IsTrue result ↔ IsAllowed rows.now.case spans (number lane.now) s a }
 {
     premises();
-    let _ = case.w();
+    let _ = rows.w();
     let number = lane[s as usize];
     if number <= 0 {
         return true;
     }
-    match holds(case, links, weights, lane, s, a, number) {
+    match holds(rows, lane, s, a, number) {
         Some(yes) => yes,
-        None => is_held(case, links, weights.weights(), s, a, lane, number),
+        None => rows.is_held(s, a, lane, number),
     }
 }
 
@@ -138,21 +122,21 @@ fn flag(is: bool) -> u32
 
 /// Whether the only row of a state holds the state's number at each corner, if that is quickly told.
 #[inline(always)]
-fn only_holds(case: &Case, links: &Links, weights: &PairTable, lane: &[i64], s: u32) -> Option<bool>
+fn only_holds(rows: &Lifted, lane: &[i64], s: u32) -> Option<bool>
     ghost spans: { Spans }
-    requires read { IsRead case.now links.now spans weights.now lane.now }
-    requires numbers { AreNumbers case.now lane.now }
-    requires state { s < length case.now.model.states }
-    ensures only { IfSome result (λ yes. length (choices case.now.model s) ≡ 1) }
-    ensures allowed { IfSome result (λ yes. IsTrue yes ↔ IsAllowed case.now spans (number lane.now) s 0) }
+    requires table { IsLiftedTo rows.now spans }
+    requires numbers { AreNumbers rows.now.case lane.now }
+    requires state { s < length rows.now.case.model.states }
+    ensures only { IfSome result (λ yes. length (choices rows.now.case.model s) ≡ 1) }
+    ensures allowed { IfSome result (λ yes. IsTrue yes ↔ IsAllowed rows.now.case spans (number lane.now) s 0) }
 {
     premises();
-    let _ = case.w();
+    let _ = rows.w();
     let number = lane[s as usize];
-    match links.only_row(s) {
+    match rows.only_row(s) {
         OnlyRow::Single(target) => Some(number <= lane[target as usize]),
         OnlyRow::Pair(row) => {
-            let yes = pair_holds(case, links, weights, lane, s, row, number)?;
+            let yes = pair_holds(rows, lane, s, row, number)?;
             Some(yes)
         }
         OnlyRow::Other => None,
@@ -161,86 +145,78 @@ fn only_holds(case: &Case, links: &Links, weights: &PairTable, lane: &[i64], s: 
 
 /// Tells for each row of a state whether its choice is allowed.
 #[inline(never)]
-fn allow_choices(
-    case: &Case,
-    links: &Links,
-    weights: &PairTable,
-    lane: &[i64],
-    s: u32,
-    allowed: &mut [u32],
-)
+fn allow_choices(rows: &Lifted, lane: &[i64], s: u32, allowed: &mut [u32])
     ghost spans: { Spans }
-    requires read { IsRead case.now links.now spans weights.now lane.now }
-    requires numbers { AreNumbers case.now lane.now }
-    requires state { s < length case.now.model.states }
-    requires rows { length allowed.old ≡ row_count case.now.model }
-    requires told { AreToldBefore case.now spans lane.now allowed.old s 0 }
-    ensures told { AreToldBefore case.now spans lane.now allowed.new (s + 1) 0 }
+    requires table { IsLiftedTo rows.now spans }
+    requires numbers { AreNumbers rows.now.case lane.now }
+    requires state { s < length rows.now.case.model.states }
+    requires places { length allowed.old ≡ row_count rows.now.case.model }
+    requires told { AreToldBefore rows.now.case spans lane.now allowed.old s 0 }
+    ensures told { AreToldBefore rows.now.case spans lane.now allowed.new (s + 1) 0 }
 {
-    for a in 0..choice_count(case, links, s) {
-        let row = links.row_place(s, a);
-        allowed[row] = flag(is_allowed(case, links, weights, lane, s, a));
+    for a in 0..rows.choice_count(s) {
+        let row = rows.row_place(s, a);
+        allowed[row] = flag(is_allowed(rows, lane, s, a));
     }
 }
 
 /// The same, by a short path where the state has one row that is quickly looked up.
 #[inline(always)]
-fn allow_state(
-    case: &Case,
-    links: &Links,
-    weights: &PairTable,
-    lane: &[i64],
-    s: u32,
-    allowed: &mut [u32],
-)
+fn allow_state(rows: &Lifted, lane: &[i64], s: u32, allowed: &mut [u32])
     ghost spans: { Spans }
-    requires read { IsRead case.now links.now spans weights.now lane.now }
-    requires numbers { AreNumbers case.now lane.now }
-    requires state { s < length case.now.model.states }
-    requires rows { length allowed.old ≡ row_count case.now.model }
-    requires told { AreToldBefore case.now spans lane.now allowed.old s 0 }
-    ensures told { AreToldBefore case.now spans lane.now allowed.new (s + 1) 0 }
+    requires table { IsLiftedTo rows.now spans }
+    requires numbers { AreNumbers rows.now.case lane.now }
+    requires state { s < length rows.now.case.model.states }
+    requires places { length allowed.old ≡ row_count rows.now.case.model }
+    requires told { AreToldBefore rows.now.case spans lane.now allowed.old s 0 }
+    ensures told { AreToldBefore rows.now.case spans lane.now allowed.new (s + 1) 0 }
 {
-    if let Some(yes) = only_holds(case, links, weights, lane, s) {
-        allowed[links.row_place(s, 0)] = flag(yes);
+    if let Some(yes) = only_holds(rows, lane, s) {
+        allowed[rows.row_place(s, 0)] = flag(yes);
         return;
     }
-    allow_choices(case, links, weights, lane, s, allowed);
+    allow_choices(rows, lane, s, allowed);
 }
 
 /// Tells for each row whether its choice is allowed.
 #[inline(never)]
-fn allow(case: &Case, links: &Links, weights: &PairTable, lane: &[i64], allowed: &mut [u32])
+fn allow(rows: &Lifted, lane: &[i64], allowed: &mut [u32])
     ghost spans: { Spans }
-    requires read { IsRead case.now links.now spans weights.now lane.now }
-    requires numbers { AreNumbers case.now lane.now }
-    requires rows { length allowed.old ≡ row_count case.now.model }
-    ensures told { AreToldBefore case.now spans lane.now allowed.new (length case.now.model.states) 0 }
+    requires table { IsLiftedTo rows.now spans }
+    requires numbers { AreNumbers rows.now.case lane.now }
+    requires places { length allowed.old ≡ row_count rows.now.case.model }
+    ensures told { AreToldBefore rows.now.case spans lane.now allowed.new (length rows.now.case.model.states) 0 }
 {
-    for s in 0..case.model().states() {
-        allow_state(case, links, weights, lane, s, allowed);
+    for s in 0..rows.model().states() {
+        allow_state(rows, lane, s, allowed);
     }
 }
 
 /// Ranks the states by the stages of the allowed choices.
 pub(crate) fn rank_states(
-    case: &Case,
-    links: &Links,
-    weights: &PairTable,
+    rows: &Lifted,
     lane: &[i64],
     allowed: &mut [u32],
     ranks: &mut [u32],
     picks: &mut [u32],
 )
     ghost spans: { Spans }
-    requires read { IsRead case.now links.now spans weights.now lane.now }
-    requires numbers { AreNumbers case.now lane.now }
-    requires places { HasPlaces case.now allowed.old ranks.old picks.old }
-    ensures { IsRanked case.now spans lane.now picks.new ranks.new }
+    requires table { IsLiftedTo rows.now spans }
+    requires numbers { AreNumbers rows.now.case lane.now }
+    requires places { HasPlaces rows.now.case allowed.old ranks.old picks.old }
+    ensures { IsRanked rows.now.case spans lane.now picks.new ranks.new }
 {
     ranks_go_by_stages();
-    allow(case, links, weights, lane, allowed);
-    attract(case, links, weights.weights(), allowed, ranks, picks);
+    let _ = rows.w();
+    allow(rows, lane, allowed);
+    attract(
+        rows.case(),
+        rows.links(),
+        rows.weights(),
+        allowed,
+        ranks,
+        picks,
+    );
 }
 
 /// The greatest number of a state without rank.
@@ -291,18 +267,18 @@ fn lower_stuck(lane: &mut [i64], ranks: &[u32], level: i64)
 }
 
 /// Lowers a vector where its stages give no rank, if the greatest number there is above 0.
-pub(crate) fn lower_level(case: &Case, lane: &mut [i64], ranks: &[u32], picks: &[u32], level: i64)
+pub(crate) fn lower_level(rows: &Lifted, lane: &mut [i64], ranks: &[u32], picks: &[u32], level: i64)
     ghost spans: { Spans }
-    requires inside { IsInside case.now.root spans }
-    requires high { IsHigh case.now spans lane.old }
-    requires ranked { IsRanked case.now spans lane.old picks.now ranks.now }
+    requires inside { IsInside rows.now.case.root spans }
+    requires high { IsHigh rows.now.case spans lane.old }
+    requires ranked { IsRanked rows.now.case spans lane.old picks.now ranks.now }
     requires level { IsStuckLevel lane.old ranks.now (length lane.old) level }
     requires positive { pos 0 <ℤ level }
-    ensures high { IsHigh case.now spans lane.new }
+    ensures high { IsHigh rows.now.case spans lane.new }
     ensures lower { total lane.new < total lane.old }
 {
     vectors_are_lowered();
     rows_at_corners();
-    let _ = case.w();
+    let _ = rows.w();
     lower_stuck(lane, ranks, level);
 }

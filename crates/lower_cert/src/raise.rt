@@ -3,18 +3,17 @@
 
 ghost use Rattle.std.specs.Prelude.{◌≡◌, ◌^◌, ◌<◌, ◌≤◌, ◌≤ℤ◌, pos, length, IsTrue};
 ghost use Rattle.lift_grid.specs.Rectangle.{Spans};
-ghost use Rattle.lift_model.specs.Links.{AreLinks, HasChoice};
+ghost use Rattle.lift_model.specs.Links.{HasChoice};
 ghost use Rattle.corner_lift.specs.Certificate.{AreNumbers};
 ghost use Rattle.lower_cert.specs.Lowering.{CanWeigh};
 ghost use Rattle.lower_cert.specs.Beginning.{IsClosedChoice, IsClosedState, IsClosedPosition, IsClosedPart};
 ghost use Rattle.float_guess.specs.Part.{KeepsOthers};
 
 use crate::lower::{is_at_most, times};
-use crate::part::{fill_at, fill_part, flag_part, note, open_state};
-use crate::sweep::{choice_count, flag_before, greater, only_target, quotient, take_flag};
-use corner_lift::{Case, LaneSum, PairTable, Weighed, rows_at_corners, table_least};
+use crate::part::{Part, fill_at, fill_part, flag_part, note};
+use crate::sweep::{flag_before, greater, take_flag};
+use corner_lift::{LaneSum, Lifted, Weighed, quotient_of, rows_at_corners};
 use float_guess::low_word_of;
-use lift_model::Links;
 
 /// How many sweeps come before those by which a jump is measured.
 const CALM_SWEEPS: u32 = 3;
@@ -39,34 +38,27 @@ const PARTS: i64 = 256;
 
 /// Whether the choice doesn't let its state rise: at some corner its weighted mean is at most the state's
 /// number.
-fn is_closed_choice(
-    case: &Case,
-    links: &Links,
-    weights: &PairTable,
-    lane: &[i64],
-    s: u32,
-    a: u32,
-) -> bool
+fn is_closed_choice(rows: &Lifted, lane: &[i64], s: u32, a: u32) -> bool
     ghost spans: { Spans }
-    requires can { CanWeigh case.now links.now spans weights.now lane.now }
-    requires row { HasChoice case.now.model s a }
-    ensures { IsTrue result → IsClosedChoice case.now spans lane.now s a }
+    requires can { CanWeigh rows.now spans lane.now }
+    requires row { HasChoice rows.now.case.model s a }
+    ensures { IsTrue result → IsClosedChoice rows.now.case spans lane.now s a }
 {
     rows_at_corners();
-    let _ = case.w();
-    let Weighed { sum, whole } = table_least(case, links, weights.weights(), s, a, lane);
+    let _ = rows.w();
+    let Weighed { sum, whole } = rows.table_least(s, a, lane);
     is_at_most(sum, times(lane[s as usize], whole))
 }
 
 /// Whether no choice lets the state rise.
-fn is_closed_state(case: &Case, links: &Links, weights: &PairTable, lane: &[i64], s: u32) -> bool
+fn is_closed_state(rows: &Lifted, lane: &[i64], s: u32) -> bool
     ghost spans: { Spans }
-    requires can { CanWeigh case.now links.now spans weights.now lane.now }
-    requires state { s < length case.now.model.states }
-    ensures { IsTrue result → IsClosedState case.now spans lane.now s }
+    requires can { CanWeigh rows.now spans lane.now }
+    requires state { s < length rows.now.case.model.states }
+    ensures { IsTrue result → IsClosedState rows.now.case spans lane.now s }
 {
-    for a in 0..choice_count(case, links, s) {
-        if !is_closed_choice(case, links, weights, lane, s, a) {
+    for a in 0..rows.choice_count(s) {
+        if !is_closed_choice(rows, lane, s, a) {
             return false;
         }
     }
@@ -74,40 +66,27 @@ fn is_closed_state(case: &Case, links: &Links, weights: &PairTable, lane: &[i64]
 }
 
 /// Whether no choice lets the state at a position rise.
-fn is_closed_position(
-    case: &Case,
-    links: &Links,
-    weights: &PairTable,
-    lane: &[i64],
-    position: u32,
-) -> bool
+fn is_closed_position(rows: &Lifted, lane: &[i64], position: u32) -> bool
     ghost spans: { Spans }
-    requires can { CanWeigh case.now links.now spans weights.now lane.now }
-    requires position { position < length links.now.order }
-    ensures { IsTrue result → IsClosedPosition case.now links.now spans lane.now position }
+    requires can { CanWeigh rows.now spans lane.now }
+    requires position { position < length rows.now.links.order }
+    ensures { IsTrue result → IsClosedPosition rows.now.case rows.now.links spans lane.now position }
 {
-    match open_state(case, links, position) {
-        Some(s) => is_closed_state(case, links, weights, lane, s),
+    match rows.open_state(position) {
+        Some(s) => is_closed_state(rows, lane, s),
         None => true,
     }
 }
 
 /// Whether no choice lets a state of a part rise.
-fn is_closed_part(
-    case: &Case,
-    links: &Links,
-    weights: &PairTable,
-    lane: &[i64],
-    low: u32,
-    high: u32,
-) -> bool
+fn is_closed_part(rows: &Lifted, lane: &[i64], part: Part) -> bool
     ghost spans: { Spans }
-    requires can { CanWeigh case.now links.now spans weights.now lane.now }
-    requires high { high ≤ length links.now.order }
-    ensures { IsTrue result → IsClosedPart case.now links.now spans lane.now low high }
+    requires can { CanWeigh rows.now spans lane.now }
+    requires part { part.high ≤ length rows.now.links.order }
+    ensures { IsTrue result → IsClosedPart rows.now.case rows.now.links spans lane.now part.low part.high }
 {
-    for position in low..high {
-        if !is_closed_position(case, links, weights, lane, position) {
+    for position in part.low..part.high {
+        if !is_closed_position(rows, lane, position) {
             return false;
         }
     }
@@ -123,7 +102,7 @@ fn rounded_up(sum: i128, whole: i128, top: i64) -> i64
     ensures { (pos 0 ≤ℤ result) × (result ≤ℤ top) }
 {
     let whole = whole as u128;
-    let number = quotient(sum as u128 + (whole - 1), whole);
+    let number = quotient_of(sum as u128 + (whole - 1), whole);
     if number < top as u128 {
         number as i64
     } else {
@@ -163,50 +142,39 @@ fn raised_for_pair(row: LaneSum, number: i64, top: i64) -> i64
 
 /// A choice's least weighted mean over the corners, rounded up, or a number that is at least that.
 #[inline(always)]
-fn raised_for(
-    case: &Case,
-    links: &Links,
-    weights: &PairTable,
-    lane: &[i64],
-    s: u32,
-    a: u32,
-    number: i64,
-    top: i64,
-) -> i64
+fn raised_for(rows: &Lifted, lane: &[i64], s: u32, a: u32, number: i64) -> i64
     ghost spans: { Spans }
-    requires can { CanWeigh case.now links.now spans weights.now lane.now }
-    requires row { HasChoice case.now.model s a }
-    requires number { (pos 0 ≤ℤ number) × (number ≤ℤ pos (2 ^ case.now.w)) }
-    requires top { top ≡ pos (2 ^ case.now.w) }
-    ensures { (pos 0 ≤ℤ result) × (result ≤ℤ pos (2 ^ case.now.w)) }
+    requires can { CanWeigh rows.now spans lane.now }
+    requires row { HasChoice rows.now.case.model s a }
+    requires number { (pos 0 ≤ℤ number) × (number ≤ℤ pos (2 ^ rows.now.case.w)) }
+    ensures { (pos 0 ≤ℤ result) × (result ≤ℤ pos (2 ^ rows.now.case.w)) }
 {
     rows_at_corners();
-    let _ = case.w();
-    if let Some(target) = only_target(case, links, s, a) {
+    let _ = rows.w();
+    if let Some(target) = rows.only_target(s, a) {
         return lane[target as usize];
     }
-    if let Some(row) = weights.least(case, links, s, a, lane) {
-        return raised_for_pair(row, number, top);
+    if let Some(row) = rows.least(s, a, lane) {
+        return raised_for_pair(row, number, rows.top());
     }
-    let Weighed { sum, whole } = table_least(case, links, weights.weights(), s, a, lane);
+    let Weighed { sum, whole } = rows.table_least(s, a, lane);
     if is_at_most(sum, times(number, whole)) {
         return number;
     }
-    rounded_up(sum, whole, top)
+    rounded_up(sum, whole, rows.top())
 }
 
 /// The greatest of the weighted means of the state's choices, rounded up.
 #[inline(always)]
-fn raised(case: &Case, links: &Links, weights: &PairTable, lane: &[i64], s: u32, top: i64) -> i64
+fn raised(rows: &Lifted, lane: &[i64], s: u32) -> i64
     ghost spans: { Spans }
-    requires can { CanWeigh case.now links.now spans weights.now lane.now }
-    requires state { s < length case.now.model.states }
-    requires top { top ≡ pos (2 ^ case.now.w) }
-    ensures { (pos 0 ≤ℤ result) × (result ≤ℤ pos (2 ^ case.now.w)) }
+    requires can { CanWeigh rows.now spans lane.now }
+    requires state { s < length rows.now.case.model.states }
+    ensures { (pos 0 ≤ℤ result) × (result ≤ℤ pos (2 ^ rows.now.case.w)) }
 {
     let mut number = 0;
-    for a in 0..choice_count(case, links, s) {
-        let other = raised_for(case, links, weights, lane, s, a, number, top);
+    for a in 0..rows.choice_count(s) {
+        let other = raised_for(rows, lane, s, a, number);
         number = greater(number, other);
     }
     number
@@ -215,59 +183,38 @@ fn raised(case: &Case, links: &Links, weights: &PairTable, lane: &[i64], s: u32,
 /// Raises the state at a position of the part, if it is flagged, and flags those that lead to it where it
 /// rose. Tells whether it did.
 #[inline(always)]
-fn raise_turn(
-    case: &Case,
-    links: &Links,
-    weights: &PairTable,
-    lane: &mut [i64],
-    work: &mut [u32],
-    low: u32,
-    high: u32,
-    position: u32,
-    top: i64,
-) -> bool
+fn raise_turn(rows: &Lifted, lane: &mut [i64], work: &mut [u32], part: Part, position: u32) -> bool
     ghost spans: { Spans }
-    requires can { CanWeigh case.now links.now spans weights.now lane.old }
-    requires part { (low ≤ position) × (position < high) }
-    requires high { (high ≤ length work.old) × (high ≤ length links.now.order) }
-    requires top { top ≡ pos (2 ^ case.now.w) }
-    ensures { KeepsOthers case.now links.now low high lane.old lane.new }
+    requires can { CanWeigh rows.now spans lane.old }
+    requires inside { (part.low ≤ position) × (position < part.high) }
+    requires part { (part.high ≤ length work.old) × (part.high ≤ length rows.now.links.order) }
+    ensures { KeepsOthers rows.now.case rows.now.links part.low part.high lane.old lane.new }
 {
     if !take_flag(work, position) {
         return false;
     }
-    let Some(s) = open_state(case, links, position) else {
+    let Some(s) = rows.open_state(position) else {
         return false;
     };
-    let number = raised(case, links, weights, lane, s, top);
+    let number = raised(rows, lane, s);
     if number <= lane[s as usize] {
         return false;
     }
     lane[s as usize] = number;
-    flag_before(links, work, s, u32::MAX, high);
+    flag_before(rows, work, s, u32::MAX, part.high);
     true
 }
 
 /// Raises the flagged states of a part, and tells whether one rose.
-fn raise_pass(
-    case: &Case,
-    links: &Links,
-    weights: &PairTable,
-    lane: &mut [i64],
-    work: &mut [u32],
-    low: u32,
-    high: u32,
-    top: i64,
-) -> bool
+fn raise_pass(rows: &Lifted, lane: &mut [i64], work: &mut [u32], part: Part) -> bool
     ghost spans: { Spans }
-    requires can { CanWeigh case.now links.now spans weights.now lane.old }
-    requires high { (high ≤ length work.old) × (high ≤ length links.now.order) }
-    requires top { top ≡ pos (2 ^ case.now.w) }
-    ensures { KeepsOthers case.now links.now low high lane.old lane.new }
+    requires can { CanWeigh rows.now spans lane.old }
+    requires part { (part.high ≤ length work.old) × (part.high ≤ length rows.now.links.order) }
+    ensures { KeepsOthers rows.now.case rows.now.links part.low part.high lane.old lane.new }
 {
     let mut rose = false;
-    for position in low..high {
-        if raise_turn(case, links, weights, lane, work, low, high, position, top) {
+    for position in part.low..part.high {
+        if raise_turn(rows, lane, work, part, position) {
             rose = true;
         }
     }
@@ -275,24 +222,14 @@ fn raise_pass(
 }
 
 /// Raises the flagged states of a part until none rises, if that takes few passes.
-fn raise_rest(
-    case: &Case,
-    links: &Links,
-    weights: &PairTable,
-    lane: &mut [i64],
-    flags: &mut [u32],
-    low: u32,
-    high: u32,
-    top: i64,
-)
+fn raise_rest(rows: &Lifted, lane: &mut [i64], flags: &mut [u32], part: Part)
     ghost spans: { Spans }
-    requires can { CanWeigh case.now links.now spans weights.now lane.old }
-    requires high { (high ≤ length flags.old) × (high ≤ length links.now.order) }
-    requires top { top ≡ pos (2 ^ case.now.w) }
-    ensures { KeepsOthers case.now links.now low high lane.old lane.new }
+    requires can { CanWeigh rows.now spans lane.old }
+    requires part { (part.high ≤ length flags.old) × (part.high ≤ length rows.now.links.order) }
+    ensures { KeepsOthers rows.now.case rows.now.links part.low part.high lane.old lane.new }
 {
     for _ in 0..PASSES {
-        if !raise_pass(case, links, weights, lane, flags, low, high, top) {
+        if !raise_pass(rows, lane, flags, part) {
             return;
         }
     }
@@ -348,54 +285,33 @@ impl Moves {
 
 /// Moves the state at a position of the part to a slack above what its choices hold, and gives the step.
 #[inline(always)]
-fn move_at(
-    case: &Case,
-    links: &Links,
-    weights: &PairTable,
-    lane: &mut [i64],
-    low: u32,
-    high: u32,
-    position: u32,
-    slack: i64,
-    top: i64,
-) -> i64
+fn move_at(rows: &Lifted, lane: &mut [i64], part: Part, position: u32, slack: i64) -> i64
     ghost spans: { Spans }
-    requires can { CanWeigh case.now links.now spans weights.now lane.old }
-    requires part { (low ≤ position) × (position < high) }
-    requires high { high ≤ length links.now.order }
-    requires top { top ≡ pos (2 ^ case.now.w) }
-    ensures { KeepsOthers case.now links.now low high lane.old lane.new }
+    requires can { CanWeigh rows.now spans lane.old }
+    requires inside { (part.low ≤ position) × (position < part.high) }
+    requires part { part.high ≤ length rows.now.links.order }
+    ensures { KeepsOthers rows.now.case rows.now.links part.low part.high lane.old lane.new }
 {
-    let Some(s) = open_state(case, links, position) else {
+    let Some(s) = rows.open_state(position) else {
         return 0;
     };
-    let number = raised(case, links, weights, lane, s, top);
-    let number = within(number.saturating_add(slack), top);
+    let number = raised(rows, lane, s);
+    let number = within(number.saturating_add(slack), rows.top());
     let step = number.wrapping_sub(lane[s as usize]);
     lane[s as usize] = number;
     step
 }
 
 /// Moves each state of a part.
-fn sweep(
-    case: &Case,
-    links: &Links,
-    weights: &PairTable,
-    lane: &mut [i64],
-    low: u32,
-    high: u32,
-    slack: i64,
-    top: i64,
-) -> Moves
+fn sweep(rows: &Lifted, lane: &mut [i64], part: Part, slack: i64) -> Moves
     ghost spans: { Spans }
-    requires can { CanWeigh case.now links.now spans weights.now lane.old }
-    requires high { high ≤ length links.now.order }
-    requires top { top ≡ pos (2 ^ case.now.w) }
-    ensures { KeepsOthers case.now links.now low high lane.old lane.new }
+    requires can { CanWeigh rows.now spans lane.old }
+    requires part { part.high ≤ length rows.now.links.order }
+    ensures { KeepsOthers rows.now.case rows.now.links part.low part.high lane.old lane.new }
 {
     let mut moves = Moves::NONE;
-    for position in low..high {
-        let step = move_at(case, links, weights, lane, low, high, position, slack, top);
+    for position in part.low..part.high {
+        let step = move_at(rows, lane, part, position, slack);
         moves = moves.then(step);
     }
     moves
@@ -403,27 +319,16 @@ fn sweep(
 
 /// Moves the states of a part in so many sweeps, and gives how far they moved together. None: they came to
 /// rest.
-fn sweeps(
-    case: &Case,
-    links: &Links,
-    weights: &PairTable,
-    lane: &mut [i64],
-    low: u32,
-    high: u32,
-    count: u32,
-    slack: i64,
-    top: i64,
-) -> Option<i64>
+fn sweeps(rows: &Lifted, lane: &mut [i64], part: Part, count: u32, slack: i64) -> Option<i64>
     ghost spans: { Spans }
-    requires can { CanWeigh case.now links.now spans weights.now lane.old }
-    requires high { high ≤ length links.now.order }
-    requires top { top ≡ pos (2 ^ case.now.w) }
-    ensures { KeepsOthers case.now links.now low high lane.old lane.new }
+    requires can { CanWeigh rows.now spans lane.old }
+    requires part { part.high ≤ length rows.now.links.order }
+    ensures { KeepsOthers rows.now.case rows.now.links part.low part.high lane.old lane.new }
 {
     let mut way: i64 = 0;
     for _ in 0..count {
-        let moves = sweep(case, links, weights, lane, low, high, slack, top);
-        if moves.are_at_rest(high.saturating_sub(low), slack) {
+        let moves = sweep(rows, lane, part, slack);
+        if moves.are_at_rest(part.len(), slack) {
             return None;
         }
         way = way.saturating_add(moves.way);
@@ -442,13 +347,12 @@ fn signed(bits: u32) -> i64 {
 }
 
 /// How far the state at a position moved since its number was noted, if by less than 2 to the 31.
-fn move_of(case: &Case, links: &Links, lane: &[i64], noted: &[u32], position: u32) -> i64
-    requires links { AreLinks case.now.model links.now }
-    requires numbers { AreNumbers case.now lane.now }
-    requires notes { length noted.now ≡ length case.now.model.states }
-    requires position { position < length links.now.order }
+fn move_of(rows: &Lifted, lane: &[i64], noted: &[u32], position: u32) -> i64
+    requires numbers { AreNumbers rows.now.case lane.now }
+    requires notes { length noted.now ≡ length rows.now.case.model.states }
+    requires position { position < length rows.now.links.order }
 {
-    match open_state(case, links, position) {
+    match rows.open_state(position) {
         Some(s) => signed(low_word_of(lane[s as usize]).wrapping_sub(noted[s as usize])),
         None => 0,
     }
@@ -466,130 +370,66 @@ fn reach(before: i64, after: i64) -> i64 {
 
 /// Moves the state at a position of the part on by so many `PARTS` of how far it moved since its number was
 /// noted.
-fn jump_at(
-    case: &Case,
-    links: &Links,
-    lane: &mut [i64],
-    noted: &[u32],
-    low: u32,
-    high: u32,
-    position: u32,
-    share: i64,
-    top: i64,
-)
-    requires links { AreLinks case.now.model links.now }
-    requires numbers { AreNumbers case.now lane.old }
-    requires notes { length noted.now ≡ length case.now.model.states }
-    requires part { (low ≤ position) × (position < high) }
-    requires high { high ≤ length links.now.order }
-    requires top { top ≡ pos (2 ^ case.now.w) }
-    ensures { KeepsOthers case.now links.now low high lane.old lane.new }
+fn jump_at(rows: &Lifted, lane: &mut [i64], noted: &[u32], part: Part, position: u32, share: i64)
+    requires numbers { AreNumbers rows.now.case lane.old }
+    requires notes { length noted.now ≡ length rows.now.case.model.states }
+    requires inside { (part.low ≤ position) × (position < part.high) }
+    requires part { part.high ≤ length rows.now.links.order }
+    ensures { KeepsOthers rows.now.case rows.now.links part.low part.high lane.old lane.new }
 {
-    let more = move_of(case, links, lane, noted, position).saturating_mul(share) / PARTS;
-    if let Some(s) = open_state(case, links, position) {
-        let number = within(lane[s as usize].saturating_add(more), top);
-        fill_at(case, links, lane, low, high, position, number);
+    let more = move_of(rows, lane, noted, position).saturating_mul(share) / PARTS;
+    if let Some(s) = rows.open_state(position) {
+        let number = within(lane[s as usize].saturating_add(more), rows.top());
+        fill_at(rows, lane, part, position, number);
     }
 }
 
 /// The same for the states of a part.
-fn jump(
-    case: &Case,
-    links: &Links,
-    lane: &mut [i64],
-    noted: &[u32],
-    low: u32,
-    high: u32,
-    share: i64,
-    top: i64,
-)
-    requires links { AreLinks case.now.model links.now }
-    requires numbers { AreNumbers case.now lane.old }
-    requires notes { length noted.now ≡ length case.now.model.states }
-    requires high { high ≤ length links.now.order }
-    requires top { top ≡ pos (2 ^ case.now.w) }
-    ensures { KeepsOthers case.now links.now low high lane.old lane.new }
+fn jump(rows: &Lifted, lane: &mut [i64], noted: &[u32], part: Part, share: i64)
+    requires numbers { AreNumbers rows.now.case lane.old }
+    requires notes { length noted.now ≡ length rows.now.case.model.states }
+    requires part { part.high ≤ length rows.now.links.order }
+    ensures { KeepsOthers rows.now.case rows.now.links part.low part.high lane.old lane.new }
 {
-    for position in low..high {
-        jump_at(case, links, lane, noted, low, high, position, share, top);
+    for position in part.low..part.high {
+        jump_at(rows, lane, noted, part, position, share);
     }
 }
 
 /// Moves the states of a part in sweeps, and then jumps. Tells whether they came to rest.
-fn approach_once(
-    case: &Case,
-    links: &Links,
-    weights: &PairTable,
-    lane: &mut [i64],
-    noted: &mut [u32],
-    low: u32,
-    high: u32,
-    slack: i64,
-    top: i64,
-) -> bool
+fn approach_once(rows: &Lifted, lane: &mut [i64], noted: &mut [u32], part: Part, slack: i64) -> bool
     ghost spans: { Spans }
-    requires can { CanWeigh case.now links.now spans weights.now lane.old }
-    requires notes { length noted.old ≡ length case.now.model.states }
-    requires high { high ≤ length links.now.order }
-    requires top { top ≡ pos (2 ^ case.now.w) }
-    ensures kept { KeepsOthers case.now links.now low high lane.old lane.new }
+    requires can { CanWeigh rows.now spans lane.old }
+    requires notes { length noted.old ≡ length rows.now.case.model.states }
+    requires part { part.high ≤ length rows.now.links.order }
+    ensures kept { KeepsOthers rows.now.case rows.now.links part.low part.high lane.old lane.new }
     ensures notes { length noted.new ≡ length noted.old }
 {
-    let calm = sweeps(
-        case,
-        links,
-        weights,
-        lane,
-        low,
-        high,
-        CALM_SWEEPS,
-        slack,
-        top,
-    );
+    let calm = sweeps(rows, lane, part, CALM_SWEEPS, slack);
     if calm.is_none() {
         return true;
     }
-    let Some(before) = sweeps(case, links, weights, lane, low, high, SWEEPS, slack, top) else {
+    let Some(before) = sweeps(rows, lane, part, SWEEPS, slack) else {
         return true;
     };
-    note(case, links, lane, noted, low, high);
-    let Some(after) = sweeps(case, links, weights, lane, low, high, SWEEPS, slack, top) else {
+    note(rows, lane, noted, part);
+    let Some(after) = sweeps(rows, lane, part, SWEEPS, slack) else {
         return true;
     };
-    jump(
-        case,
-        links,
-        lane,
-        noted,
-        low,
-        high,
-        reach(before, after),
-        top,
-    );
+    jump(rows, lane, noted, part, reach(before, after));
     false
 }
 
 /// Moves the states of a part until they come to rest, if that takes few jumps.
-fn approach(
-    case: &Case,
-    links: &Links,
-    weights: &PairTable,
-    lane: &mut [i64],
-    noted: &mut [u32],
-    low: u32,
-    high: u32,
-    slack: i64,
-    top: i64,
-)
+fn approach(rows: &Lifted, lane: &mut [i64], noted: &mut [u32], part: Part, slack: i64)
     ghost spans: { Spans }
-    requires can { CanWeigh case.now links.now spans weights.now lane.old }
-    requires notes { length noted.old ≡ length case.now.model.states }
-    requires high { high ≤ length links.now.order }
-    requires top { top ≡ pos (2 ^ case.now.w) }
-    ensures { KeepsOthers case.now links.now low high lane.old lane.new }
+    requires can { CanWeigh rows.now spans lane.old }
+    requires notes { length noted.old ≡ length rows.now.case.model.states }
+    requires part { part.high ≤ length rows.now.links.order }
+    ensures { KeepsOthers rows.now.case rows.now.links part.low part.high lane.old lane.new }
 {
     for _ in 0..JUMPS {
-        if approach_once(case, links, weights, lane, noted, low, high, slack, top) {
+        if approach_once(rows, lane, noted, part, slack) {
             return;
         }
     }
@@ -598,32 +438,27 @@ fn approach(
 /// Finds a vector of a part that no choice lets rise, and tells whether it is one. Where the states came to
 /// rest, they are raised until none rises, which takes few passes.
 pub(crate) fn raise_part(
-    case: &Case,
-    links: &Links,
-    weights: &PairTable,
+    rows: &Lifted,
     lane: &mut [i64],
     flags: &mut [u32],
     noted: &mut [u32],
-    low: u32,
-    high: u32,
+    part: Part,
     aim: Aim,
-    top: i64,
 ) -> bool
     ghost spans: { Spans }
-    requires can { CanWeigh case.now links.now spans weights.now lane.old }
-    requires notes { length noted.old ≡ length case.now.model.states }
-    requires high { (high ≤ length flags.old) × (high ≤ length links.now.order) }
-    requires top { top ≡ pos (2 ^ case.now.w) }
-    ensures kept { KeepsOthers case.now links.now low high lane.old lane.new }
-    ensures closed { IsTrue result → IsClosedPart case.now links.now spans lane.new low high }
+    requires can { CanWeigh rows.now spans lane.old }
+    requires notes { length noted.old ≡ length rows.now.case.model.states }
+    requires part { (part.high ≤ length flags.old) × (part.high ≤ length rows.now.links.order) }
+    ensures kept { KeepsOthers rows.now.case rows.now.links part.low part.high lane.old lane.new }
+    ensures closed { IsTrue result → IsClosedPart rows.now.case rows.now.links spans lane.new part.low part.high }
 {
     match aim {
-        Aim::Rough => fill_part(case, links, lane, low, high, 0),
+        Aim::Rough => fill_part(rows, lane, part, 0),
         Aim::Close => {}
     }
-    let slack = aim.slack(top);
-    approach(case, links, weights, lane, noted, low, high, slack, top);
-    flag_part(flags, low, high);
-    raise_rest(case, links, weights, lane, flags, low, high, top);
-    is_closed_part(case, links, weights, lane, low, high)
+    let slack = aim.slack(rows.top());
+    approach(rows, lane, noted, part, slack);
+    flag_part(flags, part);
+    raise_rest(rows, lane, flags, part);
+    is_closed_part(rows, lane, part)
 }

@@ -1,4 +1,3 @@
-mod Ceilings
 pub mod Solving
 pub mod Raising
 pub mod Watching

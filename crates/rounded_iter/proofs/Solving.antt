@@ -10,8 +10,7 @@ use Rattle.lift_grid.specs.Rectangle.{Spans}
 use Rattle.lift_model.specs.declared.entry.Entry.{Entry}
 use Rattle.lift_model.specs.Process.{Move, power, weighted_sum}
 use Rattle.lift_model.specs.Model.{ModelData, choices, row_at, support, moves_at}
-use Rattle.lift_model.specs.Links.{LinksData, ArePlaces, HasChoice, targets_of, place}
-use Rattle.lift_model.specs.declared.layout.RowPlace.{RowPlace}
+use Rattle.lift_model.specs.Links.{LinksData, HasChoice, targets_of}
 use Rattle.lift_model.specs.declared.only_row.PairRow.{PairRow}
 use Rattle.lift_model.specs.OnlyRow.{IsPairRow}
 use Rattle.lift_poly.specs.Polynomial.{Valuation, weight}
@@ -20,10 +19,11 @@ use Rattle.corner_lift.specs.Certificate.{AreNumbers, AtMost}
 use Rattle.corner_lift.specs.Corner.{corner, corner_sum, whole, parameter_count}
 use Rattle.corner_lift.specs.Case.{CaseData, IsCase, IsInside, number, row_value, row_whole, corner_count, row_parameters, most_precision, engine_limit}
 use Rattle.corner_lift.specs.Dot.{only_at}
-use Rattle.corner_lift.specs.Laws.{HasRow, BitsAreParameters, ParametersAreTheRoots, NumbersAreInRange, SumsAreInRange, SumsRise, WeightsSumToWhole}
+use Rattle.corner_lift.specs.Quotient.{IsRoundedUp}
+use Rattle.corner_lift.specs.Laws.{HasRow, ParametersAreTheRoots, NumbersAreInRange, SumsAreInRange, SumsRise, WeightsSumToWhole}
 use Rattle.float_guess.specs.declared.part.Extreme.{Extreme}
 use Rattle.float_guess.specs.declared.part.Extreme.TheVariants.{Greatest, Least}
-use Rattle.rounded_iter.specs.Rising.{Across, IsExtreme, IsMoreExtreme, IsEnoughAt, SolvesAt, IsSolved, IsRoundedUp, IsFirstFrom}
+use Rattle.rounded_iter.specs.Rising.{Across, IsExtreme, IsMoreExtreme, IsEnoughAt, SolvesAt, IsSolved, IsFirstFrom}
 
 -- ---- order
 
@@ -187,11 +187,6 @@ pub record RowLaws : Type 0 where
 
 pub laws_of : ParametersAreTheRoots → NumbersAreInRange → SumsAreInRange → SumsRise → WeightsSumToWhole → RowLaws
 laws_of parameters numbers range rise sum = record { parameters = parameters; numbers = numbers; range = range; rise = rise; sum = sum }
-
--- a row has as many corners as its place says
-pub corners_is : BitsAreParameters → (k : CaseData) (l : LinksData) (s a : ℕ) (p : RowPlace) → IsCase k → ArePlaces k.model l → HasChoice k.model s a → p ≡ place l s a → p.corners ≡ corner_count k s a
-corners_is bits k l s a p is are has at =
-    ap (λ (q : RowPlace). q.corners) at ∙ (are.places s a has).corners ∙ ap (λ n. 2 ^ n) (bits k s a is.asked (record { state = has.state; choice = has.choice }))
 
 abbrev Range : ℕ → ℤ → Type 0
 Range w n = (pos 0 ≤ℤ n) × (n ≤ℤ pos (2 ^ w))

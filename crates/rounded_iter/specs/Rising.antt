@@ -6,6 +6,7 @@ use Rattle.lift_model.specs.Links.{LinksData, AreLinks, HasChoice, targets_of}
 use Rattle.corner_lift.specs.Case.{CaseData, IsCase, IsGreatest, IsLeast, number, row_value, row_whole, corner_count}
 use Rattle.corner_lift.specs.Certificate.{AreNumbers, AtMost}
 use Rattle.corner_lift.specs.Table.{IsTable}
+use Rattle.corner_lift.specs.Quotient.{IsRoundedUp}
 use Rattle.float_guess.specs.declared.part.Extreme.{Extreme}
 use Rattle.float_guess.specs.declared.part.Extreme.TheVariants.{Greatest, Least}
 
@@ -77,10 +78,6 @@ pub record IsLeastBound (e : Extreme) (k : CaseData) (spans : Spans) (x : List �
 
 -- ---- one choice
 
--- the quotient of a sum by a whole, rounded up to a whole number
-abbrev pub IsRoundedUp : ℤ → ℤ → ℤ → Type 0
-IsRoundedUp sum whole q = (sum ≤ℤ (q *ℤ whole)) × (((q -ℤ pos 1) *ℤ whole) <ℤ sum)
-
 -- the least number from n on that times the whole is at least the sum: n, or else the quotient
 abbrev pub IsFirstFrom : ℤ → ℤ → ℤ → ℤ → Type 0
 IsFirstFrom n sum whole v = ((v ≡ n) × (sum ≤ℤ (n *ℤ whole))) ⊎ (((n *ℤ whole) <ℤ sum) × IsRoundedUp sum whole v)
@@ -101,11 +98,6 @@ pub record CanTryOnly (t : TableData) (spans : Spans) (x : List ℤ) (s : ℕ) :
   pub read : IsRead t spans
   pub state : s < length t.case.model.states
   pub numbers : AreNumbers t.case x
-
--- what it needs to try one with these targets
-pub record CanWeigh (t : TableData) (spans : Spans) (x : List ℤ) (s a : ℕ) (targets : List ℕ) : Type 0 where
-  pub can : CanTry t spans x s a
-  pub targets_are : targets ≡ targets_of (row_at t.case.model s a)
 
 -- what it needs to try it at a corner
 pub record CanSolve (t : TableData) (spans : Spans) (x : List ℤ) (s a c : ℕ) : Type 0 where

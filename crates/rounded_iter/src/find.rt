@@ -87,7 +87,7 @@ impl Table<'_> {
         ensures { IsBelow self.now.extreme self.now.case (from_zero spans) lane.new }
     {
         rows_at_corners();
-        let model = self.case.model();
+        let model = self.rows.model();
         for s in 0..model.states() {
             lane[s as usize] = if model.is_goal(s) { self.top } else { 0 };
         }
@@ -98,7 +98,7 @@ impl Table<'_> {
         requires { CanStart self.now lane.old }
         ensures { HasGoals self.now.case lane.old lane.new }
     {
-        let model = self.case.model();
+        let model = self.rows.model();
         for s in 0..model.states() {
             if model.is_goal(s) {
                 lane[s as usize] = self.top;
@@ -114,7 +114,7 @@ impl Table<'_> {
     {
         rows_at_corners();
         let number = lane[s as usize];
-        if number == 0 || self.case.model().is_goal(s) {
+        if number == 0 || self.rows.model().is_goal(s) {
             return true;
         }
         noted[s as usize] != low_word_of(number)
@@ -125,7 +125,7 @@ impl Table<'_> {
         requires { CanTest self.now lane.now noted.now }
         ensures { IsTrue result → (s : ℕ) → s < length self.now.case.model.states → IsSure self.now.case noted.now lane.now s }
     {
-        for s in 0..self.case.model().states() {
+        for s in 0..self.rows.model().states() {
             if !self.is_sure_at(lane, noted, s) {
                 return false;
             }
@@ -202,9 +202,9 @@ impl Table<'_> {
         ensures { IsGuess self.now.case lane.new }
     {
         guess_part(
-            self.case,
-            self.links,
-            self.weights.weights(),
+            self.rows.case(),
+            self.rows.links(),
+            self.rows.weights(),
             self.extreme,
             Rounding::Down,
             lane,
@@ -226,7 +226,7 @@ impl Table<'_> {
         let mut some = false;
         let mut all = true;
         let mut low = 0;
-        for position in 0..self.case.model().states() {
+        for position in 0..self.rows.model().states() {
             let next = position + 1;
             if self.is_end(next) {
                 if !self.guess_component(lane, flags, noted, low, next, way) {
@@ -264,9 +264,7 @@ impl Table<'_> {
         ensures guess { IsGuess self.now.case lane.new }
     {
         let boundless = Table {
-            case: self.case,
-            links: self.links,
-            weights: self.weights,
+            rows: self.rows,
             extreme: self.extreme,
             top: self.top,
             limit: self.top,
@@ -416,7 +414,7 @@ impl Table<'_> {
         requires { CanFind self.now spans lane.old work.old }
         ensures { IsFound self.now spans lane.new result }
     {
-        let states = self.case.model().states() as usize;
+        let states = self.rows.model().states() as usize;
         let (flags, noted) = work.split_at_mut(states);
         if let Some(found) = self.rise(lane, flags, Some(FIRST_PATIENCE)) {
             return found;

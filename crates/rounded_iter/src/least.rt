@@ -7,7 +7,7 @@ ghost use Rattle.rounded_iter.specs.Value.{IsLeastValue};
 ghost use Rattle.rounded_iter.specs.Watching.{CanIterate, CanContinue, IsLeastWithin};
 
 use crate::table::Table;
-use corner_lift::{Case, PairTable, corners_bound_weights, one_at, rows_at_corners};
+use corner_lift::{Case, Lifted, corners_bound_weights, one_at, rows_at_corners};
 use float_guess::Extreme;
 use lift_model::Links;
 
@@ -23,11 +23,9 @@ pub fn least_upper(case: &Case, links: &Links, weights: &[i128], lane: &mut [i64
     rows_at_corners();
     corners_bound_weights();
     let top = one_at(case.w());
-    let pairs = PairTable::of(case, links, weights);
+    let rows = Lifted::new(&*case, &*links, &*weights);
     let table = Table {
-        case: &*case,
-        links: &*links,
-        weights: &pairs,
+        rows: &rows,
         extreme: Extreme::Greatest,
         top,
         limit: top,
@@ -48,11 +46,9 @@ pub fn least_value(case: &Case, links: &Links, weights: &[i128], lane: &mut [i64
     rows_at_corners();
     corners_bound_weights();
     let top = one_at(case.w());
-    let pairs = PairTable::of(case, links, weights);
+    let rows = Lifted::new(&*case, &*links, &*weights);
     let table = Table {
-        case: &*case,
-        links: &*links,
-        weights: &pairs,
+        rows: &rows,
         extreme: Extreme::Least,
         top,
         limit: top,
@@ -77,11 +73,9 @@ pub fn least_upper_within(
 {
     rows_at_corners();
     corners_bound_weights();
-    let pairs = PairTable::of(case, links, weights);
+    let rows = Lifted::new(&*case, &*links, &*weights);
     let table = Table {
-        case: &*case,
-        links: &*links,
-        weights: &pairs,
+        rows: &rows,
         extreme: Extreme::Greatest,
         top: one_at(case.w()),
         limit,
@@ -106,11 +100,9 @@ pub fn least_upper_from(
     rows_at_corners();
     corners_bound_weights();
     let top = one_at(case.w());
-    let pairs = PairTable::of(case, links, weights);
+    let rows = Lifted::new(&*case, &*links, &*weights);
     let table = Table {
-        case: &*case,
-        links: &*links,
-        weights: &pairs,
+        rows: &rows,
         extreme: Extreme::Greatest,
         top,
         limit: top,

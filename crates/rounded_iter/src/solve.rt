@@ -1,108 +1,21 @@
 //! The least number of a state that is enough for one of its choices.
 
-ghost use Rattle.std.specs.Prelude.{◌≡◌, ◌*◌, ◌<◌, ◌^◌, ◌≤ℤ◌, ◌<ℤ◌, ◌*ℤ◌, ◌-ℤ◌, pos, unsigned_abs, length, Contains, IsTrue, IsFalse, IsSome, IfSome, [], ◌∷◌};
-ghost use Rattle.lift_model.specs.Model.{choices, row_at};
-ghost use Rattle.lift_model.specs.Links.{AreLinks, HasChoice, targets_of};
+ghost use Rattle.std.specs.Prelude.{◌≡◌, ◌*◌, ◌<◌, ◌^◌, ◌≤ℤ◌, ◌<ℤ◌, ◌*ℤ◌, pos, unsigned_abs, length, IsTrue, IsFalse, IsSome, IfSome};
+ghost use Rattle.lift_model.specs.Model.{choices};
 ghost use Rattle.lift_model.specs.OnlyRow.{IsPairRow, IsSingleRow};
 ghost use Rattle.lift_grid.specs.Rectangle.{Spans};
 ghost use Rattle.corner_lift.specs.Case.{row_value, row_whole, corner_count, most_precision, engine_limit};
 ghost use Rattle.corner_lift.specs.Table.{IsWhole, HasShortSums};
 ghost use Rattle.corner_lift.specs.Paired.{IsWholeOver};
-ghost use Rattle.rounded_iter.specs.Rising.{CanTry, CanTryOther, CanTryOnly, CanWeigh, CanSolve, IsExtreme, IsMoreExtreme, SolvesAt, IsSolved, IsRoundedUp, IsFirstFrom};
+ghost use Rattle.rounded_iter.specs.Rising.{CanTry, CanTryOther, CanTryOnly, CanSolve, IsExtreme, IsMoreExtreme, SolvesAt, IsSolved, IsFirstFrom};
 
 use crate::table::Table;
 use corner_lift::{
-    AtCorner, LaneSum, Others, Weighed, corners_bound_weights, has_short_sums, rows_at_corners,
-    table_corner, table_greatest, table_least, table_others,
+    AtCorner, LaneSum, Others, Weighed, corners_bound_weights, has_short_sums, rounded_up,
+    rows_at_corners, short_rounded_up, table_others,
 };
 use float_guess::Extreme;
 use lift_model::{OnlyRow, PairRow};
-use std::num::{nearest_i64_to_f64, saturating_f64_to_i64};
-
-/// The quotient, rounded up to a whole number, as floats say it: nothing is proved of it.
-#[inline(always)]
-fn guessed_quotient(sum: i64, whole: i64) -> i64 {
-    let low = saturating_f64_to_i64(nearest_i64_to_f64(sum) / nearest_i64_to_f64(whole));
-    low.saturating_add(i64::from(low.wrapping_mul(whole) < sum))
-}
-
-/// Whether this multiple of the whole is at least the sum, and the one before it is not.
-#[inline(always)]
-fn is_first_from(sum: i64, whole: i64, multiple: i64) -> bool
-    requires least { pos 0 ≤ℤ sum }
-    requires positive { pos 1 ≤ℤ whole }
-    ensures { IsTrue result → (sum ≤ℤ multiple) × ((multiple -ℤ whole) <ℤ sum) }
-{
-    sum <= multiple && multiple - whole < sum
-}
-
-/// Whether this is the quotient, rounded up to a whole number.
-#[inline(always)]
-fn is_rounded_up(sum: i64, whole: i64, quotient: i64) -> bool
-    requires least { pos 0 ≤ℤ sum }
-    requires positive { pos 1 ≤ℤ whole }
-    ensures { IsTrue result → IsRoundedUp sum whole quotient }
-{
-    match quotient.checked_mul(whole) {
-        Some(multiple) => is_first_from(sum, whole, multiple),
-        None => false,
-    }
-}
-
-/// The quotient, rounded up to a whole number, where floats find it, which takes less time than a division.
-#[inline(always)]
-fn short_quotient(sum: i64, whole: i64) -> Option<i64>
-    requires least { pos 0 ≤ℤ sum }
-    requires positive { pos 1 ≤ℤ whole }
-    ensures { IfSome result (λ quotient. IsRoundedUp sum whole quotient) }
-{
-    let quotient = guessed_quotient(sum, whole);
-    if is_rounded_up(sum, whole, quotient) {
-        Some(quotient)
-    } else {
-        None
-    }
-}
-
-/// The same where 64 bits hold the numbers.
-#[inline(always)]
-fn quick_quotient(sum: i128, whole: i128) -> Option<i64>
-    requires least { pos 0 ≤ℤ sum }
-    requires positive { pos 1 ≤ℤ whole }
-    ensures { IfSome result (λ quotient. IsRoundedUp sum whole quotient) }
-{
-    let Ok(short_sum) = i64::try_from(sum) else {
-        return None;
-    };
-    let Ok(short_whole) = i64::try_from(whole) else {
-        return None;
-    };
-    short_quotient(short_sum, short_whole)
-}
-
-/// The same, by a division.
-fn divided(sum: i128, whole: i128) -> i64
-    requires least { pos 0 ≤ℤ sum }
-    requires positive { pos 1 ≤ℤ whole }
-    requires most { sum ≤ℤ (pos (2 ^ most_precision) *ℤ whole) }
-    ensures { IsRoundedUp sum whole result }
-{
-    (sum as u128).div_ceil(whole as u128) as i64
-}
-
-/// The quotient, rounded up to a whole number.
-#[inline]
-fn rounded_up(sum: i128, whole: i128) -> i64
-    requires least { pos 0 ≤ℤ sum }
-    requires positive { pos 1 ≤ℤ whole }
-    requires most { sum ≤ℤ (pos (2 ^ most_precision) *ℤ whole) }
-    ensures { IsRoundedUp sum whole result }
-{
-    match quick_quotient(sum, whole) {
-        Some(quotient) => quotient,
-        None => divided(sum, whole),
-    }
-}
 
 /// A number times a weight.
 fn times(number: i64, weight: i128) -> i128
@@ -144,23 +57,7 @@ fn short_from(number: i64, sum: i64, whole: i64) -> Option<i64>
     if reaches(number, sum, whole)? {
         Some(number)
     } else {
-        short_quotient(sum, whole)
-    }
-}
-
-/// The quotient of a row's sum by its whole, rounded up to a whole number, where the row's guess finds it.
-#[inline(always)]
-fn lane_quotient(row: LaneSum) -> Option<i64>
-    requires least { pos 0 ≤ℤ row.sum }
-    requires positive { pos 1 ≤ℤ row.whole }
-    ensures { IfSome result (λ quotient. IsRoundedUp row.sum row.whole quotient) }
-{
-    let guess = row.guess(row.sum.wrapping_sub(1)).wrapping_add(1);
-    let guess = guess.wrapping_add(i64::from(guess.wrapping_mul(row.whole) < row.sum));
-    if is_rounded_up(row.sum, row.whole, guess) {
-        Some(guess)
-    } else {
-        None
+        short_rounded_up(sum, whole)
     }
 }
 
@@ -175,7 +72,7 @@ fn lane_from(number: i64, row: LaneSum) -> Option<i64>
     if reaches(number, row.sum, row.whole)? {
         Some(number)
     } else {
-        lane_quotient(row)
+        row.rounded_up()
     }
 }
 
@@ -204,7 +101,7 @@ fn is_reached(number: i64, sum: i128, whole: i128) -> bool
     sum <= times(number, whole)
 }
 
-/// The least number from this one on that times the whole is at least the sum, by a division.
+/// The least number from this one on that times the whole is at least the sum, where the numbers may be wide.
 #[inline(never)]
 fn divided_from(number: i64, sum: i128, whole: i128) -> i64
     requires room { unsigned_abs number * unsigned_abs whole < engine_limit }
@@ -216,7 +113,7 @@ fn divided_from(number: i64, sum: i128, whole: i128) -> i64
     if is_reached(number, sum, whole) {
         number
     } else {
-        divided(sum, whole)
+        rounded_up(sum, whole)
     }
 }
 
@@ -245,31 +142,6 @@ fn more_extreme(extreme: Extreme, a: i64, b: i64) -> i64
     }
 }
 
-/// Whether a state is one of a row's targets.
-#[inline(always)]
-fn leads_to(targets: &[u32], s: u32) -> bool
-    ensures { IsFalse result → Contains targets.now s → ⊥ }
-{
-    for target in targets {
-        if *target == s {
-            return true;
-        }
-    }
-    false
-}
-
-/// The target of a row that has only one.
-#[inline(always)]
-fn only_target(targets: &[u32]) -> Option<u32>
-    ensures { IfSome result (λ t. targets.now ≡ t ∷ []) }
-{
-    if targets.len() == 1 {
-        Some(targets[0])
-    } else {
-        None
-    }
-}
-
 impl Table<'_> {
     /// The whole of a row, and its weighted sum at the corner that counts.
     #[inline(always)]
@@ -281,22 +153,8 @@ impl Table<'_> {
         ensures whole { IsWhole self.now.case s a result.whole }
     {
         match self.extreme {
-            Extreme::Greatest => table_greatest(
-                self.case,
-                self.links,
-                self.weights.weights(),
-                s,
-                a,
-                lane,
-            ),
-            Extreme::Least => table_least(
-                self.case,
-                self.links,
-                self.weights.weights(),
-                s,
-                a,
-                lane,
-            ),
+            Extreme::Greatest => self.rows.table_greatest(s, a, lane),
+            Extreme::Least => self.rows.table_least(s, a, lane),
         }
     }
 
@@ -310,8 +168,8 @@ impl Table<'_> {
         ensures whole { IfSome result (IsWholeOver self.now.case s a) }
     {
         match self.extreme {
-            Extreme::Greatest => self.weights.greatest(self.case, self.links, s, a, lane),
-            Extreme::Least => self.weights.least(self.case, self.links, s, a, lane),
+            Extreme::Greatest => self.rows.greatest(s, a, lane),
+            Extreme::Least => self.rows.least(s, a, lane),
         }
     }
 
@@ -326,21 +184,9 @@ impl Table<'_> {
         ensures whole { IfSome result (IsWholeOver self.now.case s 0) }
     {
         match self.extreme {
-            Extreme::Greatest => self
-                .weights
-                .greatest_of(self.case, self.links, s, row, lane),
-            Extreme::Least => self.weights.least_of(self.case, self.links, s, row, lane),
+            Extreme::Greatest => self.rows.greatest_of(s, row, lane),
+            Extreme::Least => self.rows.least_of(s, row, lane),
         }
-    }
-
-    /// The targets of a row.
-    #[inline(always)]
-    fn targets(&self, s: u32, a: u32) -> &[u32]
-        requires links { AreLinks self.now.case.model self.now.links }
-        requires row { HasChoice self.now.case.model s a }
-        ensures { result.now ≡ targets_of (row_at self.now.case.model s a) }
-    {
-        self.links.targets(self.links.place(s, a))
     }
 
     /// The least number from the state's own on that is enough for a row at one corner. The weight of a
@@ -353,15 +199,7 @@ impl Table<'_> {
         rows_at_corners();
         corners_bound_weights();
         let number = lane[s as usize];
-        let AtCorner { sum, whole, own } = table_corner(
-            self.case,
-            self.links,
-            self.weights.weights(),
-            s,
-            a,
-            corner,
-            lane,
-        );
+        let AtCorner { sum, whole, own } = self.rows.table_corner(s, a, corner, lane);
         if sum <= times(number, whole) {
             return number;
         }
@@ -380,9 +218,9 @@ impl Table<'_> {
         corners_bound_weights();
         let number = lane[s as usize];
         let Others { sum, whole } = table_others(
-            self.case,
-            self.links,
-            self.weights.weights(),
+            self.rows.case(),
+            self.rows.links(),
+            self.rows.weights(),
             s,
             a,
             corner,
@@ -419,8 +257,9 @@ impl Table<'_> {
     {
         rows_at_corners();
         corners_bound_weights();
-        let corners = self.links.place(s, a).corners;
-        let narrow = has_short_sums(self.case, self.links, self.weights.weights(), s, a);
+        let rows = self.rows;
+        let corners = rows.corners(s, a);
+        let narrow = has_short_sums(rows.case(), rows.links(), rows.weights(), s, a);
         let mut number = self.solve_either(lane, s, a, 0, narrow);
         for corner in 1..corners {
             let other = self.solve_either(lane, s, a, corner, narrow);
@@ -497,22 +336,21 @@ impl Table<'_> {
         if number == self.top {
             return None;
         }
-        match self.links.only_row(s) {
+        match self.rows.only_row(s) {
             OnlyRow::Single(target) => Some(self.enough_for_single(lane, s, target)),
             OnlyRow::Pair(row) => self.enough_for_only_pair(lane, s, row),
             OnlyRow::Other => None,
         }
     }
 
-    /// The least number from the state's own on that is enough for a row with these targets, by their
-    /// weights.
+    /// The least number from the state's own on that is enough for a row, by the weights of its targets.
     #[inline(always)]
-    fn enough_by_weights(&self, lane: &[i64], s: u32, a: u32, targets: &[u32]) -> i64
+    fn enough_by_weights(&self, lane: &[i64], s: u32, a: u32) -> i64
         ghost spans: { Spans }
-        requires { CanWeigh self.now spans lane.now s a targets.now }
+        requires { CanTry self.now spans lane.now s a }
         ensures { IsSolved self.now.extreme self.now.case spans lane.now s a (corner_count self.now.case s a) result }
     {
-        if leads_to(targets, s) {
+        if self.rows.has_loop(s, a) {
             return self.solve(lane, s, a);
         }
         match self.enough_for_pair(lane, s, a) {
@@ -535,10 +373,9 @@ impl Table<'_> {
         if number == self.top {
             return number;
         }
-        let targets = self.targets(s, a);
-        if let Some(target) = only_target(targets) {
+        if let Some(target) = self.rows.only_target(s, a) {
             return more_extreme(Extreme::Greatest, number, lane[target as usize]);
         }
-        self.enough_by_weights(lane, s, a, targets)
+        self.enough_by_weights(lane, s, a)
     }
 }

@@ -1,6 +1,5 @@
-use corner_lift::{Case, PairTable};
+use corner_lift::Lifted;
 use float_guess::Extreme;
-use lift_model::Links;
 
 /// How an iteration ended.
 #[derive(Clone, Copy)]
@@ -13,13 +12,11 @@ pub(crate) enum Ended {
     Slow,
 }
 
-/// The rows of a case, with their weights at the corners of a rectangle, on which vectors are raised.
-/// `top` stands for 1. An iteration may stop where the initial state's number is above `limit`.
+/// The rows of a case that is lifted to a rectangle, on which vectors are raised. `top` stands for 1. An
+/// iteration may stop where the initial state's number is above `limit`.
 #[derive(Drop)]
 pub(crate) struct Table<'a> {
-    pub(crate) case: &'a Case<'a>,
-    pub(crate) links: &'a Links,
-    pub(crate) weights: &'a PairTable<'a>,
+    pub(crate) rows: &'a Lifted<'a>,
     pub(crate) extreme: Extreme,
     pub(crate) top: i64,
     pub(crate) limit: i64,
@@ -31,7 +28,13 @@ impl<'a> std::marker::Model for Table<'a> {
 
     ghost Value = { TableData };
 
-    ghost view = { λ t. record { case = t.case.now; links = t.links.now; weights = t.weights.now; extreme = t.extreme; limit = t.limit } };
+    ghost view = { λ t. record {
+      case = t.rows.now.case;
+      links = t.rows.now.links;
+      weights = t.rows.now.weights;
+      extreme = t.extreme;
+      limit = t.limit;
+    } };
 
-    ghost invariant = { λ t. t.top ≡ pos (2 ^ t.case.now.w) };
+    ghost invariant = { λ t. t.top ≡ pos (2 ^ t.rows.now.case.w) };
 }

@@ -2,9 +2,7 @@
 //! order of states has a flag, which says that its state may have to rise.
 
 ghost use Rattle.std.specs.Prelude.{◌≡◌, ◌≢◌, ◌+◌, ◌<◌, ◌≤ℤ◌, ◌<ℤ◌, ℕ, pos, length, slice_index_or, slice_set, IsTrue, IsFalse, IsSome};
-ghost use Rattle.lift_model.specs.Model.{choices};
-ghost use Rattle.lift_model.specs.Links.{AreLinks};
-ghost use Rattle.corner_lift.specs.Case.{IsCase, number};
+ghost use Rattle.corner_lift.specs.Case.{number};
 ghost use Rattle.rounded_iter.specs.Rising.{Run};
 ghost use Rattle.rounded_iter.specs.Watching.{CanRaise, CanRaiseBy, IsRaised, IsRaisedState, CanFlag, IsFlagged, CanVisit, IsVisited, CanTurn, IsTurned, CanPass, IsPassed, IsSettled, CanGoOn, IsKept, CanClimb, IsClimbed, flag};
 
@@ -76,17 +74,6 @@ fn is_over(passes: u32, patience: Option<u32>) -> bool
 }
 
 impl Table<'_> {
-    /// The number of a state's choices, by the links, whose lists lie closer together than the model's.
-    #[inline(always)]
-    fn choice_count(&self, s: u32) -> u32
-        requires case { IsCase self.now.case }
-        requires links { AreLinks self.now.case.model self.now.links }
-        requires state { s < length self.now.case.model.states }
-        ensures { result ≡ length (choices self.now.case.model s) }
-    {
-        self.links.choices(s)
-    }
-
     /// Raises the number of a state to what is enough for one of its choices, and tells whether it rose.
     #[inline(always)]
     fn raise_choice(&self, lane: &mut [i64], s: u32, a: u32) -> bool
@@ -110,7 +97,7 @@ impl Table<'_> {
         rows_at_corners();
         corners_bound_weights();
         let mut rose = false;
-        for a in 0..self.choice_count(s) {
+        for a in 0..self.rows.choice_count(s) {
             if self.raise_choice(lane, s, a) {
                 rose = true;
             }
@@ -140,7 +127,7 @@ impl Table<'_> {
         requires { CanFlag self.now work.old s position }
         ensures { IsFlagged self.now work.old work.new s frontier }
     {
-        for p in self.links.positions_before(s) {
+        for p in self.rows.positions_before(s) {
             set_flag(work, *p, position, frontier);
         }
     }
@@ -176,8 +163,8 @@ impl Table<'_> {
         if !take_flag(work, position) {
             return false;
         }
-        let s = self.links.order()[position as usize];
-        if s >= self.case.model().states() {
+        let s = self.rows.order()[position as usize];
+        if s >= self.rows.model().states() {
             return false;
         }
         self.visit(lane, work, s, position, frontier)
@@ -205,7 +192,7 @@ impl Table<'_> {
         ensures past { IsTrue result → self.now.limit <ℤ number lane.now self.now.case.model.init }
         ensures within { IsFalse result → number lane.now self.now.case.model.init ≤ℤ self.now.limit }
     {
-        lane[self.case.model().init() as usize] > self.limit
+        lane[self.rows.model().init() as usize] > self.limit
     }
 
     /// Visits flagged states of some positions, in passes, until none is flagged. Stops where the initial
@@ -265,11 +252,11 @@ impl Table<'_> {
         requires { CanGoOn self.now run lane.old work.old position }
         ensures { IsKept self.now run lane.new work.new (position + 1) }
     {
-        let s = self.links.order()[position as usize];
-        if s >= self.case.model().states() {
+        let s = self.rows.order()[position as usize];
+        if s >= self.rows.model().states() {
             return;
         }
-        if self.links.is_lone(s) {
+        if self.rows.links().is_lone(s) {
             self.raise_lone(lane, s);
         } else {
             self.visit(lane, work, s, position, position + 1);
@@ -280,7 +267,7 @@ impl Table<'_> {
     #[inline(always)]
     pub(crate) fn is_end(&self, position: u32) -> bool {
         let before = position.saturating_sub(1) as usize;
-        self.links.component_ends().get(before).copied() == Some(position)
+        self.rows.links().component_ends().get(before).copied() == Some(position)
     }
 
     /// Raises a vector to the least bound, component by component from those below. Stops where the
@@ -290,7 +277,7 @@ impl Table<'_> {
         requires { CanClimb self.now run lane.old work.old }
         ensures { IsClimbed self.now run lane.new patience result }
     {
-        let states = self.case.model().states();
+        let states = self.rows.model().states();
         let mut low = 0;
         for position in 0..states {
             self.visit_first(lane, work, position);

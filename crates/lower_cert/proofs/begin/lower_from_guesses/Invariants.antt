@@ -6,4 +6,4 @@ ghost-lower_from_guess g a = g.spans
 
 -- the part is at 1 again
 abbrev pub invariant-loop : goal.invariant-loop
-invariant-loop g l = IsHigh l.case g.spans l.lane
+invariant-loop g l = IsHigh l.rows.case g.spans l.lane

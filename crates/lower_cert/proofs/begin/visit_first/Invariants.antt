@@ -6,4 +6,4 @@ abbrev pub ghost-visit : goal.ghost-visit
 ghost-visit g a = g.run
 
 abbrev pub invariant-loop-position : goal.invariant-loop-position
-invariant-loop-position g l = IsLowered l.case g.run l.initial.lane l.lane false
+invariant-loop-position g l = IsLowered l.rows.case g.run l.initial.lane l.lane false

@@ -6,4 +6,4 @@ ghost-exit_of_state g a = g.spans
 
 -- the states so far hold no more
 abbrev pub invariant-loop-s : goal.invariant-loop-s
-invariant-loop-s g l = StatesExitAtMost l.case g.spans l.lane l.marks l.level l.s l.most
+invariant-loop-s g l = StatesExitAtMost l.rows.case g.spans l.lane l.marks l.level l.s l.most

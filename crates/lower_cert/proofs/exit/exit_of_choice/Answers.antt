@@ -13,4 +13,4 @@ loop-corner-preserved g c =
     let fits : SFits w64 c.lesser-least.result = search rules in
     let other_fits : SFits w64 c.exit_at_corner-other.result = search rules in
     let one = rw (to_z-of_z other_fits) at c.lesser-least.ensures in
-    rw (to_z-of_z fits) (one_of_two (λ r. (pos 0 ≤ℤ r) × ExitsAtMost c.args.case.now g.spans c.args.lane.now c.args.marks.now (to_z w64 (of_z w64 c.args.level)) c.args.s c.args.a r) _ c.exit_at_corner-other.result c.lesser-least.result one c.loop-corner.invariant (c.exit_at_corner-other.ensures.least, c.exit_at_corner-other.ensures.most))
+    rw (to_z-of_z fits) (one_of_two (λ r. (pos 0 ≤ℤ r) × ExitsAtMost c.args.rows.now.case g.spans c.args.lane.now c.args.marks.now (to_z w64 (of_z w64 c.args.level)) c.args.s c.args.a r) _ c.exit_at_corner-other.result c.lesser-least.result one c.loop-corner.invariant (c.exit_at_corner-other.ensures.least, c.exit_at_corner-other.ensures.most))

@@ -7,4 +7,4 @@ ghost-exit_at_corner g a = g.spans
 
 -- no more than this is held at the corners so far
 abbrev pub invariant-loop-corner : goal.invariant-loop-corner
-invariant-loop-corner g l = (pos 0 ≤ℤ l.least) × ExitsAtMost l.case g.spans l.lane l.marks l.level l.s l.a l.least
+invariant-loop-corner g l = (pos 0 ≤ℤ l.least) × ExitsAtMost l.rows.case g.spans l.lane l.marks l.level l.s l.a l.least

@@ -6,4 +6,4 @@ ghost-exit_of_choice g a = g.spans
 
 -- the choices so far hold no more
 abbrev pub invariant-loop-a : goal.invariant-loop-a
-invariant-loop-a g l = ChoicesExitAtMost l.case g.spans l.lane l.marks l.level l.s l.a l.most
+invariant-loop-a g l = ChoicesExitAtMost l.rows.case g.spans l.lane l.marks l.level l.s l.a l.most

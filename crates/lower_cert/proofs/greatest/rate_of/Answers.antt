@@ -1,15 +1,18 @@
-use Rattle.std.proofs.Common.{subst, sym}
-use Rattle.corner_lift.specs.Table.{IsTable}
 use Rattle.lower_cert.proofs.Settling.{are_picks, is_greatest}
 use Rattle.lower_cert.proofs.greatest.rate_of.Goals as goal
 
 pub rate-requires : goal.rate-requires
-rate-requires g c = (c.requires.0.links, (subst (λ w. IsTable c.args.case.now c.args.links.now g.spans w) (sym c.weights.ensures) c.requires.0.table, are_picks c.args.case.now g.spans c.args.lane.now c.args.picks.now c.args.ranks.now c.requires.1.1.ranked))
+rate-requires g c =
+    rw (c.case.ensures, c.links.ensures, c.weights.ensures)
+    (c.w.ensures.links, (c.requires.0, are_picks c.args.rows.now.case g.spans c.args.lane.now c.args.picks.now c.args.ranks.now c.requires.1.1.ranked))
 
 pub returns-clause-greatest : goal.returns-clause-greatest
-returns-clause-greatest g c = is_greatest c.vectors_are_lowered.ensures.greatest c.rows_at_corners.ensures.numbers c.args.case.now g.spans c.args.lane.now c.args.picks.now c.args.ranks.now c.rate.result c.height.result c.requires.1.0 c.requires.1.1 c.height.ensures.marks c.rate.ensures.least c.rate.ensures.most c.height.ensures.height c.w.ensures.case
+returns-clause-greatest g c =
+    let least = rw c.case.ensures at c.rate.ensures.least in
+    is_greatest c.vectors_are_lowered.ensures.greatest c.rows_at_corners.ensures.numbers c.args.rows.now.case g.spans c.args.lane.now c.args.picks.now c.args.ranks.now c.rate.result c.height.result c.requires.1.0 c.requires.1.1 c.height.ensures.marks least c.rate.ensures.most c.height.ensures.height c.w.ensures.case
 
 pub returns-clause-height : goal.returns-clause-height
 returns-clause-height g c =
-    let greatest = is_greatest c.vectors_are_lowered.ensures.greatest c.rows_at_corners.ensures.numbers c.args.case.now g.spans c.args.lane.now c.args.picks.now c.args.ranks.now c.rate.result c.height.result c.requires.1.0 c.requires.1.1 c.height.ensures.marks c.rate.ensures.least c.rate.ensures.most c.height.ensures.height c.w.ensures.case in
-    c.ranks_fit.ensures.greatest c.args.case.now g.spans _ c.w.ensures.case greatest
+    let least = rw c.case.ensures at c.rate.ensures.least in
+    let greatest = is_greatest c.vectors_are_lowered.ensures.greatest c.rows_at_corners.ensures.numbers c.args.rows.now.case g.spans c.args.lane.now c.args.picks.now c.args.ranks.now c.rate.result c.height.result c.requires.1.0 c.requires.1.1 c.height.ensures.marks least c.rate.ensures.most c.height.ensures.height c.w.ensures.case in
+    c.ranks_fit.ensures.greatest c.args.rows.now.case g.spans _ c.w.ensures.case greatest

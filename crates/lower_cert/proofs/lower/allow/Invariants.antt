@@ -6,4 +6,4 @@ ghost-allow_state g a = g.spans
 
 -- the rows of the states before this one are told
 abbrev pub invariant-loop-s : goal.invariant-loop-s
-invariant-loop-s g l = AreToldBefore l.case g.spans l.lane l.allowed l.s 0
+invariant-loop-s g l = AreToldBefore l.rows.case g.spans l.lane l.allowed l.s 0

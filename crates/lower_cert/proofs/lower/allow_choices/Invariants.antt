@@ -6,4 +6,4 @@ ghost-is_allowed g a = g.spans
 
 -- the rows before this one are told
 abbrev pub invariant-loop-a : goal.invariant-loop-a
-invariant-loop-a g l = AreToldBefore l.case g.spans l.lane l.allowed l.s l.a
+invariant-loop-a g l = AreToldBefore l.rows.case g.spans l.lane l.allowed l.s l.a

@@ -7,9 +7,9 @@ use Rattle.lower_cert.proofs.lower.allow_state.Goals as goal
 
 pub returns-in-Some : goal.returns-in-Some
 returns-in-Some g c =
-    let k = c.args.case.now in
+    let k = c.args.rows.now.case in
     let only = c.in-Some.ensures.only in
-    let row : c.row_place.result ≡ row_number k.model c.args.s 0 = omega (arith, c.row_place.ensures.value, c.requires.0.links.laid.numbers c.args.s c.requires.1.1.0) in
+    let row : c.row_place.result ≡ row_number k.model c.args.s 0 = c.row_place.ensures in
     let choice : 0 < length (choices k.model c.args.s) = omega (arith, only) in
     let room : row_number k.model c.args.s 0 < length c.args.allowed.now = omega (arith, row_inside k.model.states c.args.s 0 choice, c.requires.1.1.1.0) in
     let next : AreToldBefore k g.spans c.args.lane.now (set c.args.allowed.now c.row_place.result c.flag.result) c.args.s 1 = rw row (told_next k g.spans c.args.lane.now c.args.allowed.now c.args.s 0 c.requires.1.1.1.1 c.flag.result room

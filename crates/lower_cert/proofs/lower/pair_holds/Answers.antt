@@ -8,6 +8,6 @@ returns g c =
     let least = c.in_ok-row.ensures.least in
     let whole = c.in_ok-row.ensures.whole in
     let test = rw (to_z-of_z c.ranges.number) at c.in_ok-yes.ensures in (
-      λ e. lane_reaches c.args.case.now g.spans c.args.lane.now c.args.s 0 c.args.number row.sum row.whole row.scale least whole.1.0 whole.1.1.value (test.0 e),
-      λ h. test.1 (lane_is_reached c.args.case.now g.spans c.args.lane.now c.args.s 0 c.args.number row.sum row.whole row.scale least whole.1.0 whole.1.1.value h),
+      λ e. lane_reaches c.args.rows.now.case g.spans c.args.lane.now c.args.s 0 c.args.number row.sum row.whole row.scale least whole.1.0 whole.1.1.value (test.0 e),
+      λ h. test.1 (lane_is_reached c.args.rows.now.case g.spans c.args.lane.now c.args.s 0 c.args.number row.sum row.whole row.scale least whole.1.0 whole.1.1.value h),
     )

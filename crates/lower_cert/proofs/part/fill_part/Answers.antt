@@ -4,8 +4,8 @@ use Rattle.lower_cert.proofs.part.fill_part.Goals as goal
 
 pub loop-position-preserved : goal.loop-position-preserved
 loop-position-preserved c = (
-  keeps_both c.args.case.now c.args.links.now c.args.low c.args.high c.args.lane.now c.loop-position.lane c.fill_at.new.lane c.loop-position.invariant.0 c.fill_at.ensures.kept,
-  filled_more c.args.case.now c.args.links.now c.args.low c.args.high c.loop-position.position c.loop-position.lane c.fill_at.new.lane _ c.loop-position.invariant.1 c.fill_at.ensures,
+  keeps_both c.args.rows.now.case c.args.rows.now.links c.args.part.low c.args.part.high c.args.lane.now c.loop-position.lane c.fill_at.new.lane c.loop-position.invariant.0 c.fill_at.ensures.kept,
+  filled_more c.args.rows.now.case c.args.rows.now.links c.args.part.low c.args.part.high c.loop-position.position c.loop-position.lane c.fill_at.new.lane _ c.loop-position.invariant.1 c.fill_at.ensures,
 )
 
 pub returns-clause-filled : goal.returns-clause-filled

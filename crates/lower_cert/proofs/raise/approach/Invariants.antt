@@ -7,4 +7,4 @@ ghost-approach_once g a = g.spans
 
 -- all else is as it was
 abbrev pub invariant-loop : goal.invariant-loop
-invariant-loop g l = KeepsOthers l.case l.links l.low l.high l.initial.lane l.lane × (length l.noted ≡ length l.initial.noted)
+invariant-loop g l = KeepsOthers l.rows.case l.rows.links l.fn.part.low l.fn.part.high l.initial.lane l.lane × (length l.noted ≡ length l.initial.noted)

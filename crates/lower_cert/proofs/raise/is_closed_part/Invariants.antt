@@ -6,4 +6,4 @@ ghost-is_closed_position g a = g.spans
 
 -- no choice lets a state so far rise
 abbrev pub invariant-loop-position : goal.invariant-loop-position
-invariant-loop-position g l = IsClosedPart l.case l.links g.spans l.lane l.low l.position
+invariant-loop-position g l = IsClosedPart l.rows.case l.rows.links g.spans l.lane l.fn.part.low l.position

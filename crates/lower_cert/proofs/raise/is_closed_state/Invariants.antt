@@ -7,4 +7,4 @@ ghost-is_closed_choice g a = g.spans
 
 -- none of the choices so far lets the state rise
 abbrev pub invariant-loop-a : goal.invariant-loop-a
-invariant-loop-a g l = (a : ℕ) → a < l.a → IsClosedChoice l.case g.spans l.lane l.s a
+invariant-loop-a g l = (a : ℕ) → a < l.a → IsClosedChoice l.rows.case g.spans l.lane l.s a

@@ -6,4 +6,4 @@ ghost-move_at g a = g.spans
 
 -- all else is as it was
 abbrev pub invariant-loop-position : goal.invariant-loop-position
-invariant-loop-position g l = KeepsOthers l.case l.links l.low l.high l.initial.lane l.lane
+invariant-loop-position g l = KeepsOthers l.rows.case l.rows.links l.fn.part.low l.fn.part.high l.initial.lane l.lane

@@ -65,5 +65,5 @@ returns-clause-exit c =
     let l_is = to_z-of_z l_fits ∙ c.without-2.ensures ∙ ap₂ ◌-ℤ◌ w_is i_is in
     λ low.
     let fits : SFits w64 c.rounded_down.result = search rules in
-    let below = rw (r_is, l_is) at c.rounded_down.ensures.less in
+    let below = rw (r_is, l_is) at c.rounded_down.ensures.quotient.1 in
     rw (to_z-of_z fits) (inr (omega (arith, linear, below, mul-comm c.args.number c.args.into)))

@@ -5,18 +5,18 @@ use Rattle.lower_cert.proofs.Sweeping.{only_holds, target_inside}
 use Rattle.lower_cert.proofs.sweep.held.Goals as goal
 
 pub bounds-lane-target : goal.bounds-lane-target
-bounds-lane-target g c = target_inside c.args.case.now c.args.s c.args.a c.in-Some.target _ c.w.ensures.case c.requires.1 c.in-Some.ensures c.requires.0.numbers.size
+bounds-lane-target g c = target_inside c.args.rows.now.case c.args.s c.args.a c.in-Some.target _ c.w.ensures.case c.requires.1 c.in-Some.ensures c.requires.0.numbers.size
 
 pub returns-then-target-s-clause-least : goal.returns-then-target-s-clause-least
 returns-then-target-s-clause-least g c =
     let fits : SFits w64 (number c.args.lane.now c.in-Some.target) = search rules in
-    rw (to_z-of_z fits) ((c.premises.ensures.numbers c.args.case.now c.args.lane.now c.in-Some.target c.requires.0.numbers).0)
+    rw (to_z-of_z fits) ((c.premises.ensures.numbers c.args.rows.now.case c.args.lane.now c.in-Some.target c.requires.0.numbers).0)
 
 pub returns-then-target-s-clause-most : goal.returns-then-target-s-clause-most
 returns-then-target-s-clause-most g c =
     let laws = c.premises.ensures in
     let fits : SFits w64 (number c.args.lane.now c.in-Some.target) = search rules in
-    rw (to_z-of_z fits) (only_holds c.args.case.now g.spans (stand laws c.args.case.now g.spans c.w.ensures.case c.requires.0.read.table.inside) c.args.lane.now c.args.s c.args.a c.in-Some.target c.requires.1.choice c.in-Some.ensures)
+    rw (to_z-of_z fits) (only_holds c.args.rows.now.case g.spans (stand laws c.args.rows.now.case g.spans c.w.ensures.case c.requires.0.table.inside) c.args.lane.now c.args.s c.args.a c.in-Some.target c.requires.1.choice c.in-Some.ensures)
 
 pub returns-in-Some-held_by_pair-clause-most : goal.returns-in-Some-held_by_pair-clause-most
 returns-in-Some-held_by_pair-clause-most g c =

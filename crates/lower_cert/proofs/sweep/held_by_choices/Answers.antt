@@ -11,7 +11,7 @@ loop-a-preserved g c =
     let fits : SFits w64 c.greater-most.result = search rules in
     let held_fits : SFits w64 c.held.result = search rules in
     let up = rw (to_z-of_z held_fits) at c.greater-most.ensures in
-    rw (to_z-of_z fits) (hold_next c.args.case.now g.spans (stand laws c.args.case.now g.spans c.w.ensures.case c.requires.0.read.table.inside) c.args.lane.now c.args.s c.loop-a.a _ c.held.result c.greater-most.result c.loop-a.invariant c.held.ensures.most up.0 up.1.0)
+    rw (to_z-of_z fits) (hold_next c.args.rows.now.case g.spans (stand laws c.args.rows.now.case g.spans c.w.ensures.case c.requires.0.table.inside) c.args.lane.now c.args.s c.loop-a.a _ c.held.result c.greater-most.result c.loop-a.invariant c.held.ensures.most up.0 up.1.0)
 
 pub returns-then-number-most : goal.returns-then-number-most
 returns-then-number-most g c =

@@ -6,4 +6,4 @@ ghost-held g a = g.spans
 
 -- the choices so far hold no more
 abbrev pub invariant-loop-a : goal.invariant-loop-a
-invariant-loop-a g l = HoldNoMore l.case g.spans l.lane l.s l.a l.most
+invariant-loop-a g l = HoldNoMore l.rows.case g.spans l.lane l.s l.a l.most

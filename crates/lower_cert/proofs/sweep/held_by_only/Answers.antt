@@ -6,13 +6,13 @@ use Rattle.lower_cert.proofs.sweep.held_by_only.Goals as goal
 
 pub bounds-lane-target : goal.bounds-lane-target
 bounds-lane-target g c =
-    let single = c.in-Single.ensures c.args.case.now.model c.requires.0.read.links.laid c.requires.1 in
-    target_inside c.args.case.now c.args.s 0 c.in-Single.target _ c.w.ensures.case (record { state = c.requires.1; choice = omega (arith, single.only) }) single.targets c.requires.0.numbers.size
+    let single = c.in-Single.ensures in
+    target_inside c.args.rows.now.case c.args.s 0 c.in-Single.target _ c.w.ensures.case (record { state = c.requires.1; choice = omega (arith, single.only) }) single.targets c.requires.0.numbers.size
 
 pub returns-in-Single : goal.returns-in-Single
 returns-in-Single g c =
     let laws = c.premises.ensures in
-    let single = c.in-Single.ensures c.args.case.now.model c.requires.0.read.links.laid c.requires.1 in
+    let single = c.in-Single.ensures in
     let fits : SFits w64 (number c.args.lane.now c.in-Single.target) = search rules in
-    rw (to_z-of_z fits) (hold_one c.args.case.now g.spans c.args.lane.now c.args.s (number c.args.lane.now c.in-Single.target) single.only (laws.numbers c.args.case.now c.args.lane.now c.in-Single.target c.requires.0.numbers).0
-    (only_holds c.args.case.now g.spans (stand laws c.args.case.now g.spans c.w.ensures.case c.requires.0.read.table.inside) c.args.lane.now c.args.s 0 c.in-Single.target (omega (arith, single.only)) single.targets))
+    rw (to_z-of_z fits) (hold_one c.args.rows.now.case g.spans c.args.lane.now c.args.s (number c.args.lane.now c.in-Single.target) single.only (laws.numbers c.args.rows.now.case c.args.lane.now c.in-Single.target c.requires.0.numbers).0
+    (only_holds c.args.rows.now.case g.spans (stand laws c.args.rows.now.case g.spans c.w.ensures.case c.requires.0.table.inside) c.args.lane.now c.args.s 0 c.in-Single.target (omega (arith, single.only)) single.targets))

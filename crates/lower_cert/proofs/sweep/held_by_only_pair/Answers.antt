@@ -8,5 +8,5 @@ returns g c =
     let fits : SFits w64 c.in_ok-number.number = search rules in
     let row = c.in_ok-row.row in
     let whole = c.in_ok-row.ensures.whole in
-    rw (to_z-of_z fits) (hold_one c.args.case.now g.spans c.args.lane.now c.args.s c.in_ok-number.number c.requires.1.1.only c.in_ok-number.ensures.least
-    (lane_holds c.rows_at_corners.ensures.parameters c.args.case.now g.spans c.args.lane.now c.args.s 0 row.sum row.whole row.scale c.in_ok-number.number c.requires.0.read.table.inside c.in_ok-row.ensures.least whole.1.0 whole.1.1.value c.in_ok-number.ensures.less))
+    rw (to_z-of_z fits) (hold_one c.args.rows.now.case g.spans c.args.lane.now c.args.s c.in_ok-number.number c.requires.1.1.only c.in_ok-number.ensures.least
+    (lane_holds c.rows_at_corners.ensures.parameters c.args.rows.now.case g.spans c.args.lane.now c.args.s 0 row.sum row.whole row.scale c.in_ok-number.number c.requires.0.table.inside c.in_ok-row.ensures.least whole.1.0 whole.1.1.value c.in_ok-number.ensures.less))

@@ -7,6 +7,6 @@ ghost-turn g a = g.run
 
 abbrev pub invariant-loop-position : goal.invariant-loop-position
 invariant-loop-position g l = record {
-  lowered : IsLowered l.case g.run l.initial.lane l.lane l.fell;
-  kept : KeepsOthers l.case l.links l.low l.high l.initial.lane l.lane;
+  lowered : IsLowered l.rows.case g.run l.initial.lane l.lane l.fell;
+  kept : KeepsOthers l.rows.case l.rows.links l.fn.part.low l.fn.part.high l.initial.lane l.lane;
 }

@@ -6,10 +6,16 @@ use Rattle.rounded_iter.proofs.Raising.{raised_by_risen, raised_by_kept}
 use Rattle.rounded_iter.proofs.table.Table.raise.Goals as goal
 use Rattle.rounded_iter.proofs.table.Table.raise.Goals.{then-raise_choice, else-raise_choice}
 
+pub raise_choice-requires : goal.raise_choice-requires
+raise_choice-requires g c = record {
+  can = record { read = c.requires.read; state = c.requires.state; below = c.loop-a.invariant.below };
+  choice = rw (← c.self.view_is) (omega (arith, c.loop-a-test.true, c.choice_count-a-end.ensures));
+}
+
 pub loop-a-preserved : goal.loop-a-preserved
 loop-a-preserved g c =
     let t = c.args.self.now in
-    let choice : c.loop-a.a < length (choices t.case.model c.args.s) = omega (arith, c.loop-a-test.true, c.choice_count-a-end.ensures) in
+    let choice : c.loop-a.a < length (choices t.case.model c.args.s) = rw (← c.self.view_is) (omega (arith, c.loop-a-test.true, c.choice_count-a-end.ensures)) in
     elim c.if-raise_choice.branch [
       | then-raise_choice w ↦
           subst (λ b. IsRaisedBy t g.run c.args.lane.now c.raise_choice.new.lane c.args.s (c.loop-a.a + 1) b) (sym w.rose-is)

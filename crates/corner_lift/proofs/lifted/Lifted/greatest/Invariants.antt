@@ -1,0 +1,4 @@
+use Rattle.corner_lift.proofs.lifted.Lifted.greatest.Given as goal
+
+abbrev pub ghost-greatest : goal.ghost-greatest
+ghost-greatest g a = g.spans

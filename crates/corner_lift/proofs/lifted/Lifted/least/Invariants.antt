@@ -1,0 +1,4 @@
+use Rattle.corner_lift.proofs.lifted.Lifted.least.Given as goal
+
+abbrev pub ghost-least : goal.ghost-least
+ghost-least g a = g.spans
