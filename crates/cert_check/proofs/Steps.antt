@@ -1,5 +1,5 @@
 -- What the steps of a check say of the whole.
-use Rattle.std.proofs.Common.{◌≡◌, ◌≢◌, ℕ, zero, suc, ◌+◌, ◌-◌, ◌<◌, ◌≤◌, List, [], ◌∷◌, ◌++◌, length, drop, Result, Ok, Err, IfErr, refl, sym, ap, ◌∙◌, subst, arith, length-drop, length-append, append-nil, inl, inr, None, Some}
+use Rattle.std.proofs.Common.{◌≡◌, ◌≢◌, ℕ, ℤ, zero, suc, ◌+◌, ◌-◌, ◌<◌, ◌≤◌, List, [], ◌∷◌, ◌++◌, length, drop, Result, Ok, Err, IfErr, refl, sym, ap, ◌∙◌, subst, arith, length-drop, length-append, append-nil, inl, inr, None, Some}
 use Rattle.std.specs.Io.KnownBytes.{Consumes, IsAtEnd}
 use Rattle.std.specs.declared.option.Option.{Option}
 use Rattle.lift_base.specs.Outside.{TakenHas}
@@ -10,6 +10,8 @@ use Rattle.lift_grid.specs.Parts.{region_of}
 use Rattle.lift_grid.specs.declared.rect.Grid.{Grid}
 use Rattle.lift_model.specs.Model.{ModelData, live}
 use Rattle.corner_lift.specs.Case.{CaseData, IsCase, IsAdmitted, case_of, greatest_depth}
+use Rattle.lift_cert.specs.declared.bound.Bound.{Bound}
+use Rattle.lift_cert.specs.Miss.{IsFirstAcceptMiss}
 use Rattle.lift_rows.specs.Fault.{IsFirstFault}
 use Rattle.lift_rows.specs.declared.error.RowError.{RowError}
 use Rattle.line_text.specs.Reading.{Cursor}
@@ -22,7 +24,7 @@ use Rattle.cert_check.specs.Answer.{Came, Answer, Answers, Then, ReadEnds, HalfE
 use Rattle.cert_check.specs.Laws.{AnswersAreOne, PassingFilesAreSound, SoundFilesPass, SoundReportsHold}
 use Rattle.cert_check.specs.Trust.{IsTrusted}
 use Rattle.cert_check.specs.Source.{AnswersTold, ChecksSource, KeepsLimit, WasRead, file_limit}
-use Rattle.cert_check.specs.Shown.{Says, IsIn, IsPlaced, HalvesArePlaced, IsToldOfFile, came_of}
+use Rattle.cert_check.specs.Shown.{Says, Misses, IsIn, IsPlaced, HalvesArePlaced, IsToldOfFile, came_of}
 use Rattle.cert_check.specs.declared.came.Came.{Came as Held}
 use Rattle.cert_check.specs.declared.summary.Summary.{Summary}
 use Rattle.cert_check.specs.declared.error.CheckError.{CheckError}
@@ -111,6 +113,14 @@ split_then h (suc levels) axis spans came c answer read some axis_is t =
     let both : Then (TreeEnds h levels (lower_half axis spans) (behind came c came.leaves)) (TreeEnds h levels (upper_half axis spans)) answer =
     subst (λ n. Then (TreeEnds h n (lower_half axis spans) (behind came c came.leaves)) (TreeEnds h n (upper_half axis spans)) answer) less t in
     subst (λ r. ReadEnds h (suc levels) (HalfEnds h (suc levels)) spans came r answer) (sym read) (inl (axis_is, both))
+
+-- a miss of an accepting leaf's certificate is what the rectangle comes to
+pub accept_missed : (h : HeadData) (levels : ℕ) (spans : Spans) (came : Came) (u : ℕ) (x : List ℤ) (c : Cursor) (k : CaseData) (bound : Bound) (e : CheckError) → node_at h came.place ≡ Ok (accept u x, c) → k ≡ h.asked → bound ≡ h.bound
+    → Misses came.node (IsFirstAcceptMiss k spans bound x) e → TreeEnds h levels spans came (Err e)
+accept_missed h levels spans came u x c k bound e read asked_is bound_is missed =
+    let asked : IsFirstAcceptMiss h.asked spans bound x missed.0 = subst (λ (j : CaseData). IsFirstAcceptMiss j spans bound x missed.0) asked_is missed.1 in
+    let first : IsFirstAcceptMiss h.asked spans h.bound x missed.0 = subst (λ (b : Bound). IsFirstAcceptMiss h.asked spans b x missed.0) bound_is asked in
+    subst (λ r. ReadEnds h levels (HalfEnds h levels) spans came r (Err e)) (sym read) (inr (missed.0, first, ap (λ d. Err d) missed.2))
 
 -- ---- a head
 

@@ -4,7 +4,7 @@ use Rattle.lift_base.specs.declared.input.ReadError.{ReadError}
 use Rattle.lift_base.specs.declared.input.ReadError.TheVariants as read
 use Rattle.lift_grid.specs.Rectangle.{Spans}
 use Rattle.lift_grid.specs.Splitting.{HasHalvings, IsHalvable, IsSplitAxis}
-use Rattle.lift_grid.specs.Tree.{lower_half, upper_half}
+use Rattle.lift_grid.specs.Tree.{RejectData, lower_half, upper_half}
 use Rattle.lift_model.specs.Model.{live}
 use Rattle.corner_lift.specs.Case.{CaseData, IsCase, IsInside, greatest_depth}
 use Rattle.lift_rows.specs.Fault.{HasSmallNumber}
@@ -16,6 +16,7 @@ use Rattle.line_text.specs.declared.error.TextError.{TextError}
 use Rattle.cert_check.specs.Answer.{Came}
 use Rattle.cert_check.specs.declared.came.Came.{Came as Held}
 use Rattle.cert_check.specs.declared.error.CheckError.{CheckError}
+use Rattle.cert_check.specs.declared.leaf.Rejecting.{Rejecting}
 use Rattle.cert_check.specs.declared.error.CheckError.TheVariants.{Text, Rows, Missed, Depth, Axis, Fault, TooLong, Memory}
 
 -- ---- values of the code
@@ -74,6 +75,10 @@ IsToldOfFile (Missed node miss) = HasSmallNumbers miss
 IsToldOfFile Fault = ⊥
 IsToldOfFile TooLong = ⊥
 IsToldOfFile _ = ⊤
+
+-- what a rejecting leaf tells, as a certificate
+abbrev pub reject_of : Rejecting → RejectData
+reject_of l = record { numbers = l.y.now; picks = l.picks.now; ranks = l.ranks.now; e = l.e; k = l.k }
 
 -- ---- where rectangles stand
 

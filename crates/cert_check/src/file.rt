@@ -7,7 +7,7 @@ ghost use Rattle.cert_check.specs.Shown.{IsIn, Says, IsToldOfFile, came_of};
 use crate::came::Came;
 use crate::error::CheckError;
 use crate::laws::rectangles_are_placed;
-use crate::nodes::check_tree;
+use crate::nodes::{Report, check_tree};
 use crate::summary::Summary;
 use cert_text::{Head, Place, read_head};
 use lift_model::Links;
@@ -46,12 +46,15 @@ fn check_head(alloc: Global, text: &[u8], head: &Head, place: Place) -> Result<S
     let mut weights = vec![in alloc; 0i128; links.weights_len()]?;
     let mut sides = Vec::from_slice(alloc, head.root().sides())?;
     let levels = case.greatest_depth();
-    let came = check_tree(
+    let report = Report {
         alloc,
-        text,
-        head,
-        &case,
-        &links,
+        text: &*text,
+        head: &*head,
+        case: &case,
+        links: &links,
+    };
+    let came = check_tree(
+        &report,
         &mut weights,
         levels,
         &mut sides,

@@ -1,8 +1,7 @@
 // Tests of a single node.
-ghost use Rattle.std.specs.Prelude.{◌≡◌, ◌↔◌, ◌<◌, ℕ, length, IsTrue, IsOk, IfErr, MatchResult};
+ghost use Rattle.std.specs.Prelude.{◌≡◌, ◌↔◌, ◌<◌, length, IsTrue, IsOk, IfErr, MatchResult};
 ghost use Rattle.lift_grid.specs.Rectangle.{Spans, spans_of};
 ghost use Rattle.lift_grid.specs.Splitting.{IsSplitAxis};
-ghost use Rattle.lift_grid.specs.Tree.{RejectData};
 ghost use Rattle.lift_model.specs.Model.{live};
 ghost use Rattle.lift_model.specs.Links.{ArePlaces};
 ghost use Rattle.corner_lift.specs.Case.{AreSidesInside};
@@ -10,7 +9,7 @@ ghost use Rattle.corner_lift.specs.Certificate.{AreNumbers};
 ghost use Rattle.lift_cert.specs.Certificate.{IsAccepting, IsRejecting};
 ghost use Rattle.lift_cert.specs.Miss.{IsFirstAcceptMiss};
 ghost use Rattle.lift_cert.specs.RejectMiss.{HasRejectForm, IsFirstRejectMiss};
-ghost use Rattle.cert_check.specs.Shown.{IsSplitTold, IsToldOfFile, Misses};
+ghost use Rattle.cert_check.specs.Shown.{IsSplitTold, IsToldOfFile, Misses, reject_of};
 
 use crate::error::CheckError;
 use corner_lift::{Case, fill, live_parameters_have_spans};
@@ -18,115 +17,109 @@ use lift_cert::{Bound, is_accepting, is_rejecting, meets_accept, meets_reject};
 use lift_grid::split_axis;
 use lift_model::Links;
 
-/// Whether `x` is an accepting certificate of the rectangle with these sides. What the weights were is
-/// lost.
-fn accepts(
-    case: &Case,
-    links: &Links,
-    bound: Bound,
-    sides: &[i64],
-    weights: &mut [i128],
-    x: &[i64],
-) -> bool
-    ghost spans: { Spans }
-    requires spans { spans ≡ spans_of sides.now }
-    requires places { ArePlaces case.now.model links.now }
-    requires weights { length weights.old ≡ links.now.weights }
-    requires sides { AreSidesInside case.now.root sides.now }
-    requires numbers { AreNumbers case.now x.now }
-    ensures { IsTrue result ↔ IsAccepting case.now spans bound x.now }
-{
-    fill(case, links, sides, weights);
-    is_accepting(case, links, weights, bound, x)
+/// What the certificates of leaves are tested for: a case with its links, and a bound.
+#[derive(Drop)]
+pub(crate) struct Asked<'a> {
+    pub case: &'a Case<'a>,
+    pub links: &'a Links,
+    pub bound: Bound,
 }
 
-/// Tests the certificate of an accepting leaf. What the weights were is lost.
-pub(crate) fn test_accept(
-    case: &Case,
-    links: &Links,
-    bound: Bound,
-    sides: &[i64],
-    weights: &mut [i128],
-    node: u32,
-    x: &[i64],
-) -> Result<(), CheckError>
-    requires places { ArePlaces case.now.model links.now }
-    requires weights { length weights.old ≡ links.now.weights }
-    requires sides { AreSidesInside case.now.root sides.now }
-    requires numbers { AreNumbers case.now x.now }
-    ensures test { MatchResult result
-        (λ _. IsAccepting case.now (spans_of sides.now) bound x.now)
-        (Misses node (IsFirstAcceptMiss case.now (spans_of sides.now) bound x.now)) }
-    ensures told { IfErr result IsToldOfFile }
-{
-    if accepts(case, links, bound, sides, weights, x) {
-        return Ok(());
-    }
-    match meets_accept(case, sides, bound, x) {
-        Ok(()) => Ok(()),
-        Err(miss) => Err(CheckError::Missed { node, miss }),
-    }
+/// What a rejecting leaf tells: the number, the pick and the rank of each state, and the rate.
+#[derive(Drop)]
+pub(crate) struct Rejecting<'a> {
+    pub y: &'a [i64],
+    pub picks: &'a [u32],
+    pub ranks: &'a [u32],
+    pub e: u32,
+    pub k: u32,
 }
 
-/// Whether the numbers `y` with these picks, ranks, `e` and `k` are a rejecting certificate of the
-/// rectangle with these sides. What the weights were is lost.
-fn rejects(
-    case: &Case,
-    links: &Links,
-    bound: Bound,
-    sides: &[i64],
-    weights: &mut [i128],
-    y: &[i64],
-    picks: &[u32],
-    ranks: &[u32],
-    e: u32,
-    k: u32,
-) -> bool
-    ghost spans: { Spans }
-    requires spans { spans ≡ spans_of sides.now }
-    requires places { ArePlaces case.now.model links.now }
-    requires weights { length weights.old ≡ links.now.weights }
-    requires sides { AreSidesInside case.now.root sides.now }
-    requires form { HasRejectForm case.now
-        (record { numbers = y.now; picks = picks.now; ranks = ranks.now; e = e; k = k }) }
-    ensures { IsTrue result ↔ IsRejecting case.now spans bound
-        (record { numbers = y.now; picks = picks.now; ranks = ranks.now; e = e; k = k }) }
-{
-    fill(case, links, sides, weights);
-    is_rejecting(case, links, weights, bound, y, picks, ranks, e, k)
-}
-
-/// Tests the certificate of a rejecting leaf. What the weights were is lost.
-pub(crate) fn test_reject(
-    case: &Case,
-    links: &Links,
-    bound: Bound,
-    sides: &[i64],
-    weights: &mut [i128],
-    node: u32,
-    y: &[i64],
-    picks: &[u32],
-    ranks: &[u32],
-    e: u32,
-    k: u32,
-) -> Result<(), CheckError>
-    requires places { ArePlaces case.now.model links.now }
-    requires weights { length weights.old ≡ links.now.weights }
-    requires sides { AreSidesInside case.now.root sides.now }
-    requires form { HasRejectForm case.now
-        (record { numbers = y.now; picks = picks.now; ranks = ranks.now; e = e; k = k }) }
-    ensures test { let r : RejectData = record { numbers = y.now; picks = picks.now; ranks = ranks.now; e = e; k = k } in
-        MatchResult result
-        (λ _. IsRejecting case.now (spans_of sides.now) bound r)
-        (Misses node (IsFirstRejectMiss case.now (spans_of sides.now) bound r)) }
-    ensures told { IfErr result IsToldOfFile }
-{
-    if rejects(case, links, bound, sides, weights, y, picks, ranks, e, k) {
-        return Ok(());
+impl Asked<'_> {
+    /// Whether `x` is an accepting certificate of the rectangle with these sides. What the weights were is
+    /// lost.
+    fn accepts(&self, sides: &[i64], weights: &mut [i128], x: &[i64]) -> bool
+        ghost spans: { Spans }
+        requires spans { spans ≡ spans_of sides.now }
+        requires places { ArePlaces self.now.case.now.model self.now.links.now }
+        requires weights { length weights.old ≡ self.now.links.now.weights }
+        requires sides { AreSidesInside self.now.case.now.root sides.now }
+        requires numbers { AreNumbers self.now.case.now x.now }
+        ensures { IsTrue result ↔ IsAccepting self.now.case.now spans self.now.bound x.now }
+    {
+        fill(self.case, self.links, sides, weights);
+        is_accepting(self.case, self.links, weights, self.bound, x)
     }
-    match meets_reject(case, sides, bound, y, picks, ranks, e, k) {
-        Ok(()) => Ok(()),
-        Err(miss) => Err(CheckError::Missed { node, miss }),
+
+    /// Tests the certificate of an accepting leaf. What the weights were is lost.
+    pub(crate) fn test_accept(
+        &self,
+        sides: &[i64],
+        weights: &mut [i128],
+        node: u32,
+        x: &[i64],
+    ) -> Result<(), CheckError>
+        requires places { ArePlaces self.now.case.now.model self.now.links.now }
+        requires weights { length weights.old ≡ self.now.links.now.weights }
+        requires sides { AreSidesInside self.now.case.now.root sides.now }
+        requires numbers { AreNumbers self.now.case.now x.now }
+        ensures test { MatchResult result
+            (λ _. IsAccepting self.now.case.now (spans_of sides.now) self.now.bound x.now)
+            (Misses node (IsFirstAcceptMiss self.now.case.now (spans_of sides.now) self.now.bound x.now)) }
+        ensures told { IfErr result IsToldOfFile }
+    {
+        if self.accepts(sides, weights, x) {
+            return Ok(());
+        }
+        match meets_accept(self.case, sides, self.bound, x) {
+            Ok(()) => Ok(()),
+            Err(miss) => Err(CheckError::Missed { node, miss }),
+        }
+    }
+
+    /// Whether that is a rejecting certificate of the rectangle with these sides. What the weights were is lost.
+    fn rejects(&self, sides: &[i64], weights: &mut [i128], leaf: &Rejecting) -> bool
+        ghost spans: { Spans }
+        requires spans { spans ≡ spans_of sides.now }
+        requires places { ArePlaces self.now.case.now.model self.now.links.now }
+        requires weights { length weights.old ≡ self.now.links.now.weights }
+        requires sides { AreSidesInside self.now.case.now.root sides.now }
+        requires form { HasRejectForm self.now.case.now (reject_of leaf.now) }
+        ensures { IsTrue result ↔ IsRejecting self.now.case.now spans self.now.bound (reject_of leaf.now) }
+    {
+        fill(self.case, self.links, sides, weights);
+        is_rejecting(
+            self.case, self.links, weights, self.bound, leaf.y, leaf.picks, leaf.ranks, leaf.e,
+            leaf.k,
+        )
+    }
+
+    /// Tests the certificate of a rejecting leaf. What the weights were is lost.
+    pub(crate) fn test_reject(
+        &self,
+        sides: &[i64],
+        weights: &mut [i128],
+        node: u32,
+        leaf: &Rejecting,
+    ) -> Result<(), CheckError>
+        requires places { ArePlaces self.now.case.now.model self.now.links.now }
+        requires weights { length weights.old ≡ self.now.links.now.weights }
+        requires sides { AreSidesInside self.now.case.now.root sides.now }
+        requires form { HasRejectForm self.now.case.now (reject_of leaf.now) }
+        ensures test { MatchResult result
+            (λ _. IsRejecting self.now.case.now (spans_of sides.now) self.now.bound (reject_of leaf.now))
+            (Misses node (IsFirstRejectMiss self.now.case.now (spans_of sides.now) self.now.bound (reject_of leaf.now))) }
+        ensures told { IfErr result IsToldOfFile }
+    {
+        if self.rejects(sides, weights, leaf) {
+            return Ok(());
+        }
+        match meets_reject(
+            self.case, sides, self.bound, leaf.y, leaf.picks, leaf.ranks, leaf.e, leaf.k,
+        ) {
+            Ok(()) => Ok(()),
+            Err(miss) => Err(CheckError::Missed { node, miss }),
+        }
     }
 }
 

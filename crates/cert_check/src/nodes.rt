@@ -12,7 +12,7 @@ ghost use Rattle.cert_check.specs.Shown.{IsIn, IsPlaced, Says, IsToldOfFile, cam
 use crate::came::Came;
 use crate::error::CheckError;
 use crate::laws::rectangles_are_placed;
-use crate::leaf::{test_accept, test_reject, test_split, test_unknown};
+use crate::leaf::{Asked, Rejecting, test_split, test_unknown};
 use cert_text::{Head, Node, nodes_are_read, read_node};
 use corner_lift::Case;
 use lift_grid::narrow;
@@ -31,76 +31,59 @@ fn lower_half(alloc: Global, sides: &[i64], axis: u32) -> Result<Vec<i64>, Alloc
     Ok(lower)
 }
 
+/// A report whose nodes are checked: its text, its head, and the case that the head asks for, with its links.
+#[derive(Drop)]
+pub(crate) struct Report<'a> {
+    pub alloc: Global,
+    pub text: &'a [u8],
+    pub head: &'a Head,
+    pub case: &'a Case<'a>,
+    pub links: &'a Links,
+}
+
 /// Checks the nodes of the rectangle with these sides, which may be halved `levels` times, and gives
 /// where they end. On the way down it keeps a rectangle for each level. The sides and the weights are free
 /// afterwards.
 pub(crate) fn check_tree(
-    alloc: Global,
-    text: &[u8],
-    head: &Head,
-    case: &Case,
-    links: &Links,
+    report: &Report,
     weights: &mut [i128],
     levels: u32,
     sides: &mut [i64],
     came: Came,
 ) -> Result<Came, CheckError>
-    requires text { length text.now ≤ file_limit }
-    requires asked { case.now ≡ head.now.asked }
-    requires places { ArePlaces case.now.model links.now }
-    requires weights { length weights.old ≡ links.now.weights }
-    requires placed { IsPlaced case.now levels (spans_of sides.old) }
+    requires text { length report.now.text.now ≤ file_limit }
+    requires asked { report.now.case.now ≡ report.now.head.now.asked }
+    requires places { ArePlaces report.now.case.now.model report.now.links.now }
+    requires weights { length weights.old ≡ report.now.links.now.weights }
+    requires placed { IsPlaced report.now.case.now levels (spans_of sides.old) }
     requires paired { sides_of (spans_of sides.old) ≡ sides.old }
-    requires came { IsIn text.now came }
-    ensures end { Says (came_of text.now)
-        (TreeEnds head.now levels (spans_of sides.old) (came_of text.now came)) result }
-    ensures came { IfOk result (IsIn text.now) }
+    requires came { IsIn report.now.text.now came }
+    ensures end { Says (came_of report.now.text.now)
+        (TreeEnds report.now.head.now levels (spans_of sides.old) (came_of report.now.text.now came)) result }
+    ensures came { IfOk result (IsIn report.now.text.now) }
     ensures told { IfErr result IsToldOfFile }
 {
     rectangles_are_placed();
     nodes_are_read();
-    let _ = head.w();
-    let _ = case.w();
-    let (node, place) = read_node(alloc, text, came.place, head)?;
+    let _ = report.head.w();
+    let _ = report.case.w();
+    let asked = Asked {
+        case: report.case,
+        links: report.links,
+        bound: report.head.bound(),
+    };
+    let (node, place) = read_node(report.alloc, report.text, came.place, report.head)?;
     match node {
         Node::Split { axis } => {
-            test_split(case, levels, sides, came.node, axis)?;
-            let mut lower = lower_half(alloc, sides, axis)?;
+            test_split(report.case, levels, sides, came.node, axis)?;
+            let mut lower = lower_half(report.alloc, sides, axis)?;
             let behind = came.behind(place, came.leaves);
-            let between = check_tree(
-                alloc,
-                text,
-                head,
-                case,
-                links,
-                weights,
-                levels - 1,
-                &mut lower,
-                behind,
-            )?;
+            let between = check_tree(report, weights, levels - 1, &mut lower, behind)?;
             narrow(sides, axis, false);
-            check_tree(
-                alloc,
-                text,
-                head,
-                case,
-                links,
-                weights,
-                levels - 1,
-                sides,
-                between,
-            )
+            check_tree(report, weights, levels - 1, sides, between)
         }
         Node::Accept { x } => {
-            test_accept(
-                case,
-                links,
-                head.bound(),
-                sides,
-                weights,
-                came.node,
-                x.as_slice(),
-            )?;
+            asked.test_accept(sides, weights, came.node, x.as_slice())?;
             Ok(came.behind(place, came.leaves.one_accept()))
         }
         Node::Reject {
@@ -110,19 +93,14 @@ pub(crate) fn check_tree(
             picks,
             ranks,
         } => {
-            test_reject(
-                case,
-                links,
-                head.bound(),
-                sides,
-                weights,
-                came.node,
-                y.as_slice(),
-                picks.as_slice(),
-                ranks.as_slice(),
+            let leaf = Rejecting {
+                y: y.as_slice(),
+                picks: picks.as_slice(),
+                ranks: ranks.as_slice(),
                 e,
                 k,
-            )?;
+            };
+            asked.test_reject(sides, weights, came.node, &leaf)?;
             Ok(came.behind(place, came.leaves.one_reject()))
         }
         Node::Unknown => {

@@ -32,6 +32,14 @@ pub(crate) struct Left {
     pub transitions: u32,
 }
 
+/// What the rows of a head are read by: where memory comes from, the model's kind, and how many parameters there are.
+#[derive(Clone, Copy)]
+struct RowReader {
+    alloc: Global,
+    kind: Kind,
+    parameters: u32,
+}
+
 /// The line that is due, as how many entries the row of state s and choice a has.
 #[tactic(auto, unfolding(line_text::specs::Reading::line_at))]
 fn row_line<'t>(
@@ -65,42 +73,6 @@ fn row_mark(choices: u32) -> u32
     ensures { result ≡ row_mark choices }
 {
     MOST_CHOICES + 1 - choices
-}
-
-/// The row of state s and choice a, whose first line is due. Its targets are marked.
-#[tactic(auto, unfolding(crate::specs::Head::row_at), using(crate::proofs::RowLoops::marks_below))]
-fn row<'t>(
-    alloc: Global,
-    known: &mut KnownTerms<'t>,
-    cursor: &Cursor<'t>,
-    marks: &mut [u32],
-    parameters: u32,
-    s: u32,
-    a: u32,
-    left: Left,
-) -> Result<(Row, Cursor<'t>), TextError>
-    requires states { length marks.old ≤ most_states }
-    requires parameters { parameters ≤ most_parameters }
-    requires known { AreKnown parameters known.old.texts.items }
-    requires choices { left.choices ≤ most_choices }
-    requires free { All (λ m. m < row_mark left.choices) marks.old }
-    ensures value { Gives (λ x. x) result
-        (row_at (length marks.old) parameters left.choices left.transitions s a cursor.now) }
-    ensures size { length marks.new ≡ length marks.old }
-    ensures known { AreKnown parameters known.new.texts.items }
-    ensures some { IfOk result (λ _. 0 < left.choices) }
-    ensures marks { IfOk result (λ _. All (λ m. m < row_mark (left.choices - 1)) marks.new) }
-{
-    match row_line(alloc, cursor, s, a, left) {
-        Ok((count, rest)) => {
-            let mark = row_mark(left.choices);
-            match entries(alloc, known, rest, marks, mark, parameters, count) {
-                Ok((entries, behind)) => Ok((Row::new(entries), behind)),
-                Err(fault) => Err(fault),
-            }
-        }
-        Err(fault) => Err(fault),
-    }
 }
 
 /// Whether a word writes that number.
@@ -165,83 +137,6 @@ fn behind_row(left: Left, row: &[Entry]) -> Left
     }
 }
 
-/// The rows of state s behind its first, and what they leave.
-fn further<'t>(
-    alloc: Global,
-    known: &mut KnownTerms<'t>,
-    cursor: Cursor<'t>,
-    marks: &mut [u32],
-    parameters: u32,
-    s: u32,
-    left: Left,
-) -> Result<(Vec<Row>, Left, Cursor<'t>), TextError>
-    requires states { length marks.old ≤ most_states }
-    requires parameters { parameters ≤ most_parameters }
-    requires known { AreKnown parameters known.old.texts.items }
-    requires choices { left.choices ≤ most_choices }
-    requires transitions { left.transitions ≤ most_transitions }
-    requires free { All (λ m. m < row_mark left.choices) marks.old }
-    ensures value { Gives (λ x. (x.0.items, x.2)) result
-        (further_at (length marks.old) parameters left.choices left.transitions s 1 cursor.entry) }
-    ensures left { IfOk result (λ x. Leaves left x.1 (length x.0.items) (sum_by length x.0.items)) }
-    ensures size { length marks.new ≡ length marks.old }
-    ensures known { AreKnown parameters known.new.texts.items }
-    ensures marks { IfOk result (λ x. All (λ m. m < row_mark x.1.choices) marks.new) }
-{
-    let mut rows = Vec::new(alloc);
-    let mut rest = cursor;
-    let mut now = left;
-    let mut a = 1;
-    loop {
-        match row_due(&rest, s) {
-            Err(fault) => return Err(fault),
-            Ok(false) => return Ok((rows, now, rest)),
-            Ok(true) => match row(alloc, known, &rest, marks, parameters, s, a, now) {
-                Err(fault) => return Err(fault),
-                Ok((row, behind)) => {
-                    now = behind_row(now, row.entries());
-                    match keep_row(&mut rows, row) {
-                        Ok(()) => rest = behind,
-                        Err(_) => return Err(rest.fault(TextCause::Memory)),
-                    }
-                    a += 1;
-                }
-            },
-        }
-    }
-}
-
-/// The rows of state s behind its first, and what they leave. A chain has none.
-#[tactic(auto, unfolding(crate::specs::Head::behind_first))]
-fn behind_first<'t>(
-    alloc: Global,
-    known: &mut KnownTerms<'t>,
-    cursor: Cursor<'t>,
-    kind: Kind,
-    marks: &mut [u32],
-    parameters: u32,
-    s: u32,
-    left: Left,
-) -> Result<(Vec<Row>, Left, Cursor<'t>), TextError>
-    requires states { length marks.old ≤ most_states }
-    requires parameters { parameters ≤ most_parameters }
-    requires known { AreKnown parameters known.old.texts.items }
-    requires choices { left.choices ≤ most_choices }
-    requires transitions { left.transitions ≤ most_transitions }
-    requires free { All (λ m. m < row_mark left.choices) marks.old }
-    ensures value { Gives (λ x. (x.0.items, x.2)) result
-        (behind_first kind (length marks.old) parameters left.choices left.transitions s cursor.entry) }
-    ensures left { IfOk result (λ x. Leaves left x.1 (length x.0.items) (sum_by length x.0.items)) }
-    ensures size { length marks.new ≡ length marks.old }
-    ensures known { AreKnown parameters known.new.texts.items }
-    ensures marks { IfOk result (λ x. All (λ m. m < row_mark x.1.choices) marks.new) }
-{
-    match kind {
-        Kind::Dtmc => Ok((Vec::new(alloc), left, cursor)),
-        Kind::Mdp => further(alloc, known, cursor, marks, parameters, s, left),
-    }
-}
-
 /// A row before others. One alone takes no more memory than it needs.
 fn with_first(alloc: Global, first: Row, others: Vec<Row>) -> Result<Vec<Row>, AllocError>
     ensures { IfOk result (λ v. v.items ≡ first ∷ others.items) }
@@ -256,46 +151,6 @@ fn with_first(alloc: Global, first: Row, others: Vec<Row>) -> Result<Vec<Row>, A
     Ok(rows)
 }
 
-/// The rows of state s, and what they leave.
-#[tactic(auto, unfolding(crate::specs::Head::state_at))]
-fn state<'t>(
-    alloc: Global,
-    known: &mut KnownTerms<'t>,
-    cursor: &Cursor<'t>,
-    kind: Kind,
-    marks: &mut [u32],
-    parameters: u32,
-    s: u32,
-    left: Left,
-) -> Result<(Vec<Row>, Left, Cursor<'t>), TextError>
-    requires states { length marks.old ≤ most_states }
-    requires parameters { parameters ≤ most_parameters }
-    requires known { AreKnown parameters known.old.texts.items }
-    requires choices { left.choices ≤ most_choices }
-    requires transitions { left.transitions ≤ most_transitions }
-    requires free { All (λ m. m < row_mark left.choices) marks.old }
-    ensures value { Gives (λ x. (x.0.items, x.2)) result
-        (state_at kind (length marks.old) parameters left.choices left.transitions s cursor.now) }
-    ensures left { IfOk result (λ x. Leaves left x.1 (length x.0.items) (sum_by length x.0.items)) }
-    ensures size { length marks.new ≡ length marks.old }
-    ensures known { AreKnown parameters known.new.texts.items }
-    ensures marks { IfOk result (λ x. All (λ m. m < row_mark x.1.choices) marks.new) }
-{
-    match row(alloc, known, cursor, marks, parameters, s, 0, left) {
-        Err(fault) => Err(fault),
-        Ok((first, rest)) => {
-            let now = behind_row(left, first.entries());
-            match behind_first(alloc, known, rest, kind, marks, parameters, s, now) {
-                Err(fault) => Err(fault),
-                Ok((others, after, behind)) => match with_first(alloc, first, others) {
-                    Ok(rows) => Ok((rows, after, behind)),
-                    Err(_) => Err(cursor.fault(TextCause::Memory)),
-                },
-            }
-        }
-    }
-}
-
 /// Keeps a state's rows.
 fn keep_state(all: &mut Vec<Vec<Row>>, rows: Vec<Row>) -> Result<(), AllocError>
     ensures { IfOk result (λ _. map (λ v. v.items) all.new.items ≡ map (λ v. v.items) all.old.items ++ rows.items ∷ []) }
@@ -304,41 +159,188 @@ fn keep_state(all: &mut Vec<Vec<Row>>, rows: Vec<Row>) -> Result<(), AllocError>
     Ok(())
 }
 
-/// The rows of as many states as there are marks.
-fn all_states<'t>(
-    alloc: Global,
-    known: &mut KnownTerms<'t>,
-    cursor: Cursor<'t>,
-    kind: Kind,
-    marks: &mut [u32],
-    parameters: u32,
-    left: Left,
-) -> Result<(Vec<Vec<Row>>, Cursor<'t>), TextError>
-    requires states { length marks.old ≤ most_states }
-    requires parameters { parameters ≤ most_parameters }
-    requires known { AreKnown parameters known.old.texts.items }
-    requires choices { left.choices ≤ most_choices }
-    requires transitions { left.transitions ≤ most_transitions }
-    requires free { All (λ m. m < row_mark left.choices) marks.old }
-    ensures { Gives (λ x. (map (λ v. v.items) x.0.items, x.1)) result
-        (states_at kind (length marks.old) parameters (length marks.old) left.choices left.transitions 0 cursor.entry) }
-{
-    let mut all = Vec::new(alloc);
-    let mut rest = cursor;
-    let mut now = left;
-    for s in 0..marks.len() as u32 {
-        match state(alloc, known, &rest, kind, marks, parameters, s, now) {
-            Err(fault) => return Err(fault),
-            Ok((rows, after, behind)) => match keep_state(&mut all, rows) {
-                Ok(()) => {
-                    now = after;
-                    rest = behind;
+impl RowReader {
+    /// The row of state s and choice a, whose first line is due. Its targets are marked.
+    #[tactic(auto, unfolding(crate::specs::Head::row_at), using(crate::proofs::RowLoops::marks_below))]
+    fn row<'t>(
+        &self,
+        known: &mut KnownTerms<'t>,
+        cursor: &Cursor<'t>,
+        marks: &mut [u32],
+        s: u32,
+        a: u32,
+        left: Left,
+    ) -> Result<(Row, Cursor<'t>), TextError>
+        requires states { length marks.old ≤ most_states }
+        requires parameters { self.now.parameters ≤ most_parameters }
+        requires known { AreKnown self.now.parameters known.old.texts.items }
+        requires choices { left.choices ≤ most_choices }
+        requires free { All (λ m. m < row_mark left.choices) marks.old }
+        ensures value { Gives (λ x. x) result
+            (row_at (length marks.old) self.now.parameters left.choices left.transitions s a cursor.now) }
+        ensures size { length marks.new ≡ length marks.old }
+        ensures known { AreKnown self.now.parameters known.new.texts.items }
+        ensures some { IfOk result (λ _. 0 < left.choices) }
+        ensures marks { IfOk result (λ _. All (λ m. m < row_mark (left.choices - 1)) marks.new) }
+    {
+        match row_line(self.alloc, cursor, s, a, left) {
+            Ok((count, rest)) => {
+                let mark = row_mark(left.choices);
+                match entries(self.alloc, known, rest, marks, mark, self.parameters, count) {
+                    Ok((entries, behind)) => Ok((Row::new(entries), behind)),
+                    Err(fault) => Err(fault),
                 }
-                Err(_) => return Err(rest.fault(TextCause::Memory)),
-            },
+            }
+            Err(fault) => Err(fault),
         }
     }
-    Ok((all, rest))
+
+    /// The rows of state s behind its first, and what they leave.
+    fn further<'t>(
+        &self,
+        known: &mut KnownTerms<'t>,
+        cursor: Cursor<'t>,
+        marks: &mut [u32],
+        s: u32,
+        left: Left,
+    ) -> Result<(Vec<Row>, Left, Cursor<'t>), TextError>
+        requires states { length marks.old ≤ most_states }
+        requires parameters { self.now.parameters ≤ most_parameters }
+        requires known { AreKnown self.now.parameters known.old.texts.items }
+        requires choices { left.choices ≤ most_choices }
+        requires transitions { left.transitions ≤ most_transitions }
+        requires free { All (λ m. m < row_mark left.choices) marks.old }
+        ensures value { Gives (λ x. (x.0.items, x.2)) result
+            (further_at (length marks.old) self.now.parameters left.choices left.transitions s 1 cursor.entry) }
+        ensures left { IfOk result (λ x. Leaves left x.1 (length x.0.items) (sum_by length x.0.items)) }
+        ensures size { length marks.new ≡ length marks.old }
+        ensures known { AreKnown self.now.parameters known.new.texts.items }
+        ensures marks { IfOk result (λ x. All (λ m. m < row_mark x.1.choices) marks.new) }
+    {
+        let mut rows = Vec::new(self.alloc);
+        let mut rest = cursor;
+        let mut now = left;
+        let mut a = 1;
+        loop {
+            match row_due(&rest, s) {
+                Err(fault) => return Err(fault),
+                Ok(false) => return Ok((rows, now, rest)),
+                Ok(true) => match self.row(known, &rest, marks, s, a, now) {
+                    Err(fault) => return Err(fault),
+                    Ok((row, behind)) => {
+                        now = behind_row(now, row.entries());
+                        match keep_row(&mut rows, row) {
+                            Ok(()) => rest = behind,
+                            Err(_) => return Err(rest.fault(TextCause::Memory)),
+                        }
+                        a += 1;
+                    }
+                },
+            }
+        }
+    }
+
+    /// The rows of state s behind its first, and what they leave. A chain has none.
+    #[tactic(auto, unfolding(crate::specs::Head::behind_first))]
+    fn behind_first<'t>(
+        &self,
+        known: &mut KnownTerms<'t>,
+        cursor: Cursor<'t>,
+        marks: &mut [u32],
+        s: u32,
+        left: Left,
+    ) -> Result<(Vec<Row>, Left, Cursor<'t>), TextError>
+        requires states { length marks.old ≤ most_states }
+        requires parameters { self.now.parameters ≤ most_parameters }
+        requires known { AreKnown self.now.parameters known.old.texts.items }
+        requires choices { left.choices ≤ most_choices }
+        requires transitions { left.transitions ≤ most_transitions }
+        requires free { All (λ m. m < row_mark left.choices) marks.old }
+        ensures value { Gives (λ x. (x.0.items, x.2)) result
+            (behind_first self.now.kind (length marks.old) self.now.parameters left.choices left.transitions s cursor.entry) }
+        ensures left { IfOk result (λ x. Leaves left x.1 (length x.0.items) (sum_by length x.0.items)) }
+        ensures size { length marks.new ≡ length marks.old }
+        ensures known { AreKnown self.now.parameters known.new.texts.items }
+        ensures marks { IfOk result (λ x. All (λ m. m < row_mark x.1.choices) marks.new) }
+    {
+        match self.kind {
+            Kind::Dtmc => Ok((Vec::new(self.alloc), left, cursor)),
+            Kind::Mdp => self.further(known, cursor, marks, s, left),
+        }
+    }
+
+    /// The rows of state s, and what they leave.
+    #[tactic(auto, unfolding(crate::specs::Head::state_at))]
+    fn state<'t>(
+        &self,
+        known: &mut KnownTerms<'t>,
+        cursor: &Cursor<'t>,
+        marks: &mut [u32],
+        s: u32,
+        left: Left,
+    ) -> Result<(Vec<Row>, Left, Cursor<'t>), TextError>
+        requires states { length marks.old ≤ most_states }
+        requires parameters { self.now.parameters ≤ most_parameters }
+        requires known { AreKnown self.now.parameters known.old.texts.items }
+        requires choices { left.choices ≤ most_choices }
+        requires transitions { left.transitions ≤ most_transitions }
+        requires free { All (λ m. m < row_mark left.choices) marks.old }
+        ensures value { Gives (λ x. (x.0.items, x.2)) result
+            (state_at self.now.kind (length marks.old) self.now.parameters left.choices left.transitions s cursor.now) }
+        ensures left { IfOk result (λ x. Leaves left x.1 (length x.0.items) (sum_by length x.0.items)) }
+        ensures size { length marks.new ≡ length marks.old }
+        ensures known { AreKnown self.now.parameters known.new.texts.items }
+        ensures marks { IfOk result (λ x. All (λ m. m < row_mark x.1.choices) marks.new) }
+    {
+        match self.row(known, cursor, marks, s, 0, left) {
+            Err(fault) => Err(fault),
+            Ok((first, rest)) => {
+                let now = behind_row(left, first.entries());
+                match self.behind_first(known, rest, marks, s, now) {
+                    Err(fault) => Err(fault),
+                    Ok((others, after, behind)) => match with_first(self.alloc, first, others) {
+                        Ok(rows) => Ok((rows, after, behind)),
+                        Err(_) => Err(cursor.fault(TextCause::Memory)),
+                    },
+                }
+            }
+        }
+    }
+
+    /// The rows of as many states as there are marks.
+    fn all_states<'t>(
+        &self,
+        known: &mut KnownTerms<'t>,
+        cursor: Cursor<'t>,
+        marks: &mut [u32],
+        left: Left,
+    ) -> Result<(Vec<Vec<Row>>, Cursor<'t>), TextError>
+        requires states { length marks.old ≤ most_states }
+        requires parameters { self.now.parameters ≤ most_parameters }
+        requires known { AreKnown self.now.parameters known.old.texts.items }
+        requires choices { left.choices ≤ most_choices }
+        requires transitions { left.transitions ≤ most_transitions }
+        requires free { All (λ m. m < row_mark left.choices) marks.old }
+        ensures { Gives (λ x. (map (λ v. v.items) x.0.items, x.1)) result
+            (states_at self.now.kind (length marks.old) self.now.parameters (length marks.old) left.choices left.transitions 0 cursor.entry) }
+    {
+        let mut all = Vec::new(self.alloc);
+        let mut rest = cursor;
+        let mut now = left;
+        for s in 0..marks.len() as u32 {
+            match self.state(known, &rest, marks, s, now) {
+                Err(fault) => return Err(fault),
+                Ok((rows, after, behind)) => match keep_state(&mut all, rows) {
+                    Ok(()) => {
+                        now = after;
+                        rest = behind;
+                    }
+                    Err(_) => return Err(rest.fault(TextCause::Memory)),
+                },
+            }
+        }
+        Ok((all, rest))
+    }
 }
 
 /// The rows of so many states.
@@ -362,9 +364,12 @@ pub(crate) fn states<'t>(
     match vec![in alloc; 0u32; states as usize] {
         Ok(mut marks) => {
             let mut known = KnownTerms::new(alloc);
-            all_states(
-                alloc, &mut known, cursor, kind, &mut marks, parameters, left,
-            )
+            let reader = RowReader {
+                alloc,
+                kind,
+                parameters,
+            };
+            reader.all_states(&mut known, cursor, &mut marks, left)
         }
         Err(_) => Err(cursor.fault(TextCause::Memory)),
     }

@@ -5,6 +5,7 @@ mod build;
 mod collapse;
 mod collapsed;
 mod holds;
+mod lanes;
 mod laws;
 mod search;
 

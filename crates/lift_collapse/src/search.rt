@@ -213,34 +213,63 @@ fn give_places(
     })
 }
 
-/// Sets apart the targets of a row whose place another one before them has; where these are lost states, no
-/// state is taken for lost any more. Tells whether there are any.
-fn part_row(
-    model: &Model,
-    links: &Links,
-    marks: &mut Marks,
-    places: &[u32],
-    seen: &mut [u32],
-    stamp: u32,
-    s: u32,
-    a: u32,
-) -> bool
+/// The places that were met in a row.
+#[derive(Drop)]
+struct Seen {
+    // for each place the number of the last row in which it was met
+    rows: Vec<u32>,
+    row: u32,
+}
+
+impl Seen {
+    /// None, for so many places.
+    fn none(alloc: Global, places: usize) -> Result<Seen, AllocError> {
+        Ok(Seen {
+            rows: vec![in alloc; 0u32; places]?,
+            row: 0,
+        })
+    }
+
+    /// Begins another row.
+    fn begin_row(&mut self) {
+        self.row = self.row.saturating_add(1);
+    }
+
+    /// Meets a place. Tells whether that is the first time in this row.
+    fn meet(&mut self, place: u32) -> bool {
+        let row = self.row;
+        if place_of(&self.rows, place) == row {
+            return false;
+        }
+        put(&mut self.rows, place, row);
+        true
+    }
+}
+
+/// The targets of a state's choice; none where there is no such choice.
+fn targets_of<'a>(model: &Model, links: &'a Links, s: u32, a: u32) -> &'a [u32]
     requires { AreLinks model.now links.now }
 {
     if s >= model.states() || a >= links.choices(s) {
-        return false;
+        return &[];
     }
+    links.targets(links.place(s, a))
+}
+
+/// Sets apart the targets of a row whose place another one before them has; where these are lost states, no
+/// state is taken for lost any more. Tells whether there are any.
+fn part_row(marks: &mut Marks, places: &[u32], seen: &mut Seen, targets: &[u32]) -> bool {
+    seen.begin_row();
     let mut parted = false;
-    for target in links.targets(links.place(s, a)) {
-        let place = place_of(places, *target);
-        if place_of(seen, place) != stamp {
-            put(seen, place, stamp);
-        } else if is_marked(&marks.lost, *target) {
+    for target in targets {
+        if seen.meet(place_of(places, *target)) {
+            continue;
+        }
+        if is_marked(&marks.lost, *target) {
             marks.lost.clear();
             return true;
-        } else {
-            parted |= set_mark(&mut marks.apart, *target, true);
         }
+        parted |= set_mark(&mut marks.apart, *target, true);
     }
     parted
 }
@@ -262,16 +291,14 @@ fn part_rows(
     links: &Links,
     marks: &mut Marks,
     found: &Found,
-    seen: &mut [u32],
+    seen: &mut Seen,
 ) -> bool
     requires { AreLinks model.now links.now }
 {
     let mut parted = false;
-    let mut stamp: u32 = 0;
     for s in &found.kept {
         for a in 0..choice_count(model, links, *s) {
-            stamp = stamp.saturating_add(1);
-            parted |= part_row(model, links, marks, &found.places, seen, stamp, *s, a);
+            parted |= part_row(marks, &found.places, seen, targets_of(model, links, *s, a));
         }
     }
     parted
@@ -287,7 +314,7 @@ pub(crate) fn find_places(alloc: Global, model: &Model, links: &Links) -> Result
     };
     for _ in 0..ROUNDS {
         let found = give_places(alloc, model, links, &marks)?;
-        let mut seen = vec![in alloc; 0u32; found.kept.len()]?;
+        let mut seen = Seen::none(alloc, found.kept.len())?;
         if !part_rows(model, links, &mut marks, &found, &mut seen) {
             return Ok(found);
         }

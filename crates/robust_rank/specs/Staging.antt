@@ -8,6 +8,7 @@ use Rattle.corner_lift.specs.Certificate.{unmarked, mark}
 use Rattle.corner_lift.specs.Stages.{LeadsBelow}
 use Rattle.corner_lift.specs.Table.{IsTable}
 use Rattle.robust_rank.specs.Attracting.{Pass, IsStaged}
+use Rattle.robust_rank.specs.declared.rows.Choices.{Choices}
 
 -- of numbers that there is one of for each row, in reading order, the one of the state's choice isn't 0
 abbrev pub allows : ModelData → List ℕ → ℕ → ℕ → Bool
@@ -18,6 +19,10 @@ pub record CanRank (k : CaseData) (l : LinksData) (spans : Spans) (weights : Lis
   pub links : AreLinks k.model l
   pub table : IsTable k l spans weights
   pub rows : length allowed ≡ row_count k.model
+
+-- the same of choices that are handed on together
+abbrev pub CanRankBy : Choices → Spans → Type 0
+CanRankBy c spans = CanRank c.rows.case.now c.rows.links.now spans c.rows.weights.now c.allowed.now
 
 -- the state's choice is allowed, and leads below r
 abbrev pub IsLeading : CaseData → Spans → List ℕ → (ℕ → ℕ) → ℕ → ℕ → ℕ → Type 0

@@ -6,6 +6,7 @@ mod laws;
 mod marks;
 mod ranking;
 mod rates;
+mod rows;
 
 pub use laws::ranks_go_by_stages;
 pub use ranking::attract;

@@ -8,11 +8,11 @@ ghost use Rattle.corner_lift.specs.Certificate.{mark, unmarked};
 ghost use Rattle.corner_lift.specs.Stages.{LeadsBelow, AreStages};
 ghost use Rattle.corner_lift.specs.Table.{IsTable};
 ghost use Rattle.robust_rank.specs.Attracting.{Pass};
-ghost use Rattle.robust_rank.specs.Staging.{allows, CanRank, IsLeading, IsLeastLeading, HasLeading, HasNoLeading, OthersHaveNoPick, is_rank, IsReached, IsPickOf, IsStarting, IsComplete, StageData, IsGathering, AreKept, IsLooked};
+ghost use Rattle.robust_rank.specs.Staging.{allows, CanRank, CanRankBy, IsLeading, IsLeastLeading, HasLeading, HasNoLeading, OthersHaveNoPick, is_rank, IsReached, IsPickOf, IsStarting, IsComplete, StageData, IsGathering, AreKept, IsLooked};
 ghost use Rattle.robust_rank.specs.InOrder.{AreRanks};
 
-use crate::in_order::rank_in_order;
 use crate::marks::{NONE, are_below, mark_of};
+use crate::rows::{Choices, Rows};
 use corner_lift::{Case, PairTable, least_into, rows_at_corners};
 use lift_model::{Links, OnlyRow, PairRow};
 
@@ -22,95 +22,6 @@ fn is_positive(weight: i128) -> bool
     ensures { IsTrue result ↔ pos 0 <ℤ weight }
 {
     weight > 0
-}
-
-/// Whether all targets of the state's choice have a rank less than `below`, so that nothing need be weighed.
-#[inline(always)]
-pub(crate) fn leads_only_below(
-    case: &Case,
-    links: &Links,
-    s: u32,
-    a: u32,
-    ranks: &[u32],
-    below: u32,
-) -> bool
-    requires links { AreLinks case.now.model links.now }
-    requires row { HasChoice case.now.model s a }
-    requires ranks { length ranks.now ≡ length case.now.model.states }
-    ensures { IsTrue result → All (λ t. mark ranks.now t < below) (targets_of (row_at case.now.model s a)) }
-{
-    let _ = case.w();
-    let place = links.place(s, a);
-    are_below(links.targets(place), ranks, below)
-}
-
-/// Whether at each of its corners the state's choice has positive weight into states whose rank is less
-/// than `below`.
-#[inline(always)]
-fn leads_below(
-    case: &Case,
-    links: &Links,
-    weights: &PairTable,
-    s: u32,
-    a: u32,
-    ranks: &[u32],
-    below: u32,
-) -> bool
-    ghost spans: { Spans }
-    requires links { AreLinks case.now.model links.now }
-    requires table { IsTable case.now links.now spans weights.now }
-    requires row { HasChoice case.now.model s a }
-    requires ranks { length ranks.now ≡ length case.now.model.states }
-    ensures { IsTrue result ↔ LeadsBelow case.now spans (mark ranks.now) below s a }
-{
-    rows_at_corners();
-    let _ = case.w();
-    if leads_only_below(case, links, s, a, ranks, below) {
-        return true;
-    }
-    is_positive(least_into(case, links, weights.weights(), s, a, ranks, below).sum)
-}
-
-/// Whether the state's choice is allowed.
-#[inline(always)]
-pub(crate) fn is_allowed(case: &Case, links: &Links, allowed: &[u32], s: u32, a: u32) -> bool
-    requires links { AreLinks case.now.model links.now }
-    requires rows { length allowed.now ≡ row_count case.now.model }
-    requires row { HasChoice case.now.model s a }
-    ensures { IsTrue result ↔ Pass (allows case.now.model allowed.now) s a }
-{
-    allowed[links.row_place(s, a)] != 0
-}
-
-/// Whether the state's choice is allowed and leads below.
-#[inline(always)]
-fn is_leading(
-    case: &Case,
-    links: &Links,
-    weights: &PairTable,
-    allowed: &[u32],
-    s: u32,
-    a: u32,
-    ranks: &[u32],
-    below: u32,
-) -> bool
-    ghost spans: { Spans }
-    requires rows { CanRank case.now links.now spans weights.now allowed.now }
-    requires row { HasChoice case.now.model s a }
-    requires ranks { length ranks.now ≡ length case.now.model.states }
-    ensures { IsTrue result ↔ IsLeading case.now spans allowed.now (mark ranks.now) below s a }
-{
-    is_allowed(case, links, allowed, s, a) && leads_below(case, links, weights, s, a, ranks, below)
-}
-
-/// How many choices a state has, by the links, whose lists lie closer together than the model's.
-#[inline(always)]
-pub(crate) fn choice_count(case: &Case, links: &Links, s: u32) -> u32
-    requires links { AreLinks case.now.model links.now }
-    requires state { s < length case.now.model.states }
-    ensures { result ≡ length (choices case.now.model s) }
-{
-    links.choices(s)
 }
 
 /// Whether both targets of a row have a rank less than `below`.
@@ -139,34 +50,6 @@ fn is_some(number: i64) -> bool
     number > 0
 }
 
-/// Whether the only row of a state, which has two entries, leads below, if that is quickly told.
-#[inline(always)]
-pub(crate) fn pair_leads(
-    case: &Case,
-    links: &Links,
-    weights: &PairTable,
-    s: u32,
-    row: PairRow,
-    ranks: &[u32],
-    below: u32,
-) -> Option<bool>
-    ghost spans: { Spans }
-    requires links { AreLinks case.now.model links.now }
-    requires table { IsTable case.now links.now spans weights.now }
-    requires state { s < length case.now.model.states }
-    requires row { IsPairRow case.now.model links.now s row }
-    requires ranks { length ranks.now ≡ length case.now.model.states }
-    ensures { IfSome result (λ yes. IsTrue yes ↔ LeadsBelow case.now spans (mark ranks.now) below s 0) }
-{
-    rows_at_corners();
-    let _ = case.w();
-    if are_both_below(row, ranks, below) {
-        return Some(true);
-    }
-    let row = weights.least_into_of(case, links, s, row, ranks, below)?;
-    Some(is_some(row.sum))
-}
-
 /// Whether the only row of a state, which leads to that state alone, leads below, if that is quickly told.
 #[inline(always)]
 fn single_leads(case: &Case, s: u32, target: u32, ranks: &[u32], below: u32) -> Option<bool>
@@ -183,87 +66,6 @@ fn single_leads(case: &Case, s: u32, target: u32, ranks: &[u32], below: u32) -> 
         return Some(true);
     }
     None
-}
-
-/// Whether the only row of a state leads below, if that is quickly told.
-#[inline(always)]
-fn only_leads(
-    case: &Case,
-    links: &Links,
-    weights: &PairTable,
-    s: u32,
-    ranks: &[u32],
-    below: u32,
-) -> Option<bool>
-    ghost spans: { Spans }
-    requires links { AreLinks case.now.model links.now }
-    requires table { IsTable case.now links.now spans weights.now }
-    requires state { s < length case.now.model.states }
-    requires ranks { length ranks.now ≡ length case.now.model.states }
-    ensures only { IsSome result → length (choices case.now.model s) ≡ 1 }
-    ensures leads { IfSome result (λ yes. IsTrue yes ↔ LeadsBelow case.now spans (mark ranks.now) below s 0) }
-{
-    match links.only_row(s) {
-        OnlyRow::Single(target) => single_leads(case, s, target, ranks, below),
-        OnlyRow::Pair(row) => pair_leads(case, links, weights, s, row, ranks, below),
-        OnlyRow::Other => None,
-    }
-}
-
-/// The least allowed choice of the state that leads below, one after the other.
-#[inline(never)]
-pub(crate) fn leading_of_choices(
-    case: &Case,
-    links: &Links,
-    weights: &PairTable,
-    allowed: &[u32],
-    s: u32,
-    ranks: &[u32],
-    below: u32,
-) -> Option<u32>
-    ghost spans: { Spans }
-    requires rows { CanRank case.now links.now spans weights.now allowed.now }
-    requires state { s < length case.now.model.states }
-    requires ranks { length ranks.now ≡ length case.now.model.states }
-    ensures some { IfSome result (IsLeastLeading case.now spans allowed.now (mark ranks.now) below s) }
-    ensures none { IsNone result → HasNoLeading case.now spans allowed.now (mark ranks.now) below s }
-{
-    for a in 0..choice_count(case, links, s) {
-        if is_leading(case, links, weights, allowed, s, a, ranks, below) {
-            return Some(a);
-        }
-    }
-    None
-}
-
-/// The least allowed choice of the state that leads below.
-#[inline(always)]
-fn leading_choice(
-    case: &Case,
-    links: &Links,
-    weights: &PairTable,
-    allowed: &[u32],
-    s: u32,
-    ranks: &[u32],
-    below: u32,
-) -> Option<u32>
-    ghost spans: { Spans }
-    requires rows { CanRank case.now links.now spans weights.now allowed.now }
-    requires state { s < length case.now.model.states }
-    requires ranks { length ranks.now ≡ length case.now.model.states }
-    ensures some { IfSome result (IsLeastLeading case.now spans allowed.now (mark ranks.now) below s) }
-    ensures none { IsNone result → HasNoLeading case.now spans allowed.now (mark ranks.now) below s }
-{
-    if let Some(leads) = only_leads(case, links, weights, s, ranks, below) {
-        if !leads {
-            return None;
-        }
-        if !is_allowed(case, links, allowed, s, 0) {
-            return None;
-        }
-        return Some(0);
-    }
-    leading_of_choices(case, links, weights, allowed, s, ranks, below)
 }
 
 /// Gives a state without rank the rank, and puts it at the end of the queue.
@@ -283,93 +85,6 @@ fn add(ranks: &mut [u32], queue: &mut [u32], s: u32, rank: u32, found: usize) ->
     ranks[s as usize] = rank;
     queue[found] = s;
     found + 1
-}
-
-/// Gives a state the rank after `rank` if it has none and a choice that leads below that.
-#[inline(always)]
-fn try_state(
-    case: &Case,
-    links: &Links,
-    weights: &PairTable,
-    allowed: &[u32],
-    s: u32,
-    rank: u32,
-    found: usize,
-    ranks: &mut [u32],
-    queue: &mut [u32],
-) -> usize
-    ghost start: { StageData }
-    requires rows { CanRank case.now links.now start.spans weights.now allowed.now }
-    requires state { s < length case.now.model.states }
-    requires gathering { IsGathering case.now allowed.now start rank found ranks.old queue.old }
-    ensures gathering { IsGathering case.now allowed.now start rank result ranks.new queue.new }
-    ensures kept { AreKept ranks.old ranks.new }
-    ensures looked { IsLooked case.now allowed.now start rank ranks.new s }
-{
-    if mark_of(ranks, s as usize) != NONE {
-        return found;
-    }
-    match leading_choice(case, links, weights, allowed, s, ranks, rank + 1) {
-        Some(_) => add(ranks, queue, s, rank + 1, found),
-        None => found,
-    }
-}
-
-/// Tries the states before `t`.
-fn try_before(
-    case: &Case,
-    links: &Links,
-    weights: &PairTable,
-    allowed: &[u32],
-    t: u32,
-    rank: u32,
-    found: usize,
-    ranks: &mut [u32],
-    queue: &mut [u32],
-) -> usize
-    ghost start: { StageData }
-    requires rows { CanRank case.now links.now start.spans weights.now allowed.now }
-    requires state { t < length case.now.model.states }
-    requires gathering { IsGathering case.now allowed.now start rank found ranks.old queue.old }
-    ensures gathering { IsGathering case.now allowed.now start rank result ranks.new queue.new }
-    ensures kept { AreKept ranks.old ranks.new }
-    ensures looked { All (IsLooked case.now allowed.now start rank ranks.new) (states_before links.now t) }
-{
-    let mut found = found;
-    for s in links.before(t) {
-        found = try_state(case, links, weights, allowed, *s, rank, found, ranks, queue);
-    }
-    found
-}
-
-/// Gives the rank after `rank` to each state that gets it, and puts these behind the queue's part from
-/// `from` to `to`, which holds the states of that rank.
-#[inline(never)]
-fn add_stage(
-    case: &Case,
-    links: &Links,
-    weights: &PairTable,
-    allowed: &[u32],
-    rank: u32,
-    from: usize,
-    to: usize,
-    ranks: &mut [u32],
-    queue: &mut [u32],
-) -> usize
-    ghost start: { StageData }
-    requires rows { CanRank case.now links.now start.spans weights.now allowed.now }
-    requires start { (start.ranks ≡ ranks.old) × ((start.queue ≡ queue.old) × (start.to ≡ to)) }
-    requires complete { IsComplete case.now start.spans allowed.now start.ranks start.queue rank from start.to }
-    requires some { from < to }
-    ensures complete { IsComplete case.now start.spans allowed.now ranks.new queue.new (suc rank) to result }
-{
-    let _ = case.w();
-    let mut found = to;
-    for i in from..to {
-        let t = mark_of(queue, i);
-        found = try_before(case, links, weights, allowed, t, rank, found, ranks, queue);
-    }
-    found
 }
 
 /// Takes all ranks away.
@@ -409,127 +124,334 @@ fn start(case: &Case, ranks: &mut [u32], queue: &mut [u32]) -> usize
     found
 }
 
-/// The least allowed choice of a state that leads below, where there is one. The last choice isn't looked
-/// at: where no other does, it does.
-#[inline(always)]
-fn known_choice(
-    case: &Case,
-    links: &Links,
-    weights: &PairTable,
-    allowed: &[u32],
-    s: u32,
-    ranks: &[u32],
-    below: u32,
-) -> u32
-    ghost spans: { Spans }
-    requires rows { CanRank case.now links.now spans weights.now allowed.now }
-    requires state { s < length case.now.model.states }
-    requires ranks { length ranks.now ≡ length case.now.model.states }
-    requires some { HasLeading case.now spans allowed.now (mark ranks.now) below s }
-    ensures { IsLeastLeading case.now spans allowed.now (mark ranks.now) below s result }
-{
-    let last = choice_count(case, links, s) - 1;
-    for choice in 0..last {
-        if is_leading(case, links, weights, allowed, s, choice, ranks, below) {
-            return choice;
+impl Rows<'_> {
+    /// Whether all targets of the state's choice have a rank less than `below`, so that nothing need be weighed.
+    #[inline(always)]
+    pub(crate) fn leads_only_below(&self, s: u32, a: u32, ranks: &[u32], below: u32) -> bool
+        requires links { AreLinks self.now.case.now.model self.now.links.now }
+        requires row { HasChoice self.now.case.now.model s a }
+        requires ranks { length ranks.now ≡ length self.now.case.now.model.states }
+        ensures { IsTrue result → All (λ t. mark ranks.now t < below) (targets_of (row_at self.now.case.now.model s a)) }
+    {
+        let _ = self.case.w();
+        let place = self.links.place(s, a);
+        are_below(self.links.targets(place), ranks, below)
+    }
+
+    /// Whether at each of its corners the state's choice has positive weight into states whose rank is less
+    /// than `below`.
+    #[inline(always)]
+    fn leads_below(&self, s: u32, a: u32, ranks: &[u32], below: u32) -> bool
+        ghost spans: { Spans }
+        requires links { AreLinks self.now.case.now.model self.now.links.now }
+        requires table { IsTable self.now.case.now self.now.links.now spans self.now.weights.now }
+        requires row { HasChoice self.now.case.now.model s a }
+        requires ranks { length ranks.now ≡ length self.now.case.now.model.states }
+        ensures { IsTrue result ↔ LeadsBelow self.now.case.now spans (mark ranks.now) below s a }
+    {
+        rows_at_corners();
+        let _ = self.case.w();
+        if self.leads_only_below(s, a, ranks, below) {
+            return true;
+        }
+        is_positive(
+            least_into(
+                self.case,
+                self.links,
+                self.weights.weights(),
+                s,
+                a,
+                ranks,
+                below,
+            )
+            .sum,
+        )
+    }
+
+    /// How many choices a state has, by the links, whose lists lie closer together than the model's.
+    #[inline(always)]
+    pub(crate) fn choice_count(&self, s: u32) -> u32
+        requires links { AreLinks self.now.case.now.model self.now.links.now }
+        requires state { s < length self.now.case.now.model.states }
+        ensures { result ≡ length (choices self.now.case.now.model s) }
+    {
+        self.links.choices(s)
+    }
+
+    /// Whether the only row of a state, which has two entries, leads below, if that is quickly told.
+    #[inline(always)]
+    pub(crate) fn pair_leads(&self, s: u32, row: PairRow, ranks: &[u32], below: u32) -> Option<bool>
+        ghost spans: { Spans }
+        requires links { AreLinks self.now.case.now.model self.now.links.now }
+        requires table { IsTable self.now.case.now self.now.links.now spans self.now.weights.now }
+        requires state { s < length self.now.case.now.model.states }
+        requires row { IsPairRow self.now.case.now.model self.now.links.now s row }
+        requires ranks { length ranks.now ≡ length self.now.case.now.model.states }
+        ensures { IfSome result (λ yes. IsTrue yes ↔ LeadsBelow self.now.case.now spans (mark ranks.now) below s 0) }
+    {
+        rows_at_corners();
+        let _ = self.case.w();
+        if are_both_below(row, ranks, below) {
+            return Some(true);
+        }
+        let row = self
+            .weights
+            .least_into_of(self.case, self.links, s, row, ranks, below)?;
+        Some(is_some(row.sum))
+    }
+
+    /// Whether the only row of a state leads below, if that is quickly told.
+    #[inline(always)]
+    fn only_leads(&self, s: u32, ranks: &[u32], below: u32) -> Option<bool>
+        ghost spans: { Spans }
+        requires links { AreLinks self.now.case.now.model self.now.links.now }
+        requires table { IsTable self.now.case.now self.now.links.now spans self.now.weights.now }
+        requires state { s < length self.now.case.now.model.states }
+        requires ranks { length ranks.now ≡ length self.now.case.now.model.states }
+        ensures only { IsSome result → length (choices self.now.case.now.model s) ≡ 1 }
+        ensures leads { IfSome result (λ yes. IsTrue yes ↔ LeadsBelow self.now.case.now spans (mark ranks.now) below s 0) }
+    {
+        match self.links.only_row(s) {
+            OnlyRow::Single(target) => single_leads(self.case, s, target, ranks, below),
+            OnlyRow::Pair(row) => self.pair_leads(s, row, ranks, below),
+            OnlyRow::Other => None,
         }
     }
-    last
 }
 
-/// The pick of a state: the least allowed choice that leads below its rank. None where it has no rank,
-/// or is a goal state.
-#[inline(always)]
-fn pick_of(
-    case: &Case,
-    links: &Links,
-    weights: &PairTable,
-    allowed: &[u32],
-    s: u32,
-    ranks: &[u32],
-) -> u32
-    ghost spans: { Spans }
-    requires rows { CanRank case.now links.now spans weights.now allowed.now }
-    requires state { s < length case.now.model.states }
-    requires ranks { length ranks.now ≡ length case.now.model.states }
-    requires reached { IsReached case.now spans allowed.now ranks.now s }
-    ensures picked { IsPickOf case.now spans allowed.now ranks.now s result }
-{
-    let rank = mark_of(ranks, s as usize);
-    if case.model().is_goal(s) || rank == NONE {
-        return NONE;
+impl Choices<'_, '_> {
+    /// Whether the state's choice is allowed.
+    #[inline(always)]
+    pub(crate) fn is_allowed(&self, s: u32, a: u32) -> bool
+        requires links { AreLinks self.now.rows.case.now.model self.now.rows.links.now }
+        requires rows { length self.now.allowed.now ≡ row_count self.now.rows.case.now.model }
+        requires row { HasChoice self.now.rows.case.now.model s a }
+        ensures { IsTrue result ↔ Pass (allows self.now.rows.case.now.model self.now.allowed.now) s a }
+    {
+        self.allowed[self.rows.links.row_place(s, a)] != 0
     }
-    known_choice(case, links, weights, allowed, s, ranks, rank)
-}
 
-/// Writes the picks of all states.
-#[inline(never)]
-fn pick_all(
-    case: &Case,
-    links: &Links,
-    weights: &PairTable,
-    allowed: &[u32],
-    ranks: &[u32],
-    picks: &mut [u32],
-)
-    ghost spans: { Spans }
-    requires rows { CanRank case.now links.now spans weights.now allowed.now }
-    requires sizes { (length ranks.now ≡ length case.now.model.states) × (length picks.old ≡ length case.now.model.states) }
-    requires reached { (s : ℕ) → IsReached case.now spans allowed.now ranks.now s }
-    ensures { (s : ℕ) → s < length case.now.model.states → IsPickOf case.now spans allowed.now ranks.now s (mark picks.new s) }
-{
-    for s in 0..case.model().states() {
-        picks[s as usize] = pick_of(case, links, weights, allowed, s, ranks);
+    /// Whether the state's choice is allowed and leads below.
+    #[inline(always)]
+    fn is_leading(&self, s: u32, a: u32, ranks: &[u32], below: u32) -> bool
+        ghost spans: { Spans }
+        requires rows { CanRankBy self.now spans }
+        requires row { HasChoice self.now.rows.case.now.model s a }
+        requires ranks { length ranks.now ≡ length self.now.rows.case.now.model.states }
+        ensures { IsTrue result ↔ IsLeading self.now.rows.case.now spans self.now.allowed.now (mark ranks.now) below s a }
+    {
+        self.is_allowed(s, a) && self.rows.leads_below(s, a, ranks, below)
     }
-}
 
-/// Gives each state its rank, stage by stage, with a queue in `queue`.
-#[inline(never)]
-fn rank_by_stages(
-    case: &Case,
-    links: &Links,
-    weights: &PairTable,
-    allowed: &[u32],
-    ranks: &mut [u32],
-    queue: &mut [u32],
-)
-    ghost spans: { Spans }
-    requires rows { CanRank case.now links.now spans weights.now allowed.now }
-    requires sizes { (length ranks.old ≡ length case.now.model.states) × (length queue.old ≡ length case.now.model.states) }
-    ensures { AreRanks case.now spans allowed.now ranks.new }
-{
-    rows_at_corners();
-    let _ = case.w();
-    let mut from = 0;
-    let mut to = start(case, ranks, queue);
-    let mut rank = 0;
-    while from < to {
-        let end = add_stage(case, links, weights, allowed, rank, from, to, ranks, queue);
-        from = to;
-        to = end;
-        rank += 1;
+    /// The least allowed choice of the state that leads below, one after the other.
+    #[inline(never)]
+    pub(crate) fn leading_of_choices(&self, s: u32, ranks: &[u32], below: u32) -> Option<u32>
+        ghost spans: { Spans }
+        requires rows { CanRankBy self.now spans }
+        requires state { s < length self.now.rows.case.now.model.states }
+        requires ranks { length ranks.now ≡ length self.now.rows.case.now.model.states }
+        ensures some { IfSome result (IsLeastLeading self.now.rows.case.now spans self.now.allowed.now (mark ranks.now) below s) }
+        ensures none { IsNone result → HasNoLeading self.now.rows.case.now spans self.now.allowed.now (mark ranks.now) below s }
+    {
+        for a in 0..self.rows.choice_count(s) {
+            if self.is_leading(s, a, ranks, below) {
+                return Some(a);
+            }
+        }
+        None
     }
-}
 
-/// Gives each state its rank: in one pass where the links' order allows that, and else by stages, with a
-/// queue in `queue`.
-fn rank_all(
-    case: &Case,
-    links: &Links,
-    weights: &PairTable,
-    allowed: &[u32],
-    ranks: &mut [u32],
-    queue: &mut [u32],
-)
-    ghost spans: { Spans }
-    requires rows { CanRank case.now links.now spans weights.now allowed.now }
-    requires sizes { (length ranks.old ≡ length case.now.model.states) × (length queue.old ≡ length case.now.model.states) }
-    ensures { AreRanks case.now spans allowed.now ranks.new }
-{
-    if rank_in_order(case, links, weights, allowed, ranks) {
-        return;
+    /// The least allowed choice of the state that leads below.
+    #[inline(always)]
+    fn leading_choice(&self, s: u32, ranks: &[u32], below: u32) -> Option<u32>
+        ghost spans: { Spans }
+        requires rows { CanRankBy self.now spans }
+        requires state { s < length self.now.rows.case.now.model.states }
+        requires ranks { length ranks.now ≡ length self.now.rows.case.now.model.states }
+        ensures some { IfSome result (IsLeastLeading self.now.rows.case.now spans self.now.allowed.now (mark ranks.now) below s) }
+        ensures none { IsNone result → HasNoLeading self.now.rows.case.now spans self.now.allowed.now (mark ranks.now) below s }
+    {
+        if let Some(leads) = self.rows.only_leads(s, ranks, below) {
+            if !leads {
+                return None;
+            }
+            if !self.is_allowed(s, 0) {
+                return None;
+            }
+            return Some(0);
+        }
+        self.leading_of_choices(s, ranks, below)
     }
-    rank_by_stages(case, links, weights, allowed, ranks, queue);
+
+    /// Gives a state the rank after `rank` if it has none and a choice that leads below that.
+    #[inline(always)]
+    fn try_state(
+        &self,
+        s: u32,
+        rank: u32,
+        found: usize,
+        ranks: &mut [u32],
+        queue: &mut [u32],
+    ) -> usize
+        ghost start: { StageData }
+        requires rows { CanRankBy self.now start.spans }
+        requires state { s < length self.now.rows.case.now.model.states }
+        requires gathering { IsGathering self.now.rows.case.now self.now.allowed.now start rank found ranks.old queue.old }
+        ensures gathering { IsGathering self.now.rows.case.now self.now.allowed.now start rank result ranks.new queue.new }
+        ensures kept { AreKept ranks.old ranks.new }
+        ensures looked { IsLooked self.now.rows.case.now self.now.allowed.now start rank ranks.new s }
+    {
+        if mark_of(ranks, s as usize) != NONE {
+            return found;
+        }
+        match self.leading_choice(s, ranks, rank + 1) {
+            Some(_) => add(ranks, queue, s, rank + 1, found),
+            None => found,
+        }
+    }
+
+    /// Tries the states before `t`.
+    fn try_before(
+        &self,
+        t: u32,
+        rank: u32,
+        found: usize,
+        ranks: &mut [u32],
+        queue: &mut [u32],
+    ) -> usize
+        ghost start: { StageData }
+        requires rows { CanRankBy self.now start.spans }
+        requires state { t < length self.now.rows.case.now.model.states }
+        requires gathering { IsGathering self.now.rows.case.now self.now.allowed.now start rank found ranks.old queue.old }
+        ensures gathering { IsGathering self.now.rows.case.now self.now.allowed.now start rank result ranks.new queue.new }
+        ensures kept { AreKept ranks.old ranks.new }
+        ensures looked { All (IsLooked self.now.rows.case.now self.now.allowed.now start rank ranks.new)
+            (states_before self.now.rows.links.now t) }
+    {
+        let mut found = found;
+        for s in self.rows.links.before(t) {
+            found = self.try_state(*s, rank, found, ranks, queue);
+        }
+        found
+    }
+
+    /// Gives the rank after `rank` to each state that gets it, and puts these behind the queue's part from
+    /// `from` to `to`, which holds the states of that rank.
+    #[inline(never)]
+    fn add_stage(
+        &self,
+        rank: u32,
+        from: usize,
+        to: usize,
+        ranks: &mut [u32],
+        queue: &mut [u32],
+    ) -> usize
+        ghost start: { StageData }
+        requires rows { CanRankBy self.now start.spans }
+        requires start { (start.ranks ≡ ranks.old) × ((start.queue ≡ queue.old) × (start.to ≡ to)) }
+        requires complete { IsComplete self.now.rows.case.now start.spans self.now.allowed.now start.ranks start.queue rank from start.to }
+        requires some { from < to }
+        ensures complete { IsComplete self.now.rows.case.now start.spans self.now.allowed.now ranks.new queue.new (suc rank) to result }
+    {
+        let _ = self.rows.case.w();
+        let mut found = to;
+        for i in from..to {
+            let t = mark_of(queue, i);
+            found = self.try_before(t, rank, found, ranks, queue);
+        }
+        found
+    }
+
+    /// The least allowed choice of a state that leads below, where there is one. The last choice isn't looked
+    /// at: where no other does, it does.
+    #[inline(always)]
+    fn known_choice(&self, s: u32, ranks: &[u32], below: u32) -> u32
+        ghost spans: { Spans }
+        requires rows { CanRankBy self.now spans }
+        requires state { s < length self.now.rows.case.now.model.states }
+        requires ranks { length ranks.now ≡ length self.now.rows.case.now.model.states }
+        requires some { HasLeading self.now.rows.case.now spans self.now.allowed.now (mark ranks.now) below s }
+        ensures { IsLeastLeading self.now.rows.case.now spans self.now.allowed.now (mark ranks.now) below s result }
+    {
+        let last = self.rows.choice_count(s) - 1;
+        for choice in 0..last {
+            if self.is_leading(s, choice, ranks, below) {
+                return choice;
+            }
+        }
+        last
+    }
+
+    /// The pick of a state: the least allowed choice that leads below its rank. None where it has no rank,
+    /// or is a goal state.
+    #[inline(always)]
+    fn pick_of(&self, s: u32, ranks: &[u32]) -> u32
+        ghost spans: { Spans }
+        requires rows { CanRankBy self.now spans }
+        requires state { s < length self.now.rows.case.now.model.states }
+        requires ranks { length ranks.now ≡ length self.now.rows.case.now.model.states }
+        requires reached { IsReached self.now.rows.case.now spans self.now.allowed.now ranks.now s }
+        ensures picked { IsPickOf self.now.rows.case.now spans self.now.allowed.now ranks.now s result }
+    {
+        let rank = mark_of(ranks, s as usize);
+        if self.rows.case.model().is_goal(s) || rank == NONE {
+            return NONE;
+        }
+        self.known_choice(s, ranks, rank)
+    }
+
+    /// Writes the picks of all states.
+    #[inline(never)]
+    fn pick_all(&self, ranks: &[u32], picks: &mut [u32])
+        ghost spans: { Spans }
+        requires rows { CanRankBy self.now spans }
+        requires sizes { (length ranks.now ≡ length self.now.rows.case.now.model.states)
+            × (length picks.old ≡ length self.now.rows.case.now.model.states) }
+        requires reached { (s : ℕ) → IsReached self.now.rows.case.now spans self.now.allowed.now ranks.now s }
+        ensures { (s : ℕ) → s < length self.now.rows.case.now.model.states
+            → IsPickOf self.now.rows.case.now spans self.now.allowed.now ranks.now s (mark picks.new s) }
+    {
+        for s in 0..self.rows.case.model().states() {
+            picks[s as usize] = self.pick_of(s, ranks);
+        }
+    }
+
+    /// Gives each state its rank, stage by stage, with a queue in `queue`.
+    #[inline(never)]
+    fn rank_by_stages(&self, ranks: &mut [u32], queue: &mut [u32])
+        ghost spans: { Spans }
+        requires rows { CanRankBy self.now spans }
+        requires sizes { (length ranks.old ≡ length self.now.rows.case.now.model.states)
+            × (length queue.old ≡ length self.now.rows.case.now.model.states) }
+        ensures { AreRanks self.now.rows.case.now spans self.now.allowed.now ranks.new }
+    {
+        rows_at_corners();
+        let _ = self.rows.case.w();
+        let mut from = 0;
+        let mut to = start(self.rows.case, ranks, queue);
+        let mut rank = 0;
+        while from < to {
+            let end = self.add_stage(rank, from, to, ranks, queue);
+            from = to;
+            to = end;
+            rank += 1;
+        }
+    }
+
+    /// Gives each state its rank: in one pass where the links' order allows that, and else by stages, with a
+    /// queue in `queue`.
+    fn rank_all(&self, ranks: &mut [u32], queue: &mut [u32])
+        ghost spans: { Spans }
+        requires rows { CanRankBy self.now spans }
+        requires sizes { (length ranks.old ≡ length self.now.rows.case.now.model.states)
+            × (length queue.old ≡ length self.now.rows.case.now.model.states) }
+        ensures { AreRanks self.now.rows.case.now spans self.now.allowed.now ranks.new }
+    {
+        if self.rank_in_order(ranks) {
+            return;
+        }
+        self.rank_by_stages(ranks, queue);
+    }
 }
 
 /// Leaves in `ranks` and `picks` the ranks and picks by stages. Rank 0 have the goal states. A state has
@@ -558,7 +480,15 @@ pub fn attract(
     ensures others { OthersHaveNoPick case.now picks.new ranks.new }
 {
     let _ = case.w();
-    let weights = &PairTable::of(case, links, weights);
-    rank_all(case, links, weights, allowed, ranks, picks);
-    pick_all(case, links, weights, allowed, ranks, picks);
+    let pairs = PairTable::of(case, links, weights);
+    let choices = Choices {
+        rows: Rows {
+            case: &*case,
+            links: &*links,
+            weights: &pairs,
+        },
+        allowed,
+    };
+    choices.rank_all(ranks, picks);
+    choices.pick_all(ranks, picks);
 }

@@ -10,7 +10,8 @@ ghost use Rattle.corner_lift.specs.Table.{IsTable};
 ghost use Rattle.robust_rank.specs.Rate.{ArePicks, IsRowRate, IsStateRate, IsFirstFrom, IsLeastRate};
 
 use crate::marks::{NONE, mark_of};
-use crate::ranking::{are_both_below, leads_only_below};
+use crate::ranking::are_both_below;
+use crate::rows::Rows;
 use corner_lift::{Case, PairTable, Weighed, is_enough, least_into, rows_at_corners};
 use lift_model::{Links, OnlyRow, PairRow};
 
@@ -61,69 +62,6 @@ fn short_doublings(weight: i64, whole: i64, first: u32) -> u32
     doublings(i128::from(weight), i128::from(whole), first)
 }
 
-/// The least rate of the state's choice, but at least `first`.
-#[inline(never)]
-fn rate_of_row(
-    case: &Case,
-    links: &Links,
-    weights: &PairTable,
-    ranks: &[u32],
-    s: u32,
-    a: u32,
-    first: u32,
-) -> u32
-    ghost spans: { Spans }
-    requires links { AreLinks case.now.model links.now }
-    requires table { IsTable case.now links.now spans weights.now }
-    requires row { HasChoice case.now.model s a }
-    requires ranks { length ranks.now ≡ length case.now.model.states }
-    requires leads { LeadsBelow case.now spans (mark ranks.now) (mark ranks.now s) s a }
-    requires first { first ≤ most_rate }
-    ensures least { IsFirstFrom (IsRowRate case.now spans ranks.now s a) first result }
-    ensures most { result ≤ most_rate }
-{
-    rows_at_corners();
-    let _ = case.w();
-    let rank = mark_of(ranks, s as usize);
-    if leads_only_below(case, links, s, a, ranks, rank) {
-        return first;
-    }
-    let Weighed { sum, whole } = least_into(case, links, weights.weights(), s, a, ranks, rank);
-    doublings(sum, whole, first)
-}
-
-/// The least rate of the only row of a state, which has two entries, if that is quickly told, but at least `first`.
-#[inline(always)]
-fn rate_of_pair(
-    case: &Case,
-    links: &Links,
-    weights: &PairTable,
-    ranks: &[u32],
-    s: u32,
-    row: PairRow,
-    first: u32,
-) -> Option<u32>
-    ghost spans: { Spans }
-    requires links { AreLinks case.now.model links.now }
-    requires table { IsTable case.now links.now spans weights.now }
-    requires state { s < length case.now.model.states }
-    requires row { IsPairRow case.now.model links.now s row }
-    requires ranks { length ranks.now ≡ length case.now.model.states }
-    requires leads { LeadsBelow case.now spans (mark ranks.now) (mark ranks.now s) s 0 }
-    requires first { first ≤ most_rate }
-    ensures least { IfSome result (IsFirstFrom (IsRowRate case.now spans ranks.now s 0) first) }
-    ensures most { IfSome result (λ rate. rate ≤ most_rate) }
-{
-    rows_at_corners();
-    let _ = case.w();
-    let rank = mark_of(ranks, s as usize);
-    if are_both_below(row, ranks, rank) {
-        return Some(first);
-    }
-    let row = weights.least_into_of(case, links, s, row, ranks, rank)?;
-    Some(short_doublings(row.sum, row.whole, first))
-}
-
 /// The least rate of the only row of a state, which leads to that state alone, but at least `first`.
 #[inline(always)]
 fn rate_of_single(case: &Case, ranks: &[u32], s: u32, target: u32, first: u32) -> u32
@@ -142,61 +80,99 @@ fn rate_of_single(case: &Case, ranks: &[u32], s: u32, target: u32, first: u32) -
     first
 }
 
-/// The least rate of the only row of a state, if that is quickly told, but at least `first`.
-#[inline(always)]
-fn rate_of_only(
-    case: &Case,
-    links: &Links,
-    weights: &PairTable,
-    ranks: &[u32],
-    s: u32,
-    first: u32,
-) -> Option<u32>
-    ghost spans: { Spans }
-    requires links { AreLinks case.now.model links.now }
-    requires table { IsTable case.now links.now spans weights.now }
-    requires state { s < length case.now.model.states }
-    requires ranks { length ranks.now ≡ length case.now.model.states }
-    requires leads { length (choices case.now.model s) ≡ 1 → LeadsBelow case.now spans (mark ranks.now) (mark ranks.now s) s 0 }
-    requires first { first ≤ most_rate }
-    ensures only { IsSome result → length (choices case.now.model s) ≡ 1 }
-    ensures least { IfSome result (IsFirstFrom (IsRowRate case.now spans ranks.now s 0) first) }
-    ensures most { IfSome result (λ rate. rate ≤ most_rate) }
-{
-    match links.only_row(s) {
-        OnlyRow::Single(target) => Some(rate_of_single(case, ranks, s, target, first)),
-        OnlyRow::Pair(row) => rate_of_pair(case, links, weights, ranks, s, row, first),
-        OnlyRow::Other => None,
+impl Rows<'_> {
+    /// The least rate of the state's choice, but at least `first`.
+    #[inline(never)]
+    fn rate_of_row(&self, ranks: &[u32], s: u32, a: u32, first: u32) -> u32
+        ghost spans: { Spans }
+        requires links { AreLinks self.now.case.now.model self.now.links.now }
+        requires table { IsTable self.now.case.now self.now.links.now spans self.now.weights.now }
+        requires row { HasChoice self.now.case.now.model s a }
+        requires ranks { length ranks.now ≡ length self.now.case.now.model.states }
+        requires leads { LeadsBelow self.now.case.now spans (mark ranks.now) (mark ranks.now s) s a }
+        requires first { first ≤ most_rate }
+        ensures least { IsFirstFrom (IsRowRate self.now.case.now spans ranks.now s a) first result }
+        ensures most { result ≤ most_rate }
+    {
+        rows_at_corners();
+        let _ = self.case.w();
+        let rank = mark_of(ranks, s as usize);
+        if self.leads_only_below(s, a, ranks, rank) {
+            return first;
+        }
+        let weights = self.weights.weights();
+        let Weighed { sum, whole } = least_into(self.case, self.links, weights, s, a, ranks, rank);
+        doublings(sum, whole, first)
     }
-}
 
-/// The least rate of the state's pick, but at least `first`, which it is where the state has no pick.
-#[inline(always)]
-fn rate_of_state(
-    case: &Case,
-    links: &Links,
-    weights: &PairTable,
-    ranks: &[u32],
-    picks: &[u32],
-    s: u32,
-    first: u32,
-) -> u32
-    ghost spans: { Spans }
-    requires links { AreLinks case.now.model links.now }
-    requires table { IsTable case.now links.now spans weights.now }
-    requires picks { ArePicks case.now spans ranks.now picks.now }
-    requires state { s < length case.now.model.states }
-    requires first { first ≤ most_rate }
-    ensures least { IsFirstFrom (IsStateRate case.now spans ranks.now picks.now s) first result }
-    ensures most { result ≤ most_rate }
-{
-    let pick = mark_of(picks, s as usize);
-    if pick == NONE {
-        return first;
+    /// The least rate of the only row of a state, which has two entries, if that is quickly told, but at least `first`.
+    #[inline(always)]
+    fn rate_of_pair(&self, ranks: &[u32], s: u32, row: PairRow, first: u32) -> Option<u32>
+        ghost spans: { Spans }
+        requires links { AreLinks self.now.case.now.model self.now.links.now }
+        requires table { IsTable self.now.case.now self.now.links.now spans self.now.weights.now }
+        requires state { s < length self.now.case.now.model.states }
+        requires row { IsPairRow self.now.case.now.model self.now.links.now s row }
+        requires ranks { length ranks.now ≡ length self.now.case.now.model.states }
+        requires leads { LeadsBelow self.now.case.now spans (mark ranks.now) (mark ranks.now s) s 0 }
+        requires first { first ≤ most_rate }
+        ensures least { IfSome result (IsFirstFrom (IsRowRate self.now.case.now spans ranks.now s 0) first) }
+        ensures most { IfSome result (λ rate. rate ≤ most_rate) }
+    {
+        rows_at_corners();
+        let _ = self.case.w();
+        let rank = mark_of(ranks, s as usize);
+        if are_both_below(row, ranks, rank) {
+            return Some(first);
+        }
+        let row = self
+            .weights
+            .least_into_of(self.case, self.links, s, row, ranks, rank)?;
+        Some(short_doublings(row.sum, row.whole, first))
     }
-    match rate_of_only(case, links, weights, ranks, s, first) {
-        Some(rate) => rate,
-        None => rate_of_row(case, links, weights, ranks, s, pick, first),
+
+    /// The least rate of the only row of a state, if that is quickly told, but at least `first`.
+    #[inline(always)]
+    fn rate_of_only(&self, ranks: &[u32], s: u32, first: u32) -> Option<u32>
+        ghost spans: { Spans }
+        requires links { AreLinks self.now.case.now.model self.now.links.now }
+        requires table { IsTable self.now.case.now self.now.links.now spans self.now.weights.now }
+        requires state { s < length self.now.case.now.model.states }
+        requires ranks { length ranks.now ≡ length self.now.case.now.model.states }
+        requires leads { length (choices self.now.case.now.model s) ≡ 1
+            → LeadsBelow self.now.case.now spans (mark ranks.now) (mark ranks.now s) s 0 }
+        requires first { first ≤ most_rate }
+        ensures only { IsSome result → length (choices self.now.case.now.model s) ≡ 1 }
+        ensures least { IfSome result (IsFirstFrom (IsRowRate self.now.case.now spans ranks.now s 0) first) }
+        ensures most { IfSome result (λ rate. rate ≤ most_rate) }
+    {
+        match self.links.only_row(s) {
+            OnlyRow::Single(target) => Some(rate_of_single(self.case, ranks, s, target, first)),
+            OnlyRow::Pair(row) => self.rate_of_pair(ranks, s, row, first),
+            OnlyRow::Other => None,
+        }
+    }
+
+    /// The least rate of the state's pick, but at least `first`, which it is where the state has no pick.
+    #[inline(always)]
+    fn rate_of_state(&self, ranks: &[u32], picks: &[u32], s: u32, first: u32) -> u32
+        ghost spans: { Spans }
+        requires links { AreLinks self.now.case.now.model self.now.links.now }
+        requires table { IsTable self.now.case.now self.now.links.now spans self.now.weights.now }
+        requires picks { ArePicks self.now.case.now spans ranks.now picks.now }
+        requires state { s < length self.now.case.now.model.states }
+        requires first { first ≤ most_rate }
+        ensures least { IsFirstFrom (IsStateRate self.now.case.now spans ranks.now picks.now s) first result }
+        ensures most { result ≤ most_rate }
+    {
+        let pick = mark_of(picks, s as usize);
+        if pick == NONE {
+            return first;
+        }
+        match self.rate_of_only(ranks, s, first) {
+            Some(rate) => rate,
+            None => self.rate_of_row(ranks, s, pick, first),
+        }
     }
 }
 
@@ -215,10 +191,15 @@ pub fn rate(case: &Case, links: &Links, weights: &[i128], ranks: &[u32], picks: 
     ensures most { result ≤ most_rate }
 {
     let _ = case.w();
-    let weights = &PairTable::of(case, links, weights);
+    let pairs = PairTable::of(case, links, weights);
+    let rows = Rows {
+        case: &*case,
+        links: &*links,
+        weights: &pairs,
+    };
     let mut e = 0;
     for s in 0..case.model().states() {
-        e = rate_of_state(case, links, weights, ranks, picks, s, e);
+        e = rows.rate_of_state(ranks, picks, s, e);
     }
     e
 }

@@ -9,19 +9,19 @@ use Rattle.cert_text.specs.Nodes.{split, accept, reject, node_at}
 use Rattle.cert_check.specs.Answer.{Came, TreeEnds, behind}
 use Rattle.cert_check.specs.Shown.{IsIn, IsPlaced, Says, came_of}
 use Rattle.cert_check.proofs.Forms.{reject_form}
-use Rattle.cert_check.proofs.Steps.{says_as, says_err, later, in_behind, met_same, met_accept, met_reject, came_behind, halves_of, moved, split_then}
+use Rattle.cert_check.proofs.Steps.{says_as, says_err, later, in_behind, met_same, met_accept, met_reject, came_behind, halves_of, moved, split_then, accept_missed}
 use Rattle.cert_check.proofs.nodes.+check_tree.Goals as goal
 
 pub lower_half-requires-clause-halvable : goal.lower_half-requires-clause-halvable
 lower_half-requires-clause-halvable t c =
     let may = c.in_ok-test_split-in-Split.ensures in
-    (halves_of c.rectangles_are_placed.ensures.halves c.args.case.now c.args.levels c.in-Split.axis (spans_of c.args.sides.now) c.w-2.ensures.case c.requires.placed may.0 may.1).0
+    (halves_of c.rectangles_are_placed.ensures.halves c.args.report.now.case.now c.args.levels c.in-Split.axis (spans_of c.args.sides.now) c.w-2.ensures.case c.requires.placed may.0 may.1).0
 
 pub check_tree-requires : goal.check_tree-requires
 check_tree-requires t c =
-    let k = c.args.case.now in
-    let h = c.args.head.now in
-    let text = c.args.text.now in
+    let k = c.args.report.now.case.now in
+    let h = c.args.report.now.head.now in
+    let text = c.args.report.now.text.now in
     let axis = c.in-Split.axis in
     let ss = spans_of c.args.sides.now in
     let may = c.in_ok-test_split-in-Split.ensures in
@@ -38,9 +38,9 @@ check_tree-requires t c =
 
 pub returns-in_err-between-in-Split-clause-end : goal.returns-in_err-between-in-Split-clause-end
 returns-in_err-between-in-Split-clause-end t c =
-    let k = c.args.case.now in
-    let h = c.args.head.now in
-    let text = c.args.text.now in
+    let k = c.args.report.now.case.now in
+    let h = c.args.report.now.head.now in
+    let text = c.args.report.now.text.now in
     let axis = c.in-Split.axis in
     let ss = spans_of c.args.sides.now in
     let may = c.in_ok-test_split-in-Split.ensures in
@@ -58,11 +58,11 @@ returns-in_err-between-in-Split-clause-end t c =
 pub narrow-requires : goal.narrow-requires
 narrow-requires t c =
     let may = c.in_ok-test_split-in-Split.ensures in
-    (halves_of c.rectangles_are_placed.ensures.halves c.args.case.now c.args.levels c.in-Split.axis (spans_of c.args.sides.now) c.w-2.ensures.case c.requires.placed may.0 may.1).0
+    (halves_of c.rectangles_are_placed.ensures.halves c.args.report.now.case.now c.args.levels c.in-Split.axis (spans_of c.args.sides.now) c.w-2.ensures.case c.requires.placed may.0 may.1).0
 
 pub check_tree-requires-in-Split : goal.check_tree-requires-in-Split
 check_tree-requires-in-Split t c =
-    let k = c.args.case.now in
+    let k = c.args.report.now.case.now in
     let axis = c.in-Split.axis in
     let ss = spans_of c.args.sides.now in
     let may = c.in_ok-test_split-in-Split.ensures in
@@ -73,19 +73,19 @@ check_tree-requires-in-Split t c =
 
 pub test_reject-requires-clause-form : goal.test_reject-requires-clause-form
 test_reject-requires-clause-form t c =
-    let h = c.args.head.now in
-    let text = c.args.text.now in
+    let h = c.args.report.now.head.now in
+    let text = c.args.report.now.text.now in
     let place = c.in_ok-node.place in
     let r : RejectData = record { numbers = c.in-Reject.y; picks = c.in-Reject.picks; ranks = c.in-Reject.ranks; e = c.in-Reject.e; k = c.in-Reject.k } in
     let read : node_at h (c.args.came.place.number, drop c.args.came.place.at text) ≡ Ok (reject h.asked.w r, (place.number, drop place.at text)) = rw c.in-Reject.is at c.in_ok-node.ensures.value in
     let told = c.nodes_are_read.ensures.told h (reject h.asked.w r) c.args.came.place.number place.number (drop c.args.came.place.at text) (drop place.at text) c.w.ensures.head read in
-    let form : HasRejectForm c.args.case.now r = subst (λ (a : CaseData). HasRejectForm a r) (sym c.requires.asked) (reject_form h.asked r told.0.1) in
+    let form : HasRejectForm c.args.report.now.case.now r = subst (λ (a : CaseData). HasRejectForm a r) (sym c.requires.asked) (reject_form h.asked r told.0.1) in
     rw (c.as_slice-in-Reject.ensures, c.as_slice-in-Reject-2.ensures, c.as_slice-in-Reject-3.ensures) form
 
 pub returns-in_ok-between-in-Split-clause-end : goal.returns-in_ok-between-in-Split-clause-end
 returns-in_ok-between-in-Split-clause-end t c =
-    let h = c.args.head.now in
-    let text = c.args.text.now in
+    let h = c.args.report.now.head.now in
+    let text = c.args.report.now.text.now in
     let axis = c.in-Split.axis in
     let ss = spans_of c.args.sides.now in
     let may = c.in_ok-test_split-in-Split.ensures in
@@ -105,8 +105,8 @@ returns-in_ok-between-in-Split-clause-end t c =
 pub returns-in_ok-test_accept-in-Accept-clause-came :
     goal.returns-in_ok-test_accept-in-Accept-clause-came
 returns-in_ok-test_accept-in-Accept-clause-came t c =
-    let h = c.args.head.now in
-    let text = c.args.text.now in
+    let h = c.args.report.now.head.now in
+    let text = c.args.report.now.text.now in
     let place = c.in_ok-node.place in
     let read : node_at h (c.args.came.place.number, drop c.args.came.place.at text) ≡ Ok (accept h.asked.w c.in-Accept.x, (place.number, drop place.at text)) = rw c.in-Accept.is at c.in_ok-node.ensures.value in
     let past = later c.nodes_are_read.ensures.told h (accept h.asked.w c.in-Accept.x) c.args.came.place.number place.number (drop c.args.came.place.at text) (drop place.at text) c.w.ensures.head read in
@@ -115,10 +115,24 @@ returns-in_ok-test_accept-in-Accept-clause-came t c =
 pub returns-in_ok-test_reject-in-Reject-clause-came :
     goal.returns-in_ok-test_reject-in-Reject-clause-came
 returns-in_ok-test_reject-in-Reject-clause-came t c =
-    let h = c.args.head.now in
-    let text = c.args.text.now in
+    let h = c.args.report.now.head.now in
+    let text = c.args.report.now.text.now in
     let place = c.in_ok-node.place in
     let r : RejectData = record { numbers = c.in-Reject.y; picks = c.in-Reject.picks; ranks = c.in-Reject.ranks; e = c.in-Reject.e; k = c.in-Reject.k } in
     let read : node_at h (c.args.came.place.number, drop c.args.came.place.at text) ≡ Ok (reject h.asked.w r, (place.number, drop place.at text)) = rw c.in-Reject.is at c.in_ok-node.ensures.value in
     let past = later c.nodes_are_read.ensures.told h (reject h.asked.w r) c.args.came.place.number place.number (drop c.args.came.place.at text) (drop place.at text) c.w.ensures.head read in
     in_behind text c.args.came c.behind-in-Reject.result place c.requires.came past c.in_ok-node.ensures.at c.in_ok-node.ensures.number c.behind-in-Reject.ensures.node c.behind-in-Reject.ensures.place (met_reject c.behind-in-Reject.result.leaves c.args.came.leaves (c.behind-in-Reject.ensures.leaves ∙ c.one_reject.ensures))
+
+pub returns-in_err-test_accept-in-Accept-clause-end :
+    goal.returns-in_err-test_accept-in-Accept-clause-end
+returns-in_err-test_accept-in-Accept-clause-end t c =
+    let h = c.args.report.now.head.now in
+    let text = c.args.report.now.text.now in
+    let ss = spans_of c.args.sides.now in
+    let place = c.in_ok-node.place in
+    let e = c.in_err-test_accept-in-Accept.field-0.0 in
+    let came : Came = came_of text c.args.came in
+    let read : node_at h came.place ≡ Ok (accept h.asked.w c.in-Accept.x, (place.number, drop place.at text)) = rw c.in-Accept.is at c.in_ok-node.ensures.value in
+    let is : c.from_residual-in_err-test_accept-in-Accept.result ≡ Err e = search rules in
+    says_err (came_of text) (TreeEnds h c.args.levels ss came) _ e is
+    (λ some. accept_missed h c.args.levels ss came h.asked.w c.in-Accept.x (place.number, drop place.at text) c.args.report.now.case.now c.bound.result e read c.requires.asked c.bound.ensures (rw c.as_slice.ensures at c.in_err-test_accept-in-Accept.ensures.test))

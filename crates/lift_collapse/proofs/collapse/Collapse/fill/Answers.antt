@@ -1,8 +1,7 @@
-use Rattle.std.proofs.Common.{rules, sym, subst}
-use Rattle.corner_lift.specs.Case.{IsCase}
-use Rattle.lift_collapse.proofs.Cases.{same_case}
+use Rattle.std.proofs.Common.{rules}
+use Rattle.lift_collapse.proofs.Cases.{case_with}
 use Rattle.lift_collapse.proofs.collapse.Collapse.fill.Goals as goal
 
-pub fill_table-requires-clause-case : goal.fill_table-requires-clause-case
-fill_table-requires-clause-case c =
-    subst IsCase (sym (same_case c.args.case.now c.args.self.now.collapse _ c.grid.result c.root.result.now c.w.result (search rules) c.root.ensures.value c.grid.ensures.d c.grid.ensures.depth c.w.ensures.value)) (c.collapses_spread.ensures.case c.args.case.now c.args.self.now.collapse c.model.ensures.case c.requires.collapse)
+pub fill_over-requires-clause-case : goal.fill_over-requires-clause-case
+fill_over-requires-clause-case c =
+    case_with c.args.case.now c.args.self.now.collapse _ (search rules) (c.collapses_spread.ensures.case c.args.case.now c.args.self.now.collapse c.model.ensures.case c.requires.collapse)

@@ -1,4 +1,4 @@
 use Rattle.lift_collapse.proofs.collapse.Collapse.lower_above.Given as goal
 
-abbrev pub ghost-find_lower : goal.ghost-find_lower
-ghost-find_lower g a = g.spans
+abbrev pub ghost-lower_above : goal.ghost-lower_above
+ghost-lower_above g a = g.spans

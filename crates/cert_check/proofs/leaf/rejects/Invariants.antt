@@ -1,4 +1,0 @@
-use Rattle.cert_check.proofs.leaf.rejects.Given as goal
-
-abbrev pub ghost-is_rejecting : goal.ghost-is_rejecting
-ghost-is_rejecting g a = g.spans

@@ -1,7 +1,0 @@
-use Rattle.lift_collapse.proofs.collapse.find_lower.Given as goal
-
-abbrev pub ghost-greatest_reject_above : goal.ghost-greatest_reject_above
-ghost-greatest_reject_above g a = g.spans
-
-abbrev pub ghost-lower_unranked : goal.ghost-lower_unranked
-ghost-lower_unranked g a = g.spans

@@ -1,0 +1,4 @@
+use Rattle.lift_collapse.proofs.lanes.Lanes.least_upper_within.Given as goal
+
+abbrev pub ghost-least_upper_within : goal.ghost-least_upper_within
+ghost-least_upper_within g a = g.spans

@@ -1,4 +1,0 @@
-use Rattle.robust_rank.proofs.in_order.rank_of.Given as goal
-
-abbrev pub ghost-rank_of_other : goal.ghost-rank_of_other
-ghost-rank_of_other g a = g.spans

@@ -1,4 +1,0 @@
-use Rattle.robust_rank.proofs.ranking.is_leading.Given as goal
-
-abbrev pub ghost-leads_below : goal.ghost-leads_below
-ghost-leads_below g a = g.spans

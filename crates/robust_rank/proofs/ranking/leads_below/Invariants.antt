@@ -1,4 +1,0 @@
-use Rattle.robust_rank.proofs.ranking.leads_below.Given as goal
-
-abbrev pub ghost-least_into : goal.ghost-least_into
-ghost-least_into g a = g.spans

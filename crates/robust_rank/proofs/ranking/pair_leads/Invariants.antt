@@ -1,4 +1,0 @@
-use Rattle.robust_rank.proofs.ranking.pair_leads.Given as goal
-
-abbrev pub ghost-least_into_of : goal.ghost-least_into_of
-ghost-least_into_of g a = g.spans

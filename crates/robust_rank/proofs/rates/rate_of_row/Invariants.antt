@@ -1,4 +1,0 @@
-use Rattle.robust_rank.proofs.rates.rate_of_row.Given as goal
-
-abbrev pub ghost-least_into : goal.ghost-least_into
-ghost-least_into g a = g.spans
