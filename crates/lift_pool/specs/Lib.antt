@@ -1,4 +1,5 @@
 pub mod Lanes
+pub mod Shapes
 pub mod Cuts
 pub mod Lends
 pub mod Laws

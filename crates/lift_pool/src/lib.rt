@@ -4,5 +4,5 @@
 mod laws;
 mod pool;
 
-pub use laws::lanes_stand_alone;
+pub use laws::{lanes_have_shapes, lanes_stand_alone};
 pub use pool::Pool;

@@ -1,13 +1,14 @@
 //! One block of memory, cut into lanes.
 
-ghost use Rattle.std.specs.Prelude.{◌≡◌, ◌+◌, ◌-◌, ◌<◌, ◌≤◌, [], ◌∷◌, ◌++◌};
+ghost use Rattle.std.specs.Prelude.{◌≡◌, ◌+◌, ◌-◌, ◌*◌, ◌^◌, ◌<◌, ◌≤◌, [], ◌∷◌, ◌++◌};
 ghost use Rattle.std.specs.Prelude.{IfOk, length, replicate, vec_capacity, vec_len};
-ghost use Rattle.std.specs.Prelude.{slice_index_or, slice_range};
+ghost use Rattle.std.specs.Prelude.{slice_index_or, slice_range, slice_set};
 ghost use Rattle.std.specs.Borrow.{sem};
 ghost use Rattle.lift_pool.specs.Cuts.{start};
 ghost use Rattle.lift_pool.specs.Lanes.{last_lane, pool_with, pool_without_last};
 ghost use Rattle.lift_pool.specs.Lends.{LendsLane};
 
+use crate::laws::lanes_stand_alone;
 use std::alloc::{AllocError, Global};
 use std::marker::Model;
 
@@ -115,6 +116,18 @@ impl<T: Copy> Pool<T> {
         })
     }
 
+    /// A pool of `count` lanes, each of `len` words `fill`.
+    pub fn filled(alloc: Global, count: usize, len: usize, fill: T) -> Result<Self, AllocError>
+        requires { count * len < 2 ^ 64 }
+        ensures { IfOk result (λ p. p.lanes ≡ replicate count (replicate len fill)) }
+    {
+        let mut pool = Pool::make(alloc, count * len, count)?;
+        for _ in 0..count {
+            pool.take(len, fill);
+        }
+        Ok(pool)
+    }
+
     /// Appends a lane of `len` words, each of them `fill`. A lane may have no words.
     pub fn take(&mut self, len: usize, fill: T)
         requires spare { len ≤ self.old.spare }
@@ -179,5 +192,15 @@ impl<T: Copy> Pool<T> {
         let from = start_of(&self.ends, i);
         let to = self.ends[i];
         self.block.slice_mut(from..to)
+    }
+
+    /// Writes the words of lane `i`.
+    pub fn write(&mut self, i: usize, words: &[T])
+        requires some { i < length self.old.lanes }
+        requires size { length words.now ≡ length (slice_index_or self.old.lanes i []) }
+        ensures { self.new ≡ record self.old { lanes = slice_set self.old.lanes i words.now } }
+    {
+        lanes_stand_alone::<T>();
+        self.lane_mut(i).copy_from_slice(words);
     }
 }

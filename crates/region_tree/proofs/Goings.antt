@@ -4,11 +4,11 @@ use Rattle.lift_pool.specs.Lanes.{PoolData, pool_without_last}
 use Rattle.lift_model.specs.Links.{LinksData, AreLinks}
 use Rattle.lift_model.specs.Model.{ModelData}
 use Rattle.corner_lift.specs.Case.{CaseData, IsCase}
+use Rattle.lift_walk.specs.Laws.{RootHasAllEnds}
 use Rattle.lift_collapse.specs.Collapse.{IsCollapse}
 use Rattle.region_tree.specs.Decided.{CanDecide}
 use Rattle.region_tree.specs.Recent.{DecidedData, HasAllPlaces, KeepsPlaces, forgotten}
 use Rattle.region_tree.specs.Rooms.{RoomData, HasLanes, IsSameShape, KeepsShape, StandsAtDepth, IsMadeFor, IsAsMade, StepsDown, room_at_root, room_with_half, room_without_last}
-use Rattle.region_tree.proofs.Lanes.{root_ends}
 
 module _ {T : Type 0} where
   pub same_pool : (p : PoolData T) → IsSameShape p p
@@ -62,7 +62,7 @@ lanes_kept m l a b h g = record {
 
 -- where a walk stands hangs on the sides alone
 pub placed_as : (k : CaseData) (depth : ℕ) (a b : RoomData) → b.sides ≡ a.sides → StandsAtDepth k depth a → StandsAtDepth k depth b
-placed_as k depth a b same h = rw same (record { some = h.some; sides = h.sides; at_depth = h.at_depth; words = h.words; depths = h.depths })
+placed_as k depth a b same h = rw same h
 
 pub can_decide : (k : CaseData) (l : LinksData) (depth : ℕ) (room : RoomData) → AreLinks k.model l → HasLanes k.model l room → StandsAtDepth k depth room → CanDecide k l room
 can_decide k l depth room links lanes h = record {
@@ -92,10 +92,10 @@ begun_lanes k l room begun e h = rw e (record { collapse = h.collapse; weights =
 root_kept : (k : CaseData) (room : RoomData) → KeepsShape room (room_at_root k room)
 root_kept k room = record { collapse = refl; weights = same_pool room.weights; values = same_pool room.values; allowed = same_pool room.allowed; ranks = same_pool room.ranks; picks = same_pool room.picks; work = same_pool room.work; decided = forgotten_keeps room.decided }
 
-pub as_made : (k : CaseData) (l : LinksData) (room begun new : RoomData) → IsCase k → IsMadeFor k l room → begun ≡ room_at_root k room → new.sides ≡ begun.sides → KeepsShape begun new → IsAsMade room new
-as_made k l room begun new is made e sides shape =
+pub as_made : RootHasAllEnds → (k : CaseData) (l : LinksData) (room begun new : RoomData) → IsCase k → IsMadeFor k l room → begun ≡ room_at_root k room → new.sides ≡ begun.sides → KeepsShape begun new → IsAsMade room new
+as_made root_ends k l room begun new is made e sides shape =
     let at : new.sides ≡ (room_at_root k room).sides = sides ∙ ap (λ r. r.sides) e in
     record {
-      sides = record { lanes = ap (λ p. map length p.lanes) at ∙ ap (λ n. n ∷ []) (root_ends k is) ∙ sym made.sides; spare = ap (λ p. p.spare) at; spare_lanes = ap (λ p. p.spare_lanes) at };
+      sides = record { lanes = ap (λ p. map length p.lanes) at ∙ ap (λ n. n ∷ []) (root_ends k is) ∙ sym made.sides.lane; spare = ap (λ p. p.spare) at; spare_lanes = ap (λ p. p.spare_lanes) at };
       rest = room_then room begun new (subst (λ r. KeepsShape room r) (sym e) (root_kept k room)) shape;
     }

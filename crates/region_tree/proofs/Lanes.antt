@@ -1,22 +1,17 @@
 -- Pools of one lane, and how long a rectangle's row of ends is.
-use Rattle.std.proofs.Common.{◌≡◌, ℕ, suc, ◌+◌, ◌-◌, ◌*◌, ◌^◌, ◌<◌, ◌≤◌, ◌==◌, Bool, true, false, cond, List, [], ◌∷◌, ℤ, length, map, get_or, set, replicate, refl, sym, ap, ◌∙◌, arith, mul-le-mul}
+use Rattle.std.proofs.Common.{◌≡◌, ℕ, suc, ◌+◌, ◌*◌, ◌<◌, List, [], ◌∷◌, ℤ, length, map, get_or, set, replicate, refl, sym, ap, ◌∙◌, arith}
 use Rattle.std.proofs.lemmas.List.{length-replicate}
 use Rattle.lift_pool.specs.Lanes.{PoolData, pool_written}
 use Rattle.lift_pool.specs.Laws.{WritesOneLane}
 use Rattle.lift_grid.specs.Rectangle.{Spans, sides_of, spans_of}
-use Rattle.lift_model.specs.Model.{live}
-use Rattle.corner_lift.specs.Case.{CaseData, IsCase, AreSidesInside, Within, greatest_depth}
+use Rattle.corner_lift.specs.Case.{CaseData, IsCase, AreSidesInside, Within}
 use Rattle.region_tree.specs.Rooms.{HasLane, end_count}
 
 pub length-sides : (ss : Spans) → length (sides_of ss) ≡ 2 * length ss
 length-sides [] = refl
 length-sides (s ∷ ss) = omega (arith, length-sides ss)
 
--- the root's row has two ends for each parameter
-pub root_ends : (k : CaseData) → IsCase k → length (sides_of k.root) ≡ end_count k
-root_ends k is = length-sides k.root ∙ ap (λ n. 2 * n) is.asked.grid.one_each
-
--- and so has that of each rectangle inside it
+-- the row of a rectangle inside the root has two ends for each parameter
 pub inside_ends : (k : CaseData) → IsCase k → (sides : List ℤ) → AreSidesInside k.root sides → length sides ≡ end_count k
 inside_ends k is sides inside =
     ap length (sym inside.rectangle.paired) ∙ length-sides (spans_of sides) ∙ ap (λ n. 2 * n) (as_many (spans_of sides) k.root inside.within ∙ is.asked.grid.one_each)
@@ -47,21 +42,3 @@ module _ {T : Type 0} where
       let one = one_of p.lanes n has in
       writes p 0 w one.0 (size ∙ sym one.1)
       ∙ ap (λ (lanes : List (List T)). let q : PoolData T = record p { lanes = lanes } in q) (set_one p.lanes n w has)
-
--- ---- sizes
-
-by_bool : (P : Bool → Type 0) (b : Bool) → P true → P false → P b
-by_bool P true x y = x
-by_bool P false x y = y
-
-pub few_depths : (k : CaseData) → IsCase k → greatest_depth k ≤ 20
-few_depths k is = by_bool (λ b. cond b 0 k.depth ≤ 20) (live k.model == 0) (omega arith) is.asked.depth
-
-pub few_words : (depths len : ℕ) → depths ≤ 20 → len ≤ 32 → (depths + 1) * len < 2 ^ 64
-few_words depths len a b =
-    let more : depths + 1 ≤ 21 = omega (arith, a) in
-    let words : (depths + 1) * len ≤ 21 * 32 = mul-le-mul more b in
-    omega (arith, words)
-
-pub words_left : (depths len n spare : ℕ) → len ≡ n → (depths + 1) * len ≤ spare → depths * n ≤ spare - len
-words_left depths len n spare e h = rw (sym e) (let all : (depths + 1) * len ≡ depths * len + len = omega arith in omega (arith, all, h))

@@ -1,8 +1,6 @@
 pub mod Unique
-pub mod Depths
 pub mod Tiling
 pub mod Lanes
-pub mod Stepping
 pub mod Steps
 pub mod Verdicts
 pub mod Found

@@ -4,7 +4,6 @@ use Rattle.std.proofs.lemmas.List.{get_or_past}
 use Rattle.std.proofs.lemmas.List.Elements.{All-head, All-tail}
 use Rattle.lift_poly.proofs.Ring.{linear}
 use Rattle.lift_grid.specs.Rectangle.{Spans}
-use Rattle.lift_grid.specs.Splitting.{IsSplitAxis}
 use Rattle.lift_grid.specs.Tree.{Tree, RejectData, lower_half, upper_half}
 use Rattle.lift_grid.specs.Tree.Tree.{split, accept, reject, unknown}
 use Rattle.lift_model.specs.Model.{ModelData, is_goal, choices}
@@ -27,14 +26,7 @@ trichotomy a b f g h =
     (λ e. f (ltb-true a b e))
     (λ e. either_way (nat_lt b a) (λ k. h (ltb-true b a k)) (λ k. g (omega (arith, ltb-false a b e, ltb-false b a k))))
 
--- ---- axes and upper vectors
-
-pub axis_is_one : (live : ℕ) (ss : Spans) (i j : ℕ) → IsSplitAxis live ss i → IsSplitAxis live ss j → i ≡ j
-axis_is_one live ss i j h g =
-    trichotomy i j
-    (λ lt. absurd (omega (arith, g.first i h.is_live lt, h.longest j g.is_live)))
-    (λ e. e)
-    (λ lt. absurd (omega (arith, h.first j g.is_live lt, g.longest i h.is_live)))
+-- ---- upper vectors
 
 numbers_same : (x y : List ℤ) → length x ≡ length y → AtMost x y → AtMost y x → x ≡ y
 numbers_same x y size a b = ext_get_or (pos 0) x y size (λ i lt. omega (arith, linear, a i, b i))

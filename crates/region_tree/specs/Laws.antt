@@ -5,7 +5,7 @@ use Rattle.std.specs.Io.KnownBytes.{Appends}
 use Rattle.lift_base.specs.Outside.{Rose}
 use Rattle.lift_grid.specs.Rectangle.{Spans, spans_of}
 use Rattle.lift_grid.specs.Splitting.{IsSplitAxis}
-use Rattle.lift_grid.specs.Tree.{Tree, RejectData, Tiles, leaves, lower_half, upper_half}
+use Rattle.lift_grid.specs.Tree.{Tree, RejectData, Tiles, leaves}
 use Rattle.lift_model.specs.Model.{live}
 use Rattle.corner_lift.specs.Case.{CaseData, IsCase, IsInside, greatest_depth}
 use Rattle.corner_lift.specs.Certificate.{IsLeastUpper}
@@ -13,7 +13,8 @@ use Rattle.corner_lift.specs.Stages.{IsGreatestLower}
 use Rattle.lift_cert.specs.declared.bound.Bound.{Bound}
 use Rattle.lift_model.specs.Links.{LinksData}
 use Rattle.region_tree.specs.Nodes.{Node}
-use Rattle.region_tree.specs.Right.{IsRightTree, IsAtDepth}
+pub use Rattle.lift_walk.specs.Laws.{RootIsAtDepth, HalvesAreDeeper, SplitAxesAreOne}
+use Rattle.region_tree.specs.Right.{IsRightTree}
 use Rattle.region_tree.specs.Rooms.{RoomData, IsMadeFor, StandsAtDepth, StepsDown, last_sides, room_at_root}
 use Rattle.region_tree.specs.Visits.{Walks, entries}
 use Rattle.region_tree.specs.declared.visitor.Seen.{Seen}
@@ -46,22 +47,9 @@ LeastUppersAreOne = (k : CaseData) (spans : Spans) (x y : List ℤ) → IsLeastU
 abbrev pub GreatestLowersAreOne : Type 0
 GreatestLowersAreOne = (k : CaseData) (spans : Spans) (r q : RejectData) → IsCase k → IsInside k.root spans → IsGreatestLower k spans r → IsGreatestLower k spans q → r ≡ q
 
--- the split rule chooses at most one axis
-abbrev pub SplitAxesAreOne : Type 0
-SplitAxesAreOne = (live : ℕ) (spans : Spans) (i j : ℕ) → IsSplitAxis live spans i → IsSplitAxis live spans j → i ≡ j
-
 -- the leaves of a right tree tile the root
 abbrev pub RightTreesTile : Type 0
 RightTreesTile = (k : CaseData) (bound : Bound) (tree : Tree) → IsCase k → IsRightTree k bound tree → Tiles k.d k.root (map (λ leaf. leaf.spans) (leaves k.root 0 tree))
-
--- the root stands at depth 0
-abbrev pub RootIsAtDepth : Type 0
-RootIsAtDepth = (k : CaseData) → IsCase k → IsAtDepth k 0 k.root
-
--- while a halving is left, both halves on the axis of the split rule stand one deeper
-abbrev pub HalvesAreDeeper : Type 0
-HalvesAreDeeper = (k : CaseData) (spans : Spans) (depth axis : ℕ) → IsCase k → IsAtDepth k depth spans → depth < greatest_depth k → IsSplitAxis (live k.model) spans axis
-    → IsAtDepth k (depth + 1) (lower_half axis spans) × IsAtDepth k (depth + 1) (upper_half axis spans)
 
 -- ---- rooms
 

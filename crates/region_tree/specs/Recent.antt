@@ -1,6 +1,8 @@
 -- The rectangles of a walk that were decided last, and what they tell of another one. At a valuation that two rectangles share, an accepting certificate of the one and a rejecting certificate of the other would tell of the same process, so there aren't both.
-use Rattle.std.specs.Prelude.{◌≡◌, ℕ, ◌*◌, ◌<◌, List, [], ◌∷◌, ℤ, ◌≤ℤ◌, ◌↔◌, map, length, replicate, slice_index_or, IsFalse}
+use Rattle.std.specs.Prelude.{◌≡◌, ℕ, ◌*◌, ◌<◌, List, [], ◌∷◌, ℤ, ◌≤ℤ◌, ◌↔◌, slice_index_or, IsFalse}
 use Rattle.lift_pool.specs.Lanes.{PoolData}
+use Rattle.lift_pool.specs.Shapes.{HasLanes}
+pub use Rattle.lift_pool.specs.Shapes.{IsSameShape}
 use Rattle.lift_grid.specs.Rectangle.{Spans, spans_of}
 use Rattle.lift_grid.specs.Tree.{RejectData}
 use Rattle.lift_cert.specs.declared.bound.Bound.{Bound}
@@ -27,7 +29,7 @@ most_ends = 2 * most_parameters
 
 -- there are all places, each for so many ends
 abbrev pub HasPlaces : ℕ → RecentData → Type 0
-HasPlaces ends r = map length r.sides.lanes ≡ replicate most_noted ends
+HasPlaces ends r = HasLanes r.sides most_noted ends
 
 -- the sides of the rectangle at a place
 abbrev pub sides_at : RecentData → ℕ → List ℤ
@@ -62,12 +64,6 @@ pub record DecidedData : Type 0 where
 pub record HasAllPlaces (ends : ℕ) (d : DecidedData) : Type 0 where
   pub accepted : HasPlaces ends d.accepted
   pub rejected : HasPlaces ends d.rejected
-
--- a pool with the same number of lanes, of the same lengths, and as much that can be taken
-pub record IsSameShape {T : Type 0} (old new : PoolData T) : Type 0 where
-  pub lanes : map length new.lanes ≡ map length old.lanes
-  pub spare : new.spare ≡ old.spare
-  pub spare_lanes : new.spare_lanes ≡ old.spare_lanes
 
 -- Both have the shape that they had.
 pub record KeepsPlaces (old new : DecidedData) : Type 0 where

@@ -1,16 +1,17 @@
 -- The right tree of a case for a bound: which rectangles are decided, and which are halved.
-use Rattle.std.specs.Prelude.{◌≡◌, ℕ, ◌+◌, ◌-◌, ◌<◌, List, ℤ}
+use Rattle.std.specs.Prelude.{◌≡◌, ℕ, ◌+◌, ◌<◌, List, ℤ}
 use Rattle.lift_grid.specs.Rectangle.{Spans}
-use Rattle.lift_grid.specs.Splitting.{IsSplitAxis, HasHalvings}
+use Rattle.lift_grid.specs.Splitting.{IsSplitAxis}
 use Rattle.lift_grid.specs.Tree.{Tree, RejectData, lower_half, upper_half}
 use Rattle.lift_grid.specs.Tree.Tree.{split, accept, reject, unknown}
 use Rattle.lift_model.specs.Model.{live}
-use Rattle.corner_lift.specs.Case.{CaseData, IsInside, greatest_depth, number}
+use Rattle.corner_lift.specs.Case.{CaseData, greatest_depth, number}
 use Rattle.corner_lift.specs.Certificate.{IsLeastUpper}
 use Rattle.corner_lift.specs.Stages.{IsGreatestLower}
 use Rattle.lift_cert.specs.Certificate.{IsAccepting, IsRejecting, IsBeyond, NoneAccepts}
 use Rattle.lift_cert.specs.declared.bound.Bound.{Bound}
 use Rattle.lower_cert.specs.AnyRanks.{UnboundedReject, IsUnboundedLower}
+pub use Rattle.lift_walk.specs.Sides.{IsAtDepth}
 
 -- a rejecting certificate whose ranks and k have no bound: a lower vector whose number of the initial state is beyond the bound
 pub record IsRejectingAtAnyHeight (k : CaseData) (spans : Spans) (bound : Bound) (u : UnboundedReject) : Type 0 where
@@ -54,10 +55,3 @@ IsRight k spans bound depth unknown = IsOpen k spans bound × (depth ≡ greates
 -- the right tree of a case: that over its root, at depth 0
 abbrev pub IsRightTree : CaseData → Bound → Tree → Type 0
 IsRightTree k bound tree = IsRight k k.root bound 0 tree
-
--- ---- where a rectangle stands
-
--- a rectangle that halvings of the root come to at this depth: it lies inside the root, and can be halved as often as depth is left
-pub record IsAtDepth (k : CaseData) (depth : ℕ) (spans : Spans) : Type 0 where
-  pub inside : IsInside k.root spans
-  pub left : HasHalvings (greatest_depth k - depth) spans

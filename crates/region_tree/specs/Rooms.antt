@@ -1,17 +1,16 @@
 -- The room of a walk: the pools and the collapsed model that it works in, when they are made for a case, and what is left of them on the way from the root.
-use Rattle.std.specs.Prelude.{◌≡◌, ℕ, ◌+◌, ◌-◌, ◌*◌, ◌≤◌, ◌<◌, Bool, List, [], ◌∷◌, ℤ, map, length, if◌then◌else◌, Option, option_map, IfSome}
-use Rattle.lift_pool.specs.Lanes.{PoolData, last_lane, pool_with, pool_without_last}
-use Rattle.lift_grid.specs.Rectangle.{Spans, AreSides, sides_of, spans_of}
-use Rattle.lift_grid.specs.Splitting.{IsHalvable}
-use Rattle.lift_grid.specs.Tree.{lower_half, upper_half}
+use Rattle.std.specs.Prelude.{◌≡◌, ℕ, ◌+◌, ◌*◌, Bool, List, ℤ, length, Option, option_map, IfSome}
+use Rattle.lift_pool.specs.Lanes.{PoolData, last_lane, pool_without_last}
+pub use Rattle.lift_pool.specs.Shapes.{HasLane, IsSameShape}
+use Rattle.lift_grid.specs.Rectangle.{spans_of}
 use Rattle.lift_model.specs.Model.{ModelData, row_count}
 use Rattle.lift_model.specs.Links.{LinksData}
-use Rattle.corner_lift.specs.Case.{CaseData, greatest_depth}
+use Rattle.corner_lift.specs.Case.{CaseData}
+pub use Rattle.lift_walk.specs.Sides.{end_count, half_of}
+use Rattle.lift_walk.specs.Sides.{IsMadeForSides, SidesStandAt, CanTakeHalf, sides_at_root, sides_with_half}
 use Rattle.lift_collapse.specs.Collapse.{CollapseData, IsCollapse}
 use Rattle.lift_collapse.specs.Filled.{LinkedCollapse}
 use Rattle.region_tree.specs.Recent.{DecidedData, HasAllPlaces, KeepsPlaces, forgotten}
-pub use Rattle.region_tree.specs.Recent.{IsSameShape}
-use Rattle.region_tree.specs.Right.{IsAtDepth}
 
 -- the collapsed model of the case, if it is worth one, and the pools of a room: the sides of the rectangles on the way from the root, the table of corner weights, the numbers of the states, which rows are allowed, the ranks and the picks of the states, work space, and the rectangles of a walk that were decided last
 pub record RoomData : Type 0 where
@@ -24,14 +23,6 @@ pub record RoomData : Type 0 where
   pub picks : PoolData ℕ
   pub work : PoolData ℕ
   pub decided : DecidedData
-
--- the pool has one lane, of so many words
-abbrev pub HasLane : {T : Type 0} → PoolData T → ℕ → Type 0
-HasLane p n = map length p.lanes ≡ n ∷ []
-
--- how many ends a rectangle of the case has: two for each declared parameter
-abbrev pub end_count : CaseData → ℕ
-end_count k = 2 * length k.model.names
 
 -- the collapsed model alone, without links and table
 abbrev pub collapse_of : Option LinkedCollapse → Option CollapseData
@@ -51,9 +42,7 @@ pub record HasLanes (m : ModelData) (l : LinksData) (room : RoomData) : Type 0 w
 -- A room that is made for a case: each pool has one lane, and of sides one more can be taken for each depth below the root.
 pub record IsMadeFor (k : CaseData) (l : LinksData) (room : RoomData) : Type 0 where
   pub lanes : HasLanes k.model l room
-  pub sides : HasLane room.sides (end_count k)
-  pub words : greatest_depth k * end_count k ≤ room.sides.spare
-  pub depths : greatest_depth k ≤ room.sides.spare_lanes
+  pub sides : IsMadeForSides k room.sides
 
 -- the collapsed model is as it was, and all pools but the sides have the shape that they had
 pub record KeepsShape (old new : RoomData) : Type 0 where
@@ -77,29 +66,17 @@ pub record IsAsMade (old new : RoomData) : Type 0 where
 abbrev pub last_sides : RoomData → List ℤ
 last_sides room = last_lane room.sides.lanes
 
--- the lower half for true, the upper half for false
-abbrev pub half_of : Bool → ℕ → Spans → Spans
-half_of lower axis spans = if lower then lower_half axis spans else upper_half axis spans
-
 -- A walk stands at a depth: the last lane of sides holds a rectangle of that depth, and a lane more can be taken for each halving that is left.
-pub record StandsAtDepth (k : CaseData) (depth : ℕ) (room : RoomData) : Type 0 where
-  pub some : 0 < length room.sides.lanes
-  pub sides : AreSides (last_sides room)
-  pub at_depth : IsAtDepth k depth (spans_of (last_sides room))
-  pub words : (greatest_depth k - depth) * length (last_sides room) ≤ room.sides.spare
-  pub depths : greatest_depth k - depth ≤ room.sides.spare_lanes
+abbrev pub StandsAtDepth : CaseData → ℕ → RoomData → Type 0
+StandsAtDepth k depth room = SidesStandAt k depth room.sides
 
 -- a half of the last rectangle can be taken as one lane of sides more
-pub record CanHalve (axis : ℕ) (room : RoomData) : Type 0 where
-  pub some : 0 < length room.sides.lanes
-  pub sides : AreSides (last_sides room)
-  pub halvable : IsHalvable axis (spans_of (last_sides room))
-  pub words : length (last_sides room) ≤ room.sides.spare
-  pub lanes : 1 ≤ room.sides.spare_lanes
+abbrev pub CanHalve : ℕ → RoomData → Type 0
+CanHalve axis room = CanTakeHalf axis room.sides
 
 -- the room with a lane of sides more, for a half of the last rectangle
 abbrev pub room_with_half : Bool → ℕ → RoomData → RoomData
-room_with_half lower axis room = record room { sides = pool_with room.sides (sides_of (half_of lower axis (spans_of (last_sides room)))) }
+room_with_half lower axis room = record room { sides = sides_with_half lower axis room.sides }
 
 -- the room without its last lane of sides
 abbrev pub room_without_last : RoomData → RoomData
@@ -107,7 +84,7 @@ room_without_last room = record room { sides = pool_without_last room.sides }
 
 -- the room with the root's sides in the one lane of sides, where no rectangle is noted
 abbrev pub room_at_root : CaseData → RoomData → RoomData
-room_at_root k room = record room { sides = record room.sides { lanes = sides_of k.root ∷ [] }; decided = forgotten room.decided }
+room_at_root k room = record room { sides = sides_at_root k room.sides; decided = forgotten room.decided }
 
 -- A half can be taken, the walk then stands one deeper, at that half, and giving it back leaves the room as it was.
 pub record StepsDown (k : CaseData) (depth axis : ℕ) (lower : Bool) (room : RoomData) : Type 0 where

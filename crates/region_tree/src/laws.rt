@@ -4,13 +4,11 @@ ghost use Rattle.region_tree.specs.Laws.{
   CalmWalksShowAll,
   GreatestLowersAreOne,
   GreatestLowersExist,
-  HalvesAreDeeper,
   LeastUppersAreOne,
   LeastUppersExist,
   RightTreesAreOne,
   RightTreesExist,
   RightTreesTile,
-  RootIsAtDepth,
   SplitAxesAreOne,
   SplitAxesExist,
   WalksBeginAtRoot,
@@ -18,9 +16,9 @@ ghost use Rattle.region_tree.specs.Laws.{
 };
 
 use crate::visitor::Visitor;
-use corner_lift::{halves_are_inside, live_parameters_have_spans, rows_at_corners, rows_inside};
-use lift_grid::{halves_stay_on_grid, rows_are_rectangles, trees_tile};
-use lift_pool::lanes_stand_alone;
+use corner_lift::{live_parameters_have_spans, rows_at_corners};
+use lift_grid::trees_tile;
+use lift_walk::{rectangles_at_depths, sides_go_down, split_axes_are_one};
 use lower_cert::{ranks_fit, vectors_are_lowered};
 use robust_rank::ranks_go_by_stages;
 
@@ -32,6 +30,7 @@ pub fn certificates_are_one()
     ensures greatest { GreatestLowersAreOne }
     ensures axis { SplitAxesAreOne }
 {
+    split_axes_are_one();
     rows_at_corners();
 }
 
@@ -46,17 +45,6 @@ pub fn certificates_exist()
     rows_at_corners();
     ranks_go_by_stages();
     vectors_are_lowered();
-    live_parameters_have_spans();
-}
-
-/// The root stands at depth 0, and the halves of a rectangle one deeper than it.
-pub fn rectangles_at_depths()
-    ensures root { RootIsAtDepth }
-    ensures halves { HalvesAreDeeper }
-{
-    rows_inside();
-    halves_are_inside();
-    halves_stay_on_grid();
     live_parameters_have_spans();
 }
 
@@ -92,11 +80,7 @@ pub fn walks_are_placed()
     ensures root { WalksBeginAtRoot }
     ensures down { WalksStepDown }
 {
-    rectangles_at_depths();
-    halves_stay_on_grid();
-    live_parameters_have_spans();
-    rows_are_rectangles();
-    lanes_stand_alone::<i64>();
+    sides_go_down();
 }
 
 /// A walk over a visitor that counts no fault offers the nodes of the right tree, which `build` gives,

@@ -16,9 +16,10 @@ mod walking;
 
 pub use decision::decide;
 pub use laws::{
-    calm_walks_show_all, certificates_are_one, certificates_exist, rectangles_at_depths,
-    right_trees_are_one, right_trees_exist, right_trees_tile, walks_are_placed,
+    calm_walks_show_all, certificates_are_one, certificates_exist, right_trees_are_one,
+    right_trees_exist, right_trees_tile, walks_are_placed,
 };
+pub use lift_walk::rectangles_at_depths;
 pub use room::Room;
 pub use tree::{Branch, Tree, build};
 pub use verdict::Verdict;

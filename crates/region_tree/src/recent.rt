@@ -66,11 +66,7 @@ fn places_for(alloc: Global, ends: usize) -> Result<Pool<i64>, AllocError>
     requires { ends ≤ most_ends }
     ensures { IfOk result (λ p. p.lanes ≡ replicate most_noted (replicate ends (pos 0))) }
 {
-    let mut pool = Pool::make(alloc, PLACES * ends, PLACES)?;
-    for _ in 0..PLACES {
-        pool.take(ends, 0);
-    }
-    Ok(pool)
+    Pool::filled(alloc, PLACES, ends, 0)
 }
 
 /// How many places are in use once this one is, which is one of them or the next.

@@ -1,22 +1,16 @@
-ghost use Rattle.std.specs.Prelude.{◌≡◌, ◌<◌, ◌*◌, ◌≤◌, [], ◌∷◌, IfOk, length, replicate};
-ghost use Rattle.std.specs.Prelude.{slice_index_or};
+ghost use Rattle.std.specs.Prelude.{◌≡◌, ◌<◌, [], ◌∷◌, IfOk, length, slice_index_or};
 ghost use Rattle.lift_grid.specs.Rectangle.{sides_of};
 ghost use Rattle.lift_model.specs.Links.{AreLinks};
 ghost use Rattle.lift_model.specs.Model.{row_count};
-ghost use Rattle.corner_lift.specs.Case.{greatest_depth};
 ghost use Rattle.region_tree.specs.Recent.{HasAllPlaces};
-ghost use Rattle.region_tree.specs.Rooms.{
-  HasLane,
-  IsMadeFor,
-  end_count,
-  last_sides,
-};
+ghost use Rattle.region_tree.specs.Rooms.{IsMadeFor, end_count, last_sides};
 
 use crate::decided::Decided;
 use corner_lift::Case;
 use lift_collapse::Collapse;
 use lift_model::{Links, Model};
-use lift_pool::{Pool, lanes_stand_alone};
+use lift_pool::Pool;
+use lift_walk::{sides_go_down, sides_of_case};
 use std::alloc::{AllocError, Global};
 
 /// All memory that a walk over the tree of a case needs.
@@ -56,15 +50,6 @@ impl std::marker::Model for Room {
     } };
 }
 
-/// A pool of one lane.
-fn lane_of<T: Copy>(alloc: Global, len: usize, fill: T) -> Result<Pool<T>, AllocError>
-    ensures { IfOk result (λ p. p.lanes ≡ replicate len fill ∷ []) }
-{
-    let mut pool = Pool::make(alloc, len, 1)?;
-    pool.take(len, fill);
-    Ok(pool)
-}
-
 /// How many rows the model has: as many as the number of its last row, and one.
 fn row_count(model: &Model, links: &Links) -> usize
     requires { AreLinks model.now links.now }
@@ -74,34 +59,11 @@ fn row_count(model: &Model, links: &Links) -> usize
     links.row_place(last, model.choices(last) - 1) + 1
 }
 
-/// Writes the root's sides over the one lane of sides.
-pub(crate) fn write_root(case: &Case, sides: &mut Pool<i64>)
-    requires { HasLane sides.old (end_count case.now) }
-    ensures { sides.new ≡ record sides.old { lanes = sides_of case.now.root ∷ [] } }
-{
-    lanes_stand_alone::<i64>();
-    sides.lane_mut(0).copy_from_slice(case.root().sides());
-}
-
-/// A pool with a lane of sides for the root, which holds the root's, and room for one at each depth
-/// below it.
-fn sides_of_case(alloc: Global, case: &Case) -> Result<Pool<i64>, AllocError>
-    ensures root { IfOk result (λ p. p.lanes ≡ sides_of case.now.root ∷ []) }
-    ensures words { IfOk result (λ p. greatest_depth case.now * end_count case.now ≤ p.spare) }
-    ensures depths { IfOk result (λ p. greatest_depth case.now ≤ p.spare_lanes) }
-{
-    let depths = case.greatest_depth() as usize;
-    let len = case.root().sides().len();
-    let mut pool = Pool::make(alloc, (depths + 1) * len, depths + 1)?;
-    pool.take(len, 0);
-    write_root(case, &mut pool);
-    Ok(pool)
-}
-
 /// Places for the rectangles of a walk that are decided last.
 fn decided_of_case(alloc: Global, case: &Case) -> Result<Decided, AllocError>
     ensures { IfOk result (HasAllPlaces (end_count case.now)) }
 {
+    sides_go_down();
     let ends = case.root().sides().len();
     Decided::none(alloc, ends)
 }
@@ -117,12 +79,12 @@ impl Room {
         let states = case.model().states() as usize;
         Ok(Room {
             sides: sides_of_case(alloc, case)?,
-            weights: lane_of(alloc, links.weights_len(), 0)?,
-            values: lane_of(alloc, states, 0)?,
-            allowed: lane_of(alloc, row_count(case.model(), links), 0)?,
-            ranks: lane_of(alloc, states, 0)?,
-            picks: lane_of(alloc, states, 0)?,
-            work: lane_of(alloc, 2 * states, 0)?,
+            weights: Pool::filled(alloc, 1, links.weights_len(), 0)?,
+            values: Pool::filled(alloc, 1, states, 0)?,
+            allowed: Pool::filled(alloc, 1, row_count(case.model(), links), 0)?,
+            ranks: Pool::filled(alloc, 1, states, 0)?,
+            picks: Pool::filled(alloc, 1, states, 0)?,
+            work: Pool::filled(alloc, 1, 2 * states, 0)?,
             decided: decided_of_case(alloc, case)?,
             collapse: Collapse::build(alloc, case.model(), links)?,
         })

@@ -25,10 +25,11 @@ use crate::leaf::show_leaf;
 use crate::room::Room;
 use crate::verdict::Verdict;
 use crate::visitor::{Seen, Visitor};
-use corner_lift::{Case, live_parameters_have_spans};
+use corner_lift::Case;
 use lift_cert::Bound;
-use lift_grid::{rows_are_rectangles, split_axis};
+use lift_grid::rows_are_rectangles;
 use lift_model::Links;
+use lift_walk::sides_go_down;
 
 /// Whether there is a certificate.
 pub(crate) fn is_decided(verdict: Verdict) -> bool
@@ -53,11 +54,7 @@ pub(crate) fn axis_of(case: &Case, depth: u32, room: &Room) -> u32
     requires left { depth < greatest_depth case.now }
     ensures axis { IsSplitAxis (live case.now.model) (spans_of (last_sides room.now)) result }
 {
-    live_parameters_have_spans();
-    match split_axis(room.sides(), case.model().live()) {
-        Some(axis) => axis,
-        None => unreachable!(),
-    }
+    lift_walk::axis_of(case, room.sides())
 }
 
 /// Walks over the tree of the rectangle that the room's last lane of sides holds.
@@ -132,6 +129,7 @@ pub fn walk<V: Visitor>(
     ensures same { V.reference visitor.new ≡ V.reference visitor.old }
 {
     walks_are_placed();
+    sides_go_down();
     rows_are_rectangles();
     let _ = case.w();
     room.begin(case);

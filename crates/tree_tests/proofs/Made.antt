@@ -8,7 +8,9 @@ use Rattle.region_tree.proofs.Goings.{lanes_kept}
 pub still_made : (k : CaseData) (l : LinksData) (old new : RoomData) → IsMadeFor k l old → IsAsMade old new → IsMadeFor k l new
 still_made k l old new made same = record {
   lanes = lanes_kept k.model l old new same.rest made.lanes;
-  sides = same.sides.lanes ∙ made.sides;
-  words = rw same.sides.spare made.words;
-  depths = rw same.sides.spare_lanes made.depths;
+  sides = record {
+    lane = same.sides.lanes ∙ made.sides.lane;
+    words = rw same.sides.spare made.sides.words;
+    depths = rw same.sides.spare_lanes made.sides.depths;
+  };
 }

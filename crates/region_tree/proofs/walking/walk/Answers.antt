@@ -16,4 +16,4 @@ walk_at-requires-clause-known g c =
 
 pub returns-clause-room : goal.returns-clause-room
 returns-clause-room g c =
-    as_made c.args.case.now c.args.links.now c.args.room.now c.begin.new.self c.walk_at.new.room c.w.ensures.case c.requires.made c.begin.ensures c.walk_at.ensures.sides c.walk_at.ensures.shape
+    as_made c.sides_go_down.ensures.ends c.args.case.now c.args.links.now c.args.room.now c.begin.new.self c.walk_at.new.room c.w.ensures.case c.requires.made c.begin.ensures c.walk_at.ensures.sides c.walk_at.ensures.shape

@@ -1,6 +1,6 @@
-use Rattle.std.proofs.Common.{◌≡◌, ◌*◌, ◌∷◌, [], length, map, ◌∙◌, ap, pos}
+use Rattle.std.proofs.Common.{◌≡◌, ◌*◌, ◌∷◌, [], length, ◌∙◌, ap, pos}
 use Rattle.region_tree.proofs.Found.{found_of}
-use Rattle.region_tree.proofs.Lanes.{lane_filled, root_ends}
+use Rattle.region_tree.proofs.Lanes.{lane_filled}
 use Rattle.lift_model.specs.Model.{row_count}
 use Rattle.region_tree.proofs.room.Room.make.Goals as goal
 
@@ -12,15 +12,13 @@ returns-clause-made c =
     record {
       lanes = record {
         collapse = found_of k.model c.in_ok-build.field-0 (rw c.model-3.ensures.value at c.in_ok-build.ensures);
-        weights = lane_filled c.in_ok-lane_of.field-0 _ (pos 0) c.in_ok-lane_of.ensures ∙ ap (λ n. n ∷ []) c.weights_len.ensures;
-        values = lane_filled c.in_ok-lane_of-2.field-0 _ (pos 0) c.in_ok-lane_of-2.ensures ∙ ap (λ n. n ∷ []) states;
-        allowed = lane_filled c.in_ok-lane_of-3.field-0 _ 0 c.in_ok-lane_of-3.ensures ∙ ap (λ n. n ∷ []) rows;
-        ranks = lane_filled c.in_ok-lane_of-4.field-0 _ 0 c.in_ok-lane_of-4.ensures ∙ ap (λ n. n ∷ []) states;
-        picks = lane_filled c.in_ok-lane_of-5.field-0 _ 0 c.in_ok-lane_of-5.ensures ∙ ap (λ n. n ∷ []) states;
-        work = lane_filled c.in_ok-lane_of-6.field-0 _ 0 c.in_ok-lane_of-6.ensures ∙ ap (λ n. 2 * n ∷ []) states;
+        weights = lane_filled c.in_ok-filled.field-0 _ (pos 0) c.in_ok-filled.ensures ∙ ap (λ n. n ∷ []) c.weights_len.ensures;
+        values = lane_filled c.in_ok-filled-2.field-0 _ (pos 0) c.in_ok-filled-2.ensures ∙ ap (λ n. n ∷ []) states;
+        allowed = lane_filled c.in_ok-filled-3.field-0 _ 0 c.in_ok-filled-3.ensures ∙ ap (λ n. n ∷ []) rows;
+        ranks = lane_filled c.in_ok-filled-4.field-0 _ 0 c.in_ok-filled-4.ensures ∙ ap (λ n. n ∷ []) states;
+        picks = lane_filled c.in_ok-filled-5.field-0 _ 0 c.in_ok-filled-5.ensures ∙ ap (λ n. n ∷ []) states;
+        work = lane_filled c.in_ok-filled-6.field-0 _ 0 c.in_ok-filled-6.ensures ∙ ap (λ n. 2 * n ∷ []) states;
         decided = c.in_ok-decided_of_case.ensures;
       };
-      sides = ap (λ lanes. map length lanes) c.in_ok-sides_of_case.ensures.root ∙ ap (λ n. n ∷ []) (root_ends k c.model.ensures.case);
-      words = c.in_ok-sides_of_case.ensures.words;
-      depths = c.in_ok-sides_of_case.ensures.depths;
+      sides = c.in_ok-sides_of_case.ensures.made;
     }

@@ -1,9 +1,9 @@
 use Rattle.std.proofs.Common.{rules, ◌≡◌, length, sym, ◌∙◌, ap, []}
 use Rattle.lift_grid.specs.Rectangle.{spans_of, sides_of}
 use Rattle.lift_pool.specs.Lanes.{last_lane, pool_with}
-use Rattle.region_tree.specs.Rooms.{half_of}
-use Rattle.region_tree.proofs.Stepping.{snoc-get, half_taken}
-use Rattle.region_tree.proofs.halves.take_half_of.Goals as goal
+use Rattle.lift_walk.specs.Sides.{half_of}
+use Rattle.lift_walk.proofs.Stepping.{snoc-get, half_taken}
+use Rattle.lift_walk.proofs.sides.take_half.Goals as goal
 
 pub narrow-requires : goal.narrow-requires
 narrow-requires c =

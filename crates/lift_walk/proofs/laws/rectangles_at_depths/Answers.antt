@@ -1,5 +1,5 @@
-use Rattle.region_tree.proofs.Depths.{root_at_depth, halves_at_depth}
-use Rattle.region_tree.proofs.laws.rectangles_at_depths.Goals as goal
+use Rattle.lift_walk.proofs.Depths.{root_at_depth, halves_at_depth}
+use Rattle.lift_walk.proofs.laws.rectangles_at_depths.Goals as goal
 
 pub returns-clause-root : goal.returns-clause-root
 returns-clause-root c k is = root_at_depth c.rows_inside.ensures.root k is

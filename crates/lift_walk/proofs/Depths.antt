@@ -8,7 +8,7 @@ use Rattle.lift_grid.specs.Tree.{lower_half, upper_half}
 use Rattle.lift_model.specs.Model.{live}
 use Rattle.corner_lift.specs.Case.{CaseData, IsCase, greatest_depth}
 use Rattle.corner_lift.specs.Laws.{RootIsInside, HalvesAreInside, LiveHasSpan}
-use Rattle.region_tree.specs.Right.{IsAtDepth}
+use Rattle.lift_walk.specs.Sides.{IsAtDepth}
 
 of_one : (ss : Spans) → AreMultiples (2 ^ 0) ss
 of_one [] = tt

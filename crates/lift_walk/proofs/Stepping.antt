@@ -1,18 +1,16 @@
--- Where a walk stands, and what the halves of a rectangle leave.
+-- Where a pool of sides stands, and what the halves of a rectangle leave.
 use Rattle.std.proofs.Common.{◌≡◌, ℕ, suc, ◌+◌, ◌-◌, ◌*◌, ◌<◌, ◌≤◌, Bool, true, false, List, [], ◌∷◌, ◌++◌, length, get_or, set, ℤ, refl, sym, ap, ◌∙◌, subst, arith, length-append}
 use Rattle.lift_pool.specs.Lanes.{PoolData, last_lane, pool_with, pool_written}
 use Rattle.lift_pool.specs.Laws.{WritesOneLane, TakesCanBeUndone}
 use Rattle.lift_grid.specs.Laws.{HalvesKeepCount, SpansAreHalvable, SpansOfSides, SidesOfSpans}
 use Rattle.lift_grid.specs.Rectangle.{Spans, sides_of, spans_of}
 use Rattle.lift_grid.specs.Splitting.{IsSplitAxis, HasHalvings}
-use Rattle.lift_model.specs.Links.{LinksData}
 use Rattle.lift_model.specs.Model.{live}
 use Rattle.corner_lift.specs.Case.{CaseData, IsCase, greatest_depth}
 use Rattle.corner_lift.specs.Laws.{LiveHasSpan}
-use Rattle.region_tree.specs.Laws.{RootIsAtDepth, HalvesAreDeeper}
-use Rattle.region_tree.specs.Right.{IsAtDepth}
-use Rattle.region_tree.specs.Rooms.{RoomData, IsMadeFor, StandsAtDepth, StepsDown, half_of, last_sides, room_at_root, room_with_half}
-use Rattle.region_tree.proofs.Lanes.{length-sides, root_ends}
+use Rattle.lift_walk.specs.Laws.{RootIsAtDepth, HalvesAreDeeper, SidesBeginAtRoot, SidesGoDown}
+use Rattle.lift_walk.specs.Sides.{IsAtDepth, half_of, sides_with_half}
+use Rattle.lift_walk.proofs.Ends.{length-sides, root_ends}
 
 module _ {T : Type 0} where
   pub snoc-get : (xs : List T) (x d : T) → get_or (xs ++ x ∷ []) (length xs) d ≡ x
@@ -63,8 +61,8 @@ half-length : HalvesKeepCount → (lower : Bool) (axis : ℕ) (old : List ℤ) �
 half-length keep lower axis old paired =
     length-sides (half_of lower axis (spans_of old)) ∙ ap (λ n. 2 * n) (half-count keep lower axis (spans_of old)) ∙ sym (length-sides (spans_of old)) ∙ ap length paired
 
-pub at_root : RootIsAtDepth → SpansOfSides → SidesOfSpans → (k : CaseData) (l : LinksData) (room : RoomData) → IsCase k → IsMadeFor k l room → StandsAtDepth k 0 (room_at_root k room)
-at_root root spans sides k l room is made = record {
+pub at_root : RootIsAtDepth → SpansOfSides → SidesOfSpans → SidesBeginAtRoot
+at_root root spans sides k pool is made = record {
   some = omega arith;
   sides = sides k.root is.asked.spans;
   at_depth = rw (spans k.root) (root k is);
@@ -72,9 +70,9 @@ at_root root spans sides k l room is made = record {
   depths = omega (arith, made.depths);
 }
 
-pub step_down : HalvesAreDeeper → HalvesKeepCount → SpansAreHalvable → LiveHasSpan → SpansOfSides → SidesOfSpans → TakesCanBeUndone ℤ → (k : CaseData) (room : RoomData) (depth axis : ℕ) (lower : Bool) → IsCase k → StandsAtDepth k depth room → depth < greatest_depth k → IsSplitAxis (live k.model) (spans_of (last_sides room)) axis → StepsDown k depth axis lower room
-step_down deeper keep halvable live_spans spans sides undone k room depth axis lower is at more axis_is =
-    let old = last_sides room in
+pub go_down : HalvesAreDeeper → HalvesKeepCount → SpansAreHalvable → LiveHasSpan → SpansOfSides → SidesOfSpans → TakesCanBeUndone ℤ → SidesGoDown
+go_down deeper keep halvable live_spans spans sides undone k pool depth axis lower is at more axis_is =
+    let old = last_lane pool.lanes in
     let ss = spans_of old in
     let half = half_of lower axis ss in
     let n = greatest_depth k - (depth + 1) in
@@ -83,20 +81,20 @@ step_down deeper keep halvable live_spans spans sides undone k room depth axis l
     let below : axis < length ss = live_spans k ss axis is at.at_depth.inside axis_is.is_live in
     let next = deeper k ss depth axis is at.at_depth more axis_is in
     let there : IsAtDepth k (depth + 1) half = by_bool (λ b. IsAtDepth k (depth + 1) (half_of b axis ss)) lower next.0 next.1 in
-    let last : last_sides (room_with_half lower axis room) ≡ sides_of half = last-with room.sides (sides_of half) in
+    let last : last_lane (sides_with_half lower axis pool).lanes ≡ sides_of half = last-with pool (sides_of half) in
     let size = half-length keep lower axis old at.sides.paired in
     let all = one_left (greatest_depth k) depth (length old) more in
-    let words : length old ≤ room.sides.spare = omega (arith, all, at.words) in
-    let lanes : 1 ≤ room.sides.spare_lanes = omega (arith, at.depths, more) in
+    let words : length old ≤ pool.spare = omega (arith, all, at.words) in
+    let lanes : 1 ≤ pool.spare_lanes = omega (arith, at.depths, more) in
     record {
       can = record { some = at.some; sides = at.sides; halvable = halvable n axis ss left below; words = words; lanes = lanes };
       placed = record {
-        some = (let a = lanes-with room.sides (sides_of half) in omega (arith, a));
+        some = (let a = lanes-with pool (sides_of half) in omega (arith, a));
         sides = rw last (sides half there.inside.rectangle);
         at_depth = rw (last, spans half) there;
         words = rw (last, size) (omega (arith, all, at.words));
         depths = omega (arith, at.depths, more);
       };
       half = rw last (spans half);
-      back = ap (λ (p : PoolData ℤ). let r : RoomData = record room { sides = p } in r) (undone room.sides (sides_of half) (omega (arith, size, words)) lanes);
+      back = undone pool (sides_of half) (omega (arith, size, words)) lanes;
     }

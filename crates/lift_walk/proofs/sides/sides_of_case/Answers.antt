@@ -1,8 +1,8 @@
 use Rattle.std.proofs.Common.{◌≡◌, ◌-◌, ◌*◌, ◌≤◌, ◌∷◌, [], length, ◌∙◌, ap, arith, pos, subst}
 use Rattle.std.proofs.lemmas.List.{length-replicate}
-use Rattle.region_tree.specs.Rooms.{end_count}
-use Rattle.region_tree.proofs.Lanes.{root_ends, few_depths, few_words, words_left}
-use Rattle.region_tree.proofs.room.sides_of_case.Goals as goal
+use Rattle.lift_walk.specs.Sides.{end_count}
+use Rattle.lift_walk.proofs.Ends.{root_ends, few_depths, few_words, words_left}
+use Rattle.lift_walk.proofs.sides.sides_of_case.Goals as goal
 
 pub overflow_mul-depths : goal.overflow_mul-depths
 overflow_mul-depths c =
@@ -16,10 +16,14 @@ write_root-requires c =
     let size : length c.sides-len.result.now ≡ end_count k = ap length (rw c.root.ensures.value at c.sides-len.ensures.sides) ∙ root_ends k c.root.ensures.case in
     rw (c.take.ensures, c.in_ok-pool.ensures.empty) (ap (λ n. n ∷ []) (length-replicate _ _ ∙ size))
 
-pub returns-clause-words : goal.returns-clause-words
-returns-clause-words c =
+pub returns-clause-made : goal.returns-clause-made
+returns-clause-made c =
     let k = c.args.case.now in
     let size : length c.sides-len.result.now ≡ end_count k = ap length (rw c.root.ensures.value at c.sides-len.ensures.sides) ∙ root_ends k c.root.ensures.case in
     let filled = length-replicate (length c.sides-len.result.now) (pos 0) in
     let left = words_left c.greatest_depth-depths.result (length c.sides-len.result.now) (end_count k) c.in_ok-pool.pool.spare size c.in_ok-pool.ensures.spare in
-    rw (c.write_root.ensures, c.take.ensures, filled) (subst (λ d. d * end_count k ≤ c.in_ok-pool.pool.spare - length c.sides-len.result.now) c.greatest_depth-depths.ensures left)
+    record {
+      lane = rw c.write_root.ensures.root (ap (λ n. n ∷ []) (root_ends k c.root.ensures.case));
+      words = rw (c.write_root.ensures.root, c.take.ensures, filled) (subst (λ d. d * end_count k ≤ c.in_ok-pool.pool.spare - length c.sides-len.result.now) c.greatest_depth-depths.ensures left);
+      depths = rw (c.write_root.ensures.root, c.take.ensures) (omega (arith, c.greatest_depth-depths.ensures, c.in_ok-pool.ensures.spare_lanes));
+    }

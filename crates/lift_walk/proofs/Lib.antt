@@ -1,0 +1,4 @@
+pub mod Axis
+pub mod Ends
+pub mod Depths
+pub mod Stepping
