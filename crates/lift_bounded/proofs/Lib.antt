@@ -1,0 +1,9 @@
+pub mod Cases
+pub mod Above
+pub mod Below
+pub mod Making
+pub mod Stepping
+pub mod Filling
+pub mod Single
+pub mod Texts
+pub mod Going

@@ -1,0 +1,32 @@
+use Rattle.std.proofs.Common.{◌≡◌, ◌+◌, ◌-◌, ◌<◌, ◌∙◌, sym, subst, ap, arith, ◌++◌}
+use Rattle.lift_base.specs.Laws.{WroteUpTo}
+use Rattle.lift_bounded.specs.Steps.{LowersData}
+use Rattle.lift_bounded.specs.Text.{for_steps, lower_text}
+use Rattle.lift_bounded.proofs.Texts.{next_step, lower-text}
+use Rattle.lift_bounded.proofs.writers.write_lowers.Goals as goal
+
+pub loop-n-init : goal.loop-n-init
+loop-n-init g c =
+    let r : LowersData = record { numbers = c.args.numbers.now.lanes; picks = c.args.picks.now.lanes } in
+    let all : c.args.h - 0 ≡ c.args.h = omega arith in
+    subst (λ m. WroteUpTo g.K.Sink.taken g.K.Sink.faults c.args.out.now c.args.out.now (for_steps (lower_text r) 1 c.args.h) (for_steps (lower_text r) 1 m)) (sym all) (c.writes_in_turn.ensures.begins _ _)
+
+pub returns-in_err-write_lower : goal.returns-in_err-write_lower
+returns-in_err-write_lower g c =
+    let r : LowersData = record { numbers = c.args.numbers.now.lanes; picks = c.args.picks.now.lanes } in
+    let lt : c.loop-n.n < c.args.h = omega (arith, c.loop-n-test.true, c.loop-n.auto.n-end) in
+    let next = next_step (lower_text r) c.loop-n.n c.args.h lt ∙ ap (λ text. text ++ for_steps (lower_text r) (c.loop-n.n + 1 + 1) (c.args.h - (c.loop-n.n + 1))) (lower-text r c.loop-n.n) in
+    c.writes_in_turn.ensures.stops _ _ _ _ _ _ _ _ _ c.from_residual.ensures.0 c.loop-n.invariant next (rw (c.lane.ensures, c.lane-in-loop-n.ensures) at c.in_err-write_lower.ensures)
+
+pub loop-n-preserved : goal.loop-n-preserved
+loop-n-preserved g c =
+    let r : LowersData = record { numbers = c.args.numbers.now.lanes; picks = c.args.picks.now.lanes } in
+    let lt : c.loop-n.n < c.args.h = omega (arith, c.loop-n-test.true, c.loop-n.auto.n-end) in
+    let next = next_step (lower_text r) c.loop-n.n c.args.h lt ∙ ap (λ text. text ++ for_steps (lower_text r) (c.loop-n.n + 1 + 1) (c.args.h - (c.loop-n.n + 1))) (lower-text r c.loop-n.n) in
+    c.writes_in_turn.ensures.next _ _ _ _ _ _ _ c.loop-n.invariant next (rw (c.lane.ensures, c.lane-in-loop-n.ensures) at c.in_ok-write_lower.ensures)
+
+pub returns : goal.returns
+returns g c =
+    let r : LowersData = record { numbers = c.args.numbers.now.lanes; picks = c.args.picks.now.lanes } in
+    let none : c.args.h - c.loop-n.n ≡ 0 = omega (arith, c.loop-n-test.false, c.loop-n.auto.n-end) in
+    c.writes_in_turn.ensures.ends _ _ _ (subst (λ m. WroteUpTo g.K.Sink.taken g.K.Sink.faults c.args.out.now c.loop-n.out (for_steps (lower_text r) 1 c.args.h) (for_steps (lower_text r) (c.loop-n.n + 1) m)) none c.loop-n.invariant)

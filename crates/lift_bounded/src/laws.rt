@@ -1,0 +1,53 @@
+ghost use Rattle.lift_bounded.specs.Laws.{
+  AcceptingBoundsWithin,
+  BoundedTreesAreOne,
+  GreatestLowersAreOne,
+  GreatestLowersRefute,
+  GreatestStepsAreGreatest,
+  LeastStepsAreLeast,
+  LeastUppersAreOne,
+  LeastUppersRefute,
+  RejectingReachesWithin,
+};
+
+use corner_lift::{rows_at_corners, rows_inside};
+use lift_model::{tosses_are_bounded, weighted_sums_follow};
+use lift_walk::split_axes_are_one;
+
+/// Holds the laws of certificates by steps, for who reasons about them: what an accepting one says of every
+/// scheduler and a rejecting one of those that make its choices, at every valuation inside its rectangle. It
+/// does nothing.
+pub fn certificates_by_steps_decide()
+    ensures accepting { AcceptingBoundsWithin }
+    ensures rejecting { RejectingReachesWithin }
+{
+    tosses_are_bounded();
+    weighted_sums_follow();
+    rows_at_corners();
+    rows_inside();
+}
+
+/// Holds the laws of how certificates by steps are made, for who reasons about them. It does nothing.
+pub fn steps_make_certificates()
+    ensures least { LeastStepsAreLeast }
+    ensures greatest { GreatestStepsAreGreatest }
+    ensures none_accept { LeastUppersRefute }
+    ensures none_reject { GreatestLowersRefute }
+{
+    rows_at_corners();
+}
+
+/// A rectangle has at most one list of least upper vectors for a number of steps, and at most one of greatest lower
+/// ones with their picks. It does nothing.
+pub fn certificates_by_steps_are_one()
+    ensures least { LeastUppersAreOne }
+    ensures greatest { GreatestLowersAreOne }
+{}
+
+/// A case has at most one right tree for a bound and a number of steps. It does nothing.
+pub fn bounded_trees_are_one()
+    ensures { BoundedTreesAreOne }
+{
+    certificates_by_steps_are_one();
+    split_axes_are_one();
+}

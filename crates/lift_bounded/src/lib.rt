@@ -1,0 +1,20 @@
+//! Bounded steps: certificates of what is reached within a number of steps, the right tree for such a bound, and its
+//! text.
+#![tactic(auto)]
+
+mod decision;
+mod halves;
+mod laws;
+mod room;
+mod rounding;
+mod steps;
+mod vectors;
+mod walking;
+mod writers;
+
+pub use laws::{
+    bounded_trees_are_one, certificates_by_steps_are_one, certificates_by_steps_decide,
+    steps_make_certificates,
+};
+pub use room::BoundedRoom;
+pub use walking::write_tree;
