@@ -1,0 +1,83 @@
+//! The cases that the tests are about, each made from texts.
+
+ghost use Rattle.std.specs.Prelude.{◌≤◌, length, IfOk};
+ghost use Rattle.lift_grid.specs.Rectangle.{IsOnGrid, most_halvings};
+
+use corner_lift::Case;
+use drn_read::read_model;
+use lift_cert::Bound;
+use lift_grid::{Grid, Rect, read_region};
+use lift_model::Model;
+use lift_names::Names;
+use lift_rows::admit;
+use std::alloc::Global;
+use std::test::Fail;
+
+/// A coin that shows heads with p.
+pub(crate) const COIN: &[u8] =
+    b"@type: DTMC\n@parameters\np\n@model\nstate 0 init\n1 : p\n2 : 1-p\n\
+state 1 heads\n1 : 1\nstate 2\n2 : 1\n";
+
+/// A coin that is tossed again in half of the cases.
+pub(crate) const LOOP: &[u8] =
+    b"@type: DTMC\n@parameters\np\n@model\nstate 0 init\n0 : 1/2\n1 : 1/2*p\n\
+2 : 1/2-1/2*p\nstate 1 heads\n1 : 1\nstate 2\n2 : 1\n";
+
+/// A choice between one toss and a way to the goal that is sure, but takes two steps.
+pub(crate) const SHORT_CUT: &[u8] =
+    b"@type: MDP\n@parameters\np\n@model\nstate 0 init\naction toss\n3 : 1/2\n2 : 1/2\n\
+action go\n1 : 1\nstate 1\n3 : 1\nstate 2\n2 : 1\nstate 3 heads\n3 : 1\n";
+
+/// The model of a text; its goal states carry the label `heads`.
+pub(crate) fn model_of(alloc: Global, text: &[u8]) -> Result<Model, Fail> {
+    if text.len() >= 1 << 31 {
+        return Err(Fail::new("the text is too long"));
+    }
+    match read_model(alloc, text, b"heads") {
+        Ok(model) => Ok(model),
+        Err(_) => Err(Fail::new("the text stands for no model")),
+    }
+}
+
+/// The rectangle that a region's text names, over its grid.
+pub(crate) fn root_of(
+    alloc: Global,
+    region: &[u8],
+    names: &Names,
+    depth: u32,
+) -> Result<(Grid, Rect), Fail>
+    requires { depth ≤ most_halvings }
+    ensures on_grid { IfOk result (λ p. IsOnGrid p.0.d p.0.depth (length names.now) p.1) }
+    ensures depth { IfOk result (λ p. p.0.depth ≤ most_halvings) }
+{
+    match read_region(alloc, region, names, depth) {
+        Ok(root) => Ok(root),
+        Err(_) => Err(Fail::new("the text names no rectangle")),
+    }
+}
+
+/// The case of a model over a root, at precision 4.
+pub(crate) fn case_of<'m>(model: &'m Model, root: &'m Rect, grid: Grid) -> Result<Case<'m>, Fail>
+    requires grid { IsOnGrid grid.d grid.depth (length model.now.names) root.now }
+    requires depth { grid.depth ≤ most_halvings }
+{
+    match admit(model, root, grid, 4) {
+        Ok(case) => Ok(case),
+        Err(_) => Err(Fail::new("a row isn't admitted")),
+    }
+}
+
+/// The bound 1/2.
+pub(crate) fn half() -> Bound {
+    Bound { num: 1, den: 2 }
+}
+
+/// The bound 1/4.
+pub(crate) fn quarter() -> Bound {
+    Bound { num: 1, den: 4 }
+}
+
+/// The bound 1/10.
+pub(crate) fn tenth() -> Bound {
+    Bound { num: 1, den: 10 }
+}

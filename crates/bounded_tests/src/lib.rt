@@ -1,0 +1,8 @@
+//! Tests of bounded steps: the text of a tree, for models and regions given as texts. Texts are handed on as
+//! parameters, so that no proof computes what a text stands for.
+#![tactic(auto)]
+
+#[cfg(test)]
+mod cases;
+#[cfg(test)]
+mod trees;
