@@ -1,6 +1,6 @@
 -- How a walk goes on: what stays of a room, and how it goes down to the halves.
 use Rattle.std.proofs.Common.{◌≡◌, ℕ, ◌*◌, Bool, [], ◌∷◌, length, map, IfSome, refl, sym, ap, ◌∙◌, subst}
-use Rattle.lift_pool.specs.Lanes.{PoolData, pool_without_last}
+use Rattle.lift_pool.specs.Lanes.{pool_without_last}
 use Rattle.lift_model.specs.Links.{LinksData, AreLinks}
 use Rattle.lift_model.specs.Model.{ModelData}
 use Rattle.corner_lift.specs.Case.{CaseData, IsCase}
@@ -8,14 +8,8 @@ use Rattle.lift_walk.specs.Laws.{RootHasAllEnds}
 use Rattle.lift_collapse.specs.Collapse.{IsCollapse}
 use Rattle.region_tree.specs.Decided.{CanDecide}
 use Rattle.region_tree.specs.Recent.{DecidedData, HasAllPlaces, KeepsPlaces, forgotten}
-use Rattle.region_tree.specs.Rooms.{RoomData, HasLanes, IsSameShape, KeepsShape, StandsAtDepth, IsMadeFor, IsAsMade, StepsDown, room_at_root, room_with_half, room_without_last}
-
-module _ {T : Type 0} where
-  pub same_pool : (p : PoolData T) → IsSameShape p p
-  same_pool p = record { lanes = refl; spare = refl; spare_lanes = refl }
-
-  pub pool_then : (p q r : PoolData T) → IsSameShape p q → IsSameShape q r → IsSameShape p r
-  pool_then p q r a b = record { lanes = b.lanes ∙ a.lanes; spare = b.spare ∙ a.spare; spare_lanes = b.spare_lanes ∙ a.spare_lanes }
+use Rattle.region_tree.specs.Rooms.{RoomData, HasLanes, KeepsShape, StandsAtDepth, IsMadeFor, IsAsMade, StepsDown, room_at_root, room_with_half, room_without_last}
+use Rattle.region_tree.proofs.Lanes.{same_pool, pool_then, same_pools, pools_then, pools_kept}
 
 same_places : (a : DecidedData) → KeepsPlaces a a
 same_places a = record { accepted = same_pool a.accepted.sides; rejected = same_pool a.rejected.sides }
@@ -31,20 +25,16 @@ forgotten_keeps a = record { accepted = same_pool a.accepted.sides; rejected = s
 
 -- a room of that shape, with other rectangles noted
 pub shape_with : (a b : RoomData) (d : DecidedData) → KeepsShape a b → KeepsPlaces b.decided d → KeepsShape a (record b { decided = d })
-shape_with a b d h places = record { collapse = h.collapse; weights = h.weights; values = h.values; allowed = h.allowed; ranks = h.ranks; picks = h.picks; work = h.work; decided = places_then a.decided b.decided d h.decided places }
+shape_with a b d h places = record { collapse = h.collapse; weights = h.weights; pools = h.pools; decided = places_then a.decided b.decided d h.decided places }
 
 pub same_room : (a : RoomData) → KeepsShape a a
-same_room a = record { collapse = refl; weights = same_pool a.weights; values = same_pool a.values; allowed = same_pool a.allowed; ranks = same_pool a.ranks; picks = same_pool a.picks; work = same_pool a.work; decided = same_places a.decided }
+same_room a = record { collapse = refl; weights = same_pool a.weights; pools = same_pools a.pools; decided = same_places a.decided }
 
 pub room_then : (a b c : RoomData) → KeepsShape a b → KeepsShape b c → KeepsShape a c
 room_then a b c h g = record {
   collapse = g.collapse ∙ h.collapse;
   weights = pool_then a.weights b.weights c.weights h.weights g.weights;
-  values = pool_then a.values b.values c.values h.values g.values;
-  allowed = pool_then a.allowed b.allowed c.allowed h.allowed g.allowed;
-  ranks = pool_then a.ranks b.ranks c.ranks h.ranks g.ranks;
-  picks = pool_then a.picks b.picks c.picks h.picks g.picks;
-  work = pool_then a.work b.work c.work h.work g.work;
+  pools = pools_then a.pools b.pools c.pools h.pools g.pools;
   decided = places_then a.decided b.decided c.decided h.decided g.decided;
 }
 
@@ -52,11 +42,7 @@ pub lanes_kept : (m : ModelData) (l : LinksData) (a b : RoomData) → KeepsShape
 lanes_kept m l a b h g = record {
   collapse = subst (λ found. IfSome found (IsCollapse m)) (sym h.collapse) g.collapse;
   weights = h.weights.lanes ∙ g.weights;
-  values = h.values.lanes ∙ g.values;
-  allowed = h.allowed.lanes ∙ g.allowed;
-  ranks = h.ranks.lanes ∙ g.ranks;
-  picks = h.picks.lanes ∙ g.picks;
-  work = h.work.lanes ∙ g.work;
+  pools = pools_kept m a.pools b.pools h.pools g.pools;
   decided = places_kept (2 * length m.names) a.decided b.decided h.decided g.decided;
 }
 
@@ -79,18 +65,18 @@ gone_back k depth axis lower room down up h same e =
 
 -- the other lanes stay where a lane of sides is taken or given back
 pub half_lanes : (m : ModelData) (l : LinksData) (lower : Bool) (axis : ℕ) (room half : RoomData) → half ≡ room_with_half lower axis room → HasLanes m l room → HasLanes m l half
-half_lanes m l lower axis room half e h = rw e (record { collapse = h.collapse; weights = h.weights; values = h.values; allowed = h.allowed; ranks = h.ranks; picks = h.picks; work = h.work; decided = h.decided })
+half_lanes m l lower axis room half e h = rw e (record { collapse = h.collapse; weights = h.weights; pools = h.pools; decided = h.decided })
 
 pub back_lanes : (m : ModelData) (l : LinksData) (room up : RoomData) → up ≡ room_without_last room → HasLanes m l room → HasLanes m l up
-back_lanes m l room up e h = rw e (record { collapse = h.collapse; weights = h.weights; values = h.values; allowed = h.allowed; ranks = h.ranks; picks = h.picks; work = h.work; decided = h.decided })
+back_lanes m l room up e h = rw e (record { collapse = h.collapse; weights = h.weights; pools = h.pools; decided = h.decided })
 
 -- a walk begins in a room that is made for the case, where nothing is noted
 pub begun_lanes : (k : CaseData) (l : LinksData) (room begun : RoomData) → begun ≡ room_at_root k room → HasLanes k.model l room → HasLanes k.model l begun
-begun_lanes k l room begun e h = rw e (record { collapse = h.collapse; weights = h.weights; values = h.values; allowed = h.allowed; ranks = h.ranks; picks = h.picks; work = h.work; decided = record { accepted = h.decided.accepted; rejected = h.decided.rejected } })
+begun_lanes k l room begun e h = rw e (record { collapse = h.collapse; weights = h.weights; pools = h.pools; decided = record { accepted = h.decided.accepted; rejected = h.decided.rejected } })
 
 -- after a walk the room is as made
 root_kept : (k : CaseData) (room : RoomData) → KeepsShape room (room_at_root k room)
-root_kept k room = record { collapse = refl; weights = same_pool room.weights; values = same_pool room.values; allowed = same_pool room.allowed; ranks = same_pool room.ranks; picks = same_pool room.picks; work = same_pool room.work; decided = forgotten_keeps room.decided }
+root_kept k room = record { collapse = refl; weights = same_pool room.weights; pools = same_pools room.pools; decided = forgotten_keeps room.decided }
 
 pub as_made : RootHasAllEnds → (k : CaseData) (l : LinksData) (room begun new : RoomData) → IsCase k → IsMadeFor k l room → begun ≡ room_at_root k room → new.sides ≡ begun.sides → KeepsShape begun new → IsAsMade room new
 as_made root_ends k l room begun new is made e sides shape =

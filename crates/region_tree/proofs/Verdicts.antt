@@ -1,10 +1,8 @@
 -- What decides a rectangle: the greatest number within a bound, and what a vector's number of the initial state shows.
-use Rattle.std.proofs.Common.{◌≡◌, ℕ, ◌+◌, ◌*◌, ◌/◌, ◌%◌, ◌^◌, ◌<◌, ◌≤◌, List, [], ◌∷◌, length, get_or, sym, ap, ◌∙◌, ℤ, pos, ◌+ℤ◌, ◌≤ℤ◌, ◌<ℤ◌, SFits, w64, to_z, arith, mul-le-mul, mod-eq_of_lt, div-add-mod', le_of_mul-le-mul_right, pow_mono, map, refl, le_trans, Option, Some, None, IfSome}
+use Rattle.std.proofs.Common.{◌≡◌, ℕ, ◌+◌, ◌*◌, ◌/◌, ◌%◌, ◌^◌, ◌<◌, ◌≤◌, List, ℤ, pos, ◌+ℤ◌, ◌≤ℤ◌, ◌<ℤ◌, SFits, w64, to_z, arith, mul-le-mul, mod-eq_of_lt, div-add-mod', le_of_mul-le-mul_right, pow_mono, le_trans, Option, Some, None, IfSome}
 use Rattle.std.proofs.lemmas.Int.{to_z_pos}
 use Rattle.std.proofs.lemmas.Nat.{mod_below}
 use Rattle.lift_poly.proofs.Ring.{linear, mul-comm, mul-le}
-use Rattle.lift_pool.specs.Lanes.{PoolData, pool_written}
-use Rattle.lift_pool.specs.Laws.{WritesOneLane}
 use Rattle.lift_grid.specs.Rectangle.{Spans}
 use Rattle.lift_grid.specs.Tree.{RejectData}
 use Rattle.lift_cert.specs.declared.bound.Bound.{Bound}
@@ -14,11 +12,9 @@ use Rattle.corner_lift.specs.Certificate.{IsUpper, IsLeastUpper}
 use Rattle.lower_cert.specs.declared.greatest.Rate.{Rate}
 use Rattle.lower_cert.specs.AnyRanks.{RanksFit}
 use Rattle.lower_cert.specs.Limit.{IsGreatestAbove, NoneIsAbove}
-use Rattle.region_tree.specs.Decided.{IsGreatestBeyond, lane, reject_of}
+use Rattle.region_tree.specs.Decided.{IsGreatestBeyond, reject_of}
 use Rattle.region_tree.specs.Right.{IsAccepted, NoneRejects}
-use Rattle.region_tree.specs.Rooms.{HasLane, IsSameShape}
 use Rattle.region_tree.proofs.AnyHeight.{none_at_any_height}
-use Rattle.region_tree.proofs.Lanes.{one_of, written_one}
 
 -- ---- the greatest number within a bound
 
@@ -62,22 +58,6 @@ module _ (bound : Bound) (w : ℕ) (limit n : ℤ) where
       omega (arith, linear, scaled, within, beyond, mul-comm (pos bound.den) n, mul-comm (pos bound.den) (limit +ℤ pos 1))
 
 -- ---- verdicts
-
--- a pool's one lane, written over
-pub one_lane : {T : Type 0} → WritesOneLane T → (p : PoolData T) (n : ℕ) (w : List T) → HasLane p n → length w ≡ n → lane (pool_written p 0 w) ≡ w
-one_lane writes p n w has size = ap (λ q. lane q) (written_one writes p n w has size)
-
--- what a lent lane of a pool of one ends with has the lane's length
-pub one_length : {T : Type 0} → (p : PoolData T) (n : ℕ) (old new : List T) → HasLane p n → old ≡ get_or p.lanes 0 [] → length new ≡ length old → length new ≡ n
-one_length p n old new has same size = size ∙ ap length same ∙ (one_of p.lanes n has).1
-
--- and then it has the shape that it had
-pub same_shape : {T : Type 0} → WritesOneLane T → (p : PoolData T) (n : ℕ) (w : List T) → HasLane p n → length w ≡ n → IsSameShape p (pool_written p 0 w)
-same_shape writes p n w has size = record {
-  lanes = ap (λ q. map length q.lanes) (written_one writes p n w has size) ∙ ap (λ m. m ∷ []) size ∙ sym has;
-  spare = refl;
-  spare_lanes = refl;
-}
 
 module _ (k : CaseData) (ss : Spans) (bound : Bound) where
   pub is_accepted : (limit : ℤ) (x : List ℤ) → IsWithin bound k.w limit → IsLeastUpper k ss x → number x k.model.init ≤ℤ limit → IsAccepted k ss bound x

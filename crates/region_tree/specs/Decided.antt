@@ -9,8 +9,10 @@ use Rattle.lift_cert.specs.declared.bound.Bound.{Bound}
 use Rattle.lift_cert.specs.Certificate.{IsRejecting}
 use Rattle.corner_lift.specs.Case.{CaseData, AreSidesInside}
 use Rattle.corner_lift.specs.Stages.{IsGreatestLower}
+use Rattle.corner_lift.specs.Table.{IsTable}
 use Rattle.region_tree.specs.Right.{IsAccepted, IsRejected, IsOpen}
 use Rattle.region_tree.specs.Rooms.{RoomData, HasLanes, last_sides}
+use Rattle.region_tree.specs.declared.pools.Pools.{Pools}
 use Rattle.region_tree.specs.declared.verdict.Verdict.{Verdict}
 use Rattle.region_tree.specs.declared.verdict.Verdict.TheVariants.{Accept, Reject, Unknown}
 
@@ -21,6 +23,11 @@ pub record CanDecide (k : CaseData) (l : LinksData) (room : RoomData) : Type 0 w
   pub some : 0 < length room.sides.lanes
   pub sides : AreSidesInside k.root (last_sides room)
 
+-- A question can be asked of a rectangle: the links are those of the case's model, and the weights are the table of the rectangle.
+pub record CanAsk (k : CaseData) (l : LinksData) (spans : Spans) (weights : List ℤ) : Type 0 where
+  pub links : AreLinks k.model l
+  pub table : IsTable k l spans weights
+
 -- the one lane of a pool
 abbrev pub lane : {T : Type 0} → PoolData T → List T
 lane p = slice_index_or p.lanes 0 []
@@ -29,9 +36,9 @@ lane p = slice_index_or p.lanes 0 []
 abbrev pub reject_of : List ℤ → List ℕ → List ℕ → ℕ → ℕ → RejectData
 reject_of numbers picks ranks e k = record { numbers = numbers; picks = picks; ranks = ranks; e = e; k = k }
 
--- the rejecting certificate that stands in the room, with e and k
-abbrev pub reject_in : RoomData → ℕ → ℕ → RejectData
-reject_in room e k = reject_of (lane room.values) (lane room.picks) (lane room.ranks) e k
+-- the rejecting certificate that stands in the lanes, with e and k
+abbrev pub reject_in : Pools → ℕ → ℕ → RejectData
+reject_in p e k = reject_of (lane p.values) (lane p.picks) (lane p.ranks) e k
 
 -- a rejecting certificate that is the greatest lower vector, whose k is at most the number of states that a model can have
 pub record IsGreatestBeyond (k : CaseData) (spans : Spans) (bound : Bound) (r : RejectData) : Type 0 where
@@ -45,6 +52,10 @@ IsDecidedBy k spans bound numbers picks ranks Accept = IsAccepted k spans bound 
 IsDecidedBy k spans bound numbers picks ranks (Reject e height) = IsRejected k spans bound (reject_of numbers picks ranks e height) × (height ≤ most_states)
 IsDecidedBy k spans bound numbers picks ranks Unknown = IsOpen k spans bound
 
+-- the verdict is right of the rectangle, and its certificate stands in the lanes
+abbrev pub IsDecidedIn : CaseData → Spans → Bound → Pools → Verdict → Type 0
+IsDecidedIn k spans bound p verdict = IsDecidedBy k spans bound (lane p.values) (lane p.picks) (lane p.ranks) verdict
+
 -- the verdict is right of the rectangle, and its certificate stands in the room
 abbrev pub IsDecided : CaseData → Spans → Bound → RoomData → Verdict → Type 0
-IsDecided k spans bound room verdict = IsDecidedBy k spans bound (lane room.values) (lane room.picks) (lane room.ranks) verdict
+IsDecided k spans bound room verdict = IsDecidedIn k spans bound room.pools verdict

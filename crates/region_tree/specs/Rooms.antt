@@ -11,32 +11,33 @@ use Rattle.lift_walk.specs.Sides.{IsMadeForSides, SidesStandAt, CanTakeHalf, sid
 use Rattle.lift_collapse.specs.Collapse.{CollapseData, IsCollapse}
 use Rattle.lift_collapse.specs.Filled.{LinkedCollapse}
 use Rattle.region_tree.specs.Recent.{DecidedData, HasAllPlaces, KeepsPlaces, forgotten}
+use Rattle.region_tree.specs.declared.pools.Pools.{Pools}
 
--- the collapsed model of the case, if it is worth one, and the pools of a room: the sides of the rectangles on the way from the root, the table of corner weights, the numbers of the states, which rows are allowed, the ranks and the picks of the states, work space, and the rectangles of a walk that were decided last
+-- the collapsed model of the case, if it is worth one, the sides of the rectangles on the way from the root, the table of corner weights, the lanes in which vectors are found, and the rectangles of a walk that were decided last
 pub record RoomData : Type 0 where
   pub collapse : Option LinkedCollapse
   pub sides : PoolData ℤ
   pub weights : PoolData ℤ
-  pub values : PoolData ℤ
-  pub allowed : PoolData ℕ
-  pub ranks : PoolData ℕ
-  pub picks : PoolData ℕ
-  pub work : PoolData ℕ
+  pub pools : Pools
   pub decided : DecidedData
 
 -- the collapsed model alone, without links and table
 abbrev pub collapse_of : Option LinkedCollapse → Option CollapseData
 collapse_of found = option_map (λ c. c.collapse) found
 
+-- the lanes in which vectors of a model are found: one for the numbers of the states, one for which rows are allowed, one each for the ranks and the picks of the states, and one of work space
+pub record HasPools (m : ModelData) (p : Pools) : Type 0 where
+  pub values : HasLane p.values (length m.states)
+  pub allowed : HasLane p.allowed (row_count m)
+  pub ranks : HasLane p.ranks (length m.states)
+  pub picks : HasLane p.picks (length m.states)
+  pub work : HasLane p.work (2 * length m.states)
+
 -- the lanes of a room but the sides, for a model and its links: one for each purpose, and places for rectangles; and a collapsed model, if there is one, of that model
 pub record HasLanes (m : ModelData) (l : LinksData) (room : RoomData) : Type 0 where
   pub collapse : IfSome (collapse_of room.collapse) (IsCollapse m)
   pub weights : HasLane room.weights l.weights
-  pub values : HasLane room.values (length m.states)
-  pub allowed : HasLane room.allowed (row_count m)
-  pub ranks : HasLane room.ranks (length m.states)
-  pub picks : HasLane room.picks (length m.states)
-  pub work : HasLane room.work (2 * length m.states)
+  pub pools : HasPools m room.pools
   pub decided : HasAllPlaces (2 * length m.names) room.decided
 
 -- A room that is made for a case: each pool has one lane, and of sides one more can be taken for each depth below the root.
@@ -44,15 +45,19 @@ pub record IsMadeFor (k : CaseData) (l : LinksData) (room : RoomData) : Type 0 w
   pub lanes : HasLanes k.model l room
   pub sides : IsMadeForSides k room.sides
 
--- the collapsed model is as it was, and all pools but the sides have the shape that they had
-pub record KeepsShape (old new : RoomData) : Type 0 where
-  pub collapse : collapse_of new.collapse ≡ collapse_of old.collapse
-  pub weights : IsSameShape old.weights new.weights
+-- the lanes in which vectors are found have the shape that they had
+pub record KeepsPools (old new : Pools) : Type 0 where
   pub values : IsSameShape old.values new.values
   pub allowed : IsSameShape old.allowed new.allowed
   pub ranks : IsSameShape old.ranks new.ranks
   pub picks : IsSameShape old.picks new.picks
   pub work : IsSameShape old.work new.work
+
+-- the collapsed model is as it was, and all pools but the sides have the shape that they had
+pub record KeepsShape (old new : RoomData) : Type 0 where
+  pub collapse : collapse_of new.collapse ≡ collapse_of old.collapse
+  pub weights : IsSameShape old.weights new.weights
+  pub pools : KeepsPools old.pools new.pools
   pub decided : KeepsPlaces old.decided new.decided
 
 -- the room is as made: every pool has the shape that it had, and what its lanes hold is free, as is the table of the collapsed model

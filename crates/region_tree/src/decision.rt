@@ -1,22 +1,38 @@
 // What decides a rectangle.
-ghost use Rattle.std.specs.Prelude.{◌≡◌, ◌*◌, ◌<◌, ◌≤◌, ◌+ℤ◌, pos, length, IsTrue, IsFalse, IsNone, IfSome};
+ghost use Rattle.std.specs.Prelude.{◌≡◌, ◌≤◌, ◌+ℤ◌, pos, IsTrue, IsFalse, IsNone, IfSome};
 ghost use Rattle.lift_grid.specs.Rectangle.{Spans, spans_of};
 ghost use Rattle.lift_model.specs.Links.{AreLinks};
-ghost use Rattle.lift_model.specs.Model.{row_count};
 ghost use Rattle.lift_cert.specs.Certificate.{IsBeyond, IsWithin, NoneAccepts};
-ghost use Rattle.corner_lift.specs.Case.{AreSidesInside, most_precision};
+ghost use Rattle.corner_lift.specs.Case.{AreSidesInside, IsInside, most_precision};
 ghost use Rattle.corner_lift.specs.Table.{IsTable};
 ghost use Rattle.lower_cert.specs.Limit.{IsGreatestAbove, NoneIsAbove};
-ghost use Rattle.lower_cert.specs.Lowering.{HasPlaces, IsRead};
+ghost use Rattle.lower_cert.specs.Lowering.{IsHigh};
 ghost use Rattle.rounded_iter.specs.Watching.{CanIterate, IsLeastWithin};
 ghost use Rattle.lift_collapse.specs.Collapse.{IsCollapse};
 ghost use Rattle.lift_collapse.specs.Filled.{IsFilled};
-ghost use Rattle.region_tree.specs.Decided.{CanDecide, IsDecided, IsDecidedBy, IsGreatestBeyond, lane, reject_of};
+ghost use Rattle.region_tree.specs.Decided.{
+  CanAsk,
+  CanDecide,
+  IsDecided,
+  IsDecidedIn,
+  IsGreatestBeyond,
+  lane,
+  reject_in,
+};
 ghost use Rattle.region_tree.specs.Recent.{AreCertified, IsSound};
 ghost use Rattle.region_tree.specs.Right.{IsAccepted, NoneRejects};
-ghost use Rattle.region_tree.specs.Rooms.{HasLane, IsSameShape, KeepsShape, collapse_of, last_sides};
+ghost use Rattle.region_tree.specs.Rooms.{
+  HasLane,
+  HasPools,
+  IsSameShape,
+  KeepsPools,
+  KeepsShape,
+  collapse_of,
+  last_sides,
+};
 
 use crate::decided::Outlook;
+use crate::pools::Pools;
 use crate::room::Room;
 use crate::verdict::Verdict;
 use corner_lift::{Case, fill};
@@ -61,264 +77,255 @@ fn greatest_within(bound: Bound, w: u32) -> i64
     (scaled / u128::from(bound.den)) as i64
 }
 
-/// The least upper vector in `lane`, if its number of the initial state is within the limit. It is found on
-/// the collapsed model where there is one.
-fn least_upper(
-    case: &Case,
-    links: &Links,
-    weights: &[i128],
-    limit: i64,
-    collapse: &mut Option<Collapse>,
-    lane: &mut [i64],
-    work: &mut [u32],
-) -> bool
-    ghost spans: { Spans }
-    requires can { CanIterate case.now links.now spans weights.now lane.old work.old }
-    requires filled { IfSome collapse.old (IsFilled case.now spans) }
-    ensures same { collapse.new ≡ collapse.old }
-    ensures least { IsLeastWithin case.now spans limit lane.new result }
-{
-    match collapse {
-        Some(collapse) => collapse.least_upper_within(case, limit, lane),
-        None => least_upper_within(case, links, weights, limit, lane, work),
-    }
-}
-
-/// The greatest lower vector in `lane`, with its ranks and picks, if its number of the initial state is above
-/// the limit. Where there is a collapsed model, a vector at or above it is found on that.
-fn greatest_lower(
-    case: &Case,
-    links: &Links,
-    weights: &[i128],
-    limit: i64,
-    collapse: &mut Option<Collapse>,
-    lane: &mut [i64],
-    allowed: &mut [u32],
-    ranks: &mut [u32],
-    picks: &mut [u32],
-    work: &mut [u32],
-) -> Option<Rate>
-    ghost spans: { Spans }
-    requires read { IsRead case.now links.now spans weights.now lane.old }
-    requires places { HasPlaces case.now allowed.old ranks.old picks.old }
-    requires work { length work.old ≡ 2 * length case.now.model.states }
-    requires filled { IfSome collapse.old (IsFilled case.now spans) }
-    ensures same { collapse.new ≡ collapse.old }
-    ensures some { IfSome result (λ rate. IsGreatestAbove case.now spans limit
-        (reject_of lane.new picks.new ranks.new rate.e rate.k)) }
-    ensures none { IsNone result → NoneIsAbove case.now spans limit }
-{
-    let Some(collapse) = collapse else {
-        return greatest_reject_above(
-            case, links, weights, limit, lane, allowed, ranks, picks, work,
-        );
-    };
-    if !collapse.lower_above(case, limit, lane) {
-        return None;
-    }
-    greatest_reject_from(
-        case, links, weights, limit, lane, allowed, ranks, picks, work,
-    )
-}
-
-/// Whether an accepting certificate exists, if one may. Then the least upper vector is in the pool's one lane.
-fn find_accepting(
-    case: &Case,
-    links: &Links,
+/// What is asked of a rectangle whose table the weights are: which certificates it has, for a bound.
+#[derive(Clone, Copy)]
+struct Question<'a> {
+    case: &'a Case<'a>,
+    links: &'a Links,
+    weights: &'a [i128],
     bound: Bound,
-    weights: &[i128],
-    collapse: &mut Option<Collapse>,
-    values: &mut Pool<i64>,
-    work: &mut Pool<u32>,
-    may: bool,
-) -> bool
-    ghost spans: { Spans }
-    requires links { AreLinks case.now.model links.now }
-    requires table { IsTable case.now links.now spans weights.now }
-    requires filled { IfSome collapse.old (IsFilled case.now spans) }
-    requires values { HasLane values.old (length case.now.model.states) }
-    requires work { HasLane work.old (2 * length case.now.model.states) }
-    requires may { IsFalse may → NoneAccepts case.now spans bound }
-    ensures collapse { collapse.new ≡ collapse.old }
-    ensures values { IsSameShape values.old values.new }
-    ensures work { IsSameShape work.old work.new }
-    ensures accepted { IsTrue result → IsAccepted case.now spans bound (lane values.new) }
-    ensures none { IsFalse result → NoneAccepts case.now spans bound }
-{
-    if !may {
-        return false;
-    }
-    lanes_stand_alone::<i64>();
-    lanes_stand_alone::<u32>();
-    let limit = greatest_within(bound, case.w());
-    least_upper(
-        case,
-        links,
-        weights,
-        limit,
-        collapse,
-        values.lane_mut(0),
-        work.lane_mut(0),
-    )
 }
 
-/// Whether a rejecting certificate exists, if one may. Then the greatest lower vector, its ranks and its picks are in the
-/// pools' one lane each, and this is its rate.
-fn find_rejecting(
-    case: &Case,
-    links: &Links,
-    bound: Bound,
-    weights: &[i128],
-    collapse: &mut Option<Collapse>,
-    values: &mut Pool<i64>,
-    allowed: &mut Pool<u32>,
-    ranks: &mut Pool<u32>,
-    picks: &mut Pool<u32>,
-    work: &mut Pool<u32>,
-    may: bool,
-) -> Option<Rate>
-    ghost spans: { Spans }
-    requires links { AreLinks case.now.model links.now }
-    requires table { IsTable case.now links.now spans weights.now }
-    requires filled { IfSome collapse.old (IsFilled case.now spans) }
-    requires values { HasLane values.old (length case.now.model.states) }
-    requires allowed { HasLane allowed.old (row_count case.now.model) }
-    requires ranks { HasLane ranks.old (length case.now.model.states) }
-    requires picks { HasLane picks.old (length case.now.model.states) }
-    requires work { HasLane work.old (2 * length case.now.model.states) }
-    requires may { IsFalse may → NoneRejects case.now spans bound }
-    ensures collapse { collapse.new ≡ collapse.old }
-    ensures values { IsSameShape values.old values.new }
-    ensures allowed { IsSameShape allowed.old allowed.new }
-    ensures ranks { IsSameShape ranks.old ranks.new }
-    ensures picks { IsSameShape picks.old picks.new }
-    ensures work { IsSameShape work.old work.new }
-    ensures rejecting { IfSome result (λ rate. IsGreatestBeyond case.now spans bound
-        (reject_of (lane values.new) (lane picks.new) (lane ranks.new) rate.e rate.k)) }
-    ensures none { IsNone result → NoneRejects case.now spans bound }
-{
-    if !may {
-        return None;
-    }
-    ranks_fit();
-    lanes_stand_alone::<i64>();
-    lanes_stand_alone::<u32>();
-    let limit = greatest_within(bound, case.w());
-    greatest_lower(
-        case,
-        links,
-        weights,
-        limit,
-        collapse,
-        values.lane_mut(0),
-        allowed.lane_mut(0),
-        ranks.lane_mut(0),
-        picks.lane_mut(0),
-        work.lane_mut(0),
-    )
-}
-
-/// Decides the rectangle with these sides, in the pools of a room. Where a rejecting certificate is to be
-/// expected it is looked for first, since then no accepting one exists, and nothing is lost.
-fn decide_in(
-    case: &Case,
-    links: &Links,
-    bound: Bound,
-    sides: &[i64],
-    outlook: Outlook,
-    collapse: &mut Option<Collapse>,
-    weights: &mut Pool<i128>,
-    values: &mut Pool<i64>,
-    allowed: &mut Pool<u32>,
-    ranks: &mut Pool<u32>,
-    picks: &mut Pool<u32>,
-    work: &mut Pool<u32>,
-) -> Verdict
-    ghost spans: { Spans }
-    requires spans { spans_of sides.now ≡ spans }
-    requires links { AreLinks case.now.model links.now }
-    requires sides { AreSidesInside case.now.root sides.now }
-    requires collapse { IfSome (collapse_of collapse.old) (IsCollapse case.now.model) }
-    requires weights { HasLane weights.old links.now.weights }
-    requires values { HasLane values.old (length case.now.model.states) }
-    requires allowed { HasLane allowed.old (row_count case.now.model) }
-    requires ranks { HasLane ranks.old (length case.now.model.states) }
-    requires picks { HasLane picks.old (length case.now.model.states) }
-    requires work { HasLane work.old (2 * length case.now.model.states) }
-    requires outlook { IsSound case.now bound spans outlook }
-    ensures collapse { collapse_of collapse.new ≡ collapse_of collapse.old }
-    ensures weights { IsSameShape weights.old weights.new }
-    ensures values { IsSameShape values.old values.new }
-    ensures allowed { IsSameShape allowed.old allowed.new }
-    ensures ranks { IsSameShape ranks.old ranks.new }
-    ensures picks { IsSameShape picks.old picks.new }
-    ensures work { IsSameShape work.old work.new }
-    ensures table { IsTable case.now links.now spans (lane weights.new) }
-    ensures decided { IsDecidedBy case.now spans bound
-        (lane values.new) (lane picks.new) (lane ranks.new) result }
-{
-    let Outlook {
-        may_accept,
-        may_reject,
-        rejects_first,
-    } = outlook;
-    certificates_are_of_one_kind();
-    let _ = case.w();
-    make_table(case, links, sides, weights);
-    fill_collapse(case, sides, collapse);
-    let weights = weights.lane(0);
-    if rejects_first {
-        let rate = find_rejecting(
-            case, links, bound, weights, collapse, values, allowed, ranks, picks, work, may_reject,
-        );
-        if let Some(Rate { e, k }) = rate {
-            return Verdict::Reject { e, k };
+impl Question<'_> {
+    /// The least upper vector in `lane`, if its number of the initial state is within the limit. It is found on
+    /// the collapsed model where there is one.
+    fn least_upper(
+        &self,
+        limit: i64,
+        collapse: &mut Option<Collapse>,
+        lane: &mut [i64],
+        work: &mut [u32],
+    ) -> bool
+        ghost spans: { Spans }
+        requires can { CanIterate self.now.case.now self.now.links.now spans self.now.weights.now lane.old work.old }
+        requires filled { IfSome collapse.old (IsFilled self.now.case.now spans) }
+        ensures same { collapse.new ≡ collapse.old }
+        ensures least { IsLeastWithin self.now.case.now spans limit lane.new result }
+    {
+        match collapse {
+            Some(collapse) => collapse.least_upper_within(self.case, limit, lane),
+            None => { least_upper_within(self.case, self.links, self.weights, limit, lane, work) }
         }
-        if find_accepting(
-            case, links, bound, weights, collapse, values, work, may_accept,
-        ) {
+    }
+
+    /// Whether an accepting certificate exists, if one may. Then the least upper vector is in the lanes.
+    fn find_accepting(&self, may: bool, collapse: &mut Option<Collapse>, pools: &mut Pools) -> bool
+        ghost spans: { Spans }
+        requires asked { CanAsk self.now.case.now self.now.links.now spans self.now.weights.now }
+        requires filled { IfSome collapse.old (IsFilled self.now.case.now spans) }
+        requires pools { HasPools self.now.case.now.model pools.old }
+        requires may { IsFalse may → NoneAccepts self.now.case.now spans self.now.bound }
+        ensures collapse { collapse.new ≡ collapse.old }
+        ensures pools { KeepsPools pools.old pools.new }
+        ensures accepted { IsTrue result → IsAccepted self.now.case.now spans self.now.bound (lane pools.new.values) }
+        ensures none { IsFalse result → NoneAccepts self.now.case.now spans self.now.bound }
+    {
+        if !may {
+            return false;
+        }
+        lanes_stand_alone::<i64>();
+        lanes_stand_alone::<u32>();
+        let limit = greatest_within(self.bound, self.case.w());
+        self.least_upper(
+            limit,
+            collapse,
+            pools.values.lane_mut(0),
+            pools.work.lane_mut(0),
+        )
+    }
+
+    /// The greatest lower vector in the lanes, with its ranks and picks, if its number of the initial state is
+    /// above the limit. It is lowered from the vector of ones.
+    fn lower_from_ones(&self, limit: i64, pools: &mut Pools) -> Option<Rate>
+        ghost spans: { Spans }
+        requires asked { CanAsk self.now.case.now self.now.links.now spans self.now.weights.now }
+        requires pools { HasPools self.now.case.now.model pools.old }
+        ensures pools { KeepsPools pools.old pools.new }
+        ensures some { IfSome result (λ rate.
+            IsGreatestAbove self.now.case.now spans limit (reject_in pools.new rate.e rate.k)) }
+        ensures none { IsNone result → NoneIsAbove self.now.case.now spans limit }
+    {
+        lanes_stand_alone::<i64>();
+        lanes_stand_alone::<u32>();
+        greatest_reject_above(
+            self.case,
+            self.links,
+            self.weights,
+            limit,
+            pools.values.lane_mut(0),
+            pools.allowed.lane_mut(0),
+            pools.ranks.lane_mut(0),
+            pools.picks.lane_mut(0),
+            pools.work.lane_mut(0),
+        )
+    }
+
+    /// The same, lowered from the vector in the lanes, which lies at or above each lower vector.
+    fn lower_from_values(&self, limit: i64, pools: &mut Pools) -> Option<Rate>
+        ghost spans: { Spans }
+        requires asked { CanAsk self.now.case.now self.now.links.now spans self.now.weights.now }
+        requires pools { HasPools self.now.case.now.model pools.old }
+        requires high { IsHigh self.now.case.now spans (lane pools.old.values) }
+        ensures pools { KeepsPools pools.old pools.new }
+        ensures some { IfSome result (λ rate.
+            IsGreatestAbove self.now.case.now spans limit (reject_in pools.new rate.e rate.k)) }
+        ensures none { IsNone result → NoneIsAbove self.now.case.now spans limit }
+    {
+        lanes_stand_alone::<i64>();
+        lanes_stand_alone::<u32>();
+        greatest_reject_from(
+            self.case,
+            self.links,
+            self.weights,
+            limit,
+            pools.values.lane_mut(0),
+            pools.allowed.lane_mut(0),
+            pools.ranks.lane_mut(0),
+            pools.picks.lane_mut(0),
+            pools.work.lane_mut(0),
+        )
+    }
+
+    /// The greatest lower vector in the lanes, with its ranks and picks, if its number of the initial state is
+    /// above the limit. Where there is a collapsed model, a vector at or above it is found on that.
+    fn greatest_lower(
+        &self,
+        limit: i64,
+        collapse: &mut Option<Collapse>,
+        pools: &mut Pools,
+    ) -> Option<Rate>
+        ghost spans: { Spans }
+        requires asked { CanAsk self.now.case.now self.now.links.now spans self.now.weights.now }
+        requires filled { IfSome collapse.old (IsFilled self.now.case.now spans) }
+        requires pools { HasPools self.now.case.now.model pools.old }
+        ensures collapse { collapse.new ≡ collapse.old }
+        ensures pools { KeepsPools pools.old pools.new }
+        ensures some { IfSome result (λ rate.
+            IsGreatestAbove self.now.case.now spans limit (reject_in pools.new rate.e rate.k)) }
+        ensures none { IsNone result → NoneIsAbove self.now.case.now spans limit }
+    {
+        lanes_stand_alone::<i64>();
+        let Some(collapse) = collapse else {
+            return self.lower_from_ones(limit, pools);
+        };
+        if !collapse.lower_above(self.case, limit, pools.values.lane_mut(0)) {
+            return None;
+        }
+        self.lower_from_values(limit, pools)
+    }
+
+    /// Whether a rejecting certificate exists, if one may. Then the greatest lower vector, its ranks and its picks
+    /// are in the lanes, and this is its rate.
+    fn find_rejecting(
+        &self,
+        may: bool,
+        collapse: &mut Option<Collapse>,
+        pools: &mut Pools,
+    ) -> Option<Rate>
+        ghost spans: { Spans }
+        requires asked { CanAsk self.now.case.now self.now.links.now spans self.now.weights.now }
+        requires filled { IfSome collapse.old (IsFilled self.now.case.now spans) }
+        requires pools { HasPools self.now.case.now.model pools.old }
+        requires may { IsFalse may → NoneRejects self.now.case.now spans self.now.bound }
+        ensures collapse { collapse.new ≡ collapse.old }
+        ensures pools { KeepsPools pools.old pools.new }
+        ensures rejecting { IfSome result (λ rate.
+            IsGreatestBeyond self.now.case.now spans self.now.bound (reject_in pools.new rate.e rate.k)) }
+        ensures none { IsNone result → NoneRejects self.now.case.now spans self.now.bound }
+    {
+        if !may {
+            return None;
+        }
+        ranks_fit();
+        let limit = greatest_within(self.bound, self.case.w());
+        self.greatest_lower(limit, collapse, pools)
+    }
+
+    /// Decides the rectangle, in the lanes. Where a rejecting certificate is to be expected it is looked for first,
+    /// since then no accepting one exists, and nothing is lost.
+    fn decide(
+        &self,
+        outlook: Outlook,
+        collapse: &mut Option<Collapse>,
+        pools: &mut Pools,
+    ) -> Verdict
+        ghost spans: { Spans }
+        requires asked { CanAsk self.now.case.now self.now.links.now spans self.now.weights.now }
+        requires inside { IsInside self.now.case.now.root spans }
+        requires filled { IfSome collapse.old (IsFilled self.now.case.now spans) }
+        requires pools { HasPools self.now.case.now.model pools.old }
+        requires outlook { IsSound self.now.case.now self.now.bound spans outlook }
+        ensures collapse { collapse.new ≡ collapse.old }
+        ensures pools { KeepsPools pools.old pools.new }
+        ensures decided { IsDecidedIn self.now.case.now spans self.now.bound pools.new result }
+    {
+        let Outlook {
+            may_accept,
+            may_reject,
+            rejects_first,
+        } = outlook;
+        certificates_are_of_one_kind();
+        let _ = self.case.w();
+        if rejects_first {
+            let rate = self.find_rejecting(may_reject, collapse, pools);
+            if let Some(Rate { e, k }) = rate {
+                return Verdict::Reject { e, k };
+            }
+            if self.find_accepting(may_accept, collapse, pools) {
+                return Verdict::Accept;
+            }
+            return Verdict::Unknown;
+        }
+        if self.find_accepting(may_accept, collapse, pools) {
             return Verdict::Accept;
         }
-        return Verdict::Unknown;
+        let rate = self.find_rejecting(may_reject, collapse, pools);
+        match rate {
+            Some(Rate { e, k }) => Verdict::Reject { e, k },
+            None => Verdict::Unknown,
+        }
     }
-    if find_accepting(
-        case, links, bound, weights, collapse, values, work, may_accept,
-    ) {
-        return Verdict::Accept;
-    }
-    let rate = find_rejecting(
-        case, links, bound, weights, collapse, values, allowed, ranks, picks, work, may_reject,
-    );
-    match rate {
-        Some(Rate { e, k }) => Verdict::Reject { e, k },
-        None => Verdict::Unknown,
+}
+
+impl Room {
+    /// Makes the table of the rectangle that the last lane of sides holds, and that of the collapsed model, where
+    /// there is one.
+    fn make_tables(&mut self, case: &Case, links: &Links)
+        requires can { CanDecide case.now links.now self.old }
+        ensures sides { self.new.sides ≡ self.old.sides }
+        ensures pools { self.new.pools ≡ self.old.pools }
+        ensures noted { self.new.decided ≡ self.old.decided }
+        ensures collapse { collapse_of self.new.collapse ≡ collapse_of self.old.collapse }
+        ensures shape { IsSameShape self.old.weights self.new.weights }
+        ensures table { IsTable case.now links.now (spans_of (last_sides self.old)) (lane self.new.weights) }
+        ensures filled { IfSome self.new.collapse (IsFilled case.now (spans_of (last_sides self.old))) }
+    {
+        let sides = self.sides.lane(self.sides.lanes() - 1);
+        make_table(case, links, sides, &mut self.weights);
+        fill_collapse(case, sides, &mut self.collapse);
     }
 }
 
 /// Decides the rectangle that the room's last lane of sides holds, of which that is known.
 fn decide_by(case: &Case, links: &Links, bound: Bound, room: &mut Room, outlook: Outlook) -> Verdict
+    ghost spans: { Spans }
+    requires spans { spans_of (last_sides room.old) ≡ spans }
     requires can { CanDecide case.now links.now room.old }
-    requires outlook { IsSound case.now bound (spans_of (last_sides room.old)) outlook }
+    requires outlook { IsSound case.now bound spans outlook }
     ensures sides { room.new.sides ≡ room.old.sides }
     ensures shape { KeepsShape room.old room.new }
     ensures noted { room.new.decided ≡ room.old.decided }
-    ensures table { IsTable case.now links.now (spans_of (last_sides room.old)) (lane room.new.weights) }
-    ensures decided { IsDecided case.now (spans_of (last_sides room.old)) bound room.new result }
+    ensures table { IsTable case.now links.now spans (lane room.new.weights) }
+    ensures decided { IsDecided case.now spans bound room.new result }
 {
-    decide_in(
-        case,
-        links,
+    room.make_tables(case, links);
+    let question = Question {
+        case: &*case,
+        links: &*links,
+        weights: room.weights.lane(0),
         bound,
-        room.sides.lane(room.sides.lanes() - 1),
-        outlook,
-        &mut room.collapse,
-        &mut room.weights,
-        &mut room.values,
-        &mut room.allowed,
-        &mut room.ranks,
-        &mut room.picks,
-        &mut room.work,
-    )
+    };
+    question.decide(outlook, &mut room.collapse, &mut room.pools)
 }
 
 /// Decides the rectangle that the room's last lane of sides holds. The room was made for the case, and

@@ -12,39 +12,37 @@ use crate::laws::certificates_are_one;
 use crate::room::Room;
 use crate::verdict::Verdict;
 use crate::visitor::{Seen, Visitor};
-use corner_lift::Case;
-use lift_cert::Bound;
-use lift_model::Links;
+use crate::walking::Walker;
 
-/// Shows a leaf: a rectangle that is decided, or an open one at the greatest depth.
-pub(crate) fn show_leaf<V: Visitor>(
-    case: &Case,
-    links: &Links,
-    bound: Bound,
-    depth: u32,
-    room: &Room,
-    verdict: Verdict,
-    visitor: &mut V,
-) -> Seen
-    requires case { IsCase case.now }
-    requires links { AreLinks case.now.model links.now }
-    requires lanes { HasLanes case.now.model links.now room.now }
-    requires inside { IsInside case.now.root (spans_of (last_sides room.now)) }
-    requires decided { IsDecided case.now (spans_of (last_sides room.now)) bound room.now verdict }
-    requires leaf { verdict ≡ Unknown → depth ≡ greatest_depth case.now }
-    requires states { V.states visitor.old ≡ length case.now.model.states }
-    ensures walks { Walks case.now (spans_of (last_sides room.now)) bound depth
-        V.taken V.faults (V.entry visitor.old) visitor.old visitor.new result }
-    ensures states { V.states visitor.new ≡ V.states visitor.old }
-    ensures entry { V.entry visitor.new ≡ V.entry visitor.old }
-    ensures same { V.reference visitor.new ≡ V.reference visitor.old }
-{
-    certificates_are_one();
-    match verdict {
-        Verdict::Accept => visitor.accept(room.values()),
-        Verdict::Reject { e, k } => {
-            visitor.reject(e, k, room.values(), room.picks(), room.ranks())
+impl Walker<'_> {
+    /// Shows a leaf: a rectangle that is decided, or an open one at the greatest depth.
+    pub(crate) fn show_leaf<V: Visitor>(
+        &self,
+        depth: u32,
+        room: &Room,
+        verdict: Verdict,
+        visitor: &mut V,
+    ) -> Seen
+        requires case { IsCase self.now.case.now }
+        requires links { AreLinks self.now.case.now.model self.now.links.now }
+        requires lanes { HasLanes self.now.case.now.model self.now.links.now room.now }
+        requires inside { IsInside self.now.case.now.root (spans_of (last_sides room.now)) }
+        requires decided { IsDecided self.now.case.now (spans_of (last_sides room.now)) self.now.bound room.now verdict }
+        requires leaf { verdict ≡ Unknown → depth ≡ greatest_depth self.now.case.now }
+        requires states { V.states visitor.old ≡ length self.now.case.now.model.states }
+        ensures walks { Walks self.now.case.now (spans_of (last_sides room.now)) self.now.bound depth
+            V.taken V.faults (V.entry visitor.old) visitor.old visitor.new result }
+        ensures states { V.states visitor.new ≡ V.states visitor.old }
+        ensures entry { V.entry visitor.new ≡ V.entry visitor.old }
+        ensures same { V.reference visitor.new ≡ V.reference visitor.old }
+    {
+        certificates_are_one();
+        match verdict {
+            Verdict::Accept => visitor.accept(room.values()),
+            Verdict::Reject { e, k } => {
+                visitor.reject(e, k, room.values(), room.picks(), room.ranks())
+            }
+            Verdict::Unknown => visitor.unknown(),
         }
-        Verdict::Unknown => visitor.unknown(),
     }
 }

@@ -7,6 +7,7 @@ mod decision;
 mod halves;
 mod laws;
 mod leaf;
+mod pools;
 mod recent;
 mod room;
 mod tree;

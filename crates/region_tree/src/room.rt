@@ -1,33 +1,32 @@
 ghost use Rattle.std.specs.Prelude.{◌≡◌, ◌<◌, [], ◌∷◌, IfOk, length, slice_index_or};
 ghost use Rattle.lift_grid.specs.Rectangle.{sides_of};
 ghost use Rattle.lift_model.specs.Links.{AreLinks};
-ghost use Rattle.lift_model.specs.Model.{row_count};
 ghost use Rattle.region_tree.specs.Recent.{HasAllPlaces};
 ghost use Rattle.region_tree.specs.Rooms.{IsMadeFor, end_count, last_sides};
 
 use crate::decided::Decided;
+use crate::pools::Pools;
 use corner_lift::Case;
 use lift_collapse::Collapse;
-use lift_model::{Links, Model};
+use lift_model::Links;
 use lift_pool::Pool;
 use lift_walk::{sides_go_down, sides_of_case};
 use std::alloc::{AllocError, Global};
 
 /// All memory that a walk over the tree of a case needs.
 ///
-/// A room is seen as its collapsed model, its pools, and the rectangles that are noted. What the lanes and the
+/// A room is seen as its parts. What the lanes and the
 /// collapsed model's table hold between two walks is free, and so is what is noted.
 #[derive(Drop)]
 pub struct Room {
     /// The case's model with fewer states, where that is worth it.
     pub(crate) collapse: Option<Collapse>,
+    /// The sides of the rectangles on the way from the root.
     pub(crate) sides: Pool<i64>,
+    /// The table of corner weights.
     pub(crate) weights: Pool<i128>,
-    pub(crate) values: Pool<i64>,
-    pub(crate) allowed: Pool<u32>,
-    pub(crate) ranks: Pool<u32>,
-    pub(crate) picks: Pool<u32>,
-    pub(crate) work: Pool<u32>,
+    /// The lanes in which vectors are found.
+    pub(crate) pools: Pools,
     /// The rectangles of a walk that were decided last.
     pub(crate) decided: Decided,
 }
@@ -41,22 +40,9 @@ impl std::marker::Model for Room {
       collapse = r.collapse;
       sides = r.sides;
       weights = r.weights;
-      values = r.values;
-      allowed = r.allowed;
-      ranks = r.ranks;
-      picks = r.picks;
-      work = r.work;
+      pools = r.pools;
       decided = r.decided;
     } };
-}
-
-/// How many rows the model has: as many as the number of its last row, and one.
-fn row_count(model: &Model, links: &Links) -> usize
-    requires { AreLinks model.now links.now }
-    ensures { result ≡ row_count model.now }
-{
-    let last = model.states() - 1;
-    links.row_place(last, model.choices(last) - 1) + 1
 }
 
 /// Places for the rectangles of a walk that are decided last.
@@ -76,15 +62,10 @@ impl Room {
         ensures made { IfOk result (IsMadeFor case.now links.now) }
         ensures root { IfOk result (λ r. r.sides.lanes ≡ sides_of case.now.root ∷ []) }
     {
-        let states = case.model().states() as usize;
         Ok(Room {
             sides: sides_of_case(alloc, case)?,
             weights: Pool::filled(alloc, 1, links.weights_len(), 0)?,
-            values: Pool::filled(alloc, 1, states, 0)?,
-            allowed: Pool::filled(alloc, 1, row_count(case.model(), links), 0)?,
-            ranks: Pool::filled(alloc, 1, states, 0)?,
-            picks: Pool::filled(alloc, 1, states, 0)?,
-            work: Pool::filled(alloc, 1, 2 * states, 0)?,
+            pools: Pools::of_model(alloc, case.model(), links)?,
             decided: decided_of_case(alloc, case)?,
             collapse: Collapse::build(alloc, case.model(), links)?,
         })
@@ -108,25 +89,25 @@ impl Room {
 
     /// The numbers of the states.
     pub fn values(&self) -> &[i64]
-        requires { 0 < length self.now.values.lanes }
-        ensures { result.now ≡ slice_index_or self.now.values.lanes 0 [] }
+        requires { 0 < length self.now.pools.values.lanes }
+        ensures { result.now ≡ slice_index_or self.now.pools.values.lanes 0 [] }
     {
-        self.values.lane(0)
+        self.pools.values.lane(0)
     }
 
     /// The picks of the states.
     pub fn picks(&self) -> &[u32]
-        requires { 0 < length self.now.picks.lanes }
-        ensures { result.now ≡ slice_index_or self.now.picks.lanes 0 [] }
+        requires { 0 < length self.now.pools.picks.lanes }
+        ensures { result.now ≡ slice_index_or self.now.pools.picks.lanes 0 [] }
     {
-        self.picks.lane(0)
+        self.pools.picks.lane(0)
     }
 
     /// The ranks of the states.
     pub fn ranks(&self) -> &[u32]
-        requires { 0 < length self.now.ranks.lanes }
-        ensures { result.now ≡ slice_index_or self.now.ranks.lanes 0 [] }
+        requires { 0 < length self.now.pools.ranks.lanes }
+        ensures { result.now ≡ slice_index_or self.now.pools.ranks.lanes 0 [] }
     {
-        self.ranks.lane(0)
+        self.pools.ranks.lane(0)
     }
 }

@@ -15,7 +15,7 @@ use crate::decision::decide_next;
 use crate::laws::walks_are_placed;
 use crate::room::Room;
 use crate::verdict::Verdict;
-use crate::walking::{axis_of, is_decided};
+use crate::walking::{Walker, axis_of, is_decided};
 use corner_lift::Case;
 use lift_cert::Bound;
 use lift_grid::{Marks, Values, rows_are_rectangles};
@@ -63,36 +63,6 @@ impl Tree {
     }
 }
 
-// The leaf of a rectangle that is decided, or of an open one at the greatest depth.
-fn leaf(
-    alloc: Global,
-    case: &Case,
-    bound: Bound,
-    depth: u32,
-    room: &Room,
-    verdict: Verdict,
-) -> Result<Branch, AllocError>
-    requires decided { IsDecided case.now (spans_of (last_sides room.now)) bound room.now verdict }
-    requires lanes { 0 < length room.now.values.lanes }
-    requires leaf { verdict ≡ Unknown → depth ≡ greatest_depth case.now }
-    ensures { IfOk result (λ b. IsRight case.now (spans_of (last_sides room.now)) bound depth
-        (tree_at case.now.w b)) }
-{
-    Ok(match verdict {
-        Verdict::Accept => Branch::Accept {
-            x: Values::from_slice(alloc, room.values())?,
-        },
-        Verdict::Reject { e, k } => Branch::Reject {
-            e,
-            k,
-            y: Values::from_slice(alloc, room.values())?,
-            picks: Marks::from_slice(alloc, room.picks())?,
-            ranks: Marks::from_slice(alloc, room.ranks())?,
-        },
-        Verdict::Unknown => Branch::Unknown,
-    })
-}
-
 // A split, with the trees of its halves.
 fn halved(alloc: Global, axis: u32, lower: Branch, upper: Branch) -> Result<Branch, AllocError>
     ensures { (u : ℕ) → IfOk result (λ b. tree_at u b ≡ split axis (tree_at u lower) (tree_at u upper)) }
@@ -102,43 +72,66 @@ fn halved(alloc: Global, axis: u32, lower: Branch, upper: Branch) -> Result<Bran
     Ok(Branch::Split { axis, lower, upper })
 }
 
-// The tree of the rectangle that the room's last lane of sides holds.
-fn build_at(
-    alloc: Global,
-    case: &Case,
-    links: &Links,
-    bound: Bound,
-    greatest: u32,
-    depth: u32,
-    room: &mut Room,
-) -> Result<Branch, AllocError>
-    requires case { IsCase case.now }
-    requires links { AreLinks case.now.model links.now }
-    requires greatest { greatest ≡ greatest_depth case.now }
-    requires depth { depth ≤ greatest }
-    requires lanes { HasLanes case.now.model links.now room.old }
-    requires placed { StandsAtDepth case.now depth room.old }
-    requires known { AreCertified case.now bound room.old.decided }
-    ensures right { IfOk result (λ b. IsRight case.now (spans_of (last_sides room.old)) bound depth
-        (tree_at case.now.w b)) }
-    ensures sides { room.new.sides ≡ room.old.sides }
-    ensures shape { KeepsShape room.old room.new }
-    ensures known { AreCertified case.now bound room.new.decided }
-{
-    walks_are_placed();
-    let verdict = decide_next(case, links, bound, room);
-    if depth == greatest || is_decided(verdict) {
-        return leaf(alloc, case, bound, depth, room, verdict);
+impl Walker<'_> {
+    // The leaf of a rectangle that is decided, or of an open one at the greatest depth.
+    fn leaf(
+        &self,
+        alloc: Global,
+        depth: u32,
+        room: &Room,
+        verdict: Verdict,
+    ) -> Result<Branch, AllocError>
+        requires decided { IsDecided self.now.case.now (spans_of (last_sides room.now)) self.now.bound room.now verdict }
+        requires lanes { 0 < length room.now.pools.values.lanes }
+        requires leaf { verdict ≡ Unknown → depth ≡ greatest_depth self.now.case.now }
+        ensures { IfOk result (λ b. IsRight self.now.case.now (spans_of (last_sides room.now)) self.now.bound depth
+            (tree_at self.now.case.now.w b)) }
+    {
+        Ok(match verdict {
+            Verdict::Accept => Branch::Accept {
+                x: Values::from_slice(alloc, room.values())?,
+            },
+            Verdict::Reject { e, k } => Branch::Reject {
+                e,
+                k,
+                y: Values::from_slice(alloc, room.values())?,
+                picks: Marks::from_slice(alloc, room.picks())?,
+                ranks: Marks::from_slice(alloc, room.ranks())?,
+            },
+            Verdict::Unknown => Branch::Unknown,
+        })
     }
-    let axis = axis_of(case, depth, room);
-    room.take_half(axis, true);
-    let lower = build_at(alloc, case, links, bound, greatest, depth + 1, room);
-    room.give_half();
-    let lower = lower?;
-    room.take_half(axis, false);
-    let upper = build_at(alloc, case, links, bound, greatest, depth + 1, room);
-    room.give_half();
-    halved(alloc, axis, lower, upper?)
+
+    // The tree of the rectangle that the room's last lane of sides holds.
+    fn build_at(&self, alloc: Global, depth: u32, room: &mut Room) -> Result<Branch, AllocError>
+        requires case { IsCase self.now.case.now }
+        requires links { AreLinks self.now.case.now.model self.now.links.now }
+        requires greatest { self.now.greatest ≡ greatest_depth self.now.case.now }
+        requires depth { depth ≤ self.now.greatest }
+        requires lanes { HasLanes self.now.case.now.model self.now.links.now room.old }
+        requires placed { StandsAtDepth self.now.case.now depth room.old }
+        requires known { AreCertified self.now.case.now self.now.bound room.old.decided }
+        ensures right { IfOk result (λ b. IsRight self.now.case.now (spans_of (last_sides room.old)) self.now.bound depth
+            (tree_at self.now.case.now.w b)) }
+        ensures sides { room.new.sides ≡ room.old.sides }
+        ensures shape { KeepsShape room.old room.new }
+        ensures known { AreCertified self.now.case.now self.now.bound room.new.decided }
+    {
+        walks_are_placed();
+        let verdict = decide_next(self.case, self.links, self.bound, room);
+        if depth == self.greatest || is_decided(verdict) {
+            return self.leaf(alloc, depth, room, verdict);
+        }
+        let axis = axis_of(self.case, depth, room);
+        room.take_half(axis, true);
+        let lower = self.build_at(alloc, depth + 1, room);
+        room.give_half();
+        let lower = lower?;
+        room.take_half(axis, false);
+        let upper = self.build_at(alloc, depth + 1, room);
+        room.give_half();
+        halved(alloc, axis, lower, upper?)
+    }
 }
 
 /// Builds the right tree of a case. Memory is taken for a room and for the tree.
@@ -152,6 +145,12 @@ pub fn build(alloc: Global, case: &Case, links: &Links, bound: Bound) -> Result<
     let mut room = Room::make(alloc, case, links)?;
     room.begin(case);
     let greatest = case.greatest_depth();
-    let top = build_at(alloc, case, links, bound, greatest, 0, &mut room)?;
+    let walker = Walker {
+        case: &*case,
+        links: &*links,
+        bound,
+        greatest,
+    };
+    let top = walker.build_at(alloc, 0, &mut room)?;
     Ok(Tree { top })
 }

@@ -21,7 +21,6 @@ ghost use Rattle.region_tree.specs.declared.visitor.Seen.TheVariants.{Failed, Ke
 
 use crate::decision::decide_next;
 use crate::laws::{certificates_are_one, walks_are_placed};
-use crate::leaf::show_leaf;
 use crate::room::Room;
 use crate::verdict::Verdict;
 use crate::visitor::{Seen, Visitor};
@@ -57,53 +56,57 @@ pub(crate) fn axis_of(case: &Case, depth: u32, room: &Room) -> u32
     lift_walk::axis_of(case, room.sides())
 }
 
-/// Walks over the tree of the rectangle that the room's last lane of sides holds.
-fn walk_at<V: Visitor>(
-    case: &Case,
-    links: &Links,
-    bound: Bound,
-    greatest: u32,
-    depth: u32,
-    room: &mut Room,
-    visitor: &mut V,
-) -> Seen
-    requires case { IsCase case.now }
-    requires links { AreLinks case.now.model links.now }
-    requires greatest { greatest ≡ greatest_depth case.now }
-    requires depth { depth ≤ greatest }
-    requires lanes { HasLanes case.now.model links.now room.old }
-    requires placed { StandsAtDepth case.now depth room.old }
-    requires known { AreCertified case.now bound room.old.decided }
-    requires states { V.states visitor.old ≡ length case.now.model.states }
-    ensures walks { Walks case.now (spans_of (last_sides room.old)) bound depth
-        V.taken V.faults (V.entry visitor.old) visitor.old visitor.new result }
-    ensures sides { room.new.sides ≡ room.old.sides }
-    ensures shape { KeepsShape room.old room.new }
-    ensures known { AreCertified case.now bound room.new.decided }
-    ensures states { V.states visitor.new ≡ V.states visitor.old }
-    ensures entry { V.entry visitor.new ≡ V.entry visitor.old }
-    ensures same { V.reference visitor.new ≡ V.reference visitor.old }
-{
-    certificates_are_one();
-    walks_are_placed();
-    let verdict = decide_next(case, links, bound, room);
-    if depth == greatest || is_decided(verdict) {
-        return show_leaf(case, links, bound, depth, room, verdict, visitor);
+/// Walks over the tree of a case, for a bound.
+#[derive(Clone, Copy)]
+pub(crate) struct Walker<'a> {
+    pub(crate) case: &'a Case<'a>,
+    pub(crate) links: &'a Links,
+    pub(crate) bound: Bound,
+    /// The case's greatest depth.
+    pub(crate) greatest: u32,
+}
+
+impl Walker<'_> {
+    /// Walks over the tree of the rectangle that the room's last lane of sides holds.
+    fn walk_at<V: Visitor>(&self, depth: u32, room: &mut Room, visitor: &mut V) -> Seen
+        requires case { IsCase self.now.case.now }
+        requires links { AreLinks self.now.case.now.model self.now.links.now }
+        requires greatest { self.now.greatest ≡ greatest_depth self.now.case.now }
+        requires depth { depth ≤ self.now.greatest }
+        requires lanes { HasLanes self.now.case.now.model self.now.links.now room.old }
+        requires placed { StandsAtDepth self.now.case.now depth room.old }
+        requires known { AreCertified self.now.case.now self.now.bound room.old.decided }
+        requires states { V.states visitor.old ≡ length self.now.case.now.model.states }
+        ensures walks { Walks self.now.case.now (spans_of (last_sides room.old)) self.now.bound depth
+            V.taken V.faults (V.entry visitor.old) visitor.old visitor.new result }
+        ensures sides { room.new.sides ≡ room.old.sides }
+        ensures shape { KeepsShape room.old room.new }
+        ensures known { AreCertified self.now.case.now self.now.bound room.new.decided }
+        ensures states { V.states visitor.new ≡ V.states visitor.old }
+        ensures entry { V.entry visitor.new ≡ V.entry visitor.old }
+        ensures same { V.reference visitor.new ≡ V.reference visitor.old }
+    {
+        certificates_are_one();
+        walks_are_placed();
+        let verdict = decide_next(self.case, self.links, self.bound, room);
+        if depth == self.greatest || is_decided(verdict) {
+            return self.show_leaf(depth, room, verdict, visitor);
+        }
+        let axis = axis_of(self.case, depth, room);
+        if is_failed(visitor.split(axis)) {
+            return Seen::Failed;
+        }
+        room.take_half(axis, true);
+        let first = self.walk_at::<V>(depth + 1, room, visitor);
+        room.give_half();
+        if is_failed(first) {
+            return Seen::Failed;
+        }
+        room.take_half(axis, false);
+        let second = self.walk_at::<V>(depth + 1, room, visitor);
+        room.give_half();
+        second
     }
-    let axis = axis_of(case, depth, room);
-    if is_failed(visitor.split(axis)) {
-        return Seen::Failed;
-    }
-    room.take_half(axis, true);
-    let first = walk_at::<V>(case, links, bound, greatest, depth + 1, room, visitor);
-    room.give_half();
-    if is_failed(first) {
-        return Seen::Failed;
-    }
-    room.take_half(axis, false);
-    let second = walk_at::<V>(case, links, bound, greatest, depth + 1, room, visitor);
-    room.give_half();
-    second
 }
 
 /// Shows the visitor the nodes of the case's right tree in preorder, and ends at the first failure. The
@@ -134,5 +137,11 @@ pub fn walk<V: Visitor>(
     let _ = case.w();
     room.begin(case);
     let greatest = case.greatest_depth();
-    walk_at::<V>(case, links, bound, greatest, 0, room, visitor)
+    let walker = Walker {
+        case: &*case,
+        links: &*links,
+        bound,
+        greatest,
+    };
+    walker.walk_at::<V>(0, room, visitor)
 }

@@ -1,4 +1,4 @@
-use Rattle.std.proofs.Common.{◌≡◌, ◌-◌, ◌*◌, [], length, get_or, ap, ◌∙◌}
+use Rattle.std.proofs.Common.{refl, ◌≡◌, ◌-◌, ◌*◌, [], length, get_or, ap, ◌∙◌}
 use Rattle.lift_grid.specs.Rectangle.{spans_of}
 use Rattle.corner_lift.specs.Case.{IsInside}
 use Rattle.region_tree.specs.Decided.{lane}
@@ -17,8 +17,8 @@ outlook-outlook-requires c =
     let decided : c.room.inside.decided ≡ room.decided = ap (λ r. r.decided) c.room.view_is in
     rw (size, decided) c.requires.can.lanes.decided
 
-pub decide_by-verdict-requires-clause-outlook : goal.decide_by-verdict-requires-clause-outlook
-decide_by-verdict-requires-clause-outlook c =
+pub decide_by-verdict-requires : goal.decide_by-verdict-requires
+decide_by-verdict-requires c =
     let k = c.args.case.now in
     let room = c.args.room.now in
     let same : c.lane.result.now ≡ last_sides room = c.lane.ensures ∙ ap (λ n. get_or c.room.inside.sides.lanes (n - 1) []) c.lanes-last.ensures ∙ ap (λ r. last_sides r) c.room.view_is in
@@ -26,7 +26,7 @@ decide_by-verdict-requires-clause-outlook c =
     let told : IsForetold room.decided (spans_of (last_sides room)) c.outlook-outlook.result = rw (decided, same) at c.outlook-outlook.ensures in
     let sides = c.requires.can.sides in
     let inside : IsInside k.root (spans_of (last_sides room)) = record { rectangle = sides.rectangle.spans; within = sides.within } in
-    foretold_is_sound c.certificates_are_of_one_kind.ensures.shared c.ranks_fit.ensures.any k c.w.ensures.case c.args.bound room.decided c.requires.known (spans_of (last_sides room)) inside c.outlook-outlook.result told
+    (refl, (c.requires.can, foretold_is_sound c.certificates_are_of_one_kind.ensures.shared c.ranks_fit.ensures.any k c.w.ensures.case c.args.bound room.decided c.requires.known (spans_of (last_sides room)) inside c.outlook-outlook.result told))
 
 pub note-requires : goal.note-requires
 note-requires c =
@@ -50,4 +50,4 @@ returns-clause-known c =
     let same : c.lane-2.result.now ≡ last_sides room = c.lane-2.ensures ∙ ap (λ p. get_or p.lanes (c.lanes-last.result - 1) []) sides ∙ ap (λ n. get_or room.sides.lanes (n - 1) []) last in
     let decided : c.room-2.inside.decided ≡ room.decided = ap (λ r. r.decided) c.room-2.view_is ∙ c.decide_by-verdict.ensures.noted in
     let notes : Notes (last_sides room) verdict room.decided c.note.new.self = rw (decided, same) at c.note.ensures.notes in
-    certified_too k c.args.bound (last_sides room) verdict room.decided c.note.new.self (lane mid.values) (lane mid.picks) (lane mid.ranks) c.requires.can.sides c.decide_by-verdict.ensures.decided c.requires.known notes
+    certified_too k c.args.bound (last_sides room) verdict room.decided c.note.new.self (lane mid.pools.values) (lane mid.pools.picks) (lane mid.pools.ranks) c.requires.can.sides c.decide_by-verdict.ensures.decided c.requires.known notes

@@ -1,4 +1,4 @@
-use Rattle.region_tree.proofs.decision.decide_in.Given as goal
+use Rattle.region_tree.proofs.decision.Question.decide.Given as goal
 
 abbrev pub ghost-find_accepting : goal.ghost-find_accepting
 ghost-find_accepting g a = g.spans

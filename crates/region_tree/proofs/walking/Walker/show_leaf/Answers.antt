@@ -1,0 +1,42 @@
+use Rattle.std.proofs.Common.{◌≤◌}
+use Rattle.lift_grid.specs.Rectangle.{spans_of}
+use Rattle.lift_model.specs.Valid.{most_states}
+use Rattle.region_tree.specs.Decided.{lane, reject_in}
+use Rattle.region_tree.specs.Right.{IsAccepted, IsRejected, IsOpen}
+use Rattle.region_tree.specs.Rooms.{last_sides}
+use Rattle.region_tree.proofs.Steps.{accept_walks, reject_walks, unknown_walks, numbers_shown, lower_shown}
+use Rattle.region_tree.proofs.walking.Walker.show_leaf.Goals as goal
+
+pub accept-requires : goal.accept-requires
+accept-requires g c =
+    let x = lane c.args.room.now.pools.values in
+    let h : IsAccepted c.args.self.now.case.now (spans_of (last_sides c.args.room.now)) c.args.self.now.bound x = rw c.in-Accept.is at c.requires.decided in
+    rw (c.values.ensures, c.requires.states) (numbers_shown c.args.self.now.case.now x c.requires.case h.accepting.upper.numbers)
+
+pub returns-in-Accept-clause-walks : goal.returns-in-Accept-clause-walks
+returns-in-Accept-clause-walks g c =
+    let x = lane c.args.room.now.pools.values in
+    let h : IsAccepted c.args.self.now.case.now (spans_of (last_sides c.args.room.now)) c.args.self.now.bound x = rw c.in-Accept.is at c.requires.decided in
+    accept_walks c.args.self.now.case.now (spans_of (last_sides c.args.room.now)) c.args.self.now.bound c.args.depth g.V.Visitor.taken g.V.Visitor.faults (g.V.Visitor.entry c.args.visitor.now) c.args.visitor.now c.accept.new.self c.accept.result
+    c.certificates_are_one.ensures.least x h (rw c.values.ensures at c.accept.ensures.visits)
+
+pub reject-requires : goal.reject-requires
+reject-requires g c =
+    let k = c.args.self.now.case.now in
+    let r = reject_in c.args.room.now.pools c.in-Reject.e c.in-Reject.k in
+    let h : IsRejected k (spans_of (last_sides c.args.room.now)) c.args.self.now.bound r × (c.in-Reject.k ≤ most_states) = rw c.in-Reject.is at c.requires.decided in
+    rw (c.values-in-Reject.ensures, c.picks.ensures, c.ranks.ensures, c.requires.states) (lower_shown k (spans_of (last_sides c.args.room.now)) c.args.self.now.bound r c.requires.case h.0 h.1)
+
+pub returns-in-Reject-clause-walks : goal.returns-in-Reject-clause-walks
+returns-in-Reject-clause-walks g c =
+    let k = c.args.self.now.case.now in
+    let r = reject_in c.args.room.now.pools c.in-Reject.e c.in-Reject.k in
+    let h : IsRejected k (spans_of (last_sides c.args.room.now)) c.args.self.now.bound r × (c.in-Reject.k ≤ most_states) = rw c.in-Reject.is at c.requires.decided in
+    reject_walks k (spans_of (last_sides c.args.room.now)) c.args.self.now.bound c.args.depth g.V.Visitor.taken g.V.Visitor.faults (g.V.Visitor.entry c.args.visitor.now) c.args.visitor.now c.reject.new.self c.reject.result
+    c.certificates_are_one.ensures.greatest c.requires.case c.requires.inside r h.0 (rw (c.values-in-Reject.ensures, c.picks.ensures, c.ranks.ensures) at c.reject.ensures.visits)
+
+pub returns-in-Unknown-clause-walks : goal.returns-in-Unknown-clause-walks
+returns-in-Unknown-clause-walks g c =
+    let h : IsOpen c.args.self.now.case.now (spans_of (last_sides c.args.room.now)) c.args.self.now.bound = rw c.in-Unknown.is at c.requires.decided in
+    unknown_walks c.args.self.now.case.now (spans_of (last_sides c.args.room.now)) c.args.self.now.bound c.args.depth g.V.Visitor.taken g.V.Visitor.faults (g.V.Visitor.entry c.args.visitor.now) c.args.visitor.now c.unknown.new.self c.unknown.result
+    h (c.requires.leaf c.in-Unknown.is) c.unknown.ensures.visits
