@@ -62,15 +62,15 @@ ok_is x y e = cc
 
 module _ (back : NodesAreReadBack) (told : ReadNodesAreTold) (h : HeadData) (head : IsHead h) (tail : List ℕ) where
   -- a node that is read of a text that is cut off is that of the whole text
-  node_same : (node first : Node) (c d : Cursor) (rest : List ℕ) → IsNode h.asked first → c.1 ++ tail ≡ concat (node_lines h.asked.model.init first) ++ rest → node_at h c ≡ Ok (node, d) → (node ≡ first) × (d.1 ++ tail ≡ rest)
+  node_same : (node first : Node) (c d : Cursor) (rest : List ℕ) → IsNode h first → c.1 ++ tail ≡ concat (node_lines h.from h.asked.model.init first) ++ rest → node_at h c ≡ Ok (node, d) → (node ≡ first) × (d.1 ++ tail ≡ rest)
   node_same node first c d rest fit whole read =
       let t = told h node c.0 d.0 c.1 d.1 head read in
-      let ls = concat (node_lines h.asked.model.init node) in
+      let ls = concat (node_lines h.from h.asked.model.init node) in
       let again = back h node c.0 (d.1 ++ tail) head t.0 in
       let other = back h first c.0 rest head fit in
-      let texts : ls ++ (d.1 ++ tail) ≡ concat (node_lines h.asked.model.init first) ++ rest = sym (append_assoc ls d.1 tail) ∙ ap (λ b. b ++ tail) (sym t.1) ∙ whole in
+      let texts : ls ++ (d.1 ++ tail) ≡ concat (node_lines h.from h.asked.model.init first) ++ rest = sym (append_assoc ls d.1 tail) ∙ ap (λ b. b ++ tail) (sym t.1) ∙ whole in
       let same = sym again ∙ ap (λ b. node_at h (c.0, b)) texts ∙ other in
-      let pairs = ok_is (node, (c.0 + length (node_lines h.asked.model.init node), d.1 ++ tail)) (first, (c.0 + length (node_lines h.asked.model.init first), rest)) same in
+      let pairs = ok_is (node, (c.0 + length (node_lines h.from h.asked.model.init node), d.1 ++ tail)) (first, (c.0 + length (node_lines h.from h.asked.model.init first), rest)) same in
       (ap (λ (p : Node × Cursor). p.0) pairs, ap (λ (p : Node × Cursor). p.1.1) pairs)
 
   -- The walk ends as the tree is read: by the same fault, or behind the tree, whose leaves were met, and there the rest stands.
@@ -112,8 +112,8 @@ module _ (back : NodesAreReadBack) (told : ReadNodesAreTold) (h : HeadData) (hea
           (last, (Ok there, ends, g), at, all, end)
 
   -- a sound tree is followed
-  follow : (t : Tree) (levels depth : ℕ) (spans : Spans) (came : Came) (rest : List ℕ) → IsTree h.asked t → IsSoundTree h.asked h.bound spans depth t → depth + levels ≡ greatest_depth h.asked
-      → came.place.1 ++ tail ≡ concat (tree_lines h.asked.model.init t) ++ rest → Follows (TreeEnds h levels spans came) t came rest (tree_at h levels came.place)
+  follow : (t : Tree) (levels depth : ℕ) (spans : Spans) (came : Came) (rest : List ℕ) → IsTree h t → IsSoundTree h.asked h.bound spans depth t → depth + levels ≡ greatest_depth h.asked
+      → came.place.1 ++ tail ≡ concat (tree_lines h.from h.asked.model.init t) ++ rest → Follows (TreeEnds h levels spans came) t came rest (tree_at h levels came.place)
   unfolding Follows half_at tree_at
   follow (accepts u x) levels depth spans came rest fit s e whole =
       subst (λ r. Follows (TreeEnds h levels spans came) (accepts u x) came rest r) (sym (tree_by h levels came.place))
@@ -130,9 +130,9 @@ module _ (back : NodesAreReadBack) (told : ReadNodesAreTold) (h : HeadData) (hea
       (λ c end. (behind came c (one_unknown came.leaves), refl, refl, leaves_are (one_unknown came.leaves) (plus came.leaves (leaf_counts unknowns)) (omega arith) (omega arith) refl, end)))
   follow (splits axis lower upper) zero depth spans came rest fit s e whole = absurd (omega (arith, s.0.left))
   follow (splits axis lower upper) (suc levels) depth spans came rest fit s e whole =
-      let first = tree_lines h.asked.model.init lower in
-      let second = tree_lines h.asked.model.init upper in
-      let own = node_lines h.asked.model.init (split axis) in
+      let first = tree_lines h.from h.asked.model.init lower in
+      let second = tree_lines h.from h.asked.model.init upper in
+      let own = node_lines h.from h.asked.model.init (split axis) in
       let both_rest : List ℕ = concat first ++ (concat second ++ rest) in
       let cut : concat (own ++ (first ++ second)) ++ rest ≡ concat own ++ both_rest =
       ap (λ b. b ++ rest) (concat-append own (first ++ second))
@@ -185,7 +185,7 @@ sound_passes heads back told reports bytes leaves file =
     let t = file.tree in
     let k = h.asked in
     let fit = file.sound.report in
-    let trees = concat (tree_lines k.model.init t) in
+    let trees = concat (tree_lines h.from k.model.init t) in
     let c : Cursor = (1 + length (told_lines h), trees) in
     let levels = greatest_depth k in
     let read : head_at (1, bytes) ≡ Ok (h, c) = ap (λ b. head_at (1, b)) file.text ∙ heads h 1 trees fit.head in
@@ -230,9 +230,9 @@ module _ (heads : HeadsAreReadBack) (told : ReadHeadsAreTold) where
           let h = file.head in
           let t = file.tree in
           let levels = greatest_depth h.asked in
-          let same = head_same x.0 h x.1.0 front tail x.1.1 (concat (tree_lines h.asked.model.init t)) file.sound.report.head file.text is in
+          let same = head_same x.0 h x.1.0 front tail x.1.1 (concat (tree_lines h.from h.asked.model.init t)) file.sound.report.head file.text is in
           let here : (tree_at x.0 levels x.1 >>= λ y. Ok ((x.0, y.0), y.1)) ≡ Err due = rw is at cut in
           let stops : tree_at h levels x.1 ≡ Err due = ap (λ g. tree_at g levels x.1) (sym same.0) ∙ tree_fault (tree_at x.0 levels x.1) (λ y. ((x.0, y.0), y.1)) due here in
-          let ends = follow back told_nodes h file.sound.report.head tail t levels 0 h.asked.root (start x.1) [] file.sound.report.nodes file.sound.tree (zero_and levels) (same.1 ∙ sym (append-nil (concat (tree_lines h.asked.model.init t)))) in
+          let ends = follow back told_nodes h file.sound.report.head tail t levels 0 h.asked.root (start x.1) [] file.sound.report.nodes file.sound.tree (zero_and levels) (same.1 ∙ sym (append-nil (concat (tree_lines h.from h.asked.model.init t)))) in
           let stopped : TreeEnds h levels h.asked.root (start x.1) (Err (Text due)) = cut_short back told_nodes h file.sound.report.head tail (TreeEnds h levels h.asked.root (start x.1)) t (start x.1) [] (tree_at h levels x.1) due stops ends in
           subst (λ g. HeadEnds g x.1 (Err (Text due))) (sym same.0) (inl (file.sound.admitted, (Err (Text due), stopped, refl)))

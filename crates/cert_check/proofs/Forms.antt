@@ -13,11 +13,12 @@ use Rattle.corner_lift.specs.Certificate.{unmarked, mark, IsLower}
 use Rattle.corner_lift.specs.Laws.{LiveHasSpan}
 use Rattle.lift_cert.specs.RejectMiss.{HasRejectForm, IsUnmarked, IsMarked, most_height}
 use Rattle.cert_text.specs.Nodes.{fits_state, fit_states}
-use Rattle.cert_text.specs.Forms.{AreMarks, IsReject, IsTree}
+use Rattle.cert_text.specs.Head.{HeadData, case_at}
+use Rattle.cert_text.specs.Forms.{AreMarks, IsHead, IsReject, IsTree}
 use Rattle.cert_check.specs.Sound.{IsSoundTree}
 use Rattle.cert_check.specs.Laws.{CanBeTold, SoundTreesAreReports}
 use Rattle.cert_check.specs.Shown.{IsPlaced, RootIsPlaced, HalvesArePlaced}
-use Rattle.lift_cert.specs.declared.bound.Bound.{Bound}
+use Rattle.cert_check.proofs.Precise.{precise_case}
 
 -- ---- tests
 
@@ -222,16 +223,16 @@ within_length (s ∷ spans) (r ∷ root) h = let rest = within_length spans root
 within_length [] (r ∷ root) h = absurd h
 within_length (s ∷ spans) [] h = absurd h
 
-module _ (placed : HalvesArePlaced) (live_spans : LiveHasSpan) (k : CaseData) (is : IsCase k) (bound : Bound) where
-  tree_told : (t : Tree) (levels depth : ℕ) (spans : Spans) → depth + levels ≡ greatest_depth k → IsPlaced k levels spans → IsSoundTree k bound spans depth t → CanBeTold k t → IsTree k t
+module _ (placed : HalvesArePlaced) (live_spans : LiveHasSpan) (h : HeadData) (head : IsHead h) (is : IsCase h.asked) where
+  tree_told : (t : Tree) (levels depth : ℕ) (spans : Spans) → depth + levels ≡ greatest_depth h.asked → IsPlaced h.asked levels spans → IsSoundTree h.asked h.bound spans depth t → CanBeTold h t → IsTree h t
   tree_told (accept u x) levels depth spans e at s told = (told, s.upper.numbers)
-  tree_told (reject u r) levels depth spans e at s told = (told.0, lower_told k is spans r s.holds told.1)
+  tree_told (reject u r) levels depth spans e at s told = (told.0, lower_told (case_at u h.asked) (precise_case h u head is told.0) spans r s.holds told.1)
   tree_told unknown levels depth spans e at s told = tt
   tree_told (split axis lower upper) zero depth spans e at s told = absurd (omega (arith, s.0.left))
   tree_told (split axis lower upper) (suc levels) depth spans e at s told =
-      let next = placed k levels axis spans is at s.0.axis_is in
-      let below = live_spans k spans axis is at.inside s.0.axis_is.is_live in
-      let size = within_length spans k.root at.inside.within in
+      let next = placed h.asked levels axis spans is at s.0.axis_is in
+      let below = live_spans h.asked spans axis is at.inside s.0.axis_is.is_live in
+      let size = within_length spans h.asked.root at.inside.within in
       let count = is.asked.grid.one_each in (
         omega (arith, below, size, count),
         tree_told lower levels (depth + 1) (lower_half axis spans) (omega arith) next.1 s.1 told.0,
@@ -242,7 +243,7 @@ pub trees_are_reports : RootIsPlaced → HalvesArePlaced → LiveHasSpan → Sou
 trees_are_reports root placed live_spans h t head admitted s told =
     let is : IsCase h.asked = record { asked = head.asked; admitted = admitted } in
     record {
-      report = record { head = head; nodes = tree_told placed live_spans h.asked is h.bound t (greatest_depth h.asked) 0 h.asked.root (omega arith) (root h.asked is) s told };
+      report = record { head = head; nodes = tree_told placed live_spans h head is t (greatest_depth h.asked) 0 h.asked.root (omega arith) (root h.asked is) s told };
       admitted = admitted;
       tree = s;
     }

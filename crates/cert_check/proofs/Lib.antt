@@ -1,4 +1,5 @@
 mod Placed
+mod Precise
 mod Unique
 mod Following
 mod Passing

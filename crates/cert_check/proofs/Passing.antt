@@ -34,13 +34,13 @@ module _ (told : ReadNodesAreTold) (h : HeadData) (head : IsHead h) where
   -- a walk that ended without fault went over the nodes of a sound tree
   record Passed (depth : ℕ) (spans : Spans) (came next : Came) : Type 0 where
     tree : Tree
-    fit : IsTree h.asked tree
+    fit : IsTree h tree
     sound : IsSoundTree h.asked h.bound spans depth tree
-    text : came.place.1 ≡ concat (tree_lines h.asked.model.init tree) ++ next.place.1
+    text : came.place.1 ≡ concat (tree_lines h.from h.asked.model.init tree) ++ next.place.1
     met : next.leaves ≡ plus came.leaves (leaf_counts tree)
 
   -- a leaf
-  leaf : (depth : ℕ) (spans : Spans) (came next : Came) (t : Tree) (node : Node) (c : Cursor) (leaves : Summary) → node_at h came.place ≡ Ok (node, c) → tree_lines h.asked.model.init t ≡ node_lines h.asked.model.init node → (IsNode h.asked node → IsTree h.asked t)
+  leaf : (depth : ℕ) (spans : Spans) (came next : Came) (t : Tree) (node : Node) (c : Cursor) (leaves : Summary) → node_at h came.place ≡ Ok (node, c) → tree_lines h.from h.asked.model.init t ≡ node_lines h.from h.asked.model.init node → (IsNode h node → IsTree h t)
       → IsSoundTree h.asked h.bound spans depth t → next ≡ behind came c leaves → leaves ≡ plus came.leaves (leaf_counts t) → Passed depth spans came next
   leaf depth spans came next t node c leaves read lines fits sound is met =
       let n = told h node came.place.0 c.0 came.place.1 c.1 head read in
@@ -48,7 +48,7 @@ module _ (told : ReadNodesAreTold) (h : HeadData) (head : IsHead h) where
         tree = t;
         fit = fits n.0;
         sound = sound;
-        text = n.1 ∙ ap (λ (ls : List (List ℕ)). concat ls ++ c.1) (sym lines) ∙ ap (λ (m : Came). concat (tree_lines h.asked.model.init t) ++ m.place.1) (sym is);
+        text = n.1 ∙ ap (λ (ls : List (List ℕ)). concat ls ++ c.1) (sym lines) ∙ ap (λ (m : Came). concat (tree_lines h.from h.asked.model.init t) ++ m.place.1) (sym is);
         met = ap (λ (m : Came). m.leaves) is ∙ met;
       }
 
@@ -61,9 +61,9 @@ module _ (told : ReadNodesAreTold) (h : HeadData) (head : IsHead h) where
       → Passed (depth + 1) (lower_half axis spans) (behind came c came.leaves) between → Passed (depth + 1) (upper_half axis spans) between next → Passed depth spans came next
   two depth axis spans came between next c read left one other =
       let n = told h (split axis) came.place.0 c.0 came.place.1 c.1 head read in
-      let a = tree_lines h.asked.model.init one.tree in
-      let b = tree_lines h.asked.model.init other.tree in
-      let own = node_lines h.asked.model.init (split axis) in
+      let a = tree_lines h.from h.asked.model.init one.tree in
+      let b = tree_lines h.from h.asked.model.init other.tree in
+      let own = node_lines h.from h.asked.model.init (split axis) in
       record {
         tree = splits axis one.tree other.tree;
         fit = (n.0, one.fit, other.fit);
@@ -126,6 +126,6 @@ passing_sound heads told bytes leaves p = by_head (head_at (1, bytes)) refl p
           head = h;
           tree = passed.tree;
           sound = record { report = record { head = t.0; nodes = passed.fit }; admitted = admitted; tree = passed.sound };
-          text = t.1 ∙ ap (λ l. concat (told_lines h) ++ l) (passed.text ∙ ap (λ l. concat (tree_lines h.asked.model.init passed.tree) ++ l) none.0 ∙ append-nil (concat (tree_lines h.asked.model.init passed.tree)));
+          text = t.1 ∙ ap (λ l. concat (told_lines h) ++ l) (passed.text ∙ ap (λ l. concat (tree_lines h.from h.asked.model.init passed.tree) ++ l) none.0 ∙ append-nil (concat (tree_lines h.from h.asked.model.init passed.tree)));
           counts = none.1 ∙ passed.met ∙ none_and passed.tree;
         }

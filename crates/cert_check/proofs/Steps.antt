@@ -16,7 +16,7 @@ use Rattle.lift_rows.specs.Fault.{IsFirstFault}
 use Rattle.lift_rows.specs.declared.error.RowError.{RowError}
 use Rattle.line_text.specs.Reading.{Cursor}
 use Rattle.line_text.specs.declared.cursor.Place.{Place}
-use Rattle.cert_text.specs.Head.{HeadData}
+use Rattle.cert_text.specs.Head.{HeadData, case_at}
 use Rattle.cert_text.specs.Nodes.{Node, split, accept, reject, unknown, node_at, node_lines}
 use Rattle.cert_text.specs.Forms.{IsHead}
 use Rattle.cert_text.specs.Laws.{ReadNodesAreTold}
@@ -53,16 +53,18 @@ more_follows text at leaves h = some_rest (drop at text) leaves (let size = leng
 -- ---- a node
 
 -- each node has a line
-some_line : (init : ℕ) (node : Node) → 0 < length (node_lines init node)
-some_line init (split axis) = omega arith
-some_line init (accept u x) = omega arith
-some_line init (reject u r) = omega arith
-some_line init unknown = omega arith
+some_line : (from : Option ℕ) (init : ℕ) (node : Node) → 0 < length (node_lines from init node)
+some_line from init (split axis) = omega arith
+some_line None init (accept u x) = omega arith
+some_line None init (reject u r) = omega arith
+some_line (Some v) init (accept u x) = omega arith
+some_line (Some v) init (reject u r) = omega arith
+some_line from init unknown = omega arith
 
 pub later : ReadNodesAreTold → (h : HeadData) (node : Node) (n m : ℕ) (text rest : List ℕ) → IsHead h → node_at h (n, text) ≡ Ok (node, (m, rest)) → n < m
 later told h node n m text rest head read =
     let t = told h node n m text rest head read in
-    let some = some_line h.asked.model.init node in
+    let some = some_line h.from h.asked.model.init node in
     let m_is = t.2 in
     omega (arith, some, m_is)
 
@@ -115,11 +117,11 @@ split_then h (suc levels) axis spans came c answer read some axis_is t =
     subst (λ r. ReadEnds h (suc levels) (HalfEnds h (suc levels)) spans came r answer) (sym read) (inl (axis_is, both))
 
 -- a miss of an accepting leaf's certificate is what the rectangle comes to
-pub accept_missed : (h : HeadData) (levels : ℕ) (spans : Spans) (came : Came) (u : ℕ) (x : List ℤ) (c : Cursor) (k : CaseData) (bound : Bound) (e : CheckError) → node_at h came.place ≡ Ok (accept u x, c) → k ≡ h.asked → bound ≡ h.bound
+pub accept_missed : (h : HeadData) (levels : ℕ) (spans : Spans) (came : Came) (u : ℕ) (x : List ℤ) (c : Cursor) (k : CaseData) (bound : Bound) (e : CheckError) → node_at h came.place ≡ Ok (accept u x, c) → k ≡ case_at u h.asked → bound ≡ h.bound
     → Misses came.node (IsFirstAcceptMiss k spans bound x) e → TreeEnds h levels spans came (Err e)
 accept_missed h levels spans came u x c k bound e read asked_is bound_is missed =
-    let asked : IsFirstAcceptMiss h.asked spans bound x missed.0 = subst (λ (j : CaseData). IsFirstAcceptMiss j spans bound x missed.0) asked_is missed.1 in
-    let first : IsFirstAcceptMiss h.asked spans h.bound x missed.0 = subst (λ (b : Bound). IsFirstAcceptMiss h.asked spans b x missed.0) bound_is asked in
+    let asked : IsFirstAcceptMiss (case_at u h.asked) spans bound x missed.0 = subst (λ (j : CaseData). IsFirstAcceptMiss j spans bound x missed.0) asked_is missed.1 in
+    let first : IsFirstAcceptMiss (case_at u h.asked) spans h.bound x missed.0 = subst (λ (b : Bound). IsFirstAcceptMiss (case_at u h.asked) spans b x missed.0) bound_is asked in
     subst (λ r. ReadEnds h levels (HalfEnds h levels) spans came r (Err e)) (sym read) (inr (missed.0, first, ap (λ d. Err d) missed.2))
 
 -- ---- a head

@@ -10,7 +10,7 @@ use Rattle.lift_cert.specs.Laws.{FirstAcceptMissIsOne, AcceptingMissesNone, Firs
 use Rattle.lift_cert.specs.declared.bound.Bound.{Bound}
 use Rattle.line_text.specs.Reading.{Cursor}
 use Rattle.line_text.specs.declared.error.TextError.{TextError}
-use Rattle.cert_text.specs.Head.{HeadData, head_at}
+use Rattle.cert_text.specs.Head.{HeadData, case_at, head_at}
 use Rattle.cert_text.specs.Nodes.{Node, split, accept, reject, unknown, node_at}
 use Rattle.cert_text.specs.Forms.{IsHead}
 use Rattle.cert_text.specs.Laws.{ReadHeadsAreTold}
@@ -83,8 +83,8 @@ module _ (accept_one : FirstAcceptMissIsOne) (accept_none : AcceptingMissesNone)
     nodes : (levels : ℕ) (halves : Ending) → OneBelow h.asked levels halves → (spans : Spans) (came : Came) (node : Node) (c : Cursor) (a b : Answer Came) → IsPlaced h.asked levels spans
         → NodeEnds h levels halves spans came node c a → NodeEnds h levels halves spans came node c b → a ≡ b
     nodes levels halves below spans came (split axis) c a b at p q = splits levels halves below spans came axis c a b at p q
-    nodes levels halves below spans came (accept u x) c a b at p q = accepts h.asked h.bound spans came x c a b at.inside.within p q
-    nodes levels halves below spans came (reject u r) c a b at p q = rejects h.asked h.bound spans came r c a b at.inside.within p q
+    nodes levels halves below spans came (accept u x) c a b at p q = accepts (case_at u h.asked) h.bound spans came x c a b at.inside.within p q
+    nodes levels halves below spans came (reject u r) c a b at p q = rejects (case_at u h.asked) h.bound spans came r c a b at.inside.within p q
     nodes levels halves below spans came unknown c a b at p q = unknowns levels came c a b p q
 
     reads : (levels : ℕ) (halves : Ending) → OneBelow h.asked levels halves → (spans : Spans) (came : Came) (r : Result (Node × Cursor) TextError) (a b : Answer Came) → IsPlaced h.asked levels spans

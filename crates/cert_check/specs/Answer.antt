@@ -14,7 +14,7 @@ use Rattle.lift_cert.specs.RejectMiss.{IsFirstRejectMiss}
 use Rattle.lift_cert.specs.declared.miss.Miss.{Miss}
 use Rattle.line_text.specs.Reading.{Cursor}
 use Rattle.line_text.specs.declared.error.TextError.{TextError}
-use Rattle.cert_text.specs.Head.{HeadData, head_at}
+use Rattle.cert_text.specs.Head.{HeadData, case_at, head_at}
 use Rattle.cert_text.specs.Nodes.{Node, split, accept, reject, unknown, node_at}
 use Rattle.cert_check.specs.declared.summary.Summary.{Summary}
 use Rattle.cert_check.specs.declared.error.CheckError.{CheckError}
@@ -93,11 +93,11 @@ SplitEnds live (suc levels) halves spans came axis c answer =
     (IsSplitAxis live spans axis × Then (halves (lower_half axis spans) (behind came c came.leaves)) (halves (upper_half axis spans)) answer)
     ⊎ ((IsSplitAxis live spans axis → ⊥) × (answer ≡ Err (Axis came.node)))
 
--- a node that was read
+-- a node that was read; the certificate of a leaf is tested at its precision
 abbrev pub NodeEnds : HeadData → ℕ → Ending → Spans → Came → Node → Cursor → Answer Came → Type 0
 NodeEnds h levels halves spans came (split axis) c answer = SplitEnds (live h.asked.model) levels halves spans came axis c answer
-NodeEnds h levels halves spans came (accept u x) c answer = AcceptEnds h.asked h.bound spans came x c answer
-NodeEnds h levels halves spans came (reject u r) c answer = RejectEnds h.asked h.bound spans came r c answer
+NodeEnds h levels halves spans came (accept u x) c answer = AcceptEnds (case_at u h.asked) h.bound spans came x c answer
+NodeEnds h levels halves spans came (reject u r) c answer = RejectEnds (case_at u h.asked) h.bound spans came r c answer
 NodeEnds h levels halves spans came unknown c answer = UnknownEnds levels came c answer
 
 -- a node that is due, as it is read

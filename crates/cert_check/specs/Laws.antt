@@ -2,11 +2,11 @@
 use Rattle.std.specs.Prelude.{◌≡◌, ℕ, ◌+◌, ◌<◌, ◌≤◌, List, ◌++◌, length, Ok, Err, ⊤}
 use Rattle.lift_grid.specs.Tree.{Tree}
 use Rattle.lift_grid.specs.Tree.Tree.{split, accept, reject, unknown}
-use Rattle.corner_lift.specs.Case.{CaseData, IsAdmitted}
+use Rattle.corner_lift.specs.Case.{IsAdmitted}
 use Rattle.lift_cert.specs.RejectMiss.{most_height}
 use Rattle.line_text.specs.declared.error.TextCause.TheVariants.{Truncated}
 use Rattle.cert_text.specs.Head.{HeadData}
-use Rattle.cert_text.specs.Forms.{IsHead}
+use Rattle.cert_text.specs.Forms.{IsHead, IsPrecision}
 use Rattle.cert_text.specs.Whole.{feed_count}
 use Rattle.cert_check.specs.Sound.{IsSound, IsSoundTree, IsSoundFile}
 use Rattle.cert_check.specs.Trust.{ReportHolds}
@@ -39,13 +39,13 @@ PrefixesAreRefused = (front back : List ℕ) (leaves : Summary) → IsSoundFile 
 abbrev pub SoundReportsHold : Type 0
 SoundReportsHold = (h : HeadData) (t : Tree) → IsSound h t → ReportHolds h t
 
--- what a report can tell of a tree beside its certificates: decided leaves stand at the case's precision, and no rank is above the greatest that may be told
-abbrev pub CanBeTold : CaseData → Tree → Type 0
-CanBeTold k (accept u x) = u ≡ k.w
-CanBeTold k (reject u r) = (u ≡ k.w) × (r.k ≤ most_height)
-CanBeTold k (split axis lower upper) = CanBeTold k lower × CanBeTold k upper
-CanBeTold k unknown = ⊤
+-- what a report can tell of a tree beside its certificates: decided leaves have a precision of its range, and no rank is above the greatest that may be told
+abbrev pub CanBeTold : HeadData → Tree → Type 0
+CanBeTold h (accept u x) = IsPrecision h u
+CanBeTold h (reject u r) = IsPrecision h u × (r.k ≤ most_height)
+CanBeTold h (split axis lower upper) = CanBeTold h lower × CanBeTold h upper
+CanBeTold h unknown = ⊤
 
 -- a sound tree of an admitted head makes a sound report
 abbrev pub SoundTreesAreReports : Type 0
-SoundTreesAreReports = (h : HeadData) (t : Tree) → IsHead h → IsAdmitted h.asked → IsSoundTree h.asked h.bound h.asked.root 0 t → CanBeTold h.asked t → IsSound h t
+SoundTreesAreReports = (h : HeadData) (t : Tree) → IsHead h → IsAdmitted h.asked → IsSoundTree h.asked h.bound h.asked.root 0 t → CanBeTold h t → IsSound h t

@@ -8,7 +8,7 @@ use Rattle.lift_model.specs.Model.{live}
 use Rattle.corner_lift.specs.Case.{CaseData, IsAdmitted, greatest_depth}
 use Rattle.lift_cert.specs.Certificate.{IsAccepting, IsRejecting}
 use Rattle.lift_cert.specs.declared.bound.Bound.{Bound}
-use Rattle.cert_text.specs.Head.{HeadData}
+use Rattle.cert_text.specs.Head.{HeadData, case_at}
 use Rattle.cert_text.specs.Forms.{IsReport}
 use Rattle.cert_text.specs.Laws.{text_of}
 use Rattle.cert_check.specs.declared.summary.Summary.{Summary}
@@ -18,10 +18,10 @@ pub record IsSoundSplit (k : CaseData) (spans : Spans) (depth axis : ℕ) : Type
   pub left : depth < greatest_depth k
   pub axis_is : IsSplitAxis (live k.model) spans axis
 
--- A sound tree over a rectangle at a depth: an accepting or a rejecting leaf holds such a certificate of its rectangle for the bound, a split stands where one may, and an unknown leaf stands at the greatest depth.
+-- A sound tree over a rectangle at a depth: an accepting or a rejecting leaf holds such a certificate of its rectangle for the bound, at its own precision; a split stands where one may; and an unknown leaf stands at the greatest depth.
 abbrev pub IsSoundTree : CaseData → Bound → Spans → ℕ → Tree → Type 0
-IsSoundTree k bound spans depth (accept u x) = IsAccepting k spans bound x
-IsSoundTree k bound spans depth (reject u r) = IsRejecting k spans bound r
+IsSoundTree k bound spans depth (accept u x) = IsAccepting (case_at u k) spans bound x
+IsSoundTree k bound spans depth (reject u r) = IsRejecting (case_at u k) spans bound r
 IsSoundTree k bound spans depth (split axis lower upper) =
     IsSoundSplit k spans depth axis × IsSoundTree k bound (lower_half axis spans) (depth + 1) lower × IsSoundTree k bound (upper_half axis spans) (depth + 1) upper
 IsSoundTree k bound spans depth unknown = depth ≡ greatest_depth k

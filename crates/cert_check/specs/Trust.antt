@@ -16,7 +16,7 @@ use Rattle.cert_check.specs.declared.summary.Summary.{Summary}
 -- What a node of a tree says of its rectangle, at every valuation inside: where it accepts, every scheduler reaches the goal with probability at most the bound; where it rejects, those that make the printed choices reach it with at least what the node tells, and this is above the bound. Other nodes say nothing.
 abbrev pub HoldsInside : CaseData → Bound → Spans → Tree → Type 0
 HoldsInside k bound spans (accept u x) = (v : Valuation) → Inside k.d spans v → IsBoundedAt k.model v bound
-HoldsInside k bound spans (reject u r) = ((v : Valuation) → Inside k.d spans v → IsReachedAt k.model v k.w r) × IsBeyond bound k.w (number r.numbers k.model.init)
+HoldsInside k bound spans (reject u r) = ((v : Valuation) → Inside k.d spans v → IsReachedAt k.model v u r) × IsBeyond bound u (number r.numbers k.model.init)
 HoldsInside k bound spans _ = ⊤
 
 -- what a leaf says holds everywhere inside its rectangle

@@ -17,10 +17,11 @@ use lift_cert::{Bound, is_accepting, is_rejecting, meets_accept, meets_reject};
 use lift_grid::split_axis;
 use lift_model::Links;
 
-/// What the certificates of leaves are tested for: a case with its links, and a bound.
+/// What the certificates of leaves at a precision are tested for: the case at that precision, with its
+/// links, and a bound.
 #[derive(Drop)]
 pub(crate) struct Asked<'a> {
-    pub case: &'a Case<'a>,
+    pub case: Case<'a>,
     pub links: &'a Links,
     pub bound: Bound,
 }
@@ -41,14 +42,14 @@ impl Asked<'_> {
     fn accepts(&self, sides: &[i64], weights: &mut [i128], x: &[i64]) -> bool
         ghost spans: { Spans }
         requires spans { spans ≡ spans_of sides.now }
-        requires places { ArePlaces self.now.case.now.model self.now.links.now }
+        requires places { ArePlaces self.now.case.model self.now.links.now }
         requires weights { length weights.old ≡ self.now.links.now.weights }
-        requires sides { AreSidesInside self.now.case.now.root sides.now }
-        requires numbers { AreNumbers self.now.case.now x.now }
-        ensures { IsTrue result ↔ IsAccepting self.now.case.now spans self.now.bound x.now }
+        requires sides { AreSidesInside self.now.case.root sides.now }
+        requires numbers { AreNumbers self.now.case x.now }
+        ensures { IsTrue result ↔ IsAccepting self.now.case spans self.now.bound x.now }
     {
-        fill(self.case, self.links, sides, weights);
-        is_accepting(self.case, self.links, weights, self.bound, x)
+        fill(&self.case, self.links, sides, weights);
+        is_accepting(&self.case, self.links, weights, self.bound, x)
     }
 
     /// Tests the certificate of an accepting leaf. What the weights were is lost.
@@ -59,19 +60,19 @@ impl Asked<'_> {
         node: u32,
         x: &[i64],
     ) -> Result<(), CheckError>
-        requires places { ArePlaces self.now.case.now.model self.now.links.now }
+        requires places { ArePlaces self.now.case.model self.now.links.now }
         requires weights { length weights.old ≡ self.now.links.now.weights }
-        requires sides { AreSidesInside self.now.case.now.root sides.now }
-        requires numbers { AreNumbers self.now.case.now x.now }
+        requires sides { AreSidesInside self.now.case.root sides.now }
+        requires numbers { AreNumbers self.now.case x.now }
         ensures test { MatchResult result
-            (λ _. IsAccepting self.now.case.now (spans_of sides.now) self.now.bound x.now)
-            (Misses node (IsFirstAcceptMiss self.now.case.now (spans_of sides.now) self.now.bound x.now)) }
+            (λ _. IsAccepting self.now.case (spans_of sides.now) self.now.bound x.now)
+            (Misses node (IsFirstAcceptMiss self.now.case (spans_of sides.now) self.now.bound x.now)) }
         ensures told { IfErr result IsToldOfFile }
     {
         if self.accepts(sides, weights, x) {
             return Ok(());
         }
-        match meets_accept(self.case, sides, self.bound, x) {
+        match meets_accept(&self.case, sides, self.bound, x) {
             Ok(()) => Ok(()),
             Err(miss) => Err(CheckError::Missed { node, miss }),
         }
@@ -81,15 +82,15 @@ impl Asked<'_> {
     fn rejects(&self, sides: &[i64], weights: &mut [i128], leaf: &Rejecting) -> bool
         ghost spans: { Spans }
         requires spans { spans ≡ spans_of sides.now }
-        requires places { ArePlaces self.now.case.now.model self.now.links.now }
+        requires places { ArePlaces self.now.case.model self.now.links.now }
         requires weights { length weights.old ≡ self.now.links.now.weights }
-        requires sides { AreSidesInside self.now.case.now.root sides.now }
-        requires form { HasRejectForm self.now.case.now (reject_of leaf.now) }
-        ensures { IsTrue result ↔ IsRejecting self.now.case.now spans self.now.bound (reject_of leaf.now) }
+        requires sides { AreSidesInside self.now.case.root sides.now }
+        requires form { HasRejectForm self.now.case (reject_of leaf.now) }
+        ensures { IsTrue result ↔ IsRejecting self.now.case spans self.now.bound (reject_of leaf.now) }
     {
-        fill(self.case, self.links, sides, weights);
+        fill(&self.case, self.links, sides, weights);
         is_rejecting(
-            self.case, self.links, weights, self.bound, leaf.y, leaf.picks, leaf.ranks, leaf.e,
+            &self.case, self.links, weights, self.bound, leaf.y, leaf.picks, leaf.ranks, leaf.e,
             leaf.k,
         )
     }
@@ -102,20 +103,20 @@ impl Asked<'_> {
         node: u32,
         leaf: &Rejecting,
     ) -> Result<(), CheckError>
-        requires places { ArePlaces self.now.case.now.model self.now.links.now }
+        requires places { ArePlaces self.now.case.model self.now.links.now }
         requires weights { length weights.old ≡ self.now.links.now.weights }
-        requires sides { AreSidesInside self.now.case.now.root sides.now }
-        requires form { HasRejectForm self.now.case.now (reject_of leaf.now) }
+        requires sides { AreSidesInside self.now.case.root sides.now }
+        requires form { HasRejectForm self.now.case (reject_of leaf.now) }
         ensures test { MatchResult result
-            (λ _. IsRejecting self.now.case.now (spans_of sides.now) self.now.bound (reject_of leaf.now))
-            (Misses node (IsFirstRejectMiss self.now.case.now (spans_of sides.now) self.now.bound (reject_of leaf.now))) }
+            (λ _. IsRejecting self.now.case (spans_of sides.now) self.now.bound (reject_of leaf.now))
+            (Misses node (IsFirstRejectMiss self.now.case (spans_of sides.now) self.now.bound (reject_of leaf.now))) }
         ensures told { IfErr result IsToldOfFile }
     {
         if self.rejects(sides, weights, leaf) {
             return Ok(());
         }
         match meets_reject(
-            self.case, sides, self.bound, leaf.y, leaf.picks, leaf.ranks, leaf.e, leaf.k,
+            &self.case, sides, self.bound, leaf.y, leaf.picks, leaf.ranks, leaf.e, leaf.k,
         ) {
             Ok(()) => Ok(()),
             Err(miss) => Err(CheckError::Missed { node, miss }),

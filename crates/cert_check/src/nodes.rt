@@ -5,6 +5,7 @@ ghost use Rattle.lift_grid.specs.Splitting.{IsHalvable};
 ghost use Rattle.lift_grid.specs.Tree.{lower_half};
 ghost use Rattle.lift_model.specs.Links.{ArePlaces};
 ghost use Rattle.corner_lift.specs.Case.{IsCase};
+ghost use Rattle.cert_text.specs.Head.{case_at};
 ghost use Rattle.cert_check.specs.Answer.{TreeEnds};
 ghost use Rattle.cert_check.specs.Source.{file_limit};
 ghost use Rattle.cert_check.specs.Shown.{IsIn, IsPlaced, Says, IsToldOfFile, came_of};
@@ -41,6 +42,21 @@ pub(crate) struct Report<'a> {
     pub links: &'a Links,
 }
 
+/// What the certificates of leaves at that precision are tested for.
+fn asked_at<'a>(report: &'a Report, u: u32) -> Asked<'a>
+    requires { (1 ≤ u) × (u ≤ report.now.case.now.w) }
+    ensures case { result.case ≡ case_at u report.now.case.now }
+    ensures links { result.links.now ≡ report.now.links.now }
+    ensures bound { result.bound ≡ report.now.head.now.bound }
+{
+    let case = report.case;
+    Asked {
+        case: Case::new(case.model(), case.root(), case.grid(), u),
+        links: report.links,
+        bound: report.head.bound(),
+    }
+}
+
 /// Checks the nodes of the rectangle with these sides, which may be halved `levels` times, and gives
 /// where they end. On the way down it keeps a rectangle for each level. The sides and the weights are free
 /// afterwards.
@@ -67,11 +83,6 @@ pub(crate) fn check_tree(
     nodes_are_read();
     let _ = report.head.w();
     let _ = report.case.w();
-    let asked = Asked {
-        case: report.case,
-        links: report.links,
-        bound: report.head.bound(),
-    };
     let (node, place) = read_node(report.alloc, report.text, came.place, report.head)?;
     match node {
         Node::Split { axis } => {
@@ -82,11 +93,12 @@ pub(crate) fn check_tree(
             narrow(sides, axis, false);
             check_tree(report, weights, levels - 1, sides, between)
         }
-        Node::Accept { x } => {
-            asked.test_accept(sides, weights, came.node, x.as_slice())?;
+        Node::Accept { u, x } => {
+            asked_at(report, u).test_accept(sides, weights, came.node, x.as_slice())?;
             Ok(came.behind(place, came.leaves.one_accept()))
         }
         Node::Reject {
+            u,
             e,
             k,
             y,
@@ -100,7 +112,7 @@ pub(crate) fn check_tree(
                 e,
                 k,
             };
-            asked.test_reject(sides, weights, came.node, &leaf)?;
+            asked_at(report, u).test_reject(sides, weights, came.node, &leaf)?;
             Ok(came.behind(place, came.leaves.one_reject()))
         }
         Node::Unknown => {

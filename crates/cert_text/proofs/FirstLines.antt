@@ -18,7 +18,7 @@ use Rattle.cert_text.specs.Report.{kind_name, kind_words, version_words, numbers
 use Rattle.lift_bytes.specs.Bytes.{is_name}
 use Rattle.line_text.specs.Words.{number_of}
 use Rattle.line_text.specs.Parts.{Words, Read, must, first, count_of, counted, natural, is_above}
-use Rattle.cert_text.specs.Lines.{version_of, kind_of, name_of, names_in, parameters_of, goals_in, flags, goal_of, row_of, terms_in}
+use Rattle.cert_text.specs.Lines.{version_in, version_of, kind_of, name_of, names_in, parameters_of, goals_in, flags, goal_of, row_of, terms_in}
 use Rattle.cert_text.proofs.Steps.{Reads, Both, ok_is, reads_ok, reads_must, reads_spelled, reads_first, reads_single, reads_so, reads_pass, reads_test}
 use Rattle.cert_text.proofs.Decimals.{number_back, number_again}
 use Rattle.cert_text.proofs.Fields.{Writes, IsSmall, reads_keyed, reads_each, reads_numbers, reads_one, reads_between, numbers_back, numbers_again}
@@ -28,11 +28,45 @@ use Rattle.cert_text.proofs.Fields.{Writes, IsSmall, reads_keyed, reads_each, re
 pub decides_must : {X : Type 0} (b : Bool) (cause : TextCause) → Decides b X → Reads (λ _. X) (must b cause)
 decides_must {X} b cause d = reads_must X b cause d.0 d.1
 
-pub reads_version : (ws : Words) → Reads (λ _. ws ≡ version_words) (version_of ws)
+-- the number of a version
+abbrev version_is : ℤ → Bool → Type 0
+version_is z true = z ≡ pos 2
+version_is z false = z ≡ pos 1
+
+version_by : (z : ℤ) (a b : Bool) → Decides a (z ≡ pos 1) → Decides b (z ≡ pos 2) → Reads (version_is z) (cond a (Ok false) (cond b (Ok true) (Err Version)))
+version_by z true b d e = record { takes = λ k is. subst (version_is z) (ok_is false k is) (d.0 refl); again = λ k is. again k is }
+  where
+    again : (k : Bool) → version_is z k → ◌≡◌ {A = Read Bool} (Ok false) (Ok k)
+    again false is = refl
+    again true is = let no : pos 1 ≡ pos 2 = sym (d.0 refl) ∙ is in absurd (cc)
+version_by z false true d e = record { takes = λ k is. subst (version_is z) (ok_is true k is) (e.0 refl); again = λ k is. again k is }
+  where
+    again : (k : Bool) → version_is z k → ◌≡◌ {A = Read Bool} (Ok true) (Ok k)
+    again false is = let no : pos 2 ≡ pos 1 = sym (e.0 refl) ∙ is in absurd (cc)
+    again true is = refl
+version_by z false false d e = record { takes = λ k is. absurd cc; again = λ k is. again k is }
+  where
+    again : (k : Bool) → version_is z k → ◌≡◌ {A = Read Bool} (Err Version) (Ok k)
+    again false is = let y = d.1 is in absurd (cc)
+    again true is = let y = e.1 is in absurd (cc)
+
+version_small : (z : ℤ) (k : Bool) → version_is z k → IsSmall z
+version_small z true is = subst IsSmall (sym is) (omega arith)
+version_small z false is = subst IsSmall (sym is) (omega arith)
+
+version_told : (ws : Words) (z : ℤ) (k : Bool) → ws ≡ numbers_words (codes "plift") (z ∷ []) → version_is z k → ws ≡ version_words k
+version_told ws z true is k = is ∙ ap (λ y. numbers_words (codes "plift") (y ∷ [])) k ∙ ap (λ t. codes "plift" ∷ t ∷ []) (decimal_digit 2 (omega arith))
+version_told ws z false is k = is ∙ ap (λ y. numbers_words (codes "plift") (y ∷ [])) k ∙ ap (λ t. codes "plift" ∷ t ∷ []) (decimal_digit 1 (omega arith))
+
+version_again : (ws : Words) (k : Bool) → ws ≡ version_words k → (z : ℤ) × (ws ≡ numbers_words (codes "plift") (z ∷ [])) × version_is z k
+version_again ws true is = (pos 2, is ∙ ap (λ t. codes "plift" ∷ t ∷ []) (sym (decimal_digit 2 (omega arith))), refl)
+version_again ws false is = (pos 1, is ∙ ap (λ t. codes "plift" ∷ t ∷ []) (sym (decimal_digit 1 (omega arith))), refl)
+
+pub reads_version : (ws : Words) → Reads (λ second. ws ≡ version_words second) (version_of ws)
 reads_version ws =
-    reads_so (reads_one (codes "plift") ws (λ z. must (int_eq z (pos 1)) Version) (λ z _ q. subst IsSmall (sym q) (omega arith)) (λ z. decides_must (int_eq z (pos 1)) Version (Decides-int_eq z (pos 1)))) (λ _. ws ≡ version_words)
-    (λ _ (z, is, one). is ∙ ap (λ y. numbers_words (codes "plift") (y ∷ [])) one ∙ ap (λ t. codes "plift" ∷ t ∷ []) (decimal_digit 1 (omega arith)))
-    (λ _ is. (pos 1, is ∙ ap (λ t. codes "plift" ∷ t ∷ []) (sym (decimal_digit 1 (omega arith))), refl))
+    reads_so (reads_one (codes "plift") ws version_in (λ z k q. version_small z k q) (λ z. version_by z (int_eq z (pos 1)) (int_eq z (pos 2)) (Decides-int_eq z (pos 1)) (Decides-int_eq z (pos 2)))) (λ second. ws ≡ version_words second)
+    (λ second (z, is, one). version_told ws z second is one)
+    (λ second is. version_again ws second is)
 
 kind_by : (w : List ℕ) (a b : Bool) → Decides a (w ≡ codes "dtmc") → Decides b (w ≡ codes "mdp") → Reads (λ kind. w ≡ kind_name kind) (cond a (Ok Dtmc) (cond b (Ok Mdp) (Err Syntax)))
 kind_by w true b d e = record { takes = λ k is. d.0 refl ∙ ap kind_name (ok_is Dtmc k is); again = λ k is. again k is }

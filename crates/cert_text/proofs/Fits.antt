@@ -67,8 +67,9 @@ decimal_fits k n h small = signed_fits k (pos n) h small
 
 -- ---- the head
 
-pub version_line : IsLine version_words
-version_line = is_line 10 version_words (omega arith) (key_fits 10 (codes "plift") refl refl, (key_fits 10 (codes "1") refl refl, tt)) (omega arith)
+pub version_line : (second : Bool) → IsLine (version_words second)
+version_line true = is_line 10 (version_words true) (omega arith) (key_fits 10 (codes "plift") refl refl, (key_fits 10 (codes "2") refl refl, tt)) (omega arith)
+version_line false = is_line 10 (version_words false) (omega arith) (key_fits 10 (codes "plift") refl refl, (key_fits 10 (codes "1") refl refl, tt)) (omega arith)
 
 kind_fits : (kind : Kind) → Fits 10 (kind_name kind)
 kind_fits Dtmc = key_fits 10 (codes "dtmc") refl refl

@@ -1,5 +1,7 @@
 -- What the lines of a head tell, and what may be asked to be admitted: the same, both ways.
 use Rattle.std.proofs.Common.{◌≡◌, ◌≢◌, ℕ, zero, suc, ◌+◌, ◌-◌, ◌*◌, ◌/◌, ◌%◌, ◌^◌, ◌<◌, ◌≤◌, Bool, true, false, List, [], ◌∷◌, length, map, All, refl, sym, ap, subst, ◌∙◌, arith}
+use Rattle.std.specs.Prelude.{Option, Some, None}
+use Rattle.std.specs.Option.{unwrap_or}
 use Rattle.std.specs.Prelude.{ℤ, pos, negsuc, ◌<ℤ◌, ◌≤ℤ◌, unsigned_abs, bit_or, count_ones, sum_by, int_lt, AllPairs, slice_index, slice_index_or, T, neg_ℤ}
 use Rattle.std.specs.List.{AllByRecursion}
 use Rattle.std.specs.Int.Signed.{lt_z_yes}
@@ -249,6 +251,14 @@ number_of_range : (low end : ℕ) (z : ℤ) → pos low ≤ℤ z → z <ℤ pos 
 number_of_range low end (pos n) h g = (n, refl, omega (arith, ints, h), omega (arith, ints, g))
 number_of_range low end (negsuc n) h g = absurd (omega (arith, ints, h))
 
+least_some : (from : Option ℕ) (w : ℕ) → 1 ≤ unwrap_or from 1 → 1 ≤ w → 1 ≤ unwrap_or from w
+least_some None w some low = low
+least_some (Some v) w some low = some
+
+told_some : (from : Option ℕ) (w : ℕ) → 1 ≤ unwrap_or from w → 1 ≤ unwrap_or from 1
+told_some None w some = omega arith
+told_some (Some v) w some = some
+
 pub form_head : (h : HeadData) → HeadForm h → IsHead h
 form_head h k =
     let m = h.asked.model in
@@ -270,6 +280,7 @@ form_head h k =
       names = All-from_recursion IsShortName m.names (short_names [] m.names k.declared.forms k.declared.named);
       entries = All-from_recursion (All (All IsSmallEntry)) m.states (small_states m.kind s p 131072 262144 m.states k.rows);
       bound = record { parts = record { lowest = k.bound.lowest; most = k.bound.most; positive = k.bound.positive }; small = k.bound.small };
+      range = (least_some h.from h.asked.w k.range.0 k.w.0, k.range.1);
     }
 
 pub head_form : (h : HeadData) → IsHead h → HeadForm h
@@ -289,6 +300,7 @@ head_form h k =
           (all_forms s p m.states v.rows k.entries);
       bound = record { positive = k.bound.parts.positive; lowest = k.bound.parts.lowest; most = k.bound.parts.most; small = k.bound.small };
       w = (k.asked.precision.0, omega (arith, k.asked.precision.1));
+      range = (told_some h.from h.asked.w k.range.0, k.range.1);
       depth = omega (arith, k.asked.depth);
       grid = in_grid h.asked.d k.asked.grid.positive k.asked.grid.small;
       box = record { size = k.asked.grid.one_each; spans = boxed_from (2 ^ h.asked.depth) h.asked.root (pow_pos h.asked.depth) k.asked.spans k.asked.grid.multiples };

@@ -18,6 +18,7 @@ mod Ones
 mod HeadForms
 mod ReportLaws
 mod ReadSamples
+mod RangeSamples
 mod Refusals
 mod MarkLoops
 mod NameLoop

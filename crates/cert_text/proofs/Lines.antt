@@ -1,5 +1,6 @@
 -- The lines of a report, as the pieces that are written one after the other.
 use Rattle.std.proofs.Common.{◌≡◌, ◌+◌, ◌*◌, ◌<◌, ℕ, ℤ, zero, suc, List, [], ◌∷◌, ◌++◌, length, map, get_or, drop, slice_get, Some, Bool, true, false, refl, sym, ap, ap₂, ◌∙◌, arith, add-one, append_assoc, append-nil, codes}
+use Rattle.std.specs.Prelude.{Option, is_some}
 use Rattle.std.specs.Fmt.{decimal, signed_decimal}
 use Rattle.std.specs.List.{flat_map, concat}
 use Rattle.std.proofs.lemmas.List.Folds.{concat-append}
@@ -10,7 +11,7 @@ use Rattle.lift_grid.specs.Tree.{RejectData}
 use Rattle.corner_lift.specs.Case.{CaseData}
 use Rattle.lift_cert.specs.declared.bound.Bound.{Bound}
 use Prim.Native.Char.{code}
-use Rattle.cert_text.specs.Report.{line, version_words, kind_words, parameters_words, size_lines, goal_words, rows_lines, model_lines, asked_lines, box_line, head_lines, goal_states, numbered, reject_words, reject_lines}
+use Rattle.cert_text.specs.Report.{line, version_words, kind_words, parameters_words, size_lines, goal_words, rows_lines, model_lines, asked_lines, from_lines, scale_lines, box_line, head_lines, goal_states, numbered, reject_words, reject_lines}
 
 -- a line is its first word, each further word behind a space, and a line feed
 pub line-words : {X : Type 0} (f : X → List ℕ) (word : List ℕ) (xs : List X) → line (word ∷ map f xs) ≡ word ++ (flat_map (λ x. code " " ∷ f x) xs ++ codes "\n")
@@ -71,14 +72,19 @@ model_parts m kind names e f =
     ∙ ap (λ (rest : List ℕ). line (kind_words kind) ++ (line (parameters_words names) ++ rest)) (concat-append (size_lines m) (line (goal_words m.goal) ∷ rows_lines m.states))
 
 -- the parts of a head, one after the other
-pub head_parts : (k : CaseData) (bound : Bound) (m : ModelData) (root : Spans) → m ≡ k.model → root ≡ k.root
-    → concat (head_lines k bound) ≡ line version_words ++ (concat (model_lines m) ++ (concat (asked_lines k bound) ++ box_line root))
-head_parts k bound m root e f =
-    ap (λ (rest : List ℕ). line version_words ++ rest)
-    (concat-append (model_lines k.model) (asked_lines k bound ++ box_line k.root ∷ [])
+pub head_parts : (k : CaseData) (from : Option ℕ) (bound : Bound) (m : ModelData) (root : Spans) → m ≡ k.model → root ≡ k.root
+    → concat (head_lines k from bound)
+    ≡ line (version_words (is_some from)) ++ (concat (model_lines m) ++ (concat (asked_lines k bound) ++ (concat (from_lines from) ++ (concat (scale_lines k) ++ box_line root))))
+head_parts k from bound m root e f =
+    ap (λ (rest : List ℕ). line (version_words (is_some from)) ++ rest)
+    (concat-append (model_lines k.model) (asked_lines k bound ++ (from_lines from ++ (scale_lines k ++ box_line k.root ∷ [])))
     ∙ ap₂ (λ (head rest : List ℕ). head ++ rest) (ap (λ (n : ModelData). concat (model_lines n)) (sym e))
-    (concat-append (asked_lines k bound) (box_line k.root ∷ [])
-    ∙ ap (λ (rest : List ℕ). concat (asked_lines k bound) ++ rest) (append-nil (box_line k.root) ∙ ap box_line (sym f))))
+    (concat-append (asked_lines k bound) (from_lines from ++ (scale_lines k ++ box_line k.root ∷ []))
+    ∙ ap (λ (rest : List ℕ). concat (asked_lines k bound) ++ rest)
+    (concat-append (from_lines from) (scale_lines k ++ box_line k.root ∷ [])
+    ∙ ap (λ (rest : List ℕ). concat (from_lines from) ++ rest)
+    (concat-append (scale_lines k) (box_line k.root ∷ [])
+    ∙ ap (λ (rest : List ℕ). concat (scale_lines k) ++ rest) (append-nil (box_line k.root) ∙ ap box_line (sym f))))))
 
 flat_item_suc : {A : Type 0} (f : A → List ℕ) (xs : List A) (k : ℕ) (x : A) → k < length xs → x ≡ get_or xs k x → flat_map f (drop k xs) ≡ f x ++ flat_map f (drop (suc k) xs)
 flat_item_suc f [] k x h is = absurd (omega arith)

@@ -1,6 +1,8 @@
 -- A node's lines, both ways.
 use Rattle.std.proofs.Common.{◌≡◌, ℕ, zero, suc, ◌+◌, ◌-◌, ◌*◌, ◌^◌, ◌<◌, ◌≤◌, Bool, true, false, ◌&&◌, List, [], ◌∷◌, ◌++◌, length, map, Result, Ok, Err, Some, refl, sym, ap, subst, ◌∙◌, arith, inl, inr, ◌⊎◌}
 use Rattle.std.specs.Prelude.{ℤ, pos, negsuc, codes, unsigned_abs, slice_index_or}
+use Rattle.std.specs.Prelude.{Option, None}
+use Rattle.std.specs.Option.{unwrap_or}
 use Rattle.std.specs.List.{concat, AllByRecursion, list_all, sum_by}
 use Rattle.std.specs.Bool.{Decides}
 use Rattle.std.specs.Ordering.{int_eq}
@@ -15,10 +17,10 @@ use Rattle.corner_lift.specs.Case.{number}
 use Rattle.corner_lift.specs.Certificate.{unmarked}
 use Rattle.line_text.specs.declared.error.TextCause.TheVariants.{Syntax}
 use Rattle.line_text.specs.declared.error.TextError.{TextError}
-use Rattle.cert_text.specs.Head.{HeadData}
-use Rattle.cert_text.specs.Report.{line, number_words, numbers_words, reject_words, mark_word}
+use Rattle.cert_text.specs.Head.{HeadData, least_precision, at_precision}
+use Rattle.cert_text.specs.Report.{line, number_words, numbers_words, reject_words, mark_word, at_lines}
 use Rattle.line_text.specs.Words.{words, number_of, pair_of}
-use Rattle.line_text.specs.Reading.{◌>>=◌, Cursor, Reader, at, due, line_at}
+use Rattle.line_text.specs.Reading.{◌>>=◌, Cursor, Reader, at, due, fault, line_at}
 use Rattle.line_text.specs.Parts.{Words, must, keyed, first, ended}
 use Rattle.cert_text.specs.Lines.{is_value, values_of, marks_of, Rejected, named, reject_of}
 use Rattle.lift_grid.specs.Tree.{RejectData}
@@ -27,8 +29,8 @@ use Rattle.std.proofs.lemmas.Int.{ints}
 use Rattle.std.proofs.lemmas.List.Elements.{All-from_recursion, recursion_from_All}
 use Rattle.corner_lift.specs.Case.{CaseData}
 use Rattle.corner_lift.specs.Certificate.{AreNumbers}
-use Rattle.cert_text.specs.Forms.{AreMarks, IsReject, IsNode}
-use Rattle.cert_text.specs.Nodes.{Node, split, accept, reject, unknown, begins, fit_states, fits_leaf, split_at, accept_at, rejecting_at, reject_at, unknown_at, node_by, node_at, node_lines}
+use Rattle.cert_text.specs.Forms.{AreMarks, IsReject, IsNode, IsPrecision}
+use Rattle.cert_text.specs.Nodes.{Node, split, accept, reject, unknown, begins, fit_states, fits_leaf, split_at, accept_at, rejecting_at, reject_at, unknown_at, node_by, decided_by, told_at, second_by, node_in, node_at, node_lines}
 use Rattle.cert_text.proofs.Steps.{Reads, reads_ok, reads_spelled, reads_first, reads_ended, reads_so, reads_pass}
 use Rattle.cert_text.proofs.Decimals.{number_back, number_again}
 use Rattle.cert_text.proofs.CutLines.{IsPlain, IsLine, every_append}
@@ -42,7 +44,7 @@ use Rattle.cert_text.proofs.RowLaws.{begins_words, AreRows, AreStates}
 use Rattle.cert_text.proofs.FirstLines.{map_len}
 use Rattle.lift_model.specs.declared.entry.Entry.{Entry}
 use Rattle.lift_model.specs.declared.kind.Kind.{Kind}
-use Rattle.cert_text.proofs.HeadLaws.{HeadForm, number_step}
+use Rattle.cert_text.proofs.HeadLaws.{HeadForm, NumberLine, number_step}
 
 -- ---- the first line of a rejecting leaf
 
@@ -120,7 +122,7 @@ abbrev told : ℕ → ℕ → List ℤ → List ℕ → List ℕ → RejectData
 told e k y picks ranks = record { numbers = y; picks = picks; ranks = ranks; e = e; k = k }
 
 abbrev pub NodeLines : HeadData → Node → Lines → Type 0
-NodeLines h node ls = (ls ≡ node_lines h.asked.model.init node) × IsNode h.asked node
+NodeLines h node ls = (ls ≡ node_lines h.from h.asked.model.init node) × IsNode h node
 
 -- ---- the four nodes
 
@@ -248,7 +250,7 @@ product_low : (e k : ℕ) → e < 127 → k < 65537 → e * k < 10 ^ 8
 product_low e k he hk = let low : e ≤ 126 = omega (arith, he) in omega (arith, hk, mul-le-mul_right k low)
 
 abbrev pub RejectLines : HeadData → Node → Lines → Type 0
-RejectLines h node ls = (e : ℕ) × (k : ℕ) × (y : List ℤ) × (picks : List ℕ) × (ranks : List ℕ) × (node ≡ reject h.asked.w (told e k y picks ranks)) × (ls ≡ node_lines h.asked.model.init (reject h.asked.w (told e k y picks ranks))) × RejectForm h e k y picks ranks
+RejectLines h node ls = (e : ℕ) × (k : ℕ) × (y : List ℤ) × (picks : List ℕ) × (ranks : List ℕ) × (node ≡ reject h.asked.w (told e k y picks ranks)) × (ls ≡ node_lines None h.asked.model.init (reject h.asked.w (told e k y picks ranks))) × RejectForm h e k y picks ranks
 
 -- the words of the first line, of a leaf that passes the tests
 first_words : (h : HeadData) (r : Rejected) (ws : Words) (y : List ℤ) (picks ranks : List ℕ) → HeadForm h → IsRejected r ws → AreVector h y → LeafFits h r y picks ranks → ws ≡ reject_words r.e r.k (number y h.asked.model.init) (2 ^ h.asked.w)
@@ -294,11 +296,11 @@ inverts_reject h k =
     let r3 : l2 ≡ line (codes "rank" ∷ map mark_word ranks) ∷ [] = put l2 f3 l3 (line (codes "rank" ∷ map mark_word ranks) ∷ []) [] e3 (one3 ∙ ap (λ t. line t ∷ []) is3) none in
     let r2 : l1 ≡ line (codes "choice" ∷ map mark_word picks) ∷ line (codes "rank" ∷ map mark_word ranks) ∷ [] = put l1 f2 l2 (line (codes "choice" ∷ map mark_word picks) ∷ []) (line (codes "rank" ∷ map mark_word ranks) ∷ []) e2 (one2 ∙ ap (λ t. line t ∷ []) is2) r3 in
     let r1 : l0 ≡ line (numbers_words (codes "y") y) ∷ line (codes "choice" ∷ map mark_word picks) ∷ line (codes "rank" ∷ map mark_word ranks) ∷ [] = put l0 f1 l1 (line (numbers_words (codes "y") y) ∷ []) (line (codes "choice" ∷ map mark_word picks) ∷ line (codes "rank" ∷ map mark_word ranks) ∷ []) e1 (one1 ∙ ap (λ t. line t ∷ []) is1) r2 in
-    let r0 : ls ≡ node_lines h.asked.model.init (reject h.asked.w (told r.e r.k y picks ranks)) = put ls f0 l0 (line (reject_words r.e r.k (number y h.asked.model.init) (2 ^ h.asked.w)) ∷ []) (line (numbers_words (codes "y") y) ∷ line (codes "choice" ∷ map mark_word picks) ∷ line (codes "rank" ∷ map mark_word ranks) ∷ []) e0 (one0 ∙ ap (λ t. line t ∷ []) w0) r1 in
+    let r0 : ls ≡ node_lines None h.asked.model.init (reject h.asked.w (told r.e r.k y picks ranks)) = put ls f0 l0 (line (reject_words r.e r.k (number y h.asked.model.init) (2 ^ h.asked.w)) ∷ []) (line (numbers_words (codes "y") y) ∷ line (codes "choice" ∷ map mark_word picks) ∷ line (codes "rank" ∷ map mark_word ranks) ∷ []) e0 (one0 ∙ ap (λ t. line t ∷ []) w0) r1 in
     (r.e, r.k, y, picks, ranks, sym same, r0, record { e_low = l.e_low; k_some = l.k_some; k_low = l.k_low; vector = v; picks_fit = fit2; ranks_fit = fit3; states_fit = tests.1.1.1 }))
     (λ node ls (e, kk, y, picks, ranks, is, are, l). back node ls e kk y picks ranks is are l)
   where
-    back : (node : Node) (ls : Lines) (e kk : ℕ) (y : List ℤ) (picks ranks : List ℕ) → node ≡ reject h.asked.w (told e kk y picks ranks) → ls ≡ node_lines h.asked.model.init (reject h.asked.w (told e kk y picks ranks)) → RejectForm h e kk y picks ranks
+    back : (node : Node) (ls : Lines) (e kk : ℕ) (y : List ℤ) (picks ranks : List ℕ) → node ≡ reject h.asked.w (told e kk y picks ranks) → ls ≡ node_lines None h.asked.model.init (reject h.asked.w (told e kk y picks ranks)) → RejectForm h e kk y picks ranks
         → Then (OneLine (λ r ws. IsRejected r ws × IsLine ws)) (λ r. Then (OneLine (λ zs ws. (ws ≡ numbers_words (codes "y") zs) × AreVector h zs)) (λ y. Then (OneLine (λ marks ws. (ws ≡ codes "choice" ∷ map mark_word marks) × AreMarks (pick_ends h) marks)) (λ picks. Then (OneLine (λ marks ws. (ws ≡ codes "rank" ∷ map mark_word marks) × AreMarks (rank_ends h r.k) marks)) (λ ranks. Tested (LeafFits h r y picks ranks) (reject h.asked.w (told r.e r.k y picks ranks)))))) node ls
     back node ls e kk y picks ranks is are l =
         let n = number y h.asked.model.init in
@@ -355,11 +357,18 @@ peek_ok : {A : Type 0} (test : List ℕ → Bool) (here other : Reader A) (c : C
 unfolding chosen
 peek_ok test here other c l e = ap (λ (r : Result (List ℕ × Cursor) TextError). r >>= λ l. elim (test l.0) [ true ↦ here c | false ↦ other c ]) e
 
-same_node : (h : HeadData) (c : Cursor) → nested h c ≡ node_at h c
-unfolding node_at node_by key_of chosen
+-- the node whose first line is due, in the first version and in the second one
+abbrev first_at : HeadData → Reader Node
+first_at h c = due c >>= λ l. node_by h (words l.0) c
+
+abbrev second_at : HeadData → Reader Node
+second_at h c = due c >>= λ l. second_by h (words l.0) c
+
+same_node : (h : HeadData) (c : Cursor) → nested h c ≡ first_at h c
+unfolding node_by key_of chosen
 same_node h c = by_due (due c) refl
   where
-    by_due : (r : Result (List ℕ × Cursor) TextError) → due c ≡ r → nested h c ≡ node_at h c
+    by_due : (r : Result (List ℕ × Cursor) TextError) → due c ≡ r → nested h c ≡ first_at h c
     by_due (Ok l) e =
         let third : peek (key_of (codes "reject")) (reject_at h) unknown_at c ≡ chosen (key_of (codes "reject") l.0) (reject_at h c) (unknown_at c) = peek_ok (key_of (codes "reject")) (reject_at h) unknown_at c l e in
         let second = peek_ok (key_of (codes "accept")) (accept_at h) (peek (key_of (codes "reject")) (reject_at h) unknown_at) c l e ∙ ap (λ x. chosen (key_of (codes "accept") l.0) (accept_at h c) x) third in
@@ -462,20 +471,205 @@ reject_form h r f = record {
   states_fit = f.places;
 }
 
-pub inverts_node : (h : HeadData) → HeadForm h → Inverts Anything (NodeLines h) (node_at h)
-unfolding AllLines SplitLines AcceptLines UnknownLines
-inverts_node h k =
-    inverts_so (inverts_same (same_node h) (inverts_nested h k)) (NodeLines h)
-    (λ node ls s. elim s [
-      | inl (axis, is, are, low) ↦ subst (λ y. NodeLines h y ls) (sym is) (are, low)
-      | inr (inl (x, is, are, v)) ↦ subst (λ y. NodeLines h y ls) (sym is) (are, (refl, vector_numbers h.asked x v))
-      | inr (inr (inl (e, kk, y, picks, ranks, is, are, l))) ↦ subst (λ y. NodeLines h y ls) (sym is) (are, (refl, form_reject h e kk y picks ranks l))
-      | inr (inr (inr (is, are))) ↦ subst (λ y. NodeLines h y ls) (sym is) (are, tt)
-    ])
-    (λ node ls (are, fit). back node ls are fit)
+-- ---- a decided leaf behind the line of its precision
+
+-- no line may stand there
+abbrev Never : Node → Lines → Type 0
+Never node ls = ⊥
+
+refused : Reader Node
+refused c = fault c.0 Syntax
+
+inverts_refused : Inverts Anything Never refused
+unfolding refused
+inverts_refused = record { takes = λ n m text rest x e. absurd cc; again = λ n x ls rest s _. absurd s; short = λ n x ls front back s e some. absurd s; stops = λ n x ls more s p. absurd s; feeds = λ x ls s. absurd s }
+
+abbrev nested_leaf : HeadData → Reader Node
+nested_leaf h = peek (key_of (codes "accept")) (accept_at h) (peek (key_of (codes "reject")) (reject_at h) refused)
+
+-- the decided leaf whose line is due
+abbrev decided_at : HeadData → Reader Node
+decided_at h c = due c >>= λ l. decided_by h (words l.0) c
+
+same_leaf : (h : HeadData) (c : Cursor) → nested_leaf h c ≡ decided_at h c
+unfolding decided_by key_of chosen refused
+same_leaf h c = by_due (due c) refl
   where
-    back : (node : Node) (ls : Lines) → ls ≡ node_lines h.asked.model.init node → IsNode h.asked node → AllLines h node ls
-    back (split axis) ls are low = inl (axis, refl, are, low)
-    back (accept u x) ls are fit = inr (inl (x, ap (λ t. accept t x) fit.0, are, numbers_vector h.asked x fit.1))
-    back (reject u r) ls are fit = inr (inr (inl (r.e, r.k, r.numbers, r.picks, r.ranks, ap (λ t. reject t r) fit.0, are ∙ ap (λ t. node_lines h.asked.model.init (reject t r)) fit.0, reject_form h r fit.1)))
-    back unknown ls are fit = inr (inr (inr (refl, are)))
+    by_due : (r : Result (List ℕ × Cursor) TextError) → due c ≡ r → nested_leaf h c ≡ decided_at h c
+    by_due (Ok l) e =
+        let second = peek_ok (key_of (codes "reject")) (reject_at h) refused c l e in
+        peek_ok (key_of (codes "accept")) (accept_at h) (peek (key_of (codes "reject")) (reject_at h) refused) c l e
+        ∙ ap (λ x. chosen (key_of (codes "accept") l.0) (accept_at h c) x) second
+        ∙ sym (ap (λ (r : Result (List ℕ × Cursor) TextError). r >>= λ l. decided_by h (words l.0) c) e)
+    by_due (Err x) e = rw e refl
+
+DecidedLines : HeadData → Node → Lines → Type 0
+DecidedLines h node ls = AcceptLines h node ls ⊎ (RejectLines h node ls ⊎ Never node ls)
+
+reject_more : List ℤ → List ℕ → List ℕ → Lines
+reject_more y picks ranks = line (numbers_words (codes "y") y) ∷ line (codes "choice" ∷ map mark_word picks) ∷ line (codes "rank" ∷ map mark_word ranks) ∷ []
+
+reject_rest : HeadData → ℕ → ℕ → List ℤ → Words
+reject_rest h e k y = codes "e" ∷ decimal e ∷ codes "k" ∷ decimal k ∷ codes "m" ∷ decimal (e * k) ∷ codes "b" ∷ (signed_decimal (number y h.asked.model.init) ++ 47 ∷ decimal (2 ^ h.asked.w)) ∷ []
+
+inverts_decided : (h : HeadData) → HeadForm h → Inverts Anything (DecidedLines h) (decided_at h)
+unfolding DecidedLines AcceptLines reject_rest reject_more
+inverts_decided h k =
+    inverts_same (same_leaf h)
+    (inverts_peek (key_of (codes "accept")) (inverts_accept h k)
+    (inverts_peek (key_of (codes "reject")) (inverts_reject h k) inverts_refused
+    (λ node ls (e, kk, y, picks, ranks, _, are, l). opens_first Anything (begins_same (codes "reject") (codes "reject") (reject_rest h e kk y) (reject_more y picks ranks) ls refl (reject_is_line h e kk y k l.vector l.e_low l.k_low) are))
+    (λ node ls bad. absurd bad))
+    (λ node ls (x, _, are, v). opens_first Anything (begins_same (codes "accept") (codes "accept") (map signed_decimal x) [] ls refl (accept_is_line h x k v) are))
+    (λ node ls s. elim s [
+      | inl (e, kk, y, picks, ranks, _, are, l) ↦ opens_first Anything (begins_other (codes "accept") (codes "reject") (reject_rest h e kk y) (reject_more y picks ranks) ls refl (reject_is_line h e kk y k l.vector l.e_low l.k_low) are)
+      | inr bad ↦ absurd bad
+    ]))
+
+-- a head at a precision of its range
+at_form : (h : HeadData) (u : ℕ) → HeadForm h → unwrap_or h.from u ≤ u → 1 ≤ u → u ≤ h.asked.w → HeadForm (at_precision u h)
+at_form h u k low some high = record {
+  declared = k.declared;
+  common = k.common;
+  states = k.states;
+  init = k.init;
+  goals = k.goals;
+  rows = k.rows;
+  bound = k.bound;
+  w = (some, omega (arith, high, k.w.1));
+  range = (k.range.0, low);
+  depth = k.depth;
+  grid = k.grid;
+  box = k.box;
+}
+
+-- the least precision is at least 1, and so is each one of the range
+at_some : (from : Option ℕ) (w u : ℕ) → 1 ≤ unwrap_or from 1 → 1 ≤ w → unwrap_or from w ≤ u → (1 ≤ u) × (unwrap_or from u ≤ u)
+at_some None w u some low least = (omega (arith, low, least), omega arith)
+at_some (Some v) w u some low least = (omega (arith, some, least), least)
+
+ToldLines : HeadData → Node → Lines → Type 0
+ToldLines h = Then (NumberLine (codes "at") (least_precision h) (h.asked.w + 1)) (λ u. DecidedLines (at_precision u h))
+
+inverts_told : (h : HeadData) → HeadForm h → Inverts Anything (ToldLines h) (told_at h)
+unfolding told_at ToldLines
+inverts_told h k =
+    inverts_pass (number_step (codes "at") (least_precision h) (h.asked.w + 1) (omega (arith, k.w.1)) (key_fits 22 (codes "at") refl refl)) (λ u ls (ws, (is, low, high), one).
+    let ranged = at_some h.from h.asked.w u k.range.0 k.w.0 low in inverts_decided (at_precision u h) (at_form h u k ranged.1 ranged.0 (omega (arith, high))))
+
+-- ---- a node in the second version
+
+abbrev nested_second : HeadData → Reader Node
+nested_second h = peek (key_of (codes "split")) (split_at h) (peek (key_of (codes "at")) (told_at h) unknown_at)
+
+same_second : (h : HeadData) (c : Cursor) → nested_second h c ≡ second_at h c
+unfolding second_by key_of chosen
+same_second h c = by_due (due c) refl
+  where
+    by_due : (r : Result (List ℕ × Cursor) TextError) → due c ≡ r → nested_second h c ≡ second_at h c
+    by_due (Ok l) e =
+        let second = peek_ok (key_of (codes "at")) (told_at h) unknown_at c l e in
+        peek_ok (key_of (codes "split")) (split_at h) (peek (key_of (codes "at")) (told_at h) unknown_at) c l e
+        ∙ ap (λ x. chosen (key_of (codes "split") l.0) (split_at h c) x) second
+        ∙ sym (ap (λ (r : Result (List ℕ × Cursor) TextError). r >>= λ l. second_by h (words l.0) c) e)
+    by_due (Err x) e = rw e refl
+
+SecondLines : HeadData → Node → Lines → Type 0
+SecondLines h node ls = SplitLines h node ls ⊎ (ToldLines h node ls ⊎ UnknownLines node ls)
+
+at_is_line : (h : HeadData) (u : ℕ) → HeadForm h → u < h.asked.w + 1 → IsLine (number_words (codes "at") u)
+at_is_line h u k low = number_line (codes "at") u (key_fits 22 (codes "at") refl refl) (omega (arith, low, k.w.1))
+
+-- the first of the lines
+told_first : (u : ℕ) (first last ls : Lines) (ws : Words) → ws ≡ number_words (codes "at") u → first ≡ line ws ∷ [] → ls ≡ first ++ last → ls ≡ line (number_words (codes "at") u) ∷ last
+told_first u first last ls ws is one whole = whole ∙ ap (λ t. t ++ last) (one ∙ ap (λ t. line t ∷ []) is)
+
+inverts_second : (h : HeadData) → HeadForm h → Inverts Anything (SecondLines h) (second_at h)
+unfolding SecondLines SplitLines ToldLines UnknownLines
+inverts_second h k =
+    inverts_same (same_second h)
+    (inverts_peek (key_of (codes "split")) (inverts_split h k)
+    (inverts_peek (key_of (codes "at")) (inverts_told h k) inverts_unknown
+    (λ node ls (u, first, last, (ws, (is, low, high), one), _, whole). opens_first Anything (begins_same (codes "at") (codes "at") (decimal u ∷ []) last ls refl (at_is_line h u k high) (told_first u first last ls ws is one whole)))
+    (λ node ls (_, are). opens_first Anything (begins_other (codes "at") (codes "unknown") [] [] ls refl unknown_is_line are)))
+    (λ node ls (axis, _, are, low). opens_first Anything (begins_same (codes "split") (codes "split") (decimal axis ∷ []) [] ls refl (split_is_line h axis k low) are))
+    (λ node ls s. elim s [
+      | inl (u, first, last, (ws, (is, low, high), one), _, whole) ↦ opens_first Anything (begins_other (codes "split") (codes "at") (decimal u ∷ []) last ls refl (at_is_line h u k high) (told_first u first last ls ws is one whole))
+      | inr (_, are) ↦ opens_first Anything (begins_other (codes "split") (codes "unknown") [] [] ls refl unknown_is_line are)
+    ]))
+
+-- a node of the second version, as its lines tell it
+told_node : (h : HeadData) (v u : ℕ) (node : Node) (last ls : Lines) → h.from ≡ Some v → least_precision h ≤ u → u < h.asked.w + 1 → ls ≡ line (number_words (codes "at") u) ∷ last → DecidedLines (at_precision u h) node last → NodeLines h node ls
+unfolding DecidedLines AcceptLines
+told_node h v u node last ls from low high are (inl (x, is, same, vector)) =
+    subst (λ y. NodeLines h y ls) (sym is)
+    (are ∙ ap (λ t. line (number_words (codes "at") u) ∷ t) same ∙ ap (λ f. at_lines f u ++ line (numbers_words (codes "accept") x) ∷ []) (sym from), ((low, omega (arith, high)), vector_numbers (at_precision u h).asked x vector))
+told_node h v u node last ls from low high are (inr (inl (e, k, y, picks, ranks, is, same, form))) =
+    subst (λ z. NodeLines h z ls) (sym is)
+    (are ∙ ap (λ t. line (number_words (codes "at") u) ∷ t) same ∙ ap (λ f. node_lines f h.asked.model.init (reject u (told e k y picks ranks))) (sym from), ((low, omega (arith, high)), form_reject (at_precision u h) e k y picks ranks form))
+told_node h v u node last ls from low high are (inr (inr bad)) = absurd bad
+
+second_node : (h : HeadData) (v : ℕ) (node : Node) (ls : Lines) → h.from ≡ Some v → SecondLines h node ls → NodeLines h node ls
+unfolding SecondLines SplitLines ToldLines UnknownLines
+second_node h v node ls from (inl (axis, is, are, low)) = subst (λ y. NodeLines h y ls) (sym is) (are, low)
+second_node h v node ls from (inr (inl (u, first, last, (ws, (is, low, high), one), decided, whole))) = told_node h v u node last ls from low high (told_first u first last ls ws is one whole) decided
+second_node h v node ls from (inr (inr (is, are))) = subst (λ y. NodeLines h y ls) (sym is) (are, tt)
+
+node_second : (h : HeadData) (v : ℕ) (node : Node) (ls : Lines) → h.from ≡ Some v → NodeLines h node ls → SecondLines h node ls
+unfolding SecondLines SplitLines ToldLines UnknownLines DecidedLines AcceptLines
+node_second h v (split axis) ls from (are, low) = inl (axis, refl, are, low)
+node_second h v (accept u x) ls from (are, (ranged, numbers)) =
+    inr (inl (
+      u,
+      line (number_words (codes "at") u) ∷ [],
+      line (numbers_words (codes "accept") x) ∷ [],
+      (number_words (codes "at") u, (refl, ranged.0, omega (arith, ranged.1)), refl),
+      inl (x, refl, refl, numbers_vector (at_precision u h).asked x numbers),
+      are ∙ ap (λ f. node_lines f h.asked.model.init (accept u x)) from,
+    ))
+node_second h v (reject u r) ls from (are, (ranged, form)) =
+    inr (inl (
+      u,
+      line (number_words (codes "at") u) ∷ [],
+      node_lines None h.asked.model.init (reject u r),
+      (number_words (codes "at") u, (refl, ranged.0, omega (arith, ranged.1)), refl),
+      inr (inl (r.e, r.k, r.numbers, r.picks, r.ranks, refl, refl, reject_form (at_precision u h) r form)),
+      are ∙ ap (λ f. node_lines f h.asked.model.init (reject u r)) from,
+    ))
+node_second h v unknown ls from (are, _) = inr (inr (refl, are))
+
+-- ---- a node
+
+-- in the first version the only precision is the greatest
+only_precision : (h : HeadData) (u : ℕ) → h.from ≡ None → IsPrecision h u → u ≡ h.asked.w
+only_precision h u from ranged = let least : least_precision h ≡ h.asked.w = ap (λ f. unwrap_or f h.asked.w) from in omega (arith, least, ranged.0, ranged.1)
+
+first_node : (h : HeadData) (node : Node) (ls : Lines) → h.from ≡ None → AllLines h node ls → NodeLines h node ls
+unfolding AllLines SplitLines AcceptLines UnknownLines
+first_node h node ls from (inl (axis, is, are, low)) = subst (λ y. NodeLines h y ls) (sym is) (are, low)
+first_node h node ls from (inr (inl (x, is, are, v))) =
+    let least : least_precision h ≡ h.asked.w = ap (λ f. unwrap_or f h.asked.w) from in
+    subst (λ y. NodeLines h y ls) (sym is) (are ∙ ap (λ f. node_lines f h.asked.model.init (accept h.asked.w x)) (sym from), ((omega (arith, least), omega arith), vector_numbers h.asked x v))
+first_node h node ls from (inr (inr (inl (e, kk, y, picks, ranks, is, are, l)))) =
+    let least : least_precision h ≡ h.asked.w = ap (λ f. unwrap_or f h.asked.w) from in
+    subst (λ y. NodeLines h y ls) (sym is) (are ∙ ap (λ f. node_lines f h.asked.model.init (reject h.asked.w (told e kk y picks ranks))) (sym from), ((omega (arith, least), omega arith), form_reject h e kk y picks ranks l))
+first_node h node ls from (inr (inr (inr (is, are)))) = subst (λ y. NodeLines h y ls) (sym is) (are, tt)
+
+node_first : (h : HeadData) (node : Node) (ls : Lines) → h.from ≡ None → NodeLines h node ls → AllLines h node ls
+unfolding AllLines SplitLines AcceptLines UnknownLines
+node_first h (split axis) ls from (are, low) = inl (axis, refl, are, low)
+node_first h (accept u x) ls from (are, (ranged, numbers)) =
+    let same = only_precision h u from ranged in
+    inr (inl (x, ap (λ t. accept t x) same, are ∙ ap (λ f. node_lines f h.asked.model.init (accept u x)) from, subst (λ t. AreValues (length h.asked.model.states) t x) same (numbers_vector (at_precision u h).asked x numbers)))
+node_first h (reject u r) ls from (are, (ranged, form)) =
+    let same = only_precision h u from ranged in
+    inr (inr (inl (r.e, r.k, r.numbers, r.picks, r.ranks, ap (λ t. reject t r) same, are ∙ ap (λ f. node_lines f h.asked.model.init (reject u r)) from ∙ ap (λ t. node_lines None h.asked.model.init (reject t r)) same, reject_form h r (subst (λ t. IsReject (at_precision t h).asked r) same form))))
+node_first h unknown ls from (are, _) = inr (inr (inr (refl, are)))
+
+pub inverts_node : (h : HeadData) → HeadForm h → Inverts Anything (NodeLines h) (node_at h)
+unfolding node_at
+inverts_node h k = by h.from refl
+  where
+    by : (from : Option ℕ) → h.from ≡ from → Inverts Anything (NodeLines h) (λ c. due c >>= λ l. node_in h from (words l.0) c)
+    by None is = inverts_so (inverts_same (same_node h) (inverts_nested h k)) (NodeLines h) (λ node ls s. first_node h node ls is s) (λ node ls s. node_first h node ls is s)
+    by (Some v) is = inverts_so (inverts_second h k) (NodeLines h) (λ node ls s. second_node h v node ls is s) (λ node ls s. node_second h v node ls is s)

@@ -1,12 +1,12 @@
 -- Reports that are read, by computation.
 use Rattle.std.proofs.Common.{◌≡◌, ℕ, refl, List, [], ◌∷◌, ◌++◌, true, false, Ok}
-use Rattle.std.specs.Prelude.{codes, pos, negsuc}
+use Rattle.std.specs.Prelude.{codes, pos, negsuc, None}
 use Rattle.std.specs.List.{concat}
 use Rattle.lift_model.specs.declared.kind.Kind.TheVariants.{Dtmc}
 use Rattle.cert_text.specs.Head.{HeadData}
-use Rattle.cert_text.specs.Report.{size_lines, row_line, asked_lines, report_text}
+use Rattle.cert_text.specs.Report.{size_lines, row_line, asked_lines, scale_lines, report_text}
 use Rattle.line_text.specs.Reading.{due, line_at}
-use Rattle.cert_text.specs.Head.{head_at, state_at, states_at, behind_first, row_at, entries_at, further_at}
+use Rattle.cert_text.specs.Head.{head_at, from_at, state_at, states_at, behind_first, row_at, entries_at, further_at}
 use Rattle.cert_text.specs.Nodes.{accept, node_at, node_by, accept_at}
 use Rattle.lift_grid.specs.Tree.Tree.{accept as accepted}
 use Rattle.lift_frac.specs.Gcd.{gcd}
@@ -32,6 +32,7 @@ coin = record {
     depth = 0;
     w = 4;
   };
+  from = None;
   bound = record { num = 1; den = 2 };
 }
 
@@ -60,13 +61,13 @@ coin_lines =
     ∷ []
 
 head_read : head_at (1, concat coin_lines ++ codes "accept 7 16 0\n") ≡ Ok (coin, (20, codes "accept 7 16 0\n"))
-unfolding coin_lines coin gcd head_at state_at states_at behind_first row_at entries_at further_at due line_at lib.Count.ones
+unfolding coin_lines coin gcd head_at from_at state_at states_at behind_first row_at entries_at further_at due line_at lib.Count.ones
 head_read = refl
 
 node_read : node_at coin (20, codes "accept 7 16 0\n") ≡ Ok (accept 4 (pos 7 ∷ pos 16 ∷ pos 0 ∷ []), (21, []))
 unfolding coin node_at node_by accept_at due line_at
 node_read = refl
 
-text_is : report_text coin.asked coin.bound (accepted 4 (pos 7 ∷ pos 16 ∷ pos 0 ∷ [])) ≡ concat coin_lines ++ codes "accept 7 16 0\n"
-unfolding coin_lines coin size_lines row_line asked_lines digits
+text_is : report_text coin.asked None coin.bound (accepted 4 (pos 7 ∷ pos 16 ∷ pos 0 ∷ [])) ≡ concat coin_lines ++ codes "accept 7 16 0\n"
+unfolding coin_lines coin size_lines row_line asked_lines scale_lines digits
 text_is = refl

@@ -21,7 +21,7 @@ use Rattle.cert_text.specs.Whole.{height, branch_at, tree_at, report_at}
 use Rattle.cert_text.proofs.NodeLaws.{NodeLines, inverts_node}
 
 abbrev pub TreeLines : HeadData → ℕ → Tree → Lines → Type 0
-TreeLines h levels t ls = (ls ≡ tree_lines h.asked.model.init t) × IsTree h.asked t × (height t ≤ levels)
+TreeLines h levels t ls = (ls ≡ tree_lines h.from h.asked.model.init t) × IsTree h t × (height t ≤ levels)
 
 abbrev Halves : (Tree → Lines → Type 0) → Node → Tree → Lines → Type 0
 Halves S (split axis) t ls = Then S (λ lower. Then S (λ upper. Done (splits axis lower upper))) t ls
@@ -42,34 +42,34 @@ inverts_never : Inverts Anything Never (λ c. fault c.0 Limit)
 inverts_never = record { takes = λ n m text rest x e. absurd cc; again = λ n x ls rest s _. absurd s; short = λ n x ls front back s e some. absurd s; stops = λ n x ls more s p. absurd s; feeds = λ x ls s. absurd s }
 
 -- a tree by its node and what stands behind it
-module _ (h : HeadData) (S : Tree → Lines → Type 0) (levels : ℕ) (to : (t : Tree) (ls : Lines) → S t ls → (ls ≡ tree_lines h.asked.model.init t) × IsTree h.asked t × (height t < levels)) (from : (t : Tree) (ls : Lines) → ls ≡ tree_lines h.asked.model.init t → IsTree h.asked t → height t < levels → S t ls) where
+module _ (h : HeadData) (S : Tree → Lines → Type 0) (levels : ℕ) (to : (t : Tree) (ls : Lines) → S t ls → (ls ≡ tree_lines h.from h.asked.model.init t) × IsTree h t × (height t < levels)) (from : (t : Tree) (ls : Lines) → ls ≡ tree_lines h.from h.asked.model.init t → IsTree h t → height t < levels → S t ls) where
   built : (t : Tree) (ls : Lines) → Then (NodeLines h) (Halves S) t ls → TreeLines h levels t ls
   built t ls (split axis, first, last, (is, low), (lower, a, bc, sl, (upper, b, c, su, (same, none), parts), whole), e) =
       let l = to lower a sl in
       let u = to upper b su in
       subst (λ y. TreeLines h levels y ls) same (
-        e ∙ ap (λ t. t ++ last) is ∙ ap (λ t. node_lines h.asked.model.init (split axis) ++ t) (whole ∙ ap (λ t. t ++ bc) l.0 ∙ ap (λ t. tree_lines h.asked.model.init lower ++ t) (parts ∙ ap (λ t. b ++ t) none ∙ append-nil b ∙ u.0)),
+        e ∙ ap (λ t. t ++ last) is ∙ ap (λ t. node_lines h.from h.asked.model.init (split axis) ++ t) (whole ∙ ap (λ t. t ++ bc) l.0 ∙ ap (λ t. tree_lines h.from h.asked.model.init lower ++ t) (parts ∙ ap (λ t. b ++ t) none ∙ append-nil b ∙ u.0)),
         (low, l.1, u.1),
         omega (arith, l.2, u.2),
       )
-  built t ls (accept u x, first, last, (is, fit), (same, none), e) = subst (λ y. TreeLines h levels y ls) same (e ∙ ap (λ t. t ++ last) is ∙ ap (λ t. node_lines h.asked.model.init (accept u x) ++ t) none, fit, omega arith)
-  built t ls (reject u r, first, last, (is, fit), (same, none), whole) = subst (λ y. TreeLines h levels y ls) same (whole ∙ ap (λ t. t ++ last) is ∙ ap (λ t. node_lines h.asked.model.init (reject u r) ++ t) none, fit, omega arith)
-  built t ls (unknown, first, last, (is, fit), (same, none), e) = subst (λ y. TreeLines h levels y ls) same (e ∙ ap (λ t. t ++ last) is ∙ ap (λ t. node_lines h.asked.model.init unknown ++ t) none, tt, omega arith)
+  built t ls (accept u x, first, last, (is, fit), (same, none), e) = subst (λ y. TreeLines h levels y ls) same (e ∙ ap (λ t. t ++ last) is ∙ ap (λ t. node_lines h.from h.asked.model.init (accept u x) ++ t) none ∙ append-nil (node_lines h.from h.asked.model.init (accept u x)), fit, omega arith)
+  built t ls (reject u r, first, last, (is, fit), (same, none), whole) = subst (λ y. TreeLines h levels y ls) same (whole ∙ ap (λ t. t ++ last) is ∙ ap (λ t. node_lines h.from h.asked.model.init (reject u r) ++ t) none ∙ append-nil (node_lines h.from h.asked.model.init (reject u r)), fit, omega arith)
+  built t ls (unknown, first, last, (is, fit), (same, none), e) = subst (λ y. TreeLines h levels y ls) same (e ∙ ap (λ t. t ++ last) is ∙ ap (λ t. node_lines h.from h.asked.model.init unknown ++ t) none, tt, omega arith)
 
   cut_tree : (t : Tree) (ls : Lines) → TreeLines h levels t ls → Then (NodeLines h) (Halves S) t ls
   cut_tree (splits axis lower upper) ls (is, (low, l, u), high) =
-      let a = tree_lines h.asked.model.init lower in
-      let b = tree_lines h.asked.model.init upper in (
+      let a = tree_lines h.from h.asked.model.init lower in
+      let b = tree_lines h.from h.asked.model.init upper in (
         split axis,
-        node_lines h.asked.model.init (split axis),
+        node_lines h.from h.asked.model.init (split axis),
         a ++ b,
         (refl, low),
         (lower, a, b, from lower a refl l (omega (arith, high)), (upper, b, [], from upper b refl u (omega (arith, high)), (refl, refl), sym (append-nil b)), refl),
         is,
       )
-  cut_tree (accepts u x) ls (is, fit, high) = (accept u x, node_lines h.asked.model.init (accept u x), [], (refl, fit), (refl, refl), is)
-  cut_tree (rejects u r) ls (is, fit, high) = (reject u r, node_lines h.asked.model.init (reject u r), [], (refl, fit), (refl, refl), is)
-  cut_tree unknowns ls (is, fit, high) = (unknown, node_lines h.asked.model.init unknown, [], (refl, tt), (refl, refl), is)
+  cut_tree (accepts u x) ls (is, fit, high) = (accept u x, node_lines h.from h.asked.model.init (accept u x), [], (refl, fit), (refl, refl), is ∙ sym (append-nil (node_lines h.from h.asked.model.init (accept u x))))
+  cut_tree (rejects u r) ls (is, fit, high) = (reject u r, node_lines h.from h.asked.model.init (reject u r), [], (refl, fit), (refl, refl), is ∙ sym (append-nil (node_lines h.from h.asked.model.init (reject u r))))
+  cut_tree unknowns ls (is, fit, high) = (unknown, node_lines h.from h.asked.model.init unknown, [], (refl, tt), (refl, refl), is)
 
 pub inverts_tree : (h : HeadData) → HeadForm h → (levels : ℕ) → Inverts Anything (TreeLines h levels) (tree_at h levels)
 unfolding tree_at
@@ -85,10 +85,10 @@ inverts_tree h k (suc levels) =
 -- ---- the report
 
 abbrev pub report_lines : HeadData → Tree → Lines
-report_lines h t = head_lines h.asked h.bound ++ tree_lines h.asked.model.init t
+report_lines h t = head_lines h.asked h.from h.bound ++ tree_lines h.from h.asked.model.init t
 
 abbrev pub ReportLines : ℕ → HeadData × Tree → Lines → Type 0
-ReportLines levels r ls = (ls ≡ report_lines r.0 r.1) × HeadForm r.0 × IsTree r.0.asked r.1 × (height r.1 ≤ levels)
+ReportLines levels r ls = (ls ≡ report_lines r.0 r.1) × HeadForm r.0 × IsTree r.0 r.1 × (height r.1 ≤ levels)
 
 pub inverts_report : (levels : ℕ) → Inverts Anything (ReportLines levels) (report_at levels)
 unfolding report_at
@@ -96,13 +96,13 @@ inverts_report levels =
     inverts_so (inverts_pass inverts_head (λ h _ (_, k). inverts_pass (inverts_tree h k levels) (λ t _ _. inverts_done Anything (h, t)))) (ReportLines levels)
     (λ r ls (h, first, last, (is, k), (t, mid, end, (are, fit, low), (same, none), parts), whole).
     subst (λ y. ReportLines levels y ls) same
-    (whole ∙ ap (λ t. t ++ last) is ∙ ap (λ t. head_lines h.asked h.bound ++ t) (parts ∙ ap (λ t. mid ++ t) none ∙ append-nil mid ∙ are), k, fit, low))
+    (whole ∙ ap (λ t. t ++ last) is ∙ ap (λ t. head_lines h.asked h.from h.bound ++ t) (parts ∙ ap (λ t. mid ++ t) none ∙ append-nil mid ∙ are), k, fit, low))
     (λ r ls (is, k, fit, low). (
       r.0,
-      head_lines r.0.asked r.0.bound,
-      tree_lines r.0.asked.model.init r.1,
+      head_lines r.0.asked r.0.from r.0.bound,
+      tree_lines r.0.from r.0.asked.model.init r.1,
       (refl, k),
-      (r.1, tree_lines r.0.asked.model.init r.1, [], (refl, fit, low), (refl, refl), sym (append-nil (tree_lines r.0.asked.model.init r.1))),
+      (r.1, tree_lines r.0.from r.0.asked.model.init r.1, [], (refl, fit, low), (refl, refl), sym (append-nil (tree_lines r.0.from r.0.asked.model.init r.1))),
       is,
     ))
 
@@ -116,17 +116,17 @@ heads_told h n m text rest e = let t = inverts_head.takes n m text rest h e in
     (form_head h t.1.1, t.2 ∙ ap (λ (ls : Lines). concat ls ++ rest) t.1.0, t.3 ∙ ap (λ (ls : Lines). n + length ls) t.1.0)
 
 pub nodes_back : NodesAreReadBack
-nodes_back h node n rest k fit = (inverts_node h (head_form h k)).again n node (node_lines h.asked.model.init node) rest (refl, fit) tt
+nodes_back h node n rest k fit = (inverts_node h (head_form h k)).again n node (node_lines h.from h.asked.model.init node) rest (refl, fit) tt
 
 pub nodes_told : ReadNodesAreTold
 nodes_told h node n m text rest k e = let t = (inverts_node h (head_form h k)).takes n m text rest node e in
     (t.1.1, t.2 ∙ ap (λ (ls : Lines). concat ls ++ rest) t.1.0, t.3 ∙ ap (λ (ls : Lines). n + length ls) t.1.0)
 
 whole_text : (h : HeadData) (t : Tree) → concat (report_lines h t) ≡ text_of h t
-whole_text h t = concat-append (told_lines h) (tree_lines h.asked.model.init t)
+whole_text h t = concat-append (told_lines h) (tree_lines h.from h.asked.model.init t)
 
 whole_count : (h : HeadData) (t : Tree) → length (report_lines h t) ≡ line_count h t
-whole_count h t = length-append (told_lines h) (tree_lines h.asked.model.init t)
+whole_count h t = length-append (told_lines h) (tree_lines h.from h.asked.model.init t)
 
 pub reports_back : ReportsAreReadBack
 reports_back h t levels rest fit low =

@@ -12,7 +12,7 @@ use Rattle.lift_cert.specs.declared.bound.Bound.{Bound}
 use Rattle.lift_bytes.specs.Bytes.{is_name}
 use Rattle.lift_cert.specs.RejectMiss.{most_height}
 use Rattle.cert_text.specs.Lines.{most_terms}
-use Rattle.cert_text.specs.Head.{HeadData}
+use Rattle.cert_text.specs.Head.{HeadData, least_precision, at_precision}
 use Rattle.cert_text.specs.Nodes.{Node, split, accept, reject, unknown, fit_states}
 
 -- ---- the head
@@ -38,6 +38,7 @@ pub record IsHead (h : HeadData) : Type 0 where
   pub names : All IsShortName h.asked.model.names
   pub entries : All (All (All IsSmallEntry)) h.asked.model.states
   pub bound : IsToldBound h.bound
+  pub range : (1 ≤ least_precision h) × (least_precision h ≤ h.asked.w)
 
 -- ---- the nodes
 
@@ -55,21 +56,25 @@ pub record IsReject (k : CaseData) (r : RejectData) : Type 0 where
   pub rate : (r.e ≤ most_rate) × (1 ≤ r.k) × (r.k ≤ most_height)
   pub places : fit_states k.model.goal r.picks r.ranks ≡ true
 
--- a node of a report about that case
-abbrev pub IsNode : CaseData → Node → Type 0
-IsNode k (split axis) = axis < length k.model.names
-IsNode k (accept u x) = (u ≡ k.w) × AreNumbers k x
-IsNode k (reject u r) = (u ≡ k.w) × IsReject k r
-IsNode k unknown = Unit {0}
+-- a precision of a report's range
+abbrev pub IsPrecision : HeadData → ℕ → Type 0
+IsPrecision h u = (least_precision h ≤ u) × (u ≤ h.asked.w)
 
--- a tree, each of whose nodes is one of a report about that case
-abbrev pub IsTree : CaseData → Tree → Type 0
-IsTree k (splits axis lower upper) = IsNode k (split axis) × IsTree k lower × IsTree k upper
-IsTree k (accepts u x) = IsNode k (accept u x)
-IsTree k (rejects u r) = IsNode k (reject u r)
-IsTree k unknowns = IsNode k unknown
+-- a node of a report with that head: a decided leaf has a precision of the range, and is one of a report of that precision
+abbrev pub IsNode : HeadData → Node → Type 0
+IsNode h (split axis) = axis < length h.asked.model.names
+IsNode h (accept u x) = IsPrecision h u × AreNumbers (at_precision u h).asked x
+IsNode h (reject u r) = IsPrecision h u × IsReject (at_precision u h).asked r
+IsNode h unknown = Unit {0}
+
+-- a tree, each of whose nodes is one of a report with that head
+abbrev pub IsTree : HeadData → Tree → Type 0
+IsTree h (splits axis lower upper) = IsNode h (split axis) × IsTree h lower × IsTree h upper
+IsTree h (accepts u x) = IsNode h (accept u x)
+IsTree h (rejects u r) = IsNode h (reject u r)
+IsTree h unknowns = IsNode h unknown
 
 -- a report: a head and a tree
 pub record IsReport (h : HeadData) (tree : Tree) : Type 0 where
   pub head : IsHead h
-  pub nodes : IsTree h.asked tree
+  pub nodes : IsTree h tree

@@ -1,5 +1,6 @@
 -- The head of a report: what stands before its nodes.
-use Rattle.std.specs.Prelude.{ℕ, pos, zero, suc, ◌+◌, ◌-◌, Bool, true, false, List, [], ◌∷◌, length, codes, ◌&&◌, Ok}
+use Rattle.std.specs.Prelude.{ℕ, pos, zero, suc, ◌+◌, ◌-◌, Bool, true, false, List, [], ◌∷◌, length, codes, ◌&&◌, Option, Some, None, is_some, if◌then◌else◌, Ok}
+use Rattle.std.specs.Option.{unwrap_or}
 use Rattle.std.specs.List.{sum_by}
 use Rattle.std.specs.Str.{bytes_eq}
 use Rattle.std.specs.Fmt.{decimal}
@@ -17,10 +18,27 @@ use Rattle.line_text.specs.Reading.{◌>>=◌, Reader, due, line_at}
 use Rattle.cert_text.specs.Lines.{version_of, kind_of, parameters_of, goal_of, row_of, entry_of, bound_of, box_of}
 use Rattle.line_text.specs.Parts.{number_in}
 
--- what a report says before its nodes
+-- what a report says before its nodes: what is asked at its greatest precision, the least precision of its range, which the second version tells, and the bound
 pub record HeadData : Type 0 where
   pub asked : CaseData
+  pub from : Option ℕ
   pub bound : Bound
+
+-- the least precision of a report's range
+abbrev pub least_precision : HeadData → ℕ
+least_precision h = unwrap_or h.from h.asked.w
+
+-- the number of a report's version: the second one tells a range
+abbrev pub version : HeadData → ℕ
+version h = if is_some h.from then 2 else 1
+
+-- the case at another precision
+abbrev pub case_at : ℕ → CaseData → CaseData
+case_at u k = record k { w = u }
+
+-- the head of a report whose greatest precision is that one
+abbrev pub at_precision : ℕ → HeadData → HeadData
+at_precision u h = record h { asked = case_at u h.asked }
 
 -- so many entries, whose targets differ from those before them
 unfoldable pub entries_at : ℕ → ℕ → List ℕ → ℕ → Reader (List Entry)
@@ -77,6 +95,11 @@ states_at kind states parameters (suc left) choices transitions s c = do
   others ← states_at kind states parameters left (choices - length rows.0) (transitions - sum_by length rows.0) (s + 1) rows.1
   Ok (rows.0 ∷ others.0, others.1)
 
+-- the line `from` behind that of the greatest precision, in the second version
+unfoldable pub from_at : Bool → ℕ → Reader (Option ℕ)
+from_at false w c = Ok (None, c)
+from_at true w c = line_at (number_in (codes "from") 1 (w + 1)) c >>= λ v. Ok (Some v.0, v.1)
+
 -- the head, line by line
 unfoldable pub head_at : Reader HeadData
 head_at c = do
@@ -90,9 +113,10 @@ head_at c = do
   rows ← states_at kind.0 states.0 (length names.0) states.0 most_choices most_transitions 0 goal.1
   bound ← line_at bound_of rows.1
   w ← line_at (number_in (codes "precision") 1 (most_precision + 1)) bound.1
-  depth ← line_at (number_in (codes "depth") 0 (most_halvings + 1)) w.1
+  from ← from_at version.0 w.0 w.1
+  depth ← line_at (number_in (codes "depth") 0 (most_halvings + 1)) from.1
   grid ← line_at (number_in (codes "grid") 1 size_limit) depth.1
   root ← line_at (box_of (length names.0) depth.0) grid.1
   let model : ModelData = record { kind = kind.0; common = pos common.0; names = names.0; goal = goal.0; init = init.0; states = rows.0 }
   let region : Region = record { d = pos grid.0; depth = depth.0; spans = root.0 }
-  Ok (record { asked = case_of model region w.0; bound = bound.0 }, root.1)
+  Ok (record { asked = case_of model region w.0; from = from.0; bound = bound.0 }, root.1)

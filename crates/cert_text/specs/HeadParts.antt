@@ -10,6 +10,7 @@ head_of p = record {
   asked = case_of
       (record { kind = p.kind; common = p.common; names = p.names; goal = p.goal.items; init = p.init; states = map (λ v. v.items) p.states.items })
       (record { d = p.grid.d; depth = p.grid.depth; spans = p.root })
-      p.w;
+      p.precisions.w;
+  from = p.precisions.from;
   bound = p.bound;
 }

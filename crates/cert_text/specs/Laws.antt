@@ -14,7 +14,7 @@ use Rattle.cert_text.specs.Forms.{IsHead, IsNode, IsReport}
 
 -- the lines of a head
 abbrev pub told_lines : HeadData → List (List ℕ)
-told_lines h = head_lines h.asked h.bound
+told_lines h = head_lines h.asked h.from h.bound
 
 -- a head is read back from its lines, whatever follows them
 abbrev pub HeadsAreReadBack : Type 0
@@ -28,23 +28,23 @@ ReadHeadsAreTold = (h : HeadData) (n m : ℕ) (text rest : List ℕ) → head_at
 
 -- a node of a report is read back from its lines, whatever follows them
 abbrev pub NodesAreReadBack : Type 0
-NodesAreReadBack = (h : HeadData) (node : Node) (n : ℕ) (rest : List ℕ) → IsHead h → IsNode h.asked node
-    → node_at h (n, concat (node_lines h.asked.model.init node) ++ rest) ≡ Ok (node, (n + length (node_lines h.asked.model.init node), rest))
+NodesAreReadBack = (h : HeadData) (node : Node) (n : ℕ) (rest : List ℕ) → IsHead h → IsNode h node
+    → node_at h (n, concat (node_lines h.from h.asked.model.init node) ++ rest) ≡ Ok (node, (n + length (node_lines h.from h.asked.model.init node), rest))
 
 -- where a node is read, it is one of the report, and its lines begin the text
 abbrev pub ReadNodesAreTold : Type 0
 ReadNodesAreTold = (h : HeadData) (node : Node) (n m : ℕ) (text rest : List ℕ) → IsHead h → node_at h (n, text) ≡ Ok (node, (m, rest))
-    → IsNode h.asked node × (text ≡ concat (node_lines h.asked.model.init node) ++ rest) × (m ≡ n + length (node_lines h.asked.model.init node))
+    → IsNode h node × (text ≡ concat (node_lines h.from h.asked.model.init node) ++ rest) × (m ≡ n + length (node_lines h.from h.asked.model.init node))
 
 -- ---- a report
 
 -- the text of a report
 abbrev pub text_of : HeadData → Tree → List ℕ
-text_of h tree = report_text h.asked h.bound tree
+text_of h tree = report_text h.asked h.from h.bound tree
 
 -- how many lines a report has
 abbrev pub line_count : HeadData → Tree → ℕ
-line_count h tree = length (told_lines h) + length (tree_lines h.asked.model.init tree)
+line_count h tree = length (told_lines h) + length (tree_lines h.from h.asked.model.init tree)
 
 -- a report is read back from its text, whatever follows it
 abbrev pub ReportsAreReadBack : Type 0

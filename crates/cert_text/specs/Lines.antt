@@ -25,9 +25,13 @@ use Rattle.line_text.specs.Parts.{Words, Read, must, spelled, keyed, first, ende
 
 -- ---- the head's lines
 
--- the first line, `plift 1`; with another number it is of another version
-abbrev pub version_of : Words → Read (Unit {0})
-version_of words = numbers_of (codes "plift") words >>= single >>= λ version. must (int_eq version (pos 1)) Version
+-- whether that number is of the second version; a number but 1 and 2 is of another one
+abbrev pub version_in : ℤ → Read Bool
+version_in z = if int_eq z (pos 1) then Ok false else if int_eq z (pos 2) then Ok true else Err Version
+
+-- the first line, `plift 1` or `plift 2`
+abbrev pub version_of : Words → Read Bool
+version_of words = numbers_of (codes "plift") words >>= single >>= version_in
 
 -- the kind of that name
 abbrev pub kind_named : List ℕ → Read Kind

@@ -1,15 +1,15 @@
 -- A node of a report: its lines, in preorder.
-use Rattle.std.specs.Prelude.{ℕ, ℤ, pos, ◌+◌, ◌-◌, ◌*◌, ◌^◌, ◌==◌, ◌&&◌, not, Bool, true, false, List, [], ◌∷◌, length, map, codes, Ok, if◌then◌else◌}
+use Rattle.std.specs.Prelude.{ℕ, ℤ, pos, ◌+◌, ◌-◌, ◌*◌, ◌^◌, ◌==◌, ◌&&◌, not, Bool, true, false, List, [], ◌∷◌, length, map, codes, ◌++◌, Option, Some, None, Ok, if◌then◌else◌}
 use Rattle.std.specs.Ordering.{int_eq}
 use Rattle.std.specs.Str.{bytes_eq}
 use Rattle.corner_lift.specs.Case.{number}
 use Rattle.corner_lift.specs.Certificate.{unmarked}
 use Rattle.line_text.specs.declared.error.TextCause.TheVariants.{Syntax}
 use Rattle.lift_grid.specs.Tree.{RejectData}
-use Rattle.cert_text.specs.Report.{split_line, accept_line, reject_lines, unknown_line}
+use Rattle.cert_text.specs.Report.{split_line, accept_line, reject_lines, unknown_line, at_lines}
 use Rattle.line_text.specs.Words.{words}
-use Rattle.line_text.specs.Reading.{◌>>=◌, Reader, at, due, line_at}
-use Rattle.cert_text.specs.Head.{HeadData}
+use Rattle.line_text.specs.Reading.{◌>>=◌, Reader, at, due, fault, line_at}
+use Rattle.cert_text.specs.Head.{HeadData, least_precision, at_precision}
 use Rattle.line_text.specs.Parts.{must, keyed, ended, number_in}
 use Rattle.cert_text.specs.Lines.{values_of, marks_of, reject_of, Rejected}
 
@@ -66,7 +66,7 @@ reject_at h c = line_at reject_of c >>= λ r. rejecting_at h r.0 r.1
 unfoldable pub unknown_at : Reader Node
 unknown_at c = line_at (λ words. keyed (codes "unknown") words >>= ended) c >>= λ x. Ok (unknown, x.1)
 
--- the node whose first line is due and has these words
+-- the node whose first line is due and has these words, in the first version
 unfoldable pub node_by : HeadData → List (List ℕ) → Reader Node
 node_by h words c =
     elim (begins (codes "split") words) [
@@ -80,13 +80,47 @@ node_by h words c =
       ]
     ]
 
+-- a decided leaf whose line is due and has these words; no other line may stand there
+unfoldable pub decided_by : HeadData → List (List ℕ) → Reader Node
+decided_by h words c =
+    elim (begins (codes "accept") words) [
+      | true ↦ accept_at h c
+      | false ↦ elim (begins (codes "reject") words) [
+        | true ↦ reject_at h c
+        | false ↦ fault c.0 Syntax
+      ]
+    ]
+
+-- a decided leaf behind the line of its precision, which is due
+unfoldable pub told_at : HeadData → Reader Node
+told_at h c = do
+  u ← line_at (number_in (codes "at") (least_precision h) (h.asked.w + 1)) c
+  l ← due u.1
+  decided_by (at_precision u.0 h) (words l.0) u.1
+
+-- the node whose first line is due and has these words, in the second version
+unfoldable pub second_by : HeadData → List (List ℕ) → Reader Node
+second_by h words c =
+    elim (begins (codes "split") words) [
+      | true ↦ split_at h c
+      | false ↦ elim (begins (codes "at") words) [
+        | true ↦ told_at h c
+        | false ↦ unknown_at c
+      ]
+    ]
+
+-- the node whose first line is due, by the version
+abbrev pub node_in : HeadData → Option ℕ → List (List ℕ) → Reader Node
+node_in h None words c = node_by h words c
+node_in h (Some v) words c = second_by h words c
+
 -- the node whose first line is due
 unfoldable pub node_at : HeadData → Reader Node
-node_at h c = due c >>= λ l. node_by h (words l.0) c
+node_at h c = due c >>= λ l. node_in h h.from (words l.0) c
 
 -- the lines of a node
-abbrev pub node_lines : ℕ → Node → List (List ℕ)
-node_lines init (split axis) = split_line axis ∷ []
-node_lines init (accept u x) = accept_line x ∷ []
-node_lines init (reject u r) = reject_lines init u r
-node_lines init unknown = unknown_line ∷ []
+abbrev pub node_lines : Option ℕ → ℕ → Node → List (List ℕ)
+node_lines from init (split axis) = split_line axis ∷ []
+node_lines from init (accept u x) = at_lines from u ++ accept_line x ∷ []
+node_lines from init (reject u r) = at_lines from u ++ reject_lines init u r
+node_lines from init unknown = unknown_line ∷ []

@@ -1,5 +1,5 @@
--- The text of a report: version 1 of our own format. A report is a head and the nodes of a tree, line by line.
-use Rattle.std.specs.Prelude.{◌+◌, ◌*◌, ◌^◌, ◌==◌, ℕ, ℤ, List, [], ◌∷◌, ◌++◌, length, map, codes, Bool, true, false, if◌then◌else◌}
+-- The text of a report: our own format, of which the second version tells a range of precisions, and each decided leaf's. A report is a head and the nodes of a tree, line by line.
+use Rattle.std.specs.Prelude.{◌+◌, ◌*◌, ◌^◌, ◌==◌, ℕ, ℤ, List, [], ◌∷◌, ◌++◌, length, map, codes, Bool, true, false, Option, Some, None, is_some, if◌then◌else◌}
 use Rattle.std.specs.List.{concat}
 use Rattle.std.specs.Fmt.{decimal, signed_decimal}
 use Prim.Native.Char.{code}
@@ -37,9 +37,10 @@ numbers_words key numbers = key ∷ map signed_decimal numbers
 
 -- ---- the model
 
--- the version
-abbrev pub version_words : List (List ℕ)
-version_words = codes "plift" ∷ codes "1" ∷ []
+-- the version, which is the second one or the first
+abbrev pub version_words : Bool → List (List ℕ)
+version_words true = codes "plift" ∷ codes "2" ∷ []
+version_words false = codes "plift" ∷ codes "1" ∷ []
 
 -- the name of a kind
 abbrev pub kind_name : Kind → List ℕ
@@ -120,14 +121,18 @@ model_lines m =
 abbrev pub bound_words : Bound → List (List ℕ)
 bound_words bound = codes "bound" ∷ (decimal bound.num ++ code "/" ∷ decimal bound.den) ∷ []
 
--- bound, precision, depth and the grid's number
+-- the bound and the greatest precision
 unfoldable pub asked_lines : CaseData → Bound → List (List ℕ)
-asked_lines k bound =
-    line (bound_words bound)
-    ∷ line (number_words (codes "precision") k.w)
-    ∷ line (number_words (codes "depth") k.depth)
-    ∷ line (numbers_words (codes "grid") (k.d ∷ []))
-    ∷ []
+asked_lines k bound = line (bound_words bound) ∷ line (number_words (codes "precision") k.w) ∷ []
+
+-- the line of the least precision of a range, which the second version has
+abbrev pub from_lines : Option ℕ → List (List ℕ)
+from_lines None = []
+from_lines (Some v) = line (number_words (codes "from") v) ∷ []
+
+-- depth and the grid's number
+unfoldable pub scale_lines : CaseData → List (List ℕ)
+scale_lines k = line (number_words (codes "depth") k.depth) ∷ line (numbers_words (codes "grid") (k.d ∷ [])) ∷ []
 
 -- the low and the high end of each parameter, over the grid's number
 abbrev pub box_words : Spans → List (List ℕ)
@@ -138,8 +143,9 @@ abbrev pub box_line : Spans → List ℕ
 box_line root = line (box_words root)
 
 -- the head: the version, the model, and what is asked of it
-abbrev pub head_lines : CaseData → Bound → List (List ℕ)
-head_lines k bound = line version_words ∷ (model_lines k.model ++ (asked_lines k bound ++ box_line k.root ∷ []))
+abbrev pub head_lines : CaseData → Option ℕ → Bound → List (List ℕ)
+head_lines k from bound =
+    line (version_words (is_some from)) ∷ (model_lines k.model ++ (asked_lines k bound ++ (from_lines from ++ (scale_lines k ++ box_line k.root ∷ []))))
 
 -- ---- the nodes
 
@@ -174,15 +180,24 @@ unknown_line = line (codes "unknown" ∷ [])
 abbrev pub split_line : ℕ → List ℕ
 split_line axis = line (number_words (codes "split") axis)
 
+-- the line of a precision
+abbrev pub at_line : ℕ → List ℕ
+at_line u = line (number_words (codes "at") u)
+
+-- the line of a decided leaf's precision, which the second version has
+abbrev pub at_lines : Option ℕ → ℕ → List (List ℕ)
+at_lines None u = []
+at_lines (Some v) u = at_line u ∷ []
+
 -- the nodes of a tree in preorder, for a model's initial state: a split's own line, then the lower half's lines, then the upper half's
-abbrev pub tree_lines : ℕ → Tree → List (List ℕ)
-tree_lines init (split axis lower upper) = split_line axis ∷ (tree_lines init lower ++ tree_lines init upper)
-tree_lines init (accept u x) = accept_line x ∷ []
-tree_lines init (reject u r) = reject_lines init u r
-tree_lines init unknown = unknown_line ∷ []
+abbrev pub tree_lines : Option ℕ → ℕ → Tree → List (List ℕ)
+tree_lines from init (split axis lower upper) = split_line axis ∷ (tree_lines from init lower ++ tree_lines from init upper)
+tree_lines from init (accept u x) = at_lines from u ++ accept_line x ∷ []
+tree_lines from init (reject u r) = at_lines from u ++ reject_lines init u r
+tree_lines from init unknown = unknown_line ∷ []
 
 -- ---- the whole
 
 -- the bytes of a report: those of its head, and of its tree's nodes in preorder
-abbrev pub report_text : CaseData → Bound → Tree → List ℕ
-report_text k bound tree = concat (head_lines k bound) ++ concat (tree_lines k.model.init tree)
+abbrev pub report_text : CaseData → Option ℕ → Bound → Tree → List ℕ
+report_text k from bound tree = concat (head_lines k from bound) ++ concat (tree_lines from k.model.init tree)

@@ -1,6 +1,6 @@
 // Lines of a head.
 ghost use Rattle.std.specs.Prelude.{◌≡◌, ◌≤◌, ◌<◌, ◌+◌, ◌^◌, ◌%◌, ◌∷◌, [], length, map, pos, codes, ◌==◌, ◌<ℤ◌, unsigned_abs, drop, true, None, Ok, IfOk, IfSome};
-ghost use Rattle.cert_text.specs.Lines.{version_of, kind_named, kind_of, name_of};
+ghost use Rattle.cert_text.specs.Lines.{version_in, version_of, kind_named, kind_of, name_of};
 ghost use Rattle.line_text.specs.Parts.{each, is_above};
 ghost use Rattle.cert_text.specs.Lines.{count_in, row_of, bound_in, bound_of, goals_in, flags, goal_of, parameters_of, names_in};
 ghost use Rattle.line_text.specs.Parts.{count_of, numbers_of};
@@ -18,19 +18,26 @@ use std::alloc::{AllocError, Global};
 /// Above each part of a bound.
 const PART_LIMIT: u64 = 1 << 32;
 
-/// The version, which has to be 1.
-pub(crate) fn version_of(alloc: Global, words: &Words) -> Result<(), TextCause>
+/// Whether that is the number of the second version, and not of the first.
+fn version_in(number: &Decimal) -> Result<bool, TextCause>
+    ensures { Says (λ x. x) result (version_in number.now) }
+{
+    if is_number(number, 1) {
+        Ok(false)
+    } else if is_number(number, 2) {
+        Ok(true)
+    } else {
+        Err(TextCause::Version)
+    }
+}
+
+/// Whether the version is the second one, and not the first.
+pub(crate) fn version_of(alloc: Global, words: &Words) -> Result<bool, TextCause>
     ensures { Says (λ x. x) result (version_of words.now) }
 {
     let numbers = numbers_of(alloc, words, b"plift")?;
     match numbers.as_slice() {
-        [version] => {
-            if is_number(version, 1) {
-                Ok(())
-            } else {
-                Err(TextCause::Version)
-            }
-        }
+        [number] => version_in(number),
         _ => Err(TextCause::Syntax),
     }
 }

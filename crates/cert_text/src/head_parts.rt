@@ -5,7 +5,8 @@ ghost use Rattle.lift_grid.specs.Rectangle.{most_halvings};
 ghost use Rattle.line_text.specs.Reading.{line_at};
 ghost use Rattle.line_text.specs.Shown.{Gives};
 ghost use Rattle.cert_text.specs.Lines.{version_of, kind_of, parameters_of, goal_of, bound_of, box_of};
-ghost use Rattle.cert_text.specs.Head.{head_at};
+ghost use Rattle.corner_lift.specs.Case.{most_precision};
+ghost use Rattle.cert_text.specs.Head.{from_at, head_at};
 ghost use Rattle.cert_text.specs.Forms.{IsHead};
 ghost use Rattle.cert_text.specs.HeadParts.{head_of};
 
@@ -13,6 +14,7 @@ use crate::box_line::box_of;
 use crate::head_lines::{bound_of, goal_of, kind_of, version_of};
 use crate::head_reader::Head;
 use crate::parameters::parameters_of;
+use crate::precisions::Precisions;
 use crate::rows::states;
 use lift_cert::Bound;
 use lift_grid::{Grid, Rect};
@@ -44,7 +46,7 @@ pub(crate) struct Parts {
     pub states: Vec<Vec<Row>>,
     pub root: Rect,
     pub grid: Grid,
-    pub w: u32,
+    pub precisions: Precisions,
     pub bound: Bound,
 }
 
@@ -62,13 +64,13 @@ impl Parts {
             self.init,
             self.states,
         );
-        Head::new(model, self.root, self.grid, self.w, self.bound)
+        Head::new(model, self.root, self.grid, self.precisions, self.bound)
     }
 }
 
-/// The line that is due, as the version.
+/// The line that is due, as whether the version is the second one.
 #[tactic(auto, unfolding(line_text::specs::Reading::line_at))]
-fn version_line<'t>(alloc: Global, cursor: &Cursor<'t>) -> Result<((), Cursor<'t>), TextError>
+fn version_line<'t>(alloc: Global, cursor: &Cursor<'t>) -> Result<(bool, Cursor<'t>), TextError>
     ensures { Gives (λ x. x) result (line_at version_of cursor.now) }
 {
     let (line, behind) = cursor.due()?;
@@ -131,6 +133,24 @@ fn bound_line<'t>(cursor: &Cursor<'t>) -> Result<(Bound, Cursor<'t>), TextError>
     }
 }
 
+/// The line that is due in the second version, as the least precision of a range up to that one.
+#[tactic(auto, unfolding(crate::specs::Head::from_at))]
+fn from_line<'t>(
+    alloc: Global,
+    cursor: Cursor<'t>,
+    second: bool,
+    w: u32,
+) -> Result<(Option<u32>, Cursor<'t>), TextError>
+    requires { w ≤ most_precision }
+    ensures { Gives (λ x. x) result (from_at second w cursor.entry) }
+{
+    if !second {
+        return Ok((None, cursor));
+    }
+    let (v, behind) = number_line(alloc, &cursor, b"from", 1, u64::from(w) + 1)?;
+    Ok((Some(v as u32), behind))
+}
+
 /// The line that is due, as the root.
 #[tactic(auto, unfolding(line_text::specs::Reading::line_at))]
 fn box_line<'t>(
@@ -157,7 +177,7 @@ pub(crate) fn parts_at<'t>(
 ) -> Result<(Parts, Cursor<'t>), TextError>
     ensures { Gives (λ x. (head_of x.0, x.1)) result (head_at cursor.now) }
 {
-    let (_, rest) = version_line(alloc, cursor)?;
+    let (second, rest) = version_line(alloc, cursor)?;
     let (kind, rest) = kind_line(&rest)?;
     let (names, rest) = parameters_line(alloc, &rest)?;
     let parameters = names.len();
@@ -168,6 +188,7 @@ pub(crate) fn parts_at<'t>(
     let (states, rest) = states(alloc, rest, kind, count as u32, parameters)?;
     let (bound, rest) = bound_line(&rest)?;
     let (w, rest) = number_line(alloc, &rest, b"precision", 1, MOST_PRECISION + 1)?;
+    let (from, rest) = from_line(alloc, rest, second, w as u32)?;
     let (depth, rest) = number_line(alloc, &rest, b"depth", 0, MOST_HALVINGS + 1)?;
     let (d, rest) = number_line(alloc, &rest, b"grid", 1, NUMBER_LIMIT)?;
     let (root, rest) = box_line(alloc, &rest, parameters, depth as u32)?;
@@ -183,7 +204,7 @@ pub(crate) fn parts_at<'t>(
             d: d as i64,
             depth: depth as u32,
         },
-        w: w as u32,
+        precisions: Precisions { from, w: w as u32 },
         bound,
     };
     Ok((parts, rest))

@@ -3,22 +3,23 @@ ghost use Rattle.std.specs.Prelude.{◌≡◌, ◌≤◌, ◌<◌, ◌+◌, ◌^
 ghost use Rattle.line_text.specs.Shown.{Gives};
 ghost use Rattle.corner_lift.specs.Case.{case_of};
 ghost use Rattle.cert_text.specs.Forms.{IsHead};
-ghost use Rattle.cert_text.specs.Head.{head_at};
+ghost use Rattle.cert_text.specs.Head.{head_at, least_precision, version};
 
 use crate::head_parts::parts_at;
+use crate::precisions::Precisions;
 use lift_cert::Bound;
 use lift_grid::{Grid, Rect};
 use lift_model::Model;
 use line_text::{Cursor, Place, TextError};
 use std::alloc::Global;
 
-/// The head of a report: its model, root, grid, precision and bound.
+/// The head of a report: its model, root, grid, precisions and bound.
 #[derive(Drop)]
 pub struct Head {
     model: Model,
     root: Rect,
     grid: Grid,
-    w: u32,
+    precisions: Precisions,
     bound: Bound,
 }
 
@@ -30,25 +31,35 @@ impl std::marker::Model for Head {
     ghost Value = { HeadData };
 
     ghost view = { λ h. record {
-      asked = case_of h.model (record { d = h.grid.d; depth = h.grid.depth; spans = h.root }) h.w;
+      asked = case_of h.model (record { d = h.grid.d; depth = h.grid.depth; spans = h.root }) h.precisions.w;
+      from = h.precisions.from;
       bound = h.bound;
     } };
 
     ghost invariant = { λ h. IsHead (record {
-      asked = case_of h.model (record { d = h.grid.d; depth = h.grid.depth; spans = h.root }) h.w;
+      asked = case_of h.model (record { d = h.grid.d; depth = h.grid.depth; spans = h.root }) h.precisions.w;
+      from = h.precisions.from;
       bound = h.bound;
     }) };
 }
 
 impl Head {
     /// The head of these parts.
-    pub(crate) fn new(model: Model, root: Rect, grid: Grid, w: u32, bound: Bound) -> Self
+    pub(crate) fn new(
+        model: Model,
+        root: Rect,
+        grid: Grid,
+        precisions: Precisions,
+        bound: Bound,
+    ) -> Self
         requires { IsHead (record {
-          asked = case_of model (record { d = grid.d; depth = grid.depth; spans = root }) w;
+          asked = case_of model (record { d = grid.d; depth = grid.depth; spans = root }) precisions.w;
+          from = precisions.from;
           bound = bound;
         }) }
         ensures { result ≡ record {
-          asked = case_of model (record { d = grid.d; depth = grid.depth; spans = root }) w;
+          asked = case_of model (record { d = grid.d; depth = grid.depth; spans = root }) precisions.w;
+          from = precisions.from;
           bound = bound;
         } }
     {
@@ -56,7 +67,7 @@ impl Head {
             model,
             root,
             grid,
-            w,
+            precisions,
             bound,
         }
     }
@@ -83,12 +94,39 @@ impl Head {
         self.grid
     }
 
-    /// The precision.
+    /// The precision; of a range the greatest one.
     pub fn w(&self) -> u32
         ensures value { result ≡ self.now.asked.w }
         ensures head { IsHead self.now }
     {
-        self.w
+        self.precisions.w
+    }
+
+    /// The least precision of the range; in the first version the precision.
+    pub fn from(&self) -> u32
+        ensures { result ≡ least_precision self.now }
+    {
+        match self.precisions.from {
+            Some(from) => from,
+            None => self.precisions.w,
+        }
+    }
+
+    /// The version of the report.
+    pub fn version(&self) -> u32
+        ensures { result ≡ version self.now }
+    {
+        match self.precisions.from {
+            Some(_) => 2,
+            None => 1,
+        }
+    }
+
+    /// The least precision, where the report tells it.
+    pub(crate) fn told_from(&self) -> Option<u32>
+        ensures { result ≡ self.now.from }
+    {
+        self.precisions.from
     }
 
     /// The bound.

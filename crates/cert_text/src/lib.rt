@@ -2,6 +2,7 @@
 //! memory.
 #![tactic(auto)]
 
+mod at_precision;
 mod box_line;
 mod entry_line;
 mod head;
@@ -15,15 +16,17 @@ mod model;
 mod node;
 mod node_reader;
 mod parameters;
+mod precisions;
 mod rejected;
 mod rows;
 mod values;
 
-pub use head::write_head;
+pub use head::{write_box, write_head};
 pub use head_reader::{Head, read_head};
 pub use laws::{
     heads_are_read, nodes_are_read, prefixes_are_truncated, reports_are_read, texts_tell_one_report,
 };
 pub use line_text::{Place, TextCause, TextError};
-pub use node::{write_accept, write_reject, write_split, write_unknown};
+pub use model::write_model;
+pub use node::{write_accept, write_at, write_reject, write_split, write_unknown};
 pub use node_reader::{Node, read_node};

@@ -5,7 +5,7 @@ ghost use Rattle.lift_base.specs.Outside.{Wrote};
 ghost use Rattle.corner_lift.specs.Case.{number};
 ghost use Rattle.lift_cert.specs.RejectMiss.{most_height};
 ghost use Rattle.corner_lift.specs.Certificate.{most_rate};
-ghost use Rattle.cert_text.specs.Report.{line, numbers_words, split_line, accept_line};
+ghost use Rattle.cert_text.specs.Report.{line, numbers_words, split_line, at_line, accept_line};
 ghost use Rattle.cert_text.specs.Report.{mark_word, reject_words, reject_lines, unknown_line};
 
 use corner_lift::{Case, one_at};
@@ -21,6 +21,20 @@ pub fn write_split<K: Sink>(out: &mut K, axis: u32) -> Result<(), WriteFault>
         &[
             Word::Text(b"split "),
             Word::Count(u64::from(axis)),
+            Word::Text(b"\n"),
+        ],
+    )
+}
+
+/// Writes the line of a precision, which stands before each decided leaf of the second version.
+pub fn write_at<K: Sink>(out: &mut K, u: u32) -> Result<(), WriteFault>
+    ensures { Wrote K.taken K.faults out.old out.new result (at_line u) }
+{
+    write_words(
+        out,
+        &[
+            Word::Text(b"at "),
+            Word::Count(u64::from(u)),
             Word::Text(b"\n"),
         ],
     )

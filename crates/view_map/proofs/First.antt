@@ -1,5 +1,6 @@
 -- The first node of a sound tree's lines, and what stands behind it.
 use Rattle.std.proofs.Common.{◌≡◌, ℕ, ℤ, ◌+◌, ◌<◌, ◌≤◌, List, [], ◌∷◌, ◌++◌, length, Result, Ok, Err, refl, sym, ap, ◌∙◌, subst, arith, append_assoc, append-nil}
+use Rattle.std.specs.Prelude.{Option}
 use Rattle.std.specs.List.{concat}
 use Rattle.std.proofs.lemmas.List.Folds.{concat-append}
 use Rattle.lift_grid.specs.Rectangle.{Spans}
@@ -26,27 +27,27 @@ first (rejects u r) = reject u r
 first unknowns = unknown
 
 -- what stands behind it, where this rest follows the tree
-pub behind : ℕ → Tree → List ℕ → List ℕ
-behind init (splits axis lower upper) rest = concat (tree_lines init lower) ++ (concat (tree_lines init upper) ++ rest)
-behind init (accepts u x) rest = rest
-behind init (rejects u r) rest = rest
-behind init unknowns rest = rest
+pub behind : Option ℕ → ℕ → Tree → List ℕ → List ℕ
+behind from init (splits axis lower upper) rest = concat (tree_lines from init lower) ++ (concat (tree_lines from init upper) ++ rest)
+behind from init (accepts u x) rest = rest
+behind from init (rejects u r) rest = rest
+behind from init unknowns rest = rest
 
-first_lines : (init : ℕ) (t : Tree) (rest : List ℕ) → concat (tree_lines init t) ++ rest ≡ concat (node_lines init (first t)) ++ behind init t rest
+first_lines : (from : Option ℕ) (init : ℕ) (t : Tree) (rest : List ℕ) → concat (tree_lines from init t) ++ rest ≡ concat (node_lines from init (first t)) ++ behind from init t rest
 unfolding first behind
-first_lines init (splits axis lower upper) rest =
-    let own = node_lines init (split axis) in
-    let low = tree_lines init lower in
-    let high = tree_lines init upper in
+first_lines from init (splits axis lower upper) rest =
+    let own = node_lines from init (split axis) in
+    let low = tree_lines from init lower in
+    let high = tree_lines from init upper in
     ap (λ b. b ++ rest) (concat-append own (low ++ high))
     ∙ append_assoc (concat own) (concat (low ++ high)) rest
     ∙ ap (λ b. concat own ++ (b ++ rest)) (concat-append low high)
     ∙ ap (λ b. concat own ++ b) (append_assoc (concat low) (concat high) rest)
-first_lines init (accepts u x) rest = refl
-first_lines init (rejects u r) rest = refl
-first_lines init unknowns rest = refl
+first_lines from init (accepts u x) rest = refl
+first_lines from init (rejects u r) rest = refl
+first_lines from init unknowns rest = refl
 
-first_fits : (h : HeadData) (t : Tree) → IsTree h.asked t → IsNode h.asked (first t)
+first_fits : (h : HeadData) (t : Tree) → IsTree h t → IsNode h (first t)
 unfolding first
 first_fits h (splits axis lower upper) fit = fit.0
 first_fits h (accepts u x) fit = fit
@@ -58,13 +59,14 @@ ok_is x y e = cc
 
 -- the node that is read is the first
 pub first_read : NodesAreReadBack → (h : HeadData) (ss : Spans) (depth n m : ℕ) (text left rest : List ℕ) (t : Tree) (node : Node) → IsHead h → BeginsWithTree h ss depth text t rest → node_at h (n, text) ≡ Ok (node, (m, left))
-    → (node ≡ first t) × (left ≡ behind h.asked.model.init t rest)
+    → (node ≡ first t) × (left ≡ behind h.from h.asked.model.init t rest)
 first_read back h ss depth n m text left rest t node head b read =
+    let from = h.from in
     let init = h.asked.model.init in
-    let lines : text ≡ concat (node_lines init (first t)) ++ behind init t rest = b.lines ∙ first_lines init t rest in
-    let there = back h (first t) n (behind init t rest) head (first_fits h t b.nodes) in
+    let lines : text ≡ concat (node_lines from init (first t)) ++ behind from init t rest = b.lines ∙ first_lines from init t rest in
+    let there = back h (first t) n (behind from init t rest) head (first_fits h t b.nodes) in
     let same = sym read ∙ ap (λ s. node_at h (n, s)) lines ∙ there in
-    let pairs = ok_is (node, (m, left)) (first t, (n + length (node_lines init (first t)), behind init t rest)) same in
+    let pairs = ok_is (node, (m, left)) (first t, (n + length (node_lines from init (first t)), behind from init t rest)) same in
     (ap (λ (p : Node × Cursor). p.0) pairs, ap (λ (p : Node × Cursor). p.1.1) pairs)
 
 -- what is known where a split was read
@@ -78,14 +80,14 @@ pub record Halves (h : HeadData) (ss : Spans) (depth axis : ℕ) (left : List �
   pub low : BeginsWithTree h (lower_half axis ss) (depth + 1) left lower between
   pub high : (text : List ℕ) → text ≡ between → BeginsWithTree h (upper_half axis ss) (depth + 1) text upper rest
 
-pub halves : (h : HeadData) (ss : Spans) (depth axis : ℕ) (text left rest : List ℕ) (t : Tree) → BeginsWithTree h ss depth text t rest → (split axis ≡ first t) × (left ≡ behind h.asked.model.init t rest) → Halves h ss depth axis left t rest
+pub halves : (h : HeadData) (ss : Spans) (depth axis : ℕ) (text left rest : List ℕ) (t : Tree) → BeginsWithTree h ss depth text t rest → (split axis ≡ first t) × (left ≡ behind h.from h.asked.model.init t rest) → Halves h ss depth axis left t rest
 unfolding first behind
 halves h ss depth axis text left rest (splits a lower upper) b (node, left_is) =
     let same : a ≡ axis = cc in
     let of : Halves h ss depth a left (splits a lower upper) rest = record {
       lower = lower;
       upper = upper;
-      between = concat (tree_lines h.asked.model.init upper) ++ rest;
+      between = concat (tree_lines h.from h.asked.model.init upper) ++ rest;
       is = refl;
       some = b.nodes.0;
       may = b.tree.0;
@@ -116,7 +118,7 @@ pub adds_accept : NodesAreReadBack → (h : HeadData) (ss : Spans) (depth u n m 
 unfolding first behind
 adds_accept back h ss depth u n m x text left old new head read is t rest b = by t b (first_read back h ss depth n m text left rest t (accept u x) head b read)
   where
-    by : (t : Tree) → BeginsWithTree h ss depth text t rest → (accept u x ≡ first t) × (left ≡ behind h.asked.model.init t rest) → (left ≡ rest) × (new ≡ old ++ parts_over ss depth t)
+    by : (t : Tree) → BeginsWithTree h ss depth text t rest → (accept u x ≡ first t) × (left ≡ behind h.from h.asked.model.init t rest) → (left ≡ rest) × (new ≡ old ++ parts_over ss depth t)
     by (accepts v y) b (node, left_is) = (left_is, is)
     by (rejects v r) b (node, left_is) = absurd cc
     by unknowns b (node, left_is) = absurd cc
@@ -127,7 +129,7 @@ pub adds_reject : NodesAreReadBack → (h : HeadData) (ss : Spans) (depth u n m 
 unfolding first behind
 adds_reject back h ss depth u n m r text left old new head read is t rest b = by t b (first_read back h ss depth n m text left rest t (reject u r) head b read)
   where
-    by : (t : Tree) → BeginsWithTree h ss depth text t rest → (reject u r ≡ first t) × (left ≡ behind h.asked.model.init t rest) → (left ≡ rest) × (new ≡ old ++ parts_over ss depth t)
+    by : (t : Tree) → BeginsWithTree h ss depth text t rest → (reject u r ≡ first t) × (left ≡ behind h.from h.asked.model.init t rest) → (left ≡ rest) × (new ≡ old ++ parts_over ss depth t)
     by (rejects v s) b (node, left_is) = (left_is, is)
     by (accepts v y) b (node, left_is) = absurd cc
     by unknowns b (node, left_is) = absurd cc
@@ -138,7 +140,7 @@ pub adds_unknown : NodesAreReadBack → (h : HeadData) (ss : Spans) (depth n m :
 unfolding first behind
 adds_unknown back h ss depth n m text left old new head read is t rest b = by t b (first_read back h ss depth n m text left rest t unknown head b read)
   where
-    by : (t : Tree) → BeginsWithTree h ss depth text t rest → (unknown ≡ first t) × (left ≡ behind h.asked.model.init t rest) → (left ≡ rest) × (new ≡ old ++ parts_over ss depth t)
+    by : (t : Tree) → BeginsWithTree h ss depth text t rest → (unknown ≡ first t) × (left ≡ behind h.from h.asked.model.init t rest) → (left ≡ rest) × (new ≡ old ++ parts_over ss depth t)
     by unknowns b (node, left_is) = (left_is, is)
     by (accepts v y) b (node, left_is) = absurd cc
     by (rejects v s) b (node, left_is) = absurd cc

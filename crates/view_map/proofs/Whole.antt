@@ -18,10 +18,10 @@ ok_is x y e = cc
 
 -- the head that is read is the file's, and what is left its nodes
 parts_of : HeadsAreReadBack → (text : List ℕ) (leaves : Summary) (file : IsSoundFile text leaves) (h : HeadData) (m : ℕ) (left : List ℕ) → head_at (1, text) ≡ Ok (h, (m, left))
-    → (h ≡ file.head) × (left ≡ concat (tree_lines file.head.asked.model.init file.tree))
+    → (h ≡ file.head) × (left ≡ concat (tree_lines file.head.from file.head.asked.model.init file.tree))
 parts_of back text leaves file h m left read =
     let g = file.head in
-    let trees = concat (tree_lines g.asked.model.init file.tree) in
+    let trees = concat (tree_lines g.from g.asked.model.init file.tree) in
     let there = ap (λ b. head_at (1, b)) file.text ∙ back g 1 trees file.sound.report.head in
     let pairs = ok_is (h, (m, left)) (g, (1 + length (told_lines g), trees)) (sym read ∙ there) in
     (ap (λ (p : HeadData × Cursor). p.0) pairs, ap (λ (p : HeadData × Cursor). p.1.1) pairs)
@@ -31,7 +31,7 @@ nodes_of back text leaves file h m left read =
     let p = parts_of back text leaves file h m left read in
     record {
       sound = subst (λ g. IsSound g file.tree) (sym p.0) file.sound;
-      lines = p.1 ∙ ap (λ (g : HeadData). concat (tree_lines g.asked.model.init file.tree)) (sym p.0);
+      lines = p.1 ∙ ap (λ (g : HeadData). concat (tree_lines g.from g.asked.model.init file.tree)) (sym p.0);
     }
 
 pub found : HeadsAreReadBack → (text : List ℕ) (leaves : Summary) → IsSoundFile text leaves → (h : HeadData) (m : ℕ) (left : List ℕ) → head_at (1, text) ≡ Ok (h, (m, left)) → HasNodes h left

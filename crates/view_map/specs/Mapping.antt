@@ -32,8 +32,8 @@ pub record StandsAt (k : CaseData) (depth : ℕ) (ss : Spans) : Type 0 where
 -- the text begins with the lines of a sound tree over a rectangle at a depth, and this rest follows them
 pub record BeginsWithTree (h : HeadData) (ss : Spans) (depth : ℕ) (text : List ℕ) (t : Tree) (rest : List ℕ) : Type 0 where
   pub tree : IsSoundTree h.asked h.bound ss depth t
-  pub nodes : IsTree h.asked t
-  pub lines : text ≡ concat (tree_lines h.asked.model.init t) ++ rest
+  pub nodes : IsTree h t
+  pub lines : text ≡ concat (tree_lines h.from h.asked.model.init t) ++ rest
 
 -- the text begins with the lines of some sound tree
 abbrev pub BeginsWithSomeTree : HeadData → Spans → ℕ → List ℕ → Type 0
@@ -46,7 +46,7 @@ Adds h ss depth text left old new = (t : Tree) (rest : List ℕ) → BeginsWithT
 -- the text is that of the nodes of a sound report with that head and tree
 pub record AreNodes (h : HeadData) (text : List ℕ) (t : Tree) : Type 0 where
   pub sound : IsSound h t
-  pub lines : text ≡ concat (tree_lines h.asked.model.init t)
+  pub lines : text ≡ concat (tree_lines h.from h.asked.model.init t)
 
 -- it is that of the nodes of some sound report with that head
 abbrev pub HasNodes : HeadData → List ℕ → Type 0

@@ -6,9 +6,11 @@ use Rattle.lift_model.specs.Model.{live}
 use Rattle.corner_lift.specs.Case.{CaseData}
 use Rattle.lift_cert.specs.RejectMiss.{HasRejectForm}
 use Rattle.cert_text.specs.Nodes.{split, accept, reject, node_at}
+use Rattle.cert_text.specs.Head.{case_at}
 use Rattle.cert_check.specs.Answer.{Came, TreeEnds, behind}
 use Rattle.cert_check.specs.Shown.{IsIn, IsPlaced, Says, came_of}
 use Rattle.cert_check.proofs.Forms.{reject_form}
+use Rattle.cert_check.proofs.Precise.{precise}
 use Rattle.cert_check.proofs.Steps.{says_as, says_err, later, in_behind, met_same, met_accept, met_reject, came_behind, halves_of, moved, split_then, accept_missed}
 use Rattle.cert_check.proofs.nodes.+check_tree.Goals as goal
 
@@ -71,16 +73,46 @@ check_tree-requires-in-Split t c =
     let some = may.0 in
     (omega (arith, some), (c.requires.text, (c.requires.asked, (c.requires.places, (search rules, (stands, (c.narrow.ensures.pairs c.requires.paired, c.in_ok-between-in-Split.ensures.came)))))))
 
+pub asked_at-requires : goal.asked_at-requires
+asked_at-requires t c =
+    let h = c.args.report.now.head.now in
+    let text = c.args.report.now.text.now in
+    let place = c.in_ok-node.place in
+    let u = c.in-Accept.u in
+    let read : node_at h (c.args.came.place.number, drop c.args.came.place.at text) ≡ Ok (accept u c.in-Accept.x, (place.number, drop place.at text)) = rw c.in-Accept.is at c.in_ok-node.ensures.value in
+    let told = c.nodes_are_read.ensures.told h (accept u c.in-Accept.x) c.args.came.place.number place.number (drop c.args.came.place.at text) (drop place.at text) c.w.ensures.head read in
+    rw c.requires.asked (precise h u c.w.ensures.head told.0.0)
+
+pub asked_at-requires-in-Reject : goal.asked_at-requires-in-Reject
+asked_at-requires-in-Reject t c =
+    let h = c.args.report.now.head.now in
+    let text = c.args.report.now.text.now in
+    let place = c.in_ok-node.place in
+    let u = c.in-Reject.u in
+    let r : RejectData = record { numbers = c.in-Reject.y; picks = c.in-Reject.picks; ranks = c.in-Reject.ranks; e = c.in-Reject.e; k = c.in-Reject.k } in
+    let read : node_at h (c.args.came.place.number, drop c.args.came.place.at text) ≡ Ok (reject u r, (place.number, drop place.at text)) = rw c.in-Reject.is at c.in_ok-node.ensures.value in
+    let told = c.nodes_are_read.ensures.told h (reject u r) c.args.came.place.number place.number (drop c.args.came.place.at text) (drop place.at text) c.w.ensures.head read in
+    rw c.requires.asked (precise h u c.w.ensures.head told.0.0)
+
+pub test_accept-requires-clause-numbers : goal.test_accept-requires-clause-numbers
+test_accept-requires-clause-numbers t c =
+    let h = c.args.report.now.head.now in
+    let text = c.args.report.now.text.now in
+    let place = c.in_ok-node.place in
+    let u = c.in-Accept.u in
+    let read : node_at h (c.args.came.place.number, drop c.args.came.place.at text) ≡ Ok (accept u c.in-Accept.x, (place.number, drop place.at text)) = rw c.in-Accept.is at c.in_ok-node.ensures.value in
+    let told = c.nodes_are_read.ensures.told h (accept u c.in-Accept.x) c.args.came.place.number place.number (drop c.args.came.place.at text) (drop place.at text) c.w.ensures.head read in
+    rw (c.as_slice.ensures, c.asked_at.ensures.case, c.requires.asked) told.0.1
+
 pub test_reject-requires-clause-form : goal.test_reject-requires-clause-form
 test_reject-requires-clause-form t c =
     let h = c.args.report.now.head.now in
     let text = c.args.report.now.text.now in
     let place = c.in_ok-node.place in
     let r : RejectData = record { numbers = c.in-Reject.y; picks = c.in-Reject.picks; ranks = c.in-Reject.ranks; e = c.in-Reject.e; k = c.in-Reject.k } in
-    let read : node_at h (c.args.came.place.number, drop c.args.came.place.at text) ≡ Ok (reject h.asked.w r, (place.number, drop place.at text)) = rw c.in-Reject.is at c.in_ok-node.ensures.value in
-    let told = c.nodes_are_read.ensures.told h (reject h.asked.w r) c.args.came.place.number place.number (drop c.args.came.place.at text) (drop place.at text) c.w.ensures.head read in
-    let form : HasRejectForm c.args.report.now.case.now r = subst (λ (a : CaseData). HasRejectForm a r) (sym c.requires.asked) (reject_form h.asked r told.0.1) in
-    rw (c.as_slice-in-Reject.ensures, c.as_slice-in-Reject-2.ensures, c.as_slice-in-Reject-3.ensures) form
+    let read : node_at h (c.args.came.place.number, drop c.args.came.place.at text) ≡ Ok (reject c.in-Reject.u r, (place.number, drop place.at text)) = rw c.in-Reject.is at c.in_ok-node.ensures.value in
+    let told = c.nodes_are_read.ensures.told h (reject c.in-Reject.u r) c.args.came.place.number place.number (drop c.args.came.place.at text) (drop place.at text) c.w.ensures.head read in
+    rw (c.as_slice-in-Reject.ensures, c.as_slice-in-Reject-2.ensures, c.as_slice-in-Reject-3.ensures, c.asked_at-in-Reject.ensures.case, c.requires.asked) (reject_form (case_at c.in-Reject.u h.asked) r told.0.1)
 
 pub returns-in_ok-between-in-Split-clause-end : goal.returns-in_ok-between-in-Split-clause-end
 returns-in_ok-between-in-Split-clause-end t c =
@@ -108,8 +140,8 @@ returns-in_ok-test_accept-in-Accept-clause-came t c =
     let h = c.args.report.now.head.now in
     let text = c.args.report.now.text.now in
     let place = c.in_ok-node.place in
-    let read : node_at h (c.args.came.place.number, drop c.args.came.place.at text) ≡ Ok (accept h.asked.w c.in-Accept.x, (place.number, drop place.at text)) = rw c.in-Accept.is at c.in_ok-node.ensures.value in
-    let past = later c.nodes_are_read.ensures.told h (accept h.asked.w c.in-Accept.x) c.args.came.place.number place.number (drop c.args.came.place.at text) (drop place.at text) c.w.ensures.head read in
+    let read : node_at h (c.args.came.place.number, drop c.args.came.place.at text) ≡ Ok (accept c.in-Accept.u c.in-Accept.x, (place.number, drop place.at text)) = rw c.in-Accept.is at c.in_ok-node.ensures.value in
+    let past = later c.nodes_are_read.ensures.told h (accept c.in-Accept.u c.in-Accept.x) c.args.came.place.number place.number (drop c.args.came.place.at text) (drop place.at text) c.w.ensures.head read in
     in_behind text c.args.came c.behind.result place c.requires.came past c.in_ok-node.ensures.at c.in_ok-node.ensures.number c.behind.ensures.node c.behind.ensures.place (met_accept c.behind.result.leaves c.args.came.leaves (c.behind.ensures.leaves ∙ c.one_accept.ensures))
 
 pub returns-in_ok-test_reject-in-Reject-clause-came :
@@ -119,8 +151,8 @@ returns-in_ok-test_reject-in-Reject-clause-came t c =
     let text = c.args.report.now.text.now in
     let place = c.in_ok-node.place in
     let r : RejectData = record { numbers = c.in-Reject.y; picks = c.in-Reject.picks; ranks = c.in-Reject.ranks; e = c.in-Reject.e; k = c.in-Reject.k } in
-    let read : node_at h (c.args.came.place.number, drop c.args.came.place.at text) ≡ Ok (reject h.asked.w r, (place.number, drop place.at text)) = rw c.in-Reject.is at c.in_ok-node.ensures.value in
-    let past = later c.nodes_are_read.ensures.told h (reject h.asked.w r) c.args.came.place.number place.number (drop c.args.came.place.at text) (drop place.at text) c.w.ensures.head read in
+    let read : node_at h (c.args.came.place.number, drop c.args.came.place.at text) ≡ Ok (reject c.in-Reject.u r, (place.number, drop place.at text)) = rw c.in-Reject.is at c.in_ok-node.ensures.value in
+    let past = later c.nodes_are_read.ensures.told h (reject c.in-Reject.u r) c.args.came.place.number place.number (drop c.args.came.place.at text) (drop place.at text) c.w.ensures.head read in
     in_behind text c.args.came c.behind-in-Reject.result place c.requires.came past c.in_ok-node.ensures.at c.in_ok-node.ensures.number c.behind-in-Reject.ensures.node c.behind-in-Reject.ensures.place (met_reject c.behind-in-Reject.result.leaves c.args.came.leaves (c.behind-in-Reject.ensures.leaves ∙ c.one_reject.ensures))
 
 pub returns-in_err-test_accept-in-Accept-clause-end :
@@ -132,7 +164,7 @@ returns-in_err-test_accept-in-Accept-clause-end t c =
     let place = c.in_ok-node.place in
     let e = c.in_err-test_accept-in-Accept.field-0.0 in
     let came : Came = came_of text c.args.came in
-    let read : node_at h came.place ≡ Ok (accept h.asked.w c.in-Accept.x, (place.number, drop place.at text)) = rw c.in-Accept.is at c.in_ok-node.ensures.value in
+    let read : node_at h came.place ≡ Ok (accept c.in-Accept.u c.in-Accept.x, (place.number, drop place.at text)) = rw c.in-Accept.is at c.in_ok-node.ensures.value in
     let is : c.from_residual-in_err-test_accept-in-Accept.result ≡ Err e = search rules in
     says_err (came_of text) (TreeEnds h c.args.levels ss came) _ e is
-    (λ some. accept_missed h c.args.levels ss came h.asked.w c.in-Accept.x (place.number, drop place.at text) c.args.report.now.case.now c.bound.result e read c.requires.asked c.bound.ensures (rw c.as_slice.ensures at c.in_err-test_accept-in-Accept.ensures.test))
+    (λ some. accept_missed h c.args.levels ss came c.in-Accept.u c.in-Accept.x (place.number, drop place.at text) c.asked_at.result.case c.asked_at.result.bound e read (c.asked_at.ensures.case ∙ ap (case_at c.in-Accept.u) c.requires.asked) c.asked_at.ensures.bound (rw c.as_slice.ensures at c.in_err-test_accept-in-Accept.ensures.test))

@@ -78,8 +78,8 @@ returns-in-Accept-clause-adds t c =
     let h = c.args.head.now in
     let place = c.in-Ok.behind in
     let text = c.args.text.now in
-    let read : node_at h (c.args.place.number, drop c.args.place.at text) ≡ Ok (accept h.asked.w c.in-Accept.x, (place.number, drop place.at text)) = rw c.in-Accept.is at c.in-Ok.ensures.value in
-    adds_accept c.nodes_are_read.ensures.back h (spans_of c.args.sides.now) c.args.depth h.asked.w _ _ c.in-Accept.x _ _ _ _ c.w.ensures.head read c.in_ok-keep-in-Accept.ensures
+    let read : node_at h (c.args.place.number, drop c.args.place.at text) ≡ Ok (accept c.in-Accept.u c.in-Accept.x, (place.number, drop place.at text)) = rw c.in-Accept.is at c.in-Ok.ensures.value in
+    adds_accept c.nodes_are_read.ensures.back h (spans_of c.args.sides.now) c.args.depth c.in-Accept.u _ _ c.in-Accept.x _ _ _ _ c.w.ensures.head read c.in_ok-keep-in-Accept.ensures
 
 pub returns-in-Reject-clause-adds : goal.returns-in-Reject-clause-adds
 returns-in-Reject-clause-adds t c =
@@ -87,8 +87,8 @@ returns-in-Reject-clause-adds t c =
     let place = c.in-Ok.behind in
     let text = c.args.text.now in
     let r : RejectData = record { numbers = c.in-Reject.y; picks = c.in-Reject.picks; ranks = c.in-Reject.ranks; e = c.in-Reject.e; k = c.in-Reject.k } in
-    let read : node_at h (c.args.place.number, drop c.args.place.at text) ≡ Ok (reject h.asked.w r, (place.number, drop place.at text)) = rw c.in-Reject.is at c.in-Ok.ensures.value in
-    adds_reject c.nodes_are_read.ensures.back h (spans_of c.args.sides.now) c.args.depth h.asked.w _ _ r _ _ _ _ c.w.ensures.head read c.in_ok-keep-in-Reject.ensures
+    let read : node_at h (c.args.place.number, drop c.args.place.at text) ≡ Ok (reject c.in-Reject.u r, (place.number, drop place.at text)) = rw c.in-Reject.is at c.in-Ok.ensures.value in
+    adds_reject c.nodes_are_read.ensures.back h (spans_of c.args.sides.now) c.args.depth c.in-Reject.u _ _ r _ _ _ _ c.w.ensures.head read c.in_ok-keep-in-Reject.ensures
 
 pub returns-clause-adds : goal.returns-clause-adds
 returns-clause-adds t c =
