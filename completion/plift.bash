@@ -20,17 +20,19 @@ _plift() {
     [[ ${COMP_WORDS[1]} == --quick && COMP_CWORD -gt 1 ]] && at=2
     COMPREPLY=()
     if ((COMP_CWORD == at)); then
-        _plift_offer "verify check generate selftest --help --version $( ((at == 1)) && echo --quick)"
+        _plift_offer "verify bounded check generate selftest --help --version $( ((at == 1)) && echo --quick)"
         return
     fi
     case ${COMP_WORDS[at]} in
     --help | -h | help)
-        ((COMP_CWORD == at + 1)) && _plift_offer 'verify check generate selftest'
+        ((COMP_CWORD == at + 1)) && _plift_offer 'verify bounded check generate selftest'
         ;;
-    verify)
+    verify | bounded)
+        local options='--goal --bound --region --depth --precision --help'
+        [[ ${COMP_WORDS[at]} == bounded ]] && options="--steps $options"
         case ${COMP_WORDS[COMP_CWORD - 1]} in
-        --goal | --bound | --region | --depth | --precision | =) ;;
-        *) _plift_offer "$(_plift_unused --goal --bound --region --depth --precision --help)" ;;
+        --goal | --bound | --steps | --region | --depth | --precision | =) ;;
+        *) _plift_offer "$(_plift_unused $options)" ;;
         esac
         ;;
     check | generate | selftest)

@@ -18,7 +18,7 @@ from typing import Dict, List, NamedTuple, Optional, Sequence, Tuple
 sys.dont_write_bytecode = True
 
 from hints.numbers import Wide, ratio  # noqa: E402
-from hints.options import FLAGS, VALUED, VIEWED  # noqa: E402
+from hints.options import FLAGS, STEPPED, VALUED, VIEWED  # noqa: E402
 
 TOOLS = Path(__file__).resolve().parent
 USAGE = 2
@@ -38,11 +38,13 @@ class Grammar(NamedTuple):
 
 
 VERIFY = Grammar(VALUED, needed=("--goal", "--bound"))
+BOUNDED = Grammar(STEPPED, needed=("--goal", "--bound", "--steps"))
+ASKING = {"verify": VERIFY, "bounded": BOUNDED}
 VIEW = Grammar(VIEWED, flags=FLAGS, often=("--at",), takes_empty=True)
 # How many words stand behind a command that has no options.
 COUNTS = {"check": 0, "generate": 1, "selftest": 1}
 # Numbers: the greatest number of digits, and the range.
-RANGES = {"--depth": (3, 0, 20), "--precision": (3, 1, 40), "N": (5, 1, 32767)}
+RANGES = {"--depth": (3, 0, 20), "--precision": (3, 1, 40), "--steps": (2, 1, 64), "N": (5, 1, 32767)}
 
 
 def settings_of(grammar: Grammar, words: Sequence[str]) -> Optional[List[Setting]]:
@@ -88,13 +90,13 @@ def is_bound(text: str) -> bool:
 
 
 def first_bad_value(values: Dict[str, str]) -> Optional[str]:
-    """Returns the first option of `verify` whose value is at fault, but for the region, which takes a model."""
+    """Returns the first option of `verify` or `bounded` whose value is at fault, but for the region, which takes a model."""
     goal = values["--goal"]
     if not goal or any(not " " <= letter <= "~" for letter in goal):
         return "--goal"
     if not is_bound(values["--bound"]):
         return "--bound"
-    numbers = [name for name in ("--depth", "--precision") if name in values]
+    numbers = [name for name in ("--depth", "--precision", "--steps") if name in values]
     return next((name for name in numbers if not is_number(values[name], name)), None)
 
 
@@ -105,8 +107,9 @@ def plift_note(words: Sequence[str]) -> Optional[str]:
         if len(behind) != COUNTS[command] or any(word.startswith("-") for word in behind):
             return "usage: words"
         return "usage: N" if behind and not is_number(behind[0], "N") else None
-    settings = settings_of(VERIFY, behind) if command == "verify" else None
-    if settings is None or not are_counts_right(VERIFY, settings):
+    grammar = ASKING.get(command)
+    settings = settings_of(grammar, behind) if grammar else None
+    if grammar is None or settings is None or not are_counts_right(grammar, settings):
         return "usage: words"
     bad = first_bad_value(dict(settings))
     return f"usage: {bad}" if bad else None

@@ -14,7 +14,7 @@ line = tool("line")
 OPTION = re.compile(r"(?<![\w-])--[a-z]+")
 # What the launchers answer themselves.
 DOOR = {"--help", "--version", "--quick"}
-COMMANDS = ["verify", "check", "generate", "selftest"]
+COMMANDS = ["verify", "bounded", "check", "generate", "selftest"]
 
 
 def help_of(name):
@@ -41,7 +41,7 @@ class Named(unittest.TestCase):
 
     def test_the_grammar(self):
         words = part_of(self.formats, "## The command line", "Any other line")
-        self.assertEqual(set(OPTION.findall(words)) - {"--name"}, set(line.VERIFY.valued))
+        self.assertEqual(set(OPTION.findall(words)) - {"--name"}, set(line.BOUNDED.valued))
         view = part_of(self.formats, "## The view of a report", "## Notes")
         self.assertEqual(rows_of(view), {*line.VIEW.valued, *line.VIEW.flags})
         named = part_of(words, "The first word is", "\n")
@@ -49,19 +49,23 @@ class Named(unittest.TestCase):
 
     def test_the_ranges(self):
         values = part_of(self.formats, "| Value | Grammar and range |", "\n\n")
-        for name, row in (("--depth", "`--depth`"), ("--precision", "`--precision`"), ("N", "the number of blocks")):
+        for name, row in (("--depth", "`--depth`"), ("--precision", "`--precision`"), ("--steps", "`--steps`"), ("N", "the number of blocks")):
             digits, low, high = line.RANGES[name]
             self.assertIn(f"| {row} | 1 to {digits} digits, {low} to {high:,} |", values)
         for text in (help_of("verify"), re.sub(r"\s+", " ", man_of("plift"))):
             for name in ("--depth", "--precision"):
                 self.assertRegex(text, rf"{name} \S+[^-]*{line.RANGES[name][1]} to {line.RANGES[name][2]}\b")
+        for text in (help_of("bounded"), re.sub(r"\s+", " ", man_of("plift"))):
+            for name in ("--depth", "--precision", "--steps"):
+                self.assertRegex(text, rf"{name} \S+[^-]*{line.RANGES[name][1]} to {line.RANGES[name][2]}\b")
         self.assertIn(f"1 to {line.RANGES['N'][2]}", help_of("generate"))
 
     def test_help(self):
         self.assertEqual(set(OPTION.findall(help_of("verify"))), set(line.VERIFY.valued))
+        self.assertEqual(set(OPTION.findall(help_of("bounded"))), set(line.BOUNDED.valued))
         view = set(OPTION.findall(help_of("plift-view"))) - set(line.VERIFY.valued)
         self.assertEqual(view, {*line.VIEW.valued, *line.VIEW.flags, *DOOR})
-        self.assertEqual(set(OPTION.findall(help_of("plift"))), {*line.VERIFY.valued, *DOOR})
+        self.assertEqual(set(OPTION.findall(help_of("plift"))), {*line.BOUNDED.valued, *DOOR})
         for command in COMMANDS:
             self.assertIn(f"plift {command}", help_of("plift"))
             self.assertTrue(help_of(command).startswith(f"plift {command}"))
@@ -70,7 +74,7 @@ class Named(unittest.TestCase):
 
     def test_man_pages(self):
         plift, view = (set(OPTION.findall(man_of(name))) for name in ("plift", "plift-view"))
-        self.assertEqual(plift, {*line.VERIFY.valued, *DOOR})
+        self.assertEqual(plift, {*line.BOUNDED.valued, *DOOR})
         self.assertEqual(view, {*line.VIEW.valued, *line.VIEW.flags, *DOOR})
         version = (TOP / "VERSION").read_text().strip()
         for name in ("plift", "plift-view"):
@@ -92,7 +96,7 @@ class Named(unittest.TestCase):
 
     def test_completion_for_zsh(self):
         text = (TOP / "completion/_plift").read_text()
-        self.assertEqual(set(OPTION.findall(text)), {*line.VERIFY.valued, *line.VIEW.valued, *line.VIEW.flags, *DOOR})
+        self.assertEqual(set(OPTION.findall(text)), {*line.BOUNDED.valued, *line.VIEW.valued, *line.VIEW.flags, *DOOR})
         self.assertTrue(all(f"'{command}:" in text for command in COMMANDS))
 
 
@@ -116,6 +120,8 @@ class Completed(unittest.TestCase):
         self.assertEqual(self.offered("plift", "--quick", ""), {*COMMANDS, *DOOR} - {"--quick"})
         self.assertEqual(self.offered("plift", "--help", "s"), {"selftest"})
         self.assertEqual(self.offered("plift", "verify", ""), {*line.VERIFY.valued, "--help"})
+        self.assertEqual(self.offered("plift", "bounded", ""), {*line.BOUNDED.valued, "--help"})
+        self.assertEqual(self.offered("plift", "bounded", "--steps", "3", "--s"), set())
         left = {"--bound", "--region", "--precision", "--help"}
         self.assertEqual(self.offered("plift", "verify", "--goal", "x", "--depth=3", "--"), left)
         self.assertEqual(self.offered("plift", "--quick", "verify", "--b"), {"--bound"})

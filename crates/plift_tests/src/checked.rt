@@ -20,7 +20,9 @@ IDLE = plift 1;kind dtmc;parameters 2 p q;common 1;states 3;init 0;goal 1 1;row 
     row 1 0 1;to 1 0:1;row 2 0 1;to 2 0:1;bound 1/2;precision 4;depth 1;grid 10;box 4 6 0 10;
 UNEVEN = plift 1;kind dtmc;parameters 1 p;common 1;states 3;init 0;goal 1 1;row 0 0 2;to 1 1:1;to 2 0:1 1:-2;\
     row 1 0 1;to 1 0:1;row 2 0 1;to 2 0:1;bound 1/2;precision 4;depth 0;grid 10;box 1 4;
-NEXT = plift 2;
+NEXT = plift 3;
+RANGE = plift 2;kind dtmc;parameters 1 p;common 1;states 3;init 0;goal 1 1;row 0 0 2;to 1 1:1;to 2 0:1 1:-1;row 1 0 1;\
+    to 1 0:1;row 2 0 1;to 2 0:1;bound 1/2;precision 4;from 1;depth 0;grid 10;box 1 4;
 FAR = plift 1;kind dtmc;parameters 1 p;common 1;states 3;init 3;
 NOTHING = -
 ";
@@ -32,6 +34,9 @@ LOW | accept 8 16 0; | Done | sound accept 1 reject 0 unknown 0; | -
 HIGH | reject e 1 k 1 m 1 b 9/16;y 9 16 0;choice 0 - -;rank 1 0 -; | Done | sound accept 0 reject 1 unknown 0; | -
 WIDE | split 0;accept 8 16 0;split 0;unknown;reject e 1 k 1 m 1 b 11/16;y 11 16 0;choice 0 - -;rank 1 0 -; | Done | \
     sound accept 1 reject 1 unknown 1; | -
+RANGE | at 1;accept 1 2 0; | Done | sound accept 1 reject 0 unknown 0; | -
+RANGE | at 5;accept 1 2 0; | NotSound | - | not sound: line 21: Limit;
+RANGE | accept 7 16 0; | NotSound | - | not sound: line 21: Syntax;
 LOW | accept 6 16 0; | NotSound | - | not sound: node 0 state 0 choice 0 corner 1: 64 > 60;
 LOW | accept 7 15 0; | NotSound | - | not sound: node 0 goal state 1 value 15;
 LOW | accept 9 16 0; | NotSound | - | not sound: node 0 bound: 18 > 16;

@@ -27,4 +27,6 @@ mod runs;
 #[cfg(test)]
 mod trees;
 #[cfg(test)]
+mod within;
+#[cfg(test)]
 mod words;

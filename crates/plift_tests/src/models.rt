@@ -38,6 +38,8 @@ DIE = // Exported model;// Original model type: DTMC;@type: DTMC;@parameters;p;@
 EXPORT = // Exported model;@type: MDP;@value_type: fractions;@parameters;p;@placeholders;$rest : 1-p;@reward_models;\
     steps;@nr_states;3;@nr_choices;4;@model;state 0 [1] init;\taction stay [0];\t\t0 : 1;\taction flip [0];\t\t1 : p;\
     \t\t2 : $rest;state 1 [0] heads \"all done\";\taction 0 [0];\t\t1 : 1;state 2 [0];\taction 0 [0];\t\t2 : 1;
+SHORT_CUT = @type: MDP;@parameters;p;@model;state 0 init;action toss;3 : p;2 : 1-p;action go;1 : 1;state 1;3 : 1;state 2;2 : 1;\
+    state 3 heads;3 : 1;
 LADDER2 = @type: DTMC;@parameters;p q;@model;state 0 init;2 : p;1 : 1-p;state 1;0 : q;5 : 1-q;state 2;4 : p;3 : 1-p;\
     state 3;2 : q;5 : 1-q;state 4 done;4 : 1;state 5;5 : 1;
 UNUSED = @type: DTMC;@parameters;p q;@model;state 0 init;1 : p;2 : 1-p;state 1 heads;1 : 1;state 2;2 : 1;

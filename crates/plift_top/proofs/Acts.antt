@@ -1,12 +1,13 @@
 -- What an answer says, by the refusal that it comes from.
-use Rattle.std.proofs.Common.{IsOk, ◌≡◌, ◌≢◌, ◌≤◌, ◌<◌, ◌⊎◌, inl, inr, ℕ, List, [], length, append-nil, None, Some, Ok, Err, refl, sym, ap, subst, arith, Result, IsErr, IsErrAnd}
+use Rattle.std.proofs.Common.{IsOk, ◌≡◌, ◌≢◌, ◌≤◌, ◌<◌, ◌⊎◌, inl, inr, ℕ, List, [], length, append-nil, None, Some, Ok, Err, refl, sym, ap, ◌∙◌, subst, arith, Result, IsErr, IsErrAnd}
 use Rattle.std.specs.declared.option.Option.{Option}
 use Rattle.std.specs.Io.KnownBytes.{Appends}
 use Rattle.lift_base.specs.Outside.{Rose, AppendsFront, TakenHas, Wrote}
 use Rattle.lift_grid.specs.Region.{Region, region}
 use Rattle.lift_grid.specs.Tree.{Tree}
 use Rattle.lift_model.specs.Model.{ModelData}
-use Rattle.corner_lift.specs.Case.{IsCase, IsAdmitted, case_of}
+use Rattle.corner_lift.specs.Case.{CaseData, IsCase, IsAdmitted, case_of}
+use Rattle.lift_cert.specs.declared.bound.Bound.{Bound}
 use Rattle.lift_rows.specs.Laws.{AdmittedHasNoFault}
 use Rattle.region_tree.specs.Laws.{RightTreesAreOne}
 use Rattle.cert_text.specs.Report.{report_text}
@@ -22,7 +23,7 @@ use Rattle.plift_words.specs.declared.job.Field.TheVariants as field
 use Rattle.plift_words.specs.declared.error.WordsError.{WordsError}
 use Rattle.plift_words.specs.declared.error.WordsError.TheVariants as words
 use Rattle.plift_top.specs.Refused.{words_refusal}
-use Rattle.plift_top.specs.Verify.{WasRead, Reports, ReportsFront, IsRefused, KeepsLimit}
+use Rattle.plift_top.specs.Verify.{WasRead, Makes, IsReported, IsAnswered, Reports, ReportsFront, IsRefused, KeepsLimit}
 use Rattle.cert_text.specs.Forms.{IsToldBound}
 use Rattle.cert_check.specs.Sound.{IsSoundFile, leaf_counts}
 use Rattle.cert_check.specs.Answer.{Answers}
@@ -50,6 +51,21 @@ never_done _ e = absurd (cc)
 -- a sound file has no first fault
 faulty : SoundFilesPass → AnswersAreOne → (bytes : List ℕ) (leaves : Summary) (error : CheckError) → IsSoundFile bytes leaves → Answers bytes (Err error) → ⊥
 faulty pass one bytes leaves error file is = (let same = one bytes (Ok leaves) (Err error) (pass bytes leaves file) is in absurd (cc))
+
+-- what is answered is a case
+answered_case : (old new : Option (List ℕ)) (bound : Bound) (steps : Option ℕ) (k : CaseData) → IsAnswered old new bound steps k → IsCase k
+answered_case old new bound None k h = h.case
+answered_case old new bound (Some n) k h = h.case
+
+-- without a number of steps it is answered by its report
+whole_report : (old new : Option (List ℕ)) (j : VerifyData) (text : List ℕ) → j.steps ≡ None → Reports old new j text → Makes (IsReported old new j.bound) j text
+whole_report old new j text none h = record {
+  model = h.model;
+  root = h.root;
+  read = h.read;
+  named = h.named;
+  has = subst (λ (steps : Option ℕ). IsAnswered old new j.bound steps (case_of h.model h.root j.precision)) none h.has;
+}
 
 module _ {S K : Type 0} (left : S → Option (List ℕ)) (faults : S → ℕ) (taken : K → Option (List ℕ)) (counts : K → ℕ) (source source' : S) (out out' : K) where
   pub done : (asked : Result JobData Field) (answer : Result (Unit {0}) Refusal) → Acts left faults taken counts asked source source' out out' answer → answered answer ≡ status.Done
@@ -89,17 +105,19 @@ module _ {S K : Type 0} (left : S → Option (List ℕ)) (faults : S → ℕ) (t
 
   -- what was written for a job is a sound file
   pub sound : RightReportsAreSound → (asked : Result JobData Field) (answer : Result (Unit {0}) Refusal) → Acts left faults taken counts asked source source' out out' answer
-      → (IsOk answer → (j : VerifyData) → AsksToVerify asked j → IsToldBound j.bound) → answered answer ≡ status.Done → (j : VerifyData) → AsksToVerify asked j
+      → (IsOk answer → (j : VerifyData) → AsksToVerify asked j → IsToldBound j.bound) → answered answer ≡ status.Done → (j : VerifyData) → AsksToVerify asked j → j.steps ≡ None
       → (report : List ℕ) × (leaves : Summary) × IsSoundFile report leaves × Appends (taken out) (taken out') report
-  sound law (Ok (verify i)) (Ok x) a told e j is =
-      let k = case_of a.has.model a.has.root i.precision in
-      let h = a.has.has in
-      (report_text k i.bound h.tree, leaf_counts h.tree, law a.text i.goal a.has.model a.has.root i.precision i.bound h.tree a.has.read h.case (told refl i refl) h.right, h.report)
-  sound law (Ok (generate n)) (Ok x) a told e j is = absurd (cc)
-  sound law (Ok check) (Ok x) a told e j is = absurd (cc)
-  sound law (Ok (selftest n)) (Ok x) a told e j is = absurd (cc)
-  sound law (Err f) (Ok x) a told e j is = absurd a.0
-  sound law asked (Err r) a told e j is = absurd (never_done r e)
+  sound law (Ok (verify i)) (Ok x) a told e j is none =
+      let same : i ≡ j = cc in
+      let m = whole_report (taken out) (taken out') i a.text (ap (λ (k : VerifyData). k.steps) same ∙ none) a.has in
+      let k = case_of m.model m.root i.precision in
+      let h = m.has in
+      (report_text k None i.bound h.tree, leaf_counts h.tree, law a.text i.goal m.model m.root i.precision i.bound h.tree m.read h.case (told refl i refl) h.right, h.report)
+  sound law (Ok (generate n)) (Ok x) a told e j is none = absurd (cc)
+  sound law (Ok check) (Ok x) a told e j is none = absurd (cc)
+  sound law (Ok (selftest n)) (Ok x) a told e j is none = absurd (cc)
+  sound law (Err f) (Ok x) a told e j is none = absurd a.0
+  sound law asked (Err r) a told e j is none = absurd (never_done r e)
 
   noted : (asked : Result JobData Field) (r : Refusal) → Acts {T = Unit {0}} left faults taken counts asked source source' out out' (Err r) → HasNote (status_of r) asked (left source) (left source') (note_of r)
   noted (Ok (verify j)) (refusal.Usage f) a = absurd a.0
@@ -398,7 +416,7 @@ module _ {S K : Type 0} (left : S → Option (List ℕ)) (faults : S → ℕ) (t
         → (answered answer ≡ status_of why) ⊎ (answered answer ≡ status.Memory)
     refused asked answer a is why bad =
         by_answer (λ (s : Status). (s ≡ status_of why) ⊎ (s ≡ status.Memory))
-        (λ h. absurd (never_refused none j (drn text j.goal) h.model h.root h.read h.named h.has.case.admitted why bad))
+        (λ h. absurd (never_refused none j (drn text j.goal) h.model h.root h.read h.named (answered_case _ _ _ j.steps _ h.has).admitted why bad))
         (λ other h. inl (one_status j (drn text j.goal) other why h bad)) (inr refl) asked answer a is
 
   -- a job whose rows aren't admitted is refused by them, but for want of memory
@@ -410,7 +428,7 @@ module _ {S K : Type 0} (left : S → Option (List ℕ)) (faults : S → ℕ) (t
       (λ h. absurd (bad (same_case h))) (λ why h. inl (rows_status j (drn text j.goal) m root read named why h)) (inr refl) asked answer a is
     where
       same_case : Reports (taken out) (taken out') j text → IsAdmitted (case_of m root j.precision)
-      same_case h = admitted_by h.model h.root h.read h.named h.has.case.admitted
+      same_case h = admitted_by h.model h.root h.read h.named (answered_case _ _ _ j.steps _ h.has).admitted
         where
           admitted_by : (n : ModelData) (r : Region) → drn text j.goal ≡ Ok n → region n.names j.depth j.region ≡ Ok r → IsAdmitted (case_of n r j.precision) → IsAdmitted (case_of m root j.precision)
           admitted_by n r e f h =
@@ -491,6 +509,7 @@ module _ {S K : Type 0} (left : S → Option (List ℕ)) (faults : S → ℕ) (t
   refused_by (Err field.Bound) words.Memory is = (λ e. absurd (cc), refl, refl)
   refused_by (Err field.Depth) words.Memory is = (λ e. absurd (cc), refl, refl)
   refused_by (Err field.Precision) words.Memory is = (λ e. absurd (cc), refl, refl)
+  refused_by (Err field.Steps) words.Memory is = (λ e. absurd (cc), refl, refl)
   refused_by (Err field.Words) words.Memory is = absurd is
   refused_by (Err field.Blocks) words.Memory is = absurd is
 

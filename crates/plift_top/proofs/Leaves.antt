@@ -1,6 +1,6 @@
 -- What the leaves of a right tree say, and the lines of its nodes.
-use Rattle.std.proofs.Common.{◌≡◌, ℕ, ◌+◌, zero, suc, [], ◌∷◌, ◌++◌, refl, sym, ap, ◌∙◌, append-nil, arith}
-use Rattle.std.specs.Prelude.{All}
+use Rattle.std.proofs.Common.{◌≡◌, ℕ, ◌+◌, zero, suc, [], ◌∷◌, ◌++◌, refl, sym, ap, subst, ◌∙◌, append-nil, arith}
+use Rattle.std.specs.Prelude.{All, None}
 use Rattle.std.specs.List.{concat}
 use Rattle.std.proofs.lemmas.List.Elements.{All-append}
 use Rattle.std.proofs.lemmas.List.Folds.{concat-append}
@@ -16,10 +16,11 @@ use Rattle.region_tree.specs.Nodes.{nodes}
 use Rattle.region_tree.specs.Right.{IsRight, IsAtDepth}
 use Rattle.region_tree.specs.Visits.{entries}
 use Rattle.cert_text.specs.Report.{tree_lines, reject_lines, split_line}
-use Rattle.cert_check.specs.Trust.{LeafHolds}
+use Rattle.cert_check.specs.Trust.{HoldsInside, LeafHolds}
 use Rattle.plift_top.specs.RightReport.{node_text}
 
-only : {X : Type 0} (P : X → Type 0) (a : X) → P a → All P (a ∷ [])
+-- what holds of one holds of each of it alone
+pub only : {X : Type 0} (P : X → Type 0) (a : X) → P a → All P (a ∷ [])
 only P a p zero d h = p
 only P a p (suc i) d h = absurd (omega arith)
 
@@ -27,7 +28,7 @@ only P a p (suc i) d h = absurd (omega arith)
 module _ (accepting : AcceptingBounds) (reached : RejectingReaches) (deeper : HalvesAreDeeper) (k : CaseData) (bound : Bound) (case : IsCase k) where
   pub leaves_hold : (spans : Spans) (depth : ℕ) (tree : Tree) → IsAtDepth k depth spans → IsRight k spans bound depth tree → All (LeafHolds k bound) (leaves spans depth tree)
   leaves_hold spans depth (accept u x) at h = only (LeafHolds k bound) _ (accepting k spans bound x case at.inside h.1.accepting)
-  leaves_hold spans depth (reject u r) at h = only (LeafHolds k bound) _ (reached k spans bound r case at.inside h.1.rejecting, h.1.rejecting.limit)
+  leaves_hold spans depth (reject u r) at h = only (LeafHolds k bound) _ (subst (λ v. HoldsInside k bound spans (reject v r)) (sym h.0) (reached k spans bound r case at.inside h.1.rejecting, h.1.rejecting.limit))
   leaves_hold spans depth unknown at h = only (LeafHolds k bound) _ tt
   leaves_hold spans depth (split axis lower upper) at h =
       let halves = deeper k spans depth axis case at h.0.left h.0.axis_is in
@@ -35,7 +36,7 @@ module _ (accepting : AcceptingBounds) (reached : RejectingReaches) (deeper : Ha
       (leaves_hold (lower_half axis spans) (depth + 1) lower halves.0 h.1) (leaves_hold (upper_half axis spans) (depth + 1) upper halves.1 h.2)
 
 -- the entries of a right tree's nodes are its lines
-pub entries_are : (k : CaseData) (bound : Bound) (spans : Spans) (depth : ℕ) (tree : Tree) → IsRight k spans bound depth tree → entries (node_text k) tree ≡ concat (tree_lines k.model.init tree)
+pub entries_are : (k : CaseData) (bound : Bound) (spans : Spans) (depth : ℕ) (tree : Tree) → IsRight k spans bound depth tree → entries (node_text k) tree ≡ concat (tree_lines None k.model.init tree)
 entries_are k bound spans depth (accept u x) h = refl
 entries_are k bound spans depth (reject u r) h = append-nil (concat (reject_lines k.model.init k.w r)) ∙ ap (λ w. concat (reject_lines k.model.init w r)) (sym h.0)
 entries_are k bound spans depth unknown h = refl
@@ -45,5 +46,5 @@ entries_are k bound spans depth (split axis lower upper) h =
     ap (λ r. split_line axis ++ r)
     (flat_map-append (node_text k) (nodes lower) (nodes upper)
     ∙ ap (λ r. r ++ entries (node_text k) upper) first
-    ∙ ap (λ r. concat (tree_lines k.model.init lower) ++ r) second
-    ∙ sym (concat-append (tree_lines k.model.init lower) (tree_lines k.model.init upper)))
+    ∙ ap (λ r. concat (tree_lines None k.model.init lower) ++ r) second
+    ∙ sym (concat-append (tree_lines None k.model.init lower) (tree_lines None k.model.init upper)))

@@ -6,4 +6,5 @@ pub mod Testing
 pub mod Acts
 pub mod Leaves
 pub mod Telling
+pub mod BoundedTexts
 mod Samples

@@ -8,6 +8,7 @@ use Rattle.lift_grid.specs.Rectangle.{Spans}
 use Rattle.lift_grid.specs.declared.rect.Grid.{Grid}
 use Rattle.lift_grid.specs.declared.error.RegionError.{RegionError}
 use Rattle.lift_grid.specs.declared.error.RegionError.TheVariants as fault
+use Rattle.lift_cert.specs.declared.bound.Bound.{Bound}
 use Rattle.lift_model.specs.Model.{ModelData}
 use Rattle.corner_lift.specs.Case.{CaseData, case_of}
 use Rattle.drn_read.specs.Reading.{drn}
@@ -17,8 +18,8 @@ use Rattle.drn_read.specs.declared.error.DrnError.{DrnError}
 use Rattle.cert_check.specs.Source.{file_limit}
 use Rattle.plift_words.specs.Job.{VerifyData}
 use Rattle.plift_top.specs.Refused.{model_refusal, region_refusal}
-use Rattle.plift_top.specs.Verify.{WasRead, Makes, IsReported, IsCutOff, IsRefused, IsRefusedAt, IsRefusedOver, Stops, Verifies}
-use Rattle.plift_top.specs.Steps.{ReadsModel, NamesRoot, AdmitsCase, WritesOver}
+use Rattle.plift_top.specs.Verify.{WasRead, Makes, IsAnswered, IsAnsweredInPart, IsRefused, IsRefusedAt, IsRefusedOver, Stops, Verifies}
+use Rattle.plift_top.specs.Steps.{ReadsModel, NamesRoot, AdmitsCase, AnswersCase, WritesOver}
 use Rattle.plift_top.specs.declared.refusal.Refusal.{Refusal}
 use Rattle.plift_top.specs.declared.refusal.Refusal.TheVariants as refusal
 
@@ -88,16 +89,20 @@ stopped {T = T} left faults taken counts job source source' out why (Err e) is h
     by refusal.WriteFault h = absurd h
     by _ h = (h, refl)
 
--- the report of the case of a model over a region was written, or a front of it
-pub over_written : {K T : Type 0} (taken : K → Option (List ℕ)) (counts : K → ℕ) (job : VerifyData) (m : ModelData) (r : Region) (k : CaseData) (out out' : K) (x : T) → AdmitsCase job m r (Ok k)
-    → IsReported (taken out) (taken out') job.bound k → WritesOver taken counts job m r out out' (Ok x)
-over_written taken counts job m r k out out' x admits h = subst (λ (c : CaseData). IsReported (taken out) (taken out') job.bound c) admits.0 h
+-- the answer to a case was cut off
+pub answer_cut_off : {K T : Type 0} (taken : K → Option (List ℕ)) (counts : K → ℕ) (bound : Bound) (steps : Option ℕ) (k : CaseData) (out out' : K) (result : Result T Refusal) → IsErrAnd result (λ e. e ≡ refusal.WriteFault)
+    → IsAnsweredInPart (taken out) (taken out') bound steps k × Rose (counts out) (counts out') → AnswersCase taken counts bound steps k out out' result
+answer_cut_off taken counts bound steps k out out' (Ok x) is h = absurd is
+answer_cut_off {T = T} taken counts bound steps k out out' (Err e) is h = subst (λ (f : Refusal). AnswersCase {T = T} taken counts bound steps k out out' (Err f)) (sym is) h
 
-pub over_cut_off : {K T : Type 0} (taken : K → Option (List ℕ)) (counts : K → ℕ) (job : VerifyData) (m : ModelData) (r : Region) (k : CaseData) (out out' : K) (result : Result T Refusal) → IsErrAnd result (λ e. e ≡ refusal.WriteFault) → AdmitsCase job m r (Ok k)
-    → IsCutOff (taken out) (taken out') job.bound k × Rose (counts out) (counts out') → WritesOver taken counts job m r out out' result
-over_cut_off taken counts job m r k out out' (Ok x) is admits h = absurd is
-over_cut_off {T = T} taken counts job m r k out out' (Err e) is admits h =
-    subst (λ (f : Refusal). WritesOver {T = T} taken counts job m r out out' (Err f)) (sym is) (subst (λ (c : CaseData). IsCutOff (taken out) (taken out') job.bound c) admits.0 h.0, h.1)
+-- the case of a model over a region was answered
+pub over_answered : {K T : Type 0} (taken : K → Option (List ℕ)) (counts : K → ℕ) (job : VerifyData) (m : ModelData) (r : Region) (k : CaseData) (out out' : K) (result : Result T Refusal) → AdmitsCase job m r (Ok k)
+    → AnswersCase taken counts job.bound job.steps k out out' result → WritesOver taken counts job m r out out' result
+over_answered taken counts job m r k out out' (Ok x) admits h = subst (λ (c : CaseData). IsAnswered (taken out) (taken out') job.bound job.steps c) admits.0 h
+over_answered taken counts job m r k out out' (Err refusal.WriteFault) admits h =
+    (subst (λ (c : CaseData). IsAnsweredInPart (taken out) (taken out') job.bound job.steps c) admits.0 h.0, h.1)
+over_answered taken counts job m r k out out' (Err refusal.Memory) admits h = h
+over_answered taken counts job m r k out out' (Err _) admits h = absurd h
 
 -- memory ran out before anything was written
 pub over_short : {K T : Type 0} (taken : K → Option (List ℕ)) (counts : K → ℕ) (job : VerifyData) (m : ModelData) (r : Region) (out : K) (result : Result T Refusal) → IsErrAnd result (λ e. e ≡ refusal.Memory) → WritesOver taken counts job m r out out result
@@ -123,8 +128,8 @@ module _ {S : Type 0} (left : S → Option (List ℕ)) (faults : S → ℕ) (job
   over why h = refused_over left faults job source source' m read why (subst (λ (q : Result Region RegionError). IsRefusedOver job m q why) (sym named) h)
 
   pub verified : {K T : Type 0} (taken : K → Option (List ℕ)) (counts : K → ℕ) (out out' : K) (result : Result T Refusal) → WritesOver taken counts job m r out out' result → Verifies left faults taken counts job source source' out out' result
-  verified taken counts out out' (Ok x) h = makes (IsReported (taken out) (taken out') job.bound) h
-  verified taken counts out out' (Err refusal.WriteFault) h = (makes (IsCutOff (taken out) (taken out') job.bound) h.0, h.1)
+  verified taken counts out out' (Ok x) h = makes (IsAnswered (taken out) (taken out') job.bound job.steps) h
+  verified taken counts out out' (Err refusal.WriteFault) h = (makes (IsAnsweredInPart (taken out) (taken out') job.bound job.steps) h.0, h.1)
   verified taken counts out out' (Err refusal.Memory) h = (tt, h)
   verified taken counts out out' (Err (refusal.Rows error)) h = (over (refusal.Rows error) h.0, h.1)
   verified taken counts out out' (Err _) h = absurd h.0

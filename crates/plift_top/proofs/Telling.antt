@@ -1,5 +1,5 @@
 -- What calls come to that write a report while its tree is walked over.
-use Rattle.std.proofs.Common.{◌≡◌, ℕ, List, ◌++◌, refl, sym, ap, ◌∙◌, subst, arith, Option, Result, Ok, Err, IsErr, MatchResult, append_assoc}
+use Rattle.std.proofs.Common.{◌≡◌, ℕ, List, ◌++◌, refl, sym, ap, ◌∙◌, subst, arith, Option, None, Result, Ok, Err, IsErr, MatchResult, append_assoc}
 use Rattle.std.specs.List.{concat}
 use Rattle.std.specs.Io.KnownBytes.{Appends}
 use Rattle.std.proofs.KnownBytes.{Appends-trans}
@@ -28,16 +28,16 @@ visited taken faults old new (Err e) seen bytes w is =
     subst (λ s. Visits taken faults old new s bytes) (sym is) (record { took = w.part; cause = λ f. w.cause; later = w.later })
 
 -- a front of what follows, behind what was appended
-front_then : (a b c : Option (List ℕ)) (xs ys : List ℕ) → Appends a b xs → AppendsFront b c ys → AppendsFront a c (xs ++ ys)
+pub front_then : (a b c : Option (List ℕ)) (xs ys : List ℕ) → Appends a b xs → AppendsFront b c ys → AppendsFront a c (xs ++ ys)
 front_then a b c xs ys h g = (xs ++ g.0, g.1, ap (λ r. xs ++ r) g.2 ∙ sym (append_assoc xs g.0 g.1), Appends-trans a b c xs g.0 h g.3)
 
 -- a front, where more should follow
-front_of : (a b : Option (List ℕ)) (xs ys : List ℕ) → AppendsFront a b xs → AppendsFront a b (xs ++ ys)
+pub front_of : (a b : Option (List ℕ)) (xs ys : List ℕ) → AppendsFront a b xs → AppendsFront a b (xs ++ ys)
 front_of a b xs ys h = (h.0, h.1 ++ ys, ap (λ r. r ++ ys) h.2 ∙ append_assoc h.0 h.1 ys, h.3)
 
 module _ {K : Type 0} (k : CaseData) (bound : Bound) (taken : K → Option (List ℕ)) (faults : K → ℕ) where
   abbrev pub head : List ℕ
-  head = concat (head_lines k bound)
+  head = concat (head_lines k None bound)
 
   -- the bytes of a right tree's report, by its entries
   by_entries : (P : List ℕ → Type 0) (bytes : List ℕ) → ((tree : Tree) → IsRightTree k bound tree → P (head ++ entries (node_text k) tree)) → IsRightReport k bound bytes → P bytes
@@ -67,7 +67,7 @@ module _ {K : Type 0} (k : CaseData) (bound : Bound) (taken : K → Option (List
   -- all was written
   pub all_told : {T E U F : Type 0} (old mid new : K) (x : T) (y : U) → Wrote {E = E} taken faults old mid (Ok x) head → Walks k k.root bound 0 taken faults (node_text k) mid new Kept → WroteSome {E = F} (IsRightReport k bound) taken faults old new (Ok y)
   all_told old mid new x y w walked = record {
-    some = (let t = walked.tree refl in (report_text k bound t.0, (t.0, t.1, refl)));
+    some = (let t = walked.tree refl in (report_text k None bound t.0, (t.0, t.1, refl)));
     whole = λ bytes. by_entries (Appends (taken old) (taken new)) bytes (λ tree right. Appends-trans (taken old) (taken mid) (taken new) head (entries (node_text k) tree) w.whole (walked.took tree right));
     part = tt;
     cause = tt;
@@ -78,7 +78,7 @@ module _ {K : Type 0} (k : CaseData) (bound : Bound) (taken : K → Option (List
 
 -- what is said of a case's report holds
 pub reported : AcceptingBounds → RejectingReaches → RootIsAtDepth → HalvesAreDeeper → RightTreesTile
-    → {K : Type 0} (taken : K → Option (List ℕ)) (faults : K → ℕ) (k : CaseData) (bound : Bound) (old new : K) (result : Written) → IsTestedCase k → WroteSome (IsRightReport k bound) taken faults old new result → WritesCase taken faults k bound old new result
+    → {K : Type 0} (taken : K → Option (List ℕ)) (faults : K → ℕ) (k : CaseData) (bound : Bound) (old new : K) (result : Written) → IsTestedCase k → WroteSome (IsRightReport k bound) taken faults old new result → WritesCase taken faults bound None k old new result
 reported accepting reached root deeper tile taken faults k bound old new (Ok x) case w =
     let tree = w.some.1.0 in
     let right = w.some.1.1 in
@@ -90,7 +90,7 @@ reported accepting reached root deeper tile taken faults k bound old new (Ok x) 
       right = right;
       tiles = tile k bound tree case.case right;
       schedulers = leaves_hold accepting reached deeper k bound case.case k.root 0 tree (root k case.case) right;
-      report = w.whole (report_text k bound tree) (tree, right, refl);
+      report = w.whole (report_text k None bound tree) (tree, right, refl);
     }
 reported accepting reached root deeper tile taken faults k bound old new (Err e) case w =
-    (record { case = case.case; weights = case.weights; sums = case.sums; front = λ tree right. w.part (report_text k bound tree) (tree, right, refl) }, w.cause)
+    (record { case = case.case; weights = case.weights; sums = case.sums; front = λ tree right. w.part (report_text k None bound tree) (tree, right, refl) }, w.cause)

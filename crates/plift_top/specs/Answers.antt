@@ -48,6 +48,7 @@ usage_note field.Goal = codes "usage: --goal\n"
 usage_note field.Bound = codes "usage: --bound\n"
 usage_note field.Depth = codes "usage: --depth\n"
 usage_note field.Precision = codes "usage: --precision\n"
+usage_note field.Steps = codes "usage: --steps\n"
 usage_note field.Blocks = codes "usage: N\n"
 
 -- the note of a region at fault: the cause
@@ -83,7 +84,7 @@ answered (Err why) = status_of why
 unfoldable pub wanted : List (String Global) → Result JobData Field
 wanted words = asked words
 
--- the words ask to verify that
+-- the words ask to verify that, on any number of steps or on as many as are told
 abbrev pub AsksToVerify : Result JobData Field → VerifyData → Type 0
 AsksToVerify asked j = asked ≡ Ok (verify j)
 

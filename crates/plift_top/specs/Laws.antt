@@ -1,5 +1,5 @@
 -- What holds of the reports that are written, for who reasons about them.
-use Rattle.std.specs.Prelude.{◌≡◌, ◌≤◌, ℕ, List, Ok}
+use Rattle.std.specs.Prelude.{◌≡◌, ◌≤◌, ℕ, List, None, Ok}
 use Rattle.lift_grid.specs.Region.{Region}
 use Rattle.lift_grid.specs.Tree.{Tree}
 use Rattle.lift_model.specs.Model.{ModelData}
@@ -16,7 +16,7 @@ use Rattle.plift_top.specs.Selftest.{IsLadderTree}
 -- where a case is of a model that a text stands for, the report of its right tree is a sound file with that tree's leaves
 abbrev pub RightReportsAreSound : Type 0
 RightReportsAreSound = (text label : List ℕ) (m : ModelData) (root : Region) (w : ℕ) (bound : Bound) (tree : Tree) → drn text label ≡ Ok m → IsCase (case_of m root w) → IsToldBound bound
-    → IsRightTree (case_of m root w) bound tree → IsSoundFile (report_text (case_of m root w) bound tree) (leaf_counts tree)
+    → IsRightTree (case_of m root w) bound tree → IsSoundFile (report_text (case_of m root w) None bound tree) (leaf_counts tree)
 
 -- each ladder that can be asked for has a right tree
 abbrev pub LaddersHaveTrees : Type 0

@@ -1,4 +1,5 @@
 pub mod RightReport
+pub mod Bounded
 pub mod Verify
 pub mod Check
 pub mod Steps

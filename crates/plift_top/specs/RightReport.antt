@@ -1,5 +1,5 @@
 -- The report of a case's right tree, as it is written while the tree is walked over.
-use Rattle.std.specs.Prelude.{◌≡◌, ℕ, List}
+use Rattle.std.specs.Prelude.{◌≡◌, ℕ, List, None}
 use Rattle.std.specs.List.{concat}
 use Rattle.lift_grid.specs.Tree.{Tree}
 use Rattle.corner_lift.specs.Case.{CaseData}
@@ -18,4 +18,4 @@ node_text k unknown = unknown_line
 
 -- the bytes are the report of a case's right tree for a bound
 abbrev pub IsRightReport : CaseData → Bound → List ℕ → Type 0
-IsRightReport k bound bytes = (tree : Tree) × IsRightTree k bound tree × (bytes ≡ report_text k bound tree)
+IsRightReport k bound bytes = (tree : Tree) × IsRightTree k bound tree × (bytes ≡ report_text k None bound tree)

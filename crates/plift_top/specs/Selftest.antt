@@ -1,5 +1,5 @@
 -- What `selftest` answers, and what stands after it.
-use Rattle.std.specs.Prelude.{◌≡◌, ◌+◌, ◌*◌, ◌<◌, ◌≤◌, ℕ, List, ◌++◌, codes, length, Vec, Ok, Err, Result, ⊤}
+use Rattle.std.specs.Prelude.{◌≡◌, ◌+◌, ◌*◌, ◌<◌, ◌≤◌, ℕ, List, ◌++◌, codes, length, Vec, None, Ok, Err, Result, ⊤}
 use Rattle.std.specs.Fmt.{decimal}
 use Rattle.std.specs.declared.alloc.Global.{Global}
 use Rattle.std.specs.declared.option.Option.{Option}
@@ -26,7 +26,7 @@ one_half = record { num = 1; den = 2 }
 
 -- what a ladder is verified for: that it is done with probability at most 1/2, over the ladder's region
 abbrev pub ladder_job : VerifyData
-ladder_job = record { goal = codes "done"; bound = one_half; region = ladder_region_text; depth = ladder_depth; precision = ladder_precision }
+ladder_job = record { goal = codes "done"; bound = one_half; region = ladder_region_text; depth = ladder_depth; precision = ladder_precision; steps = None }
 
 -- the right tree of the ladder of so many blocks
 abbrev pub IsLadderTree : ℕ → Tree → Type 0
@@ -34,7 +34,7 @@ IsLadderTree blocks tree = IsRightTree (ladder_case blocks) one_half tree
 
 -- its report
 abbrev pub ladder_report : ℕ → Tree → List ℕ
-ladder_report blocks tree = report_text (ladder_case blocks) one_half tree
+ladder_report blocks tree = report_text (ladder_case blocks) None one_half tree
 
 -- the line of a ladder that was tested: its blocks, its states, and the leaves of its tree
 abbrev pub tested_line : ℕ → Summary → List ℕ

@@ -1,5 +1,5 @@
--- What `verify` answers, and what stands after it.
-use Rattle.std.specs.Prelude.{◌≡◌, ◌<◌, ◌≤◌, ℕ, List, All, length, map, Ok, Err, Result, ⊤}
+-- What `verify` and `bounded` answer, and what stands after them.
+use Rattle.std.specs.Prelude.{◌≡◌, ◌<◌, ◌≤◌, ℕ, List, All, length, map, Some, None, Ok, Err, Result, ⊤}
 use Rattle.std.specs.declared.option.Option.{Option}
 use Rattle.std.specs.Io.KnownBytes.{Appends, Consumes, IsAtEnd}
 use Rattle.lift_base.specs.Outside.{Rose, TakenHas, AppendsFront}
@@ -18,6 +18,7 @@ use Rattle.cert_text.specs.Report.{report_text}
 use Rattle.cert_check.specs.Source.{file_limit}
 use Rattle.cert_check.specs.Trust.{LeafHolds}
 use Rattle.plift_words.specs.Job.{VerifyData}
+use Rattle.plift_top.specs.Bounded.{IsReportedWithin, IsCutOffWithin}
 use Rattle.plift_top.specs.declared.refusal.Refusal.{Refusal}
 use Rattle.plift_top.specs.declared.refusal.Refusal.TheVariants as refusal
 
@@ -53,14 +54,24 @@ pub record IsReported (old new : Option (List ℕ)) (bound : Bound) (k : CaseDat
   pub right : IsRightTree k bound tree
   pub tiles : Tiles k.d k.root (map (λ leaf. leaf.spans) (leaves k.root 0 tree))
   pub schedulers : All (LeafHolds k bound) (leaves k.root 0 tree)
-  pub report : Appends old new (report_text k bound tree)
+  pub report : Appends old new (report_text k None bound tree)
 
 -- A front of the report of a case was appended: whichever tree is right, a front of its report.
 pub record IsCutOff (old new : Option (List ℕ)) (bound : Bound) (k : CaseData) : Type 0 where
   pub case : IsCase k
   pub weights : HasWeightsFromZero k
   pub sums : HasSumsOfTotal k
-  pub front : (tree : Tree) → IsRightTree k bound tree → AppendsFront old new (report_text k bound tree)
+  pub front : (tree : Tree) → IsRightTree k bound tree → AppendsFront old new (report_text k None bound tree)
+
+-- The answer to a case was appended, whole: its report for a bound on any number of steps, and its text for a bound on as many as are told.
+abbrev pub IsAnswered : Option (List ℕ) → Option (List ℕ) → Bound → Option ℕ → CaseData → Type 0
+IsAnswered old new bound None = IsReported old new bound
+IsAnswered old new bound (Some h) = IsReportedWithin old new bound h
+
+-- A front of it was appended.
+abbrev pub IsAnsweredInPart : Option (List ℕ) → Option (List ℕ) → Bound → Option ℕ → CaseData → Type 0
+IsAnsweredInPart old new bound None = IsCutOff old new bound
+IsAnsweredInPart old new bound (Some h) = IsCutOffWithin old new bound h
 
 -- The text stands for a model, the job's region names a rectangle of its parameters, and P holds of the case that the two make at the job's precision.
 pub record Makes (P : CaseData → Type 0) (job : VerifyData) (text : List ℕ) : Type 0 where
@@ -70,13 +81,13 @@ pub record Makes (P : CaseData → Type 0) (job : VerifyData) (text : List ℕ) 
   pub named : region model.names job.depth job.region ≡ Ok root
   pub has : P (case_of model root job.precision)
 
--- what was appended is the report of the case that the text and the job make
+-- what was appended is the answer to the case that the text and the job make
 abbrev pub Reports : Option (List ℕ) → Option (List ℕ) → VerifyData → List ℕ → Type 0
-Reports old new job text = Makes (IsReported old new job.bound) job text
+Reports old new job text = Makes (IsAnswered old new job.bound job.steps) job text
 
--- what was appended is a front of that report
+-- what was appended is a front of that answer
 abbrev pub ReportsFront : Option (List ℕ) → Option (List ℕ) → VerifyData → List ℕ → Type 0
-ReportsFront old new job text = Makes (IsCutOff old new job.bound) job text
+ReportsFront old new job text = Makes (IsAnsweredInPart old new job.bound job.steps) job text
 
 -- why a job stopped before anything was written
 abbrev pub Stops : {S : Type 0} → (S → Option (List ℕ)) → (S → ℕ) → VerifyData → S → S → Refusal → Type 0
@@ -88,7 +99,7 @@ Stops left faults job source source' refusal.WriteFault = ⊥
 Stops left faults job source source' (refusal.Unsound error) = ⊥
 Stops left faults job source source' why = WasRead (IsRefused job why) (left source) (left source')
 
--- What a job comes to: the report is written, or there is a cause. The sink is as it was but for a report or the front of one.
+-- What a job comes to: its answer is written, or there is a cause. The sink is as it was but for the answer or a front of it.
 abbrev pub Verifies : {S K T : Type 0} → (S → Option (List ℕ)) → (S → ℕ) → (K → Option (List ℕ)) → (K → ℕ) → VerifyData → S → S → K → K → Result T Refusal → Type 0
 Verifies left faults taken counts job source source' out out' (Ok _) =
     WasRead (Reports (taken out) (taken out') job) (left source) (left source')

@@ -1,6 +1,7 @@
 //! The program: what its words ask for is done, and its status and its notes tell how it went.
 #![tactic(auto)]
 
+mod bounded;
 mod checking;
 mod edge;
 mod laws;

@@ -36,6 +36,7 @@ fn usage_note(field: Field) -> &'static [u8]
         Field::Bound => b"usage: --bound\n",
         Field::Depth => b"usage: --depth\n",
         Field::Precision => b"usage: --precision\n",
+        Field::Steps => b"usage: --steps\n",
         Field::Blocks => b"usage: N\n",
     }
 }

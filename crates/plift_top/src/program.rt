@@ -1,6 +1,6 @@
 // The whole program, over any source and sinks.
 ghost use Rattle.std.specs.Prelude.{◌≡◌, ◌≢◌, ◌≤◌, ◌<◌, ◌⊎◌, length, List, ℕ};
-ghost use Rattle.std.specs.Prelude.{Some, Ok, Err, IsErr, IsOk};
+ghost use Rattle.std.specs.Prelude.{Some, None, Ok, Err, IsErr, IsOk};
 ghost use Rattle.std.specs.Io.KnownBytes.{Appends};
 ghost use Rattle.lift_base.specs.Outside.{Rose, AppendsFront, TakenHas};
 ghost use Rattle.lift_grid.specs.Region.{Region, region};
@@ -83,17 +83,18 @@ pub fn run<S: Source, K: Sink, E: Sink>(
     out: &mut K,
     notes: &mut E,
 ) -> Status
-    // Done of `verify`: the source gave a text that stands for a model, which with the job's region
-    // makes a case, and out took the report of this case, whole, and that of its right tree. The
-    // tree's leaves tile the root, and each bounds the schedulers inside its rectangle.
+    // Done of `verify` or `bounded`: the source gave a text that stands for a model, which with the
+    // job's region makes a case, and out took the report of this case, or its text for the number of
+    // steps, whole, and that of its right tree. The tree's leaves tile the root, and each bounds the
+    // schedulers inside its rectangle.
     ensures done { result ≡ Status.Done
         → (j : VerifyData) → AsksToVerify (wanted words.now.items) j
         → WasRead (Reports (K.taken out.old) (K.taken out.new) j)
         (S.left source.old) (S.left source.new) }
 
-    // What out took is a sound file.
+    // What out took of `verify` is a sound file.
     ensures sound { result ≡ Status.Done
-        → (j : VerifyData) → AsksToVerify (wanted words.now.items) j
+        → (j : VerifyData) → AsksToVerify (wanted words.now.items) j → j.steps ≡ None
         → (report : List ℕ) × (leaves : Summary) × IsSoundFile report leaves
         × Appends (K.taken out.old) (K.taken out.new) report }
 
@@ -188,12 +189,12 @@ pub fn run<S: Source, K: Sink, E: Sink>(
         → source.new ≡ source.old }
     ensures short_tested { (n : ℕ) (tree : Tree)
         → AsksToSelftest (wanted words.now.items) n → IsRightTree (ladder_case n) one_half tree
-        → length (report_text (ladder_case n) one_half tree) ≤ file_limit
+        → length (report_text (ladder_case n) None one_half tree) ≤ file_limit
         → NoFault (K.faults out.old) (K.faults out.new)
         → (result ≡ Status.Done) ⊎ (result ≡ Status.Memory) }
     ensures long_tested { (n : ℕ) (tree : Tree)
         → AsksToSelftest (wanted words.now.items) n → IsRightTree (ladder_case n) one_half tree
-        → file_limit < length (report_text (ladder_case n) one_half tree)
+        → file_limit < length (report_text (ladder_case n) None one_half tree)
         → (result ≡ Status.TooLong) ⊎ (result ≡ Status.Memory) }
 
     // What stands after a refusal: a front of what was asked for after a write fault, else out as it

@@ -96,7 +96,7 @@ pub fn write_report<K: Sink>(
     ensures room { IsAsMade room.old room.new }
 {
     writes_in_turn::<K>();
-    write_head(out, case, bound)?;
+    write_head(out, case, bound, None)?;
     match write_tree(case, links, bound, room, out) {
         Seen::Kept => Ok(()),
         Seen::Failed => Err(WriteFault),

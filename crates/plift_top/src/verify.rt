@@ -1,21 +1,24 @@
-// Verifies a model against a bound.
-ghost use Rattle.std.specs.Prelude.{◌≡◌, IfOk, length};
+// Verifies a model against a bound, on any number of steps or on as many as are told.
+ghost use Rattle.std.specs.Prelude.{◌≡◌, None, Some, IfOk, length};
 ghost use Rattle.lift_grid.specs.Rectangle.{IsOnGrid};
 ghost use Rattle.lift_grid.specs.Parts.{region_of};
 ghost use Rattle.lift_model.specs.Links.{AreLinks};
-ghost use Rattle.region_tree.specs.Rooms.{IsMadeFor};
+ghost use Rattle.region_tree.specs.Rooms as whole;
+ghost use Rattle.lift_bounded.specs.Rooms as within;
 ghost use Rattle.plift_words.specs.Given.{verify_data};
 ghost use Rattle.plift_top.specs.Verify.{Verifies, KeepsLimit};
 ghost use Rattle.plift_top.specs.Steps.{IsTestedCase, ReadsModel, NamesRoot, AdmitsCase};
-ghost use Rattle.plift_top.specs.Steps.{WritesCase, WritesOver};
+ghost use Rattle.plift_top.specs.Steps.{WritesCase, AnswersCase, WritesOver};
 
+use crate::bounded::write_bounded_buffered;
 use crate::refusal::Refusal;
 use crate::report::write_report_buffered;
-use corner_lift::Case;
+use corner_lift::{Case, live_parameters_have_spans};
 use drn_read::read_model;
 use lift_base::{Sink, Source, WriteFault, read_all};
+use lift_bounded::{BoundedRoom, certificates_by_steps_decide};
 use lift_cert::{Bound, certificates_decide, rejecting_certificates_reach};
-use lift_grid::{Grid, Rect, read_region};
+use lift_grid::{Grid, Rect, read_region, trees_tile};
 use lift_model::{Links, Model};
 use lift_names::Names;
 use lift_rows::{admit, admit_linked};
@@ -88,8 +91,8 @@ fn write_case<K: Sink>(
 ) -> Result<(), WriteFault>
     requires case { IsTestedCase case.now }
     requires links { AreLinks case.now.model links.now }
-    requires made { IsMadeFor case.now links.now room.old }
-    ensures { WritesCase K.taken K.faults case.now bound out.old out.new result }
+    requires made { whole.IsMadeFor case.now links.now room.old }
+    ensures { WritesCase K.taken K.faults bound None case.now out.old out.new result }
 {
     certificates_decide();
     rejecting_certificates_reach();
@@ -98,7 +101,53 @@ fn write_case<K: Sink>(
     write_report_buffered(case, links, bound, room, out)
 }
 
-// Tests the rows of a model over a root, and writes the report of that case.
+// Writes the text of such a case for as many steps as the room was made for. Takes no memory.
+fn write_case_within<K: Sink>(
+    case: &Case,
+    links: &Links,
+    bound: Bound,
+    room: &mut BoundedRoom,
+    out: &mut K,
+) -> Result<(), WriteFault>
+    requires case { IsTestedCase case.now }
+    requires links { AreLinks case.now.model links.now }
+    requires made { within.IsMadeFor case.now links.now room.old }
+    ensures { WritesCase K.taken K.faults bound (Some room.old.steps) case.now out.old out.new result }
+{
+    certificates_by_steps_decide();
+    rectangles_at_depths();
+    live_parameters_have_spans();
+    trees_tile();
+    write_bounded_buffered(case, links, bound, room, out)
+}
+
+// Takes all memory that a job needs at a case whose rows were tested, and writes its answer.
+fn write_answer<K: Sink>(
+    alloc: Global,
+    job: &VerifyJob,
+    case: &Case,
+    links: &Links,
+    out: &mut K,
+) -> Result<(), Refusal>
+    requires case { IsTestedCase case.now }
+    requires links { AreLinks case.now.model links.now }
+    ensures { AnswersCase K.taken K.faults job.now.bound job.now.steps case.now
+        out.old out.new result }
+{
+    match job.steps {
+        None => {
+            let mut room = Room::make(alloc, case, links)?;
+            write_case(case, links, job.bound, &mut room, out)?;
+        }
+        Some(steps) => {
+            let mut room = BoundedRoom::make(alloc, case, links, steps)?;
+            write_case_within(case, links, job.bound, &mut room, out)?;
+        }
+    }
+    Ok(())
+}
+
+// Tests the rows of a model over a root, and writes the answer to that case.
 fn write_over<K: Sink>(
     alloc: Global,
     job: &VerifyJob,
@@ -118,12 +167,11 @@ fn write_over<K: Sink>(
         return Err(Refusal::Memory);
     };
     let case = linked_case_of(model, root, grid, job, &links)?;
-    let mut room = Room::make(alloc, &case, &links)?;
-    write_case(&case, &links, job.bound, &mut room, out)?;
-    Ok(())
+    write_answer(alloc, job, &case, &links, out)
 }
 
-/// Reads a model from the source, tests its rows over the job's region, and writes its report.
+/// Reads a model from the source, tests its rows over the job's region, and writes its report, or its text for the
+/// job's number of steps.
 pub fn verify<S: Source, K: Sink>(
     alloc: Global,
     job: &VerifyJob,

@@ -7,7 +7,7 @@ use Rattle.plift_words.specs.Job.JobData.{verify, check, generate, selftest}
 use Rattle.plift_words.specs.declared.job.Field.TheVariants as field
 
 at_most_half : VerifyData
-at_most_half = record { goal = codes "heads"; bound = record { num = 1; den = 2 }; region = []; depth = 5; precision = 4 }
+at_most_half = record { goal = codes "heads"; bound = record { num = 1; den = 2 }; region = []; depth = 5; precision = 4; steps = None }
 
 -- the words in another order and in both spellings, with a bound that isn't in lowest terms
 asks : job (codes "verify" ∷ codes "--depth=5" ∷ codes "--bound" ∷ codes "2/4" ∷ codes "--goal=heads" ∷ codes "--precision" ∷ codes "04" ∷ []) ≡ Ok (verify at_most_half)
@@ -29,6 +29,35 @@ asks_region = refl
 asks_least : job (codes "verify" ∷ codes "--goal=heads" ∷ codes "--bound=1/2" ∷ []) ≡ Ok (verify (record at_most_half { depth = 0; precision = 24 }))
 unfolding at_most_half gcd
 asks_least = refl
+
+-- within a number of steps
+asks_within : job (codes "bounded" ∷ codes "--goal=heads" ∷ codes "--steps" ∷ codes "64" ∷ codes "--bound=1/2" ∷ codes "--depth=5" ∷ codes "--precision=4" ∷ []) ≡ Ok (verify (record at_most_half { steps = Some 64 }))
+unfolding at_most_half gcd
+asks_within = refl
+
+-- which `verify` isn't asked, and `bounded` isn't without
+verify_within : job (codes "verify" ∷ codes "--goal=heads" ∷ codes "--bound=1/2" ∷ codes "--steps=4" ∷ []) ≡ Err field.Words
+verify_within = refl
+
+bounded_by_none : job (codes "bounded" ∷ codes "--goal=heads" ∷ codes "--bound=1/2" ∷ []) ≡ Err field.Words
+bounded_by_none = refl
+
+-- no step, too many, too many digits, and a precision at fault, which is told before
+no_step : job (codes "bounded" ∷ codes "--goal=heads" ∷ codes "--bound=1/2" ∷ codes "--steps=0" ∷ []) ≡ Err field.Steps
+unfolding gcd
+no_step = refl
+
+too_many_steps : job (codes "bounded" ∷ codes "--goal=heads" ∷ codes "--bound=1/2" ∷ codes "--steps=65" ∷ []) ≡ Err field.Steps
+unfolding gcd
+too_many_steps = refl
+
+three_digits : job (codes "bounded" ∷ codes "--goal=heads" ∷ codes "--bound=1/2" ∷ codes "--steps=064" ∷ []) ≡ Err field.Steps
+unfolding gcd
+three_digits = refl
+
+precision_first : job (codes "bounded" ∷ codes "--steps=0" ∷ codes "--goal=heads" ∷ codes "--bound=1/2" ∷ codes "--precision=0" ∷ []) ≡ Err field.Precision
+unfolding gcd
+precision_first = refl
 
 -- an empty text in two words is what a line without a region gives
 asks_nothing : job (codes "verify" ∷ codes "--goal=heads" ∷ codes "--bound=1/2" ∷ codes "--region" ∷ [] ∷ codes "--depth=5" ∷ codes "--precision=4" ∷ []) ≡ Ok (verify at_most_half)

@@ -21,11 +21,11 @@ use Rattle.clap.proofs.TakesLemmas.{leaf_takes}
 use Rattle.clap.proofs.WalkLemmas.{both, first_value-rows}
 use Rattle.clap.proofs.SimpleLemmas.{is_false, is_nil}
 use Rattle.lift_frac.specs.Written.{cut_at}
-use Rattle.plift_words.specs.Line.{Setting, attached, options, stands, value_of, is_option, is_value, are_options, is_verify}
+use Rattle.plift_words.specs.Line.{Setting, attached, options, stands, value_of, is_option, is_value, are_options, are_asked, is_verify, is_bounded, is_asking}
 use Rattle.plift_words.proofs.Cuts.{neither, cut_parts, options_one, options_two, options_lone}
 use Rattle.plift_words.specs.Parser.{HasValues, verify_app}
 
--- `verify` as the parser builds it, and the rules of its options
+-- the command as the parser builds it, and the rules of its options
 unfoldable shape : Shape
 unfolding verify_app
 shape = (built verify_app).top
@@ -40,6 +40,7 @@ data Known : Text → Text → Type 0 where
   region : Known (codes "--region") (codes "region")
   depth : Known (codes "--depth") (codes "depth")
   precision : Known (codes "--precision") (codes "precision")
+  steps : Known (codes "--steps") (codes "steps")
 
 -- waits for the value of an option
 abbrev waits : List Row → Text → Walk
@@ -62,6 +63,7 @@ name_walked name id bound h = refl
 name_walked name id region h = refl
 name_walked name id depth h = refl
 name_walked name id precision h = refl
+name_walked name id steps h = refl
 
 name_passes : (name id : Text) → Known name id → (h : Held) → settle_passes rules false h ≡ true → turn_passes shape [] (walk_from h) name ≡ true
 unfolding shape verify_app
@@ -70,6 +72,7 @@ name_passes name id bound h e = rw e refl
 name_passes name id region h e = rw e refl
 name_passes name id depth h e = rw e refl
 name_passes name id precision h e = rw e refl
+name_passes name id steps h e = rw e refl
 
 -- what doesn't begin with `-` is no option
 record IsNoFlag (v : Text) : Type 0 where
@@ -94,6 +97,7 @@ value_walked id v rows name bound n = rw (n.long, n.short, n.marker) refl
 value_walked id v rows name region n = rw (n.long, n.short, n.marker) refl
 value_walked id v rows name depth n = rw (n.long, n.short, n.marker) refl
 value_walked id v rows name precision n = rw (n.long, n.short, n.marker) refl
+value_walked id v rows name steps n = rw (n.long, n.short, n.marker) refl
 
 value_passes : (id v : Text) (rows : List Row) (name : Text) → Known name id → IsNoFlag v → turn_passes shape [] (waits rows id) v ≡ true
 unfolding shape verify_app
@@ -102,6 +106,7 @@ value_passes id v rows name bound n = rw (n.long, n.short, n.marker) refl
 value_passes id v rows name region n = rw (n.long, n.short, n.marker) refl
 value_passes id v rows name depth n = rw (n.long, n.short, n.marker) refl
 value_passes id v rows name precision n = rw (n.long, n.short, n.marker) refl
+value_passes id v rows name steps n = rw (n.long, n.short, n.marker) refl
 
 -- the rows after an option was used with a value
 abbrev used_with : Text → Text → List Row → List Row
@@ -114,6 +119,7 @@ one_walked name id v bound h = refl
 one_walked name id v region h = refl
 one_walked name id v depth h = refl
 one_walked name id v precision h = refl
+one_walked name id v steps h = refl
 
 one_passes : (name id v : Text) → Known name id → (h : Held) → settle_passes rules false h ≡ true → has_row id (settled rules h).rows ≡ false
     → turn_passes shape [] (walk_from h) (name ++ code "=" ∷ v) ≡ true
@@ -123,6 +129,7 @@ one_passes name id v bound h e fresh = rw (e, fresh) refl
 one_passes name id v region h e fresh = rw (e, fresh) refl
 one_passes name id v depth h e fresh = rw (e, fresh) refl
 one_passes name id v precision h e fresh = rw (e, fresh) refl
+one_passes name id v steps h e fresh = rw (e, fresh) refl
 
 -- ---- rows
 
@@ -151,6 +158,7 @@ used_new name id v bound rows fresh = set_new id v rows fresh
 used_new name id v region rows fresh = set_new id v rows fresh
 used_new name id v depth rows fresh = set_new id v rows fresh
 used_new name id v precision rows fresh = set_new id v rows fresh
+used_new name id v steps rows fresh = set_new id v rows fresh
 
 -- what is held comes to these rows
 record Ready (h : Held) (rows : List Row) : Type 0 where
@@ -167,6 +175,7 @@ holds_passes name id v bound rows fresh = rw fresh refl
 holds_passes name id v region rows fresh = rw fresh refl
 holds_passes name id v depth rows fresh = rw fresh refl
 holds_passes name id v precision rows fresh = rw fresh refl
+holds_passes name id v steps rows fresh = rw fresh refl
 
 holds_ready : (name id v : Text) → Known name id → (rows : List Row) → has_row id rows ≡ false → Ready (holds rows id v) (rows ++ row id v ∷ [])
 holds_ready name id v k rows fresh = record { settles = ap clean (used_new name id v k rows fresh); passes = holds_passes name id v k rows fresh }
@@ -183,15 +192,18 @@ named name word k e = subst (λ (w : Text). Known w (drop 2 w)) (sym ((bytes_eq-
 known : (name : Text) → is_option name ≡ true → Known name (drop 2 name)
 known name e =
     let is : Text → Bool = bytes_eq name in
-    elim (either (is (codes "--goal")) (list_any is (codes "--bound" ∷ codes "--region" ∷ codes "--depth" ∷ codes "--precision" ∷ [])) e) [
+    elim (either (is (codes "--goal")) (list_any is (codes "--bound" ∷ codes "--region" ∷ codes "--depth" ∷ codes "--precision" ∷ codes "--steps" ∷ [])) e) [
       | inl g ↦ named name (codes "--goal") goal g
-      | inr e ↦ elim (either (is (codes "--bound")) (list_any is (codes "--region" ∷ codes "--depth" ∷ codes "--precision" ∷ [])) e) [
+      | inr e ↦ elim (either (is (codes "--bound")) (list_any is (codes "--region" ∷ codes "--depth" ∷ codes "--precision" ∷ codes "--steps" ∷ [])) e) [
         | inl b ↦ named name (codes "--bound") bound b
-        | inr e ↦ elim (either (is (codes "--region")) (list_any is (codes "--depth" ∷ codes "--precision" ∷ [])) e) [
+        | inr e ↦ elim (either (is (codes "--region")) (list_any is (codes "--depth" ∷ codes "--precision" ∷ codes "--steps" ∷ [])) e) [
           | inl r ↦ named name (codes "--region") region r
-          | inr e ↦ elim (either (is (codes "--depth")) (list_any is (codes "--precision" ∷ [])) e) [
+          | inr e ↦ elim (either (is (codes "--depth")) (list_any is (codes "--precision" ∷ codes "--steps" ∷ [])) e) [
             | inl d ↦ named name (codes "--depth") depth d
-            | inr e ↦ elim (either (is (codes "--precision")) false e) [ inl p ↦ named name (codes "--precision") precision p | inr none ↦ absurd (cc) ]
+            | inr e ↦ elim (either (is (codes "--precision")) (list_any is (codes "--steps" ∷ [])) e) [
+              | inl p ↦ named name (codes "--precision") precision p
+              | inr e ↦ elim (either (is (codes "--steps")) false e) [ inl h ↦ named name (codes "--steps") steps h | inr none ↦ absurd (cc) ]
+            ]
           ]
         ]
       ]
@@ -204,6 +216,7 @@ dashed name id bound = refl
 dashed name id region = refl
 dashed name id depth = refl
 dashed name id precision = refl
+dashed name id steps = refl
 
 same_name : (n i m j : Text) → Known n i → Known m j → bytes_eq i j ≡ bytes_eq n m
 same_name n i m j a b = rw (dashed n i a, dashed m j b) refl
@@ -451,12 +464,21 @@ record PlainLine (words : List Text) : Type 0 where
   has_goal : stands (codes "--goal") (options words) ≡ true
   has_bound : stands (codes "--bound") (options words) ≡ true
 
-plain_line : (command : Text) (words : List Text) → is_verify (command ∷ words) ≡ true → PlainLine words
-plain_line command words e =
-    let a = both (bytes_eq command (codes "verify") && are_options (options words) && stands (codes "--goal") (options words)) _ e in
-    let b = both (bytes_eq command (codes "verify") && are_options (options words)) _ a.0 in
-    let c = both (bytes_eq command (codes "verify")) _ b.0 in
-    record { all = c.1; has_goal = b.1; has_bound = a.1 }
+asked_line : (words : List Text) → are_asked (options words) ≡ true → PlainLine words
+asked_line words e =
+    let a = both (are_options (options words) && stands (codes "--goal") (options words)) _ e in
+    let b = both (are_options (options words)) _ a.0 in
+    record { all = b.0; has_goal = b.1; has_bound = a.1 }
+
+-- a line with such a test of its options between two others
+between : (named rest : Bool) (words : List Text) → (named && are_asked (options words) && rest) ≡ true → PlainLine words
+between named rest words e = asked_line words (both named _ (both (named && are_asked (options words)) rest e).0).1
+
+plain_line : (command : Text) (words : List Text) → is_asking (command ∷ words) ≡ true → PlainLine words
+plain_line command words e = elim (either (is_verify (command ∷ words)) (is_bounded (command ∷ words)) e) [
+  | inl v ↦ between (bytes_eq command (codes "verify")) (not (stands (codes "--steps") (options words))) words v
+  | inr b ↦ between (bytes_eq command (codes "bounded")) (stands (codes "--steps") (options words)) words b
+]
 
 -- the parser takes the words, and what it finds in them
 unfoldable takes_line : List Text → Bool
@@ -466,21 +488,21 @@ unfoldable line_rows : List Text → List Row
 line_rows words = matches_of verify_app words
 
 -- the parser takes a plain line
-taken : (words : List Text) → is_verify words ≡ true → takes_line words ≡ true
+taken : (words : List Text) → is_asking words ≡ true → takes_line words ≡ true
 unfolding takes_line verify_app shape
 taken [] e = absurd (cc)
 taken (command ∷ words) e = let p = plain_line command words e in leaf_takes (built verify_app) nothing_held words refl (level words p.all p.has_goal p.has_bound)
 
 -- and finds the values that stand there
-found : (words : List Text) → is_verify words ≡ true → (name id : Text) → Known name id → first_of id (line_rows words) ≡ value_of name (options (drop 1 words))
+found : (words : List Text) → is_asking words ≡ true → (name id : Text) → Known name id → first_of id (line_rows words) ≡ value_of name (options (drop 1 words))
 unfolding line_rows verify_app shape
 found [] e name id k = absurd (cc)
 found (command ∷ words) e name id k =
     let p = plain_line command words e in
     ap (first_of id) (rows_are words p.all) ∙ first_is name id k (options words) p.all
 
--- what the parser promises of its rules, said of `verify`
-pub passes_line : {T : Type 0} (a : App) (words : List Text) (r : Result T Error) → a ≡ verify_app → is_verify words ≡ true
+-- what the parser promises of its rules, said of these options
+pub passes_line : {T : Type 0} (a : App) (words : List Text) (r : Result T Error) → a ≡ verify_app → is_asking words ≡ true
     → IfErr r (λ e. takes a words ≡ true → kind_of e ≡ kind.OutOfMemory) → IfErr r (λ e. kind_of e ≡ kind.OutOfMemory)
 unfolding takes_line
 passes_line a words (Ok x) is plain h = tt
@@ -490,13 +512,13 @@ simple : is_simple verify_app ≡ true
 unfolding verify_app
 simple = refl
 
-value_found : (a : App) (words : List Text) (m : ArgMatches) → a ≡ verify_app → is_verify words ≡ true → HasMatchesOf a words m → (name id : Text) → Known name id
+value_found : (a : App) (words : List Text) (m : ArgMatches) → a ≡ verify_app → is_asking words ≡ true → HasMatchesOf a words m → (name id : Text) → Known name id
     → first_value (found_of m) id ≡ value_of name (options (drop 1 words))
 unfolding line_rows
 value_found a words m is plain h name id k =
     first_value-rows (found_of m) id ∙ ap (first_of id) ((h (ap is_simple is ∙ simple)).0 ∙ ap (λ (b : App). matches_of b words) is) ∙ found words plain name id k
 
-pub values_found : (a : App) (words : List Text) (r : Result ArgMatches Error) → a ≡ verify_app → is_verify words ≡ true → IfOk r (HasMatchesOf a words)
+pub values_found : (a : App) (words : List Text) (r : Result ArgMatches Error) → a ≡ verify_app → is_asking words ≡ true → IfOk r (HasMatchesOf a words)
     → IfOk r (λ m. HasValues (found_of m) (options (drop 1 words)))
 values_found a words (Err e) is plain h = tt
 values_found a words (Ok m) is plain h = record {
@@ -505,4 +527,5 @@ values_found a words (Ok m) is plain h = record {
   region = value_found a words m is plain h (codes "--region") (codes "region") region;
   depth = value_found a words m is plain h (codes "--depth") (codes "depth") depth;
   precision = value_found a words m is plain h (codes "--precision") (codes "precision") precision;
+  steps = value_found a words m is plain h (codes "--steps") (codes "steps") steps;
 }

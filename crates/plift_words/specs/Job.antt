@@ -5,12 +5,12 @@ use Rattle.lift_grid.specs.Rectangle.{most_halvings}
 use Rattle.lift_grid.specs.Region.{◌>>=◌}
 use Rattle.corner_lift.specs.Case.{most_precision}
 use Rattle.lift_cert.specs.declared.bound.Bound.{Bound}
-use Rattle.plift_words.specs.Line.{is_verify, is_check, word_behind, options, value_of}
-use Rattle.plift_words.specs.Values.{goal_of, bound_of, option_number, blocks_of}
+use Rattle.plift_words.specs.Line.{is_asking, is_check, word_behind, options, value_of}
+use Rattle.plift_words.specs.Values.{goal_of, bound_of, option_number, steps_of, blocks_of}
 use Rattle.plift_words.specs.declared.job.Field.{Field}
 use Rattle.plift_words.specs.declared.job.Field.TheVariants as field
 
--- what is to be verified: a goal label and a bound, over a region, to a depth of splits and with numbers over 2 ^ precision
+-- What is to be verified: a goal label and a bound on reaching it, over a region, to a depth of splits and with numbers over 2 ^ precision. The bound is on any number of steps, or on as many as are told.
 pub record VerifyData : Type 0 where
   pub goal : List ℕ
   pub bound : Bound
@@ -18,6 +18,7 @@ pub record VerifyData : Type 0 where
   pub region : List ℕ
   pub depth : ℕ
   pub precision : ℕ
+  pub steps : Option ℕ
 
 -- what a line asks for: a command, with what it is asked
 pub data JobData : Type 0 where
@@ -29,14 +30,20 @@ pub data JobData : Type 0 where
   -- the ladder of so many blocks is to be verified, and its report checked
   selftest : ℕ → JobData
 
--- The job of a line of `verify`, by the words behind its options, or the first of goal, bound, depth and precision that is out of its grammar or range. Without its option the region's text is empty, the depth is 0, and the precision is 24. No text of a region is at fault here.
+-- the number of steps, where its option stands there
+abbrev pub steps_in : Option (List ℕ) → Result (Option ℕ) Field
+steps_in None = Ok None
+steps_in (Some word) = ok_or (steps_of word) field.Steps >>= λ steps. Ok (Some steps)
+
+-- The job of a line of `verify` or `bounded`, by the words behind its options, or the first of goal, bound, depth, precision and steps that is out of its grammar or range. Without its option the region's text is empty, the depth is 0, and the precision is 24. No text of a region is at fault here.
 abbrev pub verify_job : (List ℕ → Option (List ℕ)) → Result JobData Field
 verify_job given = do
   goal ← ok_or (option_and_then goal_of (given (codes "--goal"))) field.Goal
   bound ← ok_or (option_and_then bound_of (given (codes "--bound"))) field.Bound
   depth ← ok_or (option_number 0 most_halvings (unwrap_or (given (codes "--depth")) (codes "0"))) field.Depth
   precision ← ok_or (option_number 1 most_precision (unwrap_or (given (codes "--precision")) (codes "24"))) field.Precision
-  Ok (JobData.verify (record { goal = goal; bound = bound; region = unwrap_or (given (codes "--region")) []; depth = depth; precision = precision }))
+  steps ← steps_in (given (codes "--steps"))
+  Ok (JobData.verify (record { goal = goal; bound = bound; region = unwrap_or (given (codes "--region")) []; depth = depth; precision = precision; steps = steps }))
 
 -- the job of a number of blocks, or that it is at fault
 abbrev pub blocks_job : (ℕ → JobData) → List ℕ → Result JobData Field
@@ -51,4 +58,4 @@ other_job words = if is_check words then Ok JobData.check else (elim (word_behin
 
 -- the job that a line asks for, or the part of the line at fault: the whole of it exactly where it isn't plain
 abbrev pub job : List (List ℕ) → Result JobData Field
-job words = if is_verify words then verify_job (λ name. value_of name (options (drop 1 words))) else other_job words
+job words = if is_asking words then verify_job (λ name. value_of name (options (drop 1 words))) else other_job words

@@ -36,27 +36,39 @@ stands name settings = list_any (λ s. bytes_eq s.name name) settings
 abbrev pub value_of : List ℕ → List Setting → Option (List ℕ)
 value_of name settings = option_and_then (λ s. s.value) (find (λ s. bytes_eq s.name name) settings)
 
--- the names of the options of `verify`
+-- the names of the options of `verify` and `bounded`
 abbrev pub is_option : List ℕ → Bool
-is_option name = list_any (bytes_eq name) (codes "--goal" ∷ codes "--bound" ∷ codes "--region" ∷ codes "--depth" ∷ codes "--precision" ∷ [])
+is_option name = list_any (bytes_eq name) (codes "--goal" ∷ codes "--bound" ∷ codes "--region" ∷ codes "--depth" ∷ codes "--precision" ∷ codes "--steps" ∷ [])
 
 -- a value is there, and doesn't begin with `-`
 abbrev pub is_value : Option (List ℕ) → Bool
 is_value None = false
 is_value (Some word) = not (starts_with nat_eq word (codes "-"))
 
--- options of `verify`, each with its value, and each at most once
+-- options, each with its value, and each at most once
 abbrev pub are_options : List Setting → Bool
 are_options [] = true
 are_options (s ∷ more) = is_option s.name && is_value s.value && not (stands s.name more) && are_options more
 
+-- options with the goal and the bound among them
+abbrev pub are_asked : List Setting → Bool
+are_asked settings = are_options settings && stands (codes "--goal") settings && stands (codes "--bound") settings
+
 -- ---- plain lines, by their commands
 
--- the command `verify`, and behind it its options in any order, the goal and the bound among them
+-- the command `verify`, and behind it its options in any order, the goal and the bound among them, and no number of steps
 abbrev pub is_verify : List (List ℕ) → Bool
 is_verify [] = false
-is_verify (command ∷ words) =
-    bytes_eq command (codes "verify") && are_options (options words) && stands (codes "--goal") (options words) && stands (codes "--bound") (options words)
+is_verify (command ∷ words) = bytes_eq command (codes "verify") && are_asked (options words) && not (stands (codes "--steps") (options words))
+
+-- the command `bounded`, and behind it the same options and a number of steps
+abbrev pub is_bounded : List (List ℕ) → Bool
+is_bounded [] = false
+is_bounded (command ∷ words) = bytes_eq command (codes "bounded") && are_asked (options words) && stands (codes "--steps") (options words)
+
+-- one of these two
+abbrev pub is_asking : List (List ℕ) → Bool
+is_asking words = is_verify words || is_bounded words
 
 -- the command `check`, and nothing behind it
 abbrev pub is_check : List (List ℕ) → Bool
@@ -68,6 +80,6 @@ abbrev pub word_behind : List ℕ → List (List ℕ) → Option (List ℕ)
 word_behind name (command ∷ word ∷ []) = if bytes_eq command name && is_value (Some word) then Some word else None
 word_behind name _ = None
 
--- a plain line: one of the four commands, and what stands behind it
+-- a plain line: one of the five commands, and what stands behind it
 abbrev pub is_plain : List (List ℕ) → Bool
-is_plain words = is_verify words || is_check words || is_some (word_behind (codes "generate") words) || is_some (word_behind (codes "selftest") words)
+is_plain words = is_asking words || is_check words || is_some (word_behind (codes "generate") words) || is_some (word_behind (codes "selftest") words)

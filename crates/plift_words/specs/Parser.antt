@@ -9,14 +9,15 @@ use Rattle.plift_words.specs.Line.{Setting, value_of}
 abbrev pub option : Text → Bool → Rule
 option name required = record (new_rule name) { long = Some name; action = Some Set; required = required }
 
--- `verify` with its options
+-- the options of `verify` and `bounded`
 unfoldable pub verify_app : App
 verify_app =
     let goal = with_rule (new_app (codes "verify")) (option (codes "goal") true) in
     let bound = with_rule goal (option (codes "bound") true) in
     let region = with_rule bound (option (codes "region") false) in
     let depth = with_rule region (option (codes "depth") false) in
-    with_rule depth (option (codes "precision") false)
+    let precision = with_rule depth (option (codes "precision") false) in
+    with_rule precision (option (codes "steps") false)
 
 -- the values that the parser found are those of the options
 pub record HasValues (found : Found) (settings : List Setting) : Type 0 where
@@ -25,3 +26,4 @@ pub record HasValues (found : Found) (settings : List Setting) : Type 0 where
   pub region : first_value found (codes "region") ≡ value_of (codes "--region") settings
   pub depth : first_value found (codes "depth") ≡ value_of (codes "--depth") settings
   pub precision : first_value found (codes "precision") ≡ value_of (codes "--precision") settings
+  pub steps : first_value found (codes "steps") ≡ value_of (codes "--steps") settings

@@ -34,6 +34,18 @@ most_option_digits = 3
 abbrev pub option_number : ℕ → ℕ → List ℕ → Option ℕ
 option_number low high word = number_within most_option_digits low high word
 
+-- how many digits a number of steps has at most
+abbrev pub most_step_digits : ℕ
+most_step_digits = 2
+
+-- how many steps may be asked for at most
+abbrev pub most_steps : ℕ
+most_steps = 64
+
+-- a number of steps: at least one
+abbrev pub steps_of : List ℕ → Option ℕ
+steps_of word = number_within most_step_digits 1 most_steps word
+
 -- how many digits a number of blocks has at most
 abbrev pub most_block_digits : ℕ
 most_block_digits = 5

@@ -1,18 +1,18 @@
 // Reads the command line.
 ghost use Rattle.std.specs.Prelude.{◌≡◌, ◌≤◌, codes, drop, [], map, true, option_and_then};
-ghost use Rattle.std.specs.Prelude.{string_bytes, IfSome};
+ghost use Rattle.std.specs.Prelude.{string_bytes, IfOk, IfSome};
 ghost use Rattle.std.specs.Option.{option_map, unwrap_or};
 ghost use Rattle.clap.specs.Words.{found_of, first_value};
-ghost use Rattle.plift_words.specs.Line.{is_verify};
-ghost use Rattle.plift_words.specs.Values.{goal_of, bound_of, option_number, blocks_of};
-ghost use Rattle.plift_words.specs.Job.{verify_job, other_job};
+ghost use Rattle.plift_words.specs.Line.{is_asking};
+ghost use Rattle.plift_words.specs.Values.{goal_of, bound_of, option_number, most_steps, blocks_of};
+ghost use Rattle.plift_words.specs.Job.{steps_in, verify_job, other_job};
 ghost use Rattle.plift_words.specs.Given.{answer_data, asked, Asks};
 
 use crate::error::WordsError;
 use crate::job::{Field, Job, VerifyJob};
-use crate::line::{is_check, is_verify, word_behind};
+use crate::line::{is_asking, is_check, word_behind};
 use crate::parser::parse;
-use crate::values::{bound_of, goal_of, ladder_of, option_number};
+use crate::values::{bound_of, goal_of, ladder_of, option_number, steps_of};
 use clap::ArgMatches;
 use lift_cert::Bound;
 use std::alloc::Global;
@@ -61,6 +61,17 @@ fn number_in(matches: &ArgMatches<'_>, id: &str, default: &str, low: u32, high: 
     option_number(matches.get_str(id).unwrap_or(default), low, high)
 }
 
+// Within how many steps, where its option stands there.
+fn steps_in(matches: &ArgMatches<'_>) -> Result<Option<u32>, Field>
+    ensures value { result ≡ steps_in (first_value (found_of matches.now) (codes "steps")) }
+    ensures range { IfOk result (λ steps. IfSome steps (λ h. (1 ≤ h) × (h ≤ most_steps))) }
+{
+    match matches.get_str("steps") {
+        Some(word) => Ok(Some(steps_of(word).ok_or(Field::Steps)?)),
+        None => Ok(None),
+    }
+}
+
 // The parser finds a value by its option's name without the dashes.
 fn job_in<'a>(matches: &ArgMatches<'a>) -> Result<Job<'a>, Field>
     ensures { answer_data result ≡ verify_job (λ name. first_value (found_of matches.now) (drop 2 name)) }
@@ -72,18 +83,20 @@ fn job_in<'a>(matches: &ArgMatches<'a>) -> Result<Job<'a>, Field>
     let precision = number_in(matches, "precision", DEFAULT_PRECISION, 1, MOST_PRECISION).ok_or(
         Field::Precision,
     )?;
+    let steps = steps_in(matches)?;
     Ok(Job::Verify(VerifyJob {
         goal,
         bound,
         region,
         depth,
         precision,
+        steps,
     }))
 }
 
-// What a plain line of `verify` asks for.
+// What a plain line of `verify` or `bounded` asks for.
 fn verify_job(alloc: Global, words: &[String]) -> Result<Job<'_>, WordsError>
-    requires { is_verify (map string_bytes words.now) ≡ true }
+    requires { is_asking (map string_bytes words.now) ≡ true }
     ensures { Asks (asked words.entry.now) result }
 {
     // On a plain line nothing but want of memory fails.
@@ -113,11 +126,11 @@ fn other_job(words: &[String]) -> Result<Job<'static>, Field>
 }
 
 /// What the words after the program's name ask for. `Usage` with the part of them that is at fault,
-/// or `Memory`, which comes only where the line is a plain one of `verify`.
+/// or `Memory`, which comes only where the line is a plain one of `verify` or `bounded`.
 pub fn job_of(alloc: Global, words: &[String]) -> Result<Job<'_>, WordsError>
     ensures { Asks (asked words.entry.now) result }
 {
-    if is_verify(words) {
+    if is_asking(words) {
         return verify_job(alloc, words);
     }
     match other_job(words) {

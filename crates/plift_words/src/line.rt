@@ -5,8 +5,8 @@ ghost use Rattle.std.specs.Option.{option_map};
 ghost use Rattle.lift_bytes.specs.Bytes.{code};
 ghost use Rattle.lift_frac.specs.Written.{cut_at};
 ghost use Rattle.plift_words.specs.Line.{attached, options, stands};
-ghost use Rattle.plift_words.specs.Line.{is_option, is_value, are_options};
-ghost use Rattle.plift_words.specs.Line.{is_verify, is_check, word_behind};
+ghost use Rattle.plift_words.specs.Line.{is_option, is_value, are_options, are_asked};
+ghost use Rattle.plift_words.specs.Line.{is_verify, is_bounded, is_asking, is_check, word_behind};
 ghost use Rattle.plift_words.specs.Given.{setting_of};
 
 use lift_frac::cut_at;
@@ -88,6 +88,7 @@ fn is_option(name: &str) -> bool
         || name == "--region"
         || name == "--depth"
         || name == "--precision"
+        || name == "--steps"
 }
 
 fn is_value(value: Option<&str>) -> bool
@@ -99,7 +100,7 @@ fn is_value(value: Option<&str>) -> bool
     }
 }
 
-// Whether it is an option of `verify` with its value, which doesn't stand once more behind it.
+// Whether it is an option with its value, which doesn't stand once more behind it.
 fn is_sound(setting: Setting<'_>, more: &[String]) -> bool
     ensures { let s = setting_of setting.entry in
         result ≡ (is_option s.name && is_value s.value
@@ -121,18 +122,37 @@ fn are_options(words: &[String]) -> bool
     true
 }
 
-/// Whether the line is the command `verify`, and behind it its options with their values, in any
-/// order and each at most once. Takes no memory.
-pub fn is_verify(words: &[String]) -> bool
+// Whether these are options with their values, each at most once, the goal and the bound among them.
+fn are_asked(words: &[String]) -> bool
+    ensures { result ≡ are_asked (options (map string_bytes words.now)) }
+{
+    are_options(words) && stands("--goal", words) && stands("--bound", words)
+}
+
+fn is_verify(words: &[String]) -> bool
     ensures { result ≡ is_verify (map string_bytes words.now) }
 {
     let [command, options @ ..] = words else {
         return false;
     };
-    command.as_str() == "verify"
-        && are_options(options)
-        && stands("--goal", options)
-        && stands("--bound", options)
+    command.as_str() == "verify" && are_asked(options) && !stands("--steps", options)
+}
+
+fn is_bounded(words: &[String]) -> bool
+    ensures { result ≡ is_bounded (map string_bytes words.now) }
+{
+    let [command, options @ ..] = words else {
+        return false;
+    };
+    command.as_str() == "bounded" && are_asked(options) && stands("--steps", options)
+}
+
+/// Whether the line is the command `verify` or `bounded`, and behind it its options with their values, in any
+/// order and each at most once. Takes no memory.
+pub fn is_asking(words: &[String]) -> bool
+    ensures { result ≡ is_asking (map string_bytes words.now) }
+{
+    is_verify(words) || is_bounded(words)
 }
 
 /// Whether the line is the command `check`, and nothing behind it.

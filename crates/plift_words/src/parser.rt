@@ -1,7 +1,7 @@
-// Reads the options of a line of `verify` by the parser of command lines.
+// Reads the options of a line of `verify` or `bounded` by the parser of command lines.
 ghost use Rattle.std.specs.Prelude.{◌≡◌, IfOk, IfErr, true, map, drop, string_bytes};
 ghost use Rattle.clap.specs.Words.{app_of, with_rule, found_of, kind_of};
-ghost use Rattle.plift_words.specs.Line.{is_verify, options};
+ghost use Rattle.plift_words.specs.Line.{is_asking, options};
 ghost use Rattle.plift_words.specs.Parser.{option, verify_app, HasValues};
 
 use clap::error::ErrorKind;
@@ -33,13 +33,14 @@ fn verify_command<'a>(alloc: Global) -> Result<Command<'a>, AllocError>
     let command = with_option(alloc, command, "bound", true)?;
     let command = with_option(alloc, command, "region", false)?;
     let command = with_option(alloc, command, "depth", false)?;
-    with_option(alloc, command, "precision", false)
+    let command = with_option(alloc, command, "precision", false)?;
+    with_option(alloc, command, "steps", false)
 }
 
-/// The values of the options of a plain line of `verify`. Fails for want of memory alone: such a
+/// The values of the options of a plain line of `verify` or `bounded`. Fails for want of memory alone: such a
 /// line is one that the parser takes.
 pub fn parse<'a>(alloc: Global, words: &'a [String]) -> Result<ArgMatches<'a>, Error>
-    requires { is_verify (map string_bytes words.now) ≡ true }
+    requires { is_asking (map string_bytes words.now) ≡ true }
     ensures values { IfOk result (λ m.
         HasValues (found_of m) (options (drop 1 (map string_bytes words.entry.now)))) }
     ensures memory { IfErr result (λ e. kind_of e ≡ ErrorKind.OutOfMemory) }

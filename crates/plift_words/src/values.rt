@@ -5,7 +5,8 @@ ghost use Rattle.std.specs.List.{list_all};
 ghost use Rattle.std.specs.Char.{is_ascii_digit};
 ghost use Rattle.lift_frac.specs.Frac.{ratio_of};
 ghost use Rattle.plift_words.specs.Values.{is_label_byte, goal_of, number_of, number_within};
-ghost use Rattle.plift_words.specs.Values.{option_number, blocks_of, bound_by, bound_of};
+ghost use Rattle.plift_words.specs.Values.{option_number, steps_of, most_steps, blocks_of};
+ghost use Rattle.plift_words.specs.Values.{bound_by, bound_of};
 
 use lift_cert::Bound;
 use lift_frac::{Frac, read_ratio};
@@ -13,6 +14,12 @@ use model_gen::Ladder;
 
 /// How many digits the number of an option has at most.
 const MOST_OPTION_DIGITS: usize = 3;
+
+/// How many digits a number of steps has at most.
+const MOST_STEP_DIGITS: usize = 2;
+
+/// How many steps may be asked for at most.
+const MOST_STEPS: u32 = 64;
 
 /// How many digits a number of blocks has at most.
 const MOST_BLOCK_DIGITS: usize = 5;
@@ -77,6 +84,14 @@ pub fn option_number(word: &str, low: u32, high: u32) -> Option<u32>
     ensures range { IfSome result (λ n. (low ≤ n) × (n ≤ high)) }
 {
     number_within(word, MOST_OPTION_DIGITS, low, high)
+}
+
+/// A number of steps, of one or two digits, from 1 to 64.
+pub fn steps_of(word: &str) -> Option<u32>
+    ensures value { result ≡ steps_of word.now }
+    ensures range { IfSome result (λ h. (1 ≤ h) × (h ≤ most_steps)) }
+{
+    number_within(word, MOST_STEP_DIGITS, 1, MOST_STEPS)
 }
 
 /// The ladder of so many blocks, a number of one to five digits, from 1 to 32,767.

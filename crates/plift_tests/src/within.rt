@@ -1,0 +1,89 @@
+// Models that are decided for a number of steps. The numbers of the leaves were worked out by hand.
+use crate::models::{lines_of, model_text};
+use crate::runs::{is_answered, status_name, words_of};
+use lift_base::{MemSink, SureSource};
+use plift_top::run;
+use std::alloc::Global;
+use std::test::Fail;
+
+// Each row: the words, the model, the status, how the output ends, and the notes.
+const WITHIN: &str = "\
+bounded --goal heads --bound 1/4 --steps 1 --precision 4 --region 1/5<=p<=2/5 | LOOP | Done | plift-bounded 1;kind dtmc;\
+    parameters 1 p;common 2;states 3;init 0;goal 1 1;row 0 0 3;to 0 0:1;to 1 1:1;to 2 0:1 1:-1;row 1 0 1;to 1 0:2;\
+    row 2 0 1;to 2 0:2;bound 1/4;steps 1;precision 4;depth 0;grid 5;box 1 2;accept;x 1 4 16 0; | -
+bounded --steps=2 --region=1/5<=p<=2/5 --precision=4 --bound=1/4 --goal=heads | LOOP | Done | ;bound 1/4;steps 2;\
+    precision 4;depth 0;grid 5;box 1 2;unknown; | -
+bounded --goal heads --bound 1/10 --steps 2 --precision 4 --region 1/5<=p<=2/5 | LOOP | Done | ;bound 1/10;steps 2;\
+    precision 4;depth 0;grid 5;box 1 2;reject b 2/16;y 1 1 16 0;choice 1 0 - 0;y 2 2 16 0;choice 2 0 - 0; | -
+bounded --goal heads --bound 3/8 --steps 2 --precision 4 --region 1/5<=p<=2/5 | LOOP | Done | ;box 1 2;accept;\
+    x 1 4 16 0;x 2 6 16 0; | -
+bounded --goal heads --bound 1/2 --steps 1 --precision 4 --region 1/4<=p<=1/2 | SHORT_CUT | Done | ;steps 1;\
+    precision 4;depth 0;grid 4;box 1 2;accept;x 1 8 16 0 16; | -
+bounded --goal heads --bound 1/5 --steps 1 --precision 4 --region 1/4<=p<=1/2 | SHORT_CUT | Done | ;steps 1;\
+    precision 4;depth 0;grid 4;box 1 2;reject b 4/16;y 1 4 16 0 16;choice 1 0 0 0 -; | -
+bounded --goal heads --bound 1/2 --steps 2 --precision 4 --region 1/4<=p<=1/2 | SHORT_CUT | Done | ;steps 2;\
+    precision 4;depth 0;grid 4;box 1 2;reject b 16/16;y 1 4 16 0 16;choice 1 0 0 0 -;y 2 16 16 0 16;choice 2 1 0 0 -; | -
+bounded --goal heads --bound 1/2 --steps 1 --precision 4 --depth 1 --region 1/5<=p<=3/5 | COIN | Done | ;steps 1;\
+    precision 4;depth 1;grid 10;box 2 6;split 0;accept;x 1 7 16 0;unknown; | -
+bounded --goal heads --bound 0 --steps 3 --precision 4 | APART | Done | ;bound 0/1;steps 3;precision 4;depth 0;grid 1;box;\
+    accept;x 1 0 16;x 2 0 16;x 3 0 16; | -
+bounded --goal init --bound 1/2 --steps 1 --precision 4 --region 1/10<=p<=2/5 | COIN | Done | ;box 1 4;\
+    reject b 16/16;y 1 16 0 0;choice 1 - 0 0; | -
+bounded --goal tails --bound 1/2 --steps 1 | COIN | ModelRefused | - | model: line 11: UnknownLabel;
+bounded --goal heads --bound 1/2 --steps 1 | COIN | Usage | - | usage: --region Missing;
+bounded --goal heads --bound 1/2 --steps 1 | LESS | RowsRefused | - | rows: state 0 choice 0: set 0 sums to 3;
+bounded --goal heads --bound 1/2 --steps 0 | LESS | Usage | - | usage: --steps;
+bounded --goal heads --bound 1/2 --steps 65 | LESS | Usage | - | usage: --steps;
+bounded --goal heads --bound 1/2 --steps 001 | LESS | Usage | - | usage: --steps;
+bounded --goal heads --bound 1/2 --steps 1/2 | LESS | Usage | - | usage: --steps;
+bounded --goal heads --bound 1/2 --steps 0 --precision 0 | LESS | Usage | - | usage: --precision;
+bounded --goal heads --bound 1/2 | LESS | Usage | - | usage: words;
+bounded --goal heads --bound 1/2 --steps | LESS | Usage | - | usage: words;
+bounded --goal heads --bound 1/2 --steps 1 --steps 1 | LESS | Usage | - | usage: words;
+bounded --goal heads --steps 1 | LESS | Usage | - | usage: words;
+bounded --steps 1 --bound 1/2 | LESS | Usage | - | usage: words;
+verify --goal heads --bound 1/2 --steps 1 | LESS | Usage | - | usage: words;
+bounded | LESS | Usage | - | usage: words;
+";
+
+// A job whose tree has two leaves, and its text.
+const REGION: &str =
+    "bounded --goal heads --bound 1/2 --steps 1 --precision 4 --depth 1 --region 1/5<=p<=3/5";
+
+const REPORT: &str =
+    "plift-bounded 1;kind dtmc;parameters 1 p;common 1;states 3;init 0;goal 1 1;row 0 0 2;to 1 1:1;to 2 0:1 1:-1;\
+    row 1 0 1;to 1 0:1;row 2 0 1;to 2 0:1;bound 1/2;steps 1;precision 4;depth 1;grid 10;box 2 6;split 0;accept;\
+    x 1 7 16 0;unknown;";
+
+#[test]
+fn steps_are_bounded(rt: HostRuntime) -> Result<(), Fail> {
+    for row in WITHIN.lines() {
+        assert!(rt; is_answered(rt.alloc(), row)?, "{row}");
+    }
+    Ok(())
+}
+
+// Whether that job, over a sink that holds so many bytes, ends so, and the sink takes as many from the front of the
+// text.
+fn is_cut_off(alloc: Global, room: usize, status: &str) -> Result<bool, Fail> {
+    let Some(text) = model_text(alloc, "COIN")? else {
+        return Ok(false);
+    };
+    let words = words_of(alloc, REGION, ' ')?;
+    let report = lines_of(alloc, REPORT)?;
+    let mut source = SureSource::new(text);
+    let mut out = MemSink::new(alloc, room, 1, Vec::new(alloc))?;
+    let mut notes = MemSink::new(alloc, 100, 100, Vec::new(alloc))?;
+    let got = run(alloc, &words, &mut source, &mut out, &mut notes);
+    Ok(status_name(got) == status && report.get(..room) == Some(out.taken()))
+}
+
+#[test]
+fn texts_for_steps_are_cut_off_anywhere(rt: HostRuntime) -> Result<(), Fail> {
+    let alloc = rt.alloc();
+    for room in 0..REPORT.len() {
+        assert!(rt; is_cut_off(alloc, room, "WriteFault")?, "{room}");
+    }
+    assert!(rt; is_cut_off(alloc, REPORT.len(), "Done")?);
+    Ok(())
+}

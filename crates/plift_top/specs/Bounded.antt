@@ -1,0 +1,88 @@
+-- What `bounded` writes of a case: the text of its right tree for a number of steps, and what the leaves of that tree say.
+use Rattle.std.specs.Prelude.{◌≡◌, ⊤, ℕ, List, [], ◌∷◌, ◌++◌, map, codes, All, Option, Some, None}
+use Rattle.std.specs.List.{concat}
+use Rattle.std.specs.declared.option.Option.{Option}
+use Rattle.std.specs.Io.KnownBytes.{Appends}
+use Rattle.lift_base.specs.Outside.{AppendsFront}
+use Rattle.lift_poly.specs.Polynomial.{Valuation}
+use Rattle.lift_grid.specs.Rectangle.{Spans, Inside}
+use Rattle.lift_grid.specs.Tree.{Tiles, lower_half, upper_half}
+use Rattle.corner_lift.specs.Case.{CaseData, IsCase}
+use Rattle.lift_walk.specs.Halved.{Halved}
+use Rattle.lift_cert.specs.declared.bound.Bound.{Bound}
+use Rattle.lift_rows.specs.Admitted.{HasWeightsFromZero, HasSumsOfTotal}
+use Rattle.cert_text.specs.Report.{line, number_words, numbers_words, bound_words, model_lines, box_line}
+use Rattle.lift_bounded.specs.Within.{IsBoundedWithin, IsReachedWithin}
+use Rattle.lift_bounded.specs.Decided.{BoundedLeaf, IsRightWithin}
+use Rattle.lift_bounded.specs.Text.{tree_text, IsTreeText}
+
+-- ---- the text
+
+-- the first line: the format, and its version
+abbrev pub bounded_line : List ℕ
+bounded_line = line (codes "plift-bounded" ∷ codes "1" ∷ [])
+
+-- what is asked: the bound, the number of steps, the precision, the depth and the grid's number
+unfoldable pub within_lines : CaseData → Bound → ℕ → List (List ℕ)
+within_lines k bound h =
+    line (bound_words bound)
+    ∷ line (number_words (codes "steps") h)
+    ∷ line (number_words (codes "precision") k.w)
+    ∷ line (number_words (codes "depth") k.depth)
+    ∷ line (numbers_words (codes "grid") (k.d ∷ []))
+    ∷ []
+
+-- the head: the version, the model, and what is asked of it
+abbrev pub bounded_head : CaseData → Bound → ℕ → List (List ℕ)
+bounded_head k bound h = bounded_line ∷ (model_lines k.model ++ (within_lines k bound h ++ box_line k.root ∷ []))
+
+-- the bytes of a text: those of its head, and of its tree's nodes in preorder
+abbrev pub bounded_text : CaseData → Bound → ℕ → Halved BoundedLeaf → List ℕ
+bounded_text k bound h tree = concat (bounded_head k bound h) ++ tree_text k h tree
+
+-- the bytes are the text of a case's right tree for a bound and a number of steps
+abbrev pub IsBoundedText : CaseData → Bound → ℕ → List ℕ → Type 0
+IsBoundedText k bound h bytes = (nodes : List ℕ) × IsTreeText k bound h k.root 0 nodes × (bytes ≡ concat (bounded_head k bound h) ++ nodes)
+
+-- ---- what its leaves say
+
+-- a leaf with its rectangle; an unknown one decides nothing
+pub record BoundedPart : Type 0 where
+  pub spans : Spans
+  pub leaf : Option BoundedLeaf
+
+-- the leaves of a tree over a rectangle, the lower half's first
+abbrev pub bounded_parts : Spans → Halved BoundedLeaf → List BoundedPart
+bounded_parts spans (Halved.split axis lower upper) = bounded_parts (lower_half axis spans) lower ++ bounded_parts (upper_half axis spans) upper
+bounded_parts spans (Halved.leaf l) = record { spans = spans; leaf = Some l } ∷ []
+bounded_parts spans Halved.unknown = record { spans = spans; leaf = None } ∷ []
+
+-- What a leaf says at a valuation: where it accepts, every scheduler, also one that tosses, reaches the goal within so many steps with probability at most the bound; where it rejects, those that make the printed choices, each at its number of steps left, reach it with more. An unknown one says nothing.
+abbrev pub SaysWithin : CaseData → Bound → ℕ → Valuation → Option BoundedLeaf → Type 0
+SaysWithin k bound h v (Some (BoundedLeaf.accept xs)) = IsBoundedWithin k.model v bound h
+SaysWithin k bound h v (Some (BoundedLeaf.reject r)) = IsReachedWithin k.model v bound h r.picks
+SaysWithin k bound h v None = ⊤
+
+-- what a leaf says holds everywhere inside its rectangle
+abbrev pub PartHolds : CaseData → Bound → ℕ → BoundedPart → Type 0
+PartHolds k bound h part = (v : Valuation) → Inside k.d part.spans v → SaysWithin k bound h v part.leaf
+
+-- ---- what is written
+
+-- The text of a case for a number of steps was appended, whole: that of its right tree. The tree's leaves tile the root, and what each says holds everywhere inside its rectangle. At each valuation inside the root each row of the case is a distribution.
+pub record IsReportedWithin (old new : Option (List ℕ)) (bound : Bound) (h : ℕ) (k : CaseData) : Type 0 where
+  pub tree : Halved BoundedLeaf
+  pub case : IsCase k
+  pub weights : HasWeightsFromZero k
+  pub sums : HasSumsOfTotal k
+  pub right : IsRightWithin k bound h k.root 0 tree
+  pub tiles : Tiles k.d k.root (map (λ part. part.spans) (bounded_parts k.root tree))
+  pub schedulers : All (PartHolds k bound h) (bounded_parts k.root tree)
+  pub text : Appends old new (bounded_text k bound h tree)
+
+-- A front of that text was appended: whichever tree is right, a front of its text.
+pub record IsCutOffWithin (old new : Option (List ℕ)) (bound : Bound) (h : ℕ) (k : CaseData) : Type 0 where
+  pub case : IsCase k
+  pub weights : HasWeightsFromZero k
+  pub sums : HasSumsOfTotal k
+  pub front : (tree : Halved BoundedLeaf) → IsRightWithin k bound h k.root 0 tree → AppendsFront old new (bounded_text k bound h tree)

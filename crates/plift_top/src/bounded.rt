@@ -1,0 +1,125 @@
+// The text of a case for a number of steps, which is written while its tree is walked over.
+ghost use Rattle.std.specs.Prelude.{◌≡◌, ℕ};
+ghost use Rattle.std.specs.List.{concat};
+ghost use Rattle.lift_base.specs.Outside.{Wrote, WroteSome};
+ghost use Rattle.lift_model.specs.Links.{AreLinks};
+ghost use Rattle.lift_bounded.specs.Rooms.{IsMadeFor};
+ghost use Rattle.plift_top.specs.Bounded.{within_lines, bounded_head, IsBoundedText};
+
+use cert_text::{write_box, write_model};
+use corner_lift::Case;
+use lift_base::{
+    Sink, Telling, Word, WriteFault, tell_buffered, write_all, write_words, writes_in_turn,
+};
+use lift_bounded::{BoundedRoom, write_tree};
+use lift_cert::Bound;
+use lift_model::Links;
+
+// Writes what is asked of a case.
+#[tactic(auto, unfolding(crate::specs::Bounded::within_lines))]
+fn write_within<K: Sink>(
+    out: &mut K,
+    case: &Case,
+    bound: Bound,
+    steps: u32,
+) -> Result<(), WriteFault>
+    ensures { Wrote K.taken K.faults out.old out.new result
+        (concat (within_lines case.now bound steps)) }
+{
+    let grid = case.grid();
+    write_words(
+        out,
+        &[
+            Word::Text(b"bound "),
+            Word::Count(u64::from(bound.num)),
+            Word::Text(b"/"),
+            Word::Count(u64::from(bound.den)),
+            Word::Text(b"\nsteps "),
+            Word::Count(u64::from(steps)),
+            Word::Text(b"\nprecision "),
+            Word::Count(u64::from(case.w())),
+            Word::Text(b"\ndepth "),
+            Word::Count(u64::from(grid.depth)),
+            Word::Text(b"\ngrid "),
+            Word::Number(i128::from(grid.d)),
+            Word::Text(b"\n"),
+        ],
+    )
+}
+
+// Writes the head: the version, the case's model, and what is asked of it.
+fn write_bounded_head<K: Sink>(
+    out: &mut K,
+    case: &Case,
+    bound: Bound,
+    steps: u32,
+) -> Result<(), WriteFault>
+    ensures { Wrote K.taken K.faults out.old out.new result
+        (concat (bounded_head case.now bound steps)) }
+{
+    writes_in_turn::<K>();
+    write_all(out, b"plift-bounded 1\n")?;
+    write_model(out, case.model())?;
+    write_within(out, case, bound, steps)?;
+    write_box(out, case.root())
+}
+
+// Writes the head, and then each node of the case's right tree for as many steps as the room was made for, as soon
+// as it is decided. Takes no memory.
+fn write_bounded<K: Sink>(
+    case: &Case,
+    links: &Links,
+    bound: Bound,
+    room: &mut BoundedRoom,
+    out: &mut K,
+) -> Result<(), WriteFault>
+    requires links { AreLinks case.now.model links.now }
+    requires made { IsMadeFor case.now links.now room.old }
+    ensures { WroteSome (IsBoundedText case.now bound room.old.steps)
+        K.taken K.faults out.old out.new result }
+{
+    write_bounded_head(out, case, bound, room.steps())?;
+    write_tree(case, links, bound, room, out)
+}
+
+// A case, with what a walk over its tree for a number of steps needs.
+#[derive(Drop)]
+struct BoundedReport<'c, 'm, 'l, 'r> {
+    case: &'c Case<'m>,
+    links: &'l Links,
+    bound: Bound,
+    room: &'r mut BoundedRoom,
+}
+
+impl<'c, 'm, 'l, 'r> Telling for BoundedReport<'c, 'm, 'l, 'r> {
+    ghost is_ready = { λ r. AreLinks r.case.now.model r.links.now
+        × IsMadeFor r.case.now r.links.now r.room.now };
+
+    ghost is_text = { λ r bytes. IsBoundedText r.case.now r.bound r.room.now.steps bytes };
+
+    fn tell_to<K: Sink>(&mut self, out: &mut K) -> Result<(), WriteFault> {
+        write_bounded(self.case, self.links, self.bound, self.room, out)
+    }
+}
+
+/// Writes the text of a case for as many steps as the room was made for, by way of a buffer. Takes no memory.
+pub(crate) fn write_bounded_buffered<K: Sink>(
+    case: &Case,
+    links: &Links,
+    bound: Bound,
+    room: &mut BoundedRoom,
+    out: &mut K,
+) -> Result<(), WriteFault>
+    requires links { AreLinks case.now.model links.now }
+    requires made { IsMadeFor case.now links.now room.old }
+    ensures { WroteSome (IsBoundedText case.now bound room.old.steps)
+        K.taken K.faults out.old out.new result }
+{
+    let mut report = BoundedReport {
+        case,
+        links,
+        bound,
+        room,
+    };
+    tell_buffered(out, &mut report)
+}
