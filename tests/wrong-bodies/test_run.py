@@ -54,8 +54,9 @@ class WrongBodies(unittest.TestCase):
             self.assertEqual(faults_of(edit, crate), [])
 
     def test_few_stand_in_the_gate(self):
-        counts = [len(list(it.glob("*.edit"))) for it in run.TOP.glob("crates/*/must-fail")]
-        self.assertLessEqual(sum(counts), 130)
+        folders = {it.parent for it in run.TOP.glob("crates/*/must-fail/*.edit")}
+        self.assertLessEqual(len(folders), 15)
+        self.assertLessEqual(max(len(list(it.glob("*.edit"))) for it in folders), 5)
 
 
 class Counting(unittest.TestCase):
