@@ -1,0 +1,5 @@
+use Rattle.std.proofs.Common.{◌<◌, All, length}
+use Rattle.lift_lump.proofs.partition.crowded.Given as goal
+
+abbrev pub invariant-loop-i : goal.invariant-loop-i
+invariant-loop-i l = All (λ b. b < length l.part.members) l.blocks.items
