@@ -58,6 +58,12 @@ verify|-h | usage: words
 verify|-goal|{GOAL}|--bound|{BOUND}|--region|{REGION} | usage: words
 verify|--goal|{GOAL}|--bound|{BOUND}|--region|{REGION}|--Depth|2 | usage: words
 verfy|--goal|{GOAL}|--bound|{BOUND}|--region|{REGION} | usage: words
+verify|--goal|{GOAL}|--bound|{BOUND}|--region|{REGION}|--steps|3 | usage: words
+bounded|--goal|{GOAL}|--bound|{BOUND}|--region|{REGION} | usage: words
+bounded|--goal|{GOAL}|--bound|{BOUND}|--region|{REGION}|--steps|100 | usage: --steps
+bounded|--goal|{GOAL}|--bound|{BOUND}|--region|{REGION}|--steps|three | usage: --steps
+bounded|--goal|{GOAL}|--bound|{BOUND}|--steps|3 | usage: --region Missing
+bounded|--goal|lots|--bound|{BOUND}|--region|{REGION}|--steps|3 | model: line 31: UnknownLabel
 check|examples/retry.report | usage: words
 check | not sound: line 1: Syntax
 """

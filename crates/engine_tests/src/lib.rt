@@ -1,16 +1,12 @@
-//! Tests of links, tables, and what iterates over them: least vectors, ranks and greatest lower vectors.
-//! Each is a table of one text.
+//! Tests of numbers, rectangles, models, corners and certificates, and of what iterates over links and tables. Each is a table
+//! of one text.
 #![tactic(auto)]
 
 #[cfg(test)]
+mod cells;
+#[cfg(test)]
+mod engine;
+#[cfg(test)]
 mod example;
 #[cfg(test)]
-mod greatest;
-#[cfg(test)]
-mod links;
-#[cfg(test)]
-mod ranks;
-#[cfg(test)]
-mod tables;
-#[cfg(test)]
-mod vectors;
+mod lift;

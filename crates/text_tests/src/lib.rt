@@ -1,10 +1,15 @@
-//! Tests of reading a report's head and its nodes. Each is a table of one text: a row in each line, and
-//! its cells between bars.
+//! Tests of texts: of models that are read or made, and of reports that are read and checked. Each is a table of one text.
 #![tactic(auto)]
 
 #[cfg(test)]
-mod heads;
+mod cells;
 #[cfg(test)]
-mod nodes;
+mod changes;
 #[cfg(test)]
-mod reports;
+mod check;
+#[cfg(test)]
+mod drn;
+#[cfg(test)]
+mod made;
+#[cfg(test)]
+mod text;

@@ -1,0 +1,8 @@
+//! Tests of links, tables, and what iterates over them: least vectors, ranks and greatest lower vectors.
+//! Each is a table of one text.
+
+mod greatest;
+mod links;
+mod ranks;
+mod tables;
+mod vectors;

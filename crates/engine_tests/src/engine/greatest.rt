@@ -1,0 +1,171 @@
+//! Tests of greatest lower vectors.
+
+ghost use Rattle.std.specs.Prelude.{◌≤◌};
+ghost use Rattle.corner_lift.specs.Case.{most_precision};
+
+use crate::cells::cut;
+use crate::engine::ranks::rows_of;
+use crate::example::{case_of, model_of, process_of, root_of, table_of};
+use corner_lift::Case;
+use lift_model::{Links, Model};
+use lower_cert::{Rate, greatest_reject, greatest_reject_above};
+use std::alloc::Global;
+use std::string::String;
+use std::test::Fail;
+
+/// The region of the tables.
+const REGION: &[u8] = b"2/5<=p<=3/5";
+
+/// The choices of state 0, and those of a state 3; and for p from 2/5 to 3/5 and at precision 4 the greatest
+/// lower vector, its picks, ranks, e and k, and the greatest limit that the initial state's number is above.
+///
+/// A coin that shows heads with 1/4; one with p; one that is thrown again with 1/2, where rounding down from
+/// below stalls at 7; one that is thrown again with p; a loop that is never left, which would hold any number;
+/// two states that lead to each other, the first of which may throw a coin with 1/16; a coin with 1/100,
+/// whose number is 0; one whose heads are impossible at p = 2/5; two coins, of which both add the state; and
+/// a coin that may be thrown later, in state 3.
+const GREATEST: &str = "\
+action a;1 : 1/4;2 : 3/4 | [4, 16, 0] | [0, 4294967295, 4294967295] | [1, 0, 4294967295] | e 2 k 1 | 3
+action a;1 : p;2 : 1-p | [6, 16, 0] | [0, 4294967295, 4294967295] | [1, 0, 4294967295] | e 2 k 1 | 5
+action a;0 : 1/2;1 : 1/4;2 : 1/4 | [8, 16, 0] | [0, 4294967295, 4294967295] | [1, 0, 4294967295] | e 2 k 1 | 7
+action a;0 : p;1 : 1/5;2 : 4/5-p | [5, 16, 0] | [0, 4294967295, 4294967295] | [1, 0, 4294967295] | e 3 k 1 | 4
+action a;0 : 1 | [0, 16, 0] | [4294967295, 4294967295, 4294967295] | [4294967295, 0, 4294967295] | e 0 k 1 | -1
+action a;3 : 1;action b;1 : 1/16;2 : 15/16 / action a;0 : 1 | [1, 16, 0, 1] | [1, 4294967295, 4294967295, 0] | [1, 0, 4294967295, 2] | e 4 k 2 | 0
+action a;1 : 1/100;2 : 99/100 | [0, 16, 0] | [0, 4294967295, 4294967295] | [1, 0, 4294967295] | e 7 k 1 | -1
+action a;1 : p-2/5;2 : 7/5-p | [0, 16, 0] | [4294967295, 4294967295, 4294967295] | [4294967295, 0, 4294967295] | e 0 k 1 | -1
+action a;1 : p;2 : 1-p;action b;1 : 1-p;2 : p | [6, 16, 0] | [0, 4294967295, 4294967295] | [1, 0, 4294967295] | e 2 k 1 | 5
+action a;3 : 1;action b;1 : 1/2;2 : 1/2 / action a;1 : 1/2;2 : 1/2 | [8, 16, 0, 8] | [1, 4294967295, 4294967295, 0] | [1, 0, 4294967295, 1] | e 1 k 1 | 7";
+
+/// Whether the call that stops at a limit finds the initial state's number above it, on the case's root.
+fn is_found_above(alloc: Global, case: &Case, limit: i64) -> Result<bool, Fail> {
+    let count = case.model().states() as usize;
+    let links = Links::build(alloc, case.model())?;
+    let weights = table_of(alloc, case, &links)?;
+    let mut lane = vec![in alloc; 8; count]?;
+    let mut allowed = vec![in alloc; 7; rows_of(case.model(), &links)]?;
+    let mut ranks = vec![in alloc; 7; count]?;
+    let mut picks = vec![in alloc; 7; count]?;
+    let mut work = vec![in alloc; 7; 2 * count]?;
+    let rate = greatest_reject_above(
+        case,
+        &links,
+        &weights,
+        limit,
+        &mut lane,
+        &mut allowed,
+        &mut ranks,
+        &mut picks,
+        &mut work,
+    );
+    Ok(rate.is_some())
+}
+
+/// The greatest of the limits from -1 to 16 that the initial state's number is found above.
+fn greatest_limit(alloc: Global, case: &Case) -> Result<i64, Fail> {
+    let mut greatest = -2;
+    for limit in -1..17 {
+        if is_found_above(alloc, case, limit)? {
+            greatest = limit;
+        }
+    }
+    Ok(greatest)
+}
+
+/// A vector with what belongs to it.
+fn shown(
+    alloc: Global,
+    y: &[i64],
+    picks: &[u32],
+    ranks: &[u32],
+    rate: Rate,
+) -> Result<String, Fail> {
+    let (e, k) = (rate.e, rate.k);
+    Ok(format!(in alloc; "{y:?} | {picks:?} | {ranks:?} | e {e} k {k}")?)
+}
+
+/// The greatest lower vector of the case on its root, with what belongs to it.
+fn greatest_of(alloc: Global, case: &Case) -> Result<String, Fail> {
+    let count = case.model().states() as usize;
+    let links = Links::build(alloc, case.model())?;
+    let weights = table_of(alloc, case, &links)?;
+    let mut lane = vec![in alloc; 8; count]?;
+    let mut allowed = vec![in alloc; 7; rows_of(case.model(), &links)]?;
+    let mut ranks = vec![in alloc; 7; count]?;
+    let mut picks = vec![in alloc; 7; count]?;
+    let mut work = vec![in alloc; 7; 2 * count]?;
+    let rate = greatest_reject(
+        case,
+        &links,
+        &weights,
+        &mut lane,
+        &mut allowed,
+        &mut ranks,
+        &mut picks,
+        &mut work,
+    );
+    shown(alloc, &lane, &picks, &ranks, rate)
+}
+
+/// Whether the model has this greatest lower vector at that precision.
+fn has_vector(alloc: Global, model: &Model, w: u32, vector: &str) -> Result<bool, Fail>
+    requires low { 1 ≤ w }
+    requires high { w ≤ most_precision }
+{
+    let (grid, root) = root_of(alloc, REGION, model.names(), 0)?;
+    let case = case_of(model, &root, grid, w)?;
+    Ok(greatest_of(alloc, &case)?.as_str() == vector)
+}
+
+/// Whether the model has this greatest limit at precision 4.
+fn has_limit(alloc: Global, model: &Model, limit: i64) -> Result<bool, Fail> {
+    let (grid, root) = root_of(alloc, REGION, model.names(), 0)?;
+    let case = case_of(model, &root, grid, 4)?;
+    Ok(greatest_limit(alloc, &case)? == limit)
+}
+
+/// Whether a row tells the greatest lower vector and the greatest limit.
+fn tells_greatest(alloc: Global, row: &str) -> Result<bool, Fail> {
+    let (choices, want) = cut(row);
+    let (vector, limit) = want.rsplit_once(" | ").unwrap_or(("", ""));
+    let text = process_of(alloc, "p", choices)?;
+    let model = model_of(alloc, &text)?;
+    Ok(has_vector(alloc, &model, 4, vector)? && has_limit(alloc, &model, limit.parse()?)?)
+}
+
+#[test]
+fn finds_the_greatest_lower_vectors(rt: HostRuntime) -> Result<(), Fail> {
+    for row in GREATEST.split('\n') {
+        assert!(rt; tells_greatest(rt.alloc(), row)?, "{row}");
+    }
+    Ok(())
+}
+
+/// The choices of state 0 and of a state 3, which lead to each other, and the greatest lower vector at
+/// precision 20 with what belongs to it.
+///
+/// They leave the cycle with 1/64: lowered from 1 it takes several hundred rounds, and so does raising the
+/// vector that it is begun from. State 0 has at most state 3's number less a 64th of it, and state 3 at most
+/// state 0's number less a 64th of it and 16384 more: so a 63rd and a 64th of state 0's number, rounded up,
+/// come to at most 16384.
+///
+/// They leave it with 10^-17, in equal parts to the goal and to where it is lost: a number above half of 2^20 is
+/// never held, as what leaves takes a little, and half of it is. Lowered from 1 it takes half a million rounds.
+const SLOW: &str = "\
+action a;3 : 63/64;2 : 1/64 / action a;0 : 63/64;1 : 1/64 | [520128, 1048576, 0, 528385] | [0, 4294967295, 4294967295, 0] | [2, 0, 4294967295, 1] | e 6 k 2
+action a;3 : 1-1e-17;1 : 1e-17/2;2 : 1e-17/2 / action a;0 : 1-1e-17;1 : 1e-17/2;2 : 1e-17/2 | [524288, 1048576, 0, 524288] | [0, 4294967295, 4294967295, 0] | [1, 0, 4294967295, 1] | e 58 k 1";
+
+/// Whether a row tells the greatest lower vector at precision 20.
+fn tells_vector(alloc: Global, row: &str) -> Result<bool, Fail> {
+    let (choices, vector) = cut(row);
+    let text = process_of(alloc, "p", choices)?;
+    let model = model_of(alloc, &text)?;
+    has_vector(alloc, &model, 20, vector)
+}
+
+#[test]
+fn finds_the_greatest_lower_vectors_of_slow_cycles(rt: HostRuntime) -> Result<(), Fail> {
+    for row in SLOW.split('\n') {
+        assert!(rt; tells_vector(rt.alloc(), row)?, "{row}");
+    }
+    Ok(())
+}

@@ -1,0 +1,327 @@
+//! Tests of tables of corner weights.
+
+ghost use Rattle.std.specs.Prelude.{◌≡◌, length};
+ghost use Rattle.lift_grid.specs.Rectangle.{spans_of, sides_of};
+ghost use Rattle.lift_model.specs.OnlyRow.{IsPairRow};
+ghost use Rattle.lift_model.specs.Model.{choices};
+ghost use Rattle.corner_lift.specs.Case.{corner_count};
+ghost use Rattle.corner_lift.specs.Certificate.{AreNumbers};
+ghost use Rattle.corner_lift.specs.Table.{CanRead};
+
+use crate::cells::{cut_three, cut_two};
+use crate::example::{case_of, chain_of, listed, model_of, root_of, table_of};
+use corner_lift::{
+    Case, LaneSum, PairTable, has_short_sums, is_capped, is_held, least_into, rows_at_corners,
+    table_corner, table_greatest, table_into, table_least, table_others, table_value,
+};
+use lift_model::{Links, Model, OnlyRow, PairRow};
+use std::alloc::Global;
+use std::process::Abort;
+use std::string::String;
+use std::test::Fail;
+
+/// A row of state 0 with both parameters, and a region; how many weights the table has; and of that row
+/// the whole, what the numbers 0, 16 and 0 sum to at the first and at the last corner, the least and the
+/// greatest over the corners, at the last corner the weights into the goal state and into state 0
+/// itself, and the least weight into the goal state over the corners. Whether the mean is at most 9 and at most 10, and
+/// whether it is at least 6 and at least 7. The sums of the fourth row and of the seventh and the eighth need more than 64
+/// bits. Then what is quickly looked up, if it is: the least and the greatest sum over the corners, and the least weight
+/// into the goal state; and of the only row of state 0, as far as it is short and leads elsewhere, the same. Last, what it
+/// weighs into other states at the last corner, where 64 bits hold its sums: state 0's own number, 5 there, doesn't count.
+const READ: &str = "\
+0 : p*q;1 : p-p*q;2 : 1-p | 1/5<=p<=2/5,3/5<=q<=4/5 | [13, 25, 32, 32, 16, 64, 2, 8, 1] | [true, true, false, false] | -, -, -; other | 32 of 17
+0 : p;1 : q-p;2 : 1-q | 1/5<=p<=2/5,3/5<=q<=4/5 | [13, 25, 160, 160, 80, 240, 10, 10, 5] | [false, true, false, false] | -, -, -; other | 160 of 15
+1 : 1/2*p+1/2*q;2 : 1-1/2*p-1/2*q | 1/5<=p<=2/5,3/5<=q<=4/5 | [9, 50, 320, 480, 320, 480, 30, 0, 20] | [false, true, true, false] | 320 of 50 by 1, 480 of 50 by 1, 20 of 50 by 1; pair 1 2: 320 of 50 by 1, 480 of 50 by 1, 20 of 50 by 1 | 480 of 50
+0 : p*q;1 : p-p*q;2 : 1-p | 1/576460752303423488<=p<=2/576460752303423488,1/576460752303423488<=q<=2/576460752303423488 | [13, 332306998946228968225951765070086144, 9223372036854775792, 18446744073709551552, 9223372036854775776, 18446744073709551584, 1152921504606846972, 4, 576460752303423486] | [true, true, false, false] | -, -, -; other | -
+1 : 1/2*p+1/2*q;2 : 1-1/2*p-1/2*q | 1/536870912<=p<=3/536870912,1/536870912<=q<=3/536870912 | [9, 576460752303423488, 17179869184, 51539607552, 17179869184, 51539607552, 3221225472, 0, 1073741824] | [true, true, false, false] | 16 of 536870912 by 1073741824, 48 of 536870912 by 1073741824, 1 of 536870912 by 1073741824; pair 1 2: 16 of 536870912 by 1073741824, 48 of 536870912 by 1073741824, 1 of 536870912 by 1073741824 | -
+0 : 1/2*p+1/2*q;1 : 1-1/2*p-1/2*q | 1/5<=p<=2/5,3/5<=q<=4/5 | [9, 50, 480, 320, 320, 480, 20, 30, 20] | [false, true, true, false] | 320 of 50 by 1, 480 of 50 by 1, 20 of 50 by 1; other | 320 of 20
+1 : p*q;2 : 1-p*q | 1/576460752303423488<=p<=2/576460752303423488,1/576460752303423488<=q<=2/576460752303423488 | [9, 332306998946228968225951765070086144, 16, 64, 16, 64, 4, 0, 1] | [true, true, false, false] | -, -, -; pair 1 2: -, -, - | -
+0 : p*q;1 : 1-p*q | 1/576460752303423488<=p<=2/576460752303423488,1/576460752303423488<=q<=2/576460752303423488 | [9, 332306998946228968225951765070086144, 5316911983139663491615228241121378288, 5316911983139663491615228241121378240, 5316911983139663491615228241121378240, 5316911983139663491615228241121378288, 332306998946228968225951765070086140, 4, 332306998946228968225951765070086140] | [false, false, true, true] | -, -, -; other | -";
+
+/// What a row of the table tells.
+#[derive(Clone, Copy)]
+struct Told<'a> {
+    row: &'a str,
+    region: &'a str,
+    numbers: &'a str,
+    bounds: &'a str,
+    looked: &'a str,
+    leaving: &'a str,
+}
+
+/// The cells of a row.
+fn told_of(line: &str) -> Told<'_> {
+    let (row, region, numbers, rest) = cut_three(line);
+    let (bounds, looked, leaving) = cut_two(rest);
+    Told {
+        row,
+        region,
+        numbers,
+        bounds,
+        looked,
+        leaving,
+    }
+}
+
+/// What the row of state 0 sums to at its first and at its last corner, and there its weight into state 0.
+fn at_corners(case: &Case, links: &Links, weights: &[i128], vec: &[i64]) -> (i128, i128, i128)
+    requires read { CanRead case.now links.now (spans_of (sides_of case.now.root)) weights.now 0 0 }
+    requires numbers { AreNumbers case.now vec.now }
+    requires corners { corner_count case.now 0 0 ≡ 4 }
+{
+    let first = table_value(case, links, weights, 0, 0, 0, vec);
+    let last = table_corner(case, links, weights, 0, 0, 3, vec);
+    (first, last.sum, last.own)
+}
+
+/// The whole of the row of state 0, and its least and its greatest sum over the corners.
+fn over_corners(case: &Case, links: &Links, weights: &[i128], vec: &[i64]) -> (i128, i128, i128)
+    requires read { CanRead case.now links.now (spans_of (sides_of case.now.root)) weights.now 0 0 }
+    requires numbers { AreNumbers case.now vec.now }
+{
+    let least = table_least(case, links, weights, 0, 0, vec).sum;
+    let greatest = table_greatest(case, links, weights, 0, 0, vec);
+    (greatest.whole, least, greatest.sum)
+}
+
+/// The weight of the row of state 0 into the goal state, at its last corner and the least over the corners.
+fn into_goal(case: &Case, links: &Links, weights: &[i128]) -> (i128, i128)
+    requires read { CanRead case.now links.now (spans_of (sides_of case.now.root)) weights.now 0 0 }
+    requires states { length case.now.model.states ≡ 3 }
+    requires corners { corner_count case.now 0 0 ≡ 4 }
+{
+    let last = table_into(case, links, weights, 0, 0, 3, &[1, 0, u32::MAX], 1);
+    let least = least_into(case, links, weights, 0, 0, &[1, 0, u32::MAX], 1).sum;
+    (last, least)
+}
+
+/// The numbers that the table tells of the row of state 0.
+fn numbers_of(
+    alloc: Global,
+    case: &Case,
+    links: &Links,
+    weights: &[i128],
+    vec: &[i64],
+) -> Result<String, Fail>
+    requires read { CanRead case.now links.now (spans_of (sides_of case.now.root)) weights.now 0 0 }
+    requires numbers { AreNumbers case.now vec.now }
+    requires states { length case.now.model.states ≡ 3 }
+    requires corners { corner_count case.now 0 0 ≡ 4 }
+{
+    let (first, last, own) = at_corners(case, links, weights, vec);
+    let (whole, least, greatest) = over_corners(case, links, weights, vec);
+    let (goal, into) = into_goal(case, links, weights);
+    let size = weights.len() as i128;
+    let numbers = [size, whole, first, last, least, greatest, goal, own, into];
+    Ok(listed(alloc, &numbers)?)
+}
+
+/// Whether the mean of the row of state 0 is at most 9, at most 10, at least 6 and at least 7.
+fn bounds_of(case: &Case, links: &Links, weights: &[i128], vec: &[i64]) -> [bool; 4]
+    requires read { CanRead case.now links.now (spans_of (sides_of case.now.root)) weights.now 0 0 }
+    requires numbers { AreNumbers case.now vec.now }
+    requires precision { case.now.w ≡ 4 }
+{
+    [
+        is_capped(case, links, weights, 0, 0, vec, 9),
+        is_capped(case, links, weights, 0, 0, vec, 10),
+        is_held(case, links, weights, 0, 0, vec, 6),
+        is_held(case, links, weights, 0, 0, vec, 7),
+    ]
+}
+
+/// A sum of a row with its whole, and what both were divided by.
+fn shown(alloc: Global, row: Option<LaneSum>) -> Result<String, Fail> {
+    match row {
+        Some(row) => Ok(format!(in alloc; "{} of {} by {}", row.sum, row.whole, row.scale)?),
+        None => Ok(format!(in alloc; "-")?),
+    }
+}
+
+/// The least and the greatest sum of a row, and its least weight into the goal state, as they are shown.
+fn all_shown(
+    alloc: Global,
+    least: Option<LaneSum>,
+    greatest: Option<LaneSum>,
+    into: Option<LaneSum>,
+) -> Result<String, Fail> {
+    let least = shown(alloc, least)?;
+    let greatest = shown(alloc, greatest)?;
+    let into = shown(alloc, into)?;
+    Ok(format!(in alloc; "{least}, {greatest}, {into}")?)
+}
+
+/// What is looked up of the row of state 0.
+fn row_told(
+    alloc: Global,
+    case: &Case,
+    links: &Links,
+    weights: &[i128],
+    vec: &[i64],
+) -> Result<String, Fail>
+    requires read { CanRead case.now links.now (spans_of (sides_of case.now.root)) weights.now 0 0 }
+    requires numbers { AreNumbers case.now vec.now }
+    requires states { length case.now.model.states ≡ 3 }
+{
+    let table = PairTable::of(case, links, weights);
+    let least = table.least(case, links, 0, 0, vec);
+    let greatest = table.greatest(case, links, 0, 0, vec);
+    let into = table.least_into(case, links, 0, 0, &[1, 0, u32::MAX], 1);
+    all_shown(alloc, least, greatest, into)
+}
+
+/// What is looked up of the only row of state 0, which has two entries.
+fn pair_told(
+    alloc: Global,
+    case: &Case,
+    links: &Links,
+    weights: &[i128],
+    row: PairRow,
+    vec: &[i64],
+) -> Result<String, Fail>
+    requires read { CanRead case.now links.now (spans_of (sides_of case.now.root)) weights.now 0 0 }
+    requires numbers { AreNumbers case.now vec.now }
+    requires states { length case.now.model.states ≡ 3 }
+    requires row { IsPairRow case.now.model links.now 0 row }
+{
+    let table = PairTable::of(case, links, weights);
+    let least = table.least_of(case, links, 0, row, vec);
+    let greatest = table.greatest_of(case, links, 0, row, vec);
+    let into = table.least_into_of(case, links, 0, row, &[1, 0, u32::MAX], 1);
+    let (first, second) = (row.first, row.second);
+    let sums = all_shown(alloc, least, greatest, into)?;
+    Ok(format!(in alloc; "pair {first} {second}: {sums}")?)
+}
+
+/// What is looked up of the only row of state 0, as far as it is short and leads elsewhere.
+fn only_told(
+    alloc: Global,
+    case: &Case,
+    links: &Links,
+    weights: &[i128],
+    vec: &[i64],
+) -> Result<String, Fail>
+    requires read { CanRead case.now links.now (spans_of (sides_of case.now.root)) weights.now 0 0 }
+    requires numbers { AreNumbers case.now vec.now }
+    requires states { length case.now.model.states ≡ 3 }
+{
+    match links.only_row(0) {
+        OnlyRow::Single(target) => Ok(format!(in alloc; "single {target}")?),
+        OnlyRow::Pair(row) => pair_told(alloc, case, links, weights, row, vec),
+        OnlyRow::Other => Ok(format!(in alloc; "other")?),
+    }
+}
+
+/// What the row of state 0 weighs into other states at its last corner, if 64 bits hold its sums.
+fn leaving(
+    alloc: Global,
+    case: &Case,
+    links: &Links,
+    weights: &[i128],
+    vec: &[i64],
+) -> Result<String, Fail>
+    requires read { CanRead case.now links.now (spans_of (sides_of case.now.root)) weights.now 0 0 }
+    requires numbers { AreNumbers case.now vec.now }
+    requires corners { corner_count case.now 0 0 ≡ 4 }
+{
+    if !has_short_sums(case, links, weights, 0, 0) {
+        return Ok(format!(in alloc; "-")?);
+    }
+    let others = table_others(case, links, weights, 0, 0, 3, vec);
+    Ok(format!(in alloc; "{} of {}", others.sum, others.whole)?)
+}
+
+/// Whether the table tells these numbers and bounds.
+fn has_numbers(
+    alloc: Global,
+    case: &Case,
+    links: &Links,
+    weights: &[i128],
+    vec: &[i64],
+    want: Told<'_>,
+) -> Result<bool, Fail>
+    requires read { CanRead case.now links.now (spans_of (sides_of case.now.root)) weights.now 0 0 }
+    requires numbers { AreNumbers case.now vec.now }
+    requires states { length case.now.model.states ≡ 3 }
+    requires corners { corner_count case.now 0 0 ≡ 4 }
+    requires precision { case.now.w ≡ 4 }
+{
+    let bounds = bounds_of(case, links, weights, vec);
+    let bounds = format!(in alloc; "{bounds:?}")?;
+    let numbers = numbers_of(alloc, case, links, weights, vec)?;
+    Ok(bounds.as_str() == want.bounds && numbers.as_str() == want.numbers)
+}
+
+/// Whether these are quickly looked up.
+fn has_looked_up(
+    alloc: Global,
+    case: &Case,
+    links: &Links,
+    weights: &[i128],
+    vec: &[i64],
+    want: Told<'_>,
+) -> Result<bool, Fail>
+    requires read { CanRead case.now links.now (spans_of (sides_of case.now.root)) weights.now 0 0 }
+    requires numbers { AreNumbers case.now vec.now }
+    requires states { length case.now.model.states ≡ 3 }
+{
+    let row = row_told(alloc, case, links, weights, vec)?;
+    let only = only_told(alloc, case, links, weights, vec)?;
+    Ok(want.looked.split_once("; ") == Some((row.as_str(), only.as_str())))
+}
+
+/// Makes the table of the case's root, and compares what it tells.
+fn tells_table(
+    alloc: Global,
+    case: &Case,
+    vec: &[i64],
+    other: &[i64],
+    want: Told<'_>,
+) -> Result<bool, Fail>
+    requires numbers { AreNumbers case.now vec.now }
+    requires others { AreNumbers case.now other.now }
+    requires states { length case.now.model.states ≡ 3 }
+    requires choice { length (choices case.now.model 0) ≡ 1 }
+    requires corners { corner_count case.now 0 0 ≡ 4 }
+    requires precision { case.now.w ≡ 4 }
+{
+    let links = Links::build(alloc, case.model())?;
+    let weights = table_of(alloc, case, &links)?;
+    let has_numbers = has_numbers(alloc, case, &links, &weights, vec, want)?;
+    let has_looked_up = has_looked_up(alloc, case, &links, &weights, vec, want)?;
+    let leaving = leaving(alloc, case, &links, &weights, other)?;
+    Ok(has_numbers && has_looked_up && leaving.as_str() == want.leaving)
+}
+
+/// The same for a model.
+fn tells_model(
+    rt: &impl Abort,
+    alloc: Global,
+    model: &Model,
+    want: Told<'_>,
+) -> Result<bool, Fail> {
+    let (grid, root) = root_of(alloc, want.region.as_bytes(), model.names(), 0)?;
+    let case = case_of(model, &root, grid, 4)?;
+    rows_at_corners();
+    assert!(rt; case.w() == 4);
+    assert!(rt; case.model().states() == 3);
+    assert!(rt; case.model().choices(0) == 1);
+    assert!(rt; case.model().row(0, 0).support().count_ones() == 2);
+    tells_table(alloc, &case, &[0, 16, 0], &[5, 16, 0], want)
+}
+
+/// Whether a row tells what its table does.
+fn tells_row(rt: &impl Abort, alloc: Global, line: &str) -> Result<bool, Fail> {
+    let want = told_of(line);
+    let text = chain_of(alloc, want.row)?;
+    let model = model_of(alloc, &text)?;
+    tells_model(rt, alloc, &model, want)
+}
+
+#[test]
+fn reads_a_row_from_its_table(rt: HostRuntime) -> Result<(), Fail> {
+    for line in READ.split('\n') {
+        assert!(rt; tells_row(&rt, rt.alloc(), line)?, "{line}");
+    }
+    Ok(())
+}
