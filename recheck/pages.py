@@ -5,7 +5,8 @@ Every command of README.md and of the pages in PAGES runs in a folder with a cop
 has to print what stands below it: a block marked `text` right behind it, in which a line `..` stands for any lines;
 nothing where there is no such block. A command marked `sh not-run` isn't run. A picture that a page makes has to be
 the one in docs/pictures, and each of these has to be made by a page; the reports that docs/FORMATS.md tells of have
-to come out; each page that is named has to be there.
+to come out, and the one of version 2 that it shows has to be sound; each page that is named has to be there, and
+recheck.py has to have as many lines as pages say.
 
 The lines that docs/STORM.md speaks of are put into small models and have to be read, or refused with the note that
 it tells, and its commands have to mend what they are for.
@@ -184,6 +185,23 @@ def examples(folder: Path) -> Iterator[Tried]:
     yield Tried('docs/FORMATS.md: examples', '' if told else 'none is told of')
 
 
+def second_version(folder: Path) -> Iterator[Tried]:
+    """The report of version 2 that docs/FORMATS.md shows from its precision on: whether it is sound."""
+    shown = re.search(r'^```text\n(precision \d+\nfrom .*?)^```', page_text('docs/FORMATS.md'), re.S | re.M)
+    head = (TOP / 'examples/coin.report').read_text().partition('precision ')[0].replace('plift 1', 'plift 2')
+    (folder / 'second.report').write_text(head + shown[1] if shown else '')
+    said = bash('./plift check < second.report', folder)
+    yield Tried('docs/FORMATS.md: a report of version 2', '' if said.startswith('sound ') else said)
+
+
+def lengths() -> Iterator[Tried]:
+    """What pages say of the length of recheck.py."""
+    count = len((TOP / 'recheck/recheck.py').read_text().splitlines())
+    for page in ('README.md', 'docs/CHECKING.md', 'docs/GUIDE.md', 'docs/TUTORIAL.md'):
+        told = set(re.findall(r'(\d+) lines (?:of Python|that shares nothing)', page_text(page)))
+        yield Tried(f'lines of recheck.py in {page}', '' if told == {str(count)} else f'it has {count}')
+
+
 def references() -> Iterator[Tried]:
     """The files that pages name: whether they are there."""
     for page in [TOP / 'README.md', *sorted((TOP / 'docs').glob('*.md'))]:
@@ -237,6 +255,8 @@ def tried(place: Path, programs: dict[str, Path]) -> Iterator[Tried]:
         yield from commands(page, folder)
     yield from pictures(folders)
     yield from examples(folders[0])
+    yield from second_version(folders[0])
+    yield from lengths()
     yield from references()
     storm = prepared(place / 'STORM', programs)
     yield from storm_lines(storm)

@@ -1,4 +1,4 @@
-"""Checks a report of plift by itself:  python3 recheck.py < report
+"""Checks a report of plift by itself, of `verify` or of `bounded`:  python3 recheck.py < report
 
 Writes `sound accept A reject B unknown C`, or tells the first fault on standard error and ends with 1. It is written
 from docs/FORMATS.md and shares nothing with plift's code; docs/CHECKING.md tells why its tests show what they show.
@@ -70,8 +70,9 @@ class Shape:
 class Report:
     def __init__(self, text):
         """Reads the head."""
-        self.text = text
-        need(numbers(text.take(b'plift'), 1) == [1], 'Version')
+        self.text, is_bounded = text, text.due()[0] == b'plift-bounded'
+        version = numbers(text.take(b'plift-bounded' if is_bounded else b'plift'), 1)
+        need(version == [1] or version == [2] and not is_bounded, 'Version')
         kind = text.take(b'kind')
         need(kind in ([b'dtmc'], [b'mdp']))
         names = text.counted(b'parameters')
@@ -94,7 +95,10 @@ class Report:
         need(0 <= n < 2 ** 32 and d > 0, 'Limit')
         need(gcd(n, d) == 1)
         need(n <= d < 2 ** 32, 'Limit')
-        self.one, self.depth = 2 ** text.single(b'precision', 1, 40), text.single(b'depth', 0, 20)  # one: probability 1
+        self.steps = range(1, text.single(b'steps', 1, 64) + 1) if is_bounded else None  # None: any number
+        self.most = text.single(b'precision', 1, 40)
+        self.least = text.single(b'from', 1, self.most) if version == [2] else None  # of the leaves' precisions
+        self.one, self.depth = 2 ** self.most, text.single(b'depth', 0, 20)  # one: probability 1
         self.grid, ends = text.single(b'grid', 1, 2 ** 62 - 1), numbers(text.take(b'box'), 2 * self.parameters)
         for i, end in enumerate(ends):
             need(end % 2 ** self.depth == 0 and (i % 2 == 1 or end < ends[i + 1]))
@@ -154,18 +158,24 @@ class Report:
         return {shape: list(shape.corners(box, self.grid)) for shape in self.shapes.values()}
 
     def test_accept(self, box, place):
-        """No state's number is below the mean of its targets' numbers, for any choice, at any corner."""
         x, corners, self.text.place = self.read_values(b'accept'), self.corners_in(box), place
+        self.test_upper(x, x, corners)
+        self.test_bound(x, True)
+
+    def test_upper(self, x, z, corners):
+        """No state's number in z is below the mean of its targets' numbers in x, for any choice, at any corner."""
         for s, rows in enumerate(self.states):
-            need(s not in self.goals or x[s] == self.one, f'goal state {s} value {x[s]}')
+            need(s not in self.goals or z[s] == self.one, f'goal state {s} value {z[s]}')
             for a, (targets, shape) in enumerate([] if s in self.goals else rows):
                 values, whole = [x[target] for target in targets], self.common * self.grid ** len(shape.parameters)
                 for corner, weights in enumerate(corners[shape]):
                     mean = sum(map(mul, weights, values))
-                    if mean > x[s] * whole:
-                        raise Fault(f'state {s} choice {a} corner {corner}: {mean} > {x[s] * whole}')
+                    if mean > z[s] * whole:
+                        raise Fault(f'state {s} choice {a} corner {corner}: {mean} > {z[s] * whole}')
+
+    def test_bound(self, x, accepts):
         left, right = x[self.init] * self.bound[1], self.bound[0] * self.one
-        need(left <= right, f'bound: {left} > {right}')
+        need((left <= right) == accepts, f'bound: {left} {"> " if accepts else "<= "}{right}')
 
     def test_reject(self, box, place):
         """No number is above the mean for the printed choice, and enough weight leads to lower ranks."""
@@ -183,16 +193,68 @@ class Report:
                         raise Fault(f'state {s} choice {pick} corner {corner}: {y[s] * whole} > {mean}')
                     if down * 2 ** e < whole:
                         raise Fault(f'state {s} choice {pick} corner {corner}: weight {down} times 2^{e} < {whole}')
-        left, right = y[self.init] * self.bound[1], self.bound[0] * self.one
-        need(left > right, f'bound: {left} <= {right}')
+        self.test_bound(y, False)
 
-    def read_values(self, key):
-        values = numbers(self.text.take(key), self.size)
+    # of `bounded`: a vector for each number of steps, from that of no step on, which is 1 on goal states and 0 elsewhere
+
+    def test_accept_within(self, box, place):
+        need(self.text.take(b'accept') == [])
+        upper, corners = [self.start(), *(self.read_values(b'x', n) for n in self.steps)], self.corners_in(box)
+        for n in self.steps:
+            self.text.place = f'{place}step {n} '
+            self.test_upper(upper[n - 1], upper[n], corners)
+        self.text.place = place
+        self.test_bound(upper[-1], True)
+
+    def test_reject_within(self, box, place):
+        (lower, picks), corners = self.read_reject_within(), self.corners_in(box)
+        for n in self.steps:
+            self.text.place = f'{place}step {n} '
+            self.test_lower(lower[n - 1], lower[n], picks[n], corners)
+        self.text.place = place
+        self.test_bound(lower[-1], False)
+
+    def test_lower(self, y, z, picks, corners):
+        """No state's number in z is above the mean of its targets' numbers in y, for the printed choice."""
+        for s, pick in enumerate(picks):
+            need(pick < NONE or z[s] == self.one, f'goal state {s} value {z[s]}')
+            if pick < NONE:
+                targets, shape = self.states[s][pick]
+                values, whole = [y[target] for target in targets], self.common * self.grid ** len(shape.parameters)
+                for corner, weights in enumerate(corners[shape]):
+                    mean = sum(map(mul, weights, values))
+                    if z[s] * whole > mean:
+                        raise Fault(f'state {s} choice {pick} corner {corner}: {z[s] * whole} > {mean}')
+
+    def start(self):
+        return [self.one if s in self.goals else 0 for s in range(self.size)]
+
+    def read_reject_within(self):
+        line, words = self.text.line, self.text.take(b'reject')
+        need(len(words) == 2 and words[0] == b'b')
+        (b, z), lower, picks = pair(words[1], b'/'), [self.start()], [None]
+        for n in self.steps:
+            lower.append(self.read_values(b'y', n))
+            picks.append(self.read_marks(b'choice', [len(rows) for rows in self.states], n))
+        self.text.place = f'line {line}: '
+        need(b == lower[-1][self.init] and z == self.one)
+        for marks in picks[1:]:
+            need(all((mark == NONE) == (s in self.goals) for s, mark in enumerate(marks)))
+        return lower, picks
+
+    def words_of(self, key, step):
+        """The words of a line of states, behind its number of steps where it has one."""
+        words = self.text.take(key)
+        need(step is None or words[:1] == [b'%d' % step])
+        return words if step is None else words[1:]
+
+    def read_values(self, key, step=None):
+        values = numbers(self.words_of(key, step), self.size)
         need(min(values) >= 0 and max(values) <= self.one, 'Limit')
         return values
 
-    def read_marks(self, key, ends):
-        words = self.text.take(key)
+    def read_marks(self, key, ends, step=None):
+        words = self.words_of(key, step)
         marks = numbers([word if word != b'-' else b'%d' % NONE for word in words], self.size)
         need(all(0 <= mark < end or word == b'-' for mark, end, word in zip(marks, ends, words)), 'Limit')
         return marks
@@ -216,11 +278,14 @@ def check(text):
     due = [(report.box, report.depth if report.live else 0)]  # rectangles whose nodes follow, the next one last
     while due:
         (box, levels), word, place = due.pop(), text.due()[0], f'node {len(nodes)} '
+        if report.least and word in (b'at', b'accept', b'reject'):
+            report.one, word = 2 ** text.single(b'at', report.least, report.most), text.due()[0]
+            need(word in (b'accept', b'reject'))
         nodes.append(word)
         if word == b'accept':
-            report.test_accept(box, place)
+            (report.test_accept_within if report.steps else report.test_accept)(box, place)
         elif word == b'reject':
-            report.test_reject(box, place)
+            (report.test_reject_within if report.steps else report.test_reject)(box, place)
         elif word == b'split':
             axis, text.place = text.single(word, 0, report.parameters - 1), place
             need(levels > 0, 'depth')

@@ -34,7 +34,46 @@ BACK = b'''plift 1;kind dtmc;parameters 1 p;common 1;states 2;init 0;goal 1 1;ro
 to 1 0:1;bound 1/4;precision 4;depth 0;grid 2;box 0 1;reject e 1 k 1 m 1 b 16/16;y 16 16;choice 0 -;rank 1 0;''' \
     .replace(b'\n', b'').replace(b';', b'\n')
 
-REPORTS = {'LOW': LOW, 'BACK': BACK, **EXAMPLES}
+# Texts for two steps: a coin that is tossed again in half of the cases, and shows heads with p.
+AGAIN = '''plift-bounded 1;kind dtmc;parameters 1 p;common 2;states 3;init 0;goal 1 1;row 0 0 3;to 0 0:1;to 1 1:1;
+to 2 0:1 1:-1;row 1 0 1;to 1 0:2;row 2 0 1;to 2 0:2;bound %s;steps 2;precision 4;depth 0;grid 5;box 1 2;%s'''
+STEPS = {
+    'WITHIN': (AGAIN % ('3/8', 'accept;x 1 4 16 0;x 2 6 16 0;')).replace('\n', '').replace(';', '\n').encode(),
+    'ABOVE': (AGAIN % ('1/10', 'reject b 2/16;y 1 1 16 0;choice 1 0 - 0;y 2 2 16 0;choice 2 0 - 0;')) \
+        .replace('\n', '').replace(';', '\n').encode(),
+}
+
+# The coin again, in the second version: over halves of a region from 1/10 to 9/10, each leaf at its own precision.
+RANGE = b'''plift 2;kind dtmc;parameters 1 p;common 1;states 3;init 0;goal 1 1;row 0 0 2;to 1 1:1;to 2 0:1 1:-1;row 1 0 1;
+to 1 0:1;row 2 0 1;to 2 0:1;bound 1/2;precision 4;from 1;depth 2;grid 40;box 4 36;split 0;at 1;accept 1 2 0;split 0;unknown;
+at 4;reject e 1 k 1 m 1 b 11/16;y 11 16 0;choice 0 - -;rank 1 0 -;'''.replace(b'\n', b'').replace(b';', b'\n')
+
+
+def ranged(text: bytes) -> bytes:
+    """The same tree in version 2, whose leaves have in turn the precision, one more and two more: each number is doubled
+    so often."""
+    lines, more = [], -1
+    for line in text.decode().splitlines():
+        key, *words = line.split(' ')
+        if key in ('accept', 'reject'):
+            more = (more + 1) % 3
+            lines.append(f'at {precision + more}')
+        if key == 'plift':
+            line = 'plift 2'
+        elif key == 'precision':
+            precision = int(words[0])
+            line = f'precision {precision + 2}\nfrom {precision}'
+        elif key in ('accept', 'y'):
+            line = ' '.join([key, *(str(int(word) << more) for word in words)])
+        elif key == 'reject':
+            parts = [int(word) << more for word in words[-1].split('/')]
+            line = ' '.join([key, *words[:-1], '/'.join(map(str, parts))])
+        lines.append(line)
+    return ('\n'.join(lines) + '\n').encode()
+
+
+RANGED = {f'{name}-RANGED': ranged(text) for name, text in EXAMPLES.items()}
+REPORTS = {'LOW': LOW, 'BACK': BACK, 'RANGE': RANGE, **RANGED, **EXAMPLES}
 
 # Each row: a report; changes, each a line's number and what stands there in its place (`;` between two lines, `-`
 # for none), with ` / ` between two; and what is said, of a report that isn't sound without `not sound: `.
@@ -44,6 +83,11 @@ COIN | | sound accept 0 reject 1 unknown 0
 PLAIN | | sound accept 1 reject 0 unknown 0
 RETRY | | sound accept 1 reject 0 unknown 0
 RETRY-TREE | | sound accept 1 reject 2 unknown 3
+APART-RANGED | | sound accept 1 reject 0 unknown 0
+COIN-RANGED | | sound accept 0 reject 1 unknown 0
+PLAIN-RANGED | | sound accept 1 reject 0 unknown 0
+RETRY-RANGED | | sound accept 1 reject 0 unknown 0
+RETRY-TREE-RANGED | | sound accept 1 reject 2 unknown 3
 LOW | | sound accept 1 reject 0 unknown 0
 LOW | 20=accept 8 16 0 | sound accept 1 reject 0 unknown 0
 LOW | 20=accept 16 16 16 / 15=bound 1/1 | sound accept 1 reject 0 unknown 0
@@ -51,7 +95,35 @@ LOW | 20=unknown | sound accept 0 reject 0 unknown 1
 LOW | 15=bound 0/1 / 20=unknown | sound accept 0 reject 0 unknown 1
 LOW | 17=depth 20 / 19=box 0 1048576 / 18=grid 1048576 / 20=accept 16 16 0 / 15=bound 1/1 | sound accept 1 reject 0 unknown 0
 
-LOW | 1=plift 2 | line 1: Version
+LOW | 1=plift 2 | line 17: Syntax
+LOW | 1=plift 3 | line 1: Version
+LOW | 1=plift 2 / 16=precision 4;from 4 / 20=at 4;accept 7 16 0 | sound accept 1 reject 0 unknown 0
+LOW | 1=plift 2 / 16=precision 4;from 1 / 20=at 1;accept 1 2 0 | sound accept 1 reject 0 unknown 0
+LOW | 1=plift 2 / 16=precision 4;from 1 / 20=at 2;accept 2 4 0 | sound accept 1 reject 0 unknown 0
+LOW | 1=plift 2 / 16=precision 4;from 2 / 20=at 1;accept 1 2 0 | line 21: Limit
+LOW | 1=plift 2 / 16=precision 4;from 1 / 20=at 5;accept 7 16 0 | line 21: Limit
+LOW | 1=plift 2 / 16=precision 4;from 1 / 20=at 3;accept 3 8 0 | node 0 state 0 choice 0 corner 1: 32 > 30
+LOW | 1=plift 2 / 16=precision 4;from 1 / 20=at 3;accept 4 4 0 | node 0 goal state 1 value 4
+LOW | 1=plift 2 / 16=precision 4;from 1 / 20=at 3;accept 5 8 0 | node 0 bound: 10 > 8
+LOW | 1=plift 2 / 16=precision 4;from 1 / 20=at 3;accept 4 9 0 | line 22: Limit
+LOW | 1=plift 2 / 16=precision 4;from 1 / 20=at 3;unknown | line 22: Syntax
+LOW | 1=plift 2 / 16=precision 4;from 1 / 20=at 3 | line 22: Truncated
+LOW | 1=plift 2 / 16=precision 4;from 1 / 20=at | line 21: Syntax
+LOW | 1=plift 2 / 16=precision 4;from 1 / 20=at 03 | line 21: Syntax
+LOW | 1=plift 2 / 16=precision 4;from 1 | line 21: Syntax
+LOW | 1=plift 2 / 16=precision 4;from 1 / 20=unknown | sound accept 0 reject 0 unknown 1
+LOW | 1=plift 2 / 16=precision 4;from 5 | line 17: Limit
+LOW | 1=plift 2 / 16=precision 4;from 0 | line 17: Limit
+LOW | 1=plift 2 / 16=precision 4;from 1;from 1 | line 18: Syntax
+LOW | 16=precision 4;from 4 | line 17: Syntax
+LOW | 20=at 4;accept 7 16 0 | line 20: Syntax
+RANGE | | sound accept 1 reject 1 unknown 1
+RANGE | 17=from 4 / 22=at 4;accept 8 16 0 / 23=- | sound accept 1 reject 1 unknown 1
+RANGE | 17=from 2 | line 22: Limit
+RANGE | 26=at 3 | line 28: Limit
+RANGE | 26=at 3 / 28=y 6 8 0 | line 27: Syntax
+RANGE | 26=at 3 / 27=reject e 1 k 1 m 1 b 6/8 / 28=y 6 8 0 | node 4 state 0 choice 0 corner 0: 240 > 224
+RANGE | 26=at 2 / 27=reject e 1 k 1 m 1 b 2/4 / 28=y 2 4 0 | node 4 bound: 4 <= 4
 LOW | 1=plift -1 | line 1: Version
 LOW | 1=plift 01 | line 1: Syntax
 LOW | 1=plift 1 1 | line 1: Syntax
@@ -275,6 +347,50 @@ RETRY-TREE | 51=rank 3 2 1 - 0;unknown | rest
 '''
 
 
+# The same of texts for a number of steps, which recheck.py alone reads.
+STEPS_TABLE = '''
+WITHIN | | sound accept 1 reject 0 unknown 0
+WITHIN | 1=plift-bounded 2 | line 1: Version
+WITHIN | 1=plift-bounded 1 1 | line 1: Syntax
+WITHIN | 1=plift-Bounded 1 | line 1: Syntax
+WITHIN | 17=steps 0 | line 17: Limit
+WITHIN | 17=steps 65 | line 17: Limit
+WITHIN | 17=steps 02 | line 17: Syntax
+WITHIN | 17=- | line 17: Syntax
+WITHIN | 17=steps 1 / 24=- | sound accept 1 reject 0 unknown 0
+WITHIN | 17=steps 1 | rest
+WITHIN | 17=steps 3 | line 25: Truncated
+WITHIN | 22=accept 4 16 0 | line 22: Syntax
+WITHIN | 22=unknown / 23=- / 24=- | sound accept 0 reject 0 unknown 1
+WITHIN | 23=x 1 6 16 0 | node 0 step 2 state 0 choice 0 corner 1: 62 > 60
+WITHIN | 23=x 2 4 16 0 | line 23: Syntax
+WITHIN | 23=- | line 23: Syntax
+WITHIN | 23=x 1 4 16 | line 23: Syntax
+WITHIN | 23=y 1 4 16 0 | line 23: Syntax
+WITHIN | 23=x 1 4 17 0 | line 23: Limit
+WITHIN | 23=x 1 3 16 0 | node 0 step 1 state 0 choice 0 corner 1: 32 > 30
+WITHIN | 23=x 1 4 15 0 | node 0 step 1 goal state 1 value 15
+WITHIN | 24=x 2 5 16 0 | node 0 step 2 state 0 choice 0 corner 1: 52 > 50
+WITHIN | 24=x 2 7 16 0 | node 0 bound: 56 > 48
+WITHIN | 11=to 2 0:1 1:-2 | state 0 choice 0: set 1 sums to -1
+ABOVE | | sound accept 0 reject 1 unknown 0
+ABOVE | 22=reject b 1/16 | line 22: Syntax
+ABOVE | 22=reject b 2/8 | line 22: Syntax
+ABOVE | 22=reject e 1 k 1 m 1 b 2/16 | line 22: Syntax
+ABOVE | 23=y 1 2 16 0 | node 0 step 1 state 0 choice 0 corner 0: 20 > 16
+ABOVE | 23=y 1 0 16 0 / 25=y 2 1 16 0 / 22=reject b 1/16 | node 0 bound: 10 <= 16
+ABOVE | 25=y 2 3 16 0 / 22=reject b 3/16 | node 0 step 2 state 0 choice 0 corner 0: 30 > 21
+ABOVE | 25=y 2 2 16 1 | node 0 step 2 state 2 choice 0 corner 0: 2 > 0
+ABOVE | 24=choice 1 - - 0 | line 22: Syntax
+ABOVE | 26=choice 2 0 0 0 | line 22: Syntax
+ABOVE | 26=choice 2 1 - 0 | line 26: Limit
+ABOVE | 24=choice 2 0 - 0 | line 24: Syntax
+ABOVE | 24=- / 26=- | line 24: Syntax
+ABOVE | 16=bound 1/8 | node 0 bound: 16 <= 16
+ABOVE | 26=choice 2 0 - 0;unknown | rest
+'''
+
+
 class Answer(NamedTuple):
     """How a check ends: its status, and what it writes to standard output and standard error."""
     status: int
@@ -284,7 +400,7 @@ class Answer(NamedTuple):
 
 def changed(report: str, changes: str) -> bytes:
     """A report's text with changes, as a row tells them."""
-    lines = REPORTS[report].decode().splitlines()
+    lines = {**REPORTS, **STEPS}[report].decode().splitlines()
     for change in filter(None, changes.split(' / ')):
         number, line = change.split('=', 1)
         lines[int(number) - 1] = None if line == '-' else line.replace(';', '\n')
@@ -389,12 +505,26 @@ def compare_table(tests: Comparison) -> None:
         tests.compare(row[:100], changed(report, changes), answer(said), is_started=not changes)
 
 
+def compare_steps() -> Comparison:
+    """The rows of the table of texts for a number of steps, and their prefixes; recheck.py alone is asked."""
+    alone = Comparison(None)
+    for row in filter(None, STEPS_TABLE.split('\n')):
+        report, changes, said = [cell.strip(' ') if i != 1 else cell[1:-1] for i, cell in enumerate(row.split('|'))]
+        alone.compare(row[:100], changed(report, changes), answer(said), is_started=not changes)
+    for name, text in STEPS.items():
+        for size in range(len(text)):
+            line = text[:size].count(b'\n') + 1
+            alone.compare(f'{size} bytes of {name}', text[:size], answer(f'line {line}: Truncated'))
+    return alone
+
+
 def compare_prefixes(tests: Comparison) -> None:
-    """Every proper prefix of a report, and a file that is too long."""
-    for size in range(len(EXAMPLES['COIN'])):
-        text = EXAMPLES['COIN'][:size]
-        line = text.count(b'\n') + 1
-        tests.compare(f'{size} bytes', text, answer(f'line {line}: Truncated'))
+    """Every proper prefix of a report of each version, and a file that is too long."""
+    for name in ('COIN', 'RANGE'):
+        for size in range(len(REPORTS[name])):
+            text = REPORTS[name][:size]
+            line = text.count(b'\n') + 1
+            tests.compare(f'{size} bytes of {name}', text, answer(f'line {line}: Truncated'))
     tests.compare('too long', b'\n' * (2 ** 26 + 1), Answer(7, b'', b'too long\n'), is_started=True)
 
 
@@ -428,6 +558,9 @@ def main() -> int:
     print(f'{tests.count} reports of the table')
     compare_prefixes(tests)
     print(f'{tests.count} with prefixes of a report')
+    alone = compare_steps()
+    print(f'{alone.count} for a number of steps, and their prefixes')
+    tests.wrong += alone.wrong
     if plift:
         compare_mutants(tests, given.reports, given.changes)
         print(f'{tests.count} with random changes')

@@ -34,6 +34,8 @@ class Leaf:
     """Of the initial state: no more is reached where it is accepted, no less where it is rejected."""
     scheduler: Optional[int]
     """Its place in the report's list of schedulers; only of a rejecting leaf of a decision process."""
+    precision: int
+    """Its certificate's numbers are over 2 to this power; of an unknown leaf the report's, at which there is none."""
 
     @property
     def rectangle(self) -> Dict[str, Interval]:
@@ -46,11 +48,6 @@ class Leaf:
         """An interval for each parameter of the report's model, which may be a rescaled one."""
         ends = [Fraction(end, self.report.grid) for end in self.ends]
         return dict(zip(self.report.parameters, zip(ends[::2], ends[1::2])))
-
-    @property
-    def precision(self) -> int:
-        """Its certificate's numbers are over 2 to this power."""
-        return self.report.precision
 
     @property
     def share(self) -> Fraction:
@@ -78,12 +75,13 @@ class Report:
         self._model_end = head.index('\nbound ') + 1
         around = head[:self._model_begin] + head[self._model_end:]
         lines = dict(line.partition(' ')[::2] for line in around.splitlines())
-        if lines['plift'] != '1':
-            raise Fault('a report of version %s isn\'t read here; this reads version 1' % lines['plift'])
+        if lines['plift'] not in ('1', '2'):
+            raise Fault('a report of version %s isn\'t read here; this reads versions 1 and 2' % lines['plift'])
         self.kind, self.parameters = lines['kind'], lines['parameters'].split()[1:]
         self.common, self.states, self.init = int(lines['common']), int(lines['states']), int(lines['init'])
         self.goals = [int(word) for word in lines['goal'].split()[1:]]
         self.bound, self.precision = Fraction(lines['bound']), int(lines['precision'])
+        self.least_precision = int(lines['from']) if lines['plift'] == '2' else self.precision
         self.depth, self.grid = int(lines['depth']), int(lines['grid'])
         self.box = tuple(int(word) for word in box.group(1).split())
         sets = {int(word) for word in re.findall(r' ([0-9]+):', head[self._model_begin:self._model_end])}
@@ -91,12 +89,14 @@ class Report:
         self._tree_begin = box.end() + 1
 
     def _read_tree(self) -> None:
-        """Notes the nodes in their order: for a split its axis, for a leaf its kind, number and scheduler."""
+        """Notes the nodes in their order: for a split its axis, for a leaf its kind, number, scheduler and precision."""
         self.nodes: List[Any] = []
         self.values: List[Optional[int]] = []
+        """Of each leaf the initial state's number, over 2 to the report's precision."""
         self._picks: List[Optional[int]] = []
+        self._precisions: List[int] = []
         self._schedulers: Dict[bytes, int] = {}
-        start, end, line = self._tree_begin, len(self.data), b''
+        start, end, line, bits = self._tree_begin, len(self.data), b'', self.precision
         while start < end:
             stop = self.data.index(b'\n', start)
             line = self.data[start:stop]
@@ -104,22 +104,25 @@ class Report:
             if key == b'split ':
                 self.nodes.append(int(line[6:]))
             elif key == b'unknow':
-                self._add(UNKNOWN, None, None)
+                self._add(UNKNOWN, None, None, self.precision)
             elif key == b'accept':
-                self._add(ACCEPT, int(line.split(b' ', self.init + 2)[self.init + 1]), None)
+                self._add(ACCEPT, int(line.split(b' ', self.init + 2)[self.init + 1]), None, bits)
+            elif key[:3] == b'at ':
+                bits = int(line[3:])
             else:
                 number = int(line.rpartition(b' ')[2].partition(b'/')[0])
                 stop = self.data.index(b'\n', stop + 1)
                 rank = self.data.index(b'\n', stop + 1)
                 choices = self.data[stop + 8:rank]
-                self._add(REJECT, number, self._schedulers.setdefault(choices, len(self._schedulers)))
+                self._add(REJECT, number, self._schedulers.setdefault(choices, len(self._schedulers)), bits)
                 stop = self.data.index(b'\n', rank + 1)
             start = stop + 1
 
-    def _add(self, kind: str, value: Optional[int], pick: Optional[int]) -> None:
+    def _add(self, kind: str, value: Optional[int], pick: Optional[int], bits: int) -> None:
         self.nodes.append(kind)
-        self.values.append(value)
+        self.values.append(None if value is None else value << self.precision - bits)
         self._picks.append(pick)
+        self._precisions.append(bits)
 
     @property
     def question(self) -> str:
@@ -159,7 +162,7 @@ class Report:
                 continue
             value = self.values[number]
             yield Leaf(self, number, node, depth, ends, None if value is None else Fraction(value, one),
-                       self._picks[number] if self.kind == 'mdp' else None)
+                       self._picks[number] if self.kind == 'mdp' else None, self._precisions[number])
             number += 1
 
     @property

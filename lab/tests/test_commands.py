@@ -17,7 +17,7 @@ from unittest import mock
 
 from plift_lab.evidence import Evidence
 
-from .helpers import EXAMPLES, LINKS, RETRY, TOP, TREE, InFolder, run
+from .helpers import EXAMPLES, LINKS, RANGE, RETRY, TOP, TREE, InFolder, run
 
 REGION = 'p=1/10..1/2,q=1/10..1/2'
 THIRD = b'@type: DTMC\n@model\nstate 0 init\n1 : 1/3\n2 : 2/3\nstate 1 a\n1 : 1\nstate 2\n2 : 1\n'
@@ -70,6 +70,11 @@ class Leaves(InFolder):
         columns = ('p_low', 'q_high', 'value', 'scheduler')
         self.assertEqual([rows[4][column] for column in columns], ['1/10', '1/2', '27/1024', '0'])
         self.assertEqual(sum(Fraction(row['share']) for row in rows), 1)
+
+    def test_each_leaf_has_its_precision(self):
+        rows = list(csv.DictReader(io.StringIO(run('leaves', self.file('range.report', RANGE), '--csv')[1])))
+        self.assertEqual([(row['kind'], row['value'], row['precision']) for row in rows],
+                         [('accepted', '1/2', '1'), ('unknown', '', '4'), ('rejected', '11/16', '4')])
 
     def test_json_and_decimals(self):
         told = json.loads(run('leaves', TREE, '--json')[1])
@@ -135,6 +140,11 @@ class View(InFolder):
         self.assertEqual([one['exact'] for one in data['shares']], ['1/16', '3/4', '3/16'])
         self.assertNotIn('{{', page)
         self.assertEqual(re.findall(r'(?:src|href|url|@import|fetch\()\s*[=(]', page), [])
+
+    def test_a_range_of_precisions(self):
+        data = self.data(self.file('range.report', RANGE))[1]
+        self.assertEqual((data['tree'], data['values'], data['precision']), ('0A0UR', [8, 11], 4))
+        self.assertIn(['precision', '1 to 4 bits'], data['facts'])
 
     def test_axes(self):
         self.assertEqual(self.data(TREE, '--x', 'q')[1]['axes'], [1, 0])

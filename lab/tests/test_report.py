@@ -7,7 +7,7 @@ from pathlib import Path
 import plift_lab
 from plift_lab import Report
 
-from .helpers import EXAMPLES, LINKS, RETRY, TREE, InFolder
+from .helpers import EXAMPLES, LINKS, RANGE, RETRY, TREE, InFolder
 
 
 class Read(InFolder):
@@ -26,6 +26,22 @@ class Read(InFolder):
         self.assertEqual([report.schedulers[leaves[place].scheduler] for place in (4, 5)],
                          [[1, 1, 1, None, None], [0, 0, 0, None, None]])
         self.assertEqual(sum(leaf.share for leaf in leaves), 1)
+
+    def test_a_range_of_precisions(self):
+        report = plift_lab.read(self.file('range.report', RANGE))
+        self.assertEqual(report.soundness, 'sound accept 1 reject 1 unknown 1')
+        self.assertEqual((report.verdict, report.least_precision, report.precision), ('mixed', 1, 4))
+        leaves = list(report.leaves())
+        self.assertEqual([leaf.kind for leaf in leaves], ['accept', 'unknown', 'reject'])
+        self.assertEqual([leaf.precision for leaf in leaves], [1, 4, 4])
+        self.assertEqual([leaf.value for leaf in leaves], [Fraction(1, 2), None, Fraction(11, 16)])
+        self.assertEqual([leaf.rectangle['p'] for leaf in leaves],
+                         [(Fraction(1, 10), Fraction(1, 2)), (Fraction(1, 2), Fraction(7, 10)), (Fraction(7, 10), Fraction(9, 10))])
+        self.assertEqual(plift_lab.read(TREE).least_precision, 10)
+
+    def test_other_versions(self):
+        with self.assertRaisesRegex(plift_lab.Fault, 'version 3'):
+            Report(RANGE.replace(b'plift 2', b'plift 3'), '')
 
     def test_without_parameters(self):
         report = plift_lab.read(str(EXAMPLES / 'plain.report'))

@@ -8,6 +8,10 @@ TREE = example("retry-tree.report")
 COIN_REPORT = example("coin.report")
 THIRD = changed(changed(REPORT, "parameters 2 p q", "parameters 3 p q r"), "box 2 6 1 4", "box 2 6 1 4 0 20")
 SVG = b'<svg xmlns="http://www.w3.org/2000/svg"></svg>\n'
+SECOND = changed(COIN_REPORT[: COIN_REPORT.index(b"precision")], "plift 1", "plift 2") + (
+    b"precision 4\nfrom 1\ndepth 2\ngrid 40\nbox 4 36\nsplit 0\nat 1\naccept 1 2 0\nsplit 0\nunknown\n"
+    b"at 4\nreject e 1 k 1 m 1 b 11/16\ny 11 16 0\nchoice 0 - -\nrank 1 0 -\n"
+)
 
 
 def check(text: bytes, fault: str, *told: str) -> Mistake:
@@ -24,6 +28,11 @@ def coin(old: str, new: str, fault: str, *told: str) -> Mistake:
     return check(changed(COIN_REPORT, old, new), fault, *told)
 
 
+def second(old: str, new: str, fault: str, *told: str) -> Mistake:
+    """A change of a report of version 2."""
+    return check(changed(SECOND, old, new), fault, *told)
+
+
 def view(words: str, usage: str, *told: str, text: bytes = REPORT) -> Mistake:
     return Mistake(words, text, 2, f"usage: {usage}", told, "plift-view")
 
@@ -37,7 +46,7 @@ CHECKED = [
     check(SVG, "line 1: Syntax", "a picture"),
     check(b"sound accept 1 reject 0 unknown 0\n", "line 1: Syntax", "the line that plift check writes"),
     check(REPORT.replace(b"\n", b"\r\n"), "line 1: Syntax", "carriage return", "tr -d"),
-    check(changed(REPORT, "plift 1", "plift 2"), "line 1: Version", '"plift 2"', "version 1"),
+    check(changed(REPORT, "plift 1", "plift 3"), "line 1: Version", '"plift 3"', "versions 1 and 2"),
     check(b"plift 1", "line 1: Truncated", "cut off"),
     check(REPORT[: len(REPORT) // 2], "line 19: Truncated", "within line 19", "cut off"),
     check(REPORT[:-1], "line 35: Truncated", "within line 35, without a line feed"),
@@ -83,6 +92,26 @@ CHECKED = [
     Mistake("--summary", b"", 1, "not sound: line 1: Truncated", ("there is no text",), "plift-view"),
 ]
 
+SECONDS = [
+    second("from 1\n", "", "line 17: Syntax", "from and a number from 1 to that of the line precision"),
+    second("from 1", "from 5", "line 17: Limit", "no precision of the report", "from and a number"),
+    second("plift 2", "plift 1", "line 17: Syntax", "only a report of version 2"),
+    coin("precision 4\n", "precision 4\nfrom 4\n", "line 17: Syntax", "only a report of version 2"),
+    coin("reject", "at 4\nreject", "line 20: Syntax", "only a report of version 2"),
+    second("at 1\n", "", "line 22: Syntax", "at U before accept or reject, U being one of 1 to 4"),
+    second("at 4\n", "", "line 26: Syntax", "at U before accept or reject"),
+    second("at 4", "at 5", "line 26: Limit", "no precision of the report", "one of 1 to 4"),
+    second("from 1", "from 2", "line 22: Limit", "no precision of the report", "one of 2 to 4"),
+    second("at 4\n", "at 4\nunknown\n", "line 27: Syntax", "accept or reject, whose numbers"),
+    second("accept 1 2 0", "accept 1 3 0", "line 23: Limit", "from 0 to 2^U", "above a limit"),
+    second("b 11/16", "b 11/32", "line 27: Syntax", "Z 2^U, U being that of the line at"),
+    second("accept 1 2 0", "accept 0 2 0", "node 1 state 0 choice 0 corner 0: 8 > 0", "node 1 begins at line 22"),
+    second("b 11/16\ny 11", "b 12/16\ny 12", "node 4 state 0 choice 0 corner 0: 480 > 448", "node 4 begins at line 26"),
+    check(SECOND[: SECOND.index(b"reject")], "line 27: Truncated", "ends behind line 26", "4 nodes"),
+    check(SECOND + SECOND, "rest", "a second report begins at line 31", "head -n 30"),
+    check(SECOND + b"# checked\n", "rest", "the tree ends with line 30", "line 31 follows"),
+]
+
 VIEWED = [
     view("retry.report", "words", "a file is given by <", "plift-view < retry.report"),
     view("--help", "words", "plift-view --help"),
@@ -121,4 +150,4 @@ VIEWED = [
     view("--x p --y q --at q=1/10", "--at 1 Repeated", "lies on the axis --y"),
 ]
 
-MISTAKES = CHECKED + VIEWED
+MISTAKES = CHECKED + SECONDS + VIEWED

@@ -37,6 +37,7 @@ VALUES = {
     "--bound": amounts.bound_hints,
     "--depth": amounts.depth_hints,
     "--precision": amounts.precision_hints,
+    "--steps": amounts.steps_hints,
     "N": amounts.blocks_hints,
     "words": line.words_hints,
 }

@@ -1,4 +1,4 @@
-"""Hints for the values of plift's line: the label, the bound, the depth, the precision, the number of blocks."""
+"""Hints for the values of plift's line: the label, the bound, the depth, the precision, the numbers of steps and of blocks."""
 
 from __future__ import annotations
 
@@ -108,6 +108,12 @@ def precision_hints(refusal: Refusal) -> List[str]:
         return []
     bits = bits_for(word)
     return [whole_hint("--precision", word, 1, 40, 3)] + ([f"it counts bits: {bits}"] if bits else [])
+
+
+def steps_hints(refusal: Refusal) -> List[str]:
+    """Why a number of steps isn't one."""
+    word = refusal.option("--steps")
+    return [whole_hint("--steps", word, 1, 64, 2)] if word is not None else []
 
 
 def blocks_hints(refusal: Refusal) -> List[str]:

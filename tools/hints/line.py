@@ -6,15 +6,17 @@ import re
 import shlex
 from typing import Dict, List, Optional, Sequence, Set
 
-from hints.options import VALUED
+from hints.options import STEPPED, VALUED
 from hints.refusal import Refusal
 from hints.told import listed, near, shown
 from hints.words import HELP, LONG_DASHES, PROPERTY, VERSION
 from hints.words import about_help, about_odd, asks_for_help, is_dashed, is_file
 
-COMMANDS = ["verify", "check", "generate", "selftest"]
+COMMANDS = ["verify", "bounded", "check", "generate", "selftest"]
+ASKING = {"verify": VALUED, "bounded": STEPPED}
 FORMS = {
     "verify": "plift verify --goal LABEL --bound B [--region R] [--depth H] [--precision W] < model.drn",
+    "bounded": "plift bounded --goal LABEL --bound B --steps S [--region R] [--depth H] [--precision W] < model.drn",
     "check": "plift check < report",
     "generate": "plift generate N > model.drn",
     "selftest": "plift selftest N",
@@ -31,6 +33,8 @@ OTHER_NAMES = {
     "--box": "--region",
     "--splits": "--depth",
     "--bits": "--precision",
+    "--within": "--steps",
+    "--horizon": "--steps",
     "-g": "--goal",
     "-b": "--bound",
     "-r": "--region",
@@ -43,21 +47,22 @@ CLAUSE = re.compile(r"[^<>=,]+<=[^<>=,]+<=[^<>=,]+")
 REGION = re.compile(r"<=|>=|<|>|\.\.|≤")
 
 
-def guessed(name: str) -> Optional[str]:
-    """The option that a name most likely stands for."""
-    if name[0] in LONG_DASHES or "-" + name in VALUED:
+def guessed(command: str, name: str) -> Optional[str]:
+    """The option of the command that a name most likely stands for."""
+    options = ASKING[command]
+    if name[0] in LONG_DASHES or "-" + name in STEPPED:
         name = "--" + name.lstrip("-" + LONG_DASHES)
-    guess = OTHER_NAMES.get(name) or (near(name.split(":")[0], VALUED) if name.strip("-") else None)
+    guess = OTHER_NAMES.get(name) or (near(name.split(":")[0], options) if name.strip("-") else None)
     if guess is None and len(name) > 3:
-        guess = next((known for known in VALUED if known.startswith(name)), None)
-    return guess
+        guess = next((known for known in options if known.startswith(name)), None)
+    return guess if guess in options else None
 
 
 def why_not(name: str, guess: Optional[str]) -> str:
     """Why a name isn't that of the option that it is near to."""
     if name[0] in LONG_DASHES:
         return " (a long dash stands there, not two hyphens)"
-    if "-" + name in VALUED:
+    if "-" + name in STEPPED:
         return " (two dashes stand before a name)"
     return " (names aren't abbreviated)" if guess and guess.startswith(name) else ""
 
@@ -67,18 +72,18 @@ def about_property(word: str) -> str:
     return f"{shown(word)}: plift takes no property; it asks whether --goal LABEL is reached with at most --bound B"
 
 
-def about_option(word: str, value: str) -> str:
+def about_option(command: str, word: str, value: str) -> str:
     """What is wrong with a word that begins like an option and is none."""
     name = word.split("=")[0]
     if asks_for_help(word):
-        return about_help(word, "plift", "verify")
+        return about_help(word, "plift", command)
     if PROPERTY.search(value):
         return about_property(value)
-    if name.split(":")[0] in VALUED:
+    if name.split(":")[0] in STEPPED:
         return f"{shown(word)}: a value stands behind =, or is the next word: write {word.replace(':', '=', 1)}"
-    guess = guessed(name)
+    guess = guessed(command, name)
     if guess is None:
-        return f"{shown(word)} is no option of verify{why_not(name, guess)}; they are {listed(VALUED)}"
+        return f"{shown(word)} is no option of {command}{why_not(name, guess)}; they are {listed(ASKING[command])}"
     return f"{shown(word)} is no option{why_not(name, guess)}; is {guess} meant?"
 
 
@@ -86,7 +91,7 @@ def about_value(name: str, value: str) -> Optional[str]:
     """What is wrong with the word that is the value of an option."""
     if not value.startswith("-"):
         return None
-    if value.split("=")[0] in VALUED or value in HELP or value.startswith("--"):
+    if value.split("=")[0] in STEPPED or value in HELP or value.startswith("--"):
         return f"{name} has no value: the next word is {shown(value)}"
     if name == "--region":
         return f"a value doesn't begin with -: write a blank before it, as in --region {shlex.quote(' ' + value)}"
@@ -95,17 +100,17 @@ def about_value(name: str, value: str) -> Optional[str]:
     return f"{name} {shown(value)}: a value doesn't begin with -"
 
 
-def about_word(word: str, name: str, value: str) -> str:
+def about_word(command: str, word: str, name: str, value: str) -> str:
     """What is wrong with a word that stands where an option is due, behind another option with its value."""
     if is_file(word):
-        return f"{shown(word)}: a file is given by <, as in plift verify .. < {shlex.quote(word)}"
+        return f"{shown(word)}: a file is given by <, as in plift {command} .. < {shlex.quote(word)}"
     if PROPERTY.search(word):
         return about_property(word)
     if value == "=":
         return f"no blanks stand around =: write {name}={word} or {name} {word}"
     if REGION.search(word):
         return f"{shown(word)}: a region is given by --region '..'"
-    return f"{shown(word)} stands where an option is due; they are {listed(VALUED)}"
+    return f"{shown(word)} stands where an option is due; they are {listed(ASKING[command])}"
 
 
 def about_stray(words: Sequence[str], name: str, value: str) -> str:
@@ -126,11 +131,11 @@ def about_twice(name: str, values: Sequence[str]) -> str:
 
 
 class Walk:
-    """Goes through the words behind `verify`, and finds their faults, the values of options, and the options that
+    """Goes through the words behind `verify` or `bounded`, and finds their faults, the values of options, and the options that
     other words most likely stand for."""
 
-    def __init__(self, words: Sequence[str]):
-        self.words, self.at = words, 0
+    def __init__(self, command: str, words: Sequence[str]):
+        self.command, self.words, self.at = command, words, 0
         self.faults: List[str] = []
         self.values: Dict[str, List[str]] = {}
         self.meant: Set[str] = set()
@@ -145,17 +150,17 @@ class Walk:
     def step(self, word: str) -> None:
         """Reads a word, and those that belong to it."""
         self.at += 1
-        if word.split("=")[0] in VALUED:
+        if word.split("=")[0] in STEPPED:
             self.option(word)
         elif about_odd(word):
             self.faults.append(about_odd(word) or "")
-            self.meant.update(known for known in VALUED if known in word)
+            self.meant.update(known for known in STEPPED if known in word)
         elif is_dashed(word):
             self.unknown(word)
         elif self.is_stray(word):
             self.stray()
         else:
-            self.faults.append(about_word(word, self.name, self.value))
+            self.faults.append(about_word(self.command, word, self.name, self.value))
 
     def option(self, word: str) -> None:
         """An option with its value."""
@@ -167,7 +172,7 @@ class Walk:
             fault = f"{name} has no value behind it: it is the last word"
         else:
             value = value if mark else self.words[self.at]
-            self.at += 0 if mark or value.split("=")[0] in VALUED else 1
+            self.at += 0 if mark or value.split("=")[0] in STEPPED else 1
             fault = about_value(name, value)
         self.faults.extend([fault] if fault else [])
         self.values.setdefault(name, []).append(value)
@@ -185,8 +190,8 @@ class Walk:
         """A word that begins like an option, with what looks like its value."""
         name, mark, value = word.partition("=")
         value = value if mark else self.next() or ""
-        self.faults.append(about_option(word, value))
-        self.meant.update({name.split(":")[0], guessed(name) or ""} & set(VALUED))
+        self.faults.append(about_option(self.command, word, value))
+        self.meant.update({name.split(":")[0], guessed(self.command, name) or ""} & set(STEPPED))
         self.at += 0 if mark or self.next() is None or is_dashed(value) or is_file(value) else 1
         self.name = self.value = ""
 
@@ -204,18 +209,22 @@ class Walk:
         self.name = ""
 
 
-def about_verify(words: Sequence[str]) -> List[str]:
-    """What is wrong with a line of `verify`."""
-    helps = [about_help(word, "plift", "verify") for word in words if asks_for_help(word) and word.startswith("-")]
+def about_asking(command: str, words: Sequence[str]) -> List[str]:
+    """What is wrong with a line of `verify` or `bounded`."""
+    helps = [about_help(word, "plift", command) for word in words if asks_for_help(word) and word.startswith("-")]
     if helps:
         return helps[:1]
-    walk = Walk(words)
+    walk = Walk(command, words)
     faults = walk.faults + [about_twice(name, values) for name, values in walk.values.items() if len(values) > 1]
     named = walk.meant | set(walk.values)
     if "--goal" not in named:
         faults.append("--goal LABEL is missing: the label of the states to be reached")
     if "--bound" not in named:
         faults.append("--bound B is missing: the greatest probability that is allowed, as 1/2 or 0.5")
+    if command == "verify" and "--steps" in walk.values:
+        faults.append("--steps stands for a number of steps: that is asked by plift bounded")
+    if command == "bounded" and "--steps" not in named:
+        faults.append("--steps S is missing: within how many steps, from 1 to 64; plift verify asks for any number")
     return faults
 
 
@@ -250,7 +259,7 @@ def about_command(word: str) -> str:
         return "help: plift --help, or plift --help verify for a command's options"
     if word in VERSION:
         return "version: plift --version"
-    if word.split("=")[0] in VALUED:
+    if word.split("=")[0] in STEPPED:
         return f"the command stands first: plift verify {word} .."
     if re.fullmatch(r"(.*/)?plift", word):
         return f"{shown(word)}: the program's own name stands once; then {commands}"
@@ -272,8 +281,8 @@ def words_hints(refusal: Refusal) -> List[str]:
     command, behind = words[0], words[1:]
     if command not in COMMANDS:
         return [about_command(command), FORMS[near(command, COMMANDS) or "verify"]]
-    if command == "verify":
-        faults = about_verify(behind)
+    if command in ASKING:
+        faults = about_asking(command, behind)
     elif command == "check":
         faults = about_check(behind) if behind else []
     else:

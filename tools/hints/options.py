@@ -7,12 +7,13 @@ from typing import List, Optional, Sequence, Tuple
 Setting = Tuple[str, Optional[str]]
 
 VALUED = ["--goal", "--bound", "--region", "--depth", "--precision"]
+STEPPED = [*VALUED, "--steps"]  # of `bounded`
 VIEWED = ["--x", "--y", "--at"]
 FLAGS = ["--summary", "--follow"]
 
 
 def options_of(words: Sequence[str]) -> List[Setting]:
-    """The options behind `verify`: a word with `=` is one with its value, any other takes the next word."""
+    """The options behind `verify` or `bounded`: a word with `=` is one with its value, any other takes the next word."""
     settings: List[Setting] = []
     at = 0
     while at < len(words):

@@ -10,9 +10,10 @@ from hints.rows import Entry, Row
 from hints.value import Polynomial, written
 
 HEAD = [b"plift", b"kind", b"parameters", b"common", b"states", b"init", b"goal"]
-TAIL = [b"bound", b"precision", b"depth", b"grid", b"box"]
+TAIL = [b"bound", b"precision", b"from", b"depth", b"grid", b"box"]  # `from` in version 2 alone
 NODES = [b"split", b"accept", b"reject", b"unknown"]
 LEAF = [b"reject", b"y", b"choice", b"rank"]
+AT = b"at"  # in version 2: the line before a leaf that accepts or rejects
 
 
 class Report(NamedTuple):
@@ -21,6 +22,14 @@ class Report(NamedTuple):
     lines: List[bytes]
     head: Dict[bytes, List[bytes]]
     numbers: Dict[bytes, int]
+
+    def is_second(self) -> bool:
+        """Whether it is of version 2."""
+        return self.lines[:1] == [b"plift 2"]
+
+    def tail(self) -> List[bytes]:
+        """The keys of the head's lines behind the rows."""
+        return [key for key in TAIL if key != b"from" or self.is_second()]
 
     def names(self) -> List[str]:
         """The parameters."""
@@ -94,15 +103,45 @@ def report_row(report: Report, state: int, choice: int) -> Optional[Row]:
     return Row(state, choice, entries, names)
 
 
+def key_at(report: Report, number: int) -> bytes:
+    """The first word of a line; nothing where there is none."""
+    return report.lines[number - 1].split(b" ", 1)[0] if 0 < number <= len(report.lines) else b""
+
+
+def node_key(report: Report, number: int) -> bytes:
+    """The key of the node that begins at a line, behind its precision; nothing where none begins there."""
+    key = key_at(report, number)
+    if key == AT and report.is_second():
+        key = key_at(report, number + 1)
+        return key if key in (b"accept", b"reject") else b""
+    return key if key in NODES else b""
+
+
+def end_of_node(report: Report, number: int) -> int:
+    """The number of the line behind the node that begins at a line; 0 where none begins there."""
+    key = node_key(report, number)
+    if not key:
+        return 0
+    return number + (key_at(report, number) == AT) + (4 if key == b"reject" else 1)
+
+
 def line_of_node(report: Report, node: int) -> int:
     """The number of the line that a node begins, or 0."""
     at, found = report.first_node(), 0
     while 0 < at <= len(report.lines):
-        key = report.lines[at - 1].split(b" ", 1)[0]
-        if found == node and key in NODES:
-            return at
-        if key not in NODES:
-            return 0
-        at += 4 if key == b"reject" else 1
-        found += 1
+        behind = end_of_node(report, at)
+        if not behind or found == node:
+            return at if behind else 0
+        at, found = behind, found + 1
     return 0
+
+
+def end_of_tree(report: Report) -> int:
+    """The number of the last line of the tree, or 0."""
+    at, open_nodes = report.first_node(), 1
+    while open_nodes and 0 < at <= len(report.lines):
+        if not node_key(report, at):
+            return 0
+        open_nodes += 1 if node_key(report, at) == b"split" else -1
+        at = end_of_node(report, at)
+    return 0 if open_nodes else at - 1

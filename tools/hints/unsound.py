@@ -7,18 +7,18 @@ from typing import List, Optional
 
 from hints.kinds import kind_of, told_of
 from hints.refusal import Refusal
-from hints.report import HEAD, LEAF, NODES, TAIL, Report, line_of_node, read_report, report_row
+from hints.report import AT, HEAD, LEAF, NODES, Report, end_of_tree, key_at, line_of_node, read_report, report_row
 from hints.rows import Around, fault_hints
 from hints.told import counted, shown
 
 MOST_LINE = 2**20
 REJECT = (
-    "reject e E k K m M b Y/Z, M being E times K, Y the initial state's number in the line y, Z 2^precision, and rank 0"
+    "reject e E k K m M b Y/Z, M being E times K, Y the initial state's number in the line y, Z 2^%s, and rank 0"
     " standing at goal states alone"
 )
 AGAIN = "the report was changed, or isn't plift's: don't use it, and run verify again"
 FORMS = {
-    b"plift": "plift 1",
+    b"plift": "plift 1 or plift 2",
     b"kind": "kind dtmc or kind mdp",
     b"parameters": "parameters, their number and their names",
     b"common": "common and a number from 1",
@@ -27,6 +27,7 @@ FORMS = {
     b"goal": "goal, the number of goal states, and the states in ascending order",
     b"bound": "bound n/d in lowest terms",
     b"precision": "precision and a number from 1 to 40",
+    b"from": "from and a number from 1 to that of the line precision",
     b"depth": "depth and a number from 0 to 20",
     b"grid": "grid and a number from 1",
     b"box": "box and the low and the high end of each parameter",
@@ -52,16 +53,27 @@ def due_at(report: Report, number: int) -> Optional[str]:
         return FORMS[HEAD[number - 1]]
     if number > len(report.lines) + 1:
         return None
-    before = report.lines[number - 2].split(b" ")[0]
-    if report.lines[number - 1 : number] and report.lines[number - 1].startswith(b"reject "):
-        return REJECT
-    if before in TAIL[:-1]:
-        return FORMS[TAIL[TAIL.index(before) + 1]]
+    before, key, tail = key_at(report, number - 1), key_at(report, number), report.tail()
+    if key == b"reject" and (before == AT or not report.is_second()):
+        return REJECT % ("U, U being that of the line at" if report.is_second() else "precision")
+    if before in tail[:-1]:
+        return FORMS[tail[tail.index(before) + 1]]
     if before in LEAF[:-1]:
         return f"{LEAF[LEAF.index(before) + 1].decode()} and a word for each state"
+    if before == AT and report.is_second():
+        return "accept or reject, whose numbers are from 0 to 2^U"
     if before in (b"box", b"split", b"accept", b"unknown", b"rank"):
-        return "a node: split, accept, reject or unknown"
+        return node_forms(report)
     return of_rows(report, number) if before in (b"row", b"to", b"goal") else None
+
+
+def node_forms(report: Report) -> str:
+    """What begins a node."""
+    if not report.is_second():
+        return "a node: split, accept, reject or unknown"
+    least, most = report.number(b"from"), report.number(b"precision")
+    precisions = f"{least} to {most}" if least and most else "those of the lines from and precision"
+    return f"a node: split, unknown, or at U before accept or reject, U being one of {precisions}"
 
 
 def of_rows(report: Report, number: int) -> Optional[str]:
@@ -99,6 +111,8 @@ def syntax_hints(text: bytes, number: int) -> List[str]:
         return [f"line {number}: {shown(line)}: {why[0]}", why[1]]
     if not line:
         return [f"line {number} is blank, and a report has no blank lines", AGAIN]
+    if key_at(report, number) in (b"from", AT) and not report.is_second():
+        return [f"line {number}: {shown(line)}: only a report of version 2 (plift 2 in line 1) has such a line", AGAIN]
     return [f"line {number}: {shown(line)}" + (f"; what is due there: {due}" if due else ""), AGAIN]
 
 
@@ -110,7 +124,9 @@ def limit_hints(text: bytes, number: int) -> List[str]:
     line, due = report.lines[number - 1], due_at(report, number)
     if len(line) > MOST_LINE:
         return [f"line {number} has {len(line):,} bytes, and at most {MOST_LINE:,} are taken", AGAIN]
-    what = f"line {number}: {shown(line)}: a number or a name is above a limit"
+    is_precision = key_at(report, number) in (b"from", AT)
+    why = "that is no precision of the report" if is_precision else "a number or a name is above a limit"
+    what = f"line {number}: {shown(line)}: {why}"
     return [what + (f"; what is due there: {due}" if due else ""), AGAIN]
 
 
@@ -144,23 +160,11 @@ def rest_hints(text: bytes) -> List[str]:
     return [f"the tree ends with line {last}, and line {last + 1} follows: {shown(line) if line else 'a blank line'}"]
 
 
-def end_of_tree(report: Report) -> int:
-    """The number of the last line of the tree, or 0."""
-    at, open_nodes = report.first_node(), 1
-    while open_nodes and 0 < at <= len(report.lines):
-        key = report.lines[at - 1].split(b" ", 1)[0]
-        if key not in NODES:
-            return 0
-        open_nodes += 1 if key == b"split" else -1
-        at += 4 if key == b"reject" else 1
-    return 0 if open_nodes else at - 1
-
-
 def version_hints(text: bytes) -> List[str]:
     """Which version it is."""
     line = text.split(b"\n", 1)[0]
-    what = f"line 1 is {shown(line)}, and this plift reads version 1"
-    return [what, "check it with a plift that writes that version"]
+    what = f"line 1 is {shown(line)}, and this plift reads versions 1 and 2"
+    return [what, "check it with a plift that reads that version"]
 
 
 def row_hints(text: bytes, state: int, choice: int, fault: str) -> List[str]:

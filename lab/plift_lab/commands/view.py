@@ -103,7 +103,8 @@ def _facts(report: Report, judge: str) -> List[Tuple[str, str]]:
     if dead:
         facts.append(('no row depends on', ', '.join(dead)))
     kind = 'decision process' if report.kind == 'mdp' else 'Markov chain'
-    facts += [('model', '%s, %d states' % (kind, report.states)), ('precision', '%d bits' % report.precision),
+    least = '%d to ' % report.least_precision if report.least_precision < report.precision else ''
+    facts += [('model', '%s, %d states' % (kind, report.states)), ('precision', '%s%d bits' % (least, report.precision)),
               ('depth', 'at most %d halvings' % report.depth)]
     if report.origin.scale:
         facts.append(('rescaled', 'the report\'s own parameters run from 0 to 1; this page tells yours'))
