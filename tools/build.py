@@ -354,14 +354,15 @@ class Build:
 
     def _start(self, waiting: List[str], done: Set[str], busy: List[str]) -> Iterator[tuple]:
         """Takes the crates that can begin now off the list, each with its number of jobs: as many as
-        there are lanes for the one with the longest chain above it, one for each other."""
+        there are lanes for the one with the longest chain above it, one for each other, and one for the
+        program, which is a single function: each job would load all libraries anew."""
         chain = longest_chains(self.order, self.needs, self.cost)
         ready = sorted((name for name in waiting if done.issuperset(self.needs[name])), key=lambda name: -chain[name])
         for name in ready[: self.lanes - len(busy)]:
             is_first = all(chain[name] >= chain[it] for it in busy)
             waiting.remove(name)
             busy.append(name)
-            yield name, self.lanes if is_first else 1, is_first
+            yield name, self.lanes if is_first and name != self.crate else 1, is_first
 
     def run(self, locks: List[int]) -> None:
         """Builds all crates, those with the longest chain above them first."""
