@@ -22,3 +22,4 @@ pub mod PairedRows
 pub mod OtherStates
 pub mod InLane
 pub mod Quotients
+pub mod Precisions

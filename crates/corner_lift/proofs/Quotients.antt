@@ -1,11 +1,12 @@
 -- Quotients that are rounded to a whole number.
-use Rattle.std.proofs.Common.{◌≡◌, ℕ, ◌+◌, ◌*◌, ◌/◌, ◌^◌, ◌<◌, ◌≤◌, ℤ, pos, negsuc, ◌+ℤ◌, ◌-ℤ◌, ◌*ℤ◌, ◌≤ℤ◌, ◌<ℤ◌, nat_abs, unsigned_abs, SFits, w64, to_z, of_z, to_z-of_z, arith, lt_of_mul-lt-mul_right}
+use Rattle.std.proofs.Common.{◌≡◌, ⊎_elim, inl, inr, sym, Option, None, Some, IfSome, ◌∙◌, ℕ, ◌+◌, ◌*◌, ◌/◌, ◌^◌, ◌<◌, ◌≤◌, ℤ, pos, negsuc, ◌+ℤ◌, ◌-ℤ◌, ◌*ℤ◌, ◌≤ℤ◌, ◌<ℤ◌, nat_abs, unsigned_abs, SFits, w64, to_z, of_z, to_z-of_z, arith, lt_of_mul-lt-mul_right}
 use mir.Syntax.{w128}
 use Rattle.std.specs.Int.{div_ceil}
 use Rattle.std.proofs.Math.Nat.{lt-div-mul-add, div-lt_iff_lt-mul}
 use Rattle.std.proofs.lemmas.Grind.{div_ceil_times}
 use Rattle.std.proofs.lemmas.Int.{to_z_pos}
-use Rattle.lift_poly.proofs.Ring.{linear, add-mul, one-mul, as_diff, diffs, diff-same}
+use Rattle.lift_poly.proofs.Ring.{linear, add-mul, one-mul, as_diff, diffs, diff-same, mul-comm, mul-assoc, mul-le, mul-lt}
+use Rattle.corner_lift.specs.Quotient.{IsRoundedUp, IsRoundedUpFrom, IsRoundedDown, AtEachScale}
 
 -- ---- rounded down
 
@@ -74,3 +75,34 @@ ceiling_fits q le = record { sfits = omega (arith, linear) }
 
 pub ceiling_is : (q : ℕ) → q ≤ 2 ^ 40 → to_z w64 q ≡ pos q
 ceiling_is q le = to_z_pos w64 q (omega arith)
+
+-- ---- sums and wholes that were divided by the same number
+
+turned : (n whole scale : ℤ) → n *ℤ (whole *ℤ scale) ≡ scale *ℤ (n *ℤ whole)
+turned n whole scale = sym (mul-assoc n whole scale) ∙ mul-comm (n *ℤ whole) scale
+
+scaled_enough : (n sum whole scale : ℤ) → pos 1 ≤ℤ scale → sum ≤ℤ (n *ℤ whole) → (sum *ℤ scale) ≤ℤ (n *ℤ (whole *ℤ scale))
+scaled_enough n sum whole scale some le = omega (arith, linear, mul-le scale sum (n *ℤ whole) (omega (arith, linear, some)) le, turned n whole scale, mul-comm sum scale)
+
+scaled_less : (n sum whole scale : ℤ) → pos 1 ≤ℤ scale → (n *ℤ whole) <ℤ sum → (n *ℤ (whole *ℤ scale)) <ℤ (sum *ℤ scale)
+scaled_less n sum whole scale some lt = omega (arith, linear, mul-lt scale (n *ℤ whole) sum (omega (arith, linear, some)) lt, turned n whole scale, mul-comm sum scale)
+
+scaled_within : (n sum whole scale : ℤ) → pos 1 ≤ℤ scale → (n *ℤ whole) ≤ℤ sum → (n *ℤ (whole *ℤ scale)) ≤ℤ (sum *ℤ scale)
+scaled_within n sum whole scale some le = omega (arith, linear, mul-le scale (n *ℤ whole) sum (omega (arith, linear, some)) le, turned n whole scale, mul-comm sum scale)
+
+scaled_above : (n sum whole scale : ℤ) → pos 1 ≤ℤ scale → sum <ℤ (n *ℤ whole) → (sum *ℤ scale) <ℤ (n *ℤ (whole *ℤ scale))
+scaled_above n sum whole scale some lt = omega (arith, linear, mul-lt scale sum (n *ℤ whole) (omega (arith, linear, some)) lt, turned n whole scale, mul-comm sum scale)
+
+-- the quotients are the same
+pub from_scaled : (n sum whole v scale : ℤ) → pos 1 ≤ℤ scale → IsRoundedUpFrom n sum whole v → IsRoundedUpFrom n (sum *ℤ scale) (whole *ℤ scale) v
+from_scaled n sum whole v scale some found = ⊎_elim
+    (λ (still : (v ≡ n) × (sum ≤ℤ (n *ℤ whole))). inl (still.0, scaled_enough n sum whole scale some still.1))
+    (λ (rose : ((n *ℤ whole) <ℤ sum) × IsRoundedUp sum whole v). inr (scaled_less n sum whole scale some rose.0, (scaled_enough v sum whole scale some rose.1.0, scaled_less (v -ℤ pos 1) sum whole scale some rose.1.1)))
+    found
+
+pub some_scaled : (n sum whole : ℤ) (found : Option ℤ) → IfSome found (λ v. IsRoundedUpFrom n sum whole v) → IfSome found (λ v. AtEachScale (λ sum whole. IsRoundedUpFrom n sum whole v) sum whole)
+some_scaled n sum whole None h = tt
+some_scaled n sum whole (Some v) h = λ scale some. from_scaled n sum whole v scale some h
+
+pub down_scaled : (sum whole q scale : ℤ) → pos 1 ≤ℤ scale → IsRoundedDown sum whole q → IsRoundedDown (sum *ℤ scale) (whole *ℤ scale) q
+down_scaled sum whole q scale some down = (scaled_within q sum whole scale some down.0, scaled_above (q +ℤ pos 1) sum whole scale some down.1)

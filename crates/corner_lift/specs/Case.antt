@@ -25,6 +25,10 @@ pub record CaseData : Type 0 where
 abbrev pub case_of : ModelData → Region → ℕ → CaseData
 case_of m r w = record { model = m; root = r.spans; d = r.d; depth = r.depth; w = w }
 
+-- the same case at the precision u
+abbrev pub at : CaseData → ℕ → CaseData
+at k u = record k { w = u }
+
 -- the greatest precision, by our own profile
 abbrev pub most_precision : ℕ
 most_precision = 40

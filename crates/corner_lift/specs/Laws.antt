@@ -1,5 +1,5 @@
 -- What holds of rows at corners and inside, for who reasons about them.
-use Rattle.std.specs.Prelude.{◌≡◌, ℕ, ◌+◌, ◌^◌, ◌<◌, ℤ, pos, ◌*ℤ◌, ◌≤ℤ◌, ◌<ℤ◌, List, length, All, slice_index_or, count_ones, IsBitSet}
+use Rattle.std.specs.Prelude.{◌≡◌, ℕ, ◌+◌, ◌^◌, ◌<◌, ◌≤◌, ℤ, pos, ◌*ℤ◌, ◌≤ℤ◌, ◌<ℤ◌, List, length, All, slice_index_or, count_ones, IsBitSet}
 use Rattle.lift_poly.specs.Polynomial.{Valuation, weight, denominator}
 use Rattle.lift_grid.specs.Rectangle.{Spans, AreSpans, Inside, corner_side}
 use Rattle.lift_grid.specs.Splitting.{HasHalvings}
@@ -9,7 +9,7 @@ use Rattle.lift_model.specs.Process.{power, weighted_sum}
 use Rattle.lift_model.specs.Model.{ModelData, support, choices, live, row_at, moves_at, process_at}
 use Rattle.lift_model.specs.Links.{targets_of}
 use Rattle.corner_lift.specs.Corner.{AtCorners, corner, parameter_count, corner_weight, corner_sum, no_entry}
-use Rattle.corner_lift.specs.Case.{CaseData, IsAsked, IsCase, IsInside, Within, SumsToOne, row_parameters, row_whole, number}
+use Rattle.corner_lift.specs.Case.{CaseData, IsAsked, IsCase, at, IsInside, Within, SumsToOne, row_parameters, row_whole, number}
 use Rattle.corner_lift.specs.Certificate.{AreNumbers, MeansAtMost, MeansAtLeast}
 
 -- The corner bound for a single entry of a row: where its weight at each corner of the row lies from low to high, so does its weight at every valuation inside, each over its own total.
@@ -20,6 +20,10 @@ CornersBoundWeights = (d : ℤ) (spans : Spans) (row : List Entry) (entry : ℕ)
     → (v : Valuation) → Inside d spans v
     → ((low *ℤ denominator v) ≤ℤ (weight v (slice_index_or row entry no_entry).poly *ℤ power d (parameter_count spans (support row))))
     × ((weight v (slice_index_or row entry no_entry).poly *ℤ power d (parameter_count spans (support row))) ≤ℤ (high *ℤ denominator v))
+
+-- a case at a lower precision is a case
+abbrev pub LowerPrecisionIsCase : Type 0
+LowerPrecisionIsCase = (k : CaseData) (u : ℕ) → IsCase k → 1 ≤ u → u ≤ k.w → IsCase (at k u)
 
 -- there is such a row
 pub record HasRow (k : CaseData) (s a : ℕ) : Type 0 where

@@ -1,8 +1,9 @@
-ghost use Rattle.std.specs.Prelude.{◌≡◌};
+ghost use Rattle.std.specs.Prelude.{◌≡◌, ◌≤◌};
 ghost use Rattle.lift_grid.specs.Parts.{region_of};
-ghost use Rattle.corner_lift.specs.Case.{IsCase, AreSidesInside, case_of, greatest_depth};
+ghost use Rattle.corner_lift.specs.Case.{IsCase, AreSidesInside, case_of, at, greatest_depth};
 ghost use Rattle.lift_grid.specs.Rectangle.{sides_of};
 
+use crate::laws::lower_precisions_are_cases;
 use lift_grid::{Grid, Rect};
 use lift_model::Model;
 
@@ -78,6 +79,16 @@ impl<'m> Case<'m> {
         ensures case { IsCase self.now }
     {
         self.w
+    }
+
+    /// The same case at another precision, from 1 to its own. Takes no memory.
+    pub fn at(&self, u: u32) -> Case<'m>
+        requires positive { 1 ≤ u }
+        requires most { u ≤ self.now.w }
+        ensures { result ≡ at self.now u }
+    {
+        lower_precisions_are_cases();
+        Case::new(self.model, self.root, self.grid, u)
     }
 
     /// The greatest depth of a rectangle: 0 where no parameter is live, and else the grid's depth. Linear

@@ -19,6 +19,7 @@ ghost use Rattle.corner_lift.specs.Laws.{
   RootIsInside,
   HalvesAreInside,
   LiveHasSpan,
+  LowerPrecisionIsCase,
 };
 ghost use Rattle.corner_lift.specs.Premises.{Premises};
 
@@ -81,6 +82,11 @@ pub fn live_parameters_have_spans()
 {
     members_are_below();
 }
+
+/// A case at a lower precision, from 1 on, is a case.
+pub fn lower_precisions_are_cases()
+    ensures { LowerPrecisionIsCase }
+{}
 
 /// Holds the laws of the crates below that rows at corners rest on. It does nothing.
 pub(crate) fn premises()

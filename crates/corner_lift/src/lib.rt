@@ -17,13 +17,15 @@ mod within;
 
 pub use case::Case;
 pub use laws::{
-    corners_bound_weights, halves_are_inside, live_parameters_have_spans, rows_at_corners,
-    rows_inside,
+    corners_bound_weights, halves_are_inside, live_parameters_have_spans,
+    lower_precisions_are_cases, rows_at_corners, rows_inside,
 };
 pub use lifted::Lifted;
 pub use paired::{LaneSum, PairTable};
 pub use precision::one_at;
-pub use quotient::{quotient_of, rounded_down, rounded_up, short_rounded_up};
+pub use quotient::{
+    quotient_of, reaches, rounded_down, rounded_up, rounded_up_from, short_rounded_up, times,
+};
 pub use rate::is_enough;
 pub use row::{raw_weight, row_max, row_min, row_value, weight_into, whole};
 pub use table::{

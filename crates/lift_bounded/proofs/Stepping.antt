@@ -12,11 +12,11 @@ use Rattle.lift_model.specs.Links.{HasChoice}
 use Rattle.corner_lift.specs.Corner.{parameter_count, whole}
 use Rattle.corner_lift.specs.Case.{CaseData, IsCase, IsInside, IsGreatest, IsLeast, number, row_value, row_whole, row_parameters, corner_count, most_precision, engine_limit}
 use Rattle.corner_lift.specs.Certificate.{AreNumbers, MeansAtMost, MeansAtLeast, mark}
-use Rattle.corner_lift.specs.Quotient.{IsRoundedDown, IsRoundedUp}
+use Rattle.corner_lift.specs.Quotient.{IsRoundedDown, IsRoundedUp, IsRoundedUpFrom, AtEachScale}
 use Rattle.corner_lift.specs.Table.{IsWhole}
 use Rattle.corner_lift.specs.Laws.{ParametersAreTheRoots, SumsAreInRange, HasRow}
 use Rattle.lift_bounded.specs.Steps.{IsLeastStep, IsGreatestStep}
-use Rattle.lift_bounded.specs.Stepping.{IsFirstFrom, Covers, IsNeeded, IsRaised, IsLeastFor, IsUpperAt, Holds, IsMostHeld, IsGreatestFor, IsLowerAt, IsBetter, StepsRise}
+use Rattle.lift_bounded.specs.Stepping.{Covers, IsNeeded, IsRaised, IsLeastFor, IsUpperAt, Holds, IsMostHeld, IsGreatestFor, IsLowerAt, IsBetter, StepsRise}
 use Rattle.lift_bounded.specs.declared.steps.Picked.{Picked}
 
 -- ---- order
@@ -67,31 +67,6 @@ held_of k spans y s a z full q least range is down =
 pub scaled_least : (sum scale : ℤ) → pos 1 ≤ℤ scale → pos 0 ≤ℤ (sum *ℤ scale) → pos 0 ≤ℤ sum
 scaled_least sum scale some least = mul-le_cancel scale (pos 0) sum (omega (arith, linear, some)) (omega (arith, linear, least, mul-zero scale, mul-comm sum scale))
 
-turned : (n full scale : ℤ) → n *ℤ (full *ℤ scale) ≡ scale *ℤ (n *ℤ full)
-turned n full scale = sym (mul-assoc n full scale) ∙ mul-comm (n *ℤ full) scale
-
-scaled_enough : (n sum full scale : ℤ) → pos 1 ≤ℤ scale → sum ≤ℤ (n *ℤ full) → (sum *ℤ scale) ≤ℤ (n *ℤ (full *ℤ scale))
-scaled_enough n sum full scale some le = omega (arith, linear, mul-le scale sum (n *ℤ full) (omega (arith, linear, some)) le, turned n full scale, mul-comm sum scale)
-
-scaled_within : (n sum full scale : ℤ) → pos 1 ≤ℤ scale → (n *ℤ full) ≤ℤ sum → (n *ℤ (full *ℤ scale)) ≤ℤ (sum *ℤ scale)
-scaled_within n sum full scale some le = omega (arith, linear, mul-le scale (n *ℤ full) sum (omega (arith, linear, some)) le, turned n full scale, mul-comm sum scale)
-
-scaled_less : (n sum full scale : ℤ) → pos 1 ≤ℤ scale → (n *ℤ full) <ℤ sum → (n *ℤ (full *ℤ scale)) <ℤ (sum *ℤ scale)
-scaled_less n sum full scale some lt = omega (arith, linear, mul-lt scale (n *ℤ full) sum (omega (arith, linear, some)) lt, turned n full scale, mul-comm sum scale)
-
-scaled_above : (n sum full scale : ℤ) → pos 1 ≤ℤ scale → sum <ℤ (n *ℤ full) → (sum *ℤ scale) <ℤ (n *ℤ (full *ℤ scale))
-scaled_above n sum full scale some lt = omega (arith, linear, mul-lt scale sum (n *ℤ full) (omega (arith, linear, some)) lt, turned n full scale, mul-comm sum scale)
-
--- the quotients are the same
-first_scaled : (n sum full scale v : ℤ) → pos 1 ≤ℤ scale → IsFirstFrom n sum full v → IsFirstFrom n (sum *ℤ scale) (full *ℤ scale) v
-first_scaled n sum full scale v some found = ⊎_elim
-    (λ (still : (v ≡ n) × (sum ≤ℤ (n *ℤ full))). inl (still.0, scaled_enough n sum full scale some still.1))
-    (λ (rose : ((n *ℤ full) <ℤ sum) × IsRoundedUp sum full v). inr (scaled_less n sum full scale some rose.0, (scaled_enough v sum full scale some rose.1.0, scaled_less (v -ℤ pos 1) sum full scale some rose.1.1)))
-    found
-
-down_scaled : (sum full scale q : ℤ) → pos 1 ≤ℤ scale → IsRoundedDown sum full q → IsRoundedDown (sum *ℤ scale) (full *ℤ scale) q
-down_scaled sum full scale q some down = (scaled_within q sum full scale some down.0, scaled_above (q +ℤ pos 1) sum full scale some down.1)
-
 map_some : (P Q : ℤ → Type 0) (o : Option ℤ) → ((v : ℤ) → P v → Q v) → IfSome o P → IfSome o Q
 map_some P Q None f h = tt
 map_some P Q (Some v) f h = f v h
@@ -123,7 +98,7 @@ room_of k s a number full is least most = is.room (unsigned_abs number) (abs_sma
 
 module _ (range : SumsAreInRange) (k : CaseData) (spans : Spans) (x : List ℤ) (s a : ℕ) (is : IsCase k) (within : IsInside k.root spans) (row : HasChoice k.model s a) (numbers : AreNumbers k x) where
   -- what the code finds from u on
-  pub raised_of : (u z full v : ℤ) → IsGreatest (row_value k spans s a x) (corner_count k s a) z → IsWhole k s a full → IsFirstFrom u z full v → IsRaised k spans x s a u v
+  pub raised_of : (u z full v : ℤ) → IsGreatest (row_value k spans s a x) (corner_count k s a) z → IsWhole k s a full → IsRoundedUpFrom u z full v → IsRaised k spans x s a u v
   raised_of u z full v greatest whole_is first =
       let positive : pos 1 ≤ℤ full = whole_is.positive in
       let same : (n : ℤ) → n *ℤ full ≡ n *ℤ row_whole k s a = λ n. ap (λ w. n *ℤ w) whole_is.value in
@@ -135,10 +110,10 @@ module _ (range : SumsAreInRange) (k : CaseData) (spans : Spans) (x : List ℤ) 
       first
 
   -- the same, where the sum and the whole were divided by the same number
-  pub lane_raised : (u sum full scale : ℤ) (found : Option ℤ) → pos 1 ≤ℤ scale → IsGreatest (row_value k spans s a x) (corner_count k s a) (sum *ℤ scale) → IsWhole k s a (full *ℤ scale) → IfSome found (λ v. IsFirstFrom u sum full v) → IfSome found (IsRaised k spans x s a u)
+  pub lane_raised : (u sum full scale : ℤ) (found : Option ℤ) → pos 1 ≤ℤ scale → IsGreatest (row_value k spans s a x) (corner_count k s a) (sum *ℤ scale) → IsWhole k s a (full *ℤ scale) → IfSome found (λ v. AtEachScale (λ whole_sum whole. IsRoundedUpFrom u whole_sum whole v) sum full) → IfSome found (IsRaised k spans x s a u)
   lane_raised u sum full scale found some greatest whole_is first =
-      map_some (λ v. IsFirstFrom u sum full v) (IsRaised k spans x s a u) found
-      (λ v is_first. raised_of u (sum *ℤ scale) (full *ℤ scale) v greatest whole_is (first_scaled u sum full scale v some is_first)) first
+      map_some (λ v. AtEachScale (λ whole_sum whole. IsRoundedUpFrom u whole_sum whole v) sum full) (IsRaised k spans x s a u) found
+      (λ v is_first. raised_of u (sum *ℤ scale) (full *ℤ scale) v greatest whole_is (is_first scale some)) first
 
   pub lane_least : (sum scale : ℤ) → pos 1 ≤ℤ scale → IsGreatest (row_value k spans s a x) (corner_count k s a) (sum *ℤ scale) → pos 0 ≤ℤ sum
   lane_least sum scale some greatest = scaled_least sum scale some (greatest_range range k spans x s a (sum *ℤ scale) is within (has_row k s a row) numbers greatest).0
@@ -151,10 +126,10 @@ module _ (range : SumsAreInRange) (k : CaseData) (spans : Spans) (x : List ℤ) 
   pub held_by : (z full q : ℤ) → IsLeast (row_value k spans s a x) (corner_count k s a) z → IsWhole k s a full → IsRoundedDown z full q → IsMostHeld k spans x s a q
   held_by z full q least whole_is down = held_of k spans x s a z full q least (least_range range k spans x s a z is within (has_row k s a row) numbers least) whole_is down
 
-  pub lane_held : (sum full scale : ℤ) (found : Option ℤ) → pos 1 ≤ℤ scale → IsLeast (row_value k spans s a x) (corner_count k s a) (sum *ℤ scale) → IsWhole k s a (full *ℤ scale) → IfSome found (λ q. IsRoundedDown sum full q) → IfSome found (IsMostHeld k spans x s a)
+  pub lane_held : (sum full scale : ℤ) (found : Option ℤ) → pos 1 ≤ℤ scale → IsLeast (row_value k spans s a x) (corner_count k s a) (sum *ℤ scale) → IsWhole k s a (full *ℤ scale) → IfSome found (λ q. AtEachScale (λ whole_sum whole. IsRoundedDown whole_sum whole q) sum full) → IfSome found (IsMostHeld k spans x s a)
   lane_held sum full scale found some least whole_is down =
-      map_some (λ q. IsRoundedDown sum full q) (IsMostHeld k spans x s a) found
-      (λ q is_down. held_by (sum *ℤ scale) (full *ℤ scale) q least whole_is (down_scaled sum full scale q some is_down)) down
+      map_some (λ q. AtEachScale (λ whole_sum whole. IsRoundedDown whole_sum whole q) sum full) (IsMostHeld k spans x s a) found
+      (λ q is_down. held_by (sum *ℤ scale) (full *ℤ scale) q least whole_is (is_down scale some)) down
 
   pub most_of_least : (z full : ℤ) → IsWhole k s a full → IsLeast (row_value k spans s a x) (corner_count k s a) z → (pos 0 ≤ℤ z) × (z <ℤ (pos (2 ^ 41) *ℤ full))
   most_of_least z full whole_is least =

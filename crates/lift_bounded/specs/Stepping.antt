@@ -5,7 +5,6 @@ use Rattle.lift_model.specs.Model.{is_goal, choices}
 use Rattle.corner_lift.specs.Case.{CaseData, row_value, row_whole, corner_count, number}
 use Rattle.corner_lift.specs.Certificate.{AreNumbers, AtMost, unmarked}
 use Rattle.corner_lift.specs.Lifted.{LiftedData, IsLiftedTo}
-use Rattle.corner_lift.specs.Quotient.{IsRoundedUp}
 use Rattle.lift_bounded.specs.Steps.{IsUpperStep}
 use Rattle.lift_bounded.specs.declared.steps.Picked.{Picked}
 
@@ -19,10 +18,6 @@ abbrev pub StepsRise : CaseData → Spans → List ℤ → Type 0
 StepsRise k spans x = (z : List ℤ) → IsUpperStep k spans x z → AtMost x z
 
 -- ---- above
-
--- the least number from n on that times the whole is at least the sum: n, or else the quotient
-abbrev pub IsFirstFrom : ℤ → ℤ → ℤ → ℤ → Type 0
-IsFirstFrom n sum whole v = ((v ≡ n) × (sum ≤ℤ (n *ℤ whole))) ⊎ (((n *ℤ whole) <ℤ sum) × IsRoundedUp sum whole v)
 
 -- at each corner of the choice the weighted mean of x is at most v
 abbrev pub Covers : CaseData → Spans → List ℤ → ℕ → ℕ → ℤ → Type 0

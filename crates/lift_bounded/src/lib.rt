@@ -6,7 +6,6 @@ mod decision;
 mod halves;
 mod laws;
 mod room;
-mod rounding;
 mod steps;
 mod vectors;
 mod walking;

@@ -18,8 +18,7 @@ ghost use Rattle.lift_bounded.specs.Stepping.{
   StepsRise,
 };
 
-use crate::rounding::{lane_down, lane_from, least_from};
-use corner_lift::{Lifted, Weighed, rounded_down, rows_at_corners};
+use corner_lift::{Lifted, Weighed, rounded_down, rounded_up_from, rows_at_corners};
 
 /// In place of a pick where a state has none.
 const UNMARKED: u32 = u32::MAX;
@@ -43,7 +42,7 @@ fn raised_by_pair(rows: &Lifted, old: &[i64], s: u32, a: u32, number: i64) -> Op
     rows_at_corners();
     let _ = rows.w();
     let row = rows.greatest(s, a, old)?;
-    lane_from(number, row)
+    row.rounded_up_from(number)
 }
 
 /// The same of any row.
@@ -58,7 +57,7 @@ fn raised_by_row(rows: &Lifted, old: &[i64], s: u32, a: u32, number: i64) -> i64
     rows_at_corners();
     let _ = rows.w();
     let Weighed { sum, whole } = rows.table_greatest(s, a, old);
-    least_from(number, sum, whole)
+    rounded_up_from(number, sum, whole)
 }
 
 /// The least number from this one on that covers a choice.
@@ -87,7 +86,7 @@ fn held_by_pair(rows: &Lifted, old: &[i64], s: u32, a: u32) -> Option<i64>
     rows_at_corners();
     let _ = rows.w();
     let row = rows.least(s, a, old)?;
-    lane_down(row)
+    row.quotient_down()
 }
 
 /// The same of any row.

@@ -19,11 +19,11 @@ use Rattle.corner_lift.specs.Certificate.{AreNumbers, AtMost}
 use Rattle.corner_lift.specs.Corner.{corner, corner_sum, whole, parameter_count}
 use Rattle.corner_lift.specs.Case.{CaseData, IsCase, IsInside, number, row_value, row_whole, corner_count, row_parameters, most_precision, engine_limit}
 use Rattle.corner_lift.specs.Dot.{only_at}
-use Rattle.corner_lift.specs.Quotient.{IsRoundedUp}
+use Rattle.corner_lift.specs.Quotient.{IsRoundedUp, IsRoundedUpFrom}
 use Rattle.corner_lift.specs.Laws.{HasRow, ParametersAreTheRoots, NumbersAreInRange, SumsAreInRange, SumsRise, WeightsSumToWhole}
 use Rattle.float_guess.specs.declared.part.Extreme.{Extreme}
 use Rattle.float_guess.specs.declared.part.Extreme.TheVariants.{Greatest, Least}
-use Rattle.rounded_iter.specs.Rising.{Across, IsExtreme, IsMoreExtreme, IsEnoughAt, SolvesAt, IsSolved, IsFirstFrom}
+use Rattle.rounded_iter.specs.Rising.{Across, IsExtreme, IsMoreExtreme, IsEnoughAt, SolvesAt, IsSolved}
 
 -- ---- order
 
@@ -480,7 +480,7 @@ module _ (laws : RowLaws) (k : CaseData) (spans : Spans) (is : IsCase k) (within
           nothing c m = ap (λ w. m *ℤ w) (own_none (corner k.d spans (support row) c) s row none) ∙ mul-zero m
 
       -- the least number from the state's own on that times the whole is at least the value
-      pub first_solved : (Contains (targets_of row) s → ⊥) → pos 1 ≤ℤ full → (v : ℤ) → IsFirstFrom n z full v → IsSolved e k spans x s a (corner_count k s a) v
+      pub first_solved : (Contains (targets_of row) s → ⊥) → pos 1 ≤ℤ full → (v : ℤ) → IsRoundedUpFrom n z full v → IsSolved e k spans x s a (corner_count k s a) v
       first_solved none positive v found = ⊎_elim
           (λ (still : (v ≡ n) × (z ≤ℤ (n *ℤ full))). rw still.0 (still_solved still.1))
           (λ (rose : ((n *ℤ full) <ℤ z) × IsRoundedUp z full v). lone_solved none positive rose.0 v rose.1.0 rose.1.1)
@@ -508,22 +508,6 @@ pair_others m l s p pair at = neither p.first p.second pair.others.0 pair.others
 
 pub scaled_least : (sum scale : ℤ) → pos 1 ≤ℤ scale → pos 0 ≤ℤ (sum *ℤ scale) → pos 0 ≤ℤ sum
 scaled_least sum scale some least = mul-le_cancel scale (pos 0) sum (omega (arith, linear, some)) (omega (arith, linear, least, mul-zero scale, mul-comm sum scale))
-
-turned : (n whole scale : ℤ) → n *ℤ (whole *ℤ scale) ≡ scale *ℤ (n *ℤ whole)
-turned n whole scale = sym (mul-assoc n whole scale) ∙ mul-comm (n *ℤ whole) scale
-
-scaled_enough : (n sum whole scale : ℤ) → pos 1 ≤ℤ scale → sum ≤ℤ (n *ℤ whole) → (sum *ℤ scale) ≤ℤ (n *ℤ (whole *ℤ scale))
-scaled_enough n sum whole scale some le = omega (arith, linear, mul-le scale sum (n *ℤ whole) (omega (arith, linear, some)) le, turned n whole scale, mul-comm sum scale)
-
-scaled_less : (n sum whole scale : ℤ) → pos 1 ≤ℤ scale → (n *ℤ whole) <ℤ sum → (n *ℤ (whole *ℤ scale)) <ℤ (sum *ℤ scale)
-scaled_less n sum whole scale some lt = omega (arith, linear, mul-lt scale (n *ℤ whole) sum (omega (arith, linear, some)) lt, turned n whole scale, mul-comm sum scale)
-
--- the quotient is the same
-pub first_scaled : (n sum whole scale v : ℤ) → pos 1 ≤ℤ scale → IsFirstFrom n sum whole v → IsFirstFrom n (sum *ℤ scale) (whole *ℤ scale) v
-first_scaled n sum whole scale v some found = ⊎_elim
-    (λ (still : (v ≡ n) × (sum ≤ℤ (n *ℤ whole))). inl (still.0, scaled_enough n sum whole scale some still.1))
-    (λ (rose : ((n *ℤ whole) <ℤ sum) × IsRoundedUp sum whole v). inr (scaled_less n sum whole scale some rose.0, (scaled_enough v sum whole scale some rose.1.0, scaled_less (v -ℤ pos 1) sum whole scale some rose.1.1)))
-    found
 
 pub map_some : (P Q : ℤ → Type 0) (o : Option ℤ) → ((v : ℤ) → P v → Q v) → IfSome o P → IfSome o Q
 map_some P Q None f h = tt

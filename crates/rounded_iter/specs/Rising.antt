@@ -6,7 +6,6 @@ use Rattle.lift_model.specs.Links.{LinksData, AreLinks, HasChoice, targets_of}
 use Rattle.corner_lift.specs.Case.{CaseData, IsCase, IsGreatest, IsLeast, number, row_value, row_whole, corner_count}
 use Rattle.corner_lift.specs.Certificate.{AreNumbers, AtMost}
 use Rattle.corner_lift.specs.Table.{IsTable}
-use Rattle.corner_lift.specs.Quotient.{IsRoundedUp}
 use Rattle.float_guess.specs.declared.part.Extreme.{Extreme}
 use Rattle.float_guess.specs.declared.part.Extreme.TheVariants.{Greatest, Least}
 
@@ -77,10 +76,6 @@ pub record IsLeastBound (e : Extreme) (k : CaseData) (spans : Spans) (x : List �
   pub least : (y : List ℤ) → IsEnoughEverywhere e k spans y → AtMost x y
 
 -- ---- one choice
-
--- the least number from n on that times the whole is at least the sum: n, or else the quotient
-abbrev pub IsFirstFrom : ℤ → ℤ → ℤ → ℤ → Type 0
-IsFirstFrom n sum whole v = ((v ≡ n) × (sum ≤ℤ (n *ℤ whole))) ⊎ (((n *ℤ whole) <ℤ sum) × IsRoundedUp sum whole v)
 
 -- what it needs to try a choice
 pub record CanTry (t : TableData) (spans : Spans) (x : List ℤ) (s a : ℕ) : Type 0 where

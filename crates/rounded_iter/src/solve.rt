@@ -7,130 +7,15 @@ ghost use Rattle.lift_grid.specs.Rectangle.{Spans};
 ghost use Rattle.corner_lift.specs.Case.{row_value, row_whole, corner_count, most_precision, engine_limit};
 ghost use Rattle.corner_lift.specs.Table.{IsWhole, HasShortSums};
 ghost use Rattle.corner_lift.specs.Paired.{IsWholeOver};
-ghost use Rattle.rounded_iter.specs.Rising.{CanTry, CanTryOther, CanTryOnly, CanSolve, IsExtreme, IsMoreExtreme, SolvesAt, IsSolved, IsFirstFrom};
+ghost use Rattle.rounded_iter.specs.Rising.{CanTry, CanTryOther, CanTryOnly, CanSolve, IsExtreme, IsMoreExtreme, SolvesAt, IsSolved};
 
 use crate::table::Table;
 use corner_lift::{
-    AtCorner, LaneSum, Others, Weighed, corners_bound_weights, has_short_sums, rounded_up,
-    rows_at_corners, short_rounded_up, table_others,
+    AtCorner, LaneSum, Others, Weighed, corners_bound_weights, has_short_sums, reaches, rounded_up,
+    rounded_up_from, rows_at_corners, table_others, times,
 };
 use float_guess::Extreme;
 use lift_model::{OnlyRow, PairRow};
-
-/// A number times a weight.
-fn times(number: i64, weight: i128) -> i128
-    requires room { unsigned_abs number * unsigned_abs weight < engine_limit }
-    ensures { result ≡ number *ℤ weight }
-{
-    i128::from(number) * weight
-}
-
-/// Whether the one number is at most the other.
-#[inline(always)]
-fn is_at_most(sum: i64, most: i64) -> bool
-    ensures within { IsTrue result → sum ≤ℤ most }
-    ensures above { IsFalse result → most <ℤ sum }
-{
-    sum <= most
-}
-
-/// Whether a number times the whole is at least the sum; none where 64 bits don't hold the product.
-#[inline(always)]
-fn reaches(number: i64, sum: i64, whole: i64) -> Option<bool>
-    ensures enough { IfSome result (λ yes. IsTrue yes → sum ≤ℤ (number *ℤ whole)) }
-    ensures less { IfSome result (λ yes. IsFalse yes → (number *ℤ whole) <ℤ sum) }
-{
-    match number.checked_mul(whole) {
-        Some(product) => Some(is_at_most(sum, product)),
-        None => None,
-    }
-}
-
-/// The least number from this one on that times the whole is at least the sum, where 64 bits hold the numbers and
-/// floats find it.
-#[inline(always)]
-fn short_from(number: i64, sum: i64, whole: i64) -> Option<i64>
-    requires least { pos 0 ≤ℤ sum }
-    requires positive { pos 1 ≤ℤ whole }
-    ensures { IfSome result (λ v. IsFirstFrom number sum whole v) }
-{
-    if reaches(number, sum, whole)? {
-        Some(number)
-    } else {
-        short_rounded_up(sum, whole)
-    }
-}
-
-/// The least number from this one on that times the row's whole is at least its sum, where 64 bits hold the numbers and
-/// the row's guess finds it.
-#[inline(always)]
-fn lane_from(number: i64, row: LaneSum) -> Option<i64>
-    requires least { pos 0 ≤ℤ row.sum }
-    requires positive { pos 1 ≤ℤ row.whole }
-    ensures { IfSome result (λ v. IsFirstFrom number row.sum row.whole v) }
-{
-    if reaches(number, row.sum, row.whole)? {
-        Some(number)
-    } else {
-        row.rounded_up()
-    }
-}
-
-/// The same of numbers that 64 bits may not hold.
-#[inline(always)]
-fn quick_from(number: i64, sum: i128, whole: i128) -> Option<i64>
-    requires least { pos 0 ≤ℤ sum }
-    requires positive { pos 1 ≤ℤ whole }
-    ensures { IfSome result (λ v. IsFirstFrom number sum whole v) }
-{
-    let Ok(short_sum) = i64::try_from(sum) else {
-        return None;
-    };
-    let Ok(short_whole) = i64::try_from(whole) else {
-        return None;
-    };
-    short_from(number, short_sum, short_whole)
-}
-
-/// Whether a number times the whole is at least the sum.
-fn is_reached(number: i64, sum: i128, whole: i128) -> bool
-    requires room { unsigned_abs number * unsigned_abs whole < engine_limit }
-    ensures enough { IsTrue result → sum ≤ℤ (number *ℤ whole) }
-    ensures less { IsFalse result → (number *ℤ whole) <ℤ sum }
-{
-    sum <= times(number, whole)
-}
-
-/// The least number from this one on that times the whole is at least the sum, where the numbers may be wide.
-#[inline(never)]
-fn divided_from(number: i64, sum: i128, whole: i128) -> i64
-    requires room { unsigned_abs number * unsigned_abs whole < engine_limit }
-    requires least { pos 0 ≤ℤ sum }
-    requires positive { pos 1 ≤ℤ whole }
-    requires most { sum ≤ℤ (pos (2 ^ most_precision) *ℤ whole) }
-    ensures { IsFirstFrom number sum whole result }
-{
-    if is_reached(number, sum, whole) {
-        number
-    } else {
-        rounded_up(sum, whole)
-    }
-}
-
-/// The least number from this one on that times the whole is at least the sum.
-#[inline]
-fn least_from(number: i64, sum: i128, whole: i128) -> i64
-    requires room { unsigned_abs number * unsigned_abs whole < engine_limit }
-    requires least { pos 0 ≤ℤ sum }
-    requires positive { pos 1 ≤ℤ whole }
-    requires most { sum ≤ℤ (pos (2 ^ most_precision) *ℤ whole) }
-    ensures { IsFirstFrom number sum whole result }
-{
-    match quick_from(number, sum, whole) {
-        Some(least) => least,
-        None => divided_from(number, sum, whole),
-    }
-}
 
 /// The greater or the lesser of two numbers.
 fn more_extreme(extreme: Extreme, a: i64, b: i64) -> i64
@@ -227,7 +112,7 @@ impl Table<'_> {
             lane,
         );
         let (sum, whole) = (i128::from(sum), i128::from(whole));
-        if is_reached(number, sum, whole) {
+        if reaches(number, sum, whole) {
             return number;
         }
         rounded_up(sum, whole)
@@ -279,7 +164,7 @@ impl Table<'_> {
         corners_bound_weights();
         let number = lane[s as usize];
         let Weighed { sum, whole } = self.weigh(lane, s, a);
-        least_from(number, sum, whole)
+        rounded_up_from(number, sum, whole)
     }
 
     /// The same of a row of two entries that is quickly looked up.
@@ -292,7 +177,7 @@ impl Table<'_> {
         rows_at_corners();
         corners_bound_weights();
         let row = self.weigh_pair(lane, s, a)?;
-        lane_from(lane[s as usize], row)
+        row.rounded_up_from(lane[s as usize])
     }
 
     /// The same of the only row of a state, which has two entries, if it is quickly looked up.
@@ -306,7 +191,7 @@ impl Table<'_> {
         rows_at_corners();
         corners_bound_weights();
         let row = self.weigh_only_pair(lane, s, row)?;
-        lane_from(lane[s as usize], row)
+        row.rounded_up_from(lane[s as usize])
     }
 
     /// The least number from the state's own on that is enough for the only row of a state, which leads to that state

@@ -8,4 +8,4 @@ returns g c =
     let row = c.in_ok-row.row in
     let found = c.in_ok-row.ensures in
     let is : IsCase k = c.w.ensures.case in
-    lane_held c.rows_at_corners.ensures.range k g.spans c.args.old.now c.args.s c.args.a is c.requires.0.lifted.inside c.requires.1 c.requires.0.numbers row.sum row.whole row.scale c.lane_down.result found.whole.1.0 found.least found.whole.1.1 c.lane_down.ensures
+    lane_held c.rows_at_corners.ensures.range k g.spans c.args.old.now c.args.s c.args.a is c.requires.0.lifted.inside c.requires.1 c.requires.0.numbers row.sum row.whole row.scale c.quotient_down.result found.whole.1.0 found.least found.whole.1.1 c.quotient_down.ensures

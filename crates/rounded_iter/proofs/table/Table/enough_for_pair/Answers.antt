@@ -1,11 +1,12 @@
 use Rattle.std.proofs.Common.{rules, ◌*ℤ◌, SFits, w64, to_z-of_z}
 use Rattle.corner_lift.specs.Case.{number, corner_count}
-use Rattle.rounded_iter.specs.Rising.{IsSolved, IsFirstFrom}
-use Rattle.rounded_iter.proofs.Solving.{laws_of, extreme_least, first_scaled, first_solved, map_some, scaled_least}
+use Rattle.corner_lift.specs.Quotient.{IsRoundedUpFrom, AtEachScale}
+use Rattle.rounded_iter.specs.Rising.{IsSolved}
+use Rattle.rounded_iter.proofs.Solving.{laws_of, extreme_least, first_solved, map_some, scaled_least}
 use Rattle.rounded_iter.proofs.table.Table.enough_for_pair.Goals as goal
 
-pub lane_from-requires-clause-least : goal.lane_from-requires-clause-least
-lane_from-requires-clause-least g c =
+pub rounded_up_from-requires-clause-least : goal.rounded_up_from-requires-clause-least
+rounded_up_from-requires-clause-least g c =
     let t = c.args.self.now in
     let can = c.requires.can in
     let row = c.in_ok-row.row in
@@ -19,8 +20,8 @@ returns g c =
     let row = c.in_ok-row.row in
     let found = c.in_ok-row.ensures in
     let number_fits : SFits w64 (number c.args.lane.now c.args.s) = search rules in
-    let first = rw (to_z-of_z number_fits) at c.lane_from.ensures in
+    let first = rw (to_z-of_z number_fits) at c.rounded_up_from.ensures in
     let n = number c.args.lane.now c.args.s in
-    map_some (λ v. IsFirstFrom n row.sum row.whole v) (λ v. IsSolved t.extreme t.case g.spans c.args.lane.now c.args.s c.args.a (corner_count t.case c.args.s c.args.a) v) c.lane_from.result
-    (λ v is. first_solved (laws_of c.rows_at_corners.ensures.parameters c.rows_at_corners.ensures.numbers c.rows_at_corners.ensures.range c.rows_at_corners.ensures.rise c.corners_bound_weights.ensures.sum) t.case g.spans can.read.case can.read.table.inside c.args.s c.args.a can.row c.args.lane.now can.numbers t.extreme (row.sum *ℤ row.scale) found.extreme c.requires.other (rw found.whole.1.1.value at found.whole.1.1.positive) v (rw found.whole.1.1.value at (first_scaled n row.sum row.whole row.scale v found.whole.1.0 is)))
+    map_some (λ v. AtEachScale (λ sum whole. IsRoundedUpFrom n sum whole v) row.sum row.whole) (λ v. IsSolved t.extreme t.case g.spans c.args.lane.now c.args.s c.args.a (corner_count t.case c.args.s c.args.a) v) c.rounded_up_from.result
+    (λ v is. first_solved (laws_of c.rows_at_corners.ensures.parameters c.rows_at_corners.ensures.numbers c.rows_at_corners.ensures.range c.rows_at_corners.ensures.rise c.corners_bound_weights.ensures.sum) t.case g.spans can.read.case can.read.table.inside c.args.s c.args.a can.row c.args.lane.now can.numbers t.extreme (row.sum *ℤ row.scale) found.extreme c.requires.other (rw found.whole.1.1.value at found.whole.1.1.positive) v (rw found.whole.1.1.value at (is row.scale found.whole.1.0)))
     first

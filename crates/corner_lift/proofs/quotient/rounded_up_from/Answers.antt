@@ -1,5 +1,5 @@
 use Rattle.std.proofs.Common.{rules, SFits, w64, to_z-of_z}
-use Rattle.rounded_iter.proofs.solve.least_from.Goals as goal
+use Rattle.corner_lift.proofs.quotient.rounded_up_from.Goals as goal
 
 pub returns-in-Some : goal.returns-in-Some
 returns-in-Some c =
