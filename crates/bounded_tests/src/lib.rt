@@ -1,8 +1,10 @@
-//! Tests of bounded steps: the text of a tree, for models and regions given as texts. Texts are handed on as
+//! Tests of bounded steps, the text of a tree, and of lumping, for models and regions given as texts. Texts are handed on as
 //! parameters, so that no proof computes what a text stands for.
 #![tactic(auto)]
 
 #[cfg(test)]
 mod cases;
+#[cfg(test)]
+mod lumping;
 #[cfg(test)]
 mod trees;

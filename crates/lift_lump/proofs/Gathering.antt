@@ -15,7 +15,7 @@ use Rattle.lift_lump.proofs.Holding.{weight-append}
 -- ---- congruence
 
 -- a remainder differs by a multiple
-remainder : (a n : ℕ) → pos (a % n) ≡ pos a +ℤ neg_ℤ (pos (a / n)) *ℤ pos n
+pub remainder : (a n : ℕ) → pos (a % n) ≡ pos a +ℤ neg_ℤ (pos (a / n)) *ℤ pos n
 remainder a n =
     let e = mul-comm (neg_ℤ (pos (a / n))) (pos n) ∙ mul-neg (pos n) (pos (a / n)) in
     let f : pos n *ℤ pos (a / n) ≡ pos (n * (a / n)) = refl in
@@ -28,7 +28,7 @@ congruent_sum : (x y : ℕ) (a b : ℤ) → IsCongruent x a → IsCongruent y b 
 congruent_sum x y a b p q =
     ((p.0 +ℤ q.0) +ℤ neg_ℤ (pos ((x + y) / modulus)), sum_at modulus x y a b p.0 q.0 (neg_ℤ (pos ((x + y) / modulus))) p.1 q.1 (remainder (x + y) modulus))
 
-congruent_none : (x : ℕ) → x ≡ 0 → IsCongruent x (pos 0)
+pub congruent_none : (x : ℕ) → x ≡ 0 → IsCongruent x (pos 0)
 congruent_none x e = (pos 0, ap pos e)
 
 -- ---- terms

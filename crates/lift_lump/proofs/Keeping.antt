@@ -14,7 +14,7 @@ use Rattle.lift_lump.specs.Laws.{SplitsKeep}
 use Rattle.lift_lump.proofs.Grouping.{IsAdditive, flat, grouped, grouped-flat}
 use Rattle.lift_lump.proofs.Holding.{targets_inside}
 
-coefficient-append : (set : ℕ) (ts us : List Term) → coefficient set (ts ++ us) ≡ coefficient set ts +ℤ coefficient set us
+pub coefficient-append : (set : ℕ) (ts us : List Term) → coefficient set (ts ++ us) ≡ coefficient set ts +ℤ coefficient set us
 coefficient-append set [] us = omega (arith, linear)
 coefficient-append set (t ∷ ts) us = omega (arith, linear, coefficient-append set ts us)
 

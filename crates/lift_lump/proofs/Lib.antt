@@ -16,3 +16,12 @@ mod Renaming
 mod Stepping
 mod Touching
 mod Settling
+mod Clearing
+mod Marking
+mod Entering
+mod Counting
+mod Starting
+mod Adding
+mod Likening
+mod Naming
+mod Quotients

@@ -11,10 +11,10 @@ use Rattle.lift_lump.specs.Quotient.{one_entry, entries_into}
 use Rattle.lift_lump.specs.Laws.{EntriesTellSums}
 
 -- the entries to one target
-abbrev entries_to : ℕ → List Entry → List Term
+abbrev pub entries_to : ℕ → List Entry → List Term
 entries_to b row = terms_into (λ u. nat_eq u b) row
 
-to-append : (b : ℕ) (xs ys : List Entry) → entries_to b (xs ++ ys) ≡ entries_to b xs ++ entries_to b ys
+pub to-append : (b : ℕ) (xs ys : List Entry) → entries_to b (xs ++ ys) ≡ entries_to b xs ++ entries_to b ys
 to-append b [] ys = refl
 to-append b (e ∷ xs) ys = ap (λ (r : List Term). cond (nat_eq e.target b) e.poly [] ++ r) (to-append b xs ys) ∙ sym (append_assoc (cond (nat_eq e.target b) e.poly []) (entries_to b xs) (entries_to b ys))
 

@@ -3,4 +3,9 @@ pub mod Quotient
 pub mod Search
 pub mod Renaming
 pub mod Splitting
+pub mod Summing
+pub mod Comparing
+pub mod Finding
 pub mod Laws
+pub mod LumpedData
+pub mod Lumped

@@ -1,8 +1,9 @@
 -- What the search for the coarsest right partition keeps. A state's entries into a set are told by a number: their weight at some valuation, up to multiples of a prime. Entries that sum to the same have the same number, so states that a number tells apart have different sums.
-use Rattle.std.specs.Prelude.{◌⊎◌, ◌≡◌, ◌≢◌, ℕ, ◌+◌, ◌-◌, ◌%◌, ◌^◌, ◌<◌, ◌==◌, Bool, true, false, List, ℤ, pos, ◌+ℤ◌, ◌*ℤ◌, length, [], sum_by, slice_index_or, All, Contains, if◌then◌else◌}
+use Rattle.std.specs.Prelude.{◌⊎◌, ◌≡◌, ◌≢◌, ℕ, ◌+◌, ◌-◌, ◌%◌, ◌^◌, ◌<◌, ◌==◌, Bool, true, false, List, ℤ, pos, ◌+ℤ◌, ◌*ℤ◌, length, [], sum_by, map, slice_index_or, All, Contains, if◌then◌else◌}
 use Rattle.lift_poly.specs.Polynomial.{Valuation, weight}
 use Rattle.lift_model.specs.Model.{ModelData, is_goal, row_at}
 use Rattle.lift_lump.specs.Lumping.{Partition, terms_into}
+use Rattle.lift_model.specs.declared.entry.Entry.{Entry}
 use Rattle.lift_lump.specs.declared.arrows.Arrow.{Arrow}
 
 -- the number at a place, 0 past the end
@@ -16,6 +17,10 @@ modulus = 2 ^ 61 - 1
 -- the number is the integer, up to multiples of the prime
 abbrev pub IsCongruent : ℕ → ℤ → Type 0
 IsCongruent n z = (k : ℤ) × (pos n ≡ z +ℤ k *ℤ pos modulus)
+
+-- the valuation with these whole numbers
+abbrev pub whole : List ℕ → Valuation
+whole point = map (λ x. (pos x, pos 1)) point
 
 -- the marks of the arrows from a state, summed
 abbrev pub marks_from : ℕ → List Arrow → ℕ
@@ -78,3 +83,10 @@ pub record IsCountedIn (into : ℕ → List Arrow) (labels : List ℕ) (b t : �
   pub kept : (u : ℕ) → marked old u ≡ true → marked new u ≡ true
   pub here : slice_index_or labels t 0 ≡ b → marked new t ≡ true
   pub numbers : AreNumbersOf into old before → AreNumbersOf into new after
+
+-- the arrows of a state's entries were added to the lists
+pub record AreEntered (v : Valuation) (s : ℕ) (row : List Entry) (old new : List (List Arrow)) : Type 0 where
+  pub count : length new ≡ length old
+  pub arrows : All (All (IsArrow (length old))) old → All (All (IsArrow (length old))) new
+  pub others : (u t : ℕ) → u ≢ s → marks_from u (arrows_into new t) ≡ marks_from u (arrows_into old t)
+  pub marks : (t : ℕ) → t < length old → (z : ℤ) → IsCongruent (marks_from s (arrows_into old t)) z → IsCongruent (marks_from s (arrows_into new t)) (z +ℤ weight v (terms_into (λ u. u == t) row))

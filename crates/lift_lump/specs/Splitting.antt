@@ -1,8 +1,14 @@
 -- What the labels and the lists of the states that have them keep while blocks are split.
-use Rattle.std.specs.Prelude.{◌⊎◌, ◌≡◌, ℕ, ◌<◌, ◌≤◌, List, [], length, slice_index_or, All, Contains}
+use Rattle.std.specs.Prelude.{◌⊎◌, ◌≡◌, ℕ, ◌^◌, ◌<◌, ◌≤◌, Bool, false, Option, Some, None, List, [], length, slice_index_or, All, Contains, if◌then◌else◌}
+use Rattle.std.specs.List.Sorted.{IsStrictlyIncreasing}
+use Rattle.lift_poly.specs.Polynomial.{Valuation}
+use Rattle.lift_model.specs.Model.{ModelData, is_goal}
+use Rattle.lift_model.specs.Valid.{IsModel}
+use Rattle.lift_lump.specs.Lumping.{Partition, IsAboveRight}
+use Rattle.lift_lump.specs.declared.arrows.Arrow.{Arrow}
 use Rattle.lift_lump.specs.declared.rename.Touched.{Touched}
-use Rattle.lift_lump.specs.Search.{number_at}
-use Rattle.lift_lump.specs.Renaming.{IsTouched, StandsIn, AreTouched, AreAllTouched}
+use Rattle.lift_lump.specs.Search.{number_at, marked, AreArrows, IsByNumber}
+use Rattle.lift_lump.specs.Renaming.{IsTouched, StandsIn, AreTouched, AreAllTouched, state_at}
 
 -- the list of a label
 abbrev pub list_of : List (List ℕ) → ℕ → List ℕ
@@ -46,3 +52,56 @@ pub record AreOpened (old new : List (List ℕ)) : Type 0 where
   pub count : length old ≤ length new
   pub states : (n : ℕ) → All (All (λ s. s < n)) old → All (All (λ s. s < n)) new
   pub kept : (l s : ℕ) → Contains (list_of old l) s → Contains (list_of new l) s
+
+-- there are more now, and there were fewer than 2^32
+pub record AreMore (old new : ℕ) : Type 0 where
+  pub few : old < 2 ^ 32
+  pub more : old < new
+
+-- some states are touched, and the list of the first one's block is there
+pub record IsBegun (touched : List Touched) (labels : List ℕ) (members : List (List ℕ)) : Type 0 where
+  pub some : 0 < length touched
+  pub listed : 0 < length (list_of members (number_at labels (state_at touched 0)))
+
+-- ---- one split
+
+-- between splits no state has a number or a mark
+pub record AreClear (states : ℕ) (numbers : List ℕ) (marks : List Bool) : Type 0 where
+  pub sizes : (length numbers ≡ states) × (length marks ≡ states)
+  pub zero : (s : ℕ) → number_at numbers s ≡ 0
+  pub unmarked : (s : ℕ) → marked marks s ≡ false
+
+-- a partition as the labels of its states
+abbrev pub labelled : List ℕ → Partition
+labelled labels s = number_at labels s
+
+-- whatever chain the arrows stand for: what tells states of a block apart by these numbers alone keeps what every right partition refines
+abbrev pub AreTelling : (ℕ → List Arrow) → List ℕ → List ℕ → Type 0
+AreTelling into labels numbers = (m : ModelData) (v : Valuation) (new : Partition) → IsModel m → length m.states ≡ length labels → AreArrows m v into
+    → IsAboveRight m (labelled labels) → IsByNumber (length m.states) (labelled labels) numbers new → IsAboveRight m new
+
+-- whatever chain the arrows stand for: where every right partition refines the old labels it refines the new ones
+abbrev pub IsKeptAbove : (ℕ → List Arrow) → List ℕ → List ℕ → Type 0
+IsKeptAbove into old new = (m : ModelData) (v : Valuation) → IsModel m → length m.states ≡ length old → AreArrows m v into → IsAboveRight m (labelled old) → IsAboveRight m (labelled new)
+
+-- ---- numbering
+
+-- The first states, so many, have blocks that are numbered by their least states, and names has the block of each label that one of them has.
+pub record AreNumberedSo (labels : List ℕ) (count : ℕ) (names : List (Option ℕ)) (of_states firsts : List ℕ) : Type 0 where
+  pub size : length of_states ≡ count
+  pub few : length firsts ≤ count
+  pub named : (l b : ℕ) → slice_index_or names l None ≡ Some b → (b < length firsts) × (number_at labels (number_at firsts b) ≡ l)
+  pub known : (s : ℕ) → s < count → slice_index_or names (number_at labels s) None ≡ Some (number_at of_states s)
+  pub least : (b : ℕ) → b < length firsts → (number_at firsts b < count) × (number_at of_states (number_at firsts b) ≡ b)
+  pub inside : (s : ℕ) → s < count → (number_at of_states s < length firsts) × (number_at firsts (number_at of_states s) ≤ s)
+  pub ascending : IsStrictlyIncreasing firsts
+
+-- states are in one block exactly where they have one label
+pub record AreSameBlocks (labels of_states : List ℕ) : Type 0 where
+  pub together : (s t : ℕ) → s < length labels → t < length labels → number_at labels s ≡ number_at labels t → number_at of_states s ≡ number_at of_states t
+  pub apart : (s t : ℕ) → s < length labels → t < length labels → number_at of_states s ≡ number_at of_states t → number_at labels s ≡ number_at labels t
+
+-- goal states have the label 1, and the others 0
+pub record AreFirstLabels (m : ModelData) (list : List ℕ) : Type 0 where
+  pub count : length list ≡ length m.states
+  pub labels : (s : ℕ) → s < length m.states → number_at list s ≡ (if is_goal m s then 1 else 0)

@@ -1,12 +1,13 @@
-//! The marks of entries, summed state by state.
+//! The entries of a chain, seen from their targets, and their marks, summed state by state.
 
-ghost use Rattle.std.specs.Prelude.{◌≡◌, ◌<◌, ◌∷◌, [], All, length, OnOk};
-ghost use Rattle.lift_lump.specs.Search.{modulus, IsArrow, AreRaised, AreMet};
+ghost use Rattle.std.specs.Prelude.{◌≡◌, ◌<◌, ◌∷◌, [], ℕ, true, false, All, length, IfOk, OnOk};
+ghost use Rattle.lift_model.specs.Model.{is_goal, row_at};
+ghost use Rattle.lift_lump.specs.Search.{modulus, whole, arrows_into, IsArrow, AreArrows, AreEntered, AreRaised, AreMet};
 
-use std::alloc::AllocError;
-
-/// A prime, by which marks are taken.
-pub(crate) const MODULUS: u64 = (1 << 61) - 1;
+use crate::lists::Lists;
+use crate::marks::{MODULUS, mark_of};
+use lift_model::{Entry, Model};
+use std::alloc::{AllocError, Global};
 
 /// An entry, seen from its target.
 #[derive(Clone, Copy)]
@@ -48,4 +49,67 @@ pub(crate) fn add_marks(
         add_mark(numbers, met, *arrow)?;
     }
     Ok(())
+}
+
+/// Empty lists, so many.
+fn no_arrows(alloc: Global, count: u32) -> Result<Lists<Arrow>, AllocError>
+    ensures count { IfOk result (λ lists. length lists ≡ count) }
+    ensures none { IfOk result (λ lists. (t : ℕ) → arrows_into lists t ≡ []) }
+{
+    let mut lists = Lists::new(alloc);
+    for _ in 0..count {
+        lists.open(alloc)?;
+    }
+    Ok(lists)
+}
+
+/// Adds the arrows of a state's entries.
+fn enter_row(
+    lists: &mut Lists<Arrow>,
+    point: &[u64],
+    s: u32,
+    row: &[Entry],
+) -> Result<(), AllocError>
+    requires state { s < length lists.old }
+    requires targets { All (λ entry. entry.target < length lists.old) row.now }
+    ensures { OnOk result (AreEntered (whole point.now) s row.now lists.old lists.new) }
+{
+    for entry in row {
+        let mark = mark_of(point, &entry.poly);
+        lists.push(entry.target as usize, Arrow { source: s, mark })?;
+    }
+    Ok(())
+}
+
+/// Adds the arrows of a state's entries, if it isn't a goal state.
+fn enter(lists: &mut Lists<Arrow>, point: &[u64], model: &Model, s: u32) -> Result<(), AllocError>
+    requires state { s < length model.now.states }
+    requires count { length lists.old ≡ length model.now.states }
+    ensures goal { is_goal model.now s ≡ true → OnOk result (lists.new ≡ lists.old) }
+    ensures entered { is_goal model.now s ≡ false
+        → OnOk result (AreEntered (whole point.now) s (row_at model.now s 0) lists.old lists.new) }
+{
+    let _common = model.common();
+    if model.is_goal(s) {
+        return Ok(());
+    }
+    enter_row(lists, point, s, model.row(s, 0).entries())?;
+    Ok(())
+}
+
+/// The arrows of a chain, by their targets, with the marks at a point.
+pub(crate) fn arrows_of(
+    alloc: Global,
+    point: &[u64],
+    model: &Model,
+) -> Result<Lists<Arrow>, AllocError>
+    ensures count { IfOk result (λ lists. length lists ≡ length model.now.states) }
+    ensures arrows { IfOk result (λ lists. All (All (IsArrow (length model.now.states))) lists) }
+    ensures marks { IfOk result (λ lists. AreArrows model.now (whole point.now) (arrows_into lists)) }
+{
+    let mut lists = no_arrows(alloc, model.states())?;
+    for s in 0..model.states() {
+        enter(&mut lists, point, model, s)?;
+    }
+    Ok(lists)
 }

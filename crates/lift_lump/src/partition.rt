@@ -1,13 +1,16 @@
 //! The blocks that the search has found so far, and how touched states move to blocks of their own.
 
-ghost use Rattle.std.specs.Prelude.{◌≡◌, ◌<◌, ◌≤◌, ◌^◌, ℕ, List, length, All, IfOk, OnOk, ◌∷◌, [], slice_index_or};
+ghost use Rattle.std.specs.Prelude.{◌≡◌, ◌<◌, ◌≤◌, ℕ, true, List, length, All, IfOk, OnOk, ◌∷◌, [], slice_index_or, if◌then◌else◌};
 ghost use Rattle.lift_lump.specs.Search.{IsByNumber};
+ghost use Rattle.lift_lump.specs.Lumping.{IsAboveRight};
 ghost use Rattle.lift_lump.specs.Renaming.{AreTouched, AreSortedKeys, HaveOneKey};
-ghost use Rattle.lift_lump.specs.Splitting.{AreInside, AreListed, AreListedBut, AreOpened, AreSettled, AreGathered};
+ghost use Rattle.lift_lump.specs.Splitting.{AreInside, AreListed, AreListedBut, AreOpened, AreSettled, AreGathered, AreMore, IsBegun, AreFirstLabels, labelled};
 
+use crate::laws::coarsest_is_one;
 use crate::lists::Lists;
 use crate::rename::{Touched, rename};
 use crate::touch::add_rest;
+use lift_model::Model;
 use std::alloc::{AllocError, Global};
 
 /// A key over this is its block.
@@ -24,34 +27,79 @@ pub struct Partition {
     pub members: Lists<u32>,
 }
 
+/// The label of a state in the beginning.
+fn first_label(is_goal: bool) -> u32
+    ensures { result ≡ if is_goal then 1 else 0 }
+{
+    if is_goal { 1 } else { 0 }
+}
+
+/// The first label of each state.
+fn first_labels(alloc: Global, model: &Model) -> Result<Vec<u32>, AllocError>
+    ensures { IfOk result (λ labels. AreFirstLabels model.now labels.items) }
+{
+    let _common = model.common();
+    let mut labels = Vec::with_capacity(alloc, model.states() as usize)?;
+    for s in 0..model.states() {
+        labels.push(first_label(model.is_goal(s)))?;
+    }
+    Ok(labels)
+}
+
 impl Partition {
-    /// A label that no state has yet.
+    /// The goal states, and the others.
+    pub(crate) fn start(alloc: Global, model: &Model) -> Result<Partition, AllocError>
+        ensures inside { IfOk result (λ p. AreInside p.labels.items p.sizes.items p.members) }
+        ensures listed { IfOk result (λ p. AreListed p.labels.items p.members) }
+        ensures size { IfOk result (λ p. length p.labels.items ≡ length model.now.states) }
+        ensures above { IfOk result (λ p. IsAboveRight model.now (labelled p.labels.items)) }
+    {
+        coarsest_is_one();
+        let labels = first_labels(alloc, model)?;
+        let mut members = Lists::new(alloc);
+        members.open(alloc)?;
+        members.open(alloc)?;
+        let sizes = vec![in alloc; 0; 2]?;
+        let mut part = Partition {
+            labels,
+            sizes,
+            members,
+        };
+        for s in 0..model.states() {
+            part.settle_one(s)?;
+        }
+        Ok(part)
+    }
+
+    /// A label that no state has yet. No more than 2^32 are given.
     fn open(&mut self, alloc: Global) -> Result<u32, AllocError>
-        requires few { length self.old.members < 2 ^ 32 }
         requires inside { AreInside self.old.labels.items self.old.sizes.items self.old.members }
         ensures inside { OnOk result (AreInside self.new.labels.items self.new.sizes.items self.new.members) }
         ensures opened { OnOk result (AreOpened self.old.members self.new.members) }
         ensures label { IfOk result (λ l. l < length self.new.members) }
+        ensures more { OnOk result (AreMore (length self.old.members) (length self.new.members)) }
         ensures same { self.new.labels.items ≡ self.old.labels.items }
     {
+        if self.members.len() > u32::MAX as usize {
+            return Err(AllocError);
+        }
         let label = self.members.len() as u32;
         self.sizes.push(0)?;
         self.members.open(alloc)?;
         Ok(label)
     }
 
-    /// A new label, or the old one: where none is asked for, and where there are as many labels as states, so that
-    /// each state has its own.
+    /// A new label, or the old one where none is asked for.
     fn name(&mut self, alloc: Global, old: u32, is_new: bool) -> Result<u32, AllocError>
-        requires few { length self.old.labels.items < 2 ^ 32 }
         requires old { old < length self.old.members }
         requires inside { AreInside self.old.labels.items self.old.sizes.items self.old.members }
         ensures inside { OnOk result (AreInside self.new.labels.items self.new.sizes.items self.new.members) }
         ensures opened { OnOk result (AreOpened self.old.members self.new.members) }
         ensures label { IfOk result (λ l. l < length self.new.members) }
+        ensures more { OnOk result (is_new ≡ true → AreMore (length self.old.members) (length self.new.members)) }
         ensures same { self.new.labels.items ≡ self.old.labels.items }
     {
-        if !is_new || self.members.len() >= self.labels.len() {
+        if !is_new {
             return Ok(old);
         }
         self.open(alloc)
@@ -76,6 +124,7 @@ impl Partition {
 /// Whether a run of states with the same key begins at that place.
 fn begins(touched: &[Touched], i: usize) -> bool
     requires { i < length touched.now }
+    ensures { i ≡ 0 → result ≡ true }
 {
     i == 0 || touched[i - 1].key != touched[i].key
 }
@@ -83,6 +132,7 @@ fn begins(touched: &[Touched], i: usize) -> bool
 /// Whether the states of another block begin at that place.
 fn begins_block(touched: &[Touched], i: usize) -> bool
     requires { i < length touched.now }
+    ensures { i ≡ 0 → result ≡ true }
 {
     i == 0 || touched[i - 1].key / BLOCK != touched[i].key / BLOCK
 }
@@ -117,7 +167,6 @@ fn names_for(
     touched: &[Touched],
     part: &mut Partition,
 ) -> Result<Vec<u32>, AllocError>
-    requires few { length part.old.labels.items < 2 ^ 32 }
     requires touched { All (λ t. t.state < length part.old.labels.items) touched.now }
     requires inside { AreInside part.old.labels.items part.old.sizes.items part.old.members }
     ensures count { IfOk result (λ names. length names.items ≡ length touched.now) }
@@ -125,30 +174,42 @@ fn names_for(
     ensures inside { OnOk result (AreInside part.new.labels.items part.new.sizes.items part.new.members) }
     ensures opened { OnOk result (AreOpened part.old.members part.new.members) }
     ensures same { OnOk result (part.new.labels.items ≡ part.old.labels.items) }
+    ensures more { OnOk result (IsBegun touched.now part.old.labels.items part.old.members
+        → AreMore (length part.old.members) (length part.new.members)) }
 {
     let mut names = Vec::with_capacity(alloc, touched.len())?;
     let mut keeper = 0;
     for i in 0..touched.len() {
         let label = part.labels[touched[i].state as usize];
-        if begins_block(touched, i) {
-            keeper = keeper_of(touched, part.members.list(label as usize), i);
-        }
-        let name = part.name(alloc, label, i != keeper && begins(touched, i))?;
+        keeper = keeper_of(touched, part.members.list(label as usize), i, keeper);
+        let name = part.name(alloc, label, is_named(touched, i, keeper))?;
         names.push(name)?;
     }
     Ok(names)
 }
 
-/// Where the run of the block begins that keeps its label, if the list of the block was taken away. Else a place that
-/// isn't there.
-fn keeper_of(touched: &[Touched], list: &[u32], from: usize) -> usize
-    requires { from < length touched.now }
+/// Where the run of the block begins that keeps its label: if the list of the block was taken away, the longest one,
+/// else a place that isn't there. Within a block it is what it was.
+fn keeper_of(touched: &[Touched], list: &[u32], i: usize, keeper: usize) -> usize
+    requires { i < length touched.now }
+    ensures { i ≡ 0 → 0 < length list.now → result ≡ length touched.now }
 {
+    if !begins_block(touched, i) {
+        return keeper;
+    }
     if list.is_empty() {
-        longest_run(touched, from)
+        longest_run(touched, i)
     } else {
         touched.len()
     }
+}
+
+/// Whether a run begins at that place that gets a new label.
+fn is_named(touched: &[Touched], i: usize, keeper: usize) -> bool
+    requires { i < length touched.now }
+    ensures { i ≡ 0 → 0 < keeper → result ≡ true }
+{
+    i != keeper && begins(touched, i)
 }
 
 /// Puts touched states into the lists of their labels.
@@ -183,7 +244,6 @@ pub(crate) fn regroup(
     touched: &[Touched],
     part: &mut Partition,
 ) -> Result<(), AllocError>
-    requires few { length part.old.labels.items < 2 ^ 32 }
     requires touched { All (λ t. t.state < length part.old.labels.items) touched.now }
     requires sorted { AreSortedKeys touched.now }
     requires keys { HaveOneKey touched.now }
@@ -192,6 +252,9 @@ pub(crate) fn regroup(
     ensures inside { OnOk result (AreInside part.new.labels.items part.new.sizes.items part.new.members) }
     ensures listed { OnOk result (AreListed part.new.labels.items part.new.members) }
     ensures size { OnOk result (length part.new.labels.items ≡ length part.old.labels.items) }
+    ensures kept { OnOk result (length part.old.members ≤ length part.new.members) }
+    ensures more { OnOk result (IsBegun touched.now part.old.labels.items part.old.members
+        → AreMore (length part.old.members) (length part.new.members)) }
     ensures numbers { OnOk result ((numbers : List ℕ) → AreTouched part.old.labels.items numbers touched.now
         → IsByNumber (length part.old.labels.items) (λ s. slice_index_or part.old.labels.items s 0) numbers
         (λ s. slice_index_or part.new.labels.items s 0)) }
@@ -276,6 +339,7 @@ pub(crate) fn add_rests(
     requires gathered { AreGathered part.old.labels.items numbers.now part.old.members touched.old.items }
     ensures inside { OnOk result (AreInside part.new.labels.items part.new.sizes.items part.new.members) }
     ensures gathered { OnOk result (AreGathered part.new.labels.items numbers.now part.new.members touched.new.items) }
+    ensures count { OnOk result (length part.new.members ≡ length part.old.members) }
     ensures same { OnOk result (part.new.labels.items ≡ part.old.labels.items) }
 {
     let blocks = crowded(alloc, touched, part)?;

@@ -1,7 +1,7 @@
-use Rattle.std.proofs.Common.{◌≡◌, ◌<◌, ◌++◌, ℕ, List, All, length, get_or, take, drop, sym, subst, ap, ◌∙◌}
+use Rattle.std.proofs.Common.{◌≡◌, ◌<◌, ◌++◌, ℕ, List, All, length, get_or, take, drop, sym, subst, ap, ◌∙◌, arith}
 use Rattle.lift_lump.specs.Search.{IsByNumber}
 use Rattle.lift_lump.specs.Renaming.{AreTouched, AreRenamed}
-use Rattle.lift_lump.specs.Splitting.{AreSettled, AreListed}
+use Rattle.lift_lump.specs.Splitting.{AreSettled, AreListed, AreMore}
 use Rattle.lift_lump.proofs.Settling.{written, inside_written, listed_again}
 use Rattle.lift_lump.proofs.partition.regroup.Goals as goal
 
@@ -30,6 +30,8 @@ returns c =
           (listed_again touched c.args.part.now.labels.items new c.args.part.now.members opened.members after.members c.requires.listed c.in_ok-names.ensures.opened
           (subst (λ (o : List ℕ). AreRenamed touched o new (length touched)) old c.rename.ensures.renamed)
           (subst (λ (ls : List ℕ). AreSettled ls opened.members after.members touched) written_is c.in_ok-settle.ensures.settled));
+      kept = let opened = c.in_ok-names.ensures.opened.count in let settled = c.in_ok-settle.ensures.settled.count in omega (arith, opened, settled);
+      more = λ begun. subst (λ n. AreMore (length c.args.part.now.members) n) (sym c.in_ok-settle.ensures.settled.count) (c.in_ok-names.ensures.more begun);
       size = ap length is ∙ c.rename.ensures.renamed.size ∙ ap length old;
       numbers = subst (λ (n : List ℕ). (numbers : List ℕ) → AreTouched c.args.part.now.labels.items numbers touched → IsByNumber (length c.args.part.now.labels.items) (λ s. get_or c.args.part.now.labels.items s 0) numbers (λ s. get_or n s 0)) (sym is)
           (subst (λ (o : List ℕ). (numbers : List ℕ) → AreTouched o numbers touched → IsByNumber (length o) (λ s. get_or o s 0) numbers (λ s. get_or new s 0)) old c.rename.ensures.numbers);
