@@ -17,7 +17,7 @@ use Rattle.plift_words.specs.Given.{asked, Asks}
 use Rattle.std.specs.declared.alloc.Global.{Global}
 use Rattle.std.specs.Prelude.{String}
 use Rattle.plift_words.specs.Job.JobData.{verify, check, generate, selftest}
-use Rattle.model_gen.specs.Ladder.{ladder_text, ladder_case}
+use Rattle.model_gen.specs.Ladder.{ladder_text, ladder_case, ladder_precision}
 use Rattle.plift_words.specs.declared.job.Field.{Field}
 use Rattle.plift_words.specs.declared.job.Field.TheVariants as field
 use Rattle.plift_words.specs.declared.error.WordsError.{WordsError}
@@ -324,7 +324,7 @@ module _ {S K : Type 0} (left : S → Option (List ℕ)) (faults : S → ℕ) (t
   -- a tree that was tested isn't one of a long report
   not_long : RightTreesAreOne → (n : ℕ) (tree other : Tree) → IsTestedTree n other → IsLadderTree n tree → file_limit < length (ladder_report n tree) → ⊥
   not_long one n tree other tested right long =
-      let same : other ≡ tree = one (ladder_case n) one_half other tree tested.case tested.right right in
+      let same : other ≡ tree = one (ladder_case n) ladder_precision one_half other tree tested.case (omega arith) tested.right right in
       let short = tested.short in
       omega (arith, ap (λ (t : Tree). length (ladder_report n t)) same)
 

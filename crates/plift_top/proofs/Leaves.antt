@@ -8,12 +8,13 @@ use Rattle.std.proofs.lemmas.Grind.{flat_map-append}
 use Rattle.lift_grid.specs.Rectangle.{Spans}
 use Rattle.lift_grid.specs.Tree.{Tree, leaves, lower_half, upper_half}
 use Rattle.lift_grid.specs.Tree.Tree.{accept, reject, unknown, split}
-use Rattle.corner_lift.specs.Case.{CaseData, IsCase}
+use Rattle.corner_lift.specs.Case.{CaseData, IsCase, at}
+use Rattle.lift_cert.specs.Certificate.{IsAccepting, IsRejecting}
 use Rattle.lift_cert.specs.Laws.{AcceptingBounds, RejectingReaches}
 use Rattle.lift_cert.specs.declared.bound.Bound.{Bound}
 use Rattle.region_tree.specs.Laws.{HalvesAreDeeper}
 use Rattle.region_tree.specs.Nodes.{nodes}
-use Rattle.region_tree.specs.Right.{IsRight, IsAtDepth}
+use Rattle.region_tree.specs.Right.{IsRight, IsFirst, IsAtDepth}
 use Rattle.region_tree.specs.Visits.{entries}
 use Rattle.cert_text.specs.Report.{tree_lines, reject_lines, split_line}
 use Rattle.cert_check.specs.Trust.{HoldsInside, LeafHolds}
@@ -24,21 +25,30 @@ pub only : {X : Type 0} (P : X → Type 0) (a : X) → P a → All P (a ∷ [])
 only P a p zero d h = p
 only P a p (suc i) d h = absurd (omega arith)
 
+-- the range from w to w has one precision
+pub only_precision : (k : CaseData) (spans : Spans) (bound : Bound) (u : ℕ) → IsFirst k k.w spans bound u → u ≡ k.w
+only_precision k spans bound u first = omega (arith, first.between.0, first.between.1)
+
 -- what each leaf says holds
 module _ (accepting : AcceptingBounds) (reached : RejectingReaches) (deeper : HalvesAreDeeper) (k : CaseData) (bound : Bound) (case : IsCase k) where
-  pub leaves_hold : (spans : Spans) (depth : ℕ) (tree : Tree) → IsAtDepth k depth spans → IsRight k spans bound depth tree → All (LeafHolds k bound) (leaves spans depth tree)
-  leaves_hold spans depth (accept u x) at h = only (LeafHolds k bound) _ (accepting k spans bound x case at.inside h.1.accepting)
-  leaves_hold spans depth (reject u r) at h = only (LeafHolds k bound) _ (subst (λ v. HoldsInside k bound spans (reject v r)) (sym h.0) (reached k spans bound r case at.inside h.1.rejecting, h.1.rejecting.limit))
-  leaves_hold spans depth unknown at h = only (LeafHolds k bound) _ tt
-  leaves_hold spans depth (split axis lower upper) at h =
-      let halves = deeper k spans depth axis case at h.0.left h.0.axis_is in
+  pub leaves_hold : (spans : Spans) (depth : ℕ) (tree : Tree) → IsAtDepth k depth spans → IsRight k k.w spans bound depth tree → All (LeafHolds k bound) (leaves spans depth tree)
+  leaves_hold spans depth (accept u x) inside h =
+      let same : u ≡ k.w = only_precision k spans bound u h.first in
+      only (LeafHolds k bound) _ (accepting k spans bound x case inside.inside (subst (λ n. IsAccepting (at k n) spans bound x) same h.accepting))
+  leaves_hold spans depth (reject u r) inside h =
+      let same : u ≡ k.w = only_precision k spans bound u h.first in
+      let rejecting : IsRejecting k spans bound r = subst (λ n. IsRejecting (at k n) spans bound r) same h.rejecting in
+      only (LeafHolds k bound) _ (subst (λ n. HoldsInside k bound spans (reject n r)) (sym same) (reached k spans bound r case inside.inside rejecting, rejecting.limit))
+  leaves_hold spans depth unknown inside h = only (LeafHolds k bound) _ tt
+  leaves_hold spans depth (split axis lower upper) inside h =
+      let halves = deeper k spans depth axis case inside h.0.left h.0.axis_is in
       All-append (LeafHolds k bound) (leaves (lower_half axis spans) (depth + 1) lower) (leaves (upper_half axis spans) (depth + 1) upper)
       (leaves_hold (lower_half axis spans) (depth + 1) lower halves.0 h.1) (leaves_hold (upper_half axis spans) (depth + 1) upper halves.1 h.2)
 
 -- the entries of a right tree's nodes are its lines
-pub entries_are : (k : CaseData) (bound : Bound) (spans : Spans) (depth : ℕ) (tree : Tree) → IsRight k spans bound depth tree → entries (node_text k) tree ≡ concat (tree_lines None k.model.init tree)
+pub entries_are : (k : CaseData) (bound : Bound) (spans : Spans) (depth : ℕ) (tree : Tree) → IsRight k k.w spans bound depth tree → entries (node_text k) tree ≡ concat (tree_lines None k.model.init tree)
 entries_are k bound spans depth (accept u x) h = refl
-entries_are k bound spans depth (reject u r) h = append-nil (concat (reject_lines k.model.init k.w r)) ∙ ap (λ w. concat (reject_lines k.model.init w r)) (sym h.0)
+entries_are k bound spans depth (reject u r) h = append-nil (concat (reject_lines k.model.init u r))
 entries_are k bound spans depth unknown h = refl
 entries_are k bound spans depth (split axis lower upper) h =
     let first = entries_are k bound (lower_half axis spans) (depth + 1) lower h.1 in

@@ -5,17 +5,18 @@ use Rattle.lift_grid.specs.Rectangle.{Spans}
 use Rattle.lift_grid.specs.Tree.{Tree, lower_half, upper_half}
 use Rattle.lift_grid.specs.Tree.Tree.{accept, reject, unknown, split}
 use Rattle.lift_model.specs.declared.entry.Entry.{Entry}
-use Rattle.corner_lift.specs.Case.{CaseData, IsCase, case_of}
-use Rattle.lift_cert.specs.Certificate.{IsAccepting, IsRejecting}
+use Rattle.corner_lift.specs.Case.{CaseData, IsCase, at, case_of}
+use Rattle.corner_lift.specs.Stages.{IsGreatestLower}
 use Rattle.lift_cert.specs.declared.bound.Bound.{Bound}
 use Rattle.lower_cert.specs.AnyRanks.{HeightFits}
 use Rattle.region_tree.specs.Right.{IsRight}
 use Rattle.drn_read.specs.Laws as read
-use Rattle.cert_text.specs.Head.{HeadData, case_at}
+use Rattle.cert_text.specs.Head.{HeadData}
 use Rattle.cert_text.specs.Forms.{IsHead, IsShortName, IsSmallEntry, IsToldBound}
 use Rattle.cert_check.specs.Sound.{IsSoundTree}
 use Rattle.cert_check.specs.Laws.{CanBeTold, SoundTreesAreReports}
 use Rattle.plift_top.specs.Laws.{RightReportsAreSound}
+use Rattle.plift_top.proofs.Leaves.{only_precision}
 
 -- ---- the head
 
@@ -39,23 +40,21 @@ head k bound r case told = record {
 
 -- ---- the tree
 
--- the only precision is the least and the greatest
-only_precision : (u w : ℕ) → u ≡ w → (w ≤ u) × (u ≤ w)
-only_precision u w is = (omega (arith, is), omega (arith, is))
-
 module _ (fits : HeightFits) (k : CaseData) (bound : Bound) (case : IsCase k) where
   -- a right tree is sound
-  sound_tree : (spans : Spans) (depth : ℕ) (tree : Tree) → IsRight k spans bound depth tree → IsSoundTree k bound spans depth tree
-  sound_tree spans depth (accept u x) h = subst (λ v. IsAccepting (case_at v k) spans bound x) (sym h.0) h.1.accepting
-  sound_tree spans depth (reject u r) h = subst (λ v. IsRejecting (case_at v k) spans bound r) (sym h.0) h.1.rejecting
+  sound_tree : (spans : Spans) (depth : ℕ) (tree : Tree) → IsRight k k.w spans bound depth tree → IsSoundTree k bound spans depth tree
+  sound_tree spans depth (accept u x) h = h.accepting
+  sound_tree spans depth (reject u r) h = h.rejecting
   sound_tree spans depth unknown h = h.1
   sound_tree spans depth (split axis lower upper) h =
       (record { left = h.0.left; axis_is = h.0.axis_is }, sound_tree (lower_half axis spans) (depth + 1) lower h.1, sound_tree (upper_half axis spans) (depth + 1) upper h.2)
 
   -- and can be told: no rank is above the number of states
-  can_be_told : (spans : Spans) (depth : ℕ) (tree : Tree) → IsRight k spans bound depth tree → CanBeTold (record { asked = k; from = None; bound = bound }) tree
-  can_be_told spans depth (accept u x) h = only_precision u k.w h.0
-  can_be_told spans depth (reject u r) h = (only_precision u k.w h.0, (let fit = fits k spans r case h.1.greatest in let few = case.asked.model.count.1 in omega arith))
+  can_be_told : (spans : Spans) (depth : ℕ) (tree : Tree) → IsRight k k.w spans bound depth tree → CanBeTold (record { asked = k; from = None; bound = bound }) tree
+  can_be_told spans depth (accept u x) h = h.first.between
+  can_be_told spans depth (reject u r) h =
+      let greatest : IsGreatestLower k spans r = subst (λ n. IsGreatestLower (at k n) spans r) (only_precision k spans bound u h.first) h.greatest in
+      (h.first.between, (let fit = fits k spans r case greatest in let few = case.asked.model.count.1 in omega arith))
   can_be_told spans depth unknown h = tt
   can_be_told spans depth (split axis lower upper) h = (can_be_told (lower_half axis spans) (depth + 1) lower h.1, can_be_told (upper_half axis spans) (depth + 1) upper h.2)
 

@@ -40,7 +40,7 @@ module _ {K : Type 0} (k : CaseData) (bound : Bound) (taken : K → Option (List
   head = concat (head_lines k None bound)
 
   -- the bytes of a right tree's report, by its entries
-  by_entries : (P : List ℕ → Type 0) (bytes : List ℕ) → ((tree : Tree) → IsRightTree k bound tree → P (head ++ entries (node_text k) tree)) → IsRightReport k bound bytes → P bytes
+  by_entries : (P : List ℕ → Type 0) (bytes : List ℕ) → ((tree : Tree) → IsRightTree k k.w bound tree → P (head ++ entries (node_text k) tree)) → IsRightReport k bound bytes → P bytes
   by_entries P bytes h (tree, right, is) = subst P (ap (λ r. head ++ r) (entries_are k bound k.root 0 tree right) ∙ sym is) (h tree right)
 
   -- the head failed
@@ -55,7 +55,7 @@ module _ {K : Type 0} (k : CaseData) (bound : Bound) (taken : K → Option (List
   }
 
   -- the tree failed
-  pub tree_failed : {T E U F : Type 0} (old mid new : K) (x : T) (f : F) → Wrote {E = E} taken faults old mid (Ok x) head → Walks k k.root bound 0 taken faults (node_text k) mid new Failed → WroteSome {T = U} (IsRightReport k bound) taken faults old new (Err f)
+  pub tree_failed : {T E U F : Type 0} (old mid new : K) (x : T) (f : F) → Wrote {E = E} taken faults old mid (Ok x) head → Walks k k.w k.root bound 0 taken faults (node_text k) mid new Failed → WroteSome {T = U} (IsRightReport k bound) taken faults old new (Err f)
   tree_failed old mid new x f w walked = record {
     some = tt;
     whole = tt;
@@ -65,7 +65,7 @@ module _ {K : Type 0} (k : CaseData) (bound : Bound) (taken : K → Option (List
   }
 
   -- all was written
-  pub all_told : {T E U F : Type 0} (old mid new : K) (x : T) (y : U) → Wrote {E = E} taken faults old mid (Ok x) head → Walks k k.root bound 0 taken faults (node_text k) mid new Kept → WroteSome {E = F} (IsRightReport k bound) taken faults old new (Ok y)
+  pub all_told : {T E U F : Type 0} (old mid new : K) (x : T) (y : U) → Wrote {E = E} taken faults old mid (Ok x) head → Walks k k.w k.root bound 0 taken faults (node_text k) mid new Kept → WroteSome {E = F} (IsRightReport k bound) taken faults old new (Ok y)
   all_told old mid new x y w walked = record {
     some = (let t = walked.tree refl in (report_text k None bound t.0, (t.0, t.1, refl)));
     whole = λ bytes. by_entries (Appends (taken old) (taken new)) bytes (λ tree right. Appends-trans (taken old) (taken mid) (taken new) head (entries (node_text k) tree) w.whole (walked.took tree right));
@@ -88,7 +88,7 @@ reported accepting reached root deeper tile taken faults k bound old new (Ok x) 
       weights = case.weights;
       sums = case.sums;
       right = right;
-      tiles = tile k bound tree case.case right;
+      tiles = tile k k.w bound tree case.case right;
       schedulers = leaves_hold accepting reached deeper k bound case.case k.root 0 tree (root k case.case) right;
       report = w.whole (report_text k None bound tree) (tree, right, refl);
     }

@@ -88,7 +88,7 @@ module _ (n : ℕ) (some : 1 ≤ n) (few : n ≤ most_blocks) (texts : TextIsSho
   long_report one bytes m long tree right =
       let h = ladder_case_is (IsReported (Some []) (Some bytes) one_half) m in
       let is : bytes ≡ ladder_report n h.tree = h.report in
-      let same : h.tree ≡ tree = one (ladder_case n) one_half h.tree tree (cases n some few) h.right right in
+      let same : h.tree ≡ tree = one (ladder_case n) ladder_precision one_half h.tree tree (cases n some few) (omega arith) h.right right in
       omega (arith, ap length is, ap (λ (t : Tree). length (ladder_report n t)) same)
 
   -- where the room was filled, the report is longer than a text may be

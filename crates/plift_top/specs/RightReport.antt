@@ -12,10 +12,10 @@ use Rattle.cert_text.specs.Report.{report_text, split_line, accept_line, reject_
 -- the lines of a node of a case's tree
 abbrev pub node_text : CaseData → Node → List ℕ
 node_text k (split axis) = split_line axis
-node_text k (accept x) = accept_line x
-node_text k (reject r) = concat (reject_lines k.model.init k.w r)
+node_text k (accept u x) = accept_line x
+node_text k (reject u r) = concat (reject_lines k.model.init u r)
 node_text k unknown = unknown_line
 
--- the bytes are the report of a case's right tree for a bound
+-- the bytes are the report of a case's right tree for a bound, at the case's precision alone
 abbrev pub IsRightReport : CaseData → Bound → List ℕ → Type 0
-IsRightReport k bound bytes = (tree : Tree) × IsRightTree k bound tree × (bytes ≡ report_text k None bound tree)
+IsRightReport k bound bytes = (tree : Tree) × IsRightTree k k.w bound tree × (bytes ≡ report_text k None bound tree)

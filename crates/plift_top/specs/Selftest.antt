@@ -30,7 +30,7 @@ ladder_job = record { goal = codes "done"; bound = one_half; region = ladder_reg
 
 -- the right tree of the ladder of so many blocks
 abbrev pub IsLadderTree : ℕ → Tree → Type 0
-IsLadderTree blocks tree = IsRightTree (ladder_case blocks) one_half tree
+IsLadderTree blocks tree = IsRightTree (ladder_case blocks) ladder_precision one_half tree
 
 -- its report
 abbrev pub ladder_report : ℕ → Tree → List ℕ

@@ -51,7 +51,7 @@ pub record IsReported (old new : Option (List ℕ)) (bound : Bound) (k : CaseDat
   pub case : IsCase k
   pub weights : HasWeightsFromZero k
   pub sums : HasSumsOfTotal k
-  pub right : IsRightTree k bound tree
+  pub right : IsRightTree k k.w bound tree
   pub tiles : Tiles k.d k.root (map (λ leaf. leaf.spans) (leaves k.root 0 tree))
   pub schedulers : All (LeafHolds k bound) (leaves k.root 0 tree)
   pub report : Appends old new (report_text k None bound tree)
@@ -61,7 +61,7 @@ pub record IsCutOff (old new : Option (List ℕ)) (bound : Bound) (k : CaseData)
   pub case : IsCase k
   pub weights : HasWeightsFromZero k
   pub sums : HasSumsOfTotal k
-  pub front : (tree : Tree) → IsRightTree k bound tree → AppendsFront old new (report_text k None bound tree)
+  pub front : (tree : Tree) → IsRightTree k k.w bound tree → AppendsFront old new (report_text k None bound tree)
 
 -- The answer to a case was appended, whole: its report for a bound on any number of steps, and its text for a bound on as many as are told.
 abbrev pub IsAnswered : Option (List ℕ) → Option (List ℕ) → Bound → Option ℕ → CaseData → Type 0

@@ -16,7 +16,7 @@ ghost use Rattle.plift_words.specs.Job.{VerifyData};
 ghost use Rattle.plift_words.specs.declared.job.Field.TheVariants.{Words};
 ghost use Rattle.plift_top.specs.Verify.{WasRead, Reports, ReportsFront};
 ghost use Rattle.plift_top.specs.Verify.{IsRefused, KeepsLimit};
-ghost use Rattle.model_gen.specs.Ladder.{ladder_text, ladder_case};
+ghost use Rattle.model_gen.specs.Ladder.{ladder_text, ladder_case, ladder_precision};
 ghost use Rattle.plift_top.specs.Answers.{status_of, wanted, AsksToVerify, AsksToCheck};
 ghost use Rattle.plift_top.specs.Answers.{AsksToGenerate, AsksToSelftest, IsTooLong};
 ghost use Rattle.plift_top.specs.Selftest.{one_half, tested_line};
@@ -112,7 +112,7 @@ pub fn run<S: Source, K: Sink, E: Sink>(
     // Done of `selftest`: out took the line of the ladder's right tree, and nothing else.
     ensures selftested { result ≡ Status.Done
         → (n : ℕ) → AsksToSelftest (wanted words.now.items) n
-        → (tree : Tree) × IsCase (ladder_case n) × IsRightTree (ladder_case n) one_half tree
+        → (tree : Tree) × IsCase (ladder_case n) × IsRightTree (ladder_case n) ladder_precision one_half tree
         × Appends (K.taken out.old) (K.taken out.new) (tested_line n (leaf_counts tree)) }
 
     // Each refusal has its cause. What `told` says of its note has the causes of the others.
@@ -188,12 +188,12 @@ pub fn run<S: Source, K: Sink, E: Sink>(
     ensures tests_unread { (n : ℕ) → AsksToSelftest (wanted words.now.items) n
         → source.new ≡ source.old }
     ensures short_tested { (n : ℕ) (tree : Tree)
-        → AsksToSelftest (wanted words.now.items) n → IsRightTree (ladder_case n) one_half tree
+        → AsksToSelftest (wanted words.now.items) n → IsRightTree (ladder_case n) ladder_precision one_half tree
         → length (report_text (ladder_case n) None one_half tree) ≤ file_limit
         → NoFault (K.faults out.old) (K.faults out.new)
         → (result ≡ Status.Done) ⊎ (result ≡ Status.Memory) }
     ensures long_tested { (n : ℕ) (tree : Tree)
-        → AsksToSelftest (wanted words.now.items) n → IsRightTree (ladder_case n) one_half tree
+        → AsksToSelftest (wanted words.now.items) n → IsRightTree (ladder_case n) ladder_precision one_half tree
         → file_limit < length (report_text (ladder_case n) None one_half tree)
         → (result ≡ Status.TooLong) ⊎ (result ≡ Status.Memory) }
 
@@ -211,12 +211,12 @@ pub fn run<S: Source, K: Sink, E: Sink>(
         → AppendsFront (K.taken out.old) (K.taken out.new) (ladder_text n) }
     ensures tested_part { result ≡ Status.WriteFault
         → (n : ℕ) → AsksToSelftest (wanted words.now.items) n
-        → (tree : Tree) × IsCase (ladder_case n) × IsRightTree (ladder_case n) one_half tree
+        → (tree : Tree) × IsCase (ladder_case n) × IsRightTree (ladder_case n) ladder_precision one_half tree
         × AppendsFront (K.taken out.old) (K.taken out.new) (tested_line n (leaf_counts tree)) }
     ensures kept { result ≢ Status.Done → result ≢ Status.WriteFault → out.new ≡ out.old }
     ensures unread { IsErr (wanted words.now.items) → source.new ≡ source.old }
 
-    // A case has exactly one right tree for each bound, and each ladder is a case: so what is said
+    // A case has exactly one right tree for each bound and each range of precisions, and each ladder is a case: so what is said
     // above of whichever tree is right is said of one.
     ensures right_tree { RightTreesExist }
     ensures no_other_tree { RightTreesAreOne }

@@ -34,6 +34,8 @@ fn seen(written: Result<(), WriteFault>) -> Seen
 impl<'r, 'c, 'm, K: Sink> Visitor for Reporter<'r, 'c, 'm, K> {
     ghost states = { λ r. length r.case.now.model.states };
 
+    ghost precision = { λ r. r.case.now.w };
+
     ghost entry = { λ r. node_text r.case.now };
 
     ghost taken = { λ r. K.taken r.out.now };
@@ -46,12 +48,15 @@ impl<'r, 'c, 'm, K: Sink> Visitor for Reporter<'r, 'c, 'm, K> {
         seen(write_split(self.out, axis))
     }
 
-    fn accept(&mut self, x: &[i64]) -> Seen {
+    // The report's first version tells no leaf's precision.
+    fn accept(&mut self, u: u32, x: &[i64]) -> Seen {
+        let _ = u;
         seen(write_accept(self.out, x))
     }
 
-    fn reject(&mut self, e: u32, k: u32, y: &[i64], picks: &[u32], ranks: &[u32]) -> Seen {
-        seen(write_reject(self.out, self.case, e, k, y, picks, ranks))
+    fn reject(&mut self, u: u32, e: u32, k: u32, y: &[i64], picks: &[u32], ranks: &[u32]) -> Seen {
+        let case = self.case.at(u);
+        seen(write_reject(self.out, &case, e, k, y, picks, ranks))
     }
 
     fn unknown(&mut self) -> Seen {
@@ -59,7 +64,7 @@ impl<'r, 'c, 'm, K: Sink> Visitor for Reporter<'r, 'c, 'm, K> {
     }
 }
 
-// Walks over the tree of a case and writes the lines of its nodes.
+// Walks over the tree of a case at its precision and writes the lines of its nodes.
 fn write_tree<K: Sink>(
     case: &Case,
     links: &Links,
@@ -69,12 +74,13 @@ fn write_tree<K: Sink>(
 ) -> Seen
     requires links { AreLinks case.now.model links.now }
     requires made { IsMadeFor case.now links.now room.old }
-    ensures walks { Walks case.now case.now.root bound 0
+    ensures walks { Walks case.now case.now.w case.now.root bound 0
         K.taken K.faults (node_text case.now) out.old out.new result }
     ensures room { IsAsMade room.old room.new }
 {
+    let w = case.w();
     let mut reporter = Reporter { out, case };
-    walk(case, links, bound, room, &mut reporter)
+    walk(case, links, bound, w, room, &mut reporter)
 }
 
 /// Writes the report of a case: its head, and then each node of its right tree, in preorder, as soon

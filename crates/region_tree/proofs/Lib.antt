@@ -1,3 +1,5 @@
+pub mod OtherPrecision
+pub mod Ranges
 pub mod Unique
 pub mod Tiling
 pub mod Lanes

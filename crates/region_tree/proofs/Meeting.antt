@@ -11,6 +11,8 @@ use Rattle.lift_cert.specs.declared.bound.Bound.{Bound}
 use Rattle.corner_lift.specs.Case.{CaseData, IsCase, IsInside, AreSidesInside}
 use Rattle.lower_cert.specs.AnyRanks.{RanksFit}
 use Rattle.region_tree.specs.Decided.{IsDecidedBy}
+use Rattle.lift_range.specs.Laws.{AcceptingDoubles, RejectingDoubles}
+use Rattle.region_tree.proofs.Ranges.{accepting_at_last, rejecting_at_last}
 use Rattle.region_tree.specs.Recent.{RecentData, DecidedData, Meet, MeetsOne, sides_at, IsNoted, Notes, IsForetold, HasAccepting, HasRejecting, AreCertified, IsSound, forgotten}
 use Rattle.region_tree.specs.Right.{NoneRejects}
 use Rattle.region_tree.specs.declared.decided.Outlook.{Outlook}
@@ -100,17 +102,17 @@ noted_too P sides old new noted here all i lt =
     (λ same. subst P (sym (ap (λ n. sides_at new n) same ∙ noted.1.noted)) here)
     (λ other. let at = noted.1.others i lt other in subst P (sym at.1) (all i at.0))
 
-pub certified_too : (k : CaseData) (bound : Bound) (sides : List ℤ) (verdict : Verdict) (old new : DecidedData) (numbers : List ℤ) (picks ranks : List ℕ) → AreSidesInside k.root sides → IsDecidedBy k (spans_of sides) bound numbers picks ranks verdict
+pub certified_too : AcceptingDoubles → RejectingDoubles → (k : CaseData) (v : ℕ) (bound : Bound) (sides : List ℤ) (verdict : Verdict) (old new : DecidedData) (numbers : List ℤ) (picks ranks : List ℕ) → AreSidesInside k.root sides → IsDecidedBy k v (spans_of sides) bound numbers picks ranks verdict
     → AreCertified k bound old → Notes sides verdict old new → AreCertified k bound new
-certified_too k bound sides Accept old new numbers picks ranks inside decided certified notes = record {
-  accepted = noted_too (HasAccepting k bound) sides old.accepted new.accepted notes.0 (record { inside = inside; certificate = (numbers, decided.accepting) }) certified.accepted;
+certified_too accepting rejecting k v bound sides (Accept u) old new numbers picks ranks inside decided certified notes = record {
+  accepted = noted_too (HasAccepting k bound) sides old.accepted new.accepted notes.0 (record { inside = inside; certificate = accepting_at_last accepting k (spans_of sides) bound u decided.first.between.1 numbers decided.accepting }) certified.accepted;
   rejected = rw notes.1 certified.rejected;
 }
-certified_too k bound sides (Reject e h) old new numbers picks ranks inside decided certified notes = record {
+certified_too accepting rejecting k v bound sides (Reject u e h) old new numbers picks ranks inside decided certified notes = record {
   accepted = rw notes.1 certified.accepted;
-  rejected = noted_too (HasRejecting k bound) sides old.rejected new.rejected notes.0 (record { inside = inside; certificate = (_, decided.0.rejecting) }) certified.rejected;
+  rejected = noted_too (HasRejecting k bound) sides old.rejected new.rejected notes.0 (record { inside = inside; certificate = rejecting_at_last rejecting k (spans_of sides) bound u decided.0.first.between.1 _ decided.0.rejecting }) certified.rejected;
 }
-certified_too k bound sides Unknown old new numbers picks ranks inside decided certified notes = rw notes certified
+certified_too accepting rejecting k v bound sides Unknown old new numbers picks ranks inside decided certified notes = rw notes certified
 
 -- where none is noted, nothing is said
 pub none_certified : (k : CaseData) (bound : Bound) (d : DecidedData) → AreCertified k bound (forgotten d)

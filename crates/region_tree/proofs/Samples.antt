@@ -6,14 +6,14 @@ use Rattle.lift_grid.specs.Tree.{RejectData}
 use Rattle.lift_grid.specs.Tree.Tree.{split, accept, reject, unknown}
 use Rattle.lift_model.specs.declared.kind.Kind.TheVariants.{Mdp}
 use Rattle.lift_model.specs.Model.{ModelData, is_goal, choices}
-use Rattle.corner_lift.specs.Case.{CaseData, number}
+use Rattle.corner_lift.specs.Case.{CaseData, at, number}
 use Rattle.corner_lift.specs.Certificate.{IsUpper, IsLower, IsHeld, MeansAtMost, mark, unmarked}
 use Rattle.corner_lift.specs.Stages.{IsAllowed, IsPicked, LeadsBelow}
 use Rattle.lift_cert.specs.declared.bound.Bound.{Bound}
 use Rattle.region_tree.specs.Nodes.{nodes}
 use Rattle.region_tree.specs.Nodes.Node.{split as split-node, accept as accept-node, unknown as unknown-node}
 use Rattle.region_tree.specs.Recent.{Meet}
-use Rattle.region_tree.specs.Right.{IsRightTree}
+use Rattle.region_tree.specs.Right.{IsFirst, IsRightTree}
 
 abbrev goal_model : ModelData
 goal_model = record { kind = Mdp; common = pos 1; names = []; goal = true ∷ []; init = 0; states = ((record { target = 0; poly = (0, pos 1) ∷ [] } ∷ []) ∷ []) ∷ [] }
@@ -47,18 +47,32 @@ upper = record {
 past : (y : List ℤ) (s : ℕ) → length y ≡ 1 → number y (suc s) ≡ pos 0
 past y s size = get_or_past y (suc s) (pos 0) (omega (arith, size))
 
-accepted : IsRightTree goal_case (at_most 1 1) (accept 1 (pos 2 ∷ []))
-accepted = (
-  refl,
-  record {
-    accepting = record { upper = upper; limit = omega (arith, linear) };
-    least = record { upper = upper; least = least };
-  },
-)
+-- the one precision of the range from 1 to 1
+first_at_1 : (bound : Bound) → IsFirst goal_case 1 [] bound 1
+first_at_1 bound = record { between = (omega arith, omega arith); before = λ t le lt. absurd (omega (arith, le, lt)) }
+
+accepted : IsRightTree goal_case 1 (at_most 1 1) (accept 1 (pos 2 ∷ []))
+accepted = record {
+  first = first_at_1 (at_most 1 1);
+  accepting = record { upper = upper; limit = omega (arith, linear) };
+  least = record { upper = upper; least = least };
+}
   where
     least : (y : List ℤ) → IsUpper goal_case [] y → (s : ℕ) → number (pos 2 ∷ []) s ≤ℤ number y s
     least y h zero = omega (arith, linear, h.goal 0 refl)
     least y h (suc s) = omega (arith, linear, past y s h.numbers.size)
+
+-- of the range from 1 to 2 the least precision that decides is 1
+accepted_at_the_least : IsRightTree (at goal_case 2) 1 (at_most 1 1) (accept 1 (pos 2 ∷ []))
+accepted_at_the_least = record {
+  first = record { between = (omega arith, omega arith); before = λ t le lt. absurd (omega (arith, le, lt)) };
+  accepting = accepted.accepting;
+  least = accepted.least;
+}
+
+-- so a leaf at 2 isn't right
+at_the_greatest : IsRightTree (at goal_case 2) 1 (at_most 1 1) (accept 2 (pos 4 ∷ [])) → ⊥
+at_the_greatest h = (h.first.before 1 (omega arith) (omega arith)).accepts (pos 2 ∷ []) accepted.accepting
 
 abbrev data_of_goal : RejectData
 data_of_goal = record { numbers = pos 2 ∷ []; picks = unmarked ∷ []; ranks = 0 ∷ []; e = 0; k = 1 }
@@ -90,15 +104,13 @@ lower = record {
     held zero e h = absurd (true≢false e)
     held (suc s) e h = absurd (omega arith)
 
-rejected : IsRightTree goal_case (at_most 1 2) (reject 1 data_of_goal)
-rejected = (
-  refl,
-  record {
-    none = λ x h. absurd (let n : number x 0 ≡ pos 2 = h.upper.goal 0 refl in let l : (number x 0 *ℤ pos 2) ≤ℤ pos 2 = h.limit in let four : pos 4 ≤ℤ pos 2 = rw n at l in omega (arith, linear, four));
-    rejecting = record { holds = lower; limit = omega (arith, linear) };
-    greatest = record { holds = lower; greatest = greatest; stages = record { goal = goal; picked = picked; first = first }; least_rate = λ e h. omega arith; least_height = λ j h g. h };
-  },
-)
+rejected : IsRightTree goal_case 1 (at_most 1 2) (reject 1 data_of_goal)
+rejected = record {
+  first = first_at_1 (at_most 1 2);
+  none = λ x h. absurd (let n : number x 0 ≡ pos 2 = h.upper.goal 0 refl in let l : (number x 0 *ℤ pos 2) ≤ℤ pos 2 = h.limit in let four : pos 4 ≤ℤ pos 2 = rw n at l in omega (arith, linear, four));
+  rejecting = record { holds = lower; limit = omega (arith, linear) };
+  greatest = record { holds = lower; greatest = greatest; stages = record { goal = goal; picked = picked; first = first }; least_rate = λ e h. omega arith; least_height = λ j h g. h };
+}
   where
     greatest : (q : RejectData) → IsLower goal_case [] q → (s : ℕ) → number q.numbers s ≤ℤ number (pos 2 ∷ []) s
     greatest q h zero = (let n = (h.goal 0 refl).0 in omega (arith, linear, n))
@@ -117,7 +129,7 @@ rejected = (
     first (suc s) e a r lt = absurd (omega arith)
 
 -- the nodes in preorder: the lower half's before the upper half's
-preorder : nodes (split 0 (accept 4 (pos 1 ∷ [])) (split 1 unknown (accept 4 (pos 2 ∷ [])))) ≡ split-node 0 ∷ accept-node (pos 1 ∷ []) ∷ split-node 1 ∷ unknown-node ∷ accept-node (pos 2 ∷ []) ∷ []
+preorder : nodes (split 0 (accept 4 (pos 1 ∷ [])) (split 1 unknown (accept 4 (pos 2 ∷ [])))) ≡ split-node 0 ∷ accept-node 4 (pos 1 ∷ []) ∷ split-node 1 ∷ unknown-node ∷ accept-node 4 (pos 2 ∷ []) ∷ []
 preorder = refl
 
 -- ---- rectangles that share a valuation

@@ -1,5 +1,5 @@
 -- Searches that end: among finitely many numbers, for the least number, and down a measure. And the list of a function's values.
-use Rattle.std.proofs.Common.{◌≡◌, ℕ, zero, suc, ◌+◌, ◌<◌, ◌≤◌, ◌⊎◌, inl, inr, ⊎_elim, Bool, true, false, List, length, map, get_or, ℤ, ◌≤ℤ◌, ◌<ℤ◌, sym, ◌∙◌, arith, subst}
+use Rattle.std.proofs.Common.{◌≡◌, ℕ, zero, suc, ◌+◌, ◌<◌, ◌≤◌, ◌⊎◌, inl, inr, ⊎_elim, Bool, true, false, List, length, map, get_or, ℤ, ◌≤ℤ◌, ◌<ℤ◌, refl, sym, ◌∙◌, arith, subst, nat_lt, ltb-true, ltb-false}
 use Rattle.std.specs.List.{range_with_len}
 use Rattle.std.proofs.lemmas.Bool.{cases_lt, cases_Bool, both_ways}
 use Rattle.std.proofs.lemmas.Int.{by_lt_z}
@@ -9,6 +9,18 @@ use Rattle.lift_poly.proofs.Ring.{linear}
 
 pub same_function : {A B : Type 0} (f g : A → B) → ((x : A) → f x ≡ g x) → f ≡ g
 same_function f g same = λ i x. same x i
+
+-- ---- by cases
+
+pub either_way : {P : Type 0} (b : Bool) → (b ≡ true → P) → (b ≡ false → P) → P
+either_way true f g = f refl
+either_way false f g = g refl
+
+pub trichotomy : {P : Type 0} (a b : ℕ) → (a < b → P) → (a ≡ b → P) → (b < a → P) → P
+trichotomy a b f g h =
+    either_way (nat_lt a b)
+    (λ e. f (ltb-true a b e))
+    (λ e. either_way (nat_lt b a) (λ k. h (ltb-true b a k)) (λ k. g (omega (arith, ltb-false a b e, ltb-false b a k))))
 
 -- ---- what holds or doesn't
 

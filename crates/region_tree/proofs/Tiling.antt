@@ -9,8 +9,8 @@ use Rattle.lift_cert.specs.declared.bound.Bound.{Bound}
 use Rattle.region_tree.specs.Laws.{HalvesAreDeeper}
 use Rattle.region_tree.specs.Right.{IsRight, IsAtDepth}
 
-module _ (deeper : HalvesAreDeeper) (live_spans : LiveHasSpan) (k : CaseData) (is : IsCase k) (bound : Bound) where
-  pub halves_spans : (depth : ℕ) (ss : Spans) (t : Tree) → IsAtDepth k depth ss → IsRight k ss bound depth t → HalvesSpans ss t
+module _ (deeper : HalvesAreDeeper) (live_spans : LiveHasSpan) (k : CaseData) (v : ℕ) (is : IsCase k) (bound : Bound) where
+  pub halves_spans : (depth : ℕ) (ss : Spans) (t : Tree) → IsAtDepth k depth ss → IsRight k v ss bound depth t → HalvesSpans ss t
   halves_spans depth ss (accept u x) at h = tt
   halves_spans depth ss (reject u r) at h = tt
   halves_spans depth ss unknown at h = tt

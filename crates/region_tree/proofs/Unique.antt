@@ -9,22 +9,13 @@ use Rattle.lift_grid.specs.Tree.Tree.{split, accept, reject, unknown}
 use Rattle.lift_model.specs.Model.{ModelData, is_goal, choices}
 use Rattle.corner_lift.specs.Case.{CaseData, IsCase, IsInside, number}
 use Rattle.corner_lift.specs.Certificate.{AtMost, mark, unmarked, ranked_below, IsLeastUpper, IsRate}
-use Rattle.corner_lift.specs.Laws.{SumsRise}
+use Rattle.corner_lift.specs.Laws.{SumsRise, LowerPrecisionIsCase}
 use Rattle.corner_lift.specs.Stages.{IsAllowed, LeadsBelow, AreStages, IsGreatestLower}
 use Rattle.lift_cert.specs.declared.bound.Bound.{Bound}
 use Rattle.region_tree.specs.Laws.{LeastUppersAreOne, GreatestLowersAreOne, SplitAxesAreOne, HalvesAreDeeper}
 use Rattle.region_tree.specs.Right.{IsRight, IsAtDepth}
-use Rattle.region_tree.proofs.AnyHeight.{none_with_ranks}
-
-either_way : {P : Type 0} (b : Bool) → (b ≡ true → P) → (b ≡ false → P) → P
-either_way true f g = f refl
-either_way false f g = g refl
-
-trichotomy : {P : Type 0} (a b : ℕ) → (a < b → P) → (a ≡ b → P) → (b < a → P) → P
-trichotomy a b f g h =
-    either_way (nat_lt a b)
-    (λ e. f (ltb-true a b e))
-    (λ e. either_way (nat_lt b a) (λ k. h (ltb-true b a k)) (λ k. g (omega (arith, ltb-false a b e, ltb-false b a k))))
+use Rattle.region_tree.proofs.Ranges.{accepted_is_no_open, rejected_is_no_open, accepted_is_no_rejected, accepted_is_one, rejected_is_one}
+use Rattle.region_tree.proofs.Searches.{either_way, trichotomy}
 
 -- ---- upper vectors
 
@@ -159,26 +150,26 @@ module _ (k : CaseData) (is : IsCase k) (ss : Spans) (inside : IsInside k.root s
 
 -- ---- trees
 
-module _ (uppers : LeastUppersAreOne) (lowers : GreatestLowersAreOne) (axes : SplitAxesAreOne) (halves : HalvesAreDeeper) (k : CaseData) (is : IsCase k) (bound : Bound) where
-  pub tree_is_one : (depth : ℕ) (ss : Spans) (t u : Tree) → IsAtDepth k depth ss → IsRight k ss bound depth t → IsRight k ss bound depth u → t ≡ u
-  tree_is_one depth ss (accept u x) (accept v y) at h g = let w : u ≡ v = h.0 ∙ sym g.0 in let same : x ≡ y = uppers k ss x y h.1.least g.1.least in cc
-  tree_is_one depth ss (accept u x) (reject v q) at h g = absurd (g.1.none x h.1.accepting)
-  tree_is_one depth ss (accept u x) (split axis lower upper) at h g = absurd (g.0.is_open.accepts x h.1.accepting)
-  tree_is_one depth ss (accept u x) unknown at h g = absurd (g.0.accepts x h.1.accepting)
-  tree_is_one depth ss (reject u r) (accept v y) at h g = absurd (h.1.none y g.1.accepting)
-  tree_is_one depth ss (reject u r) (reject v q) at h g = let w : u ≡ v = h.0 ∙ sym g.0 in let same : r ≡ q = lowers k ss r q is at.inside h.1.greatest g.1.greatest in cc
-  tree_is_one depth ss (reject u r) (split axis lower upper) at h g = absurd (none_with_ranks k ss bound r g.0.is_open.rejects h.1.rejecting)
-  tree_is_one depth ss (reject u r) unknown at h g = absurd (none_with_ranks k ss bound r g.0.rejects h.1.rejecting)
-  tree_is_one depth ss (split axis lower upper) (accept v y) at h g = absurd (h.0.is_open.accepts y g.1.accepting)
-  tree_is_one depth ss (split axis lower upper) (reject v q) at h g = absurd (none_with_ranks k ss bound q h.0.is_open.rejects g.1.rejecting)
+module _ (lower_case : LowerPrecisionIsCase) (uppers : LeastUppersAreOne) (lowers : GreatestLowersAreOne) (axes : SplitAxesAreOne) (halves : HalvesAreDeeper) (k : CaseData) (v : ℕ) (is : IsCase k) (positive : 1 ≤ v) (bound : Bound) where
+  pub tree_is_one : (depth : ℕ) (ss : Spans) (t u : Tree) → IsAtDepth k depth ss → IsRight k v ss bound depth t → IsRight k v ss bound depth u → t ≡ u
+  tree_is_one depth ss (accept u x) (accept t y) at h g = let same = accepted_is_one k v ss bound uppers u t x y h g in let precision : u ≡ t = same.0 in let numbers : x ≡ y = same.1 in cc
+  tree_is_one depth ss (accept u x) (reject t q) at h g = absurd (accepted_is_no_rejected k v ss bound u t x q h g)
+  tree_is_one depth ss (accept u x) (split axis lower upper) at h g = absurd (accepted_is_no_open k v ss bound u x h g.0.is_open)
+  tree_is_one depth ss (accept u x) unknown at h g = absurd (accepted_is_no_open k v ss bound u x h g.0)
+  tree_is_one depth ss (reject u r) (accept t y) at h g = absurd (accepted_is_no_rejected k v ss bound t u y r g h)
+  tree_is_one depth ss (reject u r) (reject t q) at h g = let same = rejected_is_one k v ss bound lower_case lowers is positive at.inside u t r q h g in let precision : u ≡ t = same.0 in let data_same : r ≡ q = same.1 in cc
+  tree_is_one depth ss (reject u r) (split axis lower upper) at h g = absurd (rejected_is_no_open k v ss bound u r h g.0.is_open)
+  tree_is_one depth ss (reject u r) unknown at h g = absurd (rejected_is_no_open k v ss bound u r h g.0)
+  tree_is_one depth ss (split axis lower upper) (accept t y) at h g = absurd (accepted_is_no_open k v ss bound t y g h.0.is_open)
+  tree_is_one depth ss (split axis lower upper) (reject t q) at h g = absurd (rejected_is_no_open k v ss bound t q g h.0.is_open)
   tree_is_one depth ss (split axis lower upper) (split other low up) at h g =
       let same : other ≡ axis = axes _ ss other axis g.0.axis_is h.0.axis_is in
       let deeper = halves k ss depth axis is at h.0.left h.0.axis_is in
-      let lows : lower ≡ low = tree_is_one (depth + 1) (lower_half axis ss) lower low deeper.0 h.1 (subst (λ a. IsRight k (lower_half a ss) bound (depth + 1) low) same g.1) in
-      let ups : upper ≡ up = tree_is_one (depth + 1) (upper_half axis ss) upper up deeper.1 h.2 (subst (λ a. IsRight k (upper_half a ss) bound (depth + 1) up) same g.2) in
+      let lows : lower ≡ low = tree_is_one (depth + 1) (lower_half axis ss) lower low deeper.0 h.1 (subst (λ a. IsRight k v (lower_half a ss) bound (depth + 1) low) same g.1) in
+      let ups : upper ≡ up = tree_is_one (depth + 1) (upper_half axis ss) upper up deeper.1 h.2 (subst (λ a. IsRight k v (upper_half a ss) bound (depth + 1) up) same g.2) in
       cc
   tree_is_one depth ss (split axis lower upper) unknown at h g = absurd (omega (arith, h.0.left, g.1))
-  tree_is_one depth ss unknown (accept v y) at h g = absurd (h.0.accepts y g.1.accepting)
-  tree_is_one depth ss unknown (reject v q) at h g = absurd (none_with_ranks k ss bound q h.0.rejects g.1.rejecting)
+  tree_is_one depth ss unknown (accept t y) at h g = absurd (accepted_is_no_open k v ss bound t y g h.0)
+  tree_is_one depth ss unknown (reject t q) at h g = absurd (rejected_is_no_open k v ss bound t q g h.0)
   tree_is_one depth ss unknown (split axis lower upper) at h g = absurd (omega (arith, g.0.left, h.1))
   tree_is_one depth ss unknown unknown at h g = refl

@@ -15,8 +15,8 @@ use Rattle.lower_cert.specs.Limit.{IsGreatestAbove, NoneIsAbove}
 use Rattle.region_tree.specs.Decided.{IsGreatestBeyond, reject_of}
 use Rattle.region_tree.specs.Right.{IsAccepted, NoneRejects}
 use Rattle.region_tree.proofs.AnyHeight.{none_at_any_height}
-
 -- ---- the greatest number within a bound
+use Rattle.region_tree.proofs.Ranges.{first_alone}
 
 -- q is the quotient of num times 2 ^ w by den, rounded down
 pub record IsFloor (num den w q : ℕ) : Type 0 where
@@ -60,8 +60,9 @@ module _ (bound : Bound) (w : ℕ) (limit n : ℤ) where
 -- ---- verdicts
 
 module _ (k : CaseData) (ss : Spans) (bound : Bound) where
-  pub is_accepted : (limit : ℤ) (x : List ℤ) → IsWithin bound k.w limit → IsLeastUpper k ss x → number x k.model.init ≤ℤ limit → IsAccepted k ss bound x
+  pub is_accepted : (limit : ℤ) (x : List ℤ) → IsWithin bound k.w limit → IsLeastUpper k ss x → number x k.model.init ≤ℤ limit → IsAccepted k k.w ss bound k.w x
   is_accepted limit x within least first = record {
+    first = first_alone k ss bound;
     accepting = record { upper = least.upper; limit = within_below bound k.w limit (number x k.model.init) within first };
     least = least;
   }

@@ -46,16 +46,16 @@ pub record IsGreatestBeyond (k : CaseData) (spans : Spans) (bound : Bound) (r : 
   pub greatest : IsGreatestLower k spans r
   pub height : r.k ≤ most_states
 
--- The verdict is right of the rectangle, and its certificate has these numbers, picks and ranks. The k of a rejecting one is at most the number of states that a model can have.
-abbrev pub IsDecidedBy : CaseData → Spans → Bound → List ℤ → List ℕ → List ℕ → Verdict → Type 0
-IsDecidedBy k spans bound numbers picks ranks Accept = IsAccepted k spans bound numbers
-IsDecidedBy k spans bound numbers picks ranks (Reject e height) = IsRejected k spans bound (reject_of numbers picks ranks e height) × (height ≤ most_states)
-IsDecidedBy k spans bound numbers picks ranks Unknown = IsOpen k spans bound
+-- The verdict is right of the rectangle, for the precisions from v to the case's, and its certificate has these numbers, picks and ranks. The k of a rejecting one is at most the number of states that a model can have.
+abbrev pub IsDecidedBy : CaseData → ℕ → Spans → Bound → List ℤ → List ℕ → List ℕ → Verdict → Type 0
+IsDecidedBy k v spans bound numbers picks ranks (Accept u) = IsAccepted k v spans bound u numbers
+IsDecidedBy k v spans bound numbers picks ranks (Reject u e height) = IsRejected k v spans bound u (reject_of numbers picks ranks e height) × (height ≤ most_states)
+IsDecidedBy k v spans bound numbers picks ranks Unknown = IsOpen k v spans bound
 
 -- the verdict is right of the rectangle, and its certificate stands in the lanes
-abbrev pub IsDecidedIn : CaseData → Spans → Bound → Pools → Verdict → Type 0
-IsDecidedIn k spans bound p verdict = IsDecidedBy k spans bound (lane p.values) (lane p.picks) (lane p.ranks) verdict
+abbrev pub IsDecidedIn : CaseData → ℕ → Spans → Bound → Pools → Verdict → Type 0
+IsDecidedIn k v spans bound p verdict = IsDecidedBy k v spans bound (lane p.values) (lane p.picks) (lane p.ranks) verdict
 
 -- the verdict is right of the rectangle, and its certificate stands in the room
-abbrev pub IsDecided : CaseData → Spans → Bound → RoomData → Verdict → Type 0
-IsDecided k spans bound room verdict = IsDecidedIn k spans bound room.pools verdict
+abbrev pub IsDecided : CaseData → ℕ → Spans → Bound → RoomData → Verdict → Type 0
+IsDecided k v spans bound room verdict = IsDecidedIn k v spans bound room.pools verdict

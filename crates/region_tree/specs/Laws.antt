@@ -1,5 +1,5 @@
 -- What holds of right trees, for who reasons about them.
-use Rattle.std.specs.Prelude.{◌≡◌, ℕ, ◌<◌, Bool, List, ℤ, map}
+use Rattle.std.specs.Prelude.{◌≡◌, ℕ, ◌<◌, ◌≤◌, Bool, List, ℤ, map}
 use Rattle.std.specs.declared.option.Option.{Option}
 use Rattle.std.specs.Io.KnownBytes.{Appends}
 use Rattle.lift_base.specs.Outside.{Rose}
@@ -19,9 +19,9 @@ use Rattle.region_tree.specs.Rooms.{RoomData, IsMadeFor, StandsAtDepth, StepsDow
 use Rattle.region_tree.specs.Visits.{Walks, entries}
 use Rattle.region_tree.specs.declared.visitor.Seen.{Seen}
 
--- a case has a right tree for each bound
+-- a case has a right tree for each bound and each range of precisions
 abbrev pub RightTreesExist : Type 0
-RightTreesExist = (k : CaseData) (bound : Bound) → IsCase k → (tree : Tree) × IsRightTree k bound tree
+RightTreesExist = (k : CaseData) (v : ℕ) (bound : Bound) → IsCase k → 1 ≤ v → (tree : Tree) × IsRightTree k v bound tree
 
 -- a rectangle inside the root has a least upper vector
 abbrev pub LeastUppersExist : Type 0
@@ -35,9 +35,9 @@ GreatestLowersExist = (k : CaseData) (spans : Spans) → IsCase k → IsInside k
 abbrev pub SplitAxesExist : Type 0
 SplitAxesExist = (k : CaseData) (spans : Spans) (depth : ℕ) → IsCase k → IsInside k.root spans → depth < greatest_depth k → (axis : ℕ) × IsSplitAxis (live k.model) spans axis
 
--- a case has at most one right tree for a bound
+-- a case has at most one right tree for a bound and a range of precisions
 abbrev pub RightTreesAreOne : Type 0
-RightTreesAreOne = (k : CaseData) (bound : Bound) (tree other : Tree) → IsCase k → IsRightTree k bound tree → IsRightTree k bound other → tree ≡ other
+RightTreesAreOne = (k : CaseData) (v : ℕ) (bound : Bound) (tree other : Tree) → IsCase k → 1 ≤ v → IsRightTree k v bound tree → IsRightTree k v bound other → tree ≡ other
 
 -- a rectangle has at most one least upper vector
 abbrev pub LeastUppersAreOne : Type 0
@@ -49,7 +49,7 @@ GreatestLowersAreOne = (k : CaseData) (spans : Spans) (r q : RejectData) → IsC
 
 -- the leaves of a right tree tile the root
 abbrev pub RightTreesTile : Type 0
-RightTreesTile = (k : CaseData) (bound : Bound) (tree : Tree) → IsCase k → IsRightTree k bound tree → Tiles k.d k.root (map (λ leaf. leaf.spans) (leaves k.root 0 tree))
+RightTreesTile = (k : CaseData) (v : ℕ) (bound : Bound) (tree : Tree) → IsCase k → IsRightTree k v bound tree → Tiles k.d k.root (map (λ leaf. leaf.spans) (leaves k.root 0 tree))
 
 -- ---- rooms
 
@@ -66,5 +66,5 @@ WalksStepDown = (k : CaseData) (room : RoomData) (depth axis : ℕ) (lower : Boo
 
 -- a walk over a visitor that counts no fault offers the nodes of the right tree, whole and in preorder
 abbrev pub CalmWalksShowAll : {V : Type 0} → (V → Option (List ℕ)) → (V → ℕ) → Type 0
-CalmWalksShowAll {V} taken faults = (k : CaseData) (bound : Bound) (tree : Tree) (entry : Node → List ℕ) (old new : V) (seen : Seen) → IsRightTree k bound tree
-    → Walks k k.root bound 0 taken faults entry old new seen → (Rose (faults old) (faults new) → ⊥) → Appends (taken old) (taken new) (entries entry tree)
+CalmWalksShowAll {V} taken faults = (k : CaseData) (v : ℕ) (bound : Bound) (tree : Tree) (entry : Node → List ℕ) (old new : V) (seen : Seen) → IsRightTree k v bound tree
+    → Walks k v k.root bound 0 taken faults entry old new seen → (Rose (faults old) (faults new) → ⊥) → Appends (taken old) (taken new) (entries entry tree)

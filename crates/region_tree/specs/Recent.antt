@@ -1,5 +1,5 @@
 -- The rectangles of a walk that were decided last, and what they tell of another one. At a valuation that two rectangles share, an accepting certificate of the one and a rejecting certificate of the other would tell of the same process, so there aren't both.
-use Rattle.std.specs.Prelude.{◌≡◌, ℕ, ◌*◌, ◌<◌, List, [], ◌∷◌, ℤ, ◌≤ℤ◌, ◌↔◌, slice_index_or, IsFalse}
+use Rattle.std.specs.Prelude.{◌≡◌, true, ℕ, ◌*◌, ◌<◌, List, [], ◌∷◌, ℤ, ◌≤ℤ◌, ◌↔◌, slice_index_or, IsFalse}
 use Rattle.lift_pool.specs.Lanes.{PoolData}
 use Rattle.lift_pool.specs.Shapes.{HasLanes}
 pub use Rattle.lift_pool.specs.Shapes.{IsSameShape}
@@ -76,8 +76,8 @@ forgotten d = record { accepted = record d.accepted { count = 0 }; rejected = re
 
 -- the rectangle with these sides is noted with its kind, if it is decided
 abbrev pub Notes : List ℤ → Verdict → DecidedData → DecidedData → Type 0
-Notes sides Accept old new = IsNoted sides old.accepted new.accepted × (new.rejected ≡ old.rejected)
-Notes sides (Reject e k) old new = IsNoted sides old.rejected new.rejected × (new.accepted ≡ old.accepted)
+Notes sides (Accept u) old new = IsNoted sides old.accepted new.accepted × (new.rejected ≡ old.rejected)
+Notes sides (Reject u e k) old new = IsNoted sides old.rejected new.rejected × (new.accepted ≡ old.accepted)
 Notes sides Unknown old new = new ≡ old
 
 -- what rectangles that are noted tell of another one: it isn't to be accepted exactly where it shares a valuation with one that was rejected, and not to be rejected exactly where with one that was accepted
@@ -106,3 +106,9 @@ pub record AreCertified (k : CaseData) (bound : Bound) (d : DecidedData) : Type 
 pub record IsSound (k : CaseData) (bound : Bound) (spans : Spans) (o : Outlook) : Type 0 where
   pub accepts : IsFalse o.may_accept → NoneAccepts k spans bound
   pub rejects : IsFalse o.may_reject → NoneRejects k spans bound
+
+-- no certificate of the other kind is looked for
+abbrev pub AgreesWith : Verdict → Outlook → Type 0
+AgreesWith (Accept u) o = o.may_accept ≡ true
+AgreesWith (Reject u e k) o = o.may_reject ≡ true
+AgreesWith Unknown o = (o.may_accept ≡ true) × (o.may_reject ≡ true)

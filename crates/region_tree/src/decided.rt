@@ -89,7 +89,7 @@ impl Decided {
         ensures notes { Notes sides.now verdict self.old self.new }
     {
         match verdict {
-            Verdict::Accept => {
+            Verdict::Accept { .. } => {
                 self.accepted.note(sides);
                 self.rejects_first = false;
             }

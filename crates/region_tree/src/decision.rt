@@ -5,6 +5,7 @@ ghost use Rattle.lift_model.specs.Links.{AreLinks};
 ghost use Rattle.lift_cert.specs.Certificate.{IsBeyond, IsWithin, NoneAccepts};
 ghost use Rattle.corner_lift.specs.Case.{AreSidesInside, IsInside, most_precision};
 ghost use Rattle.corner_lift.specs.Table.{IsTable};
+ghost use Rattle.lift_range.specs.Range.{Between};
 ghost use Rattle.lower_cert.specs.Limit.{IsGreatestAbove, NoneIsAbove};
 ghost use Rattle.lower_cert.specs.Lowering.{IsHigh};
 ghost use Rattle.rounded_iter.specs.Watching.{CanIterate, IsLeastWithin};
@@ -34,12 +35,14 @@ ghost use Rattle.region_tree.specs.Rooms.{
 use crate::decided::Outlook;
 use crate::pools::Pools;
 use crate::room::Room;
+use crate::task::Task;
 use crate::verdict::Verdict;
 use corner_lift::{Case, fill};
 use lift_cert::{Bound, certificates_are_of_one_kind};
 use lift_collapse::Collapse;
 use lift_model::Links;
 use lift_pool::{Pool, lanes_stand_alone};
+use lift_range::certificates_double;
 use lower_cert::{Rate, greatest_reject_above, greatest_reject_from, ranks_fit};
 use rounded_iter::least_upper_within;
 
@@ -68,7 +71,7 @@ fn fill_collapse(case: &Case, sides: &[i64], collapse: &mut Option<Collapse>)
 }
 
 /// The greatest number over 2 to the precision `w` that is within the bound.
-fn greatest_within(bound: Bound, w: u32) -> i64
+pub(crate) fn greatest_within(bound: Bound, w: u32) -> i64
     requires { w ≤ most_precision }
     ensures within { IsWithin bound w result }
     ensures beyond { IsBeyond bound w (result +ℤ pos 1) }
@@ -77,13 +80,11 @@ fn greatest_within(bound: Bound, w: u32) -> i64
     (scaled / u128::from(bound.den)) as i64
 }
 
-/// What is asked of a rectangle whose table the weights are: which certificates it has, for a bound.
+/// The task for a rectangle whose table the weights are.
 #[derive(Clone, Copy)]
-struct Question<'a> {
-    case: &'a Case<'a>,
-    links: &'a Links,
-    weights: &'a [i128],
-    bound: Bound,
+pub(crate) struct Question<'a> {
+    pub(crate) task: Task<'a>,
+    pub(crate) weights: &'a [i128],
 }
 
 impl Question<'_> {
@@ -97,35 +98,45 @@ impl Question<'_> {
         work: &mut [u32],
     ) -> bool
         ghost spans: { Spans }
-        requires can { CanIterate self.now.case.now self.now.links.now spans self.now.weights.now lane.old work.old }
-        requires filled { IfSome collapse.old (IsFilled self.now.case.now spans) }
+        requires can { CanIterate self.now.task.case.now self.now.task.links.now spans self.now.weights.now lane.old work.old }
+        requires filled { IfSome collapse.old (IsFilled self.now.task.case.now spans) }
         ensures same { collapse.new ≡ collapse.old }
-        ensures least { IsLeastWithin self.now.case.now spans limit lane.new result }
+        ensures least { IsLeastWithin self.now.task.case.now spans limit lane.new result }
     {
         match collapse {
-            Some(collapse) => collapse.least_upper_within(self.case, limit, lane),
-            None => { least_upper_within(self.case, self.links, self.weights, limit, lane, work) }
+            Some(collapse) => collapse.least_upper_within(self.task.case, limit, lane),
+            None => {
+                least_upper_within(
+                    self.task.case,
+                    self.task.links,
+                    self.weights,
+                    limit,
+                    lane,
+                    work,
+                )
+            }
         }
     }
 
     /// Whether an accepting certificate exists, if one may. Then the least upper vector is in the lanes.
     fn find_accepting(&self, may: bool, collapse: &mut Option<Collapse>, pools: &mut Pools) -> bool
         ghost spans: { Spans }
-        requires asked { CanAsk self.now.case.now self.now.links.now spans self.now.weights.now }
-        requires filled { IfSome collapse.old (IsFilled self.now.case.now spans) }
-        requires pools { HasPools self.now.case.now.model pools.old }
-        requires may { IsFalse may → NoneAccepts self.now.case.now spans self.now.bound }
+        requires asked { CanAsk self.now.task.case.now self.now.task.links.now spans self.now.weights.now }
+        requires filled { IfSome collapse.old (IsFilled self.now.task.case.now spans) }
+        requires pools { HasPools self.now.task.case.now.model pools.old }
+        requires may { IsFalse may → NoneAccepts self.now.task.case.now spans self.now.task.bound }
         ensures collapse { collapse.new ≡ collapse.old }
         ensures pools { KeepsPools pools.old pools.new }
-        ensures accepted { IsTrue result → IsAccepted self.now.case.now spans self.now.bound (lane pools.new.values) }
-        ensures none { IsFalse result → NoneAccepts self.now.case.now spans self.now.bound }
+        ensures accepted { IsTrue result → IsAccepted self.now.task.case.now self.now.task.case.now.w spans
+            self.now.task.bound self.now.task.case.now.w (lane pools.new.values) }
+        ensures none { IsFalse result → NoneAccepts self.now.task.case.now spans self.now.task.bound }
     {
         if !may {
             return false;
         }
         lanes_stand_alone::<i64>();
         lanes_stand_alone::<u32>();
-        let limit = greatest_within(self.bound, self.case.w());
+        let limit = greatest_within(self.task.bound, self.task.case.w());
         self.least_upper(
             limit,
             collapse,
@@ -138,18 +149,18 @@ impl Question<'_> {
     /// above the limit. It is lowered from the vector of ones.
     fn lower_from_ones(&self, limit: i64, pools: &mut Pools) -> Option<Rate>
         ghost spans: { Spans }
-        requires asked { CanAsk self.now.case.now self.now.links.now spans self.now.weights.now }
-        requires pools { HasPools self.now.case.now.model pools.old }
+        requires asked { CanAsk self.now.task.case.now self.now.task.links.now spans self.now.weights.now }
+        requires pools { HasPools self.now.task.case.now.model pools.old }
         ensures pools { KeepsPools pools.old pools.new }
         ensures some { IfSome result (λ rate.
-            IsGreatestAbove self.now.case.now spans limit (reject_in pools.new rate.e rate.k)) }
-        ensures none { IsNone result → NoneIsAbove self.now.case.now spans limit }
+            IsGreatestAbove self.now.task.case.now spans limit (reject_in pools.new rate.e rate.k)) }
+        ensures none { IsNone result → NoneIsAbove self.now.task.case.now spans limit }
     {
         lanes_stand_alone::<i64>();
         lanes_stand_alone::<u32>();
         greatest_reject_above(
-            self.case,
-            self.links,
+            self.task.case,
+            self.task.links,
             self.weights,
             limit,
             pools.values.lane_mut(0),
@@ -163,19 +174,19 @@ impl Question<'_> {
     /// The same, lowered from the vector in the lanes, which lies at or above each lower vector.
     fn lower_from_values(&self, limit: i64, pools: &mut Pools) -> Option<Rate>
         ghost spans: { Spans }
-        requires asked { CanAsk self.now.case.now self.now.links.now spans self.now.weights.now }
-        requires pools { HasPools self.now.case.now.model pools.old }
-        requires high { IsHigh self.now.case.now spans (lane pools.old.values) }
+        requires asked { CanAsk self.now.task.case.now self.now.task.links.now spans self.now.weights.now }
+        requires pools { HasPools self.now.task.case.now.model pools.old }
+        requires high { IsHigh self.now.task.case.now spans (lane pools.old.values) }
         ensures pools { KeepsPools pools.old pools.new }
         ensures some { IfSome result (λ rate.
-            IsGreatestAbove self.now.case.now spans limit (reject_in pools.new rate.e rate.k)) }
-        ensures none { IsNone result → NoneIsAbove self.now.case.now spans limit }
+            IsGreatestAbove self.now.task.case.now spans limit (reject_in pools.new rate.e rate.k)) }
+        ensures none { IsNone result → NoneIsAbove self.now.task.case.now spans limit }
     {
         lanes_stand_alone::<i64>();
         lanes_stand_alone::<u32>();
         greatest_reject_from(
-            self.case,
-            self.links,
+            self.task.case,
+            self.task.links,
             self.weights,
             limit,
             pools.values.lane_mut(0),
@@ -195,20 +206,20 @@ impl Question<'_> {
         pools: &mut Pools,
     ) -> Option<Rate>
         ghost spans: { Spans }
-        requires asked { CanAsk self.now.case.now self.now.links.now spans self.now.weights.now }
-        requires filled { IfSome collapse.old (IsFilled self.now.case.now spans) }
-        requires pools { HasPools self.now.case.now.model pools.old }
+        requires asked { CanAsk self.now.task.case.now self.now.task.links.now spans self.now.weights.now }
+        requires filled { IfSome collapse.old (IsFilled self.now.task.case.now spans) }
+        requires pools { HasPools self.now.task.case.now.model pools.old }
         ensures collapse { collapse.new ≡ collapse.old }
         ensures pools { KeepsPools pools.old pools.new }
         ensures some { IfSome result (λ rate.
-            IsGreatestAbove self.now.case.now spans limit (reject_in pools.new rate.e rate.k)) }
-        ensures none { IsNone result → NoneIsAbove self.now.case.now spans limit }
+            IsGreatestAbove self.now.task.case.now spans limit (reject_in pools.new rate.e rate.k)) }
+        ensures none { IsNone result → NoneIsAbove self.now.task.case.now spans limit }
     {
         lanes_stand_alone::<i64>();
         let Some(collapse) = collapse else {
             return self.lower_from_ones(limit, pools);
         };
-        if !collapse.lower_above(self.case, limit, pools.values.lane_mut(0)) {
+        if !collapse.lower_above(self.task.case, limit, pools.values.lane_mut(0)) {
             return None;
         }
         self.lower_from_values(limit, pools)
@@ -223,41 +234,42 @@ impl Question<'_> {
         pools: &mut Pools,
     ) -> Option<Rate>
         ghost spans: { Spans }
-        requires asked { CanAsk self.now.case.now self.now.links.now spans self.now.weights.now }
-        requires filled { IfSome collapse.old (IsFilled self.now.case.now spans) }
-        requires pools { HasPools self.now.case.now.model pools.old }
-        requires may { IsFalse may → NoneRejects self.now.case.now spans self.now.bound }
+        requires asked { CanAsk self.now.task.case.now self.now.task.links.now spans self.now.weights.now }
+        requires filled { IfSome collapse.old (IsFilled self.now.task.case.now spans) }
+        requires pools { HasPools self.now.task.case.now.model pools.old }
+        requires may { IsFalse may → NoneRejects self.now.task.case.now spans self.now.task.bound }
         ensures collapse { collapse.new ≡ collapse.old }
         ensures pools { KeepsPools pools.old pools.new }
         ensures rejecting { IfSome result (λ rate.
-            IsGreatestBeyond self.now.case.now spans self.now.bound (reject_in pools.new rate.e rate.k)) }
-        ensures none { IsNone result → NoneRejects self.now.case.now spans self.now.bound }
+            IsGreatestBeyond self.now.task.case.now spans self.now.task.bound (reject_in pools.new rate.e rate.k)) }
+        ensures none { IsNone result → NoneRejects self.now.task.case.now spans self.now.task.bound }
     {
         if !may {
             return None;
         }
         ranks_fit();
-        let limit = greatest_within(self.bound, self.case.w());
+        let limit = greatest_within(self.task.bound, self.task.case.w());
         self.greatest_lower(limit, collapse, pools)
     }
 
-    /// Decides the rectangle, in the lanes. Where a rejecting certificate is to be expected it is looked for first,
-    /// since then no accepting one exists, and nothing is lost.
-    fn decide(
+    /// Decides the rectangle at the case's precision alone, in the lanes. Where a rejecting certificate is to be
+    /// expected it is looked for first, since then no accepting one exists, and nothing is lost.
+    pub(crate) fn decide_alone(
         &self,
         outlook: Outlook,
         collapse: &mut Option<Collapse>,
         pools: &mut Pools,
     ) -> Verdict
         ghost spans: { Spans }
-        requires asked { CanAsk self.now.case.now self.now.links.now spans self.now.weights.now }
-        requires inside { IsInside self.now.case.now.root spans }
-        requires filled { IfSome collapse.old (IsFilled self.now.case.now spans) }
-        requires pools { HasPools self.now.case.now.model pools.old }
-        requires outlook { IsSound self.now.case.now self.now.bound spans outlook }
+        requires asked { CanAsk self.now.task.case.now self.now.task.links.now spans self.now.weights.now }
+        requires inside { IsInside self.now.task.case.now.root spans }
+        requires filled { IfSome collapse.old (IsFilled self.now.task.case.now spans) }
+        requires pools { HasPools self.now.task.case.now.model pools.old }
+        requires outlook { IsSound self.now.task.case.now self.now.task.bound spans outlook }
         ensures collapse { collapse.new ≡ collapse.old }
         ensures pools { KeepsPools pools.old pools.new }
-        ensures decided { IsDecidedIn self.now.case.now spans self.now.bound pools.new result }
+        ensures decided { IsDecidedIn self.now.task.case.now self.now.task.case.now.w spans self.now.task.bound
+            pools.new result }
     {
         let Outlook {
             may_accept,
@@ -265,23 +277,23 @@ impl Question<'_> {
             rejects_first,
         } = outlook;
         certificates_are_of_one_kind();
-        let _ = self.case.w();
+        let u = self.task.case.w();
         if rejects_first {
             let rate = self.find_rejecting(may_reject, collapse, pools);
             if let Some(Rate { e, k }) = rate {
-                return Verdict::Reject { e, k };
+                return Verdict::Reject { u, e, k };
             }
             if self.find_accepting(may_accept, collapse, pools) {
-                return Verdict::Accept;
+                return Verdict::Accept { u };
             }
             return Verdict::Unknown;
         }
         if self.find_accepting(may_accept, collapse, pools) {
-            return Verdict::Accept;
+            return Verdict::Accept { u };
         }
         let rate = self.find_rejecting(may_reject, collapse, pools);
         match rate {
-            Some(Rate { e, k }) => Verdict::Reject { e, k },
+            Some(Rate { e, k }) => Verdict::Reject { u, e, k },
             None => Verdict::Unknown,
         }
     }
@@ -306,59 +318,81 @@ impl Room {
     }
 }
 
-/// Decides the rectangle that the room's last lane of sides holds, of which that is known.
-fn decide_by(case: &Case, links: &Links, bound: Bound, room: &mut Room, outlook: Outlook) -> Verdict
-    ghost spans: { Spans }
-    requires spans { spans_of (last_sides room.old) ≡ spans }
-    requires can { CanDecide case.now links.now room.old }
-    requires outlook { IsSound case.now bound spans outlook }
-    ensures sides { room.new.sides ≡ room.old.sides }
-    ensures shape { KeepsShape room.old room.new }
-    ensures noted { room.new.decided ≡ room.old.decided }
-    ensures table { IsTable case.now links.now spans (lane room.new.weights) }
-    ensures decided { IsDecided case.now spans bound room.new result }
-{
-    room.make_tables(case, links);
-    let question = Question {
-        case: &*case,
-        links: &*links,
-        weights: room.weights.lane(0),
-        bound,
-    };
-    question.decide(outlook, &mut room.collapse, &mut room.pools)
+impl Task<'_> {
+    /// Decides the rectangle that the room's last lane of sides holds, of which that is known.
+    fn decide_by(&self, room: &mut Room, outlook: Outlook) -> Verdict
+        ghost spans: { Spans }
+        requires spans { spans_of (last_sides room.old) ≡ spans }
+        requires can { CanDecide self.now.case.now self.now.links.now room.old }
+        requires from { Between 1 self.now.case.now.w self.now.from }
+        requires outlook { IsSound self.now.case.now self.now.bound spans outlook }
+        ensures sides { room.new.sides ≡ room.old.sides }
+        ensures shape { KeepsShape room.old room.new }
+        ensures noted { room.new.decided ≡ room.old.decided }
+        ensures table { IsTable self.now.case.now self.now.links.now spans (lane room.new.weights) }
+        ensures decided { IsDecided self.now.case.now self.now.from spans self.now.bound room.new result }
+    {
+        room.make_tables(self.case, self.links);
+        let question = Question {
+            task: Task {
+                case: self.case,
+                links: self.links,
+                bound: self.bound,
+                from: self.from,
+            },
+            weights: room.weights.lane(0),
+        };
+        question.decide(
+            outlook,
+            &mut room.collapse,
+            &mut room.pools,
+            &mut room.errors,
+        )
+    }
+
+    /// Decides the rectangle of a walk that the room's last lane of sides holds: what the rectangles before it had
+    /// tells of it, and what it has is noted.
+    pub(crate) fn decide_next(&self, room: &mut Room) -> Verdict
+        requires can { CanDecide self.now.case.now self.now.links.now room.old }
+        requires from { Between 1 self.now.case.now.w self.now.from }
+        requires known { AreCertified self.now.case.now self.now.bound room.old.decided }
+        ensures sides { room.new.sides ≡ room.old.sides }
+        ensures shape { KeepsShape room.old room.new }
+        ensures known { AreCertified self.now.case.now self.now.bound room.new.decided }
+        ensures decided { IsDecided self.now.case.now self.now.from (spans_of (last_sides room.old)) self.now.bound
+            room.new result }
+    {
+        certificates_are_of_one_kind();
+        certificates_double();
+        ranks_fit();
+        let _ = self.case.w();
+        let last = room.sides.lanes() - 1;
+        let outlook = room.decided.outlook(room.sides.lane(last));
+        let verdict = self.decide_by(room, outlook);
+        room.decided.note(room.sides.lane(last), verdict);
+        verdict
+    }
 }
 
-/// Decides the rectangle that the room's last lane of sides holds. The room was made for the case, and
-/// further lanes of sides may have been taken since.
+/// Decides the rectangle that the room's last lane of sides holds, for the precisions from `from` to the case's. The
+/// room was made for the case, and further lanes of sides may have been taken since.
 ///
 /// The room's weights are then the table of that rectangle. With `Accept` its values are the least upper
-/// vector, and with `Reject` its values, picks and ranks are those of the greatest lower vector. Takes no
-/// memory.
-pub fn decide(case: &Case, links: &Links, bound: Bound, room: &mut Room) -> Verdict
-    requires { CanDecide case.now links.now room.old }
+/// vector at the verdict's precision, and with `Reject` its values, picks and ranks are those of the greatest lower
+/// vector there. Takes no memory.
+pub fn decide(case: &Case, links: &Links, bound: Bound, from: u32, room: &mut Room) -> Verdict
+    requires can { CanDecide case.now links.now room.old }
+    requires from { Between 1 case.now.w from }
     ensures sides { room.new.sides ≡ room.old.sides }
     ensures shape { KeepsShape room.old room.new }
     ensures table { IsTable case.now links.now (spans_of (last_sides room.old)) (lane room.new.weights) }
-    ensures decided { IsDecided case.now (spans_of (last_sides room.old)) bound room.new result }
+    ensures decided { IsDecided case.now from (spans_of (last_sides room.old)) bound room.new result }
 {
-    decide_by(case, links, bound, room, Outlook::OPEN)
-}
-
-/// The same of a rectangle of a walk: what the rectangles before it had tells of it, and what it has is noted.
-pub(crate) fn decide_next(case: &Case, links: &Links, bound: Bound, room: &mut Room) -> Verdict
-    requires can { CanDecide case.now links.now room.old }
-    requires known { AreCertified case.now bound room.old.decided }
-    ensures sides { room.new.sides ≡ room.old.sides }
-    ensures shape { KeepsShape room.old room.new }
-    ensures known { AreCertified case.now bound room.new.decided }
-    ensures decided { IsDecided case.now (spans_of (last_sides room.old)) bound room.new result }
-{
-    certificates_are_of_one_kind();
-    ranks_fit();
-    let _ = case.w();
-    let last = room.sides.lanes() - 1;
-    let outlook = room.decided.outlook(room.sides.lane(last));
-    let verdict = decide_by(case, links, bound, room, outlook);
-    room.decided.note(room.sides.lane(last), verdict);
-    verdict
+    let task = Task {
+        case: &*case,
+        links: &*links,
+        bound,
+        from,
+    };
+    task.decide_by(room, Outlook::OPEN)
 }

@@ -16,7 +16,7 @@ ghost use Rattle.region_tree.specs.Laws.{
 };
 
 use crate::visitor::Visitor;
-use corner_lift::{live_parameters_have_spans, rows_at_corners};
+use corner_lift::{live_parameters_have_spans, lower_precisions_are_cases, rows_at_corners};
 use lift_grid::trees_tile;
 use lift_walk::{rectangles_at_depths, sides_go_down, split_axes_are_one};
 use lower_cert::{ranks_fit, vectors_are_lowered};
@@ -48,18 +48,20 @@ pub fn certificates_exist()
     live_parameters_have_spans();
 }
 
-/// A case has at most one right tree for a bound.
+/// A case has at most one right tree for a bound and a range of precisions.
 pub fn right_trees_are_one()
     ensures { RightTreesAreOne }
 {
+    lower_precisions_are_cases();
     certificates_are_one();
     rectangles_at_depths();
 }
 
-/// A case has a right tree for each bound. So it has exactly one.
+/// A case has a right tree for each bound and each range of precisions. So it has exactly one.
 pub fn right_trees_exist()
     ensures { RightTreesExist }
 {
+    lower_precisions_are_cases();
     certificates_exist();
     rectangles_at_depths();
     ranks_fit();

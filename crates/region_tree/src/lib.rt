@@ -2,14 +2,17 @@
 //! over it.
 #![tactic(auto)]
 
+mod aim;
 mod decided;
 mod decision;
 mod halves;
 mod laws;
 mod leaf;
 mod pools;
+mod precisions;
 mod recent;
 mod room;
+mod task;
 mod tree;
 mod verdict;
 mod visitor;

@@ -4,6 +4,7 @@ ghost use Rattle.lift_model.specs.Links.{AreLinks};
 ghost use Rattle.region_tree.specs.Recent.{HasAllPlaces};
 ghost use Rattle.region_tree.specs.Rooms.{IsMadeFor, end_count, last_sides};
 
+use crate::aim::Errors;
 use crate::decided::Decided;
 use crate::pools::Pools;
 use corner_lift::Case;
@@ -29,6 +30,8 @@ pub struct Room {
     pub(crate) pools: Pools,
     /// The rectangles of a walk that were decided last.
     pub(crate) decided: Decided,
+    /// By what least precisions are looked for. It isn't seen, since nothing rests on it.
+    pub(crate) errors: Errors,
 }
 
 impl std::marker::Model for Room {
@@ -67,6 +70,7 @@ impl Room {
             weights: Pool::filled(alloc, 1, links.weights_len(), 0)?,
             pools: Pools::of_model(alloc, case.model(), links)?,
             decided: decided_of_case(alloc, case)?,
+            errors: Errors::NONE,
             collapse: Collapse::build(alloc, case.model(), links)?,
         })
     }

@@ -1,21 +1,22 @@
 // The tree of a case, whole.
-ghost use Rattle.std.specs.Prelude.{◌≡◌, ◌≤◌, ◌<◌, ℕ, IfOk, length};
+ghost use Rattle.std.specs.Prelude.{◌≡◌, ◌≤◌, ◌<◌, IfOk, length};
 ghost use Rattle.lift_grid.specs.Rectangle.{spans_of};
 ghost use Rattle.lift_grid.specs.Tree.Tree.{split};
 ghost use Rattle.lift_model.specs.Links.{AreLinks};
 ghost use Rattle.corner_lift.specs.Case.{IsCase, greatest_depth};
-ghost use Rattle.region_tree.specs.Built.{tree_at};
+ghost use Rattle.lift_range.specs.Range.{Between};
+ghost use Rattle.region_tree.specs.Built.{tree_of};
 ghost use Rattle.region_tree.specs.Decided.{IsDecided};
 ghost use Rattle.region_tree.specs.Recent.{AreCertified};
 ghost use Rattle.region_tree.specs.Right.{IsRight, IsRightTree};
 ghost use Rattle.region_tree.specs.Rooms.{HasLanes, KeepsShape, StandsAtDepth, last_sides};
 ghost use Rattle.region_tree.specs.declared.verdict.Verdict.TheVariants.{Unknown};
 
-use crate::decision::decide_next;
 use crate::laws::walks_are_placed;
 use crate::room::Room;
-use crate::verdict::Verdict;
-use crate::walking::{Walker, axis_of, is_decided};
+use crate::task::Task;
+use crate::verdict::{Verdict, is_decided};
+use crate::walking::{Walker, axis_of};
 use corner_lift::Case;
 use lift_cert::Bound;
 use lift_grid::{Marks, Values, rows_are_rectangles};
@@ -31,13 +32,15 @@ pub enum Branch {
         lower: Box<Branch>,
         upper: Box<Branch>,
     },
-    /// An accepting leaf, with the number of each state.
+    /// An accepting leaf, with its precision and the number of each state.
     Accept {
+        u: u32,
         x: Values,
     },
-    /// A rejecting leaf, with its rate, and the number, the pick and the rank of each state, `u32::MAX`
-    /// standing for none.
+    /// A rejecting leaf, with its precision, its rate, and the number, the pick and the rank of each state,
+    /// `u32::MAX` standing for none.
     Reject {
+        u: u32,
         e: u32,
         k: u32,
         y: Values,
@@ -65,7 +68,7 @@ impl Tree {
 
 // A split, with the trees of its halves.
 fn halved(alloc: Global, axis: u32, lower: Branch, upper: Branch) -> Result<Branch, AllocError>
-    ensures { (u : ℕ) → IfOk result (λ b. tree_at u b ≡ split axis (tree_at u lower) (tree_at u upper)) }
+    ensures { IfOk result (λ b. tree_of b ≡ split axis (tree_of lower) (tree_of upper)) }
 {
     let lower = Box::new(alloc, lower)?;
     let upper = Box::new(alloc, upper)?;
@@ -81,17 +84,20 @@ impl Walker<'_> {
         room: &Room,
         verdict: Verdict,
     ) -> Result<Branch, AllocError>
-        requires decided { IsDecided self.now.case.now (spans_of (last_sides room.now)) self.now.bound room.now verdict }
+        requires decided { IsDecided self.now.task.case.now self.now.task.from (spans_of (last_sides room.now))
+            self.now.task.bound room.now verdict }
         requires lanes { 0 < length room.now.pools.values.lanes }
-        requires leaf { verdict ≡ Unknown → depth ≡ greatest_depth self.now.case.now }
-        ensures { IfOk result (λ b. IsRight self.now.case.now (spans_of (last_sides room.now)) self.now.bound depth
-            (tree_at self.now.case.now.w b)) }
+        requires leaf { verdict ≡ Unknown → depth ≡ greatest_depth self.now.task.case.now }
+        ensures { IfOk result (λ b. IsRight self.now.task.case.now self.now.task.from (spans_of (last_sides room.now))
+            self.now.task.bound depth (tree_of b)) }
     {
         Ok(match verdict {
-            Verdict::Accept => Branch::Accept {
+            Verdict::Accept { u } => Branch::Accept {
+                u,
                 x: Values::from_slice(alloc, room.values())?,
             },
-            Verdict::Reject { e, k } => Branch::Reject {
+            Verdict::Reject { u, e, k } => Branch::Reject {
+                u,
                 e,
                 k,
                 y: Values::from_slice(alloc, room.values())?,
@@ -104,25 +110,26 @@ impl Walker<'_> {
 
     // The tree of the rectangle that the room's last lane of sides holds.
     fn build_at(&self, alloc: Global, depth: u32, room: &mut Room) -> Result<Branch, AllocError>
-        requires case { IsCase self.now.case.now }
-        requires links { AreLinks self.now.case.now.model self.now.links.now }
-        requires greatest { self.now.greatest ≡ greatest_depth self.now.case.now }
+        requires case { IsCase self.now.task.case.now }
+        requires from { Between 1 self.now.task.case.now.w self.now.task.from }
+        requires links { AreLinks self.now.task.case.now.model self.now.task.links.now }
+        requires greatest { self.now.greatest ≡ greatest_depth self.now.task.case.now }
         requires depth { depth ≤ self.now.greatest }
-        requires lanes { HasLanes self.now.case.now.model self.now.links.now room.old }
-        requires placed { StandsAtDepth self.now.case.now depth room.old }
-        requires known { AreCertified self.now.case.now self.now.bound room.old.decided }
-        ensures right { IfOk result (λ b. IsRight self.now.case.now (spans_of (last_sides room.old)) self.now.bound depth
-            (tree_at self.now.case.now.w b)) }
+        requires lanes { HasLanes self.now.task.case.now.model self.now.task.links.now room.old }
+        requires placed { StandsAtDepth self.now.task.case.now depth room.old }
+        requires known { AreCertified self.now.task.case.now self.now.task.bound room.old.decided }
+        ensures right { IfOk result (λ b. IsRight self.now.task.case.now self.now.task.from (spans_of (last_sides room.old))
+            self.now.task.bound depth (tree_of b)) }
         ensures sides { room.new.sides ≡ room.old.sides }
         ensures shape { KeepsShape room.old room.new }
-        ensures known { AreCertified self.now.case.now self.now.bound room.new.decided }
+        ensures known { AreCertified self.now.task.case.now self.now.task.bound room.new.decided }
     {
         walks_are_placed();
-        let verdict = decide_next(self.case, self.links, self.bound, room);
+        let verdict = self.task.decide_next(room);
         if depth == self.greatest || is_decided(verdict) {
             return self.leaf(alloc, depth, room, verdict);
         }
-        let axis = axis_of(self.case, depth, room);
+        let axis = axis_of(self.task.case, depth, room);
         room.take_half(axis, true);
         let lower = self.build_at(alloc, depth + 1, room);
         room.give_half();
@@ -134,10 +141,18 @@ impl Walker<'_> {
     }
 }
 
-/// Builds the right tree of a case. Memory is taken for a room and for the tree.
-pub fn build(alloc: Global, case: &Case, links: &Links, bound: Bound) -> Result<Tree, AllocError>
-    requires { AreLinks case.now.model links.now }
-    ensures { IfOk result (λ t. IsRightTree case.now bound (tree_at case.now.w t.top)) }
+/// Builds the right tree of a case, for the precisions from `from` to its own. Memory is taken for a room and for the
+/// tree.
+pub fn build(
+    alloc: Global,
+    case: &Case,
+    links: &Links,
+    bound: Bound,
+    from: u32,
+) -> Result<Tree, AllocError>
+    requires links { AreLinks case.now.model links.now }
+    requires from { Between 1 case.now.w from }
+    ensures { IfOk result (λ t. IsRightTree case.now from bound (tree_of t.top)) }
 {
     walks_are_placed();
     rows_are_rectangles();
@@ -145,12 +160,13 @@ pub fn build(alloc: Global, case: &Case, links: &Links, bound: Bound) -> Result<
     let mut room = Room::make(alloc, case, links)?;
     room.begin(case);
     let greatest = case.greatest_depth();
-    let walker = Walker {
+    let task = Task {
         case: &*case,
         links: &*links,
         bound,
-        greatest,
+        from,
     };
+    let walker = Walker { task, greatest };
     let top = walker.build_at(alloc, 0, &mut room)?;
     Ok(Tree { top })
 }

@@ -1,10 +1,23 @@
-/// What is decided of a rectangle, for a bound.
+ghost use Rattle.std.specs.Prelude.{◌≡◌, IsFalse};
+ghost use Rattle.region_tree.specs.declared.verdict.Verdict.TheVariants.{Unknown};
+
+/// What is decided of a rectangle, for a bound and a range of precisions. A precision decides where there is a
+/// certificate of either kind.
 #[derive(Clone, Copy, Debug, PartialEq, Eq)]
 pub enum Verdict {
-    /// An accepting certificate exists.
-    Accept,
-    /// No accepting certificate exists, and a rejecting one does; its rate follows from `e` and `k`.
-    Reject { e: u32, k: u32 },
-    /// There is no certificate of either kind.
+    /// At `u`, the least precision that decides, an accepting certificate exists.
+    Accept { u: u32 },
+    /// At `u`, the least precision that decides, no accepting certificate exists, and a rejecting one does; its
+    /// rate follows from `e` and `k`.
+    Reject { u: u32, e: u32, k: u32 },
+    /// No precision of the range decides.
     Unknown,
+}
+
+/// Whether there is a certificate.
+pub(crate) fn is_decided(verdict: Verdict) -> bool
+    ensures open { IsFalse result → verdict ≡ Unknown }
+    ensures decided { verdict ≡ Unknown → IsFalse result }
+{
+    !matches!(verdict, Verdict::Unknown)
 }

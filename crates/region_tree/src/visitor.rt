@@ -2,6 +2,7 @@ ghost use Rattle.std.specs.Prelude.{◌≡◌, List, ℕ};
 ghost use Rattle.std.specs.declared.option.Option.{Option};
 ghost use Rattle.std.specs.Borrow.{GName};
 ghost use Rattle.lift_grid.specs.Tree.{RejectData};
+ghost use Rattle.lift_range.specs.Range.{Between};
 ghost use Rattle.region_tree.specs.Nodes.{Node};
 ghost use Rattle.region_tree.specs.Nodes.Node.{accept, reject, split, unknown};
 ghost use Rattle.region_tree.specs.Visits.{AreShown, IsShown, Visits};
@@ -18,10 +19,13 @@ pub enum Seen {
 /// Is shown the nodes of a tree, one after another.
 ///
 /// A visitor takes an entry for each node, which is a list of bytes. Whichever nodes it is shown, the
-/// number of states and the entries stay the same, and its count of faults never falls.
+/// number of states, the precision and the entries stay the same, and its count of faults never falls.
 pub trait Visitor {
     /// The number of states of the model whose tree is shown.
     ghost states: { Self → ℕ };
+
+    /// The greatest precision that a leaf may have.
+    ghost precision: { Self → ℕ };
 
     /// What is taken for a node.
     ghost entry: { Self → Node → List ℕ };
@@ -40,20 +44,24 @@ pub trait Visitor {
         ensures visits { Visits taken faults self.old self.new result (entry self.old (split axis)) }
         ensures entry { entry self.new ≡ entry self.old }
         ensures states { states self.new ≡ states self.old }
+        ensures precision { precision self.new ≡ precision self.old }
         ensures same { reference self.new ≡ reference self.old };
 
-    /// An accepting leaf, with the number of each state.
-    fn accept(&mut self, x: &[i64]) -> Seen
-        requires { AreShown (states self.old) x.now }
-        ensures visits { Visits taken faults self.old self.new result (entry self.old (accept x.now)) }
+    /// An accepting leaf, with its precision and the number of each state.
+    fn accept(&mut self, u: u32, x: &[i64]) -> Seen
+        requires u { Between 1 (precision self.old) u }
+        requires x { AreShown (states self.old) x.now }
+        ensures visits { Visits taken faults self.old self.new result (entry self.old (accept u x.now)) }
         ensures entry { entry self.new ≡ entry self.old }
         ensures states { states self.new ≡ states self.old }
+        ensures precision { precision self.new ≡ precision self.old }
         ensures same { reference self.new ≡ reference self.old };
 
-    /// A rejecting leaf, with the number, the pick and the rank of each state; a state without pick or
-    /// rank has `u32::MAX` there.
-    fn reject(&mut self, e: u32, k: u32, y: &[i64], picks: &[u32], ranks: &[u32]) -> Seen
-        requires { IsShown (states self.old) (record {
+    /// A rejecting leaf, with its precision, and the number, the pick and the rank of each state; a state without
+    /// pick or rank has `u32::MAX` there.
+    fn reject(&mut self, u: u32, e: u32, k: u32, y: &[i64], picks: &[u32], ranks: &[u32]) -> Seen
+        requires u { Between 1 (precision self.old) u }
+        requires r { IsShown (states self.old) (record {
           numbers = y.now;
           picks = picks.now;
           ranks = ranks.now;
@@ -66,9 +74,10 @@ pub trait Visitor {
           ranks = ranks.now;
           e = e;
           k = k;
-        } in Visits taken faults self.old self.new result (entry self.old (reject r)) }
+        } in Visits taken faults self.old self.new result (entry self.old (reject u r)) }
         ensures entry { entry self.new ≡ entry self.old }
         ensures states { states self.new ≡ states self.old }
+        ensures precision { precision self.new ≡ precision self.old }
         ensures same { reference self.new ≡ reference self.old };
 
     /// An unknown leaf.
@@ -76,5 +85,6 @@ pub trait Visitor {
         ensures visits { Visits taken faults self.old self.new result (entry self.old unknown) }
         ensures entry { entry self.new ≡ entry self.old }
         ensures states { states self.new ≡ states self.old }
+        ensures precision { precision self.new ≡ precision self.old }
         ensures same { reference self.new ≡ reference self.old };
 }

@@ -5,6 +5,7 @@ ghost use Rattle.lift_grid.specs.Splitting.{IsSplitAxis};
 ghost use Rattle.lift_model.specs.Links.{AreLinks};
 ghost use Rattle.lift_model.specs.Model.{live};
 ghost use Rattle.corner_lift.specs.Case.{IsCase, greatest_depth};
+ghost use Rattle.lift_range.specs.Range.{Between};
 ghost use Rattle.region_tree.specs.Recent.{AreCertified};
 ghost use Rattle.region_tree.specs.Rooms.{
   HasLanes,
@@ -16,27 +17,18 @@ ghost use Rattle.region_tree.specs.Rooms.{
   last_sides,
 };
 ghost use Rattle.region_tree.specs.Visits.{Walks};
-ghost use Rattle.region_tree.specs.declared.verdict.Verdict.TheVariants.{Unknown};
 ghost use Rattle.region_tree.specs.declared.visitor.Seen.TheVariants.{Failed, Kept};
 
-use crate::decision::decide_next;
 use crate::laws::{certificates_are_one, walks_are_placed};
 use crate::room::Room;
-use crate::verdict::Verdict;
+use crate::task::Task;
+use crate::verdict::is_decided;
 use crate::visitor::{Seen, Visitor};
 use corner_lift::Case;
 use lift_cert::Bound;
 use lift_grid::rows_are_rectangles;
 use lift_model::Links;
 use lift_walk::sides_go_down;
-
-/// Whether there is a certificate.
-pub(crate) fn is_decided(verdict: Verdict) -> bool
-    ensures open { IsFalse result → verdict ≡ Unknown }
-    ensures decided { verdict ≡ Unknown → IsFalse result }
-{
-    !matches!(verdict, Verdict::Unknown)
-}
 
 /// Whether the visitor failed.
 fn is_failed(seen: Seen) -> bool
@@ -56,12 +48,10 @@ pub(crate) fn axis_of(case: &Case, depth: u32, room: &Room) -> u32
     lift_walk::axis_of(case, room.sides())
 }
 
-/// Walks over the tree of a case, for a bound.
+/// Walks over the tree of a case.
 #[derive(Clone, Copy)]
 pub(crate) struct Walker<'a> {
-    pub(crate) case: &'a Case<'a>,
-    pub(crate) links: &'a Links,
-    pub(crate) bound: Bound,
+    pub(crate) task: Task<'a>,
     /// The case's greatest depth.
     pub(crate) greatest: u32,
 }
@@ -69,30 +59,33 @@ pub(crate) struct Walker<'a> {
 impl Walker<'_> {
     /// Walks over the tree of the rectangle that the room's last lane of sides holds.
     fn walk_at<V: Visitor>(&self, depth: u32, room: &mut Room, visitor: &mut V) -> Seen
-        requires case { IsCase self.now.case.now }
-        requires links { AreLinks self.now.case.now.model self.now.links.now }
-        requires greatest { self.now.greatest ≡ greatest_depth self.now.case.now }
+        requires case { IsCase self.now.task.case.now }
+        requires from { Between 1 self.now.task.case.now.w self.now.task.from }
+        requires links { AreLinks self.now.task.case.now.model self.now.task.links.now }
+        requires greatest { self.now.greatest ≡ greatest_depth self.now.task.case.now }
         requires depth { depth ≤ self.now.greatest }
-        requires lanes { HasLanes self.now.case.now.model self.now.links.now room.old }
-        requires placed { StandsAtDepth self.now.case.now depth room.old }
-        requires known { AreCertified self.now.case.now self.now.bound room.old.decided }
-        requires states { V.states visitor.old ≡ length self.now.case.now.model.states }
-        ensures walks { Walks self.now.case.now (spans_of (last_sides room.old)) self.now.bound depth
-            V.taken V.faults (V.entry visitor.old) visitor.old visitor.new result }
+        requires lanes { HasLanes self.now.task.case.now.model self.now.task.links.now room.old }
+        requires placed { StandsAtDepth self.now.task.case.now depth room.old }
+        requires known { AreCertified self.now.task.case.now self.now.task.bound room.old.decided }
+        requires states { V.states visitor.old ≡ length self.now.task.case.now.model.states }
+        requires precision { V.precision visitor.old ≡ self.now.task.case.now.w }
+        ensures walks { Walks self.now.task.case.now self.now.task.from (spans_of (last_sides room.old))
+            self.now.task.bound depth V.taken V.faults (V.entry visitor.old) visitor.old visitor.new result }
         ensures sides { room.new.sides ≡ room.old.sides }
         ensures shape { KeepsShape room.old room.new }
-        ensures known { AreCertified self.now.case.now self.now.bound room.new.decided }
+        ensures known { AreCertified self.now.task.case.now self.now.task.bound room.new.decided }
         ensures states { V.states visitor.new ≡ V.states visitor.old }
+        ensures precision { V.precision visitor.new ≡ V.precision visitor.old }
         ensures entry { V.entry visitor.new ≡ V.entry visitor.old }
         ensures same { V.reference visitor.new ≡ V.reference visitor.old }
     {
         certificates_are_one();
         walks_are_placed();
-        let verdict = decide_next(self.case, self.links, self.bound, room);
+        let verdict = self.task.decide_next(room);
         if depth == self.greatest || is_decided(verdict) {
             return self.show_leaf(depth, room, verdict, visitor);
         }
-        let axis = axis_of(self.case, depth, room);
+        let axis = axis_of(self.task.case, depth, room);
         if is_failed(visitor.split(axis)) {
             return Seen::Failed;
         }
@@ -109,8 +102,8 @@ impl Walker<'_> {
     }
 }
 
-/// Shows the visitor the nodes of the case's right tree in preorder, and ends at the first failure. The
-/// room was made for the case, and after it is as made. Takes no memory.
+/// Shows the visitor the nodes of the case's right tree, for the precisions from `from` to its own, in preorder, and
+/// ends at the first failure. The room was made for the case, and after it is as made. Takes no memory.
 ///
 /// Where all was kept there is a right tree. Whichever tree is right, the entries of all its nodes were
 /// taken, or after a failure a part of them, from the front.
@@ -118,16 +111,20 @@ pub fn walk<V: Visitor>(
     case: &Case,
     links: &Links,
     bound: Bound,
+    from: u32,
     room: &mut Room,
     visitor: &mut V,
 ) -> Seen
     requires links { AreLinks case.now.model links.now }
+    requires from { Between 1 case.now.w from }
     requires made { IsMadeFor case.now links.now room.old }
     requires states { V.states visitor.old ≡ length case.now.model.states }
-    ensures walks { Walks case.now case.now.root bound 0
+    requires precision { V.precision visitor.old ≡ case.now.w }
+    ensures walks { Walks case.now from case.now.root bound 0
         V.taken V.faults (V.entry visitor.old) visitor.old visitor.new result }
     ensures room { IsAsMade room.old room.new }
     ensures states { V.states visitor.new ≡ V.states visitor.old }
+    ensures precision { V.precision visitor.new ≡ V.precision visitor.old }
     ensures entry { V.entry visitor.new ≡ V.entry visitor.old }
     ensures same { V.reference visitor.new ≡ V.reference visitor.old }
 {
@@ -137,11 +134,12 @@ pub fn walk<V: Visitor>(
     let _ = case.w();
     room.begin(case);
     let greatest = case.greatest_depth();
-    let walker = Walker {
+    let task = Task {
         case: &*case,
         links: &*links,
         bound,
-        greatest,
+        from,
     };
+    let walker = Walker { task, greatest };
     walker.walk_at::<V>(0, room, visitor)
 }

@@ -1,5 +1,5 @@
-use Rattle.std.proofs.Common.{◌∙◌, sym}
-use Rattle.model_gen.specs.Ladder.{ladder_case}
+use Rattle.std.proofs.Common.{◌∙◌, sym, arith}
+use Rattle.model_gen.specs.Ladder.{ladder_case, ladder_precision}
 use Rattle.plift_top.specs.Selftest.{one_half}
 use Rattle.plift_top.proofs.Acts as acts
 use Rattle.plift_top.proofs.program.run.Goals as goal
@@ -109,4 +109,4 @@ pub returns-clause-no_other_tree : goal.returns-clause-no_other_tree
 returns-clause-no_other_tree g c = c.right_trees_are_one.ensures
 
 pub returns-clause-ladder_tree : goal.returns-clause-ladder_tree
-returns-clause-ladder_tree g c n some few = c.right_trees_exist.ensures (ladder_case n) one_half (c.ladders_are_cases.ensures.case n some few)
+returns-clause-ladder_tree g c n some few = c.right_trees_exist.ensures (ladder_case n) ladder_precision one_half (c.ladders_are_cases.ensures.case n some few) (omega arith)

@@ -1,7 +1,7 @@
 use Rattle.region_tree.proofs.decision.Question.decide.Given as goal
 
-abbrev pub ghost-find_accepting : goal.ghost-find_accepting
-ghost-find_accepting g a = g.spans
+abbrev pub ghost-decide_alone : goal.ghost-decide_alone
+ghost-decide_alone g a = g.spans
 
-abbrev pub ghost-find_rejecting : goal.ghost-find_rejecting
-ghost-find_rejecting g a = g.spans
+abbrev pub ghost-settle : goal.ghost-settle
+ghost-settle g a = g.spans

@@ -39,7 +39,7 @@ returns-clause-accepted g c done =
     let fits : SFits w64 limit = search rules in
     let same : to_z w64 (of_z w64 limit) ≡ limit = to_z-of_z fits in
     rw (lane_is c.lanes_stand_alone.ensures.writes pools.values _ c.lane_mut.result.now call.new.lane has.values c.lane_mut.ensures.value (omega (arith, call.auto.lane)))
-    (is_accepted ask.case.now g.spans ask.bound limit call.new.lane (rw c.w.ensures.value at c.greatest_within-limit.ensures.within) (call.ensures.least.least done) (rw same at call.ensures.least.first done))
+    (is_accepted ask.task.case.now g.spans ask.task.bound limit call.new.lane (rw c.w.ensures.value at c.greatest_within-limit.ensures.within) (call.ensures.least.least done) (rw same at call.ensures.least.first done))
 
 pub returns-clause-none : goal.returns-clause-none
 returns-clause-none g c stopped =
@@ -47,4 +47,4 @@ returns-clause-none g c stopped =
     let limit = c.greatest_within-limit.result in
     let fits : SFits w64 limit = search rules in
     let same : to_z w64 (of_z w64 limit) ≡ limit = to_z-of_z fits in
-    none_accepts ask.case.now g.spans ask.bound limit (rw c.w.ensures.value at c.greatest_within-limit.ensures.beyond) (rw same at c.least_upper.ensures.least.past stopped)
+    none_accepts ask.task.case.now g.spans ask.task.bound limit (rw c.w.ensures.value at c.greatest_within-limit.ensures.beyond) (rw same at c.least_upper.ensures.least.past stopped)

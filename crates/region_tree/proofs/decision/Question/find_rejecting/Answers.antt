@@ -10,7 +10,7 @@ returns-clause-rejecting g c =
     let limit = c.greatest_within-limit.result in
     let fits : SFits w64 limit = search rules in
     let same : to_z w64 (of_z w64 limit) ≡ limit = to_z-of_z fits in
-    greatest_beyond ask.case.now g.spans ask.bound limit c.w.ensures.case (rw c.w.ensures.value at c.greatest_within-limit.ensures.beyond) (lane pools.values) (lane pools.picks) (lane pools.ranks) c.greatest_lower.result (rw same at c.greatest_lower.ensures.some)
+    greatest_beyond ask.task.case.now g.spans ask.task.bound limit c.w.ensures.case (rw c.w.ensures.value at c.greatest_within-limit.ensures.beyond) (lane pools.values) (lane pools.picks) (lane pools.ranks) c.greatest_lower.result (rw same at c.greatest_lower.ensures.some)
 
 pub returns-clause-none : goal.returns-clause-none
 returns-clause-none g c none =
@@ -18,4 +18,4 @@ returns-clause-none g c none =
     let limit = c.greatest_within-limit.result in
     let fits : SFits w64 limit = search rules in
     let same : to_z w64 (of_z w64 limit) ≡ limit = to_z-of_z fits in
-    none_rejects ask.case.now g.spans ask.bound c.ranks_fit.ensures.any c.w.ensures.case limit (rw c.w.ensures.value at c.greatest_within-limit.ensures.within) (rw same at c.greatest_lower.ensures.none none)
+    none_rejects ask.task.case.now g.spans ask.task.bound c.ranks_fit.ensures.any c.w.ensures.case limit (rw c.w.ensures.value at c.greatest_within-limit.ensures.within) (rw same at c.greatest_lower.ensures.none none)

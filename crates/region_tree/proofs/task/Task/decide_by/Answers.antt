@@ -3,11 +3,11 @@ use Rattle.corner_lift.specs.Case.{IsInside}
 use Rattle.corner_lift.specs.Table.{IsTable}
 use Rattle.lift_collapse.specs.Filled.{IsFilled}
 use Rattle.region_tree.specs.Decided.{lane}
-use Rattle.region_tree.proofs.decision.decide_by.Goals as goal
+use Rattle.region_tree.proofs.task.Task.decide_by.Goals as goal
 
 pub decide-requires : goal.decide-requires
 decide-requires g c =
-    let k = c.args.case.now in
+    let k = c.args.self.now.case.now in
     let room = c.args.room.now in
     let made = c.make_tables.new.self in
     let spans_is = c.requires.0 in
@@ -15,12 +15,15 @@ decide-requires g c =
     let weights : c.lane.result.now ≡ lane made.weights = c.lane.ensures ∙ ap (λ r. lane r.weights) c.room.view_is in
     let collapse : c.room.inside.collapse ≡ made.collapse = ap (λ r. r.collapse) c.room.view_is in
     let pools : c.room.inside.pools ≡ room.pools = ap (λ r. r.pools) c.room.view_is ∙ c.make_tables.ensures.pools in (
-      record { links = can.links; table = rw weights (subst (λ spans. IsTable k c.args.links.now spans (lane made.weights)) spans_is c.make_tables.ensures.table) },
+      c.requires.1.1.0,
       (
-        subst (λ spans. IsInside k.root spans) spans_is (record { rectangle = can.sides.rectangle.spans; within = can.sides.within }),
+        record { links = can.links; table = rw weights (subst (λ spans. IsTable k c.args.self.now.links.now spans (lane made.weights)) spans_is c.make_tables.ensures.table) },
         (
-          rw collapse (subst (λ spans. IfSome made.collapse (IsFilled k spans)) spans_is c.make_tables.ensures.filled),
-          (rw pools can.lanes.pools, c.requires.1.1),
+          subst (λ spans. IsInside k.root spans) spans_is (record { rectangle = can.sides.rectangle.spans; within = can.sides.within }),
+          (
+            rw collapse (subst (λ spans. IfSome made.collapse (IsFilled k spans)) spans_is c.make_tables.ensures.filled),
+            (rw pools can.lanes.pools, c.requires.1.1.1),
+          ),
         ),
       ),
     )

@@ -1,0 +1,11 @@
+-- The numbers of a certificate over another power of two.
+use Rattle.std.specs.Prelude.{ℕ, ◌^◌, List, ℤ, pos, ◌*ℤ◌, map}
+use Rattle.lift_grid.specs.Tree.{RejectData}
+
+-- numbers over 2 ^ u as numbers over 2 ^ (u + s): doubled, s times
+abbrev pub doubled : ℕ → List ℤ → List ℤ
+doubled s x = map (λ n. n *ℤ pos (2 ^ s)) x
+
+-- what a rejecting certificate consists of, with its numbers doubled, s times; its picks, its ranks, e and k stay
+abbrev pub doubled_data : ℕ → RejectData → RejectData
+doubled_data s r = record r { numbers = doubled s r.numbers }

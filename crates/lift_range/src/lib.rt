@@ -1,0 +1,6 @@
+//! Ranges of precisions: what certificates at one precision say of those at others.
+#![tactic(auto)]
+
+mod laws;
+
+pub use laws::{certificates_double, precisions_agree};
