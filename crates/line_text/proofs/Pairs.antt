@@ -1,5 +1,5 @@
 -- Short numbers with a sign, and pairs of them, read at once with the end of their word.
-use Rattle.std.proofs.Common.{◌≡◌, ◌≢◌, ℕ, zero, suc, ◌+◌, ◌<◌, Bool, true, false, cond, List, [], ◌∷◌, ◌++◌, length, take, drop, get_or, Option, Some, None, refl, sym, ap, ap₂, ◌∙◌, arith}
+use Rattle.std.proofs.Common.{◌≡◌, ◌≢◌, ℕ, zero, suc, ◌+◌, ◌-◌, ◌<◌, ◌≤◌, Bool, true, false, cond, List, [], ◌∷◌, ◌++◌, length, take, drop, get_or, Option, Some, None, refl, sym, ap, ap₂, ◌∙◌, arith}
 use Rattle.std.specs.Prelude.{ℤ, pos, neg_ℤ, ◌==◌}
 use Rattle.std.specs.List.{list_all, position_or_len, onto_first}
 use Rattle.std.specs.Option.{option_map, option_zip}
@@ -9,6 +9,7 @@ use Rattle.std.proofs.lemmas.Bool.{ne_eqb, eq-eqb}
 use Rattle.line_text.specs.Words.{are_digits, natural_of, below_zero, number_of, pair_of, words}
 use Rattle.line_text.specs.Parts.{Words}
 use Rattle.line_text.specs.Shown.{first_of}
+use Rattle.line_text.proofs.WordsLeft.{take_rest}
 use Rattle.line_text.proofs.Digits.{and_left, and_right}
 use Rattle.line_text.proofs.ShortNumbers.{no_space, position_at, position_past, digits_number}
 
@@ -93,7 +94,7 @@ natural_is (b ∷ bs) n e = by_sign (b == 45) e
     by_sign true e = below (natural_of bs) e
     by_sign false e = above (natural_of (b ∷ bs)) e
 
-pub minus_front : (digits : List ℕ) (n : ℕ) (rest : Words) → n ≢ 0 → first_of number_of (words digits) ≡ Some (pos n, rest) → first_of number_of (words (45 ∷ digits)) ≡ Some (neg_ℤ (pos n), rest)
+minus_front : (digits : List ℕ) (n : ℕ) (rest : Words) → n ≢ 0 → first_of number_of (words digits) ≡ Some (pos n, rest) → first_of number_of (words (45 ∷ digits)) ≡ Some (neg_ℤ (pos n), rest)
 minus_front digits n rest some e = by_words (words digits) refl e
   where
     of_size : (m : ℕ) → m ≢ 0 → below_zero (Some m) ≡ Some (neg_ℤ (pos m))
@@ -107,3 +108,10 @@ minus_front digits n rest some e = by_words (words digits) refl e
         ap (λ vs. first_of number_of (onto_first 45 vs)) cut
         ∙ ap (option_map (λ x. (x, ws))) (ap below_zero (natural_is w n parts.0) ∙ of_size n some)
         ∙ ap (λ vs. Some (neg_ℤ (pos n), vs)) parts.1
+
+-- the same of a text that begins with a minus
+pub minus_text : (text : List ℕ) (n : ℕ) (ws rest : Words) → 1 ≤ length text → get_or text 0 0 ≡ 45 → ws ≡ words (take (length text - 1) (drop 1 text)) → n ≢ 0 → first_of number_of ws ≡ Some (pos n, rest) → first_of number_of (words text) ≡ Some (neg_ℤ (pos n), rest)
+minus_text [] n ws rest some first cut other e = absurd (omega (arith, some))
+minus_text (b ∷ digits) n ws rest some first cut other e =
+    ap (λ b. first_of number_of (words (b ∷ digits))) first
+    ∙ minus_front digits n rest other (ap (first_of number_of) (sym (cut ∙ ap words (take_rest (b ∷ digits) 1))) ∙ e)

@@ -217,7 +217,6 @@ impl<'t> Words<'t> {
 
     /// The number of few digits that the first word writes, and those behind it; none where it writes no
     /// such number.
-    #[tactic(auto, using(crate::proofs::Pairs::minus_front))]
     fn signed(&self) -> Option<(i128, Words<'t>)>
         ensures { IfSome result (λ x. first_of number_of self.now ≡ Some (x.0, x.1)) }
     {

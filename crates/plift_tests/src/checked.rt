@@ -1,8 +1,7 @@
 // Reports that are checked, and what is told of them.
 use crate::models::lines_of;
-use crate::runs::{status_name, words_of};
-use lift_base::{MemSink, SureSource};
-use plift_top::run;
+use crate::runs::{ending, has_taken, sink};
+use lift_base::SureSource;
 use std::alloc::Global;
 use std::test::Fail;
 
@@ -93,28 +92,26 @@ fn checked_of(row: &str) -> Option<Checked<'_>> {
 
 // Whether checking a text gives what the row says.
 fn is_answered_on(alloc: Global, want: Checked<'_>, text: Vec<u8>) -> Result<bool, Fail> {
-    let words = words_of(alloc, "check", ' ')?;
     let mut source = SureSource::new(text);
-    let mut out = MemSink::new(alloc, 100, 7, Vec::new(alloc))?;
-    let mut notes = MemSink::new(alloc, 100, 3, Vec::new(alloc))?;
-    let got = run(alloc, &words, &mut source, &mut out, &mut notes);
-    let written = lines_of(alloc, want.written)?;
-    let told = lines_of(alloc, want.told)?;
-    Ok(
-        status_name(got) == want.status
-            && out.taken() == written.as_slice()
-            && notes.taken() == told.as_slice(),
-    )
+    let mut out = sink(alloc, 100, 7)?;
+    let mut notes = sink(alloc, 100, 3)?;
+    let got = ending(alloc, "check", &mut source, &mut out, &mut notes)?;
+    let has_written = has_taken(alloc, &out, want.written)?;
+    Ok(got == want.status && has_written && has_taken(alloc, &notes, want.told)?)
+}
+
+// The bytes of a head and what follows it.
+fn text_of(alloc: Global, want: Checked<'_>) -> Result<Vec<u8>, Fail> {
+    let mut text = lines_of(alloc, want.head)?;
+    text.extend_from_slice(&lines_of(alloc, want.rest)?)?;
+    Ok(text)
 }
 
 fn is_answered(alloc: Global, row: &str) -> Result<bool, Fail> {
     let Some(want) = checked_of(row) else {
         return Ok(false);
     };
-    let mut text = lines_of(alloc, want.head)?;
-    for byte in lines_of(alloc, want.rest)? {
-        text.push(byte)?;
-    }
+    let text = text_of(alloc, want)?;
     is_answered_on(alloc, want, text)
 }
 

@@ -1,8 +1,7 @@
 // Runs in which one call after another fails.
 use crate::models::{lines_of, model_text};
-use crate::runs::{status_name, words_of};
+use crate::runs::{ending, has_taken, sink};
 use lift_base::{MemSink, MemSource};
-use plift_top::run;
 use std::alloc::Global;
 use std::test::Fail;
 
@@ -87,9 +86,15 @@ fn has_written(
     notes: &MemSink,
 ) -> Result<bool, Fail> {
     let report = lines_of(alloc, REPORT)?;
-    let told = lines_of(alloc, runs.told)?;
-    let front = report.get(..count_of(runs.written, call));
-    Ok(front == Some(out.taken()) && notes.taken() == told.as_slice())
+    let is_front = report.get(..count_of(runs.written, call)) == Some(out.taken());
+    Ok(is_front && has_taken(alloc, notes, runs.told)?)
+}
+
+// The source of the input, by so many bytes a call.
+fn source_of(alloc: Global, runs: Runs<'_>, call: u64) -> Result<MemSource, Fail> {
+    let input = input_of(alloc, runs.input)?;
+    let failing = failing_at(alloc, runs, "read", call)?;
+    Ok(MemSource::new(input, runs.step.max(1), failing))
 }
 
 // Whether the run whose call of that number fails ends as it should.
@@ -97,13 +102,11 @@ fn is_told(alloc: Global, runs: Runs<'_>, call: u64) -> Result<bool, Fail> {
     if runs.step == 0 {
         return Ok(false);
     }
-    let words = words_of(alloc, runs.words, ' ')?;
-    let failing = failing_at(alloc, runs, "read", call)?;
-    let mut source = MemSource::new(input_of(alloc, runs.input)?, runs.step, failing);
+    let mut source = source_of(alloc, runs, call)?;
     let mut out = MemSink::new(alloc, 1000, 1, failing_at(alloc, runs, "write", call)?)?;
-    let mut notes = MemSink::new(alloc, 100, 3, Vec::new(alloc))?;
-    let got = run(alloc, &words, &mut source, &mut out, &mut notes);
-    Ok(status_name(got) == runs.status && has_written(alloc, runs, call, &out, &notes)?)
+    let mut notes = sink(alloc, 100, 3)?;
+    let got = ending(alloc, runs.words, &mut source, &mut out, &mut notes)?;
+    Ok(got == runs.status && has_written(alloc, runs, call, &out, &notes)?)
 }
 
 // Whether each of a row's runs ends as it should, and there is one.

@@ -1,8 +1,7 @@
 // Faults of the source, of the sink, and of the notes.
-use crate::models::{lines_of, model_text};
-use crate::runs::{status_name, words_of};
+use crate::models::model_text;
+use crate::runs::{ending, has_taken};
 use lift_base::{MemSink, MemSource};
-use plift_top::run;
 use std::alloc::Global;
 use std::test::Fail;
 
@@ -59,10 +58,10 @@ fn faults_of(row: &str) -> Option<Faults<'_>> {
     })
 }
 
-fn one_call(alloc: Global, call: u64) -> Result<Vec<u64>, Fail> {
-    let mut calls = Vec::new(alloc);
-    calls.push(call)?;
-    Ok(calls)
+// A sink with so much room, which takes so many bytes a call, and of which one call fails.
+fn failing_sink(alloc: Global, room: usize, step: usize, call: u64) -> Result<MemSink, Fail> {
+    let calls = Vec::from_slice(alloc, &[call])?;
+    Ok(MemSink::new(alloc, room, step.max(1), calls)?)
 }
 
 // Whether the sinks took what the row says.
@@ -72,19 +71,16 @@ fn has_written(
     out: &MemSink,
     notes: &MemSink,
 ) -> Result<bool, Fail> {
-    let taken = lines_of(alloc, want.taken)?;
-    let told = lines_of(alloc, want.told)?;
-    Ok(out.taken() == taken.as_slice() && notes.taken() == told.as_slice())
+    Ok(has_taken(alloc, out, want.taken)? && has_taken(alloc, notes, want.told)?)
 }
 
 // Whether a run with these faults on that text gives what the row says.
 fn is_answered_on(alloc: Global, want: Faults<'_>, text: Vec<u8>) -> Result<bool, Fail> {
-    let words = words_of(alloc, want.words, ' ')?;
-    let mut source = MemSource::new(text, 16, one_call(alloc, want.read)?);
-    let mut out = MemSink::new(alloc, want.room, 1, one_call(alloc, want.write)?)?;
-    let mut notes = MemSink::new(alloc, 100, 3, one_call(alloc, want.tell)?)?;
-    let got = run(alloc, &words, &mut source, &mut out, &mut notes);
-    Ok(status_name(got) == want.status && has_written(alloc, want, &out, &notes)?)
+    let mut source = MemSource::new(text, 16, Vec::from_slice(alloc, &[want.read])?);
+    let mut out = failing_sink(alloc, want.room, 1, want.write)?;
+    let mut notes = failing_sink(alloc, 100, 3, want.tell)?;
+    let got = ending(alloc, want.words, &mut source, &mut out, &mut notes)?;
+    Ok(got == want.status && has_written(alloc, want, &out, &notes)?)
 }
 
 fn is_answered(alloc: Global, row: &str) -> Result<bool, Fail> {

@@ -1,10 +1,8 @@
 // How many bytes a text may have.
 ghost use Rattle.std.specs.Prelude.{None};
 
-use crate::models::lines_of;
-use crate::runs::{status_name, words_of};
-use lift_base::{Got, MemSink, Source};
-use plift_top::run;
+use crate::runs::{ending, has_taken, sink};
+use lift_base::{Got, Source};
 use std::alloc::Global;
 use std::test::Fail;
 
@@ -45,13 +43,11 @@ fn is_answered(
     status: &str,
     told: &str,
 ) -> Result<bool, Fail> {
-    let words = words_of(alloc, words, ' ')?;
     let mut source = LineFeeds { left };
-    let mut out = MemSink::new(alloc, 10, 1, Vec::new(alloc))?;
-    let mut notes = MemSink::new(alloc, 100, 3, Vec::new(alloc))?;
-    let got = run(alloc, &words, &mut source, &mut out, &mut notes);
-    let told = lines_of(alloc, told)?;
-    Ok(status_name(got) == status && out.taken().is_empty() && notes.taken() == told.as_slice())
+    let mut out = sink(alloc, 10, 1)?;
+    let mut notes = sink(alloc, 100, 3)?;
+    let got = ending(alloc, words, &mut source, &mut out, &mut notes)?;
+    Ok(got == status && out.taken().is_empty() && has_taken(alloc, &notes, told)?)
 }
 
 // A row's cells; none where there are fewer, or the second isn't a number.

@@ -1,8 +1,6 @@
 // A model's text and a report, each with a few lines changed, and what is told of it.
-use crate::models::lines_of;
-use crate::runs::{status_name, words_of};
-use lift_base::{MemSink, SureSource};
-use plift_top::run;
+use crate::runs::{ending, has_taken, sink};
+use lift_base::SureSource;
 use std::alloc::Global;
 use std::test::Fail;
 
@@ -109,18 +107,12 @@ struct Answer<'a> {
 
 // Whether the words and the text are answered so.
 fn is_answer(alloc: Global, words: &str, text: Vec<u8>, want: Answer<'_>) -> Result<bool, Fail> {
-    let words = words_of(alloc, words, ' ')?;
     let mut source = SureSource::new(text);
-    let mut out = MemSink::new(alloc, 1000, 100, Vec::new(alloc))?;
-    let mut notes = MemSink::new(alloc, 100, 3, Vec::new(alloc))?;
-    let got = run(alloc, &words, &mut source, &mut out, &mut notes);
-    let written = lines_of(alloc, want.written)?;
-    let told = lines_of(alloc, want.told)?;
-    Ok(
-        status_name(got) == want.status
-            && out.taken() == written.as_slice()
-            && notes.taken() == told.as_slice(),
-    )
+    let mut out = sink(alloc, 1000, 100)?;
+    let mut notes = sink(alloc, 100, 3)?;
+    let got = ending(alloc, words, &mut source, &mut out, &mut notes)?;
+    let has_written = has_taken(alloc, &out, want.written)?;
+    Ok(got == want.status && has_written && has_taken(alloc, &notes, want.told)?)
 }
 
 // A row's changes and its answer; none where it has too few cells.

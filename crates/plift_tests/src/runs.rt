@@ -1,6 +1,6 @@
 // Runs of the program, and what they are compared with.
 use crate::models::{lines_of, model_text};
-use lift_base::{MemSink, SureSource};
+use lift_base::{MemSink, Source, SureSource};
 use plift_top::{Status, run};
 use std::alloc::Global;
 use std::test::Fail;
@@ -55,25 +55,48 @@ pub fn status_name(status: Status) -> &'static str {
     }
 }
 
+/// The name of the status with which the program ends on words that stand between blanks. Nothing is promised of it, so that no
+/// other proof carries what `run` promises.
+pub fn ending<S: Source>(
+    alloc: Global,
+    line: &str,
+    source: &mut S,
+    out: &mut MemSink,
+    notes: &mut MemSink,
+) -> Result<&'static str, Fail> {
+    let words = words_of(alloc, line, ' ')?;
+    Ok(status_name(run(alloc, &words, source, out, notes)))
+}
+
+/// A sink with so much room that takes so many bytes a call, and never fails.
+pub fn sink(alloc: Global, room: usize, step: usize) -> Result<MemSink, Fail> {
+    Ok(MemSink::new(alloc, room, step.max(1), Vec::new(alloc))?)
+}
+
+/// Whether a sink took these lines, and nothing else.
+pub fn has_taken(alloc: Global, sink: &MemSink, lines: &str) -> Result<bool, Fail> {
+    Ok(sink.taken() == lines_of(alloc, lines)?.as_slice())
+}
+
+// Whether what a sink took ends with these lines, and is nothing where they are nothing.
+fn ends_with(alloc: Global, sink: &MemSink, lines: &str) -> Result<bool, Fail> {
+    let end = lines_of(alloc, lines)?;
+    let taken = sink.taken();
+    Ok(taken.ends_with(&end) && end.is_empty() == taken.is_empty())
+}
+
 // Whether the sinks took what the run says.
 fn has_written(alloc: Global, want: Run<'_>, out: &MemSink, notes: &MemSink) -> Result<bool, Fail> {
-    let end = lines_of(alloc, want.end)?;
-    let told = lines_of(alloc, want.told)?;
-    Ok(
-        out.taken().ends_with(&end)
-            && end.is_empty() == out.taken().is_empty()
-            && notes.taken() == told.as_slice(),
-    )
+    Ok(ends_with(alloc, out, want.end)? && has_taken(alloc, notes, want.told)?)
 }
 
 // Whether a run on that text gives what it says.
 fn is_answered_on(alloc: Global, want: Run<'_>, text: Vec<u8>) -> Result<bool, Fail> {
-    let words = words_of(alloc, want.words, ' ')?;
     let mut source = SureSource::new(text);
-    let mut out = MemSink::new(alloc, 1000, 1000, Vec::new(alloc))?;
-    let mut notes = MemSink::new(alloc, 100, 3, Vec::new(alloc))?;
-    let got = run(alloc, &words, &mut source, &mut out, &mut notes);
-    Ok(status_name(got) == want.status && has_written(alloc, want, &out, &notes)?)
+    let mut out = sink(alloc, 1000, 1000)?;
+    let mut notes = sink(alloc, 100, 3)?;
+    let got = ending(alloc, want.words, &mut source, &mut out, &mut notes)?;
+    Ok(got == want.status && has_written(alloc, want, &out, &notes)?)
 }
 
 /// Whether the words and the model of a row give what stands beside them.
@@ -89,20 +112,21 @@ pub fn is_answered(alloc: Global, row: &str) -> Result<bool, Fail> {
 
 // Whether a report is found sound, and nothing else is told.
 fn is_sound(alloc: Global, report: &[u8]) -> Result<bool, Fail> {
-    let words = words_of(alloc, "check", ' ')?;
-    let mut text = Vec::new(alloc);
-    for byte in report {
-        text.push(*byte)?;
-    }
+    let mut source = SureSource::new(Vec::from_slice(alloc, report)?);
+    let mut out = sink(alloc, 100, 100)?;
+    let mut notes = sink(alloc, 100, 3)?;
+    let got = ending(alloc, "check", &mut source, &mut out, &mut notes)?;
+    let is_told = out.taken().starts_with(b"sound accept ") && notes.taken().is_empty();
+    Ok(got == "Done" && is_told)
+}
+
+// Whether the report of a run on that text is found sound.
+fn is_checked_on(alloc: Global, want: Run<'_>, text: Vec<u8>) -> Result<bool, Fail> {
     let mut source = SureSource::new(text);
-    let mut out = MemSink::new(alloc, 100, 100, Vec::new(alloc))?;
-    let mut notes = MemSink::new(alloc, 100, 3, Vec::new(alloc))?;
-    let got = run(alloc, &words, &mut source, &mut out, &mut notes);
-    Ok(
-        status_name(got) == "Done"
-            && out.taken().starts_with(b"sound accept ")
-            && notes.taken().is_empty(),
-    )
+    let mut out = sink(alloc, 1000, 1000)?;
+    let mut notes = sink(alloc, 100, 3)?;
+    let got = ending(alloc, want.words, &mut source, &mut out, &mut notes)?;
+    Ok(got == "Done" && is_sound(alloc, out.taken())?)
 }
 
 /// Whether the report of a row's words and model is found sound.
@@ -110,13 +134,8 @@ pub fn is_checked(alloc: Global, row: &str) -> Result<bool, Fail> {
     let Some(want) = run_of(row) else {
         return Ok(false);
     };
-    let Some(text) = model_text(alloc, want.model)? else {
-        return Ok(false);
-    };
-    let words = words_of(alloc, want.words, ' ')?;
-    let mut source = SureSource::new(text);
-    let mut out = MemSink::new(alloc, 1000, 1000, Vec::new(alloc))?;
-    let mut notes = MemSink::new(alloc, 100, 3, Vec::new(alloc))?;
-    let got = run(alloc, &words, &mut source, &mut out, &mut notes);
-    Ok(status_name(got) == "Done" && is_sound(alloc, out.taken())?)
+    match model_text(alloc, want.model)? {
+        Some(text) => is_checked_on(alloc, want, text),
+        None => Ok(false),
+    }
 }

@@ -1,8 +1,7 @@
 // Trees: regions that are halved, and reports that are cut off.
 use crate::models::{lines_of, model_text};
-use crate::runs::{is_answered, words_of};
+use crate::runs::{ending, is_answered, sink};
 use lift_base::{MemSink, SureSource};
-use plift_top::{Status, run};
 use std::alloc::Global;
 use std::test::Fail;
 
@@ -59,19 +58,22 @@ fn is_cut_off(
     alloc: Global,
     room: usize,
     failing: Vec<u64>,
-    status: Status,
+    status: &str,
     taken: usize,
 ) -> Result<bool, Fail> {
     let Some(text) = model_text(alloc, "COIN")? else {
         return Ok(false);
     };
-    let words = words_of(alloc, REGION, ' ')?;
-    let report = lines_of(alloc, REPORT)?;
     let mut source = SureSource::new(text);
     let mut out = MemSink::new(alloc, room, 1, failing)?;
-    let mut notes = MemSink::new(alloc, 100, 100, Vec::new(alloc))?;
-    let got = run(alloc, &words, &mut source, &mut out, &mut notes);
-    Ok(got == status && report.get(..taken) == Some(out.taken()))
+    let mut notes = sink(alloc, 100, 100)?;
+    let got = ending(alloc, REGION, &mut source, &mut out, &mut notes)?;
+    Ok(got == status && is_front(alloc, out.taken(), taken)?)
+}
+
+// Whether these are so many bytes from the front of the report.
+fn is_front(alloc: Global, taken: &[u8], count: usize) -> Result<bool, Fail> {
+    Ok(lines_of(alloc, REPORT)?.get(..count) == Some(taken))
 }
 
 #[test]
@@ -79,19 +81,11 @@ fn reports_are_cut_off_anywhere(rt: HostRuntime) -> Result<(), Fail> {
     let alloc = rt.alloc();
     for room in 0..REPORT.len() {
         assert!(rt;
-            is_cut_off(alloc, room, Vec::new(alloc), Status::WriteFault, room)?,
+            is_cut_off(alloc, room, Vec::new(alloc), "WriteFault", room)?,
             "{room}"
         );
     }
-    assert!(rt;
-        is_cut_off(
-            alloc,
-            REPORT.len(),
-            Vec::new(alloc),
-            Status::Done,
-            REPORT.len()
-        )?
-    );
+    assert!(rt; is_cut_off(alloc, REPORT.len(), Vec::new(alloc), "Done", REPORT.len())?);
     Ok(())
 }
 
@@ -99,9 +93,8 @@ fn reports_are_cut_off_anywhere(rt: HostRuntime) -> Result<(), Fail> {
 #[test]
 fn reports_lack_what_failed(rt: HostRuntime) -> Result<(), Fail> {
     let alloc = rt.alloc();
-    let mut failing = Vec::new(alloc);
-    failing.push(REPORT.len() as u64 - 1)?;
-    assert!(rt; is_cut_off(alloc, 1000, failing, Status::WriteFault, REPORT.len() - 2)?);
-    assert!(rt; is_cut_off(alloc, 1000, Vec::new(alloc), Status::Done, REPORT.len())?);
+    let failing = Vec::from_slice(alloc, &[REPORT.len() as u64 - 1])?;
+    assert!(rt; is_cut_off(alloc, 1000, failing, "WriteFault", REPORT.len() - 2)?);
+    assert!(rt; is_cut_off(alloc, 1000, Vec::new(alloc), "Done", REPORT.len())?);
     Ok(())
 }

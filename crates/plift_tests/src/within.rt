@@ -1,8 +1,7 @@
 // Models that are decided for a number of steps. The numbers of the leaves were worked out by hand.
 use crate::models::{lines_of, model_text};
-use crate::runs::{is_answered, status_name, words_of};
-use lift_base::{MemSink, SureSource};
-use plift_top::run;
+use crate::runs::{ending, is_answered, sink};
+use lift_base::SureSource;
 use std::alloc::Global;
 use std::test::Fail;
 
@@ -69,13 +68,16 @@ fn is_cut_off(alloc: Global, room: usize, status: &str) -> Result<bool, Fail> {
     let Some(text) = model_text(alloc, "COIN")? else {
         return Ok(false);
     };
-    let words = words_of(alloc, REGION, ' ')?;
-    let report = lines_of(alloc, REPORT)?;
     let mut source = SureSource::new(text);
-    let mut out = MemSink::new(alloc, room, 1, Vec::new(alloc))?;
-    let mut notes = MemSink::new(alloc, 100, 100, Vec::new(alloc))?;
-    let got = run(alloc, &words, &mut source, &mut out, &mut notes);
-    Ok(status_name(got) == status && report.get(..room) == Some(out.taken()))
+    let mut out = sink(alloc, room, 1)?;
+    let mut notes = sink(alloc, 100, 100)?;
+    let got = ending(alloc, REGION, &mut source, &mut out, &mut notes)?;
+    Ok(got == status && is_front(alloc, out.taken(), room)?)
+}
+
+// Whether these are so many bytes from the front of the text.
+fn is_front(alloc: Global, taken: &[u8], count: usize) -> Result<bool, Fail> {
+    Ok(lines_of(alloc, REPORT)?.get(..count) == Some(taken))
 }
 
 #[test]

@@ -1,8 +1,7 @@
 // Lines of words, where reading fails at once: whether they ask for a job, and else what is at fault.
-use crate::models::lines_of;
-use crate::runs::{status_name, words_of};
+use crate::runs::{has_taken, sink, status_name, words_of};
 use lift_base::{MemSink, MemSource};
-use plift_top::{Status, run};
+use plift_top::run;
 use std::alloc::Global;
 use std::test::Fail;
 
@@ -91,32 +90,30 @@ verify|--precision|0|--depth|21|--bound|2|--goal|x | usage: --bound;
 verify|--precision|0|--depth|21|--bound|1|--goal|x | usage: --depth;
 ";
 
-// How the program ends on a line's words, where the source fails at once.
-fn status_on(
+// The name of the status with which the program ends on a line's words, where the source fails at once.
+fn ending(
     alloc: Global,
     line: &str,
     out: &mut MemSink,
     notes: &mut MemSink,
-) -> Result<Status, Fail> {
+) -> Result<&'static str, Fail> {
     let words = words_of(alloc, line, '|')?;
-    let mut failing = Vec::new(alloc);
-    failing.push(1)?;
+    let failing = Vec::from_slice(alloc, &[1])?;
     let mut source = MemSource::new(Vec::new(alloc), 16, failing);
-    Ok(run(alloc, &words, &mut source, out, notes))
+    Ok(status_name(run(alloc, &words, &mut source, out, notes)))
 }
 
 // Whether a line is told so, and nothing is written.
 fn is_told(alloc: Global, line: &str, told: &str) -> Result<bool, Fail> {
-    let mut out = MemSink::new(alloc, 10, 1, Vec::new(alloc))?;
-    let mut notes = MemSink::new(alloc, 100, 3, Vec::new(alloc))?;
-    let got = status_on(alloc, line, &mut out, &mut notes)?;
     let status = if told == "read fault;" {
         "ReadFault"
     } else {
         "Usage"
     };
-    let told = lines_of(alloc, told)?;
-    Ok(status_name(got) == status && out.taken().is_empty() && notes.taken() == told.as_slice())
+    let mut out = sink(alloc, 10, 1)?;
+    let mut notes = sink(alloc, 100, 3)?;
+    let got = ending(alloc, line, &mut out, &mut notes)?;
+    Ok(got == status && out.taken().is_empty() && has_taken(alloc, &notes, told)?)
 }
 
 #[test]
@@ -160,11 +157,10 @@ const TESTED: &str = "\
 // Whether the ladder of so many blocks is tested, with that line, and nothing is told.
 fn is_tested(alloc: Global, blocks: &str, line: &str) -> Result<bool, Fail> {
     let words = format!(in alloc; "selftest|{blocks}")?;
-    let mut out = MemSink::new(alloc, 100, 7, Vec::new(alloc))?;
-    let mut notes = MemSink::new(alloc, 100, 3, Vec::new(alloc))?;
-    let got = status_on(alloc, words.as_str(), &mut out, &mut notes)?;
-    let line = lines_of(alloc, line)?;
-    Ok(status_name(got) == "Done" && out.taken() == line.as_slice() && notes.taken().is_empty())
+    let mut out = sink(alloc, 100, 7)?;
+    let mut notes = sink(alloc, 100, 3)?;
+    let got = ending(alloc, words.as_str(), &mut out, &mut notes)?;
+    Ok(got == "Done" && notes.taken().is_empty() && has_taken(alloc, &out, line)?)
 }
 
 #[test]
@@ -178,13 +174,16 @@ fn ladders_are_tested_and_nothing_read(rt: HostRuntime) -> Result<(), Fail> {
     Ok(())
 }
 
+// Whether these words write that ladder, and nothing is told.
+fn is_written(alloc: Global, line: &str, ladder: &[u8]) -> Result<bool, Fail> {
+    let mut out = sink(alloc, 1000, 7)?;
+    let mut notes = sink(alloc, 100, 3)?;
+    let got = ending(alloc, line, &mut out, &mut notes)?;
+    Ok(got == "Done" && out.taken() == ladder && notes.taken().is_empty())
+}
+
 #[test]
 fn a_ladder_is_written_and_nothing_read(rt: HostRuntime) -> Result<(), Fail> {
-    let mut out = MemSink::new(rt.alloc(), 1000, 7, Vec::new(rt.alloc()))?;
-    let mut notes = MemSink::new(rt.alloc(), 100, 3, Vec::new(rt.alloc()))?;
-    let got = status_on(rt.alloc(), "generate|1", &mut out, &mut notes)?;
-    assert_eq!(rt; status_name(got), "Done");
-    assert_eq!(rt; out.taken(), LADDER.as_bytes());
-    assert!(rt; notes.taken().is_empty());
+    assert!(rt; is_written(rt.alloc(), "generate|1", LADDER.as_bytes())?);
     Ok(())
 }

@@ -7,6 +7,7 @@ use crate::cells::cut;
 use crate::example::model_of;
 use lift_model::{Links, Model};
 use std::alloc::Global;
+use std::process::Abort;
 use std::string::String;
 use std::test::Fail;
 
@@ -63,17 +64,32 @@ fn tells_state(alloc: Global, model: &Model, links: &Links, row: &str) -> Result
     Ok(told.as_str() == row)
 }
 
-#[test]
-fn links_states_and_rows(rt: HostRuntime) -> Result<(), Fail> {
-    let alloc = rt.alloc();
-    let model = model_of(alloc, LINKED)?;
-    let links = Links::build(alloc, &model)?;
-    assert_eq!(rt; links.weights_len(), 13);
-    assert_eq!(rt; links.firsts().len(), 4);
-    assert_eq!(rt; links.order(), [1, 3, 2, 0, 4].as_slice());
-    assert_eq!(rt; links.component_ends(), [1, 2, 4, 4, 5].as_slice());
+/// Compares what the links tell of the states with the table.
+fn compare(rt: &impl Abort, alloc: Global, model: &Model, links: &Links) -> Result<(), Fail>
+    requires { AreLinks model.now links.now }
+{
     for row in TOLD.split('\n') {
-        assert!(rt; tells_state(alloc, &model, &links, row)?, "{row}");
+        assert!(rt; tells_state(alloc, model, links, row)?, "{row}");
     }
     Ok(())
+}
+
+/// Whether the links have 13 weights, four rows that are the first with their polynomials, and this order by components.
+fn are_whole(links: &Links) -> bool {
+    let has_sizes = links.weights_len() == 13 && links.firsts().len() == 4;
+    let is_ordered = links.order() == [1, 3, 2, 0, 4].as_slice();
+    has_sizes && is_ordered && links.component_ends() == [1, 2, 4, 4, 5].as_slice()
+}
+
+/// The same for a model.
+fn compare_over(rt: &impl Abort, alloc: Global, model: &Model) -> Result<(), Fail> {
+    let links = Links::build(alloc, model)?;
+    assert!(rt; are_whole(&links));
+    compare(rt, alloc, model, &links)
+}
+
+#[test]
+fn links_states_and_rows(rt: HostRuntime) -> Result<(), Fail> {
+    let model = model_of(rt.alloc(), LINKED)?;
+    compare_over(&rt, rt.alloc(), &model)
 }

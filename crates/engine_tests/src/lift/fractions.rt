@@ -56,53 +56,47 @@ const LITERALS: &str = "\
 -1 | BadLiteral
  | BadLiteral";
 
-/// The fraction that a literal writes, as it is shown.
-fn literal_shown(alloc: Global, text: &[u8]) -> Result<String, AllocError> {
-    shown(alloc, read_literal(text))
+/// Whether a literal writes the fraction that is shown so.
+fn is_read(alloc: Global, text: &[u8], want: &str) -> Result<bool, AllocError> {
+    Ok(shown(alloc, read_literal(text))?.as_str() == want)
 }
 
 #[test]
 fn reads_literals(rt: HostRuntime) -> Result<(), Fail> {
     for row in LITERALS.split('\n') {
         let (text, want) = cut(row);
-        let got = literal_shown(rt.alloc(), text.as_bytes())?;
-        assert!(rt; got.as_str() == want, "{row}");
+        assert!(rt; is_read(rt.alloc(), text.as_bytes(), want)?, "{row}");
     }
     Ok(())
 }
 
-/// Digits, of which the first is a 1 and the others are zeros.
-fn power_of_ten(alloc: Global) -> Result<Vec<u8>, AllocError> {
+/// Whether 5000 digits, of which the first is a 1 and the others are zeros, and an exponent write the fraction that is shown so.
+fn is_power_read(alloc: Global, exponent: &[u8], want: &str) -> Result<bool, AllocError> {
     let mut digits = vec![in alloc; b'0'; 5000]?;
     digits[0] = b'1';
-    Ok(digits)
+    digits.extend_from_slice(exponent)?;
+    is_read(alloc, &digits, want)
 }
 
 #[test]
 fn reads_long_digits(rt: HostRuntime) -> Result<(), Fail> {
-    let alloc = rt.alloc();
-    let mut digits = power_of_ten(alloc)?;
-    assert_eq!(rt; literal_shown(alloc, &digits)?.as_str(), "Wide");
-    digits.extend_from_slice(b"e-4999")?;
-    assert_eq!(rt; literal_shown(alloc, &digits)?.as_str(), "1/1");
+    assert!(rt; is_power_read(rt.alloc(), b"", "Wide")?);
+    assert!(rt; is_power_read(rt.alloc(), b"e-4999", "1/1")?);
     Ok(())
 }
 
-/// A digit, `e`, and then nines.
-fn great_exponent(alloc: Global, digit: u8) -> Result<Vec<u8>, AllocError> {
-    let mut exponent = vec![in alloc; b'9'; 5000]?;
-    exponent[0] = digit;
-    exponent[1] = b'e';
-    Ok(exponent)
+/// Whether a digit, `e`, and then nines write the fraction that is shown so.
+fn is_exponent_read(alloc: Global, digit: u8, want: &str) -> Result<bool, AllocError> {
+    let mut text = vec![in alloc; b'9'; 5000]?;
+    text[0] = digit;
+    text[1] = b'e';
+    is_read(alloc, &text, want)
 }
 
 #[test]
 fn reads_long_exponents(rt: HostRuntime) -> Result<(), Fail> {
-    let alloc = rt.alloc();
-    let nine = great_exponent(alloc, b'9')?;
-    assert_eq!(rt; literal_shown(alloc, &nine)?.as_str(), "Wide");
-    let zero = great_exponent(alloc, b'0')?;
-    assert_eq!(rt; literal_shown(alloc, &zero)?.as_str(), "0/1");
+    assert!(rt; is_exponent_read(rt.alloc(), b'9', "Wide")?);
+    assert!(rt; is_exponent_read(rt.alloc(), b'0', "0/1")?);
     Ok(())
 }
 
@@ -138,12 +132,16 @@ fn computed(left: &str, operation: &str, right: &str) -> Result<Frac, FracError>
     }
 }
 
+/// Whether a row tells what its operation gives.
+fn tells_computed(alloc: Global, row: &str) -> Result<bool, AllocError> {
+    let (left, operation, right, want) = cut_three(row);
+    Ok(shown(alloc, computed(left, operation, right))?.as_str() == want)
+}
+
 #[test]
 fn computes(rt: HostRuntime) -> Result<(), Fail> {
     for row in OPERATIONS.split('\n') {
-        let (left, operation, right, want) = cut_three(row);
-        let got = shown(rt.alloc(), computed(left, operation, right))?;
-        assert!(rt; got.as_str() == want, "{row}");
+        assert!(rt; tells_computed(rt.alloc(), row)?, "{row}");
     }
     Ok(())
 }
@@ -170,17 +168,16 @@ fn is_zero_its_opposite() -> bool {
     Frac::whole(0).neg() == Frac::whole(0)
 }
 
-/// How two fractions stand to each other.
-fn ordered(left: &str, right: &str) -> Result<&'static str, FracError> {
-    Ok(order_name(fraction(left)?.order(fraction(right)?)))
+/// Whether a row tells how its fractions stand to each other.
+fn tells_order(row: &str) -> Result<bool, FracError> {
+    let (left, want, right) = cut_two(row);
+    Ok(order_name(fraction(left)?.order(fraction(right)?)) == want)
 }
 
 #[test]
 fn orders_fractions(rt: HostRuntime) -> Result<(), Fail> {
     for row in ORDERS.split('\n') {
-        let (left, want, right) = cut_two(row);
-        let got = ordered(left, right)?;
-        assert!(rt; got == want, "{row}");
+        assert!(rt; tells_order(row)?, "{row}");
     }
     assert!(rt; is_zero_its_opposite());
     Ok(())

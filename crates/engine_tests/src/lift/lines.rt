@@ -3,17 +3,27 @@
 use crate::cells::{cut, cut_three, cut_two, number};
 use lift_base::{LineError, Lines, MemSource, Piece};
 use std::alloc::{AllocError, Global};
+use std::fmt::Write;
 use std::test::Fail;
 
-/// A source of that text, in which `/` stands for a line feed, by `step` bytes a call.
-fn source_of(alloc: Global, text: &str, step: u64, failing: u64) -> Result<MemSource, AllocError> {
+/// The bytes of a text, in which `/` stands for a line feed.
+fn bytes_of(alloc: Global, text: &str) -> Result<Vec<u8>, AllocError> {
     let mut bytes = Vec::new(alloc);
     for byte in text.as_bytes() {
         bytes.push(if *byte == b'/' { b'\n' } else { *byte })?;
     }
-    let mut calls = Vec::new(alloc);
-    calls.push(failing)?;
-    Ok(MemSource::new(bytes, step.max(1) as usize, calls))
+    Ok(bytes)
+}
+
+/// A source of these bytes, by `step` of them a call, of which one call fails.
+fn source_of(
+    alloc: Global,
+    bytes: Vec<u8>,
+    step: usize,
+    failing: u64,
+) -> Result<MemSource, AllocError> {
+    let calls = Vec::from_slice(alloc, &[failing])?;
+    Ok(MemSource::new(bytes, step.max(1), calls))
 }
 
 /// What is told of an answer that gives no line.
@@ -28,28 +38,58 @@ fn name_of(answer: Result<Piece, LineError>) -> &'static str {
     }
 }
 
-/// The lines that `next` gives, a `/` behind each, and then the first two answers that give none.
-fn told(alloc: Global, source: &mut MemSource, limit: u64) -> Result<Vec<u8>, Fail> {
-    let mut lines = Lines::make(alloc, limit.min(99))?;
-    let mut told = Vec::new(alloc);
-    let mut last = "";
-    for _ in 0..20 {
-        match lines.next(source) {
-            Ok(Piece::Line { from, to }) => {
-                told.extend_from_slice(&lines.text()[from..to])?;
-                told.push(b'/')?;
-            }
-            answer => {
-                let name = name_of(answer);
-                if name == last {
-                    return Ok(told);
-                }
+/// Tells the next line, a `/` behind it, or the name of an answer that gives none, unless it is the last one again; and
+/// gives that name.
+fn tell_next(
+    lines: &mut Lines,
+    source: &mut MemSource,
+    last: &str,
+    told: &mut Vec<u8>,
+) -> Result<&'static str, AllocError> {
+    match lines.next(source) {
+        Ok(Piece::Line { from, to }) => {
+            told.extend_from_slice(&lines.text()[from..to])?;
+            told.push(b'/')?;
+            Ok("")
+        }
+        answer => {
+            let name = name_of(answer);
+            if name != last {
                 told.extend_from_slice(name.as_bytes())?;
-                last = name;
             }
+            Ok(name)
         }
     }
-    Ok(told)
+}
+
+/// Tells the lines, and what is answered behind them until an answer comes again.
+fn tell_lines(
+    lines: &mut Lines,
+    source: &mut MemSource,
+    told: &mut Vec<u8>,
+) -> Result<(), AllocError> {
+    let mut last = "";
+    for _ in 0..20 {
+        let name = tell_next(lines, source, last, told)?;
+        if !name.is_empty() && name == last {
+            return Ok(());
+        }
+        last = name;
+    }
+    Ok(())
+}
+
+/// Whether these lines and answers come of a source.
+fn is_told(
+    alloc: Global,
+    source: &mut MemSource,
+    limit: u64,
+    want: &str,
+) -> Result<bool, AllocError> {
+    let mut lines = Lines::make(alloc, limit.min(99))?;
+    let mut told = Vec::new(alloc);
+    tell_lines(&mut lines, source, &mut told)?;
+    Ok(told.as_slice() == want.as_bytes())
 }
 
 /// A text; how many bytes a call gives; the call that fails, none where it is 0; how many bytes are
@@ -81,56 +121,86 @@ a/bc | 1 | 0 | 3 | a/TooLong
 a | 1 | 2 | 0 | TooLong
  | 1 | 0 | 0 | End";
 
+/// Whether a row tells what comes of its text.
+fn tells_lines(alloc: Global, row: &str) -> Result<bool, AllocError> {
+    let (text, step, failing, rest) = cut_three(row);
+    let (limit, want) = cut(rest);
+    let bytes = bytes_of(alloc, text)?;
+    let mut source = source_of(alloc, bytes, number(step) as usize, number(failing))?;
+    is_told(alloc, &mut source, number(limit), want)
+}
+
 #[test]
 fn gives_lines_and_stays_at_the_last_answer(rt: HostRuntime) -> Result<(), Fail> {
     for row in TOLD.split('\n') {
-        let (text, step, failing, rest) = cut_three(row);
-        let (limit, want) = cut(rest);
-        let mut source = source_of(rt.alloc(), text, number(step), number(failing))?;
-        let got = told(rt.alloc(), &mut source, number(limit))?;
-        assert!(rt; got.as_slice() == want.as_bytes(), "{row}");
+        assert!(rt; tells_lines(rt.alloc(), row)?, "{row}");
     }
     Ok(())
 }
 
-/// A source of lines that have so many bytes, the last one perhaps without its line feed, which gives all
-/// that it is asked for.
-fn long_source(alloc: Global, row: &str, failing: u64) -> Result<MemSource, AllocError> {
-    let mut bytes = Vec::new(alloc);
-    for cell in row.split(' ') {
-        let (count, is_cut) = match cell.strip_suffix('-') {
-            Some(count) => (count, true),
-            None => (cell, false),
-        };
-        let line = vec![in alloc; b'x'; number(count) as usize]?;
-        bytes.extend_from_slice(&line)?;
-        if !is_cut {
-            bytes.push(b'\n')?;
-        }
+/// Adds a line of so many bytes, without its line feed where a dash stands behind the number.
+fn push_line(bytes: &mut Vec<u8>, cell: &str) -> Result<(), AllocError> {
+    let (count, is_cut) = match cell.strip_suffix('-') {
+        Some(count) => (count, true),
+        None => (cell, false),
+    };
+    for _ in 0..number(count) {
+        bytes.push(b'x')?;
     }
-    let mut calls = Vec::new(alloc);
-    calls.push(failing)?;
-    Ok(MemSource::new(bytes, 1 << 30, calls))
+    if !is_cut {
+        bytes.push(b'\n')?;
+    }
+    Ok(())
 }
 
-/// How many bytes each line has that `next` gives, and the first answer that gives none.
-fn lengths(alloc: Global, source: &mut MemSource) -> Result<String, Fail> {
-    let mut lines = Lines::make(alloc, 1 << 32)?;
-    let mut told = String::new(alloc);
-    for _ in 0..20 {
-        match lines.next(source) {
-            Ok(Piece::Line { from, to }) => {
-                let count = lines.text()[from..to].len();
-                told.push_str(format!(in alloc; "{count} ")?.as_str())?;
-            }
-            answer => {
-                let given = lines.given();
-                told.push_str(format!(in alloc; "{} {given}", name_of(answer))?.as_str())?;
-                return Ok(told);
-            }
+/// Lines that have so many bytes, the last one perhaps without its line feed.
+fn long_bytes(alloc: Global, counts: &str) -> Result<Vec<u8>, AllocError> {
+    let mut bytes = Vec::new(alloc);
+    for cell in counts.split(' ') {
+        push_line(&mut bytes, cell)?;
+    }
+    Ok(bytes)
+}
+
+/// Tells how many bytes the next line has, or the answer that gives none and how many lines there were; and whether a
+/// line came.
+fn tell_length(
+    lines: &mut Lines,
+    source: &mut MemSource,
+    told: &mut String,
+) -> Result<bool, AllocError> {
+    match lines.next(source) {
+        Ok(Piece::Line { from, to }) => {
+            write!(told, "{} ", lines.text()[from..to].len())?;
+            Ok(true)
+        }
+        answer => {
+            write!(told, "{} {}", name_of(answer), lines.given())?;
+            Ok(false)
         }
     }
-    Ok(told)
+}
+
+/// Tells how many bytes each line has, and the first answer that gives none.
+fn tell_lengths(
+    lines: &mut Lines,
+    source: &mut MemSource,
+    told: &mut String,
+) -> Result<(), AllocError> {
+    for _ in 0..20 {
+        if !tell_length(lines, source, told)? {
+            return Ok(());
+        }
+    }
+    Ok(())
+}
+
+/// Whether lines of these lengths and this answer come of a source.
+fn has_lengths(alloc: Global, source: &mut MemSource, want: &str) -> Result<bool, AllocError> {
+    let mut lines = Lines::make(alloc, 1 << 32)?;
+    let mut told = String::new(alloc);
+    tell_lengths(&mut lines, source, &mut told)?;
+    Ok(told.as_str() == want)
 }
 
 /// The lengths of lines, a dash behind one without line feed; the call that fails, each giving 4096 bytes;
@@ -148,13 +218,18 @@ const LONG: &str = "\
 1048577 | 258 | Long 0
 1048577 | 257 | Fault 0";
 
+/// Whether a row tells the lengths of the lines that come.
+fn tells_lengths(alloc: Global, row: &str) -> Result<bool, AllocError> {
+    let (counts, failing, want) = cut_two(row);
+    let bytes = long_bytes(alloc, counts)?;
+    let mut source = source_of(alloc, bytes, 1 << 30, number(failing))?;
+    has_lengths(alloc, &mut source, want)
+}
+
 #[test]
 fn gives_lines_of_all_lengths(rt: HostRuntime) -> Result<(), Fail> {
     for row in LONG.split('\n') {
-        let (of, failing, want) = cut_two(row);
-        let mut source = long_source(rt.alloc(), of, number(failing))?;
-        let got = lengths(rt.alloc(), &mut source)?;
-        assert!(rt; got.as_str() == want, "{row}");
+        assert!(rt; tells_lengths(rt.alloc(), row)?, "{row}");
     }
     Ok(())
 }

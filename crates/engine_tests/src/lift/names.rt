@@ -1,7 +1,5 @@
 //! Tests of lists of names.
 
-ghost use Rattle.std.specs.Prelude.{◌<◌, length};
-
 use crate::cells::cut;
 use lift_names::Names;
 use std::alloc::{AllocError, Global};
@@ -23,38 +21,46 @@ q | None
  | Some(2)";
 
 /// Adds the name of a row, and tells whether it says so rightly that the name is new.
-fn adds(names: &mut Names, row: &str) -> Result<bool, AllocError>
-    requires { length names.old < 9 }
-{
+fn adds(names: &mut Names, row: &str) -> Result<bool, AllocError> {
     let (name, want) = cut(row);
+    if names.len() >= 9 {
+        return Ok(false);
+    }
     Ok(names.push(name.as_bytes())? == (want == "true"))
 }
 
-/// The place of a name, as it is shown.
-fn place_of(alloc: Global, names: &Names, name: &str) -> Result<String, AllocError> {
+/// Whether a name stands where its row tells.
+fn is_found(alloc: Global, names: &Names, row: &str) -> Result<bool, AllocError> {
+    let (name, want) = cut(row);
     let place = names.find(name.as_bytes());
-    format!(in alloc; "{place:?}")
+    Ok(format!(in alloc; "{place:?}")?.as_str() == want)
 }
 
 /// Adds the names of all rows.
 fn add_all(rt: &impl Abort, names: &mut Names) -> Result<(), Fail> {
     for row in ADDED.split('\n') {
-        assert!(rt; names.len() < 9);
         assert!(rt; adds(names, row)?, "{row}");
     }
     Ok(())
+}
+
+/// Finds the names of all rows.
+fn find_all(rt: &impl Abort, alloc: Global, names: &Names) -> Result<(), Fail> {
+    for row in FOUND.split('\n') {
+        assert!(rt; is_found(alloc, names, row)?, "{row}");
+    }
+    Ok(())
+}
+
+/// Whether there are three names, of which the second is `q1`.
+fn are_three(names: &Names) -> bool {
+    names.len() == 3 && names.get(1) == b"q1".as_slice()
 }
 
 #[test]
 fn keeps_names_in_order(rt: HostRuntime) -> Result<(), Fail> {
     let mut names = Names::new(rt.alloc());
     add_all(&rt, &mut names)?;
-    assert_eq!(rt; names.len(), 3);
-    for row in FOUND.split('\n') {
-        let (name, want) = cut(row);
-        let place = place_of(rt.alloc(), &names, name)?;
-        assert_eq!(rt; place.as_str(), want, "{row}");
-    }
-    assert_eq!(rt; names.get(1), b"q1".as_slice());
-    Ok(())
+    assert!(rt; are_three(&names));
+    find_all(&rt, rt.alloc(), &names)
 }

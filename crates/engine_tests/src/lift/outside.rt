@@ -13,9 +13,7 @@ use std::test::Fail;
 
 /// The number of the one call that fails.
 fn calls(alloc: Global, failing: u64) -> Result<Vec<u64>, AllocError> {
-    let mut calls = Vec::new(alloc);
-    calls.push(failing)?;
-    Ok(calls)
+    Vec::from_slice(alloc, &[failing])
 }
 
 /// Reads ten digits, three a call; and again after a fault: the bytes of the calls before it are
@@ -48,21 +46,30 @@ fn is_answer(
     }
 }
 
+/// Whether a row tells what comes of the digits.
+fn tells_answer(alloc: Global, row: &str) -> Result<bool, AllocError> {
+    let (failing, limit, want) = cut_two(row);
+    let answer = read_digits(alloc, number(failing), number(limit) as usize);
+    is_answer(alloc, answer, want)
+}
+
 #[test]
 fn reads_to_the_end_or_the_limit_or_a_fault(rt: HostRuntime) -> Result<(), Fail> {
     for row in READ.split('\n') {
-        let (failing, limit, want) = cut_two(row);
-        let answer = read_digits(rt.alloc(), number(failing), number(limit) as usize);
-        assert!(rt; is_answer(rt.alloc(), answer, want)?, "{row}");
+        assert!(rt; tells_answer(rt.alloc(), row)?, "{row}");
     }
     Ok(())
 }
 
+/// Whether all of a source comes that never fails.
+fn reads_sure(alloc: Global, text: &[u8]) -> Result<bool, ReadError> {
+    let mut sure = SureSource::new(Vec::from_slice(alloc, text)?);
+    Ok(read_all(alloc, &mut sure, 5)?.as_slice() == text)
+}
+
 #[test]
 fn reads_a_source_that_never_fails(rt: HostRuntime) -> Result<(), Fail> {
-    let mut sure = SureSource::new(Vec::from_slice(rt.alloc(), b"plain")?);
-    let bytes = read_all(rt.alloc(), &mut sure, 5)?;
-    assert_eq!(rt; bytes.as_slice(), b"plain".as_slice());
+    assert!(rt; reads_sure(rt.alloc(), b"plain")?);
     Ok(())
 }
 
@@ -107,24 +114,34 @@ fn has_taken(out: &MemSink, is_whole: bool, count: u64) -> bool {
     is_whole == (count == 69) && WORDS_TEXT.get(..count as usize) == Some(out.taken())
 }
 
+/// Whether a row tells how much is taken of words that are written.
+fn tells_written(alloc: Global, row: &str, words: &[Word]) -> Result<bool, AllocError> {
+    let (room, failing, count) = cut_two(row);
+    let mut out = sink(alloc, number(room), number(failing))?;
+    let is_whole = write_words(&mut out, words).is_ok();
+    Ok(has_taken(&out, is_whole, number(count)))
+}
+
 #[test]
 fn writes_numbers_and_stops_at_a_fault(rt: HostRuntime) -> Result<(), Fail> {
     for row in TAKEN.split('\n') {
-        let (room, failing, count) = cut_two(row);
-        let mut out = sink(rt.alloc(), number(room), number(failing))?;
-        let is_whole = write_words(&mut out, &WORDS).is_ok();
-        assert!(rt; has_taken(&out, is_whole, number(count)), "{row}");
+        assert!(rt; tells_written(rt.alloc(), row, &WORDS)?, "{row}");
     }
     Ok(())
+}
+
+/// Whether a row tells how much is taken of words that are gathered.
+fn tells_gathered(alloc: Global, row: &str, words: &[Word]) -> Result<bool, AllocError> {
+    let (room, failing, count) = cut_two(row);
+    let mut out = sink(alloc, number(room), number(failing))?;
+    let is_whole = write_buffered(&mut out, &Parts { words }).is_ok();
+    Ok(has_taken(&out, is_whole, number(count)))
 }
 
 #[test]
 fn gathers_numbers_and_stops_at_a_fault(rt: HostRuntime) -> Result<(), Fail> {
     for row in TAKEN.split('\n') {
-        let (room, failing, count) = cut_two(row);
-        let mut out = sink(rt.alloc(), number(room), number(failing))?;
-        let is_whole = write_buffered(&mut out, &Parts { words: &WORDS }).is_ok();
-        assert!(rt; has_taken(&out, is_whole, number(count)), "{row}");
+        assert!(rt; tells_gathered(rt.alloc(), row, &WORDS)?, "{row}");
     }
     Ok(())
 }
@@ -136,16 +153,20 @@ const GATHERED: &str = "\
 3 | 16380
 1 | 0";
 
+/// Whether a row tells how many bytes are taken of the pieces, and that these are all or that it was said that they aren't.
+fn tells_pieces(alloc: Global, row: &str, pieces: &[Word]) -> Result<bool, AllocError> {
+    let (failing, count) = cut(row);
+    let count = number(count) as usize;
+    let mut out = MemSink::new(alloc, 21000, 8192, calls(alloc, number(failing))?)?;
+    let is_whole = write_buffered(&mut out, &Parts { words: pieces }).is_ok();
+    Ok(is_whole == (count == 21000) && out.taken().len() == count)
+}
+
 #[test]
 fn gathers_small_pieces(rt: HostRuntime) -> Result<(), Fail> {
-    let words = [Word::Text(b"seven, "); 3000];
+    let pieces = [Word::Text(b"seven, "); 3000];
     for row in GATHERED.split('\n') {
-        let (failing, count) = cut(row);
-        let (failing, count) = (number(failing), number(count) as usize);
-        let mut out = MemSink::new(rt.alloc(), 21000, 8192, calls(rt.alloc(), failing)?)?;
-        let gathered = write_buffered(&mut out, &Parts { words: &words });
-        assert!(rt; gathered.is_ok() == (count == 21000), "{row}");
-        assert!(rt; out.taken().len() == count, "{row}");
+        assert!(rt; tells_pieces(rt.alloc(), row, &pieces)?, "{row}");
     }
     Ok(())
 }

@@ -1,33 +1,42 @@
 //! Tests of pools.
 
 use lift_pool::Pool;
+use std::alloc::{AllocError, Global};
 use std::test::Fail;
 
-#[test]
-fn cuts_lanes_and_gives_them_back(rt: HostRuntime) -> Result<(), Fail> {
-    let mut pool = Pool::make(rt.alloc(), 6, 3)?;
+/// Whether lanes are cut and given back: a copy is changed alone, and a longer lane takes its place.
+fn cuts_lanes(alloc: Global) -> Result<bool, AllocError> {
+    let mut pool = Pool::make(alloc, 6, 3)?;
     pool.take(2, 7u32);
     pool.take_copy();
     pool.lane_mut(1)[0] = 5;
-    assert_eq!(rt; pool.lanes(), 2);
-    assert_eq!(rt; pool.lane(0), [7, 7].as_slice());
-    assert_eq!(rt; pool.lane(1), [5, 7].as_slice());
+    let is_copied = pool.lanes() == 2
+        && pool.lane(0) == [7, 7].as_slice()
+        && pool.lane(1) == [5, 7].as_slice();
     pool.give_back();
     pool.take(4, 1);
-    assert_eq!(rt; pool.lane(0), [7, 7].as_slice());
-    assert_eq!(rt; pool.lane(1), [1, 1, 1, 1].as_slice());
+    Ok(is_copied && pool.lane(0) == [7, 7].as_slice() && pool.lane(1) == [1, 1, 1, 1].as_slice())
+}
+
+#[test]
+fn cuts_lanes_and_gives_them_back(rt: HostRuntime) -> Result<(), Fail> {
+    assert!(rt; cuts_lanes(rt.alloc())?);
     Ok(())
+}
+
+/// Whether lanes without words are taken, and given back.
+fn takes_empty_lanes(alloc: Global) -> Result<bool, AllocError> {
+    let mut pool = Pool::make(alloc, 0, 2)?;
+    pool.take(0, -1i64);
+    pool.take_copy();
+    let is_taken = pool.lanes() == 2 && pool.lane(1).is_empty();
+    pool.give_back();
+    pool.give_back();
+    Ok(is_taken && pool.lanes() == 0)
 }
 
 #[test]
 fn takes_lanes_without_words(rt: HostRuntime) -> Result<(), Fail> {
-    let mut pool = Pool::make(rt.alloc(), 0, 2)?;
-    pool.take(0, -1i64);
-    pool.take_copy();
-    assert_eq!(rt; pool.lanes(), 2);
-    assert_eq!(rt; pool.lane(1).len(), 0);
-    pool.give_back();
-    pool.give_back();
-    assert_eq!(rt; pool.lanes(), 0);
+    assert!(rt; takes_empty_lanes(rt.alloc())?);
     Ok(())
 }

@@ -6,6 +6,7 @@ use crate::cells::{count, cut, cut_three, cut_two, signed};
 use lift_grid::{Grid, Marks, Rect, Values, corner_side, read_region};
 use lift_names::Names;
 use std::alloc::{AllocError, Global};
+use std::process::Abort;
 use std::test::Fail;
 
 /// Names of one letter each.
@@ -61,14 +62,23 @@ fn refusal(alloc: Global, text: &[u8], names: &Names) -> &'static str {
     }
 }
 
+/// Whether a row tells why its region is refused.
+fn tells_refusal(alloc: Global, names: &Names, row: &str) -> bool {
+    let (text, want) = cut(row);
+    refusal(alloc, text.as_bytes(), names) == want
+}
+
+/// Refuses the regions of all rows.
+fn refuse_all(rt: &impl Abort, alloc: Global, names: &Names) {
+    for row in REFUSED.split('\n') {
+        assert!(rt; tells_refusal(alloc, names, row), "{row}");
+    }
+}
+
 #[test]
 fn refuses_the_first_fault(rt: HostRuntime) -> Result<(), Fail> {
     let names = declared(rt.alloc(), "pq")?;
-    for row in REFUSED.split('\n') {
-        let (text, want) = cut(row);
-        let got = refusal(rt.alloc(), text.as_bytes(), &names);
-        assert!(rt; got == want, "{row}");
-    }
+    refuse_all(&rt, rt.alloc(), &names);
     Ok(())
 }
 
@@ -109,13 +119,18 @@ fn is_read(
     }
 }
 
+/// Whether a row tells the grid and the ends of its region.
+fn tells_region(alloc: Global, row: &str) -> Result<bool, Fail> {
+    let (letters, depth, text, want) = cut_three(row);
+    let depth = count(depth)?;
+    let names = declared(alloc, letters)?;
+    is_read(alloc, &names, text.as_bytes(), depth, want)
+}
+
 #[test]
 fn reads_regions(rt: HostRuntime) -> Result<(), Fail> {
     for row in READ.split('\n') {
-        let (letters, depth, text, want) = cut_three(row);
-        let names = declared(rt.alloc(), letters)?;
-        let is_read = is_read(rt.alloc(), &names, text.as_bytes(), count(depth)?, want)?;
-        assert!(rt; is_read, "{row}");
+        assert!(rt; tells_region(rt.alloc(), row)?, "{row}");
     }
     Ok(())
 }
@@ -135,20 +150,42 @@ const ENDS: &str = "\
 2 | 2 | 1
 3 | 4 | 1";
 
+/// Whether a row tells the ends that its corner chooses.
+fn tells_ends(row: &str) -> Result<bool, Fail> {
+    let (corner, first, second) = cut_two(row);
+    let corner = count(corner)?;
+    let ends = (signed(first)?, signed(second)?);
+    Ok(corner < 4 && ends == (end_of_five(corner, 0), end_of_five(corner, 2)))
+}
+
 #[test]
-fn keeps_lists_and_chooses_ends(rt: HostRuntime) -> Result<(), Fail> {
-    let values = Values::from_slice(rt.alloc(), &[9, -16, 0])?;
-    assert_eq!(rt; values.as_slice(), [9, -16, 0].as_slice());
-    let marks = Marks::from_slice(rt.alloc(), &[1, 4294967295])?;
-    assert_eq!(rt; marks.as_slice(), [1, 4294967295].as_slice());
-    let rect = Rect::from_sides(rt.alloc(), &[2, 4, 6, 8, -5, 1])?;
-    assert_eq!(rt; rect.sides(), [2, 4, 6, 8, -5, 1].as_slice());
+fn chooses_ends(rt: HostRuntime) -> Result<(), Fail> {
     for row in ENDS.split('\n') {
-        let (corner, first, second) = cut_two(row);
-        let corner = count(corner)?;
-        assert!(rt; corner < 4);
-        let ends = (end_of_five(corner, 0), end_of_five(corner, 2));
-        assert!(rt; ends == (signed(first)?, signed(second)?), "{row}");
+        assert!(rt; tells_ends(row)?, "{row}");
     }
+    Ok(())
+}
+
+/// Whether a list keeps its values.
+fn keeps_values(alloc: Global, values: &[i64]) -> Result<bool, AllocError> {
+    Ok(Values::from_slice(alloc, values)?.as_slice() == values)
+}
+
+/// Whether a list keeps its marks.
+fn keeps_marks(alloc: Global, marks: &[u32]) -> Result<bool, AllocError> {
+    Ok(Marks::from_slice(alloc, marks)?.as_slice() == marks)
+}
+
+/// Whether a rectangle keeps its sides.
+fn keeps_sides(alloc: Global) -> Result<bool, AllocError> {
+    let rect = Rect::from_sides(alloc, &[2, 4, 6, 8, -5, 1])?;
+    Ok(rect.sides() == [2, 4, 6, 8, -5, 1].as_slice())
+}
+
+#[test]
+fn keeps_lists(rt: HostRuntime) -> Result<(), Fail> {
+    assert!(rt; keeps_values(rt.alloc(), &[9, -16, 0])?);
+    assert!(rt; keeps_marks(rt.alloc(), &[1, 4294967295])?);
+    assert!(rt; keeps_sides(rt.alloc())?);
     Ok(())
 }

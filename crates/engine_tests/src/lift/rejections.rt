@@ -57,7 +57,7 @@ fn answer_of(case: &Case, bound: Bound, y: &[i64], is_ranked: bool, e: u32) -> R
 }
 
 /// Whether a row tells the answer.
-fn tells_answer(rt: &impl Abort, alloc: Global, case: &Case, row: &str) -> Result<bool, Fail>
+fn tells_answer(alloc: Global, case: &Case, row: &str) -> Result<bool, Fail>
     requires precision { case.now.w ≡ 4 }
     requires states { length case.now.model.states ≡ 3 }
     requires first { is_goal case.now.model 0 ≡ false }
@@ -66,8 +66,10 @@ fn tells_answer(rt: &impl Abort, alloc: Global, case: &Case, row: &str) -> Resul
 {
     let (numbers, marks, rate, rest) = cut_three(row);
     let (bound, want) = cut(rest);
-    let (y, bound, e) = (numbers_of(rt, numbers)?, bound_of(bound)?, count(rate)?);
-    assert!(rt; e <= 126);
+    let (y, bound, e) = (numbers_of(numbers)?, bound_of(bound)?, count(rate)?);
+    if e > 126 {
+        return Ok(false);
+    }
     is_shown(alloc, answer_of(case, bound, &y, marks == "0 1", e), want)
 }
 
@@ -80,21 +82,28 @@ fn compare(rt: &impl Abort, alloc: Global, case: &Case) -> Result<(), Fail>
     requires third { is_goal case.now.model 2 ≡ false }
 {
     for row in REJECT.split('\n') {
-        assert!(rt; tells_answer(rt, alloc, case, row)?, "{row}");
+        assert!(rt; tells_answer(alloc, case, row)?, "{row}");
     }
     Ok(())
+}
+
+/// The same, where the case is at precision 4 and has three states, of which the second alone is a goal state.
+fn compare_on(rt: &impl Abort, alloc: Global, case: &Case) -> Result<(), Fail> {
+    let model = case.model();
+    if case.w() != 4 || model.states() != 3 {
+        return Err(Fail::new("the case is another one"));
+    }
+    if model.is_goal(0) || !model.is_goal(1) || model.is_goal(2) {
+        return Err(Fail::new("the goal is another one"));
+    }
+    compare(rt, alloc, case)
 }
 
 /// The same for a model.
 fn compare_over(rt: &impl Abort, alloc: Global, model: &Model) -> Result<(), Fail> {
     let (grid, root) = root_of(alloc, b"3/5<=p<=9/10", model.names(), 0)?;
     let case = case_of(model, &root, grid, 4)?;
-    assert!(rt; case.w() == 4);
-    assert!(rt; case.model().states() == 3);
-    assert!(rt; !case.model().is_goal(0));
-    assert!(rt; case.model().is_goal(1));
-    assert!(rt; !case.model().is_goal(2));
-    compare(rt, alloc, &case)
+    compare_on(rt, alloc, &case)
 }
 
 #[test]

@@ -7,7 +7,6 @@ use drn_lexer::{
     LexError, Line, Place, Symbol, Word, WordForm, next_line, next_symbol, next_word, unquoted,
 };
 use std::alloc::{AllocError, Global};
-use std::process::Abort;
 use std::test::Fail;
 
 /// Where a line begins and ends and its number, or why it is refused.
@@ -42,12 +41,14 @@ type TwoLines = (Found, Found, Place);
 /// A line that is found, or why none is.
 type Found = Result<Option<Line>, LexError>;
 
-fn two_lines(rt: &impl Abort, text: &[u8]) -> TwoLines {
-    assert!(rt; text.len() < 100);
+fn two_lines(text: &[u8]) -> Option<TwoLines> {
+    if text.len() >= 100 {
+        return None;
+    }
     let mut place = Place::start();
     let first = next_line(text, &mut place);
     let second = next_line(text, &mut place);
-    (first, second, place)
+    Some((first, second, place))
 }
 
 /// Whether these cells tell the first two lines of a text, and the place behind them.
@@ -59,12 +60,19 @@ fn are_told(alloc: Global, lines: TwoLines, cells: &str) -> Result<bool, AllocEr
     Ok(told.as_str() == cells)
 }
 
+/// Whether a row tells the first two lines of its text.
+fn tells_lines(alloc: Global, row: &str) -> Result<bool, AllocError> {
+    let (text, cells) = cut(row);
+    match two_lines(text.as_bytes()) {
+        Some(lines) => are_told(alloc, lines, cells),
+        None => Ok(false),
+    }
+}
+
 #[test]
 fn finds_lines(rt: HostRuntime) -> Result<(), Fail> {
     for row in LINES.split(';') {
-        let (text, cells) = cut(row);
-        let lines = two_lines(&rt, text.as_bytes());
-        assert!(rt; are_told(rt.alloc(), lines, cells)?, "{row}");
+        assert!(rt; tells_lines(rt.alloc(), row)?, "{row}");
     }
     Ok(())
 }
@@ -77,9 +85,13 @@ a | 1048577 | LongLine
 / | 1048577 | LongLine
 \r | 1048577 | LongLine";
 
-fn first_line(rt: &impl Abort, text: &[u8]) -> Found {
-    assert!(rt; text.len() < 2000000);
-    next_line(text, &mut Place::start())
+/// Whether the first line of a text is shown so.
+fn is_first(alloc: Global, text: &[u8], want: &str) -> Result<bool, AllocError> {
+    if text.len() >= 2000000 {
+        return Ok(false);
+    }
+    let line = next_line(text, &mut Place::start());
+    Ok(shown_line(alloc, line)?.as_str() == want)
 }
 
 /// A line of that byte, so often.
@@ -89,14 +101,18 @@ fn long_line(alloc: Global, byte: u8, count: usize) -> Result<Vec<u8>, AllocErro
     Ok(text)
 }
 
+/// Whether a row tells what is read of its line.
+fn tells_long_line(alloc: Global, row: &str) -> Result<bool, AllocError> {
+    let (byte, count, want) = cut_two(row);
+    let byte = byte.bytes().next().unwrap_or(b'?');
+    let text = long_line(alloc, byte, number(count) as usize)?;
+    is_first(alloc, &text, want)
+}
+
 #[test]
 fn limits_lines(rt: HostRuntime) -> Result<(), Fail> {
     for row in LONG_LINES.split('\n') {
-        let (byte, count, want) = cut_two(row);
-        let byte = byte.bytes().next().unwrap_or(b'?');
-        let text = long_line(rt.alloc(), byte, number(count) as usize)?;
-        let got = shown_line(rt.alloc(), first_line(&rt, &text))?;
-        assert!(rt; got.as_str() == want, "{row}");
+        assert!(rt; tells_long_line(rt.alloc(), row)?, "{row}");
     }
     Ok(())
 }
@@ -126,12 +142,6 @@ fn shown_word(alloc: Global, answer: Result<Option<Word>, LexError>) -> Result<S
     }
 }
 
-/// The next word of a line from a place.
-fn word_at(rt: &impl Abort, text: &[u8], at: usize) -> Result<Option<Word>, LexError> {
-    assert!(rt; at <= text.len());
-    next_word(text, whole(text), at)
-}
-
 /// The line that is a whole text.
 fn whole(text: &[u8]) -> Line
     ensures { (result.from ≡ 0) × (result.to ≡ length text.now) }
@@ -143,13 +153,21 @@ fn whole(text: &[u8]) -> Line
     }
 }
 
+/// Whether the next word of a line from a place is shown so.
+fn is_next_word(alloc: Global, text: &[u8], at: usize, want: &str) -> Result<bool, AllocError> {
+    if at > text.len() {
+        return Ok(false);
+    }
+    let word = next_word(text, whole(text), at);
+    Ok(shown_word(alloc, word)?.as_str() == want)
+}
+
 #[test]
 fn finds_words(rt: HostRuntime) -> Result<(), Fail> {
     for row in WORDS.split('\n') {
         let (text, at, want) = cut_two(row);
-        let word = word_at(&rt, text.as_bytes(), number(at) as usize);
-        let got = shown_word(rt.alloc(), word)?;
-        assert!(rt; got.as_str() == want, "{row}");
+        let is_found = is_next_word(rt.alloc(), text.as_bytes(), number(at) as usize, want)?;
+        assert!(rt; is_found, "{row}");
     }
     Ok(())
 }
@@ -169,12 +187,16 @@ fn form(name: &str) -> WordForm {
     }
 }
 
+/// Whether a row tells what its word says.
+fn tells_word(row: &str) -> bool {
+    let (word, name, want) = cut_two(row);
+    unquoted(form(name), word.as_bytes()) == want.as_bytes()
+}
+
 #[test]
 fn takes_quotes_off(rt: HostRuntime) {
     for row in UNQUOTED.split('\n') {
-        let (word, name, want) = cut_two(row);
-        let says = unquoted(form(name), word.as_bytes());
-        assert!(rt; says == want.as_bytes(), "{row}");
+        assert!(rt; tells_word(row), "{row}");
     }
 }
 
@@ -211,19 +233,21 @@ fn shown_symbol(alloc: Global, answer: Option<Symbol>) -> Result<String, AllocEr
     }
 }
 
-/// The next symbol of a line from a place.
-fn symbol_at(rt: &impl Abort, text: &[u8], at: usize) -> Option<Symbol> {
-    assert!(rt; at <= text.len());
-    next_symbol(text, whole(text), at)
+/// Whether the next symbol of a line from a place is shown so.
+fn is_next_symbol(alloc: Global, text: &[u8], at: usize, want: &str) -> Result<bool, AllocError> {
+    if at > text.len() {
+        return Ok(false);
+    }
+    let symbol = next_symbol(text, whole(text), at);
+    Ok(shown_symbol(alloc, symbol)?.as_str() == want)
 }
 
 #[test]
 fn finds_symbols(rt: HostRuntime) -> Result<(), Fail> {
     for row in SYMBOLS.split('\n') {
         let (text, at, want) = cut_two(row);
-        let symbol = symbol_at(&rt, text.as_bytes(), number(at) as usize);
-        let got = shown_symbol(rt.alloc(), symbol)?;
-        assert!(rt; got.as_str() == want, "{row}");
+        let is_found = is_next_symbol(rt.alloc(), text.as_bytes(), number(at) as usize, want)?;
+        assert!(rt; is_found, "{row}");
     }
     Ok(())
 }

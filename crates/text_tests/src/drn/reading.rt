@@ -275,12 +275,17 @@ fn is_read(alloc: Global, text: &[u8], label: &str, want: &str) -> Result<bool, 
     }
 }
 
+// Whether a row tells the model that its text stands for.
+fn tells_model(alloc: Global, row: &str) -> Result<bool, AllocError> {
+    let (text, label, want) = cut_two(row);
+    let text = text_of(alloc, text)?;
+    is_read(alloc, &text, label, want)
+}
+
 #[test]
 fn reads_models(rt: HostRuntime) -> Result<(), Fail> {
     for row in MODELS.lines() {
-        let (text, label, want) = cut_two(row);
-        let text = text_of(rt.alloc(), text)?;
-        assert!(rt; is_read(rt.alloc(), &text, label, want)?, "{want}");
+        assert!(rt; tells_model(rt.alloc(), row)?, "{row}");
     }
     Ok(())
 }
@@ -296,41 +301,60 @@ fn is_refused(alloc: Global, text: &[u8], label: &str, line: &str, cause: &str) 
     }
 }
 
+// Whether the coin is refused so, of which `count` lines from line `from` on give way to others.
+fn is_change_refused(
+    alloc: Global,
+    lines: (usize, usize),
+    new: &[u8],
+    want: &str,
+) -> Result<bool, AllocError> {
+    let (from, count) = lines;
+    let (line, cause) = cut(want);
+    let text = changed(alloc, from, count, new)?;
+    Ok(is_refused(alloc, &text, "heads", line, cause))
+}
+
+// Whether a row tells the first fault of the coin with a change.
+fn tells_change(alloc: Global, row: &str) -> Result<bool, AllocError> {
+    let (from, count, new, want) = cut_three(row);
+    let lines = (number(from) as usize, number(count) as usize);
+    let new = text_of(alloc, new)?;
+    is_change_refused(alloc, lines, &new, want)
+}
+
 #[test]
 fn refuses_the_first_fault(rt: HostRuntime) -> Result<(), Fail> {
     for row in CHANGES.lines() {
-        let (from, count, new, rest) = cut_three(row);
-        let (line, cause) = cut(rest);
-        let new = text_of(rt.alloc(), new)?;
-        let text = changed(
-            rt.alloc(),
-            number(from) as usize,
-            number(count) as usize,
-            &new,
-        )?;
-        assert!(rt;
-            is_refused(rt.alloc(), &text, "heads", line, cause),
-            "{row}"
-        );
+        assert!(rt; tells_change(rt.alloc(), row)?, "{row}");
     }
     Ok(())
+}
+
+// Whether a row tells the first fault of its text.
+fn tells_fault(alloc: Global, row: &str) -> Result<bool, AllocError> {
+    let (text, label, rest) = cut_two(row);
+    let (line, cause) = cut(rest);
+    let text = text_of(alloc, text)?;
+    Ok(is_refused(alloc, &text, label, line, cause))
 }
 
 #[test]
 fn refuses_by_the_whole_text(rt: HostRuntime) -> Result<(), Fail> {
     for row in WHOLE.lines() {
-        let (text, label, rest) = cut_two(row);
-        let (line, cause) = cut(rest);
-        let text = text_of(rt.alloc(), text)?;
-        assert!(rt; is_refused(rt.alloc(), &text, label, line, cause), "{row}");
+        assert!(rt; tells_fault(rt.alloc(), row)?, "{row}");
     }
     Ok(())
+}
+
+// Whether so many line feeds are refused at this line, for the section that they lack.
+fn are_feeds_refused(alloc: Global, count: usize, line: &str) -> Result<bool, AllocError> {
+    let feeds = vec![in alloc; b'\n'; count]?;
+    Ok(is_refused(alloc, &feeds, "heads", line, "MissingSection"))
 }
 
 // A line for each of 2^26 line feeds.
 #[test]
 fn reads_many_lines(rt: HostRuntime) -> Result<(), Fail> {
-    let feeds = vec![in rt.alloc(); b'\n'; 1 << 26]?;
-    assert!(rt; is_refused(rt.alloc(), &feeds, "heads", "67108864", "MissingSection"));
+    assert!(rt; are_feeds_refused(rt.alloc(), 1 << 26, "67108864")?);
     Ok(())
 }

@@ -27,13 +27,8 @@ fn read(alloc: Global, text: &[u8]) -> Result<RatPoly, ExprError> {
     read_value(alloc, text, line, 0, &names)
 }
 
-/// Each term as its set and its coefficient, and the denominator; or why there is no value.
-fn shown(alloc: Global, answer: Result<RatPoly, ExprError>) -> Result<String, AllocError> {
-    let value = match answer {
-        Ok(value) => value,
-        Err(cause) => return format!(in alloc; "{cause:?}"),
-    };
-    let mut text = String::new(alloc);
+/// Writes each term as its set and its coefficient, and the denominator.
+fn write_value(text: &mut String, value: &RatPoly) -> Result<(), AllocError> {
     let poly = value.poly();
     for index in 0..poly.len() {
         let (set, number) = poly.term(index);
@@ -41,7 +36,22 @@ fn shown(alloc: Global, answer: Result<RatPoly, ExprError>) -> Result<String, Al
     }
     let den = value.den();
     write!(text, "/{den}")?;
+    Ok(())
+}
+
+/// A value with its terms.
+fn terms_shown(alloc: Global, value: &RatPoly) -> Result<String, AllocError> {
+    let mut text = String::new(alloc);
+    write_value(&mut text, value)?;
     Ok(text)
+}
+
+/// A value with its terms, or why there is none.
+fn shown(alloc: Global, answer: Result<RatPoly, ExprError>) -> Result<String, AllocError> {
+    match answer {
+        Ok(value) => terms_shown(alloc, &value),
+        Err(cause) => format!(in alloc; "{cause:?}"),
+    }
 }
 
 /// A value, and its terms over one denominator.
@@ -88,12 +98,21 @@ p*p+r | UnknownName
 p*p+1/0 | SharedParameter
 (p*p)^2 | Power";
 
+/// Whether the value of a text is shown so.
+fn is_value(alloc: Global, text: &[u8], want: &str) -> Result<bool, AllocError> {
+    Ok(shown(alloc, read(alloc, text))?.as_str() == want)
+}
+
+/// Whether a row tells the value of its text, or its refusal.
+fn tells_value(alloc: Global, row: &str) -> Result<bool, AllocError> {
+    let (text, want) = cut(row);
+    is_value(alloc, text.as_bytes(), want)
+}
+
 #[test]
 fn expands_values(rt: HostRuntime) -> Result<(), Fail> {
     for row in EXPANDED.split('\n') {
-        let (text, want) = cut(row);
-        let got = value_shown(rt.alloc(), text.as_bytes())?;
-        assert!(rt; got.as_str() == want, "{row}");
+        assert!(rt; tells_value(rt.alloc(), row)?, "{row}");
     }
     Ok(())
 }
@@ -101,46 +120,45 @@ fn expands_values(rt: HostRuntime) -> Result<(), Fail> {
 #[test]
 fn tells_the_first_refusal(rt: HostRuntime) -> Result<(), Fail> {
     for row in REFUSED.split('\n') {
-        let (text, want) = cut(row);
-        let got = value_shown(rt.alloc(), text.as_bytes())?;
-        assert!(rt; got.as_str() == want, "{row}");
+        assert!(rt; tells_value(rt.alloc(), row)?, "{row}");
     }
     Ok(())
 }
 
-/// The value of a text, as it is shown.
-fn value_shown(alloc: Global, text: &[u8]) -> Result<String, AllocError> {
-    shown(alloc, read(alloc, text))
+/// Whether p behind so many signs has this value.
+fn is_nested(alloc: Global, signs: usize, want: &str) -> Result<bool, AllocError> {
+    let mut text = vec![in alloc; b'-'; signs]?;
+    text.push(b'p')?;
+    is_value(alloc, &text, want)
 }
 
 #[test]
 fn limits_nesting(rt: HostRuntime) -> Result<(), Fail> {
-    let alloc = rt.alloc();
-    let mut deep = vec![in alloc; b'-'; 64]?;
-    deep.extend_from_slice(b"p")?;
-    assert!(rt; value_shown(alloc, &deep)?.as_str() == "1:1 /1");
-    assert!(rt; value_shown(alloc, &[b'('; 65])?.as_str() == "Deep");
+    assert!(rt; is_nested(rt.alloc(), 64, "1:1 /1")?);
+    assert!(rt; is_value(rt.alloc(), &[b'('; 65], "Deep")?);
     Ok(())
 }
 
-/// 2049 times p, with a sign between two.
-fn long_sum(alloc: Global) -> Result<Vec<u8>, AllocError> {
-    let mut long = Vec::new(alloc);
-    for _ in 0..2048 {
-        long.extend_from_slice(b"p+")?;
+/// The first bytes of a sum of 2049 times p.
+fn front_of_sum(alloc: Global, len: usize) -> Result<Vec<u8>, AllocError> {
+    let mut sum = Vec::new(alloc);
+    for _ in 0..2049 {
+        sum.extend_from_slice(b"p+")?;
     }
-    long.push(b'p')?;
-    Ok(long)
+    sum.truncate(len);
+    Ok(sum)
+}
+
+/// Whether so many bytes at the front of the sum have this value.
+fn is_sum(alloc: Global, len: usize, want: &str) -> Result<bool, AllocError> {
+    let text = front_of_sum(alloc, len)?;
+    is_value(alloc, &text, want)
 }
 
 #[test]
 fn limits_symbols(rt: HostRuntime) -> Result<(), Fail> {
-    let alloc = rt.alloc();
-    let mut long = long_sum(alloc)?;
-    assert!(rt; value_shown(alloc, &long)?.as_str() == "Long");
-    long.truncate(4096);
-    assert!(rt; value_shown(alloc, &long)?.as_str() == "Syntax");
-    long.truncate(4095);
-    assert!(rt; value_shown(alloc, &long)?.as_str() == "1:2048 /1");
+    assert!(rt; is_sum(rt.alloc(), 4097, "Long")?);
+    assert!(rt; is_sum(rt.alloc(), 4096, "Syntax")?);
+    assert!(rt; is_sum(rt.alloc(), 4095, "1:2048 /1")?);
     Ok(())
 }

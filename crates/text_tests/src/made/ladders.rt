@@ -52,16 +52,27 @@ fn numbers(row: &str) -> Option<(usize, usize, usize)> {
     Some((room as usize, step as usize, written as usize))
 }
 
+/// Whether so much of the ladder is written into so much room, and it is said rightly whether that is all.
+fn has_written(alloc: Global, room: usize, step: usize, written: usize) -> Result<bool, AllocError>
+    requires { 1 ≤ step }
+{
+    let (out, is_whole) = ladder_of_one(alloc, room, step)?;
+    let is_front = ONE.as_bytes().get(..written) == Some(out.taken());
+    Ok(is_front && is_whole == (written == ONE.len()))
+}
+
+/// Whether a row tells how much is written.
+fn tells_written(alloc: Global, row: &str) -> Result<bool, AllocError> {
+    match numbers(row) {
+        Some((room, step, written)) if 1 <= step => has_written(alloc, room, step, written),
+        _ => Ok(false),
+    }
+}
+
 #[test]
 fn a_front_is_written_where_room_ends(rt: HostRuntime) -> Result<(), Fail> {
     for row in ROOMS.lines() {
-        let Some((room, step, written)) = numbers(row) else {
-            return Err(Fail::new(row));
-        };
-        assert!(rt; 1 <= step && written <= ONE.len(), "{row}");
-        let (out, is_whole) = ladder_of_one(rt.alloc(), room, step)?;
-        assert_eq!(rt; is_whole, written == ONE.len(), "{row}");
-        assert_eq!(rt; out.taken(), &ONE.as_bytes()[..written], "{row}");
+        assert!(rt; tells_written(rt.alloc(), row)?, "{row}");
     }
     Ok(())
 }
@@ -92,6 +103,6 @@ fn has_length(row: &str) -> Option<bool> {
 #[test]
 fn texts_have_their_length(rt: HostRuntime) {
     for row in LENGTHS.lines() {
-        assert_eq!(rt; has_length(row), Some(true), "{row}");
+        assert!(rt; has_length(row) == Some(true), "{row}");
     }
 }
