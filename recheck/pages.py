@@ -31,7 +31,8 @@ sys.dont_write_bytecode = True
 sys.path.insert(0, str(Path(__file__).resolve().parent))
 from programs import TOP, needed
 
-PAGES = ['README.md', 'docs/GUIDE.md', 'docs/TUTORIAL.md', 'docs/CHECKING.md', 'docs/PERFORMANCE.md', 'docs/LAB.md']
+PAGES = ['README.md', 'docs/GUIDE.md', 'docs/TUTORIAL.md', 'docs/CHECKING.md', 'docs/PERFORMANCE.md', 'docs/LAB.md',
+         'docs/SCALE.md']
 STORM = 'docs/STORM.md'
 LONGEST = 120  # seconds that a command may take
 BLOCK = re.compile(r'^( *)```(\w+)( not-run)?\n(.*?)^ *```\n', re.S | re.M)
@@ -238,9 +239,10 @@ def storm_commands(folder: Path) -> Iterator[Tried]:
 
 def prepared(folder: Path, programs: dict[str, Path]) -> Path:
     """A folder with the examples, the checker and the programs, as a page's commands find them."""
-    for part in ('examples', 'recheck', 'lab'):
+    for part in ('examples', 'recheck', 'lab', 'tiles'):
         shutil.copytree(TOP / part, folder / part)
-    shutil.copy(TOP / 'plift-lab', folder)
+    for tool in ('plift-lab', 'plift-tiles'):
+        shutil.copy(TOP / tool, folder)
     for name, program in programs.items():
         script = f'#!/bin/sh\n[ "$1" != --quick ] || shift\nexec "{program}" "$@"\n'
         (folder / name).write_text(script)
@@ -269,7 +271,7 @@ def main() -> int:
     words.add_argument('--view', metavar='PATH', help='a built plift-view')
     given = words.parse_args()
     programs = {'plift': needed('plift', given.program), 'plift-view': needed('plift-view', given.view)}
-    os.environ['PLIFT_PROGRAM'] = str(programs['plift'])  # which plift-lab asks
+    os.environ['PLIFT_PROGRAM'] = str(programs['plift'])  # which plift-lab and plift-tiles ask
     count = wrong = 0
     with tempfile.TemporaryDirectory() as place:
         for what, fault in tried(Path(place), programs):

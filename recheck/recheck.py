@@ -81,7 +81,7 @@ class Report:
         for i, name in enumerate(names):
             need(name not in names[:i])
             need(len(name) <= 64, 'Limit')
-        self.parameters, self.common = len(names), text.single(b'common', 1, 2 ** 62 - 1)
+        self.names, self.parameters, self.common = names, len(names), text.single(b'common', 1, 2 ** 62 - 1)
         self.size = text.single(b'states', 1, 2 ** 16)
         self.init = text.single(b'init', 0, self.size - 1)
         goals = numbers(text.counted(b'goal'))
@@ -271,17 +271,16 @@ class Report:
             need((rank == 0) == (s in self.goals) and (pick == NONE) == (rank in (0, NONE)))
         return e, y, picks, ranks
 
-def check(text):
-    """How many leaves accept, reject and are unknown."""
-    report, nodes = Report(text), []
-    report.test_rows()
-    due = [(report.box, report.depth if report.live else 0)]  # rectangles whose nodes follow, the next one last
+def leaves(report):
+    """Tests the nodes, and gives of each leaf its kind, its rectangle and how many splits lie above it."""
+    text, node, most = report.text, 0, report.depth if report.live else 0
+    due = [(report.box, most)]  # rectangles whose nodes follow, the next one last, and how often they may be halved
     while due:
-        (box, levels), word, place = due.pop(), text.due()[0], f'node {len(nodes)} '
+        (box, levels), word, place = due.pop(), text.due()[0], f'node {node} '
         if report.least and word in (b'at', b'accept', b'reject'):
             report.one, word = 2 ** text.single(b'at', report.least, report.most), text.due()[0]
             need(word in (b'accept', b'reject'))
-        nodes.append(word)
+        node += 1
         if word == b'accept':
             (report.test_accept_within if report.steps else report.test_accept)(box, place)
         elif word == b'reject':
@@ -293,13 +292,21 @@ def check(text):
             (low, high), lower, upper = box[axis], box[:], box[:]
             lower[axis], upper[axis] = (low, (low + high) // 2), ((low + high) // 2, high)
             due += [(upper, levels - 1), (lower, levels - 1)]
+            continue
         else:
             need(text.take(b'unknown') == [])
             text.place = place
             need(levels == 0, 'depth')
+        yield word, box, most - levels
     text.place = ''
     need(text.start == len(text.data), 'rest')
-    return tuple(map(nodes.count, [b'accept', b'reject', b'unknown']))
+
+def check(text):
+    """How many leaves accept, reject and are unknown."""
+    report = Report(text)
+    report.test_rows()
+    kinds = [kind for kind, _, _ in leaves(report)]
+    return tuple(map(kinds.count, [b'accept', b'reject', b'unknown']))
 
 def main():
     text = Text(sys.stdin.buffer.read(MOST_BYTES + 1))

@@ -143,6 +143,28 @@ BLANK
     exit "$status"
 }
 
+# Keeps what comes through a pipe in a file without a name, which is read in its place.
+keep_pipe() {
+    copy=$(mktemp 2>/dev/null) || return 1
+    exec 8>"$copy" 9<"$copy"
+    rm -f -- "$copy"
+    cat >&8 || fail 'what comes through the pipe finds no room in a file: give a file by < instead'
+    exec <&9 8>&- 9<&-
+}
+
+# Shows a text of `bounded`, which the program doesn't read: a script judges it and draws it. Its first line tells
+# which text it is.
+show_other_text() {
+    case " $* " in
+    *' --follow '*) return ;;
+    esac
+    command -v python3 >/dev/null 2>&1 && [ -r "$top/tools/draw.py" ] || return 0
+    [ ! -p /dev/stdin ] || keep_pipe || return 0
+    if [ -f /dev/stdin ] && [ "$(head -c 16 </dev/stdin 2>/dev/null)" = 'plift-bounded 1' ]; then
+        exec python3 "$top/tools/draw.py" "$@"
+    fi
+}
+
 open_door() {
     quick=
     if [ "${1-}" = --quick ]; then
@@ -155,6 +177,9 @@ open_door() {
         . "$top/tools/build.sh"
     fi
     answer "$@"
+    if [ "$name" = plift-view ]; then
+        show_other_text "$@"
+    fi
     find_program "$@"
     if [ -t 0 ]; then
         announce_input "$@"

@@ -1,0 +1,154 @@
+"""Tests of what draws texts of `bounded`: its pictures of reports have the bytes of plift-view, and its answers to texts
+for a number of steps are those that were worked out by hand."""
+
+import os
+import subprocess
+import sys
+import tempfile
+import unittest
+from pathlib import Path
+from typing import List, NamedTuple
+
+sys.dont_write_bytecode = True
+TOP = Path(__file__).resolve().parents[2]
+sys.path.insert(0, str(TOP / "tools"))
+import draw as script  # noqa: E402
+
+VIEW = TOP / "build" / "quick" / "plift-view"
+PLIFT = TOP / "build" / "quick" / "plift"
+
+# A coin that is thrown again in half of the cases, and shows heads with p: within two steps 3p/4.
+COIN = """plift-bounded 1;kind dtmc;parameters 1 p;common 2;states 3;init 0;goal 1 1;row 0 0 3;to 0 0:1;to 1 1:1;to 2 0:1 1:-1;
+row 1 0 1;to 1 0:2;row 2 0 1;to 2 0:2;bound 1/4;steps 2;precision 4;depth %d;grid 20;box %s;%s"""
+ONE = COIN % (0, "4 6", "accept;x 1 3 16 0;x 2 4 16 0;")
+# From 1/5 to 4/5: halved at 1/2, and the lower half at 7/20 once more.
+TREE = COIN % (2, "4 16", "split 0;split 0;unknown;unknown;unknown;")
+HALVES = COIN % (1, "4 16", "split 0;unknown;reject b 6/16;y 1 4 16 0;choice 1 0 - 0;y 2 6 16 0;choice 2 0 - 0;")
+
+
+class Answer(NamedTuple):
+    """What a program came to."""
+
+    status: int
+    out: str
+    note: str
+
+
+def text(lines: str) -> bytes:
+    """A text whose lines end with semicolons."""
+    return lines.replace("\n", "").replace(";", "\n").encode()
+
+
+def ask(program: List[str], words: List[str], given: bytes) -> Answer:
+    """What a program answers."""
+    done = subprocess.run([*program, *words], input=given, capture_output=True)
+    return Answer(done.returncode, done.stdout.decode(), done.stderr.decode())
+
+
+def draw(words: List[str], given: bytes) -> Answer:
+    """What the script answers, as `main` would write it."""
+    try:
+        return Answer(0, script.answer(words, given), "")
+    except script.Refused as refusal:
+        return Answer(refusal.status, "", f"{refusal}\n")
+
+
+def field_of(picture: str) -> List[str]:
+    """The paths of the kinds: accepted, rejected, unknown."""
+    return [line.partition(' d="')[2].partition('"')[0] for line in picture.splitlines() if line.startswith("<path fill")]
+
+
+class Steps(unittest.TestCase):
+    """Texts for a number of steps."""
+
+    def test_a_bar(self):
+        answer = draw([], text(HALVES))
+        self.assertEqual((answer.status, answer.note), (0, ""))
+        self.assertEqual(field_of(answer.out), ["", "M524288 1048576H1048576V0H524288z", "M0 1048576H524288V0H0z"])
+        self.assertIn("<text x=\"20\" y=\"26\">bound 1/4 within 2 steps, precision 4, depth 1</text>", answer.out)
+        self.assertIn(">accepted 0.0000 %, rejected 50.0000 %, unknown 50.0000 % of the volume", answer.out)
+        self.assertIn('<text x="120" y="124">1/5</text>', answer.out)
+
+    def test_a_table(self):
+        self.assertEqual(draw(["--summary"], text(ONE)).out.splitlines(), [
+            "leaves accept 1 reject 0 unknown 0", "share accept 1 100.0000 %", "share reject 0 0.0000 %",
+            "share unknown 0 0.0000 %", "greatest accept depth 0 p 1/5 3/10", "least accept depth 0 p 1/5 3/10",
+            "depth 0 accept 1 reject 0 unknown 0",
+        ])
+
+    def test_refusals(self):
+        table = [
+            ([], text(ONE.replace("x 2 4", "x 2 3")), 1, "not sound: node 0 step 2 state 0 choice 0 corner 0: 124 > 120\n"),
+            ([], text(TREE), 1, "not sound: node 4 depth\n"),
+            ([], text(ONE)[:-1], 1, "not sound: line 24: Truncated\n"),
+            (["--x", "q"], text(ONE), 2, "usage: --x UnknownName\n"),
+            (["--x=p", "--y", "p"], text(ONE), 2, "usage: --y Repeated\n"),
+            (["--at", "p=1/4"], text(ONE), 2, "usage: --at 1 Repeated\n"),
+            (["--summary", "--x", "p"], text(ONE), 2, "usage: words\n"),
+            (["here"], text(ONE), 2, "usage: words\n"),
+        ]
+        for words, given, status, note in table:
+            with self.subTest(words=words, note=note):
+                answer = draw(words, given)
+                self.assertEqual(answer, Answer(status, "", note))
+
+
+class Door(unittest.TestCase):
+    """plift-view takes both kinds of text, from a file and through a pipe."""
+
+    def ask_door(self, words: List[str], given: bytes, by_file: bool) -> Answer:
+        door = [str(TOP / "plift-view"), "--quick", *words]
+        with tempfile.TemporaryFile() as file:
+            file.write(given)
+            file.seek(0)
+            how = {"stdin": file} if by_file else {"input": given}
+            done = subprocess.run(door, capture_output=True, env={**os.environ, "PLIFT_HINTS": "0"}, **how)
+        return Answer(done.returncode, done.stdout.decode(), done.stderr.decode())
+
+    def test_both_kinds(self):
+        if not os.access(VIEW, os.X_OK):
+            self.skipTest("the quick program isn't built")
+        report = (TOP / "examples" / "retry-tree.report").read_bytes()
+        for by_file in (True, False):
+            for words in ([], ["--summary"], ["--x", "none"]):
+                with self.subTest(words=words, by_file=by_file):
+                    self.assertEqual(self.ask_door(words, text(HALVES), by_file), draw(words, text(HALVES)))
+                    self.assertEqual(self.ask_door(words, report, by_file), ask([str(VIEW)], words, report))
+            self.assertEqual(self.ask_door(["--follow"], text(HALVES), by_file).out.encode(), text(HALVES))
+            self.assertEqual(self.ask_door([], b"", by_file), Answer(1, "", "not sound: line 1: Truncated\n"))
+
+
+class Reports(unittest.TestCase):
+    """Of reports the script's answers are those of plift-view, byte for byte."""
+
+    WORDS = [
+        [], ["--summary"], ["--x", "q"], ["--y", "p"], ["--x", "q", "--y", "p"], ["--x", "p", "--y", "p"], ["--at", "q=1/2"],
+        ["--at", "r=9/10"], ["--at=r=0.9", "--x", "r"], ["--at", "p=1/4", "--at", "q=3/4"], ["--x", "r", "--at", "q=.5"],
+        ["--at", "q"], ["--at", "s=1/2"], ["--at", "r=2"], ["--at", "r=1/0"], ["--at", "r=-1"], ["--at", "r=9/10", "--at", "r=9/10"],
+        ["--at", "r=1e99"], ["--at", "r=1/2"], ["--at", "r=3/4"], ["--x="], ["--"], ["--", "p"], ["--summary", "--follow"], ["-x"],
+    ]
+
+    def reports(self) -> List[bytes]:
+        """The examples, trees over one to three parameters, and reports that aren't sound."""
+        found = [path.read_bytes() for path in sorted((TOP / "examples").glob("*.report"))]
+        asked = [
+            ("coin.drn", "heads", "1/10<=p<=9/10", "6"), ("links.drn", "lost", "1/10<=p<=1/2,1/10<=q<=1/2", "6"),
+            ("chain.drn", "lost", "1/2<=p<=1,1/2<=q<=1,1/2<=r<=1", "9"),
+        ]
+        for model, goal, region, depth in asked:
+            line = [str(PLIFT), "verify", "--goal", goal, "--bound", "1/4", "--region", region, "--depth", depth]
+            done = subprocess.run(line, input=(TOP / "examples" / model).read_bytes(), capture_output=True, check=True)
+            found.append(done.stdout)
+        return [*found, found[0][:-1], found[0].replace(b"accept", b"reject", 1), b"", b"plift 3\n"]
+
+    def test_same_bytes(self):
+        if not os.access(VIEW, os.X_OK) or not os.access(PLIFT, os.X_OK):
+            self.skipTest("the quick programs aren't built")
+        for number, report in enumerate(self.reports()):
+            for words in self.WORDS:
+                with self.subTest(report=number, words=words):
+                    self.assertEqual(draw(words, report), ask([str(VIEW)], words, report))
+
+
+if __name__ == "__main__":
+    unittest.main()

@@ -1,0 +1,96 @@
+#!/usr/bin/env python3
+"""Shows a text of `bounded` as plift-view shows a report, once recheck.py has judged it:
+
+    tools/draw.py [--x NAME] [--y NAME] [--at NAME=VALUE].. < text > picture.svg
+    tools/draw.py --summary < text
+
+Words, notes and statuses are those of plift-view (docs/FORMATS.md, docs/MESSAGES.md). Nothing here is proved.
+"""
+
+from __future__ import annotations
+
+import sys
+from pathlib import Path
+from typing import Sequence
+
+sys.dont_write_bytecode = True
+TOP = Path(__file__).resolve().parents[1]
+sys.path[:0] = [str(TOP / "tools"), str(TOP / "recheck")]
+
+import line  # noqa: E402
+import recheck  # noqa: E402
+from drawing.leaves import Map, read_map  # noqa: E402
+from drawing.picture import svg_text  # noqa: E402
+from drawing.slices import Usage, Wish, slice_for  # noqa: E402
+from drawing.table import summary_text  # noqa: E402
+
+DONE, NOT_SOUND, USAGE, READ_FAULT, WRITE_FAULT, TOO_LONG, NO_MEMORY = 0, 1, 2, 5, 6, 7, 8
+
+
+class Refused(Exception):
+    """Why nothing is shown: a status and its note."""
+
+    def __init__(self, status: int, note: str) -> None:
+        super().__init__(note)
+        self.status = status
+
+
+def map_of(data: bytes) -> Map:
+    """The leaves of a sound text."""
+    if len(data) > recheck.MOST_BYTES:
+        raise Refused(TOO_LONG, "too long")
+    text = recheck.Text(data)
+    try:
+        return read_map(text)
+    except recheck.Fault as fault:
+        raise Refused(NOT_SOUND, f"not sound: {text.place}{fault}") from None
+
+
+def answer(words: Sequence[str], data: bytes) -> str:
+    """The picture or the table of a text."""
+    if words[-1:] == ["--"]:
+        words = words[:-1]
+    settings = None if "--" in words else line.settings_of(line.VIEW, words)
+    if settings is None or not line.are_counts_right(line.VIEW, settings) or ("--follow", "") in settings:
+        raise Refused(USAGE, "usage: words")
+    map_ = map_of(data)
+    if ("--summary", "") in settings:
+        return summary_text(map_)
+    values = dict(settings)
+    wish = Wish(values.get("--x"), values.get("--y"), [value for name, value in settings if name == "--at"])
+    try:
+        return svg_text(map_, slice_for(map_, wish))
+    except Usage as fault:
+        raise Refused(USAGE, f"usage: {fault}") from None
+
+
+def read_text() -> bytes:
+    """The text, and no more than shows that it is too long."""
+    try:
+        return sys.stdin.buffer.read(recheck.MOST_BYTES + 1)
+    except OSError:
+        raise Refused(READ_FAULT, "read fault") from None
+
+
+def main(words: Sequence[str]) -> int:
+    """Shows the text on standard input; a refusal is one line on standard error."""
+    try:
+        shown = answer(words, read_text())
+    except Refused as refusal:
+        print(refusal, file=sys.stderr)
+        return refusal.status
+    except MemoryError:
+        print("out of memory", file=sys.stderr)
+        return NO_MEMORY
+    try:
+        sys.stdout.write(shown)
+        sys.stdout.flush()
+    except OSError:
+        print("write fault", file=sys.stderr)
+        sys.stdout = None  # whose end would be told of again
+        return WRITE_FAULT
+    return DONE
+
+
+if __name__ == "__main__":
+    sys.exit(main(sys.argv[1:]))

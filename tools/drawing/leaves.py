@@ -1,0 +1,69 @@
+"""The leaves of a text, once recheck.py has found it sound."""
+
+from __future__ import annotations
+
+from dataclasses import dataclass
+from fractions import Fraction
+from typing import List, Optional, Sequence, Tuple
+
+import recheck
+
+ACCEPT, REJECT, UNKNOWN = "accept", "reject", "unknown"
+KINDS = (ACCEPT, REJECT, UNKNOWN)
+
+Span = Tuple[int, int]
+
+
+@dataclass(frozen=True)
+class Leaf:
+    """A rectangle over the grid that wasn't halved further, how many splits lie above it, and what is said of it."""
+
+    kind: str
+    spans: Sequence[Span]
+    depth: int
+
+    @property
+    def share(self) -> Fraction:
+        """Of the whole region's volume."""
+        return Fraction(1, 2**self.depth)
+
+
+@dataclass(frozen=True)
+class Map:
+    """What a text asked, and the leaves of its tree in their order."""
+
+    names: List[str]
+    live: List[int]
+    grid: int
+    root: Sequence[Span]
+    bound: Tuple[int, int]
+    steps: Optional[int]
+    precision: int
+    depth: int
+    leaves: List[Leaf]
+
+    def of_kind(self, kind: str) -> List[Leaf]:
+        """The leaves of a kind."""
+        return [leaf for leaf in self.leaves if leaf.kind == kind]
+
+    def share(self, kind: str) -> Fraction:
+        """Of the region's volume, of a kind."""
+        return sum((leaf.share for leaf in self.of_kind(kind)), Fraction(0))
+
+
+def read_map(text: recheck.Text) -> Map:
+    """Reads a text to its end. Raises `recheck.Fault` where it isn't sound; the text then tells the place."""
+    report = recheck.Report(text)
+    report.test_rows()
+    leaves = [Leaf(kind.decode(), spans, depth) for kind, spans, depth in recheck.leaves(report)]
+    return Map(
+        names=[name.decode() for name in report.names],
+        live=report.live,
+        grid=report.grid,
+        root=report.box,
+        bound=report.bound,
+        steps=len(report.steps) if report.steps else None,
+        precision=report.most,
+        depth=report.depth,
+        leaves=leaves,
+    )
