@@ -5,12 +5,16 @@ Nothing in it is believed: each answer names the reports that stand behind it, w
 
 __version__ = '1.0'
 
-from .api import Bounds, bounds, read, threshold, verify  # noqa: E402
-from .edge import Edge  # noqa: E402
-from .faults import Fault, Refused  # noqa: E402
-from .models import Model  # noqa: E402
-from .regions import Region  # noqa: E402
-from .report import Leaf, Report  # noqa: E402
+from importlib import import_module
+from typing import Any
 
-__all__ = ['Bounds', 'Edge', 'Fault', 'Leaf', 'Model', 'Refused', 'Region', 'Report', 'bounds', 'read', 'threshold',
-           'verify']
+PLACES = {'Bounds': 'api', 'Edge': 'edge', 'Fault': 'faults', 'Leaf': 'report', 'Model': 'models', 'Refused': 'faults',
+          'Region': 'regions', 'Report': 'report', 'bounds': 'api', 'read': 'api', 'threshold': 'api', 'verify': 'api'}
+"""The library's parts, and the module of each, which is loaded once it is asked for: plift-tiles starts often."""
+__all__ = list(PLACES)
+
+
+def __getattr__(name: str) -> Any:
+    if name not in PLACES:
+        raise AttributeError(name)
+    return getattr(import_module('.' + PLACES[name], __name__), name)

@@ -11,6 +11,7 @@ from typing import List, NoReturn, Optional
 from . import __version__
 from .commands import bounds, explain, leaves, threshold, verdict, verify, view
 from .faults import INTERRUPTED, LOST, WRONG, Fault, Refused
+from .words import Words
 
 COMMANDS = {'verify': verify, 'bounds': bounds, 'threshold': threshold, 'verdict': verdict, 'leaves': leaves,
             'view': view, 'explain': explain}
@@ -20,13 +21,6 @@ Nothing in it is believed: each answer names the reports that stand behind it, a
 `plift check`. docs/LAB.md tells more by example."""
 STATUSES = """statuses: 0 done; 1 stopped short of what was asked, and what is known was told; 2 words or files at fault;
 70 no plift to ask; 130 interrupted. verdict: 10 accepted, 20 rejected, 30 mixed, 40 unknown."""
-
-
-class Words(argparse.ArgumentParser):
-    """A parser that tells a fault as all other faults are told."""
-
-    def error(self, message: str) -> NoReturn:
-        raise Fault('%s; `%s --help` tells the words' % (message, self.prog))
 
 
 def parser() -> Words:

@@ -22,9 +22,9 @@ except ImportError:  # a system without file locks
 
 from .faults import Fault
 from .origin import Origin
+from .program import MOST_BYTES
 
 MARK = 'plift-lab.json'
-MOST_BYTES = 2 ** 26
 
 
 def read_file(name: str) -> bytes:

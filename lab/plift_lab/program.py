@@ -13,18 +13,28 @@ from .faults import LOST, Fault, Refused
 CHECKOUT = Path(__file__).resolve().parent.parent.parent
 """The repository's folder, where this package lies in one."""
 BUILT, QUICK = CHECKOUT / 'crates/plift/out/plift', CHECKOUT / 'build/quick/plift'
+RELEASED = CHECKOUT / 'programs/plift'
+"""Where it lies in an unpacked release, and where all of plift is installed."""
+MOST_BYTES = 2 ** 26
+"""The longest text that it reads."""
 
 
 def find_program() -> 'Program':
-    """The one that PLIFT_PROGRAM names; else the proved one of this checkout, an installed one, a quick one."""
+    """The one that PLIFT_PROGRAM names; else the one of this checkout or release, an installed one, a quick one."""
     named = os.environ.get('PLIFT_PROGRAM')
-    installed = shutil.which('plift')
-    for path in [Path(named)] if named else [BUILT] + ([Path(installed)] if installed else []) + [QUICK]:
+    for path in [Path(named)] if named else [BUILT, RELEASED, *_installed(), QUICK]:
         if path.is_file() and os.access(path, os.X_OK):
             return Program(path.resolve())
     if named:
         raise Fault('PLIFT_PROGRAM names %s, which is no program' % named, LOST)
     raise Fault('no plift is found: build it, put it on the PATH, or name it by PLIFT_PROGRAM=PATH', LOST)
+
+
+def _installed() -> List[Path]:
+    """The one on the PATH, if there is one. The script of a checkout isn't taken: it builds where need be."""
+    found = shutil.which('plift')
+    is_checkout = found and (Path(found).resolve().parent / 'tools/build.sh').exists()
+    return [Path(found)] if found and not is_checkout else []
 
 
 class Program:

@@ -77,11 +77,12 @@ class Report:
         lines = dict(line.partition(' ')[::2] for line in around.splitlines())
         if lines['plift'] not in ('1', '2'):
             raise Fault('a report of version %s isn\'t read here; this reads versions 1 and 2' % lines['plift'])
+        self.version = int(lines['plift'])
         self.kind, self.parameters = lines['kind'], lines['parameters'].split()[1:]
         self.common, self.states, self.init = int(lines['common']), int(lines['states']), int(lines['init'])
         self.goals = [int(word) for word in lines['goal'].split()[1:]]
         self.bound, self.precision = Fraction(lines['bound']), int(lines['precision'])
-        self.least_precision = int(lines['from']) if lines['plift'] == '2' else self.precision
+        self.least_precision = int(lines['from']) if self.version == 2 else self.precision
         self.depth, self.grid = int(lines['depth']), int(lines['grid'])
         self.box = tuple(int(word) for word in box.group(1).split())
         sets = {int(word) for word in re.findall(r' ([0-9]+):', head[self._model_begin:self._model_end])}
@@ -123,6 +124,16 @@ class Report:
         self.values.append(None if value is None else value << self.precision - bits)
         self._picks.append(pick)
         self._precisions.append(bits)
+
+    @property
+    def model_lines(self) -> bytes:
+        """The lines of the head down to the last row."""
+        return self.data[:self._model_end]
+
+    @property
+    def node_lines(self) -> List[bytes]:
+        """The lines behind the head."""
+        return self.data[self._tree_begin:].splitlines(keepends=True)
 
     @property
     def question(self) -> str:

@@ -16,6 +16,8 @@ from pathlib import Path
 from unittest import mock
 
 from plift_lab.evidence import Evidence
+from plift_lab.faults import Fault
+from plift_lab.program import find_program
 
 from .helpers import EXAMPLES, LINKS, RANGE, RETRY, TOP, TREE, InFolder, run
 
@@ -266,6 +268,27 @@ class Mistakes(InFolder):
         os.chmod(liar, 0o755)
         with mock.patch.dict(os.environ, {'PLIFT_PROGRAM': liar}):
             self.wrong('verdict', RETRY, says='isn\'t in a form')
+
+    def test_the_first_program_that_is_there(self):
+        places = {name: self.folder / name for name in ('BUILT', 'RELEASED', 'plift', 'QUICK')}
+        for path in places.values():
+            self.file(path.name, b'#!/bin/sh\n')
+            path.chmod(0o755)
+        patched = {name: path for name, path in places.items() if name != 'plift'}
+        with mock.patch.multiple('plift_lab.program', **patched), mock.patch.dict(os.environ, {'PATH': str(self.folder)}):
+            os.environ.pop('PLIFT_PROGRAM', None)
+            for path in places.values():
+                self.assertEqual(find_program().path, path.resolve())
+                path.unlink()
+            with self.assertRaises(Fault):
+                find_program()
+            # The script of a checkout on the PATH would build.
+            self.file('plift', b'#!/bin/sh\n')
+            (self.folder / 'plift').chmod(0o755)
+            (self.folder / 'tools').mkdir()
+            self.file('tools/build.sh', b'')
+            with self.assertRaises(Fault):
+                find_program()
 
     def test_help(self):
         for words in ((), ('verify',), ('bounds',), ('threshold',), ('verdict',), ('leaves',), ('view',), ('explain',)):

@@ -1,6 +1,7 @@
 """What ./install puts where, and that it takes all of it away again."""
 
 import os
+import shutil
 import subprocess
 import unittest
 
@@ -105,6 +106,20 @@ class Install(DoorCase):
         self.assertEqual(self.install(self.prefix).returncode, 0)
         ran = self.run_installed("plift-lab", "x  y")
         self.assertEqual(ran.stdout, b"lab\nx  y\n")
+
+    def test_tiles_run_without_the_checkout(self):
+        for part in ("plift-tiles", "tiles", "lab"):
+            copy = shutil.copytree if (TOP / part).is_dir() else shutil.copy2
+            copy(TOP / part, self.top / part)
+        self.both_built()
+        self.assertEqual(self.install(self.prefix).returncode, 0)
+        self.top.rename(self.room / "moved away")
+        for page in ("man/man1/plift-tiles.1", "bash-completion/completions/plift-tiles", "zsh/site-functions/_plift-tiles"):
+            self.assertTrue((self.prefix / "share" / page).is_file(), page)
+        self.assertEqual(self.run_installed("plift-tiles", "--version").stdout, b"plift-tiles 1.0\n")
+        # The program that is installed beside it is asked, whatever the PATH has.
+        ran = self.run_installed("plift-tiles", "split", "x", "--depth", "3", environment={"NOTE": "the installed", "STATUS": "1"}, cwd=self.room)
+        self.assertEqual((ran.returncode, ran.stderr), (1, b"plift-tiles: plift refuses this: the installed\n"))
 
     def test_quick_programs(self):
         quick = self.top / "tools/quick.py"

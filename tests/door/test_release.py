@@ -11,7 +11,9 @@ SUMS = ["sha256sum", "-c", "--quiet"]
 
 
 class Release(DoorCase):
-    PARTS = DoorCase.PARTS + ("LICENSE", "CHANGELOG.md", "CITATION.cff", "README.md", "recheck", "examples", "docs")
+    PARTS = DoorCase.PARTS + (
+        "LICENSE", "CHANGELOG.md", "CITATION.cff", "README.md", "recheck", "examples", "docs", "lab", "plift-tiles", "tiles",
+    )
 
     def setUp(self):
         super().setUp()
@@ -113,6 +115,9 @@ class Release(DoorCase):
         ran = self.run_door("check", door=folder / "plift", input=report)
         self.assertEqual(ran.stdout, b"sound accept 1 reject 0 unknown 0\n")
         self.assertIn(b"<svg", self.run_door(door=folder / "plift-view", input=report).stdout)
+        tree = (folder / "examples/retry-tree.report").read_bytes()
+        ran = self.run_door("split", str(self.room / "work"), "--depth", "7", door=folder / "plift-tiles", input=tree)
+        self.assertEqual((ran.returncode, ran.stderr), (0, b"plift-tiles: 3 tiles\n"))
 
 
 if __name__ == "__main__":

@@ -1,0 +1,6 @@
+"""plift-tiles: one job of plift on many processors and machines, in tiles that any engine runs.
+
+Nothing in it is believed: each tile counts once `plift check` has judged it, and `plift check` judges the whole.
+"""
+
+__version__ = '1.0'

@@ -1,0 +1,50 @@
+"""Heads of reports: those of the same job at a greater depth, and on a part of its region."""
+
+from __future__ import annotations
+
+from dataclasses import dataclass, replace
+from fractions import Fraction
+from functools import reduce
+from math import gcd
+from typing import List, Tuple
+
+from plift_lab.report import UNKNOWN, Leaf, Report
+
+
+@dataclass(frozen=True)
+class Head:
+    """The lines of a report above its tree: the model, and what is asked of it."""
+    model: bytes
+    bound: Fraction
+    precision: int
+    depth: int
+    grid: int
+    box: Tuple[int, ...]
+
+    @classmethod
+    def of(cls, report: Report) -> 'Head':
+        """That of a report."""
+        return cls(report.model_lines, report.bound, report.precision, report.depth, report.grid, report.box)
+
+    def deepened(self, depth: int) -> 'Head':
+        """That of the same job at a greater depth, whose grid is finer."""
+        times = 2 ** (depth - self.depth)
+        return replace(self, depth=depth, grid=self.grid * times, box=tuple(end * times for end in self.box))
+
+    def of_part(self, ends: Tuple[int, ...], depth: int) -> 'Head':
+        """That of a job on a part of the region, whose ends are over this grid. Its own grid is made from them alone."""
+        common = reduce(gcd, ends, self.grid)
+        part = replace(self, depth=0, grid=self.grid // common, box=tuple(end // common for end in ends))
+        return part.deepened(depth)
+
+    @property
+    def text(self) -> bytes:
+        """As it is written."""
+        asked = 'bound %d/%d\nprecision %d\ndepth %d\ngrid %d\n' % (self.bound.numerator, self.bound.denominator,
+                                                                   self.precision, self.depth, self.grid)
+        return self.model + (asked + ' '.join(['box', *map(str, self.box)]) + '\n').encode()
+
+
+def tile_leaves(report: Report) -> List[Leaf]:
+    """The leaves that are tiles, in their order: the unknown ones, none where no row depends on a parameter."""
+    return [leaf for leaf in report.leaves() if leaf.kind == UNKNOWN] if report.live else []

@@ -1,0 +1,120 @@
+"""Puts the trees of the tiles in the places of the unknown leaves."""
+
+from __future__ import annotations
+
+from typing import BinaryIO, Iterable, Iterator, List, Tuple
+
+from plift_lab.faults import Fault
+from plift_lab.program import MOST_BYTES
+from plift_lab.report import Report
+
+from .faults import UNFIT
+from .head import Head, tile_leaves
+from .job import Job
+
+UNKNOWN_LINE = b'unknown\n'
+
+
+class Joining:
+    """A job whose tiles are joined: all of them, or in part, where a tile that is left stays unknown."""
+
+    def __init__(self, job: Job, partial: bool) -> None:
+        self.job = job
+        self.left = set(job.left)
+        if self.left and not partial:
+            raise Fault('%d of %d tiles have no report, the first is tile %d; --partial leaves them unknown'
+                        % (len(self.left), len(job.regions), min(self.left)), UNFIT)
+        self.base = Report(job.base.read_bytes(), '')
+        self.head = Head.of(self.base)
+        ends = [leaf.ends for leaf in tile_leaves(self.base)]
+        if len(ends) != len(job.regions):
+            raise Fault('%s has %d unknown leaves, and there are %d tiles' % (job.base, len(ends), len(job.regions)), UNFIT)
+        self.heads = dict(zip(job.numbers, (self.head.of_part(each, job.levels) for each in ends)))
+        self.open_tree = _open_tree(self.base, ends[0], job.levels) if self.left else []
+
+    def require_whole(self) -> int:
+        """Refuses a tile of another job or one that is cut off, and returns how long the joined report is."""
+        length = len(self.head.deepened(self.job.depth).text)
+        for line in self._lines():
+            length += len(line)
+        return length
+
+    def write(self, out: BinaryIO) -> None:
+        """Writes the joined report."""
+        out.write(self.head.deepened(self.job.depth).text)
+        out.writelines(self._lines())
+
+    def _lines(self) -> Iterator[bytes]:
+        """The lines of the joined tree."""
+        numbers = iter(self.heads)
+        for line in self.base.node_lines:
+            if line == UNKNOWN_LINE and self.heads:
+                yield from self._tile(next(numbers))
+            else:
+                yield line
+
+    def _tile(self, number: int) -> Iterable[bytes]:
+        """The lines of a tile's tree."""
+        if number in self.left:
+            return self.open_tree
+        return _read_tile(self.job, number, self.heads[number].text)
+
+
+def join(job: Job, partial: bool, out: BinaryIO) -> List[str]:
+    """Writes the report of the whole region, once each tile was found to be one of this job, and whole. Returns what is
+    to be told of it."""
+    joining = Joining(job, partial)
+    length = joining.require_whole()
+    joining.write(out)
+    out.flush()
+    told = []
+    if joining.left:
+        told.append('%d of %d tiles are left, and stay unknown' % (len(joining.left), len(job.regions)))
+    if length > MOST_BYTES:
+        told.append('the report has %d bytes, more than the %d that `plift check` reads; it has judged each tile: keep %s'
+                    % (length, MOST_BYTES, job.place))
+    return told
+
+
+def _read_tile(job: Job, number: int, head: bytes) -> Iterator[bytes]:
+    """The lines of a tree in a file, behind the head that is due."""
+    remedy = 'remove %s, and `plift-tiles work` makes it again' % job.report(number)
+    with open(job.report(number), 'rb') as file:
+        begin = file.read(len(head))
+        if not head.startswith(begin):
+            raise Fault('tile %d isn\'t of this job: %s' % (number, remedy), UNFIT)
+        due = 1
+        for line in file:
+            if due == 0:
+                raise Fault('tile %d has something behind its last node: %s' % (number, remedy), UNFIT)
+            rest = [file.readline() for _ in range(3)] if line.startswith(b'reject ') else []
+            due += 1 if line.startswith(b'split ') else -1
+            if not all(each.endswith(b'\n') for each in [line, *rest]):
+                break
+            yield line
+            yield from rest
+        else:
+            if due == 0:
+                return
+        raise Fault('tile %d is cut off: %s' % (number, remedy), UNFIT)
+
+
+def _open_tree(report: Report, ends: Tuple[int, ...], levels: int) -> List[bytes]:
+    """The lines of the tree of a rectangle of which nothing is known, halved as often as is left. Each rectangle at one
+    depth is as long as each other one on each axis, so it is the same for all tiles."""
+    lines = [UNKNOWN_LINE]
+    for axis in reversed(list(_axes(report, ends, levels))):
+        lines = [b'split %d\n' % axis, *lines, *lines]
+    return lines
+
+
+def _axes(report: Report, ends: Iterable[int], levels: int) -> Iterator[int]:
+    """The axes on which a rectangle and its halves are halved: the longest one that a row depends on, the first of
+    equally long ones."""
+    low, high = list(ends)[::2], list(ends)[1::2]
+    lengths = [(end - begin) * 2 ** levels for begin, end in zip(low, high)]
+    live = [report.parameters.index(name) for name in report.live]
+    for _ in range(levels):
+        axis = max(live, key=lambda each: lengths[each])
+        lengths[axis] //= 2
+        yield axis
