@@ -73,22 +73,62 @@ class Counting(unittest.TestCase):
         run.HERE = Path(self.room.name, "edits")
         run.HERE.mkdir()
 
-    def tried(self, *edits: str) -> List[str]:
-        """The last lines of what is said of these wrong bodies of `lift_bytes`, with the status."""
+    def write(self, *edits: str, text: str = "") -> None:
+        """Puts wrong bodies of `lift_bytes` there."""
         folder = run.HERE / "lift_bytes"
-        folder.mkdir()
+        folder.mkdir(exist_ok=True)
         for name in edits:
-            (folder / f"{name}.edit").write_text("")
+            (folder / f"{name}.edit").write_text(text)
+
+    def tried(self, *words: str) -> List[str]:
+        """The last lines of what is said of those that are there, with the status."""
         said = io.StringIO()
         with contextlib.redirect_stdout(said):
-            status = run.main(["--jobs", "1"])
+            status = run.main(["--jobs", "1", *words])
         return [*said.getvalue().splitlines()[-2:], str(status)]
 
     def test_all_are_refused(self):
-        self.assertEqual(self.tried("one", "two"), ["== lift_bytes: 2 of 2 refused", "2 refused, 0 passed", "0"])
+        self.write("one", "two")
+        self.assertEqual(self.tried(), ["== lift_bytes: 2 of 2 refused", "2 refused, 0 passed, 0 noted before", "0"])
 
     def test_one_passes(self):
-        self.assertEqual(self.tried("one", "it_passes"), ["== lift_bytes: 1 of 2 refused", "1 refused, 1 passed", "1"])
+        self.write("one", "it_passes")
+        told = ["== lift_bytes: 1 of 2 refused", "1 refused, 1 passed, 0 noted before", "1"]
+        self.assertEqual(self.tried(), told)
+        self.assertEqual(self.tried(), ["== lift_bytes: 0 of 1 refused", "0 refused, 1 passed, 1 noted before", "1"])
+
+    def test_what_was_refused_is_noted(self):
+        self.write("one", "two")
+        self.tried()
+        self.assertEqual(self.tried(), ["0 refused, 0 passed, 2 noted before", "0"])
+        self.assertEqual(self.tried("--anew")[0], "== lift_bytes: 2 of 2 refused")
+        self.write("two", text="another one\n")
+        self.assertEqual(self.tried()[1], "1 refused, 0 passed, 1 noted before")
+        notes = (run.HERE / "refused").read_text().splitlines()
+        self.assertEqual([line.split(" ")[0] for line in notes], ["lift_bytes/one.edit", "lift_bytes/two.edit"])
+        (run.HERE / "lift_bytes" / "one.edit").unlink()
+        self.tried("--anew")
+        self.assertEqual(len((run.HERE / "refused").read_text().splitlines()), 1)
+
+    def test_a_changed_crate_is_tried_again(self):
+        self.write("one")
+        self.tried()
+        self.addCleanup(setattr, run, "crate_sum", run.crate_sum)
+        run.crate_sum = lambda crate: "another text"
+        self.assertEqual(self.tried()[1], "1 refused, 0 passed, 0 noted before")
+
+    def test_a_sum_reads_what_a_proof_reads(self):
+        room = Path(self.room.name, "top")
+        self.addCleanup(setattr, run, "TOP", run.TOP)
+        run.TOP = room
+        for part in ("src/lib.rt", "specs/Lib.antt", "proofs/Lib.antt", "must-fail/one.edit"):
+            path = room / "crates/some" / part
+            path.parent.mkdir(parents=True)
+            path.write_text("text")
+            sums = [run.crate_sum("some")]
+            path.write_text("another")
+            sums.append(run.crate_sum("some"))
+            self.assertEqual(len(set(sums)), 1 if part.startswith("must-fail") else 2)
 
     def test_a_crate_that_has_none(self):
         with contextlib.redirect_stderr(io.StringIO()), self.assertRaises(SystemExit):
