@@ -29,6 +29,9 @@ const GUESSES: u32 = 12;
 
 const GUESS_PASSES: u32 = 64;
 
+/// All states but one in so many fell, where a guess that took too many passes counts as too high.
+const MOSTLY: u32 = 16;
+
 /// How many passes lower it from the last guesses.
 const GUESS_PATIENCE: u32 = 16384;
 
@@ -104,15 +107,33 @@ fn are_other(rows: &Lifted, lane: &[i64], noted: &[u32], part: Part) -> bool
     true
 }
 
+/// Whether so have most states of a part.
+fn are_mostly_other(rows: &Lifted, lane: &[i64], noted: &[u32], part: Part) -> bool
+    requires numbers { AreNumbers rows.now.case lane.now }
+    requires notes { length noted.now ≡ length rows.now.case.model.states }
+    requires part { part.high ≤ length rows.now.links.order }
+{
+    let mut others: u32 = 0;
+    for position in part.low..part.high {
+        if is_other_at(rows, lane, noted, position) {
+            others = others.saturating_add(1);
+        }
+    }
+    let states = part.len();
+    others >= states - states / MOSTLY
+}
+
 /// What came of a guess.
 #[derive(Clone, Copy)]
 enum Guessed {
     /// Each state of the part fell below it, so that it was a good one.
     Good,
-    /// Some state didn't, though the part is settled: it was too low.
+    /// Some state didn't, though the part is settled, or many didn't: it was too low.
     Low,
-    /// It took too many passes.
+    /// It took too many passes, though most states fell.
     Slow,
+    /// The same, and each state fell, so that it was none too low.
+    High,
     /// There was none.
     Nothing,
 }
@@ -122,8 +143,17 @@ impl Guessed {
     fn is_good(self) -> bool {
         match self {
             Guessed::Good => true,
-            Guessed::Low | Guessed::Slow | Guessed::Nothing => false,
+            Guessed::Low | Guessed::Slow | Guessed::High | Guessed::Nothing => false,
         }
+    }
+}
+
+/// What came of a guess that wasn't good: whether the part is settled, and whether each state fell, or most did.
+fn blamed(settled: bool, all: bool, most: bool) -> Guessed {
+    match (settled, all, most) {
+        (true, _, _) | (false, false, false) => Guessed::Low,
+        (false, true, _) => Guessed::High,
+        (false, false, true) => Guessed::Slow,
     }
 }
 
@@ -183,9 +213,11 @@ fn lower_from_guess(
     if settled && are_other(rows, lane, noted, part) {
         return Guessed::Good;
     }
+    let all = are_other(rows, lane, noted, part);
+    let most = are_mostly_other(rows, lane, noted, part);
     flag_part(flags, part);
     fill_part(rows, lane, part, rows.top());
-    if settled { Guessed::Low } else { Guessed::Slow }
+    blamed(settled, all, most)
 }
 
 /// Lowers a part from guesses, until one is good. False: none was, and the part is at 1 again.
@@ -205,6 +237,7 @@ fn lower_from_guesses(
 {
     let mut shares = Shares::unknown();
     let mut share = 0;
+    let mut sure = 0;
     for _ in 0..GUESSES {
         let guess = Guess {
             share,
@@ -215,26 +248,26 @@ fn lower_from_guesses(
             Guessed::Nothing => return false,
             Guessed::Low => shares = shares.below(share),
             Guessed::Slow => shares = shares.above(share),
+            Guessed::High => {
+                sure = sure.max(share);
+                shares = shares.above(share);
+            }
         }
         match shares.next() {
             Some(next) => share = next,
             None => break,
         }
     }
-    let safe = Guess {
-        share: shares.safe(),
-        passes: GUESS_PATIENCE,
-    };
-    let guessed = lower_from_guess(rows, lane, flags, noted, part, safe);
-    if guessed.is_good() {
-        return true;
+    for share in [shares.safe(), sure] {
+        let guess = Guess {
+            share,
+            passes: GUESS_PATIENCE,
+        };
+        if lower_from_guess(rows, lane, flags, noted, part, guess).is_good() {
+            return true;
+        }
     }
-    let plain = Guess {
-        share: 0,
-        passes: GUESS_PATIENCE,
-    };
-    let guessed = lower_from_guess(rows, lane, flags, noted, part, plain);
-    guessed.is_good()
+    false
 }
 
 /// How many passes lower a part from 1 before it is guessed. Two states settle in less time than it takes to

@@ -1,11 +1,11 @@
 //! The least bound: by an iteration from below, which where it takes long is begun again from a guess. A
 //! guess is tested at the end, so nothing is known of how it is made.
 
-ghost use Rattle.std.specs.Prelude.{◌≡◌, ◌≤ℤ◌, ◌^◌, ◌<◌, ℕ, pos, length, IsTrue, IfSome, IsSome, Bool, true, false};
+ghost use Rattle.std.specs.Prelude.{◌≡◌, ◌≤ℤ◌, ◌^◌, ◌<◌, ℕ, pos, length, IsTrue, IfSome, IsSome, Bool, true, false, Some};
 ghost use Rattle.lift_grid.specs.Rectangle.{Spans};
 ghost use Rattle.corner_lift.specs.Case.{number};
-ghost use Rattle.rounded_iter.specs.Rising.{IsBelow, IsLeastBound};
-ghost use Rattle.rounded_iter.specs.Watching.{CanStart, HasGoals, CanClimb, CanRise, CanFind, IsFound, CanGuess, IsGuess, CanConfirm, CanTest, AreNoted, IsSure, from_zero};
+ghost use Rattle.rounded_iter.specs.Rising.{IsBelow, IsLeastBound, Run};
+ghost use Rattle.rounded_iter.specs.Watching.{CanStart, HasGoals, CanClimb, CanRise, CanFind, IsFound, CanGuess, IsGuess, CanConfirm, CanTest, AreNoted, IsSure, IsClimbed, from_zero};
 
 use crate::table::{Ended, Table};
 use corner_lift::{corners_bound_weights, rows_at_corners};
@@ -26,10 +26,19 @@ const RAISES_A_PASS: u32 = 32;
 /// How many passes raise a guess by elimination.
 const RAISES: u32 = 16384;
 
+/// How many raise it at a share that a few tries tell, before it has to lie at or below each bound.
+const SHARE_RAISES: u32 = 256;
+
+/// All states but one in so many rose, where a guess that took too many passes counts as too low.
+const MOSTLY: u32 = 16;
+
 /// How many guesses by elimination are tried, to find one from which it takes few passes, and so many.
 const TRIES: u32 = 12;
 
 const TRY_RAISES: u32 = 64;
+
+/// How many passes are made before it is asked whether a guess was no fault.
+const FEW_RAISES: [u32; 3] = [8, 16, 32];
 
 /// How many guesses are made.
 const GUESSES: u32 = 5;
@@ -51,7 +60,9 @@ pub(crate) enum Raised {
     Past,
     /// Nothing certain: it may have been too high.
     High,
-    /// It took too many passes.
+    /// It took too many passes, and lies at or below each bound.
+    Certain,
+    /// It took too many passes, and may have been too high.
     Slow,
     /// There was none, or none that is worth another try.
     Nothing,
@@ -62,8 +73,8 @@ pub(crate) enum Raised {
 enum Tried {
     /// The least bound: whether the initial state's number is within the limit.
     Found(bool),
-    /// The share to move a guess by.
-    Share(u32),
+    /// A share to move a guess by that is likely to do, and one by which it lay at or below each bound, or none.
+    Shares { likely: u32, sure: u32 },
     /// Nothing.
     Nothing,
 }
@@ -133,23 +144,65 @@ impl Table<'_> {
         true
     }
 
+    /// Whether most numbers are others than those that were noted.
+    fn mostly_rose(&self, lane: &[i64], noted: &[u32]) -> bool
+        requires { CanTest self.now lane.now noted.now }
+    {
+        let states = self.rows.model().states();
+        let mut rose: u32 = 0;
+        for s in 0..states {
+            if self.is_sure_at(lane, noted, s) {
+                rose = rose.saturating_add(1);
+            }
+        }
+        rose >= states - states / MOSTLY
+    }
+
+    /// Raises a vector, of which that was noted, in so many passes at most, or some more. A few are made first: a
+    /// guess that lies well below each bound is soon seen to.
+    fn climb_noted(&self, lane: &mut [i64], flags: &mut [u32], noted: &[u32], passes: u32) -> Ended
+        ghost run: { Run }
+        requires can { CanClimb self.now run lane.old flags.old }
+        requires notes { length noted.now ≡ length self.now.case.model.states }
+        ensures { IsClimbed self.now run lane.new (Some passes) result }
+    {
+        rows_at_corners();
+        corners_bound_weights();
+        for few in FEW_RAISES {
+            if few >= passes {
+                break;
+            }
+            match self.climb(lane, flags, Some(few)) {
+                Ended::Settled => return Ended::Settled,
+                Ended::Past => return Ended::Past,
+                Ended::Slow => {
+                    if self.is_sure(lane, noted) {
+                        return Ended::Slow;
+                    }
+                }
+            }
+        }
+        self.climb(lane, flags, Some(passes))
+    }
+
     /// Raises a guess in so many passes at most, and tells what came of it.
     fn confirm(&self, lane: &mut [i64], flags: &mut [u32], noted: &mut [u32], passes: u32) -> Raised
         ghost spans: { Spans }
         requires { CanConfirm self.now spans lane.old flags.old noted.old }
         ensures least { result ≡ Raised.Least → IsLeastBound self.now.extreme self.now.case spans lane.new }
         ensures past { result ≡ Raised.Past → IsFound self.now spans lane.new false }
+        ensures below { result ≡ Raised.Certain → IsBelow self.now.extreme self.now.case (from_zero spans) lane.new }
         ensures guess { IsGuess self.now.case lane.new }
     {
         rows_at_corners();
         corners_bound_weights();
         note(lane, noted);
-        let ended = self.climb(lane, flags, Some(passes));
+        let ended = self.climb_noted(lane, flags, noted, passes);
         let sure = self.is_sure(lane, noted);
         match ended {
             Ended::Settled => if sure { Raised::Least } else { Raised::High },
             Ended::Past => if sure { Raised::Past } else { Raised::High },
-            Ended::Slow => Raised::Slow,
+            Ended::Slow => if sure { Raised::Certain } else { Raised::Slow },
         }
     }
 
@@ -261,6 +314,7 @@ impl Table<'_> {
         requires { CanConfirm self.now spans lane.old flags.old noted.old }
         ensures least { result ≡ Raised.Least → IsLeastBound self.now.extreme self.now.case spans lane.new }
         ensures past { result ≡ Raised.Past → ⊥ }
+        ensures below { result ≡ Raised.Certain → IsBelow self.now.extreme self.now.case (from_zero spans) lane.new }
         ensures guess { IsGuess self.now.case lane.new }
     {
         let boundless = Table {
@@ -271,6 +325,7 @@ impl Table<'_> {
         };
         match boundless.confirm(lane, flags, noted, passes) {
             Raised::Least => Raised::Least,
+            Raised::Certain => Raised::Certain,
             Raised::Slow => Raised::Slow,
             Raised::Past | Raised::High | Raised::Nothing => Raised::High,
         }
@@ -289,6 +344,7 @@ impl Table<'_> {
         requires { CanConfirm self.now spans lane.old flags.old noted.old }
         ensures least { result ≡ Raised.Least → IsLeastBound self.now.extreme self.now.case spans lane.new }
         ensures past { result ≡ Raised.Past → IsFound self.now spans lane.new false }
+        ensures below { result ≡ Raised.Certain → IsBelow self.now.extreme self.now.case (from_zero spans) lane.new }
         ensures guess { IsGuess self.now.case lane.new }
     {
         match self.guess(lane, flags, noted, way) {
@@ -296,7 +352,7 @@ impl Table<'_> {
             Guessed::Some => match self.confirm(lane, flags, noted, RAISES) {
                 Raised::Least => Raised::Least,
                 Raised::Past => Raised::Past,
-                Raised::High | Raised::Slow | Raised::Nothing => Raised::Nothing,
+                Raised::High | Raised::Certain | Raised::Slow | Raised::Nothing => Raised::Nothing,
             },
             Guessed::All => self.confirm_all(lane, flags, noted, passes),
         }
@@ -322,11 +378,35 @@ impl Table<'_> {
         match self.rise_from_guess(lane, flags, noted, way, passes) {
             Raised::Least => Some(!self.is_past(lane)),
             Raised::Past => Some(false),
+            Raised::High | Raised::Certain | Raised::Slow | Raised::Nothing => None,
+        }
+    }
+
+    /// The same of a guess by elimination, which is raised to the end once it lies at or below each bound.
+    fn find_from_share(
+        &self,
+        lane: &mut [i64],
+        flags: &mut [u32],
+        noted: &mut [u32],
+        share: u32,
+    ) -> Option<bool>
+        ghost spans: { Spans }
+        requires { CanConfirm self.now spans lane.old flags.old noted.old }
+        ensures found { IfSome result (λ found. IsFound self.now spans lane.new found) }
+        ensures guess { IsGuess self.now.case lane.new }
+    {
+        rows_at_corners();
+        corners_bound_weights();
+        let way = Way::Elimination(share);
+        match self.rise_from_guess(lane, flags, noted, way, SHARE_RAISES) {
+            Raised::Least => Some(!self.is_past(lane)),
+            Raised::Past => Some(false),
+            Raised::Certain => self.rise(lane, flags, None),
             Raised::High | Raised::Slow | Raised::Nothing => None,
         }
     }
 
-    /// The share of a unit for each step by which a guess by elimination is best moved, as far as a few tries
+    /// The shares of a unit for each step by which a guess by elimination is best moved, as far as a few tries
     /// tell; or what the least bound is found to be by one of them.
     fn try_shares(&self, lane: &mut [i64], flags: &mut [u32], noted: &mut [u32]) -> Tried
         ghost spans: { Spans }
@@ -338,21 +418,38 @@ impl Table<'_> {
         corners_bound_weights();
         let mut shares = Shares::unknown();
         let mut share = 0;
+        let mut sure = 0;
         for _ in 0..TRIES {
             let way = Way::Elimination(share);
             match self.rise_from_guess(lane, flags, noted, way, TRY_RAISES) {
                 Raised::Least => return Tried::Found(!self.is_past(lane)),
                 Raised::Past => return Tried::Found(false),
                 Raised::High => shares = shares.below(share),
-                Raised::Slow => shares = shares.above(share),
+                Raised::Certain => {
+                    if self.is_past(lane) {
+                        return Tried::Found(false);
+                    }
+                    sure = sure.max(share);
+                    shares = shares.above(share);
+                }
+                Raised::Slow => {
+                    shares = if self.mostly_rose(lane, noted) {
+                        shares.above(share)
+                    } else {
+                        shares.below(share)
+                    };
+                }
                 Raised::Nothing => return Tried::Nothing,
             }
             match shares.next() {
                 Some(next) => share = next,
-                None => return Tried::Share(shares.safe()),
+                None => break,
             }
         }
-        Tried::Share(shares.safe())
+        Tried::Shares {
+            likely: shares.safe(),
+            sure,
+        }
     }
 
     /// Raises guesses by elimination. None: no least bound came of them for certain.
@@ -367,13 +464,15 @@ impl Table<'_> {
         ensures found { IfSome result (λ found. IsFound self.now spans lane.new found) }
         ensures guess { IsGuess self.now.case lane.new }
     {
-        let share = match self.try_shares(lane, flags, noted) {
+        let (likely, sure) = match self.try_shares(lane, flags, noted) {
             Tried::Found(found) => return Some(found),
-            Tried::Share(share) => share,
+            Tried::Shares { likely, sure } => (likely, sure),
             Tried::Nothing => return None,
         };
-        let way = Way::Elimination(share);
-        if let Some(found) = self.find_from_guess(lane, flags, noted, way, RAISES) {
+        if let Some(found) = self.find_from_share(lane, flags, noted, likely) {
+            return Some(found);
+        }
+        if let Some(found) = self.find_from_share(lane, flags, noted, sure) {
             return Some(found);
         }
         self.find_from_guess(lane, flags, noted, Way::Elimination(0), RAISES)

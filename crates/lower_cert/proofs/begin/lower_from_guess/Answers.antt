@@ -18,21 +18,8 @@ returns-then-are_other g c =
     let kept = rw (c.case.ensures, c.links.ensures) at c.guess_part-guessed.ensures in
     fallen_high c.rows_at_corners.ensures.numbers c.args.rows.now.case c.args.rows.now.links g.spans c.args.part.low c.args.part.high c.args.lane.now c.guess_part-guessed.new.lane c.w.ensures.case c.requires.0.table.inside c.requires.0.high kept c.vectors_are_lowered.ensures.guess c.settle_within-settled.new.lane c.note.new.noted c.settle_within-settled.ensures.lowered.high c.settle_within-settled.ensures.lowered.below c.note.ensures (c.are_other.ensures c.if-are_other.true)
 
-pub returns-then-settled-2 : goal.returns-then-settled-2
-returns-then-settled-2 g c =
-    let kept = rw (c.case.ensures, c.links.ensures) at c.guess_part-guessed.ensures in
-    let k = c.args.rows.now.case in
-    let l = c.args.rows.now.links in
-    let fits : SFits w64 c.top-2.result = search rules in
-    let top = to_z-of_z fits ∙ c.top-2.ensures in
-    top_high c.rows_at_corners.ensures.numbers k l g.spans c.args.part.low c.args.part.high c.args.lane.now c.fill_part-2.new.lane c.w.ensures.case c.requires.0.table.inside c.requires.0.high
-    (keeps_both k l c.args.part.low c.args.part.high c.args.lane.now c.settle_within-settled.new.lane c.fill_part-2.new.lane
-    (keeps_both k l c.args.part.low c.args.part.high c.args.lane.now c.guess_part-guessed.new.lane c.settle_within-settled.new.lane kept c.settle_within-settled.ensures.kept)
-    c.fill_part-2.ensures.kept)
-    (λ at from to s h. c.fill_part-2.ensures.filled at from to s h ∙ top)
-
-pub returns-else-settled-2 : goal.returns-else-settled-2
-returns-else-settled-2 g c =
+pub returns : goal.returns
+returns g c =
     let kept = rw (c.case.ensures, c.links.ensures) at c.guess_part-guessed.ensures in
     let k = c.args.rows.now.case in
     let l = c.args.rows.now.links in

@@ -1,4 +1,4 @@
 use Rattle.rounded_iter.proofs.table.Table.confirm.Given as goal
 
-abbrev pub ghost-climb : goal.ghost-climb
-ghost-climb g a = record { spans = g.spans; from = a.lane.now }
+abbrev pub ghost-climb_noted : goal.ghost-climb_noted
+ghost-climb_noted g a = record { spans = g.spans; from = a.lane.now }

@@ -5,3 +5,6 @@ ghost-try_shares g a = g.spans
 
 abbrev pub ghost-find_from_guess : goal.ghost-find_from_guess
 ghost-find_from_guess g a = g.spans
+
+abbrev pub ghost-find_from_share : goal.ghost-find_from_share
+ghost-find_from_share g a = g.spans

@@ -1,0 +1,9 @@
+use Rattle.rounded_iter.specs.Rising.{IsBelow}
+use Rattle.rounded_iter.proofs.table.Table.climb_noted.Given as goal
+
+abbrev pub ghost-climb : goal.ghost-climb
+ghost-climb g a = g.run
+
+-- what was raised lies at or below each bound that the first vector does
+abbrev pub invariant-loop-few : goal.invariant-loop-few
+invariant-loop-few g l = IsBelow l.self.extreme l.self.case g.run l.lane
