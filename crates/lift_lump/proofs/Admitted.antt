@@ -20,7 +20,7 @@ use Rattle.corner_lift.specs.Case as case
 use Rattle.corner_lift.specs.Laws.{WeightsInside, RootIsInside}
 use Rattle.lift_lump.specs.Lumping.{Partition, terms_into, sum_into, in_block, IsRight}
 use Rattle.lift_lump.specs.Quotient.{Blocks, block, first, AreNumbered, one_entry, entries_into, quotient_row, quotient}
-use Rattle.lift_lump.specs.Laws.{GoalsHaveEntries, HasSmallCoefficients, QuotientsAreCases, quotient_case}
+use Rattle.lift_lump.specs.Laws.{CasesHaveGoalEntries, HasSmallCoefficients, QuotientsAreCases, quotient_case}
 use Rattle.lift_lump.proofs.Grouping.{flat, grouped, grouped-flat}
 use Rattle.lift_lump.proofs.Holding.{targets_inside, weight-append}
 use Rattle.lift_lump.proofs.Keeping.{coefficients-add}
@@ -165,6 +165,14 @@ module _ (d : ℤ) (positive : pos 0 <ℤ d) where
 
 -- ---- the rows
 
+-- a goal state of a case has an entry, since its row sums to one
+pub goals_have_entries : CasesHaveGoalEntries
+goals_have_entries k is s lt goal = by (row_at k.model s 0) ((is.admitted s [] lt 0 [] (is.asked.model.some_choice s [] lt)).sum 0)
+  where
+    by : (row : List Entry) → row_coefficient 0 row ≡ k.model.common → 1 ≤ length row
+    by [] e = let low = is.asked.model.denominator.0 in absurd (omega (arith, linear, low, e))
+    by (e ∷ row) h = omega arith
+
 module _ (sums : TermsSumBySet) (weights : TermsSumByWeight) (inside : WeightsInside) (root : RootIsInside) (k : CaseData) (p : Blocks) (is : IsCase k) (right : IsRight k.model (block p)) (numbered : AreNumbered (length k.model.states) p) where
   abbrev m : ModelData
   m = k.model
@@ -294,18 +302,10 @@ module _ (sums : TermsSumBySet) (weights : TermsSumByWeight) (inside : WeightsIn
       let s_in : get_or p.firsts i d < length m.states = subst (λ s. s < length m.states) (get_or_default p.firsts i 0 d lt) (numbered.least i lt).0 in
       All-cons (IsAdmittedRow (quotient_case k p)) (quotient_row m p (get_or p.firsts i d)) [] (made_admitted (get_or p.firsts i d) s_in) (All-nil (IsAdmittedRow (quotient_case k p))))
 
-  -- a goal state of a case has an entry, since its row sums to one
-  goals_have_entries : GoalsHaveEntries m
-  goals_have_entries s lt goal = by (row_at m s 0) ((admitted s lt).sum 0)
-    where
-      by : (row : List Entry) → row_coefficient 0 row ≡ m.common → 1 ≤ length row
-      by [] e = let low = is.asked.model.denominator.0 in absurd (omega (arith, linear, low, e))
-      by (e ∷ row) h = omega arith
-
   quotient_is_case : TermsSumToPolynomial → m.kind ≡ Dtmc → HasSmallCoefficients (quotient m p) → IsCase (quotient_case k p)
   quotient_is_case polynomials chain small = record {
     asked = record {
-      model = quotients_are_models polynomials m p is.asked.model chain right numbered goals_have_entries small;
+      model = quotients_are_models polynomials m p is.asked.model chain right numbered (goals_have_entries k is) small;
       spans = is.asked.spans;
       grid = is.asked.grid;
       depth = is.asked.depth;

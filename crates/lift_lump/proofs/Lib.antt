@@ -25,3 +25,4 @@ mod Adding
 mod Likening
 mod Naming
 mod Quotients
+mod Terms

@@ -74,7 +74,7 @@ row_part (e ∷ row) =
     (All-weaker (λ (x : Entry). All (λ (t : Term). PartOf t.0 (support row)) x.poly) (λ (x : Entry). All (λ (t : Term). PartOf t.0 (support (e ∷ row))) x.poly)
     (λ x all. All-weaker (λ (t : Term). PartOf t.0 (support row)) (λ (t : Term). PartOf t.0 (support (e ∷ row))) (λ t p. part-right t.0 (polynomial.support e.poly) (support row) p) x.poly all) row (row_part row))
 
-poly_within : (set : ℕ) (terms : List Term) → All (λ (t : Term). PartOf t.0 set) terms → PartOf (polynomial.support terms) set
+pub poly_within : (set : ℕ) (terms : List Term) → All (λ (t : Term). PartOf t.0 set) terms → PartOf (polynomial.support terms) set
 poly_within set [] all = part-none set
 poly_within set (t ∷ ts) all = part-both t.0 (polynomial.support ts) set (All-head (λ (u : Term). PartOf u.0 set) t ts all) (poly_within set ts (All-tail (λ (u : Term). PartOf u.0 set) t ts all))
 

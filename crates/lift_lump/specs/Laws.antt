@@ -1,14 +1,14 @@
 -- What holds of right partitions and of quotients, for who reasons about them.
-use Rattle.std.specs.Prelude.{◌≡◌, ℕ, ◌<◌, ◌≤◌, Bool, true, List, pos, ◌*ℤ◌, unsigned_abs, length, slice_index_or, All, Contains}
+use Rattle.std.specs.Prelude.{◌≡◌, ℕ, ◌^◌, ◌<◌, ◌≤◌, Bool, true, List, pos, ◌*ℤ◌, unsigned_abs, count_ones, length, slice_index_or, All, Contains}
 use Rattle.lift_poly.specs.Polynomial.{Valuation}
+use Rattle.lift_poly.specs.Arithmetic as polynomial
 use Rattle.lift_model.specs.declared.kind.Kind.TheVariants.{Dtmc}
-use Rattle.lift_model.specs.Process.{Process, power}
+use Rattle.lift_model.specs.Process.{power}
 use Rattle.lift_model.specs.Plan.{Plan, Fits}
 use Rattle.lift_model.specs.Reach.{reach}
-use Rattle.lift_model.specs.Memoryless.{memoryless_reach}
-use Rattle.lift_model.specs.Model.{ModelData, is_goal, row_at}
+use Rattle.lift_model.specs.Model.{ModelData, is_goal, row_at, process_at}
 use Rattle.lift_model.specs.Valid.{IsModel, coefficient_limit}
-use Rattle.corner_lift.specs.Case.{CaseData, IsCase}
+use Rattle.corner_lift.specs.Case.{CaseData, IsCase, most_row_parameters}
 use Rattle.lift_lump.specs.Lumping.{Partition, sum_into, in_block, IsRight, IsAboveRight, IsCoarsest, IsUnion, IsSplit}
 use Rattle.lift_lump.specs.Quotient.{Blocks, block, AreNumbered, entries_into, quotient, hold}
 use Rattle.lift_lump.specs.declared.arrows.Arrow.{Arrow}
@@ -48,14 +48,31 @@ EntriesTellSums = (block : Partition) (left right : List Entry) (count b : ℕ) 
 
 -- Every plan of a chain reaches what its only scheduler reaches.
 abbrev pub ChainsHaveOnePlan : Type 0
-ChainsHaveOnePlan = (process : Process) (q n s : ℕ) (p : Plan) → ((t : ℕ) → length (process.choices t) ≡ 1) → Fits process q n s p
-    → reach process q n s p ≡ power (pos q) n *ℤ memoryless_reach process (λ _. 0) n s
+ChainsHaveOnePlan = (m : ModelData) (v : Valuation) (q n s : ℕ) (p : Plan) → IsModel m → m.kind ≡ Dtmc → s < length m.states → Fits (process_at m v) q n s p
+    → reach (process_at m v) q n s p ≡ power (pos q) n *ℤ hold m v n s
+
+-- From each state of a chain there is such a plan, for any number of steps.
+abbrev pub ChainsHaveAPlan : Type 0
+ChainsHaveAPlan = (m : ModelData) (v : Valuation) (n s : ℕ) → IsModel m → m.kind ≡ Dtmc → s < length m.states → (p : Plan) × Fits (process_at m v) 1 n s p
 
 -- ---- the quotient as a model and a case
 
 -- each goal state has an entry
 abbrev pub GoalsHaveEntries : ModelData → Type 0
 GoalsHaveEntries m = (s : ℕ) → s < length m.states → is_goal m s ≡ true → 1 ≤ length (row_at m s 0)
+
+-- In a case each goal state has an entry, since its row sums to one.
+abbrev pub CasesHaveGoalEntries : Type 0
+CasesHaveGoalEntries = (k : CaseData) → IsCase k → GoalsHaveEntries k.model
+
+-- few parameters occur in an entry, and it has no more terms than these have sets
+pub record HasFewTerms (entry : Entry) : Type 0 where
+  pub parameters : count_ones (polynomial.support entry.poly) ≤ most_row_parameters
+  pub terms : length entry.poly ≤ 2 ^ most_row_parameters
+
+-- The entries of a case have few terms.
+abbrev pub CasesHaveFewTerms : Type 0
+CasesHaveFewTerms = (k : CaseData) → IsCase k → All (All (All HasFewTerms)) k.model.states
 
 -- each coefficient of a model has a size below its limit
 abbrev pub HasSmallCoefficients : ModelData → Type 0

@@ -5,7 +5,7 @@ ghost use Rattle.lift_poly.specs.Polynomial.{Valuation};
 ghost use Rattle.lift_model.specs.declared.kind.Kind.TheVariants.{Dtmc, Mdp};
 ghost use Rattle.lift_model.specs.Model.{is_goal};
 ghost use Rattle.lift_lump.specs.declared.error.LumpError.TheVariants.{NotChain, Wide};
-ghost use Rattle.lift_lump.specs.Laws.{GoalsHaveEntries};
+ghost use Rattle.lift_lump.specs.Laws.{GoalsHaveEntries, HasSmallCoefficients};
 ghost use Rattle.lift_lump.specs.Lumped.{IsLumped, IsWide};
 ghost use Rattle.lift_lump.specs.Quotient.{block, hold};
 
@@ -80,6 +80,7 @@ fn lump_chain(alloc: Global, model: &Model) -> Result<Lumped, LumpError>
     requires goals { GoalsHaveEntries model.now }
     ensures chain { IsErrOf result NotChain → ⊥ }
     ensures lumped { IfOk result (IsLumped model.now) }
+    ensures small { IfOk result (λ l. HasSmallCoefficients l.model) }
     ensures wide { IsErrOf result Wide → IsWide model.now }
 {
     coarsest_is_one();
@@ -104,6 +105,7 @@ pub fn lump(alloc: Global, model: &Model) -> Result<Lumped, LumpError>
     requires goals { model.now.kind ≡ Dtmc → GoalsHaveEntries model.now }
     ensures chain { IsErrOf result NotChain ↔ (model.now.kind ≡ Mdp) }
     ensures lumped { IfOk result (IsLumped model.now) }
+    ensures small { IfOk result (λ l. HasSmallCoefficients l.model) }
     ensures wide { IsErrOf result Wide → IsWide model.now }
     ensures hold { IfOk result (λ l. (v : Valuation) (n s : ℕ) → s < length model.now.states
         → hold l.model v n (block l.blocks s) ≡ hold model.now v n s) }

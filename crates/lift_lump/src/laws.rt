@@ -1,16 +1,18 @@
 //! Laws of lumping, for who reasons about it. The functions do nothing.
 
-ghost use Rattle.lift_lump.specs.Laws.{ChainsHaveOnePlan, CoarsestIsOne, EntriesTellSums, QuotientsHold, StartsAbove};
+ghost use Rattle.lift_lump.specs.Laws.{CasesHaveFewTerms, CasesHaveGoalEntries, ChainsHaveAPlan, ChainsHaveOnePlan, CoarsestIsOne};
+ghost use Rattle.lift_lump.specs.Laws.{EntriesTellSums, QuotientsHold, StartsAbove};
 ghost use Rattle.lift_lump.specs.Laws.{NumberedSplitsKeep, QuotientsAreCases, QuotientsAreModels, SplitsKeep, StepsKeep};
 
-use corner_lift::rows_inside;
+use corner_lift::{rows_at_corners, rows_inside};
 use lift_poly::{coefficients_determine, weights_follow};
 
-/// By a right partition a state of the chain and its block of the quotient reach the same; and every plan of a chain
-/// reaches what its only scheduler reaches.
+/// By a right partition a state of the chain and its block of the quotient reach the same; every plan of a chain
+/// reaches what its only scheduler reaches, and there is one.
 pub fn quotients_hold()
     ensures same { QuotientsHold }
     ensures plans { ChainsHaveOnePlan }
+    ensures some { ChainsHaveAPlan }
 {
     weights_follow();
 }
@@ -37,11 +39,14 @@ pub fn quotients_are_models()
 }
 
 /// By a right partition the quotient of a case is a case, over the same root and grid and at the same precision,
-/// unless a coefficient of it is too large.
+/// unless a coefficient of it is too large. In a case each goal state has an entry, and entries have few terms.
 pub fn quotients_are_cases()
-    ensures { QuotientsAreCases }
+    ensures cases { QuotientsAreCases }
+    ensures goals { CasesHaveGoalEntries }
+    ensures terms { CasesHaveFewTerms }
 {
     coefficients_determine();
     weights_follow();
+    rows_at_corners();
     rows_inside();
 }
