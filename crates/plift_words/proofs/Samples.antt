@@ -5,9 +5,10 @@ use Rattle.plift_words.specs.Line.{options}
 use Rattle.plift_words.specs.Job.{VerifyData, job}
 use Rattle.plift_words.specs.Job.JobData.{verify, check, generate, selftest}
 use Rattle.plift_words.specs.declared.job.Field.TheVariants as field
+use Rattle.plift_words.specs.declared.way.Way.TheVariants as way
 
 at_most_half : VerifyData
-at_most_half = record { goal = codes "heads"; bound = record { num = 1; den = 2 }; region = []; depth = 5; precision = 4; steps = None }
+at_most_half = record { goal = codes "heads"; bound = record { num = 1; den = 2 }; region = []; depth = 5; precision = 4; way = way.Whole }
 
 -- the words in another order and in both spellings, with a bound that isn't in lowest terms
 asks : job (codes "verify" ∷ codes "--depth=5" ∷ codes "--bound" ∷ codes "2/4" ∷ codes "--goal=heads" ∷ codes "--precision" ∷ codes "04" ∷ []) ≡ Ok (verify at_most_half)
@@ -31,9 +32,17 @@ unfolding at_most_half gcd
 asks_least = refl
 
 -- within a number of steps
-asks_within : job (codes "bounded" ∷ codes "--goal=heads" ∷ codes "--steps" ∷ codes "64" ∷ codes "--bound=1/2" ∷ codes "--depth=5" ∷ codes "--precision=4" ∷ []) ≡ Ok (verify (record at_most_half { steps = Some 64 }))
+asks_within : job (codes "bounded" ∷ codes "--goal=heads" ∷ codes "--steps" ∷ codes "64" ∷ codes "--bound=1/2" ∷ codes "--depth=5" ∷ codes "--precision=4" ∷ []) ≡ Ok (verify (record at_most_half { way = way.Within 64 }))
 unfolding at_most_half gcd
 asks_within = refl
+
+-- by the quotient of a chain
+asks_lumped : job (codes "lumped" ∷ codes "--goal=heads" ∷ codes "--bound=1/2" ∷ codes "--depth=5" ∷ codes "--precision=4" ∷ []) ≡ Ok (verify (record at_most_half { way = way.Lumped }))
+unfolding at_most_half gcd
+asks_lumped = refl
+
+lumped_within : job (codes "lumped" ∷ codes "--goal=heads" ∷ codes "--bound=1/2" ∷ codes "--steps=4" ∷ []) ≡ Err field.Words
+lumped_within = refl
 
 -- which `verify` isn't asked, and `bounded` isn't without
 verify_within : job (codes "verify" ∷ codes "--goal=heads" ∷ codes "--bound=1/2" ∷ codes "--steps=4" ∷ []) ≡ Err field.Words

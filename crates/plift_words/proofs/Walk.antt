@@ -21,7 +21,7 @@ use Rattle.clap.proofs.TakesLemmas.{leaf_takes}
 use Rattle.clap.proofs.WalkLemmas.{both, first_value-rows}
 use Rattle.clap.proofs.SimpleLemmas.{is_false, is_nil}
 use Rattle.lift_frac.specs.Written.{cut_at}
-use Rattle.plift_words.specs.Line.{Setting, attached, options, stands, value_of, is_option, is_value, are_options, are_asked, is_verify, is_bounded, is_asking}
+use Rattle.plift_words.specs.Line.{Setting, attached, options, stands, value_of, is_option, is_value, are_options, are_asked, is_unlimited, is_verify, is_bounded, is_lumped, is_asking}
 use Rattle.plift_words.proofs.Cuts.{neither, cut_parts, options_one, options_two, options_lone}
 use Rattle.plift_words.specs.Parser.{HasValues, verify_app}
 
@@ -475,9 +475,12 @@ between : (named rest : Bool) (words : List Text) → (named && are_asked (optio
 between named rest words e = asked_line words (both named _ (both (named && are_asked (options words)) rest e).0).1
 
 plain_line : (command : Text) (words : List Text) → is_asking (command ∷ words) ≡ true → PlainLine words
-plain_line command words e = elim (either (is_verify (command ∷ words)) (is_bounded (command ∷ words)) e) [
+plain_line command words e = elim (either (is_verify (command ∷ words)) (is_bounded (command ∷ words) || is_lumped (command ∷ words)) e) [
   | inl v ↦ between (bytes_eq command (codes "verify")) (not (stands (codes "--steps") (options words))) words v
-  | inr b ↦ between (bytes_eq command (codes "bounded")) (stands (codes "--steps") (options words)) words b
+  | inr o ↦ elim (either (is_bounded (command ∷ words)) (is_lumped (command ∷ words)) o) [
+    | inl b ↦ between (bytes_eq command (codes "bounded")) (stands (codes "--steps") (options words)) words b
+    | inr l ↦ between (bytes_eq command (codes "lumped")) (not (stands (codes "--steps") (options words))) words l
+  ]
 ]
 
 -- the parser takes the words, and what it finds in them

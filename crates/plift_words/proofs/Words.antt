@@ -9,58 +9,58 @@ use Rattle.lift_grid.specs.Rectangle.{most_halvings}
 use Rattle.lift_grid.specs.Region.{◌>>=◌}
 use Rattle.corner_lift.specs.Case.{most_precision}
 use Rattle.lift_cert.specs.declared.bound.Bound.{Bound}
-use Rattle.plift_words.specs.Line.{is_asking, is_check, word_behind, is_plain, options, value_of}
+use Rattle.plift_words.specs.Line.{is_lumped, is_asking, is_check, word_behind, is_plain, options, value_of}
 use Rattle.plift_words.specs.Values.{goal_of, bound_of, option_number, steps_of, blocks_of}
-use Rattle.plift_words.specs.Job.{JobData, steps_in, verify_job, blocks_job, other_job, job}
+use Rattle.plift_words.specs.Job.{JobData, way_in, verify_job, blocks_job, other_job, job}
 use Rattle.plift_words.specs.Given.{IsOfVerify}
 use Rattle.plift_words.specs.Parser.{HasValues}
 use Rattle.plift_words.specs.declared.job.Field.{Field}
 use Rattle.plift_words.specs.declared.job.Field.TheVariants as field
 
 -- the job of the values
-abbrev job_by : Option (List ℕ) → Option Bound → List ℕ → Option ℕ → Option ℕ → Option (List ℕ) → Result JobData Field
-job_by goal bound region depth precision steps = do
+abbrev job_by : Bool → Option (List ℕ) → Option Bound → List ℕ → Option ℕ → Option ℕ → Option (List ℕ) → Result JobData Field
+job_by lumps goal bound region depth precision steps = do
   goal ← ok_or goal field.Goal
   bound ← ok_or bound field.Bound
   depth ← ok_or depth field.Depth
   precision ← ok_or precision field.Precision
-  steps ← steps_in steps
-  Ok (JobData.verify (record { goal = goal; bound = bound; region = region; depth = depth; precision = precision; steps = steps }))
+  asked_on ← way_in lumps steps
+  Ok (JobData.verify (record { goal = goal; bound = bound; region = region; depth = depth; precision = precision; way = asked_on }))
 
-of_steps : (goal : List ℕ) (bound : Bound) (region : List ℕ) (depth precision : ℕ) (word : List ℕ) (steps : Option ℕ) → steps_of word ≡ steps
-    → IsOfVerify (job_by (Some goal) (Some bound) region (Some depth) (Some precision) (Some word))
-of_steps g b r d p word (Some h) is = rw is tt
-of_steps g b r d p word None is = rw is tt
+of_steps : (lumps : Bool) (goal : List ℕ) (bound : Bound) (region : List ℕ) (depth precision : ℕ) (word : List ℕ) (steps : Option ℕ) → steps_of word ≡ steps
+    → IsOfVerify (job_by lumps (Some goal) (Some bound) region (Some depth) (Some precision) (Some word))
+of_steps l g b r d p word (Some h) is = rw is tt
+of_steps l g b r d p word None is = rw is tt
 
--- it is that of a line of `verify` or `bounded`
-of_verify : (goal : Option (List ℕ)) (bound : Option Bound) (region : List ℕ) (depth precision : Option ℕ) (steps : Option (List ℕ)) → IsOfVerify (job_by goal bound region depth precision steps)
-of_verify (Some g) (Some b) r (Some d) (Some p) None = tt
-of_verify (Some g) (Some b) r (Some d) (Some p) (Some word) = of_steps g b r d p word (steps_of word) refl
-of_verify None b r d p h = tt
-of_verify (Some g) None r d p h = tt
-of_verify (Some g) (Some b) r None p h = tt
-of_verify (Some g) (Some b) r (Some d) None h = tt
+-- it is that of a line of `verify`, `bounded` or `lumped`
+of_verify : (lumps : Bool) (goal : Option (List ℕ)) (bound : Option Bound) (region : List ℕ) (depth precision : Option ℕ) (steps : Option (List ℕ)) → IsOfVerify (job_by lumps goal bound region depth precision steps)
+of_verify l (Some g) (Some b) r (Some d) (Some p) None = tt
+of_verify l (Some g) (Some b) r (Some d) (Some p) (Some word) = of_steps l g b r d p word (steps_of word) refl
+of_verify l None b r d p h = tt
+of_verify l (Some g) None r d p h = tt
+of_verify l (Some g) (Some b) r None p h = tt
+of_verify l (Some g) (Some b) r (Some d) None h = tt
 
--- the job of the words as a line of `verify` or `bounded`
+-- the job of the words as a line of `verify`, `bounded` or `lumped`
 abbrev verified : List (List ℕ) → Result JobData Field
-verified words = verify_job (λ name. value_of name (options (drop 1 words)))
+verified words = verify_job (is_lumped words) (λ name. value_of name (options (drop 1 words)))
 
 of_verified : (words : List (List ℕ)) → IsOfVerify (verified words)
 of_verified words =
     let value = λ (name : List ℕ). value_of name (options (drop 1 words)) in
-    of_verify (option_and_then goal_of (value (codes "--goal"))) (option_and_then bound_of (value (codes "--bound"))) (unwrap_or (value (codes "--region")) [])
+    of_verify (is_lumped words) (option_and_then goal_of (value (codes "--goal"))) (option_and_then bound_of (value (codes "--bound"))) (unwrap_or (value (codes "--region")) [])
     (option_number 0 most_halvings (unwrap_or (value (codes "--depth")) (codes "0"))) (option_number 1 most_precision (unwrap_or (value (codes "--precision")) (codes "24"))) (value (codes "--steps"))
 
 of_first : (b : Bool) (x y : Result JobData Field) → b ≡ true → IsOfVerify x → IsOfVerify (if b then x else y)
 of_first true x y e h = h
 of_first false x y e h = absurd (cc)
 
--- the job of a plain line of `verify` or `bounded`
+-- the job of a plain line of `verify`, `bounded` or `lumped`
 pub verify_lines : (words : List (List ℕ)) → is_asking words ≡ true → IsOfVerify (job words)
 verify_lines words e = of_first (is_asking words) (verified words) (other_job words) e (of_verified words)
 
 -- the values that the parser found on a plain line make its job
-pub found_job : (words : List (List ℕ)) (found : Found) → is_asking words ≡ true → HasValues found (options (drop 1 words)) → job words ≡ verify_job (λ name. first_value found (drop 2 name))
+pub found_job : (words : List (List ℕ)) (found : Found) → is_asking words ≡ true → HasValues found (options (drop 1 words)) → job words ≡ verify_job (is_lumped words) (λ name. first_value found (drop 2 name))
 found_job [] found e h = absurd (cc)
 found_job (command ∷ words) found e h = rw (e, h.goal, h.bound, h.region, h.depth, h.precision, h.steps) refl
 

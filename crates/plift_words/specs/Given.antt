@@ -22,7 +22,7 @@ asked words = job (map string_bytes words)
 
 -- what is to be verified
 abbrev pub verify_data : VerifyJob → VerifyData
-verify_data j = record { goal = j.goal.now; bound = j.bound; region = j.region.now; depth = j.depth; precision = j.precision; steps = j.steps }
+verify_data j = record { goal = j.goal.now; bound = j.bound; region = j.region.now; depth = j.depth; precision = j.precision; way = j.way }
 
 -- a job
 abbrev pub job_data : Job → JobData
@@ -36,7 +36,7 @@ abbrev pub answer_data : Result Job Field → Result JobData Field
 answer_data (Ok j) = Ok (job_data j)
 answer_data (Err f) = Err f
 
--- a line of `verify` or `bounded`: it asks to verify, or a value of it is at fault
+-- a line of `verify`, `bounded` or `lumped`: it asks to verify, or a value of it is at fault
 abbrev pub IsOfVerify : Result JobData Field → Type 0
 IsOfVerify (Ok (JobData.verify j)) = ⊤
 IsOfVerify (Err field.Goal) = ⊤
@@ -46,7 +46,7 @@ IsOfVerify (Err field.Precision) = ⊤
 IsOfVerify (Err field.Steps) = ⊤
 IsOfVerify _ = ⊥
 
--- The answer to a line: the job that it asks for, or its part at fault. Want of memory comes only where it is a plain line of `verify` or `bounded`.
+-- The answer to a line: the job that it asks for, or its part at fault. Want of memory comes only where it is a plain line of `verify`, `bounded` or `lumped`.
 abbrev pub Asks : Result JobData Field → Result Job WordsError → Type 0
 Asks asked (Ok j) = asked ≡ Ok (job_data j)
 Asks asked (Err (error.Usage f)) = asked ≡ Err f

@@ -1,16 +1,18 @@
 -- What a command line asks for.
-use Rattle.std.specs.Prelude.{ℕ, List, [], codes, drop, Option, Some, None, Result, Ok, Err, if◌then◌else◌, option_and_then}
+use Rattle.std.specs.Prelude.{ℕ, Bool, List, [], codes, drop, Option, Some, None, Result, Ok, Err, if◌then◌else◌, option_and_then}
 use Rattle.std.specs.Option.{ok_or, unwrap_or}
 use Rattle.lift_grid.specs.Rectangle.{most_halvings}
 use Rattle.lift_grid.specs.Region.{◌>>=◌}
 use Rattle.corner_lift.specs.Case.{most_precision}
 use Rattle.lift_cert.specs.declared.bound.Bound.{Bound}
-use Rattle.plift_words.specs.Line.{is_asking, is_check, word_behind, options, value_of}
+use Rattle.plift_words.specs.Line.{is_lumped, is_asking, is_check, word_behind, options, value_of}
 use Rattle.plift_words.specs.Values.{goal_of, bound_of, option_number, steps_of, blocks_of}
 use Rattle.plift_words.specs.declared.job.Field.{Field}
 use Rattle.plift_words.specs.declared.job.Field.TheVariants as field
+use Rattle.plift_words.specs.declared.way.Way.{Way}
+use Rattle.plift_words.specs.declared.way.Way.TheVariants as way
 
--- What is to be verified: a goal label and a bound on reaching it, over a region, to a depth of splits and with numbers over 2 ^ precision. The bound is on any number of steps, or on as many as are told.
+-- What is to be verified: a goal label and a bound on reaching it, over a region, to a depth of splits and with numbers over 2 ^ precision; and what the bound is asked on.
 pub record VerifyData : Type 0 where
   pub goal : List ℕ
   pub bound : Bound
@@ -18,7 +20,7 @@ pub record VerifyData : Type 0 where
   pub region : List ℕ
   pub depth : ℕ
   pub precision : ℕ
-  pub steps : Option ℕ
+  pub way : Way
 
 -- what a line asks for: a command, with what it is asked
 pub data JobData : Type 0 where
@@ -30,20 +32,20 @@ pub data JobData : Type 0 where
   -- the ladder of so many blocks is to be verified, and its report checked
   selftest : ℕ → JobData
 
--- the number of steps, where its option stands there
-abbrev pub steps_in : Option (List ℕ) → Result (Option ℕ) Field
-steps_in None = Ok None
-steps_in (Some word) = ok_or (steps_of word) field.Steps >>= λ steps. Ok (Some steps)
+-- What a bound is asked on: within a number of steps where their option stands there, and else by whether it asks to lump.
+abbrev pub way_in : Bool → Option (List ℕ) → Result Way Field
+way_in lumps None = Ok (if lumps then way.Lumped else way.Whole)
+way_in lumps (Some word) = ok_or (steps_of word) field.Steps >>= λ steps. Ok (way.Within steps)
 
--- The job of a line of `verify` or `bounded`, by the words behind its options, or the first of goal, bound, depth, precision and steps that is out of its grammar or range. Without its option the region's text is empty, the depth is 0, and the precision is 24. No text of a region is at fault here.
-abbrev pub verify_job : (List ℕ → Option (List ℕ)) → Result JobData Field
-verify_job given = do
+-- The job of a line of `verify`, `bounded` or `lumped`, by whether it asks to lump and the words behind its options, or the first of goal, bound, depth, precision and steps that is out of its grammar or range. Without its option the region's text is empty, the depth is 0, and the precision is 24. No text of a region is at fault here.
+abbrev pub verify_job : Bool → (List ℕ → Option (List ℕ)) → Result JobData Field
+verify_job lumps given = do
   goal ← ok_or (option_and_then goal_of (given (codes "--goal"))) field.Goal
   bound ← ok_or (option_and_then bound_of (given (codes "--bound"))) field.Bound
   depth ← ok_or (option_number 0 most_halvings (unwrap_or (given (codes "--depth")) (codes "0"))) field.Depth
   precision ← ok_or (option_number 1 most_precision (unwrap_or (given (codes "--precision")) (codes "24"))) field.Precision
-  steps ← steps_in (given (codes "--steps"))
-  Ok (JobData.verify (record { goal = goal; bound = bound; region = unwrap_or (given (codes "--region")) []; depth = depth; precision = precision; steps = steps }))
+  asked_on ← way_in lumps (given (codes "--steps"))
+  Ok (JobData.verify (record { goal = goal; bound = bound; region = unwrap_or (given (codes "--region")) []; depth = depth; precision = precision; way = asked_on }))
 
 -- the job of a number of blocks, or that it is at fault
 abbrev pub blocks_job : (ℕ → JobData) → List ℕ → Result JobData Field
@@ -58,4 +60,4 @@ other_job words = if is_check words then Ok JobData.check else (elim (word_behin
 
 -- the job that a line asks for, or the part of the line at fault: the whole of it exactly where it isn't plain
 abbrev pub job : List (List ℕ) → Result JobData Field
-job words = if is_asking words then verify_job (λ name. value_of name (options (drop 1 words))) else other_job words
+job words = if is_asking words then verify_job (is_lumped words) (λ name. value_of name (options (drop 1 words))) else other_job words

@@ -1,5 +1,6 @@
 pub mod Line
 pub mod Values
+pub mod Way
 pub mod Job
 pub mod Laws
 pub mod Parser

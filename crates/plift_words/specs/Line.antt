@@ -36,7 +36,7 @@ stands name settings = list_any (λ s. bytes_eq s.name name) settings
 abbrev pub value_of : List ℕ → List Setting → Option (List ℕ)
 value_of name settings = option_and_then (λ s. s.value) (find (λ s. bytes_eq s.name name) settings)
 
--- the names of the options of `verify` and `bounded`
+-- the names of the options of `verify`, `bounded` and `lumped`
 abbrev pub is_option : List ℕ → Bool
 is_option name = list_any (bytes_eq name) (codes "--goal" ∷ codes "--bound" ∷ codes "--region" ∷ codes "--depth" ∷ codes "--precision" ∷ codes "--steps" ∷ [])
 
@@ -56,19 +56,27 @@ are_asked settings = are_options settings && stands (codes "--goal") settings &&
 
 -- ---- plain lines, by their commands
 
--- the command `verify`, and behind it its options in any order, the goal and the bound among them, and no number of steps
+-- this command, and behind it its options in any order, the goal and the bound among them, and no number of steps
+abbrev pub is_unlimited : List ℕ → List (List ℕ) → Bool
+is_unlimited name [] = false
+is_unlimited name (command ∷ words) = bytes_eq command name && are_asked (options words) && not (stands (codes "--steps") (options words))
+
+-- the command `verify` and its options
 abbrev pub is_verify : List (List ℕ) → Bool
-is_verify [] = false
-is_verify (command ∷ words) = bytes_eq command (codes "verify") && are_asked (options words) && not (stands (codes "--steps") (options words))
+is_verify words = is_unlimited (codes "verify") words
 
 -- the command `bounded`, and behind it the same options and a number of steps
 abbrev pub is_bounded : List (List ℕ) → Bool
 is_bounded [] = false
 is_bounded (command ∷ words) = bytes_eq command (codes "bounded") && are_asked (options words) && stands (codes "--steps") (options words)
 
--- one of these two
+-- the command `lumped`, and behind it the options of `verify`
+abbrev pub is_lumped : List (List ℕ) → Bool
+is_lumped words = is_unlimited (codes "lumped") words
+
+-- one of these three
 abbrev pub is_asking : List (List ℕ) → Bool
-is_asking words = is_verify words || is_bounded words
+is_asking words = is_verify words || is_bounded words || is_lumped words
 
 -- the command `check`, and nothing behind it
 abbrev pub is_check : List (List ℕ) → Bool
@@ -80,6 +88,6 @@ abbrev pub word_behind : List ℕ → List (List ℕ) → Option (List ℕ)
 word_behind name (command ∷ word ∷ []) = if bytes_eq command name && is_value (Some word) then Some word else None
 word_behind name _ = None
 
--- a plain line: one of the five commands, and what stands behind it
+-- a plain line: one of the six commands, and what stands behind it
 abbrev pub is_plain : List (List ℕ) → Bool
 is_plain words = is_asking words || is_check words || is_some (word_behind (codes "generate") words) || is_some (word_behind (codes "selftest") words)

@@ -9,7 +9,7 @@ use Rattle.plift_words.specs.Line.{Setting, value_of}
 abbrev pub option : Text → Bool → Rule
 option name required = record (new_rule name) { long = Some name; action = Some Set; required = required }
 
--- the options of `verify` and `bounded`
+-- the options of `verify`, `bounded` and `lumped`
 unfoldable pub verify_app : App
 verify_app =
     let goal = with_rule (new_app (codes "verify")) (option (codes "goal") true) in

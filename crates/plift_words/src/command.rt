@@ -1,18 +1,21 @@
 // Reads the command line.
 ghost use Rattle.std.specs.Prelude.{◌≡◌, ◌≤◌, codes, drop, [], map, true, option_and_then};
-ghost use Rattle.std.specs.Prelude.{string_bytes, IfOk, IfSome};
+ghost use Rattle.std.specs.Prelude.{string_bytes, IfOk, IfSome, if◌then◌else◌};
+ghost use Rattle.plift_words.specs.declared.way.Way.TheVariants.{Lumped, Whole};
 ghost use Rattle.std.specs.Option.{option_map, unwrap_or};
 ghost use Rattle.clap.specs.Words.{found_of, first_value};
-ghost use Rattle.plift_words.specs.Line.{is_asking};
+ghost use Rattle.plift_words.specs.Line.{is_lumped, is_asking};
 ghost use Rattle.plift_words.specs.Values.{goal_of, bound_of, option_number, most_steps, blocks_of};
-ghost use Rattle.plift_words.specs.Job.{steps_in, verify_job, other_job};
+ghost use Rattle.plift_words.specs.Job.{way_in, verify_job, other_job};
+ghost use Rattle.plift_words.specs.Way.{IfWithin};
 ghost use Rattle.plift_words.specs.Given.{answer_data, asked, Asks};
 
 use crate::error::WordsError;
 use crate::job::{Field, Job, VerifyJob};
-use crate::line::{is_asking, is_check, word_behind};
+use crate::line::{is_asking, is_check, is_lumped, word_behind};
 use crate::parser::parse;
 use crate::values::{bound_of, goal_of, ladder_of, option_number, steps_of};
+use crate::way::Way;
 use clap::ArgMatches;
 use lift_cert::Bound;
 use std::alloc::Global;
@@ -61,20 +64,27 @@ fn number_in(matches: &ArgMatches<'_>, id: &str, default: &str, low: u32, high: 
     option_number(matches.get_str(id).unwrap_or(default), low, high)
 }
 
-// Within how many steps, where its option stands there.
-fn steps_in(matches: &ArgMatches<'_>) -> Result<Option<u32>, Field>
-    ensures value { result ≡ steps_in (first_value (found_of matches.now) (codes "steps")) }
-    ensures range { IfOk result (λ steps. IfSome steps (λ h. (1 ≤ h) × (h ≤ most_steps))) }
+// What a bound on any number of steps is asked on.
+fn unlimited(lumps: bool) -> Way
+    ensures { result ≡ if lumps then Lumped else Whole }
+{
+    if lumps { Way::Lumped } else { Way::Whole }
+}
+
+// What the bound is asked on: within how many steps, where their option stands there.
+fn way_in(matches: &ArgMatches<'_>, lumps: bool) -> Result<Way, Field>
+    ensures value { result ≡ way_in lumps (first_value (found_of matches.now) (codes "steps")) }
+    ensures range { IfOk result (IfWithin (λ h. (1 ≤ h) × (h ≤ most_steps))) }
 {
     match matches.get_str("steps") {
-        Some(word) => Ok(Some(steps_of(word).ok_or(Field::Steps)?)),
-        None => Ok(None),
+        Some(word) => Ok(Way::Within(steps_of(word).ok_or(Field::Steps)?)),
+        None => Ok(unlimited(lumps)),
     }
 }
 
 // The parser finds a value by its option's name without the dashes.
-fn job_in<'a>(matches: &ArgMatches<'a>) -> Result<Job<'a>, Field>
-    ensures { answer_data result ≡ verify_job (λ name. first_value (found_of matches.now) (drop 2 name)) }
+fn job_in<'a>(matches: &ArgMatches<'a>, lumps: bool) -> Result<Job<'a>, Field>
+    ensures { answer_data result ≡ verify_job lumps (λ name. first_value (found_of matches.now) (drop 2 name)) }
 {
     let goal = goal_in(matches).ok_or(Field::Goal)?;
     let bound = bound_in(matches).ok_or(Field::Bound)?;
@@ -83,18 +93,18 @@ fn job_in<'a>(matches: &ArgMatches<'a>) -> Result<Job<'a>, Field>
     let precision = number_in(matches, "precision", DEFAULT_PRECISION, 1, MOST_PRECISION).ok_or(
         Field::Precision,
     )?;
-    let steps = steps_in(matches)?;
+    let way = way_in(matches, lumps)?;
     Ok(Job::Verify(VerifyJob {
         goal,
         bound,
         region,
         depth,
         precision,
-        steps,
+        way,
     }))
 }
 
-// What a plain line of `verify` or `bounded` asks for.
+// What a plain line of `verify`, `bounded` or `lumped` asks for.
 fn verify_job(alloc: Global, words: &[String]) -> Result<Job<'_>, WordsError>
     requires { is_asking (map string_bytes words.now) ≡ true }
     ensures { Asks (asked words.entry.now) result }
@@ -103,7 +113,7 @@ fn verify_job(alloc: Global, words: &[String]) -> Result<Job<'_>, WordsError>
     let Ok(matches) = parse(alloc, words) else {
         return Err(WordsError::Memory);
     };
-    match job_in(&matches) {
+    match job_in(&matches, is_lumped(words)) {
         Ok(job) => Ok(job),
         Err(field) => Err(WordsError::Usage(field)),
     }
@@ -126,7 +136,7 @@ fn other_job(words: &[String]) -> Result<Job<'static>, Field>
 }
 
 /// What the words after the program's name ask for. `Usage` with the part of them that is at fault,
-/// or `Memory`, which comes only where the line is a plain one of `verify` or `bounded`.
+/// or `Memory`, which comes only where the line is a plain one of `verify`, `bounded` or `lumped`.
 pub fn job_of(alloc: Global, words: &[String]) -> Result<Job<'_>, WordsError>
     ensures { Asks (asked words.entry.now) result }
 {

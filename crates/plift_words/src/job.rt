@@ -1,10 +1,11 @@
 // A job, and the parts of the command line that ask for it.
 ghost use Rattle.std.specs.Prelude.{◌≤◌};
-ghost use Rattle.std.specs.Option.{ForSome};
 ghost use Rattle.lift_grid.specs.Rectangle.{most_halvings};
 ghost use Rattle.corner_lift.specs.Case.{most_precision};
 ghost use Rattle.plift_words.specs.Values.{most_steps};
+ghost use Rattle.plift_words.specs.Way.{IfWithin};
 
+use crate::way::Way;
 use lift_cert::Bound;
 use model_gen::Ladder;
 
@@ -33,16 +34,16 @@ pub struct VerifyJob<'a> {
     pub depth: u32,
     /// A certificate's numbers are over 2^precision, from 1 to 40.
     pub precision: u32,
-    /// Within how many steps, from 1 to 64; any number where none is told.
-    pub steps: Option<u32>,
+    /// What the bound is asked on; a number of steps is from 1 to 64.
+    pub way: Way,
     ghost in_range: { (depth ≤ most_halvings) × (1 ≤ precision) × (precision ≤ most_precision) },
-    ghost steps_in_range: { ForSome steps (λ h. (1 ≤ h) × (h ≤ most_steps)) },
+    ghost steps_in_range: { IfWithin (λ h. (1 ≤ h) × (h ≤ most_steps)) way },
 }
 
 /// What the words ask for: a command, with what it is asked.
 #[derive(Clone, Copy)]
 pub enum Job<'a> {
-    /// `verify`, and `bounded` where a number of steps is told.
+    /// `verify`, `bounded` or `lumped`.
     Verify(VerifyJob<'a>),
     /// Checks a report.
     Check,

@@ -9,8 +9,10 @@ mod laws;
 mod line;
 mod parser;
 mod values;
+mod way;
 
 pub use command::job_of;
 pub use error::WordsError;
 pub use job::{Field, Job, VerifyJob};
 pub use laws::plain_lines_ask;
+pub use way::Way;

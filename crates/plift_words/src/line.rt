@@ -6,7 +6,8 @@ ghost use Rattle.lift_bytes.specs.Bytes.{code};
 ghost use Rattle.lift_frac.specs.Written.{cut_at};
 ghost use Rattle.plift_words.specs.Line.{attached, options, stands};
 ghost use Rattle.plift_words.specs.Line.{is_option, is_value, are_options, are_asked};
-ghost use Rattle.plift_words.specs.Line.{is_verify, is_bounded, is_asking, is_check, word_behind};
+ghost use Rattle.plift_words.specs.Line.{is_unlimited, is_bounded, is_lumped, is_asking, is_check};
+ghost use Rattle.plift_words.specs.Line.{word_behind};
 ghost use Rattle.plift_words.specs.Given.{setting_of};
 
 use lift_frac::cut_at;
@@ -129,13 +130,14 @@ fn are_asked(words: &[String]) -> bool
     are_options(words) && stands("--goal", words) && stands("--bound", words)
 }
 
-fn is_verify(words: &[String]) -> bool
-    ensures { result ≡ is_verify (map string_bytes words.now) }
+// Whether the line is this command, and behind it its options, without a number of steps.
+fn is_unlimited(name: &str, words: &[String]) -> bool
+    ensures { result ≡ is_unlimited name.now (map string_bytes words.now) }
 {
     let [command, options @ ..] = words else {
         return false;
     };
-    command.as_str() == "verify" && are_asked(options) && !stands("--steps", options)
+    command.as_str() == name && are_asked(options) && !stands("--steps", options)
 }
 
 fn is_bounded(words: &[String]) -> bool
@@ -147,12 +149,19 @@ fn is_bounded(words: &[String]) -> bool
     command.as_str() == "bounded" && are_asked(options) && stands("--steps", options)
 }
 
-/// Whether the line is the command `verify` or `bounded`, and behind it its options with their values, in any
-/// order and each at most once. Takes no memory.
+/// Whether the line is the command `lumped`, and behind it the options of `verify`.
+pub fn is_lumped(words: &[String]) -> bool
+    ensures { result ≡ is_lumped (map string_bytes words.now) }
+{
+    is_unlimited("lumped", words)
+}
+
+/// Whether the line is the command `verify`, `bounded` or `lumped`, and behind it its options with their values, in
+/// any order and each at most once. Takes no memory.
 pub fn is_asking(words: &[String]) -> bool
     ensures { result ≡ is_asking (map string_bytes words.now) }
 {
-    is_verify(words) || is_bounded(words)
+    is_unlimited("verify", words) || is_bounded(words) || is_lumped(words)
 }
 
 /// Whether the line is the command `check`, and nothing behind it.

@@ -1,4 +1,4 @@
-// Reads the options of a line of `verify` or `bounded` by the parser of command lines.
+// Reads the options of a line of `verify`, `bounded` or `lumped` by the parser of command lines.
 ghost use Rattle.std.specs.Prelude.{◌≡◌, IfOk, IfErr, true, map, drop, string_bytes};
 ghost use Rattle.clap.specs.Words.{app_of, with_rule, found_of, kind_of};
 ghost use Rattle.plift_words.specs.Line.{is_asking, options};
@@ -37,7 +37,7 @@ fn verify_command<'a>(alloc: Global) -> Result<Command<'a>, AllocError>
     with_option(alloc, command, "steps", false)
 }
 
-/// The values of the options of a plain line of `verify` or `bounded`. Fails for want of memory alone: such a
+/// The values of the options of a plain line of `verify`, `bounded` or `lumped`. Fails for want of memory alone: such a
 /// line is one that the parser takes.
 pub fn parse<'a>(alloc: Global, words: &'a [String]) -> Result<ArgMatches<'a>, Error>
     requires { is_asking (map string_bytes words.now) ≡ true }

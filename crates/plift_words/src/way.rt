@@ -1,0 +1,10 @@
+/// What a bound is asked on.
+#[derive(Clone, Copy)]
+pub enum Way {
+    /// The model, on any number of steps.
+    Whole,
+    /// The model, within so many steps.
+    Within(u32),
+    /// A chain, by its quotient, on any number of steps.
+    Lumped,
+}
