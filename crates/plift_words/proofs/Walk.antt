@@ -475,12 +475,12 @@ between : (named rest : Bool) (words : List Text) → (named && are_asked (optio
 between named rest words e = asked_line words (both named _ (both (named && are_asked (options words)) rest e).0).1
 
 plain_line : (command : Text) (words : List Text) → is_asking (command ∷ words) ≡ true → PlainLine words
-plain_line command words e = elim (either (is_verify (command ∷ words)) (is_bounded (command ∷ words) || is_lumped (command ∷ words)) e) [
-  | inl v ↦ between (bytes_eq command (codes "verify")) (not (stands (codes "--steps") (options words))) words v
-  | inr o ↦ elim (either (is_bounded (command ∷ words)) (is_lumped (command ∷ words)) o) [
-    | inl b ↦ between (bytes_eq command (codes "bounded")) (stands (codes "--steps") (options words)) words b
-    | inr l ↦ between (bytes_eq command (codes "lumped")) (not (stands (codes "--steps") (options words))) words l
+plain_line command words e = elim (either (is_verify (command ∷ words) || is_bounded (command ∷ words)) (is_lumped (command ∷ words)) e) [
+  | inl o ↦ elim (either (is_verify (command ∷ words)) (is_bounded (command ∷ words)) o) [
+    | inl v ↦ between (bytes_eq command (codes "verify")) (not (stands (codes "--steps") (options words))) words v
+    | inr b ↦ between (bytes_eq command (codes "bounded")) (stands (codes "--steps") (options words)) words b
   ]
+  | inr l ↦ between (bytes_eq command (codes "lumped")) (not (stands (codes "--steps") (options words))) words l
 ]
 
 -- the parser takes the words, and what it finds in them

@@ -60,9 +60,9 @@ pub verify_lines : (words : List (List ℕ)) → is_asking words ≡ true → Is
 verify_lines words e = of_first (is_asking words) (verified words) (other_job words) e (of_verified words)
 
 -- the values that the parser found on a plain line make its job
-pub found_job : (words : List (List ℕ)) (found : Found) → is_asking words ≡ true → HasValues found (options (drop 1 words)) → job words ≡ verify_job (is_lumped words) (λ name. first_value found (drop 2 name))
-found_job [] found e h = absurd (cc)
-found_job (command ∷ words) found e h = rw (e, h.goal, h.bound, h.region, h.depth, h.precision, h.steps) refl
+pub found_job : (words : List (List ℕ)) (found : Found) (lumps : Bool) → lumps ≡ is_lumped words → is_asking words ≡ true → HasValues found (options (drop 1 words)) → job words ≡ verify_job lumps (λ name. first_value found (drop 2 name))
+found_job [] found lumps is e h = absurd (cc)
+found_job (command ∷ words) found lumps is e h = rw (is, e, h.goal, h.bound, h.region, h.depth, h.precision, h.steps) refl
 
 -- ---- lines of the other commands
 

@@ -1,9 +1,9 @@
 -- What a bound is asked on.
-use Rattle.std.specs.Prelude.{ℕ, ⊤}
+use Rattle.std.specs.Prelude.{ℕ, Option, Some, None}
 use Rattle.plift_words.specs.declared.way.Way.{Way}
 use Rattle.plift_words.specs.declared.way.Way.TheVariants as way
 
--- where a number of steps is told, P holds of it
-abbrev pub IfWithin : (ℕ → Type 0) → Way → Type 0
-IfWithin P (way.Within h) = P h
-IfWithin P _ = ⊤
+-- the number of steps, where one is told
+abbrev pub steps_told : Way → Option ℕ
+steps_told (way.Within h) = Some h
+steps_told _ = None

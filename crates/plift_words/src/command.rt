@@ -7,7 +7,7 @@ ghost use Rattle.clap.specs.Words.{found_of, first_value};
 ghost use Rattle.plift_words.specs.Line.{is_lumped, is_asking};
 ghost use Rattle.plift_words.specs.Values.{goal_of, bound_of, option_number, most_steps, blocks_of};
 ghost use Rattle.plift_words.specs.Job.{way_in, verify_job, other_job};
-ghost use Rattle.plift_words.specs.Way.{IfWithin};
+ghost use Rattle.plift_words.specs.Way.{steps_told};
 ghost use Rattle.plift_words.specs.Given.{answer_data, asked, Asks};
 
 use crate::error::WordsError;
@@ -74,7 +74,7 @@ fn unlimited(lumps: bool) -> Way
 // What the bound is asked on: within how many steps, where their option stands there.
 fn way_in(matches: &ArgMatches<'_>, lumps: bool) -> Result<Way, Field>
     ensures value { result ≡ way_in lumps (first_value (found_of matches.now) (codes "steps")) }
-    ensures range { IfOk result (IfWithin (λ h. (1 ≤ h) × (h ≤ most_steps))) }
+    ensures range { IfOk result (λ way. IfSome (steps_told way) (λ h. (1 ≤ h) × (h ≤ most_steps))) }
 {
     match matches.get_str("steps") {
         Some(word) => Ok(Way::Within(steps_of(word).ok_or(Field::Steps)?)),

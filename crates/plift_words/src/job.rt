@@ -1,9 +1,10 @@
 // A job, and the parts of the command line that ask for it.
 ghost use Rattle.std.specs.Prelude.{◌≤◌};
+ghost use Rattle.std.specs.Option.{ForSome};
 ghost use Rattle.lift_grid.specs.Rectangle.{most_halvings};
 ghost use Rattle.corner_lift.specs.Case.{most_precision};
 ghost use Rattle.plift_words.specs.Values.{most_steps};
-ghost use Rattle.plift_words.specs.Way.{IfWithin};
+ghost use Rattle.plift_words.specs.Way.{steps_told};
 
 use crate::way::Way;
 use lift_cert::Bound;
@@ -37,7 +38,7 @@ pub struct VerifyJob<'a> {
     /// What the bound is asked on; a number of steps is from 1 to 64.
     pub way: Way,
     ghost in_range: { (depth ≤ most_halvings) × (1 ≤ precision) × (precision ≤ most_precision) },
-    ghost steps_in_range: { IfWithin (λ h. (1 ≤ h) × (h ≤ most_steps)) way },
+    ghost steps_in_range: { ForSome (steps_told way) (λ h. (1 ≤ h) × (h ≤ most_steps)) },
 }
 
 /// What the words ask for: a command, with what it is asked.
