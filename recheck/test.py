@@ -1,9 +1,10 @@
 #!/usr/bin/env python3
-"""Tests of recheck.py:  python3 recheck/test.py [--program PATH] [--changes N] [REPORT ..]
+"""Tests of recheck.py and lumped.py:  python3 recheck/test.py [--program PATH] [--changes N] [REPORT ..]
 
 Examples, reports with changes whose answers were worked out by hand, every proper prefix of a report. The `check` of a
 built plift is asked the same, and about N reports with random changes (1000 if left out) of the examples and of the
-reports that are named; both have to say the same, byte for byte. PATH is that plift; without it the proved program is
+reports that are named; both have to say the same, byte for byte. What `lumped` writes of examples and of random chains has
+to be the quotient that lumped.py computes. PATH is that plift; without it the proved program is
 asked where it is built, else the copy of `./plift --quick`, and where neither is, recheck.py alone.
 """
 from __future__ import annotations
@@ -28,6 +29,23 @@ EXAMPLES = {path.stem.upper(): path.read_bytes() for path in sorted((HERE.parent
 # A coin that falls on heads with probability p, which is from 1/10 to 2/5: not more often than 1/2.
 LOW = b'''plift 1;kind dtmc;parameters 1 p;common 1;states 3;init 0;goal 1 1;row 0 0 2;to 1 1:1;to 2 0:1 1:-1;row 1 0 1;
 to 1 0:1;row 2 0 1;to 2 0:1;bound 1/2;precision 4;depth 0;grid 10;box 1 4;accept 7 16 0;'''.replace(b'\n', b'').replace(b';', b'\n')
+
+# The quotient of examples/die.drn for the goal one.
+DIE = b'''plift 1;kind dtmc;parameters 1 p;common 1;states 5;init 0;goal 1 4;row 0 0 2;to 1 1:1;to 2 0:1 1:-1;row 1 0 2;to 2 0:1 1:-1;
+to 3 1:1;row 2 0 1;to 2 0:1;row 3 0 2;to 1 1:1;to 4 0:1 1:-1;row 4 0 1;to 4 0:1;bound 1/3;precision 4;depth 0;grid 5;box 2 3;
+accept 5 8 0 13 16;'''.replace(b'\n', b'').replace(b';', b'\n')
+
+# Each row: a part of that report, what stands in its place, and what lumped.py tells.
+DIE_CHANGES = '''
+states 5 | states 6 | line 5: states 6, not states 5
+init 0 | init 1 | line 6: init 1, not init 0
+goal 1 4 | goal 1 3 | line 7: goal 1 3, not goal 1 4
+common 1 | common 2 | line 4: common 2, not common 1
+to 1 1:1;to 2 0:1 1:-1 | to 2 0:1 1:-1;to 1 1:1 | line 9: to 2 0:1 1:-1, not to 1 1:1
+row 3 0 2;to 1 1:1;to 4 0:1 1:-1 | row 3 0 2;to 1 1:1;to 4 0:1 1:-2 | line 18: to 4 0:1 1:-2, not to 4 0:1 1:-1
+row 4 0 1;to 4 0:1; |  | line 19: nothing, not row 4 0 1
+to 4 0:1;bound | to 4 0:1;row 5 0 0;bound | line 21: row 5 0 0, not nothing
+'''
 
 # One that is tossed again where it doesn't fall on heads. No number bounds it from below where p may be 0.
 BACK = b'''plift 1;kind dtmc;parameters 1 p;common 1;states 2;init 0;goal 1 1;row 0 0 2;to 1 1:1;to 0 0:1 1:-1;row 1 0 1;
@@ -542,6 +560,56 @@ def compare_mutants(tests: Comparison, paths: list[str], count: int) -> None:
             print(f'kept as {kept.name}')
 
 
+def quotient_told(path: Path, text: bytes, *label: str) -> Answer:
+    """How lumped.py ends on a model and a report."""
+    return asked([sys.executable, str(HERE / 'lumped.py'), str(path), *label], text)
+
+
+def compare_quotients(tests: Comparison) -> None:
+    """A report of a quotient with changes: lumped.py sees each."""
+    die = HERE.parent / 'examples/die.drn'
+    told = b'the quotient of 13 states has 5, for the goal one\n'
+    wanted = [(DIE, (), Answer(0, told, b'')), (DIE, ('one',), Answer(0, told, b''))]
+    wanted.append((DIE, ('two',), Answer(1, b'', b'not the quotient\ntwo: line 12: to 2 0:1 1:-1, not to 0 1:1\n')))
+    for row in filter(None, DIE_CHANGES.split('\n')):
+        old, new, said = row.split(' | ')
+        text = DIE.replace(old.replace(';', '\n').encode(), new.replace(';', '\n').encode(), 1)
+        wanted.append((text, ('one',), Answer(1, b'', b'not the quotient\none: ' + said.encode() + b'\n')))
+    for text, label, want in wanted:
+        got = quotient_told(die, text, *label)
+        tests.count += 1
+        if got != want:
+            tests.wrong += 1
+            print(f'lumped.py: {got}, and not {want}')
+
+
+def random_chain(dice: random.Random) -> bytes:
+    """A chain of a few states, of which many behave alike. Rows are 1-p and p, or halves of these, or sure."""
+    count = dice.randrange(3, 12)
+    rows = []
+    for s in range(count):
+        values = dice.choice([['1'], ['p', '1-p'], ['q', '1-q'], ['1/2*p', '1/2*p', '1-p'], ['p', '1/2-1/2*p', '1/2-1/2*p'], ['1/2', '0', '1/2']])
+        targets = dice.sample(range(count), len(values))
+        rows += [f'state {s}' + ' init' * (s == 0) + ' goal' * (s == count - 1 or dice.random() < .2)]
+        rows += [f'{target} : {text}' for target, text in zip(targets, values)]
+    return '\n'.join(['@type: DTMC', '@parameters', 'p q', '@model', *rows, '']).encode()
+
+
+def compare_chains(tests: Comparison, count: int) -> None:
+    """What plift writes of chains is the quotient that lumped.py computes, and a sound report."""
+    dice = random.Random(1)
+    with tempfile.NamedTemporaryFile(suffix='.drn') as file:
+        for number in range(count):
+            Path(file.name).write_bytes(random_chain(dice))
+            words = ['lumped', '--goal', 'goal', '--bound', '1/2', '--precision', '6', '--depth', '1', '--region', '1/10<=p<=2/5,1/5<=q<=1/2']
+            report = asked([str(tests.plift), *words], Path(file.name).read_bytes())
+            got = quotient_told(Path(file.name), report.out, 'goal')
+            tests.count += 1
+            if report.status or got.status or not rechecked(report.out).out.startswith(b'sound '):
+                tests.wrong += 1
+                print(f'chain {number}: {report.notes!r}, {got}')
+
+
 def main() -> int:
     words = argparse.ArgumentParser(description='Tests of recheck.py.')
     words.add_argument('--program', '--bin', metavar='PATH', help='a built plift')
@@ -561,7 +629,10 @@ def main() -> int:
     alone = compare_steps()
     print(f'{alone.count} for a number of steps, and their prefixes')
     tests.wrong += alone.wrong
+    compare_quotients(tests)
     if plift:
+        compare_chains(tests, 40)
+        print(f'{tests.count} with quotients of chains')
         compare_mutants(tests, given.reports, given.changes)
         print(f'{tests.count} with random changes')
     print(f'{tests.wrong} wrong')

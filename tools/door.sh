@@ -46,7 +46,7 @@ answer() {
 is_command() {
     [ "$name" = plift ] || return 1
     case $1 in
-    verify | bounded | check | generate | selftest) ;;
+    verify | bounded | lumped | check | generate | selftest) ;;
     *) return 1 ;;
     esac
 }
@@ -65,7 +65,8 @@ refuse_plain_faults() {
 # Says what is waited for where standard input is a terminal. A line without a goal and a bound is refused at once.
 announce_input() {
     case "$name $*" in
-    'plift verify '*--goal*--bound* | 'plift verify '*--bound*--goal* | 'plift bounded '*--goal*)
+    'plift verify '*--goal*--bound* | 'plift verify '*--bound*--goal* | 'plift bounded '*--goal* | \
+        'plift lumped '*--goal*--bound* | 'plift lumped '*--bound*--goal*)
         say 'reading the model from standard input; give a file by < model.drn'
         ;;
     'plift check' | plift-view*)

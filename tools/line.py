@@ -39,7 +39,7 @@ class Grammar(NamedTuple):
 
 VERIFY = Grammar(VALUED, needed=("--goal", "--bound"))
 BOUNDED = Grammar(STEPPED, needed=("--goal", "--bound", "--steps"))
-ASKING = {"verify": VERIFY, "bounded": BOUNDED}
+ASKING = {"verify": VERIFY, "bounded": BOUNDED, "lumped": VERIFY}
 VIEW = Grammar(VIEWED, flags=FLAGS, often=("--at",), takes_empty=True)
 # How many words stand behind a command that has no options.
 COUNTS = {"check": 0, "generate": 1, "selftest": 1}
@@ -90,7 +90,7 @@ def is_bound(text: str) -> bool:
 
 
 def first_bad_value(values: Dict[str, str]) -> Optional[str]:
-    """Returns the first option of `verify` or `bounded` whose value is at fault, but for the region, which takes a model."""
+    """Returns the first option of `verify`, `bounded` or `lumped` whose value is at fault, but for the region, which takes a model."""
     goal = values["--goal"]
     if not goal or any(not " " <= letter <= "~" for letter in goal):
         return "--goal"

@@ -10,7 +10,7 @@ from common import TOP, quick_program, tool
 line = tool("line")
 
 WORDS = [
-    "verify", "bounded", "check", "generate", "selftest", "--goal", "--bound", "--region", "--depth", "--precision",
+    "verify", "bounded", "lumped", "check", "generate", "selftest", "--goal", "--bound", "--region", "--depth", "--precision",
     "--steps", "--steps=64", "--steps=65", "--steps=064", "--steps=0", "--goal=a",
     "--bound=1/2", "--bound=", "--depth=3", "--depth=21", "--precision=0", "--precision=040", "-1", "", " ", "a", "1/2",
     "3%", "1e-3", "0.5", "2", "1/4294967295", "1/4294967296", "9223372036854775808/9223372036854775809", "1e-19", "20",
@@ -37,6 +37,9 @@ PLIFT = {
     "bounded --goal a --bound 1/2 --steps 65": "usage: --steps",
     "bounded --goal a --bound 1/2 --steps 064": "usage: --steps",
     "bounded --steps 0 --goal a --bound 1/2 --precision 41": "usage: --precision",
+    "lumped --goal a": "usage: words",
+    "lumped --goal a --bound 1/2 --steps 3": "usage: words",
+    "lumped --goal a --bound 2": "usage: --bound",
     "check report": "usage: words",
     "generate": "usage: words",
     "generate 0": "usage: N",
@@ -48,6 +51,7 @@ PLIFT = {
 PLAIN = [
     "check", "generate 1", "selftest 32767", "verify --bound=1/2 --goal=a",
     "verify --goal a --bound 1/2 --region x --depth 020 --precision 1", "bounded --steps=64 --bound=1/2 --goal=a",
+    "lumped --depth 20 --bound=1/2 --goal=a",
 ]
 VIEW = {
     "x": True, "--x": True, "--x p --x q": True, "--summary --follow": True, "--summary=": True,
@@ -113,7 +117,7 @@ class AgainstTheProgram(unittest.TestCase):
 
     def test_plift(self):
         fronts = ["", "verify", "verify --goal a", "verify --goal a --bound 1/2", "verify --goal=a --bound", "generate",
-                  "bounded --goal a --bound 1/2", "bounded --goal a --bound 1/2 --steps"]
+                  "lumped --goal a --bound 1/2", "bounded --goal a --bound 1/2", "bounded --goal a --bound 1/2 --steps"]
         self.compare("plift", lambda chance: chance.choice(fronts).split(), line.plift_note)
 
     def test_view(self):

@@ -14,7 +14,7 @@ line = tool("line")
 OPTION = re.compile(r"(?<![\w-])--[a-z]+")
 # What the launchers answer themselves.
 DOOR = {"--help", "--version", "--quick"}
-COMMANDS = ["verify", "bounded", "check", "generate", "selftest"]
+COMMANDS = ["verify", "bounded", "lumped", "check", "generate", "selftest"]
 
 
 def help_of(name):
@@ -52,7 +52,7 @@ class Named(unittest.TestCase):
         for name, row in (("--depth", "`--depth`"), ("--precision", "`--precision`"), ("--steps", "`--steps`"), ("N", "the number of blocks")):
             digits, low, high = line.RANGES[name]
             self.assertIn(f"| {row} | 1 to {digits} digits, {low} to {high:,} |", values)
-        for text in (help_of("verify"), re.sub(r"\s+", " ", man_of("plift"))):
+        for text in (help_of("verify"), help_of("lumped"), re.sub(r"\s+", " ", man_of("plift"))):
             for name in ("--depth", "--precision"):
                 self.assertRegex(text, rf"{name} \S+[^-]*{line.RANGES[name][1]} to {line.RANGES[name][2]}\b")
         for text in (help_of("bounded"), re.sub(r"\s+", " ", man_of("plift"))):
@@ -62,6 +62,7 @@ class Named(unittest.TestCase):
 
     def test_help(self):
         self.assertEqual(set(OPTION.findall(help_of("verify"))), set(line.VERIFY.valued))
+        self.assertEqual(set(OPTION.findall(help_of("lumped"))), set(line.VERIFY.valued))
         self.assertEqual(set(OPTION.findall(help_of("bounded"))), set(line.BOUNDED.valued))
         view = set(OPTION.findall(help_of("plift-view"))) - set(line.VERIFY.valued)
         self.assertEqual(view, {*line.VIEW.valued, *line.VIEW.flags, *DOOR})
@@ -120,6 +121,7 @@ class Completed(unittest.TestCase):
         self.assertEqual(self.offered("plift", "--quick", ""), {*COMMANDS, *DOOR} - {"--quick"})
         self.assertEqual(self.offered("plift", "--help", "s"), {"selftest"})
         self.assertEqual(self.offered("plift", "verify", ""), {*line.VERIFY.valued, "--help"})
+        self.assertEqual(self.offered("plift", "lumped", ""), {*line.VERIFY.valued, "--help"})
         self.assertEqual(self.offered("plift", "bounded", ""), {*line.BOUNDED.valued, "--help"})
         self.assertEqual(self.offered("plift", "bounded", "--steps", "3", "--s"), set())
         left = {"--bound", "--region", "--precision", "--help"}

@@ -25,7 +25,7 @@ WORDS = [
     words("help verify", "plift --help verify"),
     words("--goal lost --bound 3/100", "the command stands first: plift verify --goal"),
     words("retry.drn", "the file behind <", "< retry.drn"),
-    words("model verify", "is no command", "verify, bounded, check, generate, selftest"),
+    words("model verify", "is no command", "verify, bounded, lumped, check, generate, selftest"),
     words("verify", "--goal LABEL is missing", "--bound B is missing"),
     words("verify --help", "help stands alone"),
     words(PLAIN + " --help", "help stands alone", "plift --help verify"),
@@ -90,6 +90,8 @@ WORDS = [
     words("bounded --goal lost --bound 3/100 --threads 4", "is no option of bounded", "--steps"),
     words("bounded --help", "plift --help bounded"),
     words(PLAIN + " --steps 3", "plift bounded"),
+    words("lumped --goal lost --bound 3/100 --steps 3 " + REGION, "plift bounded"),
+    words("lump --goal lost --bound 3/100 " + REGION, "is lumped meant?"),
     words("bounded --goal lost --bound 3/100 --horizon 3", "is --steps meant?"),
     words("bound --goal lost --bound 3/100 --steps 3 " + REGION, "is bounded meant?"),
 ]

@@ -100,7 +100,7 @@ def all_notes() -> List[Tuple[str, int, str, str]]:
     notes += [("4", 4, f"rows: state 7 choice 7: {numbered(fault)}", "plift") for fault in ROW_FAULTS]
     for program in ("plift", "plift-view"):
         notes += [("1", 1, f"not sound: {fault}", program) for fault in unsound_notes()]
-    statuses = {"read fault": 5, "write fault": 6, "too long": 7, "out of memory": 8}
+    statuses = {"lump: not a chain": 3, "lump: too wide": 4, "read fault": 5, "write fault": 6, "too long": 7, "out of memory": 8}
     for name, program in (("plift_top", "plift"), ("view_top", "plift-view")):
         found = [note for note in whole_notes(f"{name}/src/notes.rt") if not note.startswith("usage: ")]
         notes += [(str(statuses[note]), statuses[note], note, program) for note in found]
@@ -119,7 +119,7 @@ def without_front(section: str, note: str) -> str:
     """A note without the front that all notes of its section share."""
     front = next(front for front in hints.FRONTS if note.startswith(front))
     rest = note[len(front) :] if front.endswith(" ") else note
-    return rest.split(": ", 1)[-1] if section in ("3", "4") else rest
+    return rest.split(": ", 1)[-1] if front in ("model: ", "rows: ") else rest
 
 
 class Messages(unittest.TestCase):

@@ -137,7 +137,7 @@ PROPOSALS = [
     (r"^(tr .* < FILE|tail -c \+4 FILE|iconv -f UTF-16 -t UTF-8 FILE|gzip -dc FILE)", lambda g, m, _: by_command(g, m[1])),
 ]
 LEAST = 60  # proposals that are taken
-OTHERS = ("is verify meant?", "is bounded meant?")  # proposals of a command, whose words may need more
+OTHERS = ("is verify meant?", "is bounded meant?", "is lumped meant?")  # proposals of a command, whose words may need more
 
 
 class Truth(unittest.TestCase):

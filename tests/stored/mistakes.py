@@ -59,6 +59,10 @@ verify|-goal|{GOAL}|--bound|{BOUND}|--region|{REGION} | usage: words
 verify|--goal|{GOAL}|--bound|{BOUND}|--region|{REGION}|--Depth|2 | usage: words
 verfy|--goal|{GOAL}|--bound|{BOUND}|--region|{REGION} | usage: words
 verify|--goal|{GOAL}|--bound|{BOUND}|--region|{REGION}|--steps|3 | usage: words
+lumped|--goal|{GOAL}|--bound|{BOUND}|--region|{REGION} | lump: not a chain
+lumped|--goal|{GOAL}|--bound|{BOUND} | lump: not a chain
+lumped|--goal|{GOAL}|--bound|{BOUND}|--region|{REGION}|--steps|3 | usage: words
+lumped|--goal|lots|--bound|{BOUND}|--region|{REGION} | model: line 31: UnknownLabel
 bounded|--goal|{GOAL}|--bound|{BOUND}|--region|{REGION} | usage: words
 bounded|--goal|{GOAL}|--bound|{BOUND}|--region|{REGION}|--steps|100 | usage: --steps
 bounded|--goal|{GOAL}|--bound|{BOUND}|--region|{REGION}|--steps|three | usage: --steps
@@ -99,7 +103,7 @@ REPORTS = """
 
 def told(note: str) -> Answer:
     """The answer of which this is told."""
-    names = {"usage": "Usage", "model": "ModelRefused", "rows": "RowsRefused", "not sound": "NotSound"}
+    names = {"usage": "Usage", "model": "ModelRefused", "lump": "ModelRefused", "rows": "RowsRefused", "not sound": "NotSound"}
     return Answer(STATUSES.index(names[note.partition(":")[0]]), b"", note.encode() + b"\n")
 
 

@@ -12,11 +12,12 @@ from hints.told import listed, near, shown
 from hints.words import HELP, LONG_DASHES, PROPERTY, VERSION
 from hints.words import about_help, about_odd, asks_for_help, is_dashed, is_file
 
-COMMANDS = ["verify", "bounded", "check", "generate", "selftest"]
-ASKING = {"verify": VALUED, "bounded": STEPPED}
+COMMANDS = ["verify", "bounded", "lumped", "check", "generate", "selftest"]
+ASKING = {"verify": VALUED, "bounded": STEPPED, "lumped": VALUED}
 FORMS = {
     "verify": "plift verify --goal LABEL --bound B [--region R] [--depth H] [--precision W] < model.drn",
     "bounded": "plift bounded --goal LABEL --bound B --steps S [--region R] [--depth H] [--precision W] < model.drn",
+    "lumped": "plift lumped --goal LABEL --bound B [--region R] [--depth H] [--precision W] < model.drn",
     "check": "plift check < report",
     "generate": "plift generate N > model.drn",
     "selftest": "plift selftest N",
@@ -131,7 +132,7 @@ def about_twice(name: str, values: Sequence[str]) -> str:
 
 
 class Walk:
-    """Goes through the words behind `verify` or `bounded`, and finds their faults, the values of options, and the options that
+    """Goes through the words behind `verify`, `bounded` or `lumped`, and finds their faults, the values of options, and the options that
     other words most likely stand for."""
 
     def __init__(self, command: str, words: Sequence[str]):
@@ -210,7 +211,7 @@ class Walk:
 
 
 def about_asking(command: str, words: Sequence[str]) -> List[str]:
-    """What is wrong with a line of `verify` or `bounded`."""
+    """What is wrong with a line of `verify`, `bounded` or `lumped`."""
     helps = [about_help(word, "plift", command) for word in words if asks_for_help(word) and word.startswith("-")]
     if helps:
         return helps[:1]
@@ -221,7 +222,7 @@ def about_asking(command: str, words: Sequence[str]) -> List[str]:
         faults.append("--goal LABEL is missing: the label of the states to be reached")
     if "--bound" not in named:
         faults.append("--bound B is missing: the greatest probability that is allowed, as 1/2 or 0.5")
-    if command == "verify" and "--steps" in walk.values:
+    if command != "bounded" and "--steps" in walk.values:
         faults.append("--steps stands for a number of steps: that is asked by plift bounded")
     if command == "bounded" and "--steps" not in named:
         faults.append("--steps S is missing: within how many steps, from 1 to 64; plift verify asks for any number")

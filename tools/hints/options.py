@@ -13,7 +13,7 @@ FLAGS = ["--summary", "--follow"]
 
 
 def options_of(words: Sequence[str]) -> List[Setting]:
-    """The options behind `verify` or `bounded`: a word with `=` is one with its value, any other takes the next word."""
+    """The options behind `verify`, `bounded` or `lumped`: a word with `=` is one with its value, any other takes the next word."""
     settings: List[Setting] = []
     at = 0
     while at < len(words):
