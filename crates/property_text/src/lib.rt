@@ -1,0 +1,8 @@
+//! Properties: their formulas, until, and the model in which until is reach.
+#![tactic(auto)]
+
+mod cut;
+mod laws;
+
+pub use cut::restrict;
+pub use laws::until_is_reach;
