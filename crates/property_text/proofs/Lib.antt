@@ -1,3 +1,7 @@
+mod Complete
 mod Cutting
+mod Cuts
+mod Literals
 pub mod Matching
 mod Names
+mod Sound

@@ -1,3 +1,5 @@
 pub mod Until
 pub mod Restricted
+pub mod Grammar
+pub mod Reading
 pub mod Laws

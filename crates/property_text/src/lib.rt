@@ -3,6 +3,9 @@
 
 mod cut;
 mod laws;
+mod op;
+mod parts;
 
 pub use cut::restrict;
 pub use laws::until_is_reach;
+pub use op::Op;
