@@ -10,9 +10,11 @@ use Rattle.std.proofs.lemmas.Bool.Decides.{nat_tests}
 use Rattle.lift_bytes.specs.Bytes.{is_blank, first_passes, behind}
 use Rattle.lift_frac.specs.Written.{cut_at}
 use Rattle.lift_grid.specs.Region.{behind_mark}
+use Rattle.lift_cert.specs.declared.bound.Bound.{Bound}
 use Rattle.property_text.specs.declared.op.Op.{Op}
 use Rattle.property_text.specs.declared.op.Op.TheVariants.{AtMost, Below, AtLeast, Above}
 use Rattle.property_text.specs.Grammar.{Written, op_text, IsRatio, is_label_byte, IsLabel, quoted, path_parts, parts_of, Follow, Writes}
+use Rattle.property_text.specs.Formula.{bound_of, HasNoBound}
 use Rattle.property_text.specs.Reading.{op_at, label_in, label_at, Path, path_to, path_from, path_at, is_bound_byte, closed, from_bound, from_op, written_at}
 use Rattle.property_text.proofs.Cuts.{behind_front, front_is, cut_first}
 use Rattle.property_text.proofs.Literals.{each_passes, ratio_passes, ratio_starts}
@@ -150,3 +152,12 @@ complete text w h =
 -- a text writes one formula at most
 pub writes_one : (text : List ℕ) (a b : Written) → Writes text a → Writes text b → a ≡ b
 writes_one text a b u v = ap (λ o. elim o [ Some w ↦ w | None ↦ a ]) (sym (complete text a u) ∙ complete text b v)
+
+-- where a bound is given, none is missing
+pub is_bounded : (text : List ℕ) (w : Written) (bound : Bound) → Writes text w → bound_of w.bound ≡ Some bound → HasNoBound text → ⊥
+is_bounded text w bound writes some h =
+    let same = ap (λ (o : Written). bound_of o.bound) (writes_one text h.written w h.writes writes) in
+    apart (sym h.none ∙ same ∙ some)
+  where
+    apart : None ≡ Some bound → ⊥
+    apart e = cc

@@ -1,8 +1,10 @@
 -- The bytes of literals, and texts that are one literal, or one over another.
 use Prim.Native.Char.{code}
-use Rattle.std.proofs.Common.{◌≡◌, ◌==◌, ◌&&◌, ◌<◌, ◌≤◌, ℕ, Bool, true, false, not, List, [], ◌∷◌, ◌++◌, length, Option, Some, None, refl, sym, ap, ap₂, ◌∙◌, subst, arith}
+use Rattle.std.proofs.Common.{◌≡◌, ◌==◌, ◌&&◌, ◌<◌, ◌≤◌, ℕ, zero, suc, nat_lt, Bool, true, false, not, List, [], ◌∷◌, ◌++◌, length, Option, Some, None, refl, sym, ap, ap₂, ◌∙◌, subst, arith}
 use Rattle.std.specs.List.{list_all}
 use Rattle.std.specs.Char.{is_ascii_digit}
+use Rattle.std.specs.Str.{IsAscii, IsUtf8}
+use Rattle.std.proofs.lemmas.Str.{IsUtf8-from_ascii}
 use Rattle.std.proofs.lemmas.List.Folds.{list_all-append}
 use Rattle.std.proofs.lemmas.Bool.Decides.{nat_tests}
 use Rattle.lift_bytes.specs.Bytes.{is_blank, first_passes}
@@ -110,3 +112,29 @@ is_whole _ (uncut text l w) = (l, w)
 -- and else both parts are
 pub are_parts : (text above below : List ℕ) → Cut text (Some (above, below)) → ((l : Literal) × Writes above l) × ((l : Literal) × Writes below l)
 are_parts _ _ _ (at_slash text above below a b u v) = ((a, u), (b, v))
+
+-- ---- bounds are ASCII
+
+ascii : Passes (λ b. nat_lt b 128)
+ascii = record { digit = λ b e. grind (arith, nat_tests); dot = refl; small = refl; capital = refl; plus_sign = refl; minus_sign = refl }
+
+apart : (a b : Bool) → (a && b) ≡ true → (a ≡ true) × (b ≡ true)
+apart true b h = (refl, h)
+apart false b h = cc
+
+one_byte_more : (x : ℕ) (xs : List ℕ) → nat_lt x 128 ≡ true → IsAscii xs → IsAscii (x ∷ xs)
+one_byte_more x xs e more zero = grind (arith, nat_tests)
+one_byte_more x xs e more (suc i) = more i
+
+bytes_below : (xs : List ℕ) → list_all (λ b. nat_lt b 128) xs ≡ true → IsAscii xs
+bytes_below [] h = λ i. omega arith
+bytes_below (x ∷ xs) h =
+    let parts = apart (nat_lt x 128) (list_all (λ b. nat_lt b 128) xs) h in
+    one_byte_more x xs parts.0 (bytes_below xs parts.1)
+
+pub ratio_is_text : (text : List ℕ) → IsRatio text → IsUtf8 text
+ratio_is_text text is = IsUtf8-from_ascii text (bytes_below text (passes text is))
+  where
+    passes : (text : List ℕ) → IsRatio text → list_all (λ b. nat_lt b 128) text ≡ true
+    passes _ (whole text l w) = literal_passes _ ascii text l w
+    passes _ (over above below a b u v) = both (λ b. nat_lt b 128) above (code "/" ∷ below) (literal_passes _ ascii above a u) (literal_passes _ ascii below b v)

@@ -2,4 +2,5 @@ pub mod Until
 pub mod Restricted
 pub mod Grammar
 pub mod Reading
+pub mod Formula
 pub mod Laws

@@ -1,5 +1,5 @@
 ghost use Rattle.property_text.specs.Laws.{UntilIsReach, MemorylessUntilIsReach};
-ghost use Rattle.property_text.specs.Laws.{CutKeepsChoices, ReachIsUntil};
+ghost use Rattle.property_text.specs.Laws.{CutKeepsChoices, ReachIsUntil, FormulaIsOne};
 
 /// Holds the laws of until, for who reasons about them: each plan's until is what some plan that fits
 /// reaches in the model after the cut, a memoryless scheduler's is what it reaches there itself, the cut
@@ -9,4 +9,9 @@ pub fn until_is_reach()
     ensures memoryless { MemorylessUntilIsReach }
     ensures choices { CutKeepsChoices }
     ensures safe { ReachIsUntil }
+{}
+
+/// Holds the law of the grammar, for who reasons about formulas: a text writes one at most. It does nothing.
+pub fn formulas_are_one()
+    ensures { FormulaIsOne }
 {}

@@ -1,11 +1,16 @@
 //! Properties: their formulas, until, and the model in which until is reach.
 #![tactic(auto)]
 
+mod bound;
 mod cut;
+mod error;
+mod formula;
 mod laws;
 mod op;
 mod parts;
 
 pub use cut::restrict;
-pub use laws::until_is_reach;
+pub use error::FormulaError;
+pub use formula::{Formula, read_formula};
+pub use laws::{formulas_are_one, until_is_reach};
 pub use op::Op;

@@ -1,0 +1,23 @@
+use Rattle.std.proofs.Common.{rules, ◌≡◌, Some, sym, ap, ◌∙◌}
+use Rattle.property_text.specs.Grammar.{Written}
+use Rattle.property_text.specs.Formula.{bound_of}
+use Rattle.property_text.proofs.Complete.{is_bounded}
+use Rattle.property_text.proofs.formula.read_formula.Goals as goal
+
+pub returns-in_err-copied-clause-bound : goal.returns-in_err-copied-clause-bound
+returns-in_err-copied-clause-bound c = (
+  search rules,
+  λ h. absurd (is_bounded c.args.text.now c.in-Some.parts c.in-Some-bound_of.bound c.in-Some.ensures.some (search rules) h),
+)
+
+pub returns-in_err-from_slice-clause-bound : goal.returns-in_err-from_slice-clause-bound
+returns-in_err-from_slice-clause-bound c = (
+  search rules,
+  λ h. absurd (is_bounded c.args.text.now c.in-Some.parts c.in-Some-bound_of.bound c.in-Some.ensures.some (search rules) h),
+)
+
+pub returns-clause-bound : goal.returns-clause-bound
+returns-clause-bound c = (
+  search rules,
+  λ h. absurd (is_bounded c.args.text.now c.in-Some.parts c.in-Some-bound_of.bound c.in-Some.ensures.some (search rules) h),
+)
