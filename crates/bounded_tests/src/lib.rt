@@ -1,4 +1,4 @@
-//! Tests of bounded steps, the text of a tree, and of lumping, for models and regions given as texts. Texts are handed on as
+//! Tests of bounded steps, the text of a tree, of lumping and of properties, for models and regions given as texts. Texts are handed on as
 //! parameters, so that no proof computes what a text stands for.
 #![tactic(auto)]
 
@@ -6,5 +6,7 @@
 mod cases;
 #[cfg(test)]
 mod lumping;
+#[cfg(test)]
+mod properties;
 #[cfg(test)]
 mod trees;

@@ -1,6 +1,6 @@
 -- What the grammar writes is read.
 use Prim.Native.Char.{code}
-use Rattle.std.proofs.Common.{◌≡◌, ◌==◌, ◌&&◌, ◌<◌, ℕ, suc, Bool, true, false, not, cond, List, [], ◌∷◌, ◌++◌, length, take, drop, Option, Some, None, refl, sym, ap, ap₂, ◌∙◌, subst, arith, append_assoc}
+use Rattle.std.proofs.Common.{◌≡◌, ◌==◌, ◌&&◌, ℕ, suc, Bool, true, false, not, cond, List, [], ◌∷◌, ◌++◌, length, take, drop, Option, Some, None, refl, sym, ap, ap₂, ◌∙◌, arith, append_assoc}
 use Rattle.std.specs.Prelude.{codes, option_and_then, IfSome}
 use Rattle.std.specs.List.{list_all, take_while}
 use Rattle.std.specs.Option.{option_map, option_or}
@@ -13,7 +13,7 @@ use Rattle.lift_grid.specs.Region.{behind_mark}
 use Rattle.lift_cert.specs.declared.bound.Bound.{Bound}
 use Rattle.property_text.specs.declared.op.Op.{Op}
 use Rattle.property_text.specs.declared.op.Op.TheVariants.{AtMost, Below, AtLeast, Above}
-use Rattle.property_text.specs.Grammar.{Written, op_text, IsRatio, is_label_byte, IsLabel, quoted, path_parts, parts_of, Follow, Writes}
+use Rattle.property_text.specs.Grammar.{Written, op_text, IsRatio, is_label_byte, IsLabel, quoted, path_parts, Follow, Writes}
 use Rattle.property_text.specs.Formula.{bound_of, HasNoBound}
 use Rattle.property_text.specs.Reading.{op_at, label_in, label_at, Path, path_to, path_from, path_at, is_bound_byte, closed, from_bound, from_op, written_at}
 use Rattle.property_text.proofs.Cuts.{behind_front, front_is, cut_first}

@@ -1,12 +1,11 @@
 -- The states of a model after the cut one by one, and that it is a model.
-use Rattle.std.proofs.Common.{◌≡◌, ◌≢◌, ℕ, zero, suc, ◌+◌, ◌-◌, ◌^◌, ◌<◌, ◌≤◌, Bool, true, false, ◌||◌, cond, List, [], ◌∷◌, ◌++◌, length, map, take, get_or, sum_by, ℤ, pos, negsuc, unsigned_abs, ◌≤ℤ◌, All, AllPairs, refl, sym, ap, ap₂, subst, ◌∙◌, arith, rules}
-use Rattle.std.specs.List.Sorted.{IsStrictlyIncreasing}
+use Rattle.std.proofs.Common.{◌≡◌, ◌≢◌, ℕ, zero, suc, ◌+◌, ◌-◌, ◌^◌, ◌<◌, ◌≤◌, Bool, true, false, cond, List, [], ◌∷◌, ◌++◌, length, map, take, get_or, sum_by, ℤ, pos, negsuc, unsigned_abs, ◌≤ℤ◌, All, refl, sym, ap, ap₂, subst, ◌∙◌, arith, rules}
 use Rattle.std.proofs.lemmas.List.{get_or_default, get_or-map, length-map, length-take, map_push, take_more}
 use Rattle.std.proofs.lemmas.List.Sums.{sum_by-cons}
-use Rattle.lift_poly.specs.Polynomial.{Term, IsPolynomial}
+use Rattle.lift_poly.specs.Polynomial.{Term}
 use Rattle.lift_poly.proofs.Ring.{linear}
 use Rattle.lift_model.specs.declared.entry.Entry.{Entry}
-use Rattle.lift_model.specs.Model.{ModelData, is_goal, choices}
+use Rattle.lift_model.specs.Model.{ModelData, choices}
 use Rattle.lift_model.specs.Valid.{IsEntry, IsRow, IsModel, coefficient_limit, common_limit}
 use Rattle.property_text.specs.Restricted.{is_kept, certain, staying, cut_from, restricted}
 

@@ -1,13 +1,13 @@
 -- The bytes of literals, and texts that are one literal, or one over another.
 use Prim.Native.Char.{code}
-use Rattle.std.proofs.Common.{◌≡◌, ◌==◌, ◌&&◌, ◌<◌, ◌≤◌, ℕ, zero, suc, nat_lt, Bool, true, false, not, List, [], ◌∷◌, ◌++◌, length, Option, Some, None, refl, sym, ap, ap₂, ◌∙◌, subst, arith}
+use Rattle.std.proofs.Common.{◌≡◌, ◌==◌, ◌&&◌, ℕ, zero, suc, nat_lt, Bool, true, false, not, List, [], ◌∷◌, ◌++◌, Option, Some, None, refl, sym, ◌∙◌, subst, arith}
 use Rattle.std.specs.List.{list_all}
 use Rattle.std.specs.Char.{is_ascii_digit}
 use Rattle.std.specs.Str.{IsAscii, IsUtf8}
 use Rattle.std.proofs.lemmas.Str.{IsUtf8-from_ascii}
 use Rattle.std.proofs.lemmas.List.Folds.{list_all-append}
 use Rattle.std.proofs.lemmas.Bool.Decides.{nat_tests}
-use Rattle.lift_bytes.specs.Bytes.{is_blank, first_passes}
+use Rattle.lift_bytes.specs.Bytes.{first_passes}
 use Rattle.lift_frac.specs.Literal.{Literal}
 use Rattle.lift_frac.specs.Grammar.{Writes, IsDigits, Decimals, Sign, Mark, Exponent}
 use Rattle.lift_frac.specs.Grammar.Writes.{written}

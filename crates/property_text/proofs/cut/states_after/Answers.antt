@@ -1,5 +1,5 @@
-use Rattle.std.proofs.Common.{rules, ◌≡◌, ◌<◌, length, map, subst, ap, sym, ◌∙◌}
-use Rattle.property_text.specs.Restricted.{is_kept, cut_from}
+use Rattle.std.proofs.Common.{rules, ◌<◌, length, map, ap, ◌∙◌}
+use Rattle.property_text.specs.Restricted.{is_kept}
 use Rattle.property_text.proofs.Cutting.{one_state_more}
 use Rattle.property_text.proofs.cut.states_after.Goals as goal
 

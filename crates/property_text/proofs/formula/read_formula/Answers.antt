@@ -1,6 +1,4 @@
-use Rattle.std.proofs.Common.{rules, ◌≡◌, Some, sym, ap, ◌∙◌}
-use Rattle.property_text.specs.Grammar.{Written}
-use Rattle.property_text.specs.Formula.{bound_of}
+use Rattle.std.proofs.Common.{rules}
 use Rattle.property_text.proofs.Complete.{is_bounded}
 use Rattle.property_text.proofs.formula.read_formula.Goals as goal
 

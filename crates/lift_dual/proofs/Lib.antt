@@ -1,0 +1,9 @@
+mod Planning
+mod Saying
+mod BothSides
+mod Joining
+mod Avoiding
+mod StagesOfAll
+mod Untils
+mod Apart
+mod Samples

@@ -1,0 +1,7 @@
+pub mod Supported
+pub mod Sides
+pub mod Avoiding
+pub mod StagesOfAll
+pub mod Said
+pub mod Property
+pub mod Laws
