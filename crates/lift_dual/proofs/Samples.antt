@@ -144,10 +144,10 @@ twin_is_upper = record {
     means_at zero lt e zero at = record { le = tt }
     means_at zero lt e (suc zero) at = record { le = tt }
     means_at zero lt e (suc (suc c)) at = absurd (omega arith)
-    means_at (suc zero) lt e = cc
+    means_at (suc zero) lt e c at = cc
     means_at (suc (suc zero)) lt e zero at = record { le = tt }
     means_at (suc (suc zero)) lt e (suc c) at = absurd (omega arith)
-    means_at (suc (suc (suc s))) lt e = absurd (omega arith)
+    means_at (suc (suc (suc s))) lt e c at = absurd (omega arith)
 
 -- ---- what they say
 
