@@ -2,8 +2,6 @@
 use Rattle.std.proofs.Common.{◌^◌, ℕ, ℤ, pos, ◌*ℤ◌, ◌≤ℤ◌, ◌<ℤ◌, arith, ◌⊎◌, inl, inr}
 use Rattle.std.proofs.lemmas.Int.{by_lt_z}
 use Rattle.lift_poly.proofs.Ring.{linear, mul-comm, mul-le}
-use Rattle.lift_cert.specs.declared.bound.Bound.{Bound}
-use Rattle.property_text.specs.declared.op.Op.{Op}
 use Rattle.property_text.specs.declared.op.Op.TheVariants.{AtMost, Below, AtLeast, Above}
 use Rattle.lift_dual.specs.Laws.{SidesAreApart, EachHasASide}
 

@@ -1,13 +1,10 @@
 -- What every plan reaches at least, where every choice supports a vector and leads to lower ranks.
 use Rattle.std.proofs.Common.{◌≡◌, ℕ, zero, suc, ◌+◌, ◌*◌, ◌<◌, ◌≤◌, Bool, true, false, List, [], ◌∷◌, ℤ, pos, ◌+ℤ◌, ◌-ℤ◌, ◌*ℤ◌, neg_ℤ, ◌≤ℤ◌, refl, sym, ap, subst, ◌∙◌, arith, nat_lt, ltb-true, ltb-false, ◌⊎◌, inl, inr, IsTrue}
 use Rattle.std.specs.List.{AllByRecursion}
-use Rattle.lift_poly.proofs.Ring.{linear, mul-assoc, mul-comm, mul-add, add-mul, mul-zero, zero-mul, one-mul, mul-le, mul-nonneg, as_diff, diff-add, diff-mul, pos_diff, diff-same, diffs}
+use Rattle.lift_poly.proofs.Ring.{linear, mul-assoc, mul-comm, mul-add, add-mul, mul-zero, zero-mul, one-mul, mul-le, mul-nonneg, as_diff, diff-mul, diff-same, diffs}
 use Rattle.lift_model.specs.Process.{Process, Move, power, weighted_sum}
-use Rattle.lift_model.specs.Plan.{Plan, Parts, Plans, MovesFit, PartFits, PartsFit, PlanFits, Fits}
-use Rattle.lift_model.specs.Plan.Plan.{stop, toss}
-use Rattle.lift_model.specs.Plan.Parts.{no_parts, part}
-use Rattle.lift_model.specs.Plan.Plans.{no_plans, plan}
-use Rattle.lift_model.specs.Reach.{moves_reach, parts_reach, plan_reach, reach}
+use Rattle.lift_model.specs.Plan.{Plan, PlanFits, Fits}
+use Rattle.lift_model.specs.Reach.{plan_reach, reach}
 use Rattle.lift_model.specs.Laws.{AreNonNegative, WeightedSumsRise}
 use Rattle.lift_model.specs.Tossing.{TossesAreBounded}
 use Rattle.lift_dual.specs.Supported.{ranked_under, Supports, IsSupportedByAll}

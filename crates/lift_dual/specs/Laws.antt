@@ -50,18 +50,22 @@ LowerAllIsBelowUpperOne = (k : CaseData) (spans others : Spans) (x : List ℤ) (
 
 -- ---- until in the model read, by certificates of the model after the cut
 
+-- each plan's until is at least what a lower vector for every scheduler tells
 abbrev pub UntilIsReachedByAll : Type 0
 UntilIsReachedByAll = (m : ModelData) (safe : List Bool) (k : CaseData) (spans : Spans) (r : RejectData) → k.model ≡ restricted m safe → IsCase k → IsInside k.root spans → IsLowerAll k spans r
     → (v : Valuation) → Inside k.d spans v → UntilOfAllIsAtLeast m safe v k.w r
 
+-- until of each memoryless scheduler that makes the choices of an upper vector for one is at most what that tells
 abbrev pub UntilIsBoundedForOne : Type 0
 UntilIsBoundedForOne = (m : ModelData) (safe : List Bool) (k : CaseData) (spans : Spans) (x : List ℤ) (picks : List ℕ) → k.model ≡ restricted m safe → IsCase k → IsInside k.root spans → IsUpperOne k spans x picks
     → (v : Valuation) → Inside k.d spans v → UntilOfOneIsAtMost m safe v k.w x picks
 
+-- each plan's until is at most what an upper vector tells
 abbrev pub UntilIsBoundedForAll : Type 0
 UntilIsBoundedForAll = (m : ModelData) (safe : List Bool) (k : CaseData) (spans : Spans) (x : List ℤ) → k.model ≡ restricted m safe → IsCase k → IsInside k.root spans → IsUpper k spans x
     → (v : Valuation) → Inside k.d spans v → UntilOfAllIsAtMost m safe v k.w x
 
+-- until of each memoryless scheduler that makes the choices of a lower vector is at least what that tells
 abbrev pub UntilIsReachedByOne : Type 0
 UntilIsReachedByOne = (m : ModelData) (safe : List Bool) (k : CaseData) (spans : Spans) (r : RejectData) → k.model ≡ restricted m safe → IsCase k → IsInside k.root spans → IsLower k spans r
     → (v : Valuation) → Inside k.d spans v → UntilOfOneIsAtLeast m safe v k.w r

@@ -34,21 +34,25 @@ IsBoundedForOneAt m v w x picks =
 
 -- ---- the same of until
 
+-- each plan's until from the initial state is at least what the certificate tells
 abbrev pub UntilOfAllIsAtLeast : ModelData → List Bool → Valuation → ℕ → RejectData → Type 0
 UntilOfAllIsAtLeast m safe v w r =
     (q j : ℕ) (p : Plan) → Fits (process_at m v) q (r.k * j) m.init p
     → IsAtLeast w (number r.numbers m.init) (r.e * r.k) j (power (pos q *ℤ (process_at m v).total) (r.k * j)) (until (process_at m v) (is_safe safe) q (r.k * j) m.init p)
 
+-- it is at most what the vector tells
 abbrev pub UntilOfAllIsAtMost : ModelData → List Bool → Valuation → ℕ → List ℤ → Type 0
 UntilOfAllIsAtMost m safe v w x =
     (q n : ℕ) (p : Plan) → 1 ≤ q → Fits (process_at m v) q n m.init p
     → IsAtMost w (number x m.init) (power (pos q *ℤ (process_at m v).total) n) (until (process_at m v) (is_safe safe) q n m.init p)
 
+-- until of each memoryless scheduler that makes the printed choices is at most what the vector tells
 abbrev pub UntilOfOneIsAtMost : ModelData → List Bool → Valuation → ℕ → List ℤ → List ℕ → Type 0
 UntilOfOneIsAtMost m safe v w x picks =
     (choice : ℕ → ℕ) (n : ℕ) → Follows m picks choice
     → IsAtMost w (number x m.init) (power (process_at m v).total n) (memoryless_until (process_at m v) (is_safe safe) choice n m.init)
 
+-- it is at least what the certificate tells
 abbrev pub UntilOfOneIsAtLeast : ModelData → List Bool → Valuation → ℕ → RejectData → Type 0
 UntilOfOneIsAtLeast m safe v w r =
     (choice : ℕ → ℕ) (j : ℕ) → Follows m r.picks choice
