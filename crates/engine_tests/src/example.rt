@@ -7,15 +7,15 @@ ghost use Rattle.lift_model.specs.Links.{AreLinks};
 ghost use Rattle.corner_lift.specs.Case.{most_precision};
 ghost use Rattle.corner_lift.specs.Table.{IsTable};
 
+use crate::cells::Untold;
 use corner_lift::{Case, fill};
-use drn_read::{DrnError, read_model};
+use drn_read::read_model;
 use lift_grid::{Grid, Rect, read_region};
 use lift_model::{Links, Model};
 use lift_names::Names;
 use lift_rows::admit;
 use std::alloc::{AllocError, Global};
 use std::string::String;
-use std::test::Fail;
 
 /// Lines that stand between semicolons, each with its line feed.
 fn lines_of(alloc: Global, lines: &str) -> Result<Vec<u8>, AllocError> {
@@ -27,30 +27,19 @@ fn lines_of(alloc: Global, lines: &str) -> Result<Vec<u8>, AllocError> {
     Ok(text)
 }
 
-/// Numbers as they are shown.
-pub(crate) fn listed(alloc: Global, numbers: &[i128]) -> Result<String, AllocError> {
-    format!(in alloc; "{numbers:?}")
-}
-
-/// Where and why a text is refused.
-fn refusal(error: DrnError) -> Fail {
-    let (line, cause) = (error.line, error.cause.name());
-    Fail::new(format_args!("line {line}: {cause}"))
-}
-
 /// The model of a text, as far as it is short enough to be read; its goal states carry the label.
-fn read(alloc: Global, text: &[u8], label: &[u8]) -> Result<Model, Fail> {
+fn read(alloc: Global, text: &[u8], label: &[u8]) -> Result<Model, Untold> {
     if text.len() >= 1 << 31 {
-        return Err(Fail::new("the text is too long"));
+        return Err(Untold::Text(0));
     }
     match read_model(alloc, text, label) {
         Ok(model) => Ok(model),
-        Err(error) => Err(refusal(error)),
+        Err(error) => Err(Untold::Text(error.line)),
     }
 }
 
 /// The model of a text whose lines stand between semicolons; its goal states carry the label `goal`.
-pub(crate) fn model_of(alloc: Global, lines: &str) -> Result<Model, Fail> {
+pub(crate) fn model_of(alloc: Global, lines: &str) -> Result<Model, Untold> {
     let text = lines_of(alloc, lines)?;
     read(alloc, &text, b"goal")
 }
@@ -61,14 +50,14 @@ pub(crate) fn root_of(
     region: &[u8],
     names: &Names,
     depth: u32,
-) -> Result<(Grid, Rect), Fail>
+) -> Result<(Grid, Rect), Untold>
     requires { depth ≤ most_halvings }
     ensures on_grid { IfOk result (λ p. IsOnGrid p.0.d p.0.depth (length names.now) p.1) }
     ensures depth { IfOk result (λ p. p.0.depth ≤ most_halvings) }
 {
     match read_region(alloc, region, names, depth) {
         Ok(root) => Ok(root),
-        Err(error) => Err(Fail::new(error.name())),
+        Err(_) => Err(Untold::Text(0)),
     }
 }
 
@@ -78,7 +67,7 @@ pub(crate) fn case_of<'m>(
     root: &'m Rect,
     grid: Grid,
     w: u32,
-) -> Result<Case<'m>, Fail>
+) -> Result<Case<'m>, Untold>
     requires grid { IsOnGrid grid.d grid.depth (length model.now.names) root.now }
     requires depth { grid.depth ≤ most_halvings }
     requires low { 1 ≤ w }
@@ -86,7 +75,7 @@ pub(crate) fn case_of<'m>(
 {
     match admit(model, root, grid, w) {
         Ok(case) => Ok(case),
-        Err(_) => Err(Fail::new("a row isn't admitted")),
+        Err(_) => Err(Untold::Cell),
     }
 }
 

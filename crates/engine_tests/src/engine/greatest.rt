@@ -3,7 +3,7 @@
 ghost use Rattle.std.specs.Prelude.{◌≤◌};
 ghost use Rattle.corner_lift.specs.Case.{most_precision};
 
-use crate::cells::cut;
+use crate::cells::{Teller, Untold, each_row};
 use crate::engine::ranks::rows_of;
 use crate::example::{case_of, model_of, process_of, root_of, table_of};
 use corner_lift::Case;
@@ -11,7 +11,6 @@ use lift_model::{Links, Model};
 use lower_cert::{Rate, greatest_reject, greatest_reject_above};
 use std::alloc::Global;
 use std::string::String;
-use std::test::Fail;
 
 /// The region of the tables.
 const REGION: &[u8] = b"2/5<=p<=3/5";
@@ -25,19 +24,19 @@ const REGION: &[u8] = b"2/5<=p<=3/5";
 /// whose number is 0; one whose heads are impossible at p = 2/5; two coins, of which both add the state; and
 /// a coin that may be thrown later, in state 3.
 const GREATEST: &str = "\
-action a;1 : 1/4;2 : 3/4 | [4, 16, 0] | [0, 4294967295, 4294967295] | [1, 0, 4294967295] | e 2 k 1 | 3
-action a;1 : p;2 : 1-p | [6, 16, 0] | [0, 4294967295, 4294967295] | [1, 0, 4294967295] | e 2 k 1 | 5
-action a;0 : 1/2;1 : 1/4;2 : 1/4 | [8, 16, 0] | [0, 4294967295, 4294967295] | [1, 0, 4294967295] | e 2 k 1 | 7
-action a;0 : p;1 : 1/5;2 : 4/5-p | [5, 16, 0] | [0, 4294967295, 4294967295] | [1, 0, 4294967295] | e 3 k 1 | 4
-action a;0 : 1 | [0, 16, 0] | [4294967295, 4294967295, 4294967295] | [4294967295, 0, 4294967295] | e 0 k 1 | -1
-action a;3 : 1;action b;1 : 1/16;2 : 15/16 / action a;0 : 1 | [1, 16, 0, 1] | [1, 4294967295, 4294967295, 0] | [1, 0, 4294967295, 2] | e 4 k 2 | 0
-action a;1 : 1/100;2 : 99/100 | [0, 16, 0] | [0, 4294967295, 4294967295] | [1, 0, 4294967295] | e 7 k 1 | -1
-action a;1 : p-2/5;2 : 7/5-p | [0, 16, 0] | [4294967295, 4294967295, 4294967295] | [4294967295, 0, 4294967295] | e 0 k 1 | -1
-action a;1 : p;2 : 1-p;action b;1 : 1-p;2 : p | [6, 16, 0] | [0, 4294967295, 4294967295] | [1, 0, 4294967295] | e 2 k 1 | 5
-action a;3 : 1;action b;1 : 1/2;2 : 1/2 / action a;1 : 1/2;2 : 1/2 | [8, 16, 0, 8] | [1, 4294967295, 4294967295, 0] | [1, 0, 4294967295, 1] | e 1 k 1 | 7";
+action a;1 : 1/4;2 : 3/4 | [4, 16, 0]; [0, 4294967295, 4294967295]; [1, 0, 4294967295]; e 2 k 1; 3
+action a;1 : p;2 : 1-p | [6, 16, 0]; [0, 4294967295, 4294967295]; [1, 0, 4294967295]; e 2 k 1; 5
+action a;0 : 1/2;1 : 1/4;2 : 1/4 | [8, 16, 0]; [0, 4294967295, 4294967295]; [1, 0, 4294967295]; e 2 k 1; 7
+action a;0 : p;1 : 1/5;2 : 4/5-p | [5, 16, 0]; [0, 4294967295, 4294967295]; [1, 0, 4294967295]; e 3 k 1; 4
+action a;0 : 1 | [0, 16, 0]; [4294967295, 4294967295, 4294967295]; [4294967295, 0, 4294967295]; e 0 k 1; -1
+action a;3 : 1;action b;1 : 1/16;2 : 15/16 / action a;0 : 1 | [1, 16, 0, 1]; [1, 4294967295, 4294967295, 0]; [1, 0, 4294967295, 2]; e 4 k 2; 0
+action a;1 : 1/100;2 : 99/100 | [0, 16, 0]; [0, 4294967295, 4294967295]; [1, 0, 4294967295]; e 7 k 1; -1
+action a;1 : p-2/5;2 : 7/5-p | [0, 16, 0]; [4294967295, 4294967295, 4294967295]; [4294967295, 0, 4294967295]; e 0 k 1; -1
+action a;1 : p;2 : 1-p;action b;1 : 1-p;2 : p | [6, 16, 0]; [0, 4294967295, 4294967295]; [1, 0, 4294967295]; e 2 k 1; 5
+action a;3 : 1;action b;1 : 1/2;2 : 1/2 / action a;1 : 1/2;2 : 1/2 | [8, 16, 0, 8]; [1, 4294967295, 4294967295, 0]; [1, 0, 4294967295, 1]; e 1 k 1; 7";
 
 /// Whether the call that stops at a limit finds the initial state's number above it, on the case's root.
-fn is_found_above(alloc: Global, case: &Case, limit: i64) -> Result<bool, Fail> {
+fn is_found_above(alloc: Global, case: &Case, limit: i64) -> Result<bool, Untold> {
     let count = case.model().states() as usize;
     let links = Links::build(alloc, case.model())?;
     let weights = table_of(alloc, case, &links)?;
@@ -61,7 +60,7 @@ fn is_found_above(alloc: Global, case: &Case, limit: i64) -> Result<bool, Fail> 
 }
 
 /// The greatest of the limits from -1 to 16 that the initial state's number is found above.
-fn greatest_limit(alloc: Global, case: &Case) -> Result<i64, Fail> {
+fn greatest_limit(alloc: Global, case: &Case) -> Result<i64, Untold> {
     let mut greatest = -2;
     for limit in -1..17 {
         if is_found_above(alloc, case, limit)? {
@@ -78,13 +77,13 @@ fn shown(
     picks: &[u32],
     ranks: &[u32],
     rate: Rate,
-) -> Result<String, Fail> {
+) -> Result<String, Untold> {
     let (e, k) = (rate.e, rate.k);
-    Ok(format!(in alloc; "{y:?} | {picks:?} | {ranks:?} | e {e} k {k}")?)
+    Ok(format!(in alloc; "{y:?}; {picks:?}; {ranks:?}; e {e} k {k}")?)
 }
 
 /// The greatest lower vector of the case on its root, with what belongs to it.
-fn greatest_of(alloc: Global, case: &Case) -> Result<String, Fail> {
+fn greatest_of(alloc: Global, case: &Case) -> Result<String, Untold> {
     let count = case.model().states() as usize;
     let links = Links::build(alloc, case.model())?;
     let weights = table_of(alloc, case, &links)?;
@@ -106,38 +105,47 @@ fn greatest_of(alloc: Global, case: &Case) -> Result<String, Fail> {
     shown(alloc, &lane, &picks, &ranks, rate)
 }
 
-/// Whether the model has this greatest lower vector at that precision.
-fn has_vector(alloc: Global, model: &Model, w: u32, vector: &str) -> Result<bool, Fail>
+/// The greatest lower vector of a model at that precision.
+fn vector_over(alloc: Global, model: &Model, w: u32) -> Result<String, Untold>
     requires low { 1 ≤ w }
     requires high { w ≤ most_precision }
 {
     let (grid, root) = root_of(alloc, REGION, model.names(), 0)?;
     let case = case_of(model, &root, grid, w)?;
-    Ok(greatest_of(alloc, &case)?.as_str() == vector)
+    greatest_of(alloc, &case)
 }
 
-/// Whether the model has this greatest limit at precision 4.
-fn has_limit(alloc: Global, model: &Model, limit: i64) -> Result<bool, Fail> {
+/// The greatest limit of a model at precision 4.
+fn limit_over(alloc: Global, model: &Model) -> Result<i64, Untold> {
     let (grid, root) = root_of(alloc, REGION, model.names(), 0)?;
     let case = case_of(model, &root, grid, 4)?;
-    Ok(greatest_limit(alloc, &case)? == limit)
+    greatest_limit(alloc, &case)
 }
 
-/// Whether a row tells the greatest lower vector and the greatest limit.
-fn tells_greatest(alloc: Global, row: &str) -> Result<bool, Fail> {
-    let (choices, want) = cut(row);
-    let (vector, limit) = want.rsplit_once(" | ").unwrap_or(("", ""));
-    let text = process_of(alloc, "p", choices)?;
-    let model = model_of(alloc, &text)?;
-    Ok(has_vector(alloc, &model, 4, vector)? && has_limit(alloc, &model, limit.parse()?)?)
+/// Both of a model.
+fn both_over(alloc: Global, model: &Model) -> Result<String, Untold> {
+    let limit = limit_over(alloc, model)?;
+    let vector = vector_over(alloc, model, 4)?;
+    Ok(format!(in alloc; "{vector}; {limit}")?)
+}
+
+struct GreatestLower;
+
+impl Teller for GreatestLower {
+    type Told = String;
+
+    type Error = Untold;
+
+    fn tell(&self, alloc: Global, asked: &str) -> Result<String, Untold> {
+        let text = process_of(alloc, "p", asked)?;
+        let model = model_of(alloc, &text)?;
+        both_over(alloc, &model)
+    }
 }
 
 #[test]
-fn finds_the_greatest_lower_vectors(rt: HostRuntime) -> Result<(), Fail> {
-    for row in GREATEST.split('\n') {
-        assert!(rt; tells_greatest(rt.alloc(), row)?, "{row}");
-    }
-    Ok(())
+fn finds_the_greatest_lower_vectors(rt: HostRuntime) {
+    each_row(&rt, rt.alloc(), GREATEST, &GreatestLower);
 }
 
 /// The choices of state 0 and of a state 3, which lead to each other, and the greatest lower vector at
@@ -151,21 +159,24 @@ fn finds_the_greatest_lower_vectors(rt: HostRuntime) -> Result<(), Fail> {
 /// They leave it with 10^-17, in equal parts to the goal and to where it is lost: a number above half of 2^20 is
 /// never held, as what leaves takes a little, and half of it is. Lowered from 1 it takes half a million rounds.
 const SLOW: &str = "\
-action a;3 : 63/64;2 : 1/64 / action a;0 : 63/64;1 : 1/64 | [520128, 1048576, 0, 528385] | [0, 4294967295, 4294967295, 0] | [2, 0, 4294967295, 1] | e 6 k 2
-action a;3 : 1-1e-17;1 : 1e-17/2;2 : 1e-17/2 / action a;0 : 1-1e-17;1 : 1e-17/2;2 : 1e-17/2 | [524288, 1048576, 0, 524288] | [0, 4294967295, 4294967295, 0] | [1, 0, 4294967295, 1] | e 58 k 1";
+action a;3 : 63/64;2 : 1/64 / action a;0 : 63/64;1 : 1/64 | [520128, 1048576, 0, 528385]; [0, 4294967295, 4294967295, 0]; [2, 0, 4294967295, 1]; e 6 k 2
+action a;3 : 1-1e-17;1 : 1e-17/2;2 : 1e-17/2 / action a;0 : 1-1e-17;1 : 1e-17/2;2 : 1e-17/2 | [524288, 1048576, 0, 524288]; [0, 4294967295, 4294967295, 0]; [1, 0, 4294967295, 1]; e 58 k 1";
 
-/// Whether a row tells the greatest lower vector at precision 20.
-fn tells_vector(alloc: Global, row: &str) -> Result<bool, Fail> {
-    let (choices, vector) = cut(row);
-    let text = process_of(alloc, "p", choices)?;
-    let model = model_of(alloc, &text)?;
-    has_vector(alloc, &model, 20, vector)
+struct SlowCycles;
+
+impl Teller for SlowCycles {
+    type Told = String;
+
+    type Error = Untold;
+
+    fn tell(&self, alloc: Global, asked: &str) -> Result<String, Untold> {
+        let text = process_of(alloc, "p", asked)?;
+        let model = model_of(alloc, &text)?;
+        vector_over(alloc, &model, 20)
+    }
 }
 
 #[test]
-fn finds_the_greatest_lower_vectors_of_slow_cycles(rt: HostRuntime) -> Result<(), Fail> {
-    for row in SLOW.split('\n') {
-        assert!(rt; tells_vector(rt.alloc(), row)?, "{row}");
-    }
-    Ok(())
+fn finds_the_greatest_lower_vectors_of_slow_cycles(rt: HostRuntime) {
+    each_row(&rt, rt.alloc(), SLOW, &SlowCycles);
 }

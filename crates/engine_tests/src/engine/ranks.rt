@@ -4,14 +4,13 @@ ghost use Rattle.std.specs.Prelude.{◌≡◌};
 ghost use Rattle.lift_model.specs.Model.{row_count};
 ghost use Rattle.lift_model.specs.Links.{AreLinks};
 
-use crate::cells::cut;
+use crate::cells::{Teller, Untold, each_row};
 use crate::example::{case_of, model_of, root_of, table_of};
 use corner_lift::Case;
 use lift_model::{Links, Model};
 use robust_rank::attract;
 use std::alloc::Global;
 use std::string::String;
-use std::test::Fail;
 
 /// What stands before the choices of states 2 and 3: state 0 has two choices that lead to the goal
 /// state 1, and a third that stays.
@@ -23,13 +22,13 @@ state 0 init;action a;0 : 1;action b;1 : p;0 : 1-p;action c;1 : 1;state 1 goal;a
 /// which leads to state 0 in turn. A choice that leads to lower ranks at p = 1/4 alone ranks nothing; where what it
 /// leads to else has a rank, it ranks by that. Two states that lead to each other have ranks as any others.
 const STAGES: &str = "\
-action a;2 : 1;state 3;action a;0 : 1/2;2 : 1/2 | [1, 0, 4294967295, 2] | [1, 4294967295, 4294967295, 0]
-action a;0 : 1;state 3;action a;2 : 1/9;3 : 8/9 | [1, 0, 2, 3] | [1, 4294967295, 0, 0]
-action a;2 : 1;action b;1 : 3/4-p;2 : 1/4+p;state 3;action a;3 : 1 | [1, 0, 4294967295, 4294967295] | [1, 4294967295, 4294967295, 4294967295]
-action a;0 : 1;state 3;action a;0 : 3/4-p;2 : 1/4+p | [1, 0, 2, 3] | [1, 4294967295, 0, 0]
-action a;0 : 1;state 3;action a;2 : 3/4-p;0 : 1/4+p | [1, 0, 2, 2] | [1, 4294967295, 0, 0]
-action a;2 : 1;state 3;action a;0 : 3/4-p;2 : 1/4+p | [1, 0, 4294967295, 4294967295] | [1, 4294967295, 4294967295, 4294967295]
-action a;3 : 1/2;0 : 1/2;state 3;action a;2 : 1 | [1, 0, 2, 3] | [1, 4294967295, 0, 0]";
+action a;2 : 1;state 3;action a;0 : 1/2;2 : 1/2 | [1, 0, 4294967295, 2]; [1, 4294967295, 4294967295, 0]
+action a;0 : 1;state 3;action a;2 : 1/9;3 : 8/9 | [1, 0, 2, 3]; [1, 4294967295, 0, 0]
+action a;2 : 1;action b;1 : 3/4-p;2 : 1/4+p;state 3;action a;3 : 1 | [1, 0, 4294967295, 4294967295]; [1, 4294967295, 4294967295, 4294967295]
+action a;0 : 1;state 3;action a;0 : 3/4-p;2 : 1/4+p | [1, 0, 2, 3]; [1, 4294967295, 0, 0]
+action a;0 : 1;state 3;action a;2 : 3/4-p;0 : 1/4+p | [1, 0, 2, 2]; [1, 4294967295, 0, 0]
+action a;2 : 1;state 3;action a;0 : 3/4-p;2 : 1/4+p | [1, 0, 4294967295, 4294967295]; [1, 4294967295, 4294967295, 4294967295]
+action a;3 : 1/2;0 : 1/2;state 3;action a;2 : 1 | [1, 0, 2, 3]; [1, 4294967295, 0, 0]";
 
 /// How many rows the model has: as many as the number of its last row, and one.
 pub(crate) fn rows_of(model: &Model, links: &Links) -> usize
@@ -40,8 +39,13 @@ pub(crate) fn rows_of(model: &Model, links: &Links) -> usize
     links.row_place(last, model.choices(last) - 1) + 1
 }
 
+/// Ranks and picks as they are shown.
+fn shown(alloc: Global, ranks: &[u32], picks: &[u32]) -> Result<String, Untold> {
+    Ok(format!(in alloc; "{ranks:?}; {picks:?}")?)
+}
+
 /// The ranks and picks by stages on the case's root, all choices allowed.
-fn ranked(alloc: Global, case: &Case) -> Result<String, Fail> {
+fn ranked(alloc: Global, case: &Case) -> Result<String, Untold> {
     let count = case.model().states() as usize;
     let links = Links::build(alloc, case.model())?;
     let weights = table_of(alloc, case, &links)?;
@@ -49,29 +53,31 @@ fn ranked(alloc: Global, case: &Case) -> Result<String, Fail> {
     let mut ranks = vec![in alloc; 7; count]?;
     let mut picks = vec![in alloc; 7; count]?;
     attract(case, &links, &weights, &allowed, &mut ranks, &mut picks);
-    let (ranks, picks) = (ranks.as_slice(), picks.as_slice());
-    Ok(format!(in alloc; "{ranks:?} | {picks:?}")?)
+    shown(alloc, &ranks, &picks)
 }
 
-/// Whether the model has these ranks and picks.
-fn has_ranks(alloc: Global, model: &Model, want: &str) -> Result<bool, Fail> {
+/// The ranks and the picks of a model.
+fn ranked_over(alloc: Global, model: &Model) -> Result<String, Untold> {
     let (grid, root) = root_of(alloc, b"1/4<=p<=3/4", model.names(), 0)?;
     let case = case_of(model, &root, grid, 4)?;
-    Ok(ranked(alloc, &case)?.as_str() == want)
+    ranked(alloc, &case)
 }
 
-/// Whether a row tells the ranks and the picks.
-fn tells_ranks(alloc: Global, row: &str) -> Result<bool, Fail> {
-    let (choices, want) = cut(row);
-    let text = format!(in alloc; "{HEAD};state 2;{choices}")?;
-    let model = model_of(alloc, &text)?;
-    has_ranks(alloc, &model, want)
+struct Stages;
+
+impl Teller for Stages {
+    type Told = String;
+
+    type Error = Untold;
+
+    fn tell(&self, alloc: Global, asked: &str) -> Result<String, Untold> {
+        let text = format!(in alloc; "{HEAD};state 2;{asked}")?;
+        let model = model_of(alloc, &text)?;
+        ranked_over(alloc, &model)
+    }
 }
 
 #[test]
-fn ranks_by_stages(rt: HostRuntime) -> Result<(), Fail> {
-    for row in STAGES.split('\n') {
-        assert!(rt; tells_ranks(rt.alloc(), row)?, "{row}");
-    }
-    Ok(())
+fn ranks_by_stages(rt: HostRuntime) {
+    each_row(&rt, rt.alloc(), STAGES, &Stages);
 }

@@ -8,16 +8,16 @@ ghost use Rattle.corner_lift.specs.Case.{corner_count};
 ghost use Rattle.corner_lift.specs.Certificate.{AreNumbers};
 ghost use Rattle.corner_lift.specs.Table.{CanRead};
 
-use crate::cells::{cut_three, cut_two};
-use crate::example::{case_of, chain_of, listed, model_of, root_of, table_of};
+use crate::cells::{Teller, Untold, cut, each_row};
+use crate::example::{case_of, chain_of, model_of, root_of, table_of};
 use corner_lift::{
     Case, LaneSum, PairTable, has_short_sums, is_capped, is_held, least_into, rows_at_corners,
     table_corner, table_greatest, table_into, table_least, table_others, table_value,
 };
 use lift_model::{Links, Model, OnlyRow, PairRow};
-use std::alloc::Global;
+use std::alloc::{AllocError, Global};
+use std::fmt::Write;
 use std::string::String;
-use std::test::Fail;
 
 /// A row of state 0 with both parameters, and a region; how many weights the table has; and of that row
 /// the whole, what the numbers 0, 16 and 0 sum to at the first and at the last corner, the least and the
@@ -28,39 +28,14 @@ use std::test::Fail;
 /// into the goal state; and of the only row of state 0, as far as it is short and leads elsewhere, the same. Last, what it
 /// weighs into other states at the last corner, where 64 bits hold its sums: state 0's own number, 5 there, doesn't count.
 const READ: &str = "\
-0 : p*q;1 : p-p*q;2 : 1-p | 1/5<=p<=2/5,3/5<=q<=4/5 | [13, 25, 32, 32, 16, 64, 2, 8, 1] | [true, true, false, false] | -, -, -; other | 32 of 17
-0 : p;1 : q-p;2 : 1-q | 1/5<=p<=2/5,3/5<=q<=4/5 | [13, 25, 160, 160, 80, 240, 10, 10, 5] | [false, true, false, false] | -, -, -; other | 160 of 15
-1 : 1/2*p+1/2*q;2 : 1-1/2*p-1/2*q | 1/5<=p<=2/5,3/5<=q<=4/5 | [9, 50, 320, 480, 320, 480, 30, 0, 20] | [false, true, true, false] | 320 of 50 by 1, 480 of 50 by 1, 20 of 50 by 1; pair 1 2: 320 of 50 by 1, 480 of 50 by 1, 20 of 50 by 1 | 480 of 50
-0 : p*q;1 : p-p*q;2 : 1-p | 1/576460752303423488<=p<=2/576460752303423488,1/576460752303423488<=q<=2/576460752303423488 | [13, 332306998946228968225951765070086144, 9223372036854775792, 18446744073709551552, 9223372036854775776, 18446744073709551584, 1152921504606846972, 4, 576460752303423486] | [true, true, false, false] | -, -, -; other | -
-1 : 1/2*p+1/2*q;2 : 1-1/2*p-1/2*q | 1/536870912<=p<=3/536870912,1/536870912<=q<=3/536870912 | [9, 576460752303423488, 17179869184, 51539607552, 17179869184, 51539607552, 3221225472, 0, 1073741824] | [true, true, false, false] | 16 of 536870912 by 1073741824, 48 of 536870912 by 1073741824, 1 of 536870912 by 1073741824; pair 1 2: 16 of 536870912 by 1073741824, 48 of 536870912 by 1073741824, 1 of 536870912 by 1073741824 | -
-0 : 1/2*p+1/2*q;1 : 1-1/2*p-1/2*q | 1/5<=p<=2/5,3/5<=q<=4/5 | [9, 50, 480, 320, 320, 480, 20, 30, 20] | [false, true, true, false] | 320 of 50 by 1, 480 of 50 by 1, 20 of 50 by 1; other | 320 of 20
-1 : p*q;2 : 1-p*q | 1/576460752303423488<=p<=2/576460752303423488,1/576460752303423488<=q<=2/576460752303423488 | [9, 332306998946228968225951765070086144, 16, 64, 16, 64, 4, 0, 1] | [true, true, false, false] | -, -, -; pair 1 2: -, -, - | -
-0 : p*q;1 : 1-p*q | 1/576460752303423488<=p<=2/576460752303423488,1/576460752303423488<=q<=2/576460752303423488 | [9, 332306998946228968225951765070086144, 5316911983139663491615228241121378288, 5316911983139663491615228241121378240, 5316911983139663491615228241121378240, 5316911983139663491615228241121378288, 332306998946228968225951765070086140, 4, 332306998946228968225951765070086140] | [false, false, true, true] | -, -, -; other | -";
-
-/// What a row of the table tells.
-#[derive(Clone, Copy)]
-struct Told<'a> {
-    row: &'a str,
-    region: &'a str,
-    numbers: &'a str,
-    bounds: &'a str,
-    looked: &'a str,
-    leaving: &'a str,
-}
-
-/// The cells of a row.
-fn told_of(line: &str) -> Told<'_> {
-    let (row, region, numbers, rest) = cut_three(line);
-    let (bounds, looked, leaving) = cut_two(rest);
-    Told {
-        row,
-        region,
-        numbers,
-        bounds,
-        looked,
-        leaving,
-    }
-}
+0 : p*q;1 : p-p*q;2 : 1-p | 1/5<=p<=2/5,3/5<=q<=4/5 | [13, 25, 32, 32, 16, 64, 2, 8, 1]; [true, true, false, false]; -, -, -; other; 32 of 17
+0 : p;1 : q-p;2 : 1-q | 1/5<=p<=2/5,3/5<=q<=4/5 | [13, 25, 160, 160, 80, 240, 10, 10, 5]; [false, true, false, false]; -, -, -; other; 160 of 15
+1 : 1/2*p+1/2*q;2 : 1-1/2*p-1/2*q | 1/5<=p<=2/5,3/5<=q<=4/5 | [9, 50, 320, 480, 320, 480, 30, 0, 20]; [false, true, true, false]; 320 of 50 by 1, 480 of 50 by 1, 20 of 50 by 1; pair 1 2: 320 of 50 by 1, 480 of 50 by 1, 20 of 50 by 1; 480 of 50
+0 : p*q;1 : p-p*q;2 : 1-p | 1/576460752303423488<=p<=2/576460752303423488,1/576460752303423488<=q<=2/576460752303423488 | [13, 332306998946228968225951765070086144, 9223372036854775792, 18446744073709551552, 9223372036854775776, 18446744073709551584, 1152921504606846972, 4, 576460752303423486]; [true, true, false, false]; -, -, -; other; -
+1 : 1/2*p+1/2*q;2 : 1-1/2*p-1/2*q | 1/536870912<=p<=3/536870912,1/536870912<=q<=3/536870912 | [9, 576460752303423488, 17179869184, 51539607552, 17179869184, 51539607552, 3221225472, 0, 1073741824]; [true, true, false, false]; 16 of 536870912 by 1073741824, 48 of 536870912 by 1073741824, 1 of 536870912 by 1073741824; pair 1 2: 16 of 536870912 by 1073741824, 48 of 536870912 by 1073741824, 1 of 536870912 by 1073741824; -
+0 : 1/2*p+1/2*q;1 : 1-1/2*p-1/2*q | 1/5<=p<=2/5,3/5<=q<=4/5 | [9, 50, 480, 320, 320, 480, 20, 30, 20]; [false, true, true, false]; 320 of 50 by 1, 480 of 50 by 1, 20 of 50 by 1; other; 320 of 20
+1 : p*q;2 : 1-p*q | 1/576460752303423488<=p<=2/576460752303423488,1/576460752303423488<=q<=2/576460752303423488 | [9, 332306998946228968225951765070086144, 16, 64, 16, 64, 4, 0, 1]; [true, true, false, false]; -, -, -; pair 1 2: -, -, -; -
+0 : p*q;1 : 1-p*q | 1/576460752303423488<=p<=2/576460752303423488,1/576460752303423488<=q<=2/576460752303423488 | [9, 332306998946228968225951765070086144, 5316911983139663491615228241121378288, 5316911983139663491615228241121378240, 5316911983139663491615228241121378240, 5316911983139663491615228241121378288, 332306998946228968225951765070086140, 4, 332306998946228968225951765070086140]; [false, false, true, true]; -, -, -; other; -";
 
 /// What the row of state 0 sums to at its first and at its last corner, and there its weight into state 0.
 fn at_corners(case: &Case, links: &Links, weights: &[i128], vec: &[i64]) -> (i128, i128, i128)
@@ -95,13 +70,7 @@ fn into_goal(case: &Case, links: &Links, weights: &[i128]) -> (i128, i128)
 }
 
 /// The numbers that the table tells of the row of state 0.
-fn numbers_of(
-    alloc: Global,
-    case: &Case,
-    links: &Links,
-    weights: &[i128],
-    vec: &[i64],
-) -> Result<String, Fail>
+fn numbers_of(case: &Case, links: &Links, weights: &[i128], vec: &[i64]) -> [i128; 9]
     requires read { CanRead case.now links.now (spans_of (sides_of case.now.root)) weights.now 0 0 }
     requires numbers { AreNumbers case.now vec.now }
     requires states { length case.now.model.states ≡ 3 }
@@ -111,8 +80,7 @@ fn numbers_of(
     let (whole, least, greatest) = over_corners(case, links, weights, vec);
     let (goal, into) = into_goal(case, links, weights);
     let size = weights.len() as i128;
-    let numbers = [size, whole, first, last, least, greatest, goal, own, into];
-    Ok(listed(alloc, &numbers)?)
+    [size, whole, first, last, least, greatest, goal, own, into]
 }
 
 /// Whether the mean of the row of state 0 is at most 9, at most 10, at least 6 and at least 7.
@@ -129,35 +97,31 @@ fn bounds_of(case: &Case, links: &Links, weights: &[i128], vec: &[i64]) -> [bool
     ]
 }
 
-/// A sum of a row with its whole, and what both were divided by.
-fn shown(alloc: Global, row: Option<LaneSum>) -> Result<String, Fail> {
+/// The least and the greatest sum of a row, and its least weight into the goal state, as far as they are looked up.
+type Sums = (Option<LaneSum>, Option<LaneSum>, Option<LaneSum>);
+
+/// Tells a sum of a row with its whole, and what both were divided by.
+fn tell_sum(told: &mut String, row: Option<LaneSum>, behind: &str) -> Result<(), AllocError> {
     match row {
-        Some(row) => Ok(format!(in alloc; "{} of {} by {}", row.sum, row.whole, row.scale)?),
-        None => Ok(format!(in alloc; "-")?),
+        Some(row) => write!(
+            told,
+            "{} of {} by {}{behind}",
+            row.sum, row.whole, row.scale
+        ),
+        None => write!(told, "-{behind}"),
     }
 }
 
-/// The least and the greatest sum of a row, and its least weight into the goal state, as they are shown.
-fn all_shown(
-    alloc: Global,
-    least: Option<LaneSum>,
-    greatest: Option<LaneSum>,
-    into: Option<LaneSum>,
-) -> Result<String, Fail> {
-    let least = shown(alloc, least)?;
-    let greatest = shown(alloc, greatest)?;
-    let into = shown(alloc, into)?;
-    Ok(format!(in alloc; "{least}, {greatest}, {into}")?)
+/// Tells all of them.
+fn tell_sums(told: &mut String, sums: Sums) -> Result<(), AllocError> {
+    let (least, greatest, into) = sums;
+    tell_sum(told, least, ", ")?;
+    tell_sum(told, greatest, ", ")?;
+    tell_sum(told, into, "; ")
 }
 
 /// What is looked up of the row of state 0.
-fn row_told(
-    alloc: Global,
-    case: &Case,
-    links: &Links,
-    weights: &[i128],
-    vec: &[i64],
-) -> Result<String, Fail>
+fn row_told(case: &Case, links: &Links, weights: &[i128], vec: &[i64]) -> Sums
     requires read { CanRead case.now links.now (spans_of (sides_of case.now.root)) weights.now 0 0 }
     requires numbers { AreNumbers case.now vec.now }
     requires states { length case.now.model.states ≡ 3 }
@@ -166,18 +130,11 @@ fn row_told(
     let least = table.least(case, links, 0, 0, vec);
     let greatest = table.greatest(case, links, 0, 0, vec);
     let into = table.least_into(case, links, 0, 0, &[1, 0, u32::MAX], 1);
-    all_shown(alloc, least, greatest, into)
+    (least, greatest, into)
 }
 
 /// What is looked up of the only row of state 0, which has two entries.
-fn pair_told(
-    alloc: Global,
-    case: &Case,
-    links: &Links,
-    weights: &[i128],
-    row: PairRow,
-    vec: &[i64],
-) -> Result<String, Fail>
+fn pair_told(case: &Case, links: &Links, weights: &[i128], row: PairRow, vec: &[i64]) -> Sums
     requires read { CanRead case.now links.now (spans_of (sides_of case.now.root)) weights.now 0 0 }
     requires numbers { AreNumbers case.now vec.now }
     requires states { length case.now.model.states ≡ 3 }
@@ -187,98 +144,91 @@ fn pair_told(
     let least = table.least_of(case, links, 0, row, vec);
     let greatest = table.greatest_of(case, links, 0, row, vec);
     let into = table.least_into_of(case, links, 0, row, &[1, 0, u32::MAX], 1);
-    let (first, second) = (row.first, row.second);
-    let sums = all_shown(alloc, least, greatest, into)?;
-    Ok(format!(in alloc; "pair {first} {second}: {sums}")?)
+    (least, greatest, into)
 }
 
-/// What is looked up of the only row of state 0, as far as it is short and leads elsewhere.
-fn only_told(
-    alloc: Global,
+/// Tells what is looked up of the only row of state 0, as far as it is short and leads elsewhere.
+fn tell_only(
+    told: &mut String,
     case: &Case,
     links: &Links,
     weights: &[i128],
     vec: &[i64],
-) -> Result<String, Fail>
+) -> Result<(), AllocError>
     requires read { CanRead case.now links.now (spans_of (sides_of case.now.root)) weights.now 0 0 }
     requires numbers { AreNumbers case.now vec.now }
     requires states { length case.now.model.states ≡ 3 }
 {
     match links.only_row(0) {
-        OnlyRow::Single(target) => Ok(format!(in alloc; "single {target}")?),
-        OnlyRow::Pair(row) => pair_told(alloc, case, links, weights, row, vec),
-        OnlyRow::Other => Ok(format!(in alloc; "other")?),
+        OnlyRow::Single(target) => write!(told, "single {target}; "),
+        OnlyRow::Pair(row) => {
+            write!(told, "pair {} {}: ", row.first, row.second)?;
+            tell_sums(told, pair_told(case, links, weights, row, vec))
+        }
+        OnlyRow::Other => write!(told, "other; "),
     }
 }
 
-/// What the row of state 0 weighs into other states at its last corner, if 64 bits hold its sums.
-fn leaving(
-    alloc: Global,
-    case: &Case,
-    links: &Links,
-    weights: &[i128],
-    vec: &[i64],
-) -> Result<String, Fail>
+/// What the row of state 0 weighs into other states at its last corner and their whole, if 64 bits hold its sums.
+fn leaving(case: &Case, links: &Links, weights: &[i128], vec: &[i64]) -> Option<(i64, i64)>
     requires read { CanRead case.now links.now (spans_of (sides_of case.now.root)) weights.now 0 0 }
     requires numbers { AreNumbers case.now vec.now }
     requires corners { corner_count case.now 0 0 ≡ 4 }
 {
     if !has_short_sums(case, links, weights, 0, 0) {
-        return Ok(format!(in alloc; "-")?);
+        return None;
     }
     let others = table_others(case, links, weights, 0, 0, 3, vec);
-    Ok(format!(in alloc; "{} of {}", others.sum, others.whole)?)
+    Some((others.sum, others.whole))
 }
 
-/// Whether the table tells these numbers and bounds.
-fn has_numbers(
-    alloc: Global,
+/// Tells what a row weighs into other states.
+fn tell_leaving(told: &mut String, leaving: Option<(i64, i64)>) -> Result<(), AllocError> {
+    match leaving {
+        Some((sum, whole)) => write!(told, "{sum} of {whole}"),
+        None => write!(told, "-"),
+    }
+}
+
+/// Tells the numbers and the bounds of the row of state 0, and what is looked up of it.
+fn tell_row(
+    told: &mut String,
     case: &Case,
     links: &Links,
     weights: &[i128],
     vec: &[i64],
-    want: Told<'_>,
-) -> Result<bool, Fail>
+) -> Result<(), AllocError>
     requires read { CanRead case.now links.now (spans_of (sides_of case.now.root)) weights.now 0 0 }
     requires numbers { AreNumbers case.now vec.now }
     requires states { length case.now.model.states ≡ 3 }
     requires corners { corner_count case.now 0 0 ≡ 4 }
     requires precision { case.now.w ≡ 4 }
 {
+    let numbers = numbers_of(case, links, weights, vec);
     let bounds = bounds_of(case, links, weights, vec);
-    let bounds = format!(in alloc; "{bounds:?}")?;
-    let numbers = numbers_of(alloc, case, links, weights, vec)?;
-    Ok(bounds.as_str() == want.bounds && numbers.as_str() == want.numbers)
+    write!(told, "{numbers:?}; {bounds:?}; ")?;
+    tell_sums(told, row_told(case, links, weights, vec))?;
+    tell_only(told, case, links, weights, vec)
 }
 
-/// Whether these are quickly looked up.
-fn has_looked_up(
-    alloc: Global,
+/// Tells the whole of the row of state 0, by the table of the case's root.
+fn tell_table(
+    told: &mut String,
     case: &Case,
     links: &Links,
     weights: &[i128],
-    vec: &[i64],
-    want: Told<'_>,
-) -> Result<bool, Fail>
+) -> Result<(), AllocError>
     requires read { CanRead case.now links.now (spans_of (sides_of case.now.root)) weights.now 0 0 }
-    requires numbers { AreNumbers case.now vec.now }
     requires states { length case.now.model.states ≡ 3 }
+    requires corners { corner_count case.now 0 0 ≡ 4 }
+    requires precision { case.now.w ≡ 4 }
 {
-    let row = row_told(alloc, case, links, weights, vec)?;
-    let only = only_told(alloc, case, links, weights, vec)?;
-    Ok(want.looked.split_once("; ") == Some((row.as_str(), only.as_str())))
+    tell_row(told, case, links, weights, &[0, 16, 0])?;
+    tell_leaving(told, leaving(case, links, weights, &[5, 16, 0]))
 }
 
-/// Makes the table of the case's root, and compares what it tells.
-fn tells_table(
-    alloc: Global,
-    case: &Case,
-    vec: &[i64],
-    other: &[i64],
-    want: Told<'_>,
-) -> Result<bool, Fail>
-    requires numbers { AreNumbers case.now vec.now }
-    requires others { AreNumbers case.now other.now }
+/// The same as a text, by a table that is made.
+fn table_told(alloc: Global, case: &Case, told: &mut String) -> Result<(), AllocError>
     requires states { length case.now.model.states ≡ 3 }
     requires choice { length (choices case.now.model 0) ≡ 1 }
     requires corners { corner_count case.now 0 0 ≡ 4 }
@@ -286,43 +236,46 @@ fn tells_table(
 {
     let links = Links::build(alloc, case.model())?;
     let weights = table_of(alloc, case, &links)?;
-    let has_numbers = has_numbers(alloc, case, &links, &weights, vec, want)?;
-    let has_looked_up = has_looked_up(alloc, case, &links, &weights, vec, want)?;
-    let leaving = leaving(alloc, case, &links, &weights, other)?;
-    Ok(has_numbers && has_looked_up && leaving.as_str() == want.leaving)
+    tell_table(told, case, &links, &weights)
 }
 
 /// The same where the case has three states, and one row of both parameters at state 0.
-fn tells_case(alloc: Global, case: &Case, want: Told<'_>) -> Result<bool, Fail> {
+fn case_told(alloc: Global, case: &Case, told: &mut String) -> Result<(), Untold> {
     rows_at_corners();
     if case.w() != 4 || case.model().states() != 3 || case.model().choices(0) != 1 {
-        return Ok(false);
+        return Err(Untold::Cell);
     }
     if case.model().row(0, 0).support().count_ones() != 2 {
-        return Ok(false);
+        return Err(Untold::Cell);
     }
-    tells_table(alloc, case, &[0, 16, 0], &[5, 16, 0], want)
+    Ok(table_told(alloc, case, told)?)
 }
 
 /// The same for a model.
-fn tells_model(alloc: Global, model: &Model, want: Told<'_>) -> Result<bool, Fail> {
-    let (grid, root) = root_of(alloc, want.region.as_bytes(), model.names(), 0)?;
+fn told_over(alloc: Global, model: &Model, region: &[u8]) -> Result<String, Untold> {
+    let (grid, root) = root_of(alloc, region, model.names(), 0)?;
     let case = case_of(model, &root, grid, 4)?;
-    tells_case(alloc, &case, want)
+    let mut told = String::new(alloc);
+    case_told(alloc, &case, &mut told)?;
+    Ok(told)
 }
 
-/// Whether a row tells what its table does.
-fn tells_row(alloc: Global, line: &str) -> Result<bool, Fail> {
-    let want = told_of(line);
-    let text = chain_of(alloc, want.row)?;
-    let model = model_of(alloc, &text)?;
-    tells_model(alloc, &model, want)
+struct Tables;
+
+impl Teller for Tables {
+    type Told = String;
+
+    type Error = Untold;
+
+    fn tell(&self, alloc: Global, asked: &str) -> Result<String, Untold> {
+        let (row, region) = cut(asked);
+        let text = chain_of(alloc, row)?;
+        let model = model_of(alloc, &text)?;
+        told_over(alloc, &model, region.as_bytes())
+    }
 }
 
 #[test]
-fn reads_a_row_from_its_table(rt: HostRuntime) -> Result<(), Fail> {
-    for line in READ.split('\n') {
-        assert!(rt; tells_row(rt.alloc(), line)?, "{line}");
-    }
-    Ok(())
+fn reads_a_row_from_its_table(rt: HostRuntime) {
+    each_row(&rt, rt.alloc(), READ, &Tables);
 }

@@ -3,14 +3,13 @@
 ghost use Rattle.std.specs.Prelude.{◌≤◌};
 ghost use Rattle.corner_lift.specs.Case.{most_precision};
 
-use crate::cells::cut;
+use crate::cells::{Teller, Untold, each_row};
 use crate::example::{case_of, model_of, process_of, root_of, table_of};
 use corner_lift::Case;
 use lift_model::{Links, Model};
 use rounded_iter::{least_upper, least_value};
 use std::alloc::Global;
 use std::string::String;
-use std::test::Fail;
 
 /// The region of the tables.
 const REGION: &[u8] = b"2/5<=p<=3/5,1/5<=q<=2/5";
@@ -23,19 +22,24 @@ const REGION: &[u8] = b"2/5<=p<=3/5,1/5<=q<=2/5";
 /// has high p and low q, and its least one low p and high q; two states that lead to each other; and a
 /// state that nothing leads to.
 const LEAST: &str = "\
-action a;1 : 1/4;2 : 3/4 | [4, 16, 0] | [4, 16, 0]
-action a;1 : 1/10;2 : 9/10 | [2, 16, 0] | [2, 16, 0]
-action a;0 : 1/2;1 : 1/4;2 : 1/4 | [8, 16, 0] | [8, 16, 0]
-action a;1 : p;2 : 1-p;action b;1 : 1-p;2 : p | [10, 16, 0] | [7, 16, 0]
-action a;0 : 1;action b;1 : p;2 : 1-p | [10, 16, 0] | [7, 16, 0]
-action a;0 : 1 | [0, 16, 0] | [0, 16, 0]
-action a;0 : p;1 : 1/5;2 : 4/5-p | [8, 16, 0] | [6, 16, 0]
-action a;1 : p*(1-q);2 : 1-p*(1-q) | [8, 16, 0] | [4, 16, 0]
-action a;3 : 1/2;2 : 1/2 / action a;0 : 1/2;1 : 1/2 | [6, 16, 0, 11] | [6, 16, 0, 11]
-action a;1 : p;2 : 1-p / action a;0 : 1/2;3 : 1/2 | [10, 16, 0, 10] | [7, 16, 0, 7]";
+action a;1 : 1/4;2 : 3/4 | [4, 16, 0]; [4, 16, 0]
+action a;1 : 1/10;2 : 9/10 | [2, 16, 0]; [2, 16, 0]
+action a;0 : 1/2;1 : 1/4;2 : 1/4 | [8, 16, 0]; [8, 16, 0]
+action a;1 : p;2 : 1-p;action b;1 : 1-p;2 : p | [10, 16, 0]; [7, 16, 0]
+action a;0 : 1;action b;1 : p;2 : 1-p | [10, 16, 0]; [7, 16, 0]
+action a;0 : 1 | [0, 16, 0]; [0, 16, 0]
+action a;0 : p;1 : 1/5;2 : 4/5-p | [8, 16, 0]; [6, 16, 0]
+action a;1 : p*(1-q);2 : 1-p*(1-q) | [8, 16, 0]; [4, 16, 0]
+action a;3 : 1/2;2 : 1/2 / action a;0 : 1/2;1 : 1/2 | [6, 16, 0, 11]; [6, 16, 0, 11]
+action a;1 : p;2 : 1-p / action a;0 : 1/2;3 : 1/2 | [10, 16, 0, 10]; [7, 16, 0, 7]";
+
+/// Both vectors as they are shown.
+fn shown(alloc: Global, upper: &[i64], value: &[i64]) -> Result<String, Untold> {
+    Ok(format!(in alloc; "{upper:?}; {value:?}")?)
+}
 
 /// The least upper vector and the least value vector of the case on its root.
-fn least_of(alloc: Global, case: &Case) -> Result<String, Fail> {
+fn least_of(alloc: Global, case: &Case) -> Result<String, Untold> {
     let count = case.model().states() as usize;
     let links = Links::build(alloc, case.model())?;
     let weights = table_of(alloc, case, &links)?;
@@ -44,8 +48,7 @@ fn least_of(alloc: Global, case: &Case) -> Result<String, Fail> {
     let mut work = vec![in alloc; 0; 2 * count]?;
     least_upper(case, &links, &weights, &mut upper, &mut work);
     least_value(case, &links, &weights, &mut value, &mut work);
-    let (upper, value) = (upper.as_slice(), value.as_slice());
-    Ok(format!(in alloc; "{upper:?} | {value:?}")?)
+    shown(alloc, &upper, &value)
 }
 
 /// The choices of state 0 and of a state 3, which lead to each other and leave that cycle with 1/4096, and
@@ -57,42 +60,53 @@ fn least_of(alloc: Global, case: &Case) -> Result<String, Fail> {
 /// where it is lost: a number below half of 2^20 is never enough, as what leaves adds a little, and half of it
 /// is. From 0 on that takes half a million rounds.
 const SLOW: &str = "\
-action a;3 : 1-1e-17;1 : 1e-17/2;2 : 1e-17/2 / action a;0 : 1-1e-17;1 : 1e-17/2;2 : 1e-17/2 | [524288, 1048576, 0, 524288] | [524288, 1048576, 0, 524288]
-action a;3 : 4095/4096;2 : 1/4096 / action a;0 : 4095/4096;1 : 1/4096 | [524288, 1048576, 0, 524416] | [524288, 1048576, 0, 524416]";
+action a;3 : 1-1e-17;1 : 1e-17/2;2 : 1e-17/2 / action a;0 : 1-1e-17;1 : 1e-17/2;2 : 1e-17/2 | [524288, 1048576, 0, 524288]; [524288, 1048576, 0, 524288]
+action a;3 : 4095/4096;2 : 1/4096 / action a;0 : 4095/4096;1 : 1/4096 | [524288, 1048576, 0, 524416]; [524288, 1048576, 0, 524416]";
 
-/// Whether the model has these least vectors at that precision.
-fn has_least(alloc: Global, model: &Model, w: u32, want: &str) -> Result<bool, Fail>
+/// The least vectors of a model at that precision.
+fn least_over(alloc: Global, model: &Model, w: u32) -> Result<String, Untold>
     requires low { 1 ≤ w }
     requires high { w ≤ most_precision }
 {
     let (grid, root) = root_of(alloc, REGION, model.names(), 0)?;
     let case = case_of(model, &root, grid, w)?;
-    Ok(least_of(alloc, &case)?.as_str() == want)
+    least_of(alloc, &case)
 }
 
-/// Whether a row tells the least vectors.
-fn tells_least(alloc: Global, row: &str, w: u32) -> Result<bool, Fail>
-    requires low { 1 ≤ w }
-    requires high { w ≤ most_precision }
-{
-    let (choices, want) = cut(row);
-    let text = process_of(alloc, "p q", choices)?;
-    let model = model_of(alloc, &text)?;
-    has_least(alloc, &model, w, want)
+struct LeastVectors;
+
+impl Teller for LeastVectors {
+    type Told = String;
+
+    type Error = Untold;
+
+    fn tell(&self, alloc: Global, asked: &str) -> Result<String, Untold> {
+        let text = process_of(alloc, "p q", asked)?;
+        let model = model_of(alloc, &text)?;
+        least_over(alloc, &model, 4)
+    }
 }
 
 #[test]
-fn finds_the_least_vectors(rt: HostRuntime) -> Result<(), Fail> {
-    for row in LEAST.split('\n') {
-        assert!(rt; tells_least(rt.alloc(), row, 4)?, "{row}");
+fn finds_the_least_vectors(rt: HostRuntime) {
+    each_row(&rt, rt.alloc(), LEAST, &LeastVectors);
+}
+
+struct SlowCycles;
+
+impl Teller for SlowCycles {
+    type Told = String;
+
+    type Error = Untold;
+
+    fn tell(&self, alloc: Global, asked: &str) -> Result<String, Untold> {
+        let text = process_of(alloc, "p q", asked)?;
+        let model = model_of(alloc, &text)?;
+        least_over(alloc, &model, 20)
     }
-    Ok(())
 }
 
 #[test]
-fn finds_the_least_vectors_of_slow_cycles(rt: HostRuntime) -> Result<(), Fail> {
-    for row in SLOW.split('\n') {
-        assert!(rt; tells_least(rt.alloc(), row, 20)?, "{row}");
-    }
-    Ok(())
+fn finds_the_least_vectors_of_slow_cycles(rt: HostRuntime) {
+    each_row(&rt, rt.alloc(), SLOW, &SlowCycles);
 }

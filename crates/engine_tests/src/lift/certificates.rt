@@ -3,15 +3,14 @@
 ghost use Rattle.std.specs.Prelude.{◌≡◌, length, All, IfOk};
 ghost use Rattle.engine_tests.specs.Lane.{IsInLane};
 
-use crate::cells::{cut_two, signed};
+use crate::cells::{Teller, Untold, cut, each_row, signed};
 use crate::example::{case_of, model_of, root_of};
 use corner_lift::Case;
 use lift_cert::{Bound, Miss, meets_accept};
 use lift_frac::{Frac, read_ratio};
 use lift_model::Model;
 use std::alloc::Global;
-use std::process::Abort;
-use std::test::Fail;
+use std::string::String;
 
 /// The bound of a fraction from 0 to 1.
 fn bound_by(fraction: Frac) -> Option<Bound> {
@@ -27,11 +26,8 @@ fn bound_by(fraction: Frac) -> Option<Bound> {
 }
 
 /// The bound that a cell writes.
-pub(crate) fn bound_of(cell: &str) -> Result<Bound, Fail> {
-    match read_ratio(cell).and_then(bound_by) {
-        Some(bound) => Ok(bound),
-        None => Err(Fail::new("a cell writes no bound")),
-    }
+pub(crate) fn bound_of(cell: &str) -> Result<Bound, Untold> {
+    read_ratio(cell).and_then(bound_by).ok_or(Untold::Cell)
 }
 
 /// At precision 4: the value, the bound, and whether the value over 16 is at most the bound.
@@ -42,19 +38,22 @@ const BOUNDS: &str = "\
 0 | 0/1 | true
 16 | 1/1 | true";
 
-/// Whether a row tells what the bound admits.
-fn tells_admitted(row: &str) -> Result<bool, Fail> {
-    let (value, bound, want) = cut_two(row);
-    let (value, bound) = (signed(value)?, bound_of(bound)?);
-    Ok((want == "true") == bound.admits(value, 4))
+struct Bounds;
+
+impl Teller for Bounds {
+    type Told = bool;
+
+    type Error = Untold;
+
+    fn tell(&self, _alloc: Global, asked: &str) -> Result<bool, Untold> {
+        let (value, bound) = cut(asked);
+        Ok(bound_of(bound)?.admits(signed(value), 4))
+    }
 }
 
 #[test]
-fn admits_values_up_to_the_bound(rt: HostRuntime) -> Result<(), Fail> {
-    for row in BOUNDS.split('\n') {
-        assert!(rt; tells_admitted(row)?, "{row}");
-    }
-    Ok(())
+fn admits_values_up_to_the_bound(rt: HostRuntime) {
+    each_row(&rt, rt.alloc(), BOUNDS, &Bounds);
 }
 
 /// A coin that shows heads, the goal, with p.
@@ -75,12 +74,12 @@ const ACCEPT: &str = "\
 6 15 0 | 1/4 | Err(Goal { state: 1, value: 15 })";
 
 /// A number from 0 to 16.
-fn number_of(word: &str) -> Result<i64, Fail>
+fn number_of(word: &str) -> Result<i64, Untold>
     ensures { IfOk result IsInLane }
 {
-    let number = signed(word)?;
+    let number = signed(word);
     if number < 0 || number > 16 {
-        return Err(Fail::new("a number isn't from 0 to 16"));
+        return Err(Untold::Cell);
     }
     Ok(number)
 }
@@ -93,7 +92,7 @@ fn words_of(cell: &str) -> (&str, &str, &str) {
 }
 
 /// The numbers of three states.
-pub(crate) fn numbers_of(cell: &str) -> Result<[i64; 3], Fail>
+pub(crate) fn numbers_of(cell: &str) -> Result<[i64; 3], Untold>
     ensures { IfOk result (λ x. All IsInLane x) }
 {
     let (first, second, third) = words_of(cell);
@@ -103,10 +102,9 @@ pub(crate) fn numbers_of(cell: &str) -> Result<[i64; 3], Fail>
     Ok([first, second, third])
 }
 
-/// Whether this answer is shown so.
-pub(crate) fn is_shown(alloc: Global, answer: Result<(), Miss>, want: &str) -> Result<bool, Fail> {
-    let shown = format!(in alloc; "{answer:?}")?;
-    Ok(shown.as_str() == want)
+/// An answer as it is shown.
+pub(crate) fn shown(alloc: Global, answer: Result<(), Miss>) -> Result<String, Untold> {
+    Ok(format!(in alloc; "{answer:?}")?)
 }
 
 /// The answer on the whole root.
@@ -118,44 +116,45 @@ fn answer_of(case: &Case, bound: Bound, x: &[i64]) -> Result<(), Miss>
     meets_accept(case, case.root().sides(), bound, x)
 }
 
-/// Whether a row tells the answer.
-fn tells_answer(alloc: Global, case: &Case, row: &str) -> Result<bool, Fail>
+/// The answer to these cells.
+fn answer_told(alloc: Global, case: &Case, asked: &str) -> Result<String, Untold>
     requires precision { case.now.w ≡ 4 }
     requires states { length case.now.model.states ≡ 3 }
 {
-    let (numbers, bound, want) = cut_two(row);
+    let (numbers, bound) = cut(asked);
     let (x, bound) = (numbers_of(numbers)?, bound_of(bound)?);
-    is_shown(alloc, answer_of(case, bound, &x), want)
-}
-
-/// Compares the answers of a case with those of the table.
-fn compare(rt: &impl Abort, alloc: Global, case: &Case) -> Result<(), Fail>
-    requires precision { case.now.w ≡ 4 }
-    requires states { length case.now.model.states ≡ 3 }
-{
-    for row in ACCEPT.split('\n') {
-        assert!(rt; tells_answer(alloc, case, row)?, "{row}");
-    }
-    Ok(())
+    shown(alloc, answer_of(case, bound, &x))
 }
 
 /// The same, where the case is at precision 4 and has three states.
-fn compare_on(rt: &impl Abort, alloc: Global, case: &Case) -> Result<(), Fail> {
+fn answer_on(alloc: Global, case: &Case, asked: &str) -> Result<String, Untold> {
     if case.w() != 4 || case.model().states() != 3 {
-        return Err(Fail::new("the case is another one"));
+        return Err(Untold::Cell);
     }
-    compare(rt, alloc, case)
+    answer_told(alloc, case, asked)
 }
 
 /// The same for a model.
-fn compare_over(rt: &impl Abort, alloc: Global, model: &Model) -> Result<(), Fail> {
+fn answer_over(alloc: Global, model: &Model, asked: &str) -> Result<String, Untold> {
     let (grid, root) = root_of(alloc, b"1/10<=p<=2/5", model.names(), 0)?;
     let case = case_of(model, &root, grid, 4)?;
-    compare_on(rt, alloc, &case)
+    answer_on(alloc, &case, asked)
+}
+
+struct Acceptances;
+
+impl Teller for Acceptances {
+    type Told = String;
+
+    type Error = Untold;
+
+    fn tell(&self, alloc: Global, asked: &str) -> Result<String, Untold> {
+        let model = model_of(alloc, COIN)?;
+        answer_over(alloc, &model, asked)
+    }
 }
 
 #[test]
-fn finds_the_first_miss(rt: HostRuntime) -> Result<(), Fail> {
-    let model = model_of(rt.alloc(), COIN)?;
-    compare_over(&rt, rt.alloc(), &model)
+fn finds_the_first_miss(rt: HostRuntime) {
+    each_row(&rt, rt.alloc(), ACCEPT, &Acceptances);
 }

@@ -6,15 +6,14 @@ ghost use Rattle.lift_model.specs.Model.{choices};
 ghost use Rattle.corner_lift.specs.Case.{AreSidesInside, corner_count};
 ghost use Rattle.corner_lift.specs.Certificate.{AreNumbers};
 
-use crate::cells::cut;
-use crate::example::{case_of, listed, model_of, root_of};
+use crate::cells::{Teller, Untold, count, each_row};
+use crate::example::{case_of, model_of, root_of};
 use corner_lift::{
     Case, corners_bound_weights, row_max, row_min, row_value, rows_at_corners, weight_into, whole,
 };
 use lift_model::Model;
 use std::alloc::Global;
-use std::process::Abort;
-use std::test::Fail;
+use std::string::String;
 
 /// p q, p - p q and 1 - p to the states 0, 1 and 2, of which 1 is the goal.
 const PRODUCTS: &str = "@type: DTMC;@parameters;p q;@model;state 0 init;0 : p*q;1 : p-p*q;2 : 1-p;\
@@ -24,8 +23,8 @@ state 1 goal;1 : 1;state 2;2 : 1";
 /// greatest of these, the weight into the goal state at corner 1, that into state 2 at corner 2, and the
 /// greatest depth.
 const WEIGHED: &str = "\
-0 | [32, 64, 16, 32] | [25, 16, 64, 4, 20, 0]
-1 | [128, 256, 64, 128] | [100, 64, 256, 16, 80, 1]";
+0 | [32, 64, 16, 32]; [25, 16, 64, 4, 20, 0]
+1 | [128, 256, 64, 128]; [100, 64, 256, 16, 80, 1]";
 
 /// What the row of state 0 sums to at each corner.
 fn sums_of(case: &Case, sides: &[i64], vec: &[i64]) -> [i128; 4]
@@ -67,68 +66,62 @@ fn weights_of(case: &Case, sides: &[i64]) -> (i128, i128)
     (goal, other)
 }
 
-/// Whether the row of state 0 weighs what these cells tell.
-fn weighs(alloc: Global, case: &Case, sides: &[i64], vec: &[i64], cells: &str) -> Result<bool, Fail>
+/// What the row of state 0 weighs.
+fn weighed(alloc: Global, case: &Case, sides: &[i64], vec: &[i64]) -> Result<String, Untold>
     requires sides { AreSidesInside case.now.root sides.now }
     requires numbers { AreNumbers case.now vec.now }
     requires states { length case.now.model.states ≡ 3 }
     requires choice { length (choices case.now.model 0) ≡ 1 }
     requires corners { corner_count case.now 0 0 ≡ 4 }
 {
-    let whole = whole(case, 0, 0);
-    let sums = listed(alloc, &sums_of(case, sides, vec))?;
+    let sums = sums_of(case, sides, vec);
     let (least, greatest) = ends_of(case, sides, vec);
     let (goal, other) = weights_of(case, sides);
     let depth = i128::from(case.greatest_depth());
-    let others = listed(alloc, &[whole, least, greatest, goal, other, depth])?;
-    Ok(cells.split_once(" | ") == Some((sums.as_str(), others.as_str())))
+    let others = [whole(case, 0, 0), least, greatest, goal, other, depth];
+    Ok(format!(in alloc; "{sums:?}; {others:?}")?)
 }
 
 /// The same on the root of a case, which has to have three states, and one row of both parameters at state 0.
-fn weighs_on(alloc: Global, case: &Case, cells: &str) -> Result<bool, Fail> {
+fn weighed_on(alloc: Global, case: &Case) -> Result<String, Untold> {
     rows_at_corners();
     if case.w() != 4 || case.model().states() != 3 || case.model().choices(0) != 1 {
-        return Ok(false);
+        return Err(Untold::Cell);
     }
     if case.model().row(0, 0).support().count_ones() != 2 {
-        return Ok(false);
+        return Err(Untold::Cell);
     }
-    weighs(alloc, case, case.root().sides(), &[0, 16, 0], cells)
+    weighed(alloc, case, case.root().sides(), &[0, 16, 0])
 }
 
 /// The same over a region of the parameters at a depth.
-fn weighs_over(alloc: Global, model: &Model, depth: u32, cells: &str) -> Result<bool, Fail>
+fn weighed_over(alloc: Global, model: &Model, depth: u32) -> Result<String, Untold>
     requires { depth ≤ most_halvings }
 {
-    let (grid, root) = root_of(alloc, REGION, model.names(), depth)?;
+    let (grid, root) = root_of(alloc, b"1/5<=p<=2/5,3/5<=q<=4/5", model.names(), depth)?;
     let case = case_of(model, &root, grid, 4)?;
-    weighs_on(alloc, &case, cells)
+    weighed_on(alloc, &case)
 }
 
-/// The region of the table.
-const REGION: &[u8] = b"1/5<=p<=2/5,3/5<=q<=4/5";
+struct Weights;
 
-/// Whether a row tells what the row of state 0 weighs.
-fn tells_weights(alloc: Global, model: &Model, row: &str) -> Result<bool, Fail> {
-    let (depth, cells) = cut(row);
-    let depth: u32 = depth.parse()?;
-    if depth > 20 {
-        return Ok(false);
-    }
-    weighs_over(alloc, model, depth, cells)
-}
+impl Teller for Weights {
+    type Told = String;
 
-/// Compares what the row of state 0 weighs with the table.
-fn compare(rt: &impl Abort, alloc: Global, model: &Model) -> Result<(), Fail> {
-    for row in WEIGHED.split('\n') {
-        assert!(rt; tells_weights(alloc, model, row)?, "{row}");
+    type Error = Untold;
+
+    fn tell(&self, alloc: Global, asked: &str) -> Result<String, Untold> {
+        let depth = count(asked);
+        if depth > 20 {
+            return Err(Untold::Cell);
+        }
+        let model = model_of(alloc, PRODUCTS)?;
+        weighed_over(alloc, &model, depth)
     }
-    Ok(())
 }
 
 #[test]
-fn weighs_a_row_at_its_corners(rt: HostRuntime) -> Result<(), Fail> {
-    let model = model_of(rt.alloc(), PRODUCTS)?;
+fn weighs_a_row_at_its_corners(rt: HostRuntime) {
     corners_bound_weights();
-    compare(&rt, rt.alloc(), &model)
+    each_row(&rt, rt.alloc(), WEIGHED, &Weights);
 }

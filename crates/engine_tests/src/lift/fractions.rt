@@ -1,10 +1,10 @@
 //! Tests of fractions, literals and common divisors.
 
-use crate::cells::{cut, cut_three, cut_two};
+use crate::cells::{Teller, Untold, cut, cut_two, each_row};
 use lift_frac::{Frac, FracError, gcd, lcm, literal_len, read_literal};
 use std::alloc::{AllocError, Global};
 use std::cmp::Ordering;
-use std::test::Fail;
+use std::convert::Infallible;
 
 /// The two parts of a fraction, or why there is none.
 fn shown(alloc: Global, answer: Result<Frac, FracError>) -> Result<String, AllocError> {
@@ -56,48 +56,70 @@ const LITERALS: &str = "\
 -1 | BadLiteral
  | BadLiteral";
 
-/// Whether a literal writes the fraction that is shown so.
-fn is_read(alloc: Global, text: &[u8], want: &str) -> Result<bool, AllocError> {
-    Ok(shown(alloc, read_literal(text))?.as_str() == want)
-}
+struct Literals;
 
-#[test]
-fn reads_literals(rt: HostRuntime) -> Result<(), Fail> {
-    for row in LITERALS.split('\n') {
-        let (text, want) = cut(row);
-        assert!(rt; is_read(rt.alloc(), text.as_bytes(), want)?, "{row}");
+impl Teller for Literals {
+    type Told = String;
+
+    type Error = AllocError;
+
+    fn tell(&self, alloc: Global, asked: &str) -> Result<String, AllocError> {
+        shown(alloc, read_literal(asked.as_bytes()))
     }
-    Ok(())
-}
-
-/// Whether 5000 digits, of which the first is a 1 and the others are zeros, and an exponent write the fraction that is shown so.
-fn is_power_read(alloc: Global, exponent: &[u8], want: &str) -> Result<bool, AllocError> {
-    let mut digits = vec![in alloc; b'0'; 5000]?;
-    digits[0] = b'1';
-    digits.extend_from_slice(exponent)?;
-    is_read(alloc, &digits, want)
 }
 
 #[test]
-fn reads_long_digits(rt: HostRuntime) -> Result<(), Fail> {
-    assert!(rt; is_power_read(rt.alloc(), b"", "Wide")?);
-    assert!(rt; is_power_read(rt.alloc(), b"e-4999", "1/1")?);
-    Ok(())
+fn reads_literals(rt: HostRuntime) {
+    each_row(&rt, rt.alloc(), LITERALS, &Literals);
 }
 
-/// Whether a digit, `e`, and then nines write the fraction that is shown so.
-fn is_exponent_read(alloc: Global, digit: u8, want: &str) -> Result<bool, AllocError> {
-    let mut text = vec![in alloc; b'9'; 5000]?;
-    text[0] = digit;
-    text[1] = b'e';
-    is_read(alloc, &text, want)
+/// What stands behind 5000 digits, of which the first is a 1 and the others are zeros, and the fraction that all write.
+const POWERS: &str = "\
+e-4999 | 1/1
+ | Wide";
+
+struct Powers;
+
+impl Teller for Powers {
+    type Told = String;
+
+    type Error = AllocError;
+
+    fn tell(&self, alloc: Global, asked: &str) -> Result<String, AllocError> {
+        let mut text = vec![in alloc; b'0'; 5000]?;
+        text[0] = b'1';
+        text.extend_from_slice(asked.as_bytes())?;
+        shown(alloc, read_literal(&text))
+    }
 }
 
 #[test]
-fn reads_long_exponents(rt: HostRuntime) -> Result<(), Fail> {
-    assert!(rt; is_exponent_read(rt.alloc(), b'9', "Wide")?);
-    assert!(rt; is_exponent_read(rt.alloc(), b'0', "0/1")?);
-    Ok(())
+fn reads_long_digits(rt: HostRuntime) {
+    each_row(&rt, rt.alloc(), POWERS, &Powers);
+}
+
+/// What stands before 4998 nines, and the fraction that all write.
+const EXPONENTS: &str = "\
+9e | Wide
+0e | 0/1";
+
+struct Exponents;
+
+impl Teller for Exponents {
+    type Told = String;
+
+    type Error = AllocError;
+
+    fn tell(&self, alloc: Global, asked: &str) -> Result<String, AllocError> {
+        let mut text = Vec::from_slice(alloc, asked.as_bytes())?;
+        text.resize(5000, b'9')?;
+        shown(alloc, read_literal(&text))
+    }
+}
+
+#[test]
+fn reads_long_exponents(rt: HostRuntime) {
+    each_row(&rt, rt.alloc(), EXPONENTS, &Exponents);
 }
 
 /// Two fractions, an operation, and what it gives.
@@ -132,28 +154,32 @@ fn computed(left: &str, operation: &str, right: &str) -> Result<Frac, FracError>
     }
 }
 
-/// Whether a row tells what its operation gives.
-fn tells_computed(alloc: Global, row: &str) -> Result<bool, AllocError> {
-    let (left, operation, right, want) = cut_three(row);
-    Ok(shown(alloc, computed(left, operation, right))?.as_str() == want)
+struct Operations;
+
+impl Teller for Operations {
+    type Told = String;
+
+    type Error = AllocError;
+
+    fn tell(&self, alloc: Global, asked: &str) -> Result<String, AllocError> {
+        let (left, operation, right) = cut_two(asked);
+        shown(alloc, computed(left, operation, right))
+    }
 }
 
 #[test]
-fn computes(rt: HostRuntime) -> Result<(), Fail> {
-    for row in OPERATIONS.split('\n') {
-        assert!(rt; tells_computed(rt.alloc(), row)?, "{row}");
-    }
-    Ok(())
+fn computes(rt: HostRuntime) {
+    each_row(&rt, rt.alloc(), OPERATIONS, &Operations);
 }
 
 /// Two fractions, and how they stand to each other.
 const ORDERS: &str = "\
-1/3 | Less | 1/2
-1/2 | Greater | 1/3
--1/2 | Less | 1/3
--1/2 | Less | -1/3
-1/2 | Equal | 2/4
--0/1 | Equal | 0";
+1/3 | 1/2 | Less
+1/2 | 1/3 | Greater
+-1/2 | 1/3 | Less
+-1/2 | -1/3 | Less
+1/2 | 2/4 | Equal
+-0/1 | 0 | Equal";
 
 fn order_name(order: Ordering) -> &'static str {
     match order {
@@ -168,19 +194,23 @@ fn is_zero_its_opposite() -> bool {
     Frac::whole(0).neg() == Frac::whole(0)
 }
 
-/// Whether a row tells how its fractions stand to each other.
-fn tells_order(row: &str) -> Result<bool, FracError> {
-    let (left, want, right) = cut_two(row);
-    Ok(order_name(fraction(left)?.order(fraction(right)?)) == want)
+struct Orders;
+
+impl Teller for Orders {
+    type Told = &'static str;
+
+    type Error = FracError;
+
+    fn tell(&self, _alloc: Global, asked: &str) -> Result<&'static str, FracError> {
+        let (left, right) = cut(asked);
+        Ok(order_name(fraction(left)?.order(fraction(right)?)))
+    }
 }
 
 #[test]
-fn orders_fractions(rt: HostRuntime) -> Result<(), Fail> {
-    for row in ORDERS.split('\n') {
-        assert!(rt; tells_order(row)?, "{row}");
-    }
+fn orders_fractions(rt: HostRuntime) {
+    each_row(&rt, rt.alloc(), ORDERS, &Orders);
     assert!(rt; is_zero_its_opposite());
-    Ok(())
 }
 
 /// Two numbers, and their greatest common divisor.
@@ -195,15 +225,28 @@ fn number(cell: &str) -> u128 {
     cell.parse::<u128>().unwrap_or(99)
 }
 
+struct Divisors;
+
+impl Teller for Divisors {
+    type Told = u128;
+
+    type Error = Infallible;
+
+    fn tell(&self, _alloc: Global, asked: &str) -> Result<u128, Infallible> {
+        let (left, right) = cut(asked);
+        Ok(gcd(number(left), number(right)))
+    }
+}
+
+/// Whether 4 and 6 have the least common multiple 12, and 0 and 6 have 0.
+fn finds_multiples() -> bool {
+    lcm(4, 6) == 12 && lcm(0, 6) == 0
+}
+
 #[test]
 fn finds_common_divisors(rt: HostRuntime) {
-    for row in DIVISORS.split('\n') {
-        let (left, right, want) = cut_two(row);
-        let divisor = gcd(number(left), number(right));
-        assert!(rt; divisor == number(want), "{row}");
-    }
-    assert_eq!(rt; lcm(4, 6), 12);
-    assert_eq!(rt; lcm(0, 6), 0);
+    each_row(&rt, rt.alloc(), DIVISORS, &Divisors);
+    assert!(rt; finds_multiples());
 }
 
 /// A text, and how many bytes the longest literal at its front has.
@@ -215,19 +258,22 @@ const LENGTHS: &str = "\
 3.0e | 3
 1.2.3 | 3";
 
-/// How many bytes the longest literal has at the front of a text that begins with a digit.
-fn length_of(text: &[u8]) -> Option<usize> {
-    match text {
-        [b'0'..=b'9', ..] => Some(literal_len(text)),
-        _ => None,
+struct Lengths;
+
+impl Teller for Lengths {
+    type Told = usize;
+
+    type Error = Untold;
+
+    fn tell(&self, _alloc: Global, asked: &str) -> Result<usize, Untold> {
+        match asked.as_bytes() {
+            text @ [b'0'..=b'9', ..] => Ok(literal_len(text)),
+            _ => Err(Untold::Cell),
+        }
     }
 }
 
 #[test]
 fn finds_the_longest_literal(rt: HostRuntime) {
-    for row in LENGTHS.split('\n') {
-        let (text, want) = cut(row);
-        let got = length_of(text.as_bytes());
-        assert!(rt; got.is_some() && got == want.parse().ok(), "{row}");
-    }
+    each_row(&rt, rt.alloc(), LENGTHS, &Lengths);
 }

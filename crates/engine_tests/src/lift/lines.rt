@@ -1,10 +1,10 @@
 //! Tests of lines that are read one by one.
 
-use crate::cells::{cut, cut_three, cut_two, number};
+use crate::cells::{Teller, cut, cut_three, each_row, number};
 use lift_base::{LineError, Lines, MemSource, Piece};
 use std::alloc::{AllocError, Global};
 use std::fmt::Write;
-use std::test::Fail;
+use std::string::String;
 
 /// The bytes of a text, in which `/` stands for a line feed.
 fn bytes_of(alloc: Global, text: &str) -> Result<Vec<u8>, AllocError> {
@@ -79,17 +79,12 @@ fn tell_lines(
     Ok(())
 }
 
-/// Whether these lines and answers come of a source.
-fn is_told(
-    alloc: Global,
-    source: &mut MemSource,
-    limit: u64,
-    want: &str,
-) -> Result<bool, AllocError> {
+/// The lines and answers that come of a source.
+fn told_of(alloc: Global, source: &mut MemSource, limit: u64) -> Result<String, AllocError> {
     let mut lines = Lines::make(alloc, limit.min(99))?;
     let mut told = Vec::new(alloc);
     tell_lines(&mut lines, source, &mut told)?;
-    Ok(told.as_slice() == want.as_bytes())
+    String::from_utf8_lossy(alloc, &told)
 }
 
 /// A text; how many bytes a call gives; the call that fails, none where it is 0; how many bytes are
@@ -121,21 +116,24 @@ a/bc | 1 | 0 | 3 | a/TooLong
 a | 1 | 2 | 0 | TooLong
  | 1 | 0 | 0 | End";
 
-/// Whether a row tells what comes of its text.
-fn tells_lines(alloc: Global, row: &str) -> Result<bool, AllocError> {
-    let (text, step, failing, rest) = cut_three(row);
-    let (limit, want) = cut(rest);
-    let bytes = bytes_of(alloc, text)?;
-    let mut source = source_of(alloc, bytes, number(step) as usize, number(failing))?;
-    is_told(alloc, &mut source, number(limit), want)
+struct Told;
+
+impl Teller for Told {
+    type Told = String;
+
+    type Error = AllocError;
+
+    fn tell(&self, alloc: Global, asked: &str) -> Result<String, AllocError> {
+        let (text, step, failing, limit) = cut_three(asked);
+        let bytes = bytes_of(alloc, text)?;
+        let mut source = source_of(alloc, bytes, number(step) as usize, number(failing))?;
+        told_of(alloc, &mut source, number(limit))
+    }
 }
 
 #[test]
-fn gives_lines_and_stays_at_the_last_answer(rt: HostRuntime) -> Result<(), Fail> {
-    for row in TOLD.split('\n') {
-        assert!(rt; tells_lines(rt.alloc(), row)?, "{row}");
-    }
-    Ok(())
+fn gives_lines_and_stays_at_the_last_answer(rt: HostRuntime) {
+    each_row(&rt, rt.alloc(), TOLD, &Told);
 }
 
 /// Adds a line of so many bytes, without its line feed where a dash stands behind the number.
@@ -195,12 +193,12 @@ fn tell_lengths(
     Ok(())
 }
 
-/// Whether lines of these lengths and this answer come of a source.
-fn has_lengths(alloc: Global, source: &mut MemSource, want: &str) -> Result<bool, AllocError> {
+/// The lengths of the lines that come of a source, and the answer behind them.
+fn lengths_of(alloc: Global, source: &mut MemSource) -> Result<String, AllocError> {
     let mut lines = Lines::make(alloc, 1 << 32)?;
     let mut told = String::new(alloc);
     tell_lengths(&mut lines, source, &mut told)?;
-    Ok(told.as_str() == want)
+    Ok(told)
 }
 
 /// The lengths of lines, a dash behind one without line feed; the call that fails, each giving 4096 bytes;
@@ -218,18 +216,22 @@ const LONG: &str = "\
 1048577 | 258 | Long 0
 1048577 | 257 | Fault 0";
 
-/// Whether a row tells the lengths of the lines that come.
-fn tells_lengths(alloc: Global, row: &str) -> Result<bool, AllocError> {
-    let (counts, failing, want) = cut_two(row);
-    let bytes = long_bytes(alloc, counts)?;
-    let mut source = source_of(alloc, bytes, 1 << 30, number(failing))?;
-    has_lengths(alloc, &mut source, want)
+struct Lengths;
+
+impl Teller for Lengths {
+    type Told = String;
+
+    type Error = AllocError;
+
+    fn tell(&self, alloc: Global, asked: &str) -> Result<String, AllocError> {
+        let (counts, failing) = cut(asked);
+        let bytes = long_bytes(alloc, counts)?;
+        let mut source = source_of(alloc, bytes, 1 << 30, number(failing))?;
+        lengths_of(alloc, &mut source)
+    }
 }
 
 #[test]
-fn gives_lines_of_all_lengths(rt: HostRuntime) -> Result<(), Fail> {
-    for row in LONG.split('\n') {
-        assert!(rt; tells_lengths(rt.alloc(), row)?, "{row}");
-    }
-    Ok(())
+fn gives_lines_of_all_lengths(rt: HostRuntime) {
+    each_row(&rt, rt.alloc(), LONG, &Lengths);
 }

@@ -1,10 +1,10 @@
 //! Tests of models.
 
-use crate::cells::{count, cut_two};
+use crate::cells::{Teller, Untold, count, each_row};
 use crate::example::model_of;
 use lift_model::{Kind, Model, plans_over_one_pick};
-use std::process::Abort;
-use std::test::Fail;
+use std::alloc::Global;
+use std::string::String;
 
 /// A coin that may be turned: from state 0 to the goal 1 with p or with 1 - p.
 const TURNED: &str = "@type: MDP;@parameters;p;@model;state 0 init;action a;1 : p;2 : 1-p;\
@@ -12,18 +12,30 @@ action b;1 : 1-p;2 : p;state 1 goal;action a;1 : 1;state 2;action a;2 : 1";
 
 /// A state, whether it is a goal state, and how many choices it has.
 const STATES: &str = "\
-0 | false | 2
-1 | true | 1
-2 | false | 1";
+0 | false, 2
+1 | true, 1
+2 | false, 1";
 
-/// Whether the model tells of the state what a row says.
-fn tells_state(model: &Model, row: &str) -> Result<bool, Fail> {
-    let (state, goal, choices) = cut_two(row);
-    let (state, goal, choices) = (count(state)?, goal == "true", count(choices)?);
+/// What the model tells of a state.
+fn state_told(alloc: Global, model: &Model, state: u32) -> Result<String, Untold> {
     if state >= model.states() {
-        return Ok(false);
+        return Err(Untold::Cell);
     }
-    Ok(model.is_goal(state) == goal && model.choices(state) == choices)
+    let (is_goal, choices) = (model.is_goal(state), model.choices(state));
+    Ok(format!(in alloc; "{is_goal}, {choices}")?)
+}
+
+struct States;
+
+impl Teller for States {
+    type Told = String;
+
+    type Error = Untold;
+
+    fn tell(&self, alloc: Global, asked: &str) -> Result<String, Untold> {
+        let model = model_of(alloc, TURNED)?;
+        state_told(alloc, &model, count(asked))
+    }
 }
 
 /// Whether the second row of state 0 has these parts.
@@ -45,18 +57,15 @@ fn has_parts(model: &Model) -> bool {
     is_process && model.common() == 1 && model.init() == 0
 }
 
-/// Checks what the model tells of its states.
-fn tells_states(rt: &impl Abort, model: &Model) -> Result<(), Fail> {
-    for line in STATES.split('\n') {
-        assert!(rt; tells_state(model, line)?, "{line}");
-    }
-    Ok(())
+/// The same of the model and its row.
+fn has_all(alloc: Global) -> Result<bool, Untold> {
+    let model = model_of(alloc, TURNED)?;
+    Ok(has_parts(&model) && has_row(&model))
 }
 
 #[test]
-fn tells_its_parts(rt: HostRuntime) -> Result<(), Fail> {
-    let model = model_of(rt.alloc(), TURNED)?;
+fn tells_its_parts(rt: HostRuntime) {
     plans_over_one_pick();
-    assert!(rt; has_parts(&model) && has_row(&model));
-    tells_states(&rt, &model)
+    assert!(rt; matches!(has_all(rt.alloc()), Ok(true)));
+    each_row(&rt, rt.alloc(), STATES, &States);
 }

@@ -1,17 +1,57 @@
 //! Tests of lists of names.
 
-use crate::cells::cut;
+use crate::cells::{Teller, count, cut, each_row};
 use lift_names::Names;
 use std::alloc::{AllocError, Global};
-use std::process::Abort;
-use std::test::Fail;
+use std::string::String;
 
-/// A name that is added, and whether it is new.
+/// Names that are added in turn, and whether the last one is new.
 const ADDED: &str = "\
 p | true
-q1 | true
-p | false
- | true";
+p q1 | true
+p q1 p | false
+p q1 p  | true";
+
+/// Adds names that stand between blanks, and tells whether the last one is new.
+fn add(names: &mut Names, words: &str) -> Result<bool, AllocError> {
+    let mut is_new = false;
+    for word in words.split(' ') {
+        if names.len() < 16 {
+            is_new = names.push(word.as_bytes())?;
+        }
+    }
+    Ok(is_new)
+}
+
+/// The list of names that stand between blanks; an empty one of the empty text.
+pub(crate) fn names_of(alloc: Global, words: &str) -> Result<Names, AllocError> {
+    let mut names = Names::new(alloc);
+    if !words.is_empty() {
+        add(&mut names, words)?;
+    }
+    Ok(names)
+}
+
+struct Added;
+
+impl Teller for Added {
+    type Told = bool;
+
+    type Error = AllocError;
+
+    fn tell(&self, alloc: Global, asked: &str) -> Result<bool, AllocError> {
+        let mut names = Names::new(alloc);
+        add(&mut names, asked)
+    }
+}
+
+#[test]
+fn adds_names(rt: HostRuntime) {
+    each_row(&rt, rt.alloc(), ADDED, &Added);
+}
+
+/// The names of the tables below, of which the last has no letters.
+const NAMES: &str = "p q1 p ";
 
 /// A name that is looked for, and its place.
 const FOUND: &str = "\
@@ -20,47 +60,47 @@ q1 | Some(1)
 q | None
  | Some(2)";
 
-/// Adds the name of a row, and tells whether it says so rightly that the name is new.
-fn adds(names: &mut Names, row: &str) -> Result<bool, AllocError> {
-    let (name, want) = cut(row);
-    if names.len() >= 9 {
-        return Ok(false);
+struct Found;
+
+impl Teller for Found {
+    type Told = String;
+
+    type Error = AllocError;
+
+    fn tell(&self, alloc: Global, asked: &str) -> Result<String, AllocError> {
+        let place = names_of(alloc, NAMES)?.find(asked.as_bytes());
+        format!(in alloc; "{place:?}")
     }
-    Ok(names.push(name.as_bytes())? == (want == "true"))
 }
 
-/// Whether a name stands where its row tells.
-fn is_found(alloc: Global, names: &Names, row: &str) -> Result<bool, AllocError> {
-    let (name, want) = cut(row);
-    let place = names.find(name.as_bytes());
-    Ok(format!(in alloc; "{place:?}")?.as_str() == want)
+/// A place, a name, and whether it is one of three names and stands there.
+const KEPT: &str = "\
+0 | p | true
+1 | q1 | true
+2 |  | true
+1 | p | false";
+
+/// Whether these are three names, of which that one stands at the place.
+fn has_name(names: &Names, place: u32, name: &[u8]) -> bool {
+    names.len() == 3 && place < 3 && names.get(place) == name
 }
 
-/// Adds the names of all rows.
-fn add_all(rt: &impl Abort, names: &mut Names) -> Result<(), Fail> {
-    for row in ADDED.split('\n') {
-        assert!(rt; adds(names, row)?, "{row}");
+struct Kept;
+
+impl Teller for Kept {
+    type Told = bool;
+
+    type Error = AllocError;
+
+    fn tell(&self, alloc: Global, asked: &str) -> Result<bool, AllocError> {
+        let (place, name) = cut(asked);
+        let names = names_of(alloc, NAMES)?;
+        Ok(has_name(&names, count(place), name.as_bytes()))
     }
-    Ok(())
-}
-
-/// Finds the names of all rows.
-fn find_all(rt: &impl Abort, alloc: Global, names: &Names) -> Result<(), Fail> {
-    for row in FOUND.split('\n') {
-        assert!(rt; is_found(alloc, names, row)?, "{row}");
-    }
-    Ok(())
-}
-
-/// Whether there are three names, of which the second is `q1`.
-fn are_three(names: &Names) -> bool {
-    names.len() == 3 && names.get(1) == b"q1".as_slice()
 }
 
 #[test]
-fn keeps_names_in_order(rt: HostRuntime) -> Result<(), Fail> {
-    let mut names = Names::new(rt.alloc());
-    add_all(&rt, &mut names)?;
-    assert!(rt; are_three(&names));
-    find_all(&rt, rt.alloc(), &names)
+fn keeps_names_in_order(rt: HostRuntime) {
+    each_row(&rt, rt.alloc(), FOUND, &Found);
+    each_row(&rt, rt.alloc(), KEPT, &Kept);
 }

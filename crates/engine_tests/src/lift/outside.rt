@@ -3,13 +3,13 @@ ghost use Rattle.std.specs.Prelude.{List, ℕ};
 ghost use Rattle.std.specs.List.{flat_map};
 ghost use Rattle.lift_base.specs.Word.{word_text};
 
-use crate::cells::{cut, cut_two, number};
+use crate::cells::{Teller, Untold, cut, each_row, number};
 use lift_base::{
     MemSink, MemSource, ReadError, Sink, SureSink, SureSource, Text, Word, WriteFault, put_number,
     read_all, write_all, write_buffered, write_words,
 };
 use std::alloc::{AllocError, Global};
-use std::test::Fail;
+use std::string::String;
 
 /// The number of the one call that fails.
 fn calls(alloc: Global, failing: u64) -> Result<Vec<u64>, AllocError> {
@@ -34,31 +34,33 @@ const READ: &str = "\
 3 | 10 | 6789
 5 | 10 | ";
 
-/// Whether these bytes come, or none for that cause.
-fn is_answer(
-    alloc: Global,
-    answer: Result<Vec<u8>, ReadError>,
-    want: &str,
-) -> Result<bool, AllocError> {
+/// The bytes that come, or why none do.
+fn shown(alloc: Global, answer: Result<Vec<u8>, ReadError>) -> Result<String, AllocError> {
     match answer {
-        Ok(bytes) => Ok(bytes.as_slice() == want.as_bytes()),
-        Err(cause) => Ok(format!(in alloc; "{cause:?}")?.as_str() == want),
+        Ok(bytes) => String::from_utf8_lossy(alloc, &bytes),
+        Err(cause) => format!(in alloc; "{cause:?}"),
     }
 }
 
-/// Whether a row tells what comes of the digits.
-fn tells_answer(alloc: Global, row: &str) -> Result<bool, AllocError> {
-    let (failing, limit, want) = cut_two(row);
-    let answer = read_digits(alloc, number(failing), number(limit) as usize);
-    is_answer(alloc, answer, want)
+struct Digits;
+
+impl Teller for Digits {
+    type Told = String;
+
+    type Error = AllocError;
+
+    fn tell(&self, alloc: Global, asked: &str) -> Result<String, AllocError> {
+        let (failing, limit) = cut(asked);
+        shown(
+            alloc,
+            read_digits(alloc, number(failing), number(limit) as usize),
+        )
+    }
 }
 
 #[test]
-fn reads_to_the_end_or_the_limit_or_a_fault(rt: HostRuntime) -> Result<(), Fail> {
-    for row in READ.split('\n') {
-        assert!(rt; tells_answer(rt.alloc(), row)?, "{row}");
-    }
-    Ok(())
+fn reads_to_the_end_or_the_limit_or_a_fault(rt: HostRuntime) {
+    each_row(&rt, rt.alloc(), READ, &Digits);
 }
 
 /// Whether all of a source comes that never fails.
@@ -68,9 +70,8 @@ fn reads_sure(alloc: Global, text: &[u8]) -> Result<bool, ReadError> {
 }
 
 #[test]
-fn reads_a_source_that_never_fails(rt: HostRuntime) -> Result<(), Fail> {
-    assert!(rt; reads_sure(rt.alloc(), b"plain")?);
-    Ok(())
+fn reads_a_source_that_never_fails(rt: HostRuntime) {
+    assert!(rt; matches!(reads_sure(rt.alloc(), b"plain"), Ok(true)));
 }
 
 /// Some parts, as a text.
@@ -104,46 +105,70 @@ const TAKEN: &str = "\
 99 | 1 | 0
 99 | 24 | 23";
 
-/// A sink with so many bytes of room, which takes one in a call.
-fn sink(alloc: Global, room: u64, failing: u64) -> Result<MemSink, AllocError> {
-    MemSink::new(alloc, room as usize, 1, calls(alloc, failing)?)
+/// A sink that takes one byte in a call, with the room and the failing call of these cells.
+fn sink(alloc: Global, cells: &str) -> Result<MemSink, AllocError> {
+    let (room, failing) = cut(cells);
+    MemSink::new(
+        alloc,
+        number(room) as usize,
+        1,
+        calls(alloc, number(failing))?,
+    )
 }
 
-/// Whether the sink took so many bytes of the words, which are 69, and it was said rightly whether these are all.
-fn has_taken(out: &MemSink, is_whole: bool, count: u64) -> bool {
-    is_whole == (count == 69) && WORDS_TEXT.get(..count as usize) == Some(out.taken())
+/// How many bytes of the words the sink took, where it was said rightly whether these are all; none else.
+fn taken(out: &MemSink, is_whole: bool) -> Option<usize> {
+    let taken = out.taken();
+    let is_right = WORDS_TEXT.starts_with(taken) && is_whole == (taken.len() == WORDS_TEXT.len());
+    is_right.then_some(taken.len())
 }
 
-/// Whether a row tells how much is taken of words that are written.
-fn tells_written(alloc: Global, row: &str, words: &[Word]) -> Result<bool, AllocError> {
-    let (room, failing, count) = cut_two(row);
-    let mut out = sink(alloc, number(room), number(failing))?;
-    let is_whole = write_words(&mut out, words).is_ok();
-    Ok(has_taken(&out, is_whole, number(count)))
+/// How many bytes are taken of words that are written.
+fn written(out: &mut MemSink, words: &[Word]) -> Option<usize> {
+    let is_whole = write_words(out, words).is_ok();
+    taken(out, is_whole)
+}
+
+struct WrittenWords;
+
+impl Teller for WrittenWords {
+    type Told = usize;
+
+    type Error = Untold;
+
+    fn tell(&self, alloc: Global, asked: &str) -> Result<usize, Untold> {
+        let mut out = sink(alloc, asked)?;
+        written(&mut out, &WORDS).ok_or(Untold::Cell)
+    }
 }
 
 #[test]
-fn writes_numbers_and_stops_at_a_fault(rt: HostRuntime) -> Result<(), Fail> {
-    for row in TAKEN.split('\n') {
-        assert!(rt; tells_written(rt.alloc(), row, &WORDS)?, "{row}");
-    }
-    Ok(())
+fn writes_numbers_and_stops_at_a_fault(rt: HostRuntime) {
+    each_row(&rt, rt.alloc(), TAKEN, &WrittenWords);
 }
 
-/// Whether a row tells how much is taken of words that are gathered.
-fn tells_gathered(alloc: Global, row: &str, words: &[Word]) -> Result<bool, AllocError> {
-    let (room, failing, count) = cut_two(row);
-    let mut out = sink(alloc, number(room), number(failing))?;
-    let is_whole = write_buffered(&mut out, &Parts { words }).is_ok();
-    Ok(has_taken(&out, is_whole, number(count)))
+/// How many bytes are taken of words that are gathered.
+fn gathered(out: &mut MemSink, words: &[Word]) -> Option<usize> {
+    let is_whole = write_buffered(out, &Parts { words }).is_ok();
+    taken(out, is_whole)
+}
+
+struct GatheredWords;
+
+impl Teller for GatheredWords {
+    type Told = usize;
+
+    type Error = Untold;
+
+    fn tell(&self, alloc: Global, asked: &str) -> Result<usize, Untold> {
+        let mut out = sink(alloc, asked)?;
+        gathered(&mut out, &WORDS).ok_or(Untold::Cell)
+    }
 }
 
 #[test]
-fn gathers_numbers_and_stops_at_a_fault(rt: HostRuntime) -> Result<(), Fail> {
-    for row in TAKEN.split('\n') {
-        assert!(rt; tells_gathered(rt.alloc(), row, &WORDS)?, "{row}");
-    }
-    Ok(())
+fn gathers_numbers_and_stops_at_a_fault(rt: HostRuntime) {
+    each_row(&rt, rt.alloc(), TAKEN, &GatheredWords);
 }
 
 /// The call that fails, and how many bytes are taken of 3000 pieces of 7 bytes: 1170 of them fit
@@ -153,28 +178,41 @@ const GATHERED: &str = "\
 3 | 16380
 1 | 0";
 
-/// Whether a row tells how many bytes are taken of the pieces, and that these are all or that it was said that they aren't.
-fn tells_pieces(alloc: Global, row: &str, pieces: &[Word]) -> Result<bool, AllocError> {
-    let (failing, count) = cut(row);
-    let count = number(count) as usize;
-    let mut out = MemSink::new(alloc, 21000, 8192, calls(alloc, number(failing))?)?;
-    let is_whole = write_buffered(&mut out, &Parts { words: pieces }).is_ok();
-    Ok(is_whole == (count == 21000) && out.taken().len() == count)
+/// How many bytes are taken of the pieces, where it was said rightly whether these are all; none else.
+fn pieces_taken(out: &mut MemSink, pieces: &[Word]) -> Option<usize> {
+    let is_whole = write_buffered(out, &Parts { words: pieces }).is_ok();
+    let count = out.taken().len();
+    (is_whole == (count == 21000)).then_some(count)
+}
+
+struct Pieces;
+
+impl Teller for Pieces {
+    type Told = usize;
+
+    type Error = Untold;
+
+    fn tell(&self, alloc: Global, asked: &str) -> Result<usize, Untold> {
+        let mut out = MemSink::new(alloc, 21000, 8192, calls(alloc, number(asked))?)?;
+        let pieces = [Word::Text(b"seven, "); 3000];
+        pieces_taken(&mut out, &pieces).ok_or(Untold::Cell)
+    }
 }
 
 #[test]
-fn gathers_small_pieces(rt: HostRuntime) -> Result<(), Fail> {
-    let pieces = [Word::Text(b"seven, "); 3000];
-    for row in GATHERED.split('\n') {
-        assert!(rt; tells_pieces(rt.alloc(), row, &pieces)?, "{row}");
-    }
-    Ok(())
+fn gathers_small_pieces(rt: HostRuntime) {
+    each_row(&rt, rt.alloc(), GATHERED, &Pieces);
+}
+
+/// How many bytes a word and a number have.
+fn counted() -> Option<u64> {
+    let mut sure = SureSink::new();
+    write_all(&mut sure, b"plain").ok()?;
+    put_number(&mut sure, -12).ok()?;
+    Some(sure.count())
 }
 
 #[test]
 fn counts_what_comes(rt: HostRuntime) {
-    let mut sure = SureSink::new();
-    assert!(rt; write_all(&mut sure, b"plain").is_ok());
-    assert!(rt; put_number(&mut sure, -12).is_ok());
-    assert_eq!(rt; sure.count(), 8);
+    assert!(rt; counted() == Some(8));
 }

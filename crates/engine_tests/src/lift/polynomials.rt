@@ -3,11 +3,11 @@ ghost use Rattle.std.specs.Prelude.{◌≡◌, ◌<◌, [], ◌∷◌, pos, negs
 ghost use Rattle.lift_poly.specs.Arithmetic.{DividesEach};
 ghost use Rattle.lift_poly.specs.Limits.{parameter_limit};
 
-use crate::cells::cut;
+use crate::cells::{Teller, each_row};
 use lift_poly::{MultiAffine, PolyError};
 use std::alloc::{AllocError, Global};
 use std::fmt::Write;
-use std::test::Fail;
+use std::string::String;
 
 /// 2^125 - 1, the greatest coefficient.
 const GREATEST: i128 = 42535295865117307932921825928971026431;
@@ -18,9 +18,11 @@ fn terms_shown(alloc: Global, polynomial: &MultiAffine) -> Result<String, AllocE
         return format!(in alloc; "nothing");
     }
     let mut text = String::new(alloc);
+    let mut blank = "";
     for index in 0..polynomial.len() {
         let (set, number) = polynomial.term(index);
-        write!(text, "{set}:{number} ")?;
+        write!(text, "{blank}{set}:{number}")?;
+        blank = " ";
     }
     Ok(text)
 }
@@ -98,18 +100,21 @@ fn computed(alloc: Global, name: &str) -> Result<MultiAffine, PolyError> {
     }
 }
 
-/// Whether a row tells what is computed.
-fn tells_computed(alloc: Global, row: &str) -> Result<bool, AllocError> {
-    let (name, want) = cut(row);
-    Ok(shown(alloc, computed(alloc, name))?.as_str().trim_end() == want)
+struct Computations;
+
+impl Teller for Computations {
+    type Told = String;
+
+    type Error = AllocError;
+
+    fn tell(&self, alloc: Global, asked: &str) -> Result<String, AllocError> {
+        shown(alloc, computed(alloc, asked))
+    }
 }
 
 #[test]
-fn computes(rt: HostRuntime) -> Result<(), Fail> {
-    for row in COMPUTED.split('\n') {
-        assert!(rt; tells_computed(rt.alloc(), row)?, "{row}");
-    }
-    Ok(())
+fn computes(rt: HostRuntime) {
+    each_row(&rt, rt.alloc(), COMPUTED, &Computations);
 }
 
 /// Whether zero has no terms, and each of its numbers is 0.
@@ -128,8 +133,7 @@ fn tells_given(alloc: Global) -> Result<bool, AllocError> {
 }
 
 #[test]
-fn tells_numbers(rt: HostRuntime) -> Result<(), Fail> {
-    assert!(rt; tells_zero(rt.alloc())?);
-    assert!(rt; tells_given(rt.alloc())?);
-    Ok(())
+fn tells_numbers(rt: HostRuntime) {
+    assert!(rt; matches!(tells_zero(rt.alloc()), Ok(true)));
+    assert!(rt; matches!(tells_given(rt.alloc()), Ok(true)));
 }

@@ -2,7 +2,6 @@
 
 use lift_pool::Pool;
 use std::alloc::{AllocError, Global};
-use std::test::Fail;
 
 /// Whether lanes are cut and given back: a copy is changed alone, and a longer lane takes its place.
 fn cuts_lanes(alloc: Global) -> Result<bool, AllocError> {
@@ -19,9 +18,8 @@ fn cuts_lanes(alloc: Global) -> Result<bool, AllocError> {
 }
 
 #[test]
-fn cuts_lanes_and_gives_them_back(rt: HostRuntime) -> Result<(), Fail> {
-    assert!(rt; cuts_lanes(rt.alloc())?);
-    Ok(())
+fn cuts_lanes_and_gives_them_back(rt: HostRuntime) {
+    assert!(rt; matches!(cuts_lanes(rt.alloc()), Ok(true)));
 }
 
 /// Whether lanes without words are taken, and given back.
@@ -36,7 +34,6 @@ fn takes_empty_lanes(alloc: Global) -> Result<bool, AllocError> {
 }
 
 #[test]
-fn takes_lanes_without_words(rt: HostRuntime) -> Result<(), Fail> {
-    assert!(rt; takes_empty_lanes(rt.alloc())?);
-    Ok(())
+fn takes_lanes_without_words(rt: HostRuntime) {
+    assert!(rt; matches!(takes_empty_lanes(rt.alloc()), Ok(true)));
 }

@@ -1,24 +1,14 @@
 //! Tests of regions, their corners, and lists.
 
-ghost use Rattle.std.specs.Prelude.{◌<◌, IsBitSet};
+ghost use Rattle.std.specs.Prelude.{◌<◌, ◌≤◌, IsBitSet};
+ghost use Rattle.lift_grid.specs.Rectangle.{most_halvings};
 
-use crate::cells::{count, cut, cut_three, cut_two, signed};
+use crate::cells::{Teller, Untold, count, cut_two, each_row};
+use crate::lift::names::names_of;
 use lift_grid::{Grid, Marks, Rect, Values, corner_side, read_region};
 use lift_names::Names;
 use std::alloc::{AllocError, Global};
-use std::process::Abort;
-use std::test::Fail;
-
-/// Names of one letter each.
-fn declared(alloc: Global, letters: &str) -> Result<Names, AllocError> {
-    let mut names = Names::new(alloc);
-    for letter in letters.as_bytes() {
-        if names.len() < 16 {
-            names.push(&[*letter])?;
-        }
-    }
-    Ok(names)
-}
+use std::string::String;
 
 /// A region of p and q at depth 20, and why it is refused. Each test of a clause stands before the next
 /// one, and before what stands behind the clause. 2199023255552 * 2^20 * 2 is 2^62, and so is
@@ -62,77 +52,74 @@ fn refusal(alloc: Global, text: &[u8], names: &Names) -> &'static str {
     }
 }
 
-/// Whether a row tells why its region is refused.
-fn tells_refusal(alloc: Global, names: &Names, row: &str) -> bool {
-    let (text, want) = cut(row);
-    refusal(alloc, text.as_bytes(), names) == want
-}
+struct Refused;
 
-/// Refuses the regions of all rows.
-fn refuse_all(rt: &impl Abort, alloc: Global, names: &Names) {
-    for row in REFUSED.split('\n') {
-        assert!(rt; tells_refusal(alloc, names, row), "{row}");
+impl Teller for Refused {
+    type Told = &'static str;
+
+    type Error = AllocError;
+
+    fn tell(&self, alloc: Global, asked: &str) -> Result<&'static str, AllocError> {
+        let names = names_of(alloc, "p q")?;
+        Ok(refusal(alloc, asked.as_bytes(), &names))
     }
 }
 
 #[test]
-fn refuses_the_first_fault(rt: HostRuntime) -> Result<(), Fail> {
-    let names = declared(rt.alloc(), "pq")?;
-    refuse_all(&rt, rt.alloc(), &names);
-    Ok(())
+fn refuses_the_first_fault(rt: HostRuntime) {
+    each_row(&rt, rt.alloc(), REFUSED, &Refused);
 }
 
 /// The declared names, the depth, a region, and the grid and the ends that it gives.
 const READ: &str = "\
-p | 0 | 1e-1<=p<=4e-1 | 10 | [1, 4]
- | 5 |  | 32 | []
- | 0 |  \t  | 1 | []
-p | 1 | 2/5<=p<=3/5 | 10 | [4, 6]
-pq | 2 | 1/2<=q<=3/5,1/2<=p<=3/5 | 40 | [20, 24, 20, 24]
-pq | 0 |  \t- 3 / 4 <= p <= - 1 / 6\t, 0 <= q <= 0.10  | 60 | [-45, -10, 0, 6]
-pq | 1 |  -1<=p<=2/4,0/7<=q<=1 | 4 | [-4, 2, 0, 4]
-p | 20 | 0<=p<=1/2199023255552 | 2305843009213693952 | [0, 1048576]
-abcdefghijklmnop | 0 | 0<=a<=1,0<=b<=1,0<=c<=1,0<=d<=1,0<=e<=1,0<=f<=1,0<=g<=1,0<=h<=1,\
-0<=i<=1,0<=j<=1,0<=k<=1,0<=l<=1,0<=m<=1,0<=n<=1,0<=o<=1,1/3<=p<=1 | 3 | \
+p | 0 | 1e-1<=p<=4e-1 | 10; [1, 4]
+ | 5 |  | 32; []
+ | 0 |  \t  | 1; []
+p | 1 | 2/5<=p<=3/5 | 10; [4, 6]
+p q | 2 | 1/2<=q<=3/5,1/2<=p<=3/5 | 40; [20, 24, 20, 24]
+p q | 0 |  \t- 3 / 4 <= p <= - 1 / 6\t, 0 <= q <= 0.10  | 60; [-45, -10, 0, 6]
+p q | 1 |  -1<=p<=2/4,0/7<=q<=1 | 4; [-4, 2, 0, 4]
+p | 20 | 0<=p<=1/2199023255552 | 2305843009213693952; [0, 1048576]
+a b c d e f g h i j k l m n o p | 0 | 0<=a<=1,0<=b<=1,0<=c<=1,0<=d<=1,0<=e<=1,0<=f<=1,0<=g<=1,0<=h<=1,\
+0<=i<=1,0<=j<=1,0<=k<=1,0<=l<=1,0<=m<=1,0<=n<=1,0<=o<=1,1/3<=p<=1 | 3; \
 [0, 3, 0, 3, 0, 3, 0, 3, 0, 3, 0, 3, 0, 3, 0, 3, 0, 3, 0, 3, 0, 3, 0, 3, 0, 3, 0, 3, 0, 3, 1, 3]";
 
-/// Whether the grid and the ends are those of these cells.
-fn is_told(alloc: Global, grid: Grid, sides: &[i64], want: &str) -> Result<bool, Fail> {
-    let told = format!(in alloc; "{} | {sides:?}", grid.d)?;
-    Ok(told.as_str() == want)
+/// A grid and ends as they are shown.
+fn shown(alloc: Global, grid: Grid, sides: &[i64]) -> Result<String, Untold> {
+    Ok(format!(in alloc; "{}; {sides:?}", grid.d)?)
 }
 
-/// Whether a region is read as these cells tell.
-fn is_read(
-    alloc: Global,
-    names: &Names,
-    text: &[u8],
-    depth: u32,
-    want: &str,
-) -> Result<bool, Fail> {
-    if depth > 20 {
-        return Ok(false);
-    }
+/// The grid and the ends of a region at a depth.
+fn region_of(alloc: Global, names: &Names, text: &[u8], depth: u32) -> Result<String, Untold>
+    requires { depth ≤ most_halvings }
+{
     match read_region(alloc, text, names, depth) {
-        Ok((grid, rect)) => Ok(grid.depth == depth && is_told(alloc, grid, rect.sides(), want)?),
-        Err(_) => Ok(false),
+        Ok((grid, rect)) if grid.depth == depth => shown(alloc, grid, rect.sides()),
+        _ => Err(Untold::Cell),
     }
 }
 
-/// Whether a row tells the grid and the ends of its region.
-fn tells_region(alloc: Global, row: &str) -> Result<bool, Fail> {
-    let (letters, depth, text, want) = cut_three(row);
-    let depth = count(depth)?;
-    let names = declared(alloc, letters)?;
-    is_read(alloc, &names, text.as_bytes(), depth, want)
+struct Read;
+
+impl Teller for Read {
+    type Told = String;
+
+    type Error = Untold;
+
+    fn tell(&self, alloc: Global, asked: &str) -> Result<String, Untold> {
+        let (words, depth, text) = cut_two(asked);
+        let depth = count(depth);
+        if depth > 20 {
+            return Err(Untold::Cell);
+        }
+        let names = names_of(alloc, words)?;
+        region_of(alloc, &names, text.as_bytes(), depth)
+    }
 }
 
 #[test]
-fn reads_regions(rt: HostRuntime) -> Result<(), Fail> {
-    for row in READ.split('\n') {
-        assert!(rt; tells_region(rt.alloc(), row)?, "{row}");
-    }
-    Ok(())
+fn reads_regions(rt: HostRuntime) {
+    each_row(&rt, rt.alloc(), READ, &Read);
 }
 
 /// An end of one of the parameters 0 and 2, which the set 5 holds.
@@ -145,25 +132,31 @@ fn end_of_five(corner: u32, parameter: u32) -> i64
 
 /// The set of the parameters 0 and 2: a corner, and the ends that it chooses for them.
 const ENDS: &str = "\
-0 | 2 | -5
-1 | 4 | -5
-2 | 2 | 1
-3 | 4 | 1";
+0 | 2; -5
+1 | 4; -5
+2 | 2; 1
+3 | 4; 1";
 
-/// Whether a row tells the ends that its corner chooses.
-fn tells_ends(row: &str) -> Result<bool, Fail> {
-    let (corner, first, second) = cut_two(row);
-    let corner = count(corner)?;
-    let ends = (signed(first)?, signed(second)?);
-    Ok(corner < 4 && ends == (end_of_five(corner, 0), end_of_five(corner, 2)))
+struct Ends;
+
+impl Teller for Ends {
+    type Told = String;
+
+    type Error = Untold;
+
+    fn tell(&self, alloc: Global, asked: &str) -> Result<String, Untold> {
+        let corner = count(asked);
+        if corner >= 4 {
+            return Err(Untold::Cell);
+        }
+        let (first, second) = (end_of_five(corner, 0), end_of_five(corner, 2));
+        Ok(format!(in alloc; "{first}; {second}")?)
+    }
 }
 
 #[test]
-fn chooses_ends(rt: HostRuntime) -> Result<(), Fail> {
-    for row in ENDS.split('\n') {
-        assert!(rt; tells_ends(row)?, "{row}");
-    }
-    Ok(())
+fn chooses_ends(rt: HostRuntime) {
+    each_row(&rt, rt.alloc(), ENDS, &Ends);
 }
 
 /// Whether a list keeps its values.
@@ -182,10 +175,13 @@ fn keeps_sides(alloc: Global) -> Result<bool, AllocError> {
     Ok(rect.sides() == [2, 4, 6, 8, -5, 1].as_slice())
 }
 
+/// Whether lists keep what they are made of.
+fn keeps_all(alloc: Global) -> Result<bool, AllocError> {
+    let are_kept = keeps_values(alloc, &[9, -16, 0])? && keeps_marks(alloc, &[1, 4294967295])?;
+    Ok(are_kept && keeps_sides(alloc)?)
+}
+
 #[test]
-fn keeps_lists(rt: HostRuntime) -> Result<(), Fail> {
-    assert!(rt; keeps_values(rt.alloc(), &[9, -16, 0])?);
-    assert!(rt; keeps_marks(rt.alloc(), &[1, 4294967295])?);
-    assert!(rt; keeps_sides(rt.alloc())?);
-    Ok(())
+fn keeps_lists(rt: HostRuntime) {
+    assert!(rt; matches!(keeps_all(rt.alloc()), Ok(true)));
 }

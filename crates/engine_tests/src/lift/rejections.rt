@@ -5,15 +5,14 @@ ghost use Rattle.lift_model.specs.Model.{is_goal};
 ghost use Rattle.corner_lift.specs.Certificate.{unmarked};
 ghost use Rattle.engine_tests.specs.Lane.{IsInLane};
 
-use crate::cells::{count, cut, cut_three};
+use crate::cells::{Teller, Untold, count, cut_three, each_row};
 use crate::example::{case_of, model_of, root_of};
-use crate::lift::certificates::{COIN, bound_of, is_shown, numbers_of};
+use crate::lift::certificates::{COIN, bound_of, numbers_of, shown};
 use corner_lift::Case;
 use lift_cert::{Bound, Miss, meets_reject};
 use lift_model::Model;
 use std::alloc::Global;
-use std::process::Abort;
-use std::test::Fail;
+use std::string::String;
 
 /// For p from 3/5 to 9/10 and at precision 4: the numbers, the pick and the rank of state 0, `e`, the
 /// bound, and the answer. State 1 is the goal, and state 2 has no rank. The weights of state 0 sum to
@@ -56,58 +55,55 @@ fn answer_of(case: &Case, bound: Bound, y: &[i64], is_ranked: bool, e: u32) -> R
     }
 }
 
-/// Whether a row tells the answer.
-fn tells_answer(alloc: Global, case: &Case, row: &str) -> Result<bool, Fail>
+/// The answer to these cells.
+fn answer_told(alloc: Global, case: &Case, asked: &str) -> Result<String, Untold>
     requires precision { case.now.w ≡ 4 }
     requires states { length case.now.model.states ≡ 3 }
     requires first { is_goal case.now.model 0 ≡ false }
     requires second { is_goal case.now.model 1 ≡ true }
     requires third { is_goal case.now.model 2 ≡ false }
 {
-    let (numbers, marks, rate, rest) = cut_three(row);
-    let (bound, want) = cut(rest);
-    let (y, bound, e) = (numbers_of(numbers)?, bound_of(bound)?, count(rate)?);
+    let (numbers, marks, rate, bound) = cut_three(asked);
+    let (y, bound, e) = (numbers_of(numbers)?, bound_of(bound)?, count(rate));
     if e > 126 {
-        return Ok(false);
+        return Err(Untold::Cell);
     }
-    is_shown(alloc, answer_of(case, bound, &y, marks == "0 1", e), want)
-}
-
-/// Compares the answers of a case with those of the table.
-fn compare(rt: &impl Abort, alloc: Global, case: &Case) -> Result<(), Fail>
-    requires precision { case.now.w ≡ 4 }
-    requires states { length case.now.model.states ≡ 3 }
-    requires first { is_goal case.now.model 0 ≡ false }
-    requires second { is_goal case.now.model 1 ≡ true }
-    requires third { is_goal case.now.model 2 ≡ false }
-{
-    for row in REJECT.split('\n') {
-        assert!(rt; tells_answer(alloc, case, row)?, "{row}");
-    }
-    Ok(())
+    shown(alloc, answer_of(case, bound, &y, marks == "0 1", e))
 }
 
 /// The same, where the case is at precision 4 and has three states, of which the second alone is a goal state.
-fn compare_on(rt: &impl Abort, alloc: Global, case: &Case) -> Result<(), Fail> {
+fn answer_on(alloc: Global, case: &Case, asked: &str) -> Result<String, Untold> {
     let model = case.model();
     if case.w() != 4 || model.states() != 3 {
-        return Err(Fail::new("the case is another one"));
+        return Err(Untold::Cell);
     }
     if model.is_goal(0) || !model.is_goal(1) || model.is_goal(2) {
-        return Err(Fail::new("the goal is another one"));
+        return Err(Untold::Cell);
     }
-    compare(rt, alloc, case)
+    answer_told(alloc, case, asked)
 }
 
 /// The same for a model.
-fn compare_over(rt: &impl Abort, alloc: Global, model: &Model) -> Result<(), Fail> {
+fn answer_over(alloc: Global, model: &Model, asked: &str) -> Result<String, Untold> {
     let (grid, root) = root_of(alloc, b"3/5<=p<=9/10", model.names(), 0)?;
     let case = case_of(model, &root, grid, 4)?;
-    compare_on(rt, alloc, &case)
+    answer_on(alloc, &case, asked)
+}
+
+struct Rejections;
+
+impl Teller for Rejections {
+    type Told = String;
+
+    type Error = Untold;
+
+    fn tell(&self, alloc: Global, asked: &str) -> Result<String, Untold> {
+        let model = model_of(alloc, COIN)?;
+        answer_over(alloc, &model, asked)
+    }
 }
 
 #[test]
-fn finds_the_first_miss_of_a_rejection(rt: HostRuntime) -> Result<(), Fail> {
-    let model = model_of(rt.alloc(), COIN)?;
-    compare_over(&rt, rt.alloc(), &model)
+fn finds_the_first_miss_of_a_rejection(rt: HostRuntime) {
+    each_row(&rt, rt.alloc(), REJECT, &Rejections);
 }

@@ -3,13 +3,13 @@
 ghost use Rattle.std.specs.Prelude.{◌≤◌, length};
 ghost use Rattle.lift_grid.specs.Rectangle.{IsOnGrid, most_halvings};
 
-use crate::cells::cut_two;
+use crate::cells::{Teller, Untold, cut, each_row};
 use crate::example::{chain_of, model_of, root_of};
 use lift_grid::{Grid, Rect};
 use lift_model::Model;
 use lift_rows::{RowError, admit, cases_have_distributions, first_fault_is_one};
 use std::alloc::Global;
-use std::test::Fail;
+use std::string::String;
 
 /// The row of state 0, a region, and the first fault over it at depth 0 and precision 4.
 const FAULTS: &str = "\
@@ -28,36 +28,38 @@ fn first_fault(model: &Model, root: &Rect, grid: Grid) -> Result<(), RowError>
     admit(model, root, grid, 4).map(|_| ())
 }
 
-/// Whether this is the answer, and what it says of its row small.
-fn is_answer(alloc: Global, answer: Result<(), RowError>, want: &str) -> Result<bool, Fail> {
-    let shown = format!(in alloc; "{answer:?}")?;
-    let is_small = match answer {
-        Ok(()) => true,
-        Err(error) => error.row() == (0, 0) && error.number() <= 4,
-    };
-    Ok(is_small && shown.as_str() == want)
+/// The first fault, where what it says of its row is small.
+fn shown(alloc: Global, answer: Result<(), RowError>) -> Result<String, Untold> {
+    match answer {
+        Err(error) if error.row() != (0, 0) || error.number() > 4 => Err(Untold::Cell),
+        answer => Ok(format!(in alloc; "{answer:?}")?),
+    }
 }
 
-/// Whether the model has this first fault over a region.
-fn has_fault(alloc: Global, model: &Model, region: &[u8], want: &str) -> Result<bool, Fail> {
+/// The first fault of a model over a region.
+fn fault_over(alloc: Global, model: &Model, region: &[u8]) -> Result<String, Untold> {
     let (grid, root) = root_of(alloc, region, model.names(), 0)?;
-    is_answer(alloc, first_fault(model, &root, grid), want)
+    shown(alloc, first_fault(model, &root, grid))
 }
 
-/// Whether a row tells the first fault.
-fn tells_fault(alloc: Global, row: &str) -> Result<bool, Fail> {
-    let (entries, region, want) = cut_two(row);
-    let text = chain_of(alloc, entries)?;
-    let model = model_of(alloc, &text)?;
-    has_fault(alloc, &model, region.as_bytes(), want)
+struct FirstFaults;
+
+impl Teller for FirstFaults {
+    type Told = String;
+
+    type Error = Untold;
+
+    fn tell(&self, alloc: Global, asked: &str) -> Result<String, Untold> {
+        let (entries, region) = cut(asked);
+        let text = chain_of(alloc, entries)?;
+        let model = model_of(alloc, &text)?;
+        fault_over(alloc, &model, region.as_bytes())
+    }
 }
 
 #[test]
-fn tells_the_first_fault(rt: HostRuntime) -> Result<(), Fail> {
-    for row in FAULTS.split('\n') {
-        assert!(rt; tells_fault(rt.alloc(), row)?, "{row}");
-    }
+fn tells_the_first_fault(rt: HostRuntime) {
+    each_row(&rt, rt.alloc(), FAULTS, &FirstFaults);
     first_fault_is_one();
     cases_have_distributions();
-    Ok(())
 }

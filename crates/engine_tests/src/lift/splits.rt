@@ -4,22 +4,12 @@ ghost use Rattle.std.specs.Prelude.{◌≡◌, ◌<◌, ◌^◌, length};
 ghost use Rattle.lift_grid.specs.Rectangle.{spans_of};
 ghost use Rattle.lift_grid.specs.Splitting.{HasHalvings, IsHalvable};
 
-use crate::cells::cut_two;
+use crate::cells::{Teller, Untold, cut, each_row};
+use crate::lift::names::names_of;
 use lift_grid::{halves_stay_on_grid, members_are_below, narrow, read_region, split_axis};
 use lift_names::Names;
 use std::alloc::{AllocError, Global};
-use std::process::Abort;
 use std::string::String;
-use std::test::Fail;
-
-/// The names p, q and r.
-fn three_names(alloc: Global) -> Result<Names, AllocError> {
-    let mut names = Names::new(alloc);
-    names.push(b"p")?;
-    names.push(b"q")?;
-    names.push(b"r")?;
-    Ok(names)
-}
 
 /// One half of a rectangle.
 fn half(alloc: Global, sides: &[i64], axis: u32, lower: bool) -> Result<Vec<i64>, AllocError>
@@ -61,36 +51,37 @@ const SPLITS: &str = "\
 -1<=p<=1/2,0<=q<=1,-3/4<=r<=-1/4 | 4 | 2 [-8, 4, 0, 8, -6, -4] [-8, 4, 0, 8, -4, -2]
 -1<=p<=0,3<=q<=7/2,5<=r<=6 | 7 | 0 [-4, -2, 12, 14, 20, 24] [-2, 0, 12, 14, 20, 24]";
 
-/// Whether a row tells the axis and both halves.
-fn tells_halves(alloc: Global, names: &Names, row: &str) -> Result<bool, Fail>
-    requires { length names.now ≡ 3 }
+/// The axis and both halves of the region of three names.
+fn halves_over(alloc: Global, names: &Names, region: &[u8], live: u16) -> Result<String, Untold>
+    requires names { length names.now ≡ 3 }
+    requires live { live < 2 ^ 3 }
 {
-    let (region, live, want) = cut_two(row);
-    let live: u16 = live.parse()?;
-    if live >= 8 {
-        return Ok(false);
+    match read_region(alloc, region, names, 1) {
+        Ok((_, root)) if root.sides().len() == 6 => Ok(halves(alloc, root.sides(), live)?),
+        _ => Err(Untold::Cell),
     }
-    let (_, root) = read_region(alloc, region.as_bytes(), names, 1)?;
-    let sides = root.sides();
-    if sides.len() != 6 {
-        return Ok(false);
-    }
-    Ok(halves(alloc, sides, live)?.as_str() == want)
 }
 
-/// Halves the regions of all rows.
-fn halve_all(rt: &impl Abort, alloc: Global, names: &Names) -> Result<(), Fail>
-    requires { length names.now ≡ 3 }
-{
-    for row in SPLITS.split('\n') {
-        assert!(rt; tells_halves(alloc, names, row)?, "{row}");
+struct Splits;
+
+impl Teller for Splits {
+    type Told = String;
+
+    type Error = Untold;
+
+    fn tell(&self, alloc: Global, asked: &str) -> Result<String, Untold> {
+        let (region, live) = cut(asked);
+        let names = names_of(alloc, "p q r")?;
+        match live.parse::<u16>() {
+            Ok(live) if live < 8 && names.len() == 3 => {
+                halves_over(alloc, &names, region.as_bytes(), live)
+            }
+            _ => Err(Untold::Cell),
+        }
     }
-    Ok(())
 }
 
 #[test]
-fn halves_the_longest_live_span(rt: HostRuntime) -> Result<(), Fail> {
-    let names = three_names(rt.alloc())?;
-    assert!(rt; names.len() == 3);
-    halve_all(&rt, rt.alloc(), &names)
+fn halves_the_longest_live_span(rt: HostRuntime) {
+    each_row(&rt, rt.alloc(), SPLITS, &Splits);
 }
