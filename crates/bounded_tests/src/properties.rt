@@ -50,13 +50,69 @@ fn are_refused(alloc: Global, texts: &[&[u8]], error: FormulaError) -> bool {
 #[test]
 fn formulas_are_read(rt: HostRuntime) -> Result<(), Fail> {
     let alloc = rt.alloc();
-    assert!(rt; says(alloc, b"P>=1/2 [ F \"heads\" ]", Op::AtLeast, (1, 2), (None, b"heads")));
-    assert!(rt; says(alloc, b"P<=1/2[F\"heads\"]", Op::AtMost, (1, 2), (None, b"heads")));
-    assert!(rt; says(alloc, b"P\t> 1e-1\t[\tF\t\"a b\"\t]", Op::Above, (1, 10), (None, b"a b")));
-    assert!(rt; says(alloc, b"P < 0.25 [ \"up\" U \"done\" ]", Op::Below, (1, 4), (Some(b"up"), b"done")));
-    assert!(rt; says(alloc, b"P<1 [ \"F\"U\"U\" ]", Op::Below, (1, 1), (Some(b"F"), b"U")));
-    assert!(rt; says(alloc, b"P<=0/3 [ F \"]\" ]", Op::AtMost, (0, 1), (None, b"]")));
-    assert!(rt; says(alloc, b"P>1/4294967295 [ F \"a\" ]", Op::Above, (1, 4294967295), (None, b"a")));
+    assert!(rt;
+        says(
+            alloc,
+            b"P>=1/2 [ F \"heads\" ]",
+            Op::AtLeast,
+            (1, 2),
+            (None, b"heads")
+        )
+    );
+    assert!(rt;
+        says(
+            alloc,
+            b"P<=1/2[F\"heads\"]",
+            Op::AtMost,
+            (1, 2),
+            (None, b"heads")
+        )
+    );
+    assert!(rt;
+        says(
+            alloc,
+            b"P\t> 1e-1\t[\tF\t\"a b\"\t]",
+            Op::Above,
+            (1, 10),
+            (None, b"a b")
+        )
+    );
+    assert!(rt;
+        says(
+            alloc,
+            b"P < 0.25 [ \"up\" U \"done\" ]",
+            Op::Below,
+            (1, 4),
+            (Some(b"up"), b"done")
+        )
+    );
+    assert!(rt;
+        says(
+            alloc,
+            b"P<1 [ \"F\"U\"U\" ]",
+            Op::Below,
+            (1, 1),
+            (Some(b"F"), b"U")
+        )
+    );
+    assert!(rt;
+        says(
+            alloc,
+            b"P<=0/3 [ F \"]\" ]",
+            Op::AtMost,
+            (0, 1),
+            (None, b"]")
+        )
+    );
+    assert!(rt;
+        says(
+            alloc,
+            b"P>1/4294967295 [ F \"a\" ]",
+            Op::Above,
+            (1, 4294967295),
+            (None, b"a")
+        )
+    );
     Ok(())
 }
 
