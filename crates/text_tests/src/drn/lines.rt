@@ -2,12 +2,13 @@
 
 ghost use Rattle.std.specs.Prelude.{◌≡◌, length};
 
-use crate::cells::{cut, cut_two, number};
+use crate::cells::{Teller, Untold, cut, each_row, number};
+use crate::drn::text_of;
 use drn_lexer::{
     LexError, Line, Place, Symbol, Word, WordForm, next_line, next_symbol, next_word, unquoted,
 };
 use std::alloc::{AllocError, Global};
-use std::test::Fail;
+use std::string::String;
 
 /// Where a line begins and ends and its number, or why it is refused.
 fn shown_line(alloc: Global, answer: Result<Option<Line>, LexError>) -> Result<String, AllocError> {
@@ -19,21 +20,21 @@ fn shown_line(alloc: Global, answer: Result<Option<Line>, LexError>) -> Result<S
 }
 
 /// A text, its first two lines, and the place behind them: its first byte, and the line's number.
-/// Rows stand between `;`.
+/// A `;` stands for a line feed of the text.
 const LINES: &str = "\
-a | 0 1 1 | none | 1 2;\
-\x20| none | none | 0 1;\
-\n | 0 0 1 | none | 1 2;\
-ab\n\nc | 0 2 1 | 3 3 2 | 4 3;\
-a\r\nb\r | 0 1 1 | 3 4 2 | 5 3;\
-a\r\r\nb | NotText | NotText | 0 1;\
-a\r \nb | NotText | NotText | 0 1;\
-\t a\tb \t\r\n | 2 5 1 | none | 9 2;\
-\x20// \u{200}\r\r\n//\nx | 12 13 3 | none | 13 4;\
-// | none | none | 2 2;\
-/ /\n\u{7f} | 0 3 1 | NotText | 4 2;\
-~\n//\n\u{200} | 0 1 1 | NotText | 5 3;\
-\x20\u{1f} | NotText | NotText | 0 1";
+a | 0 1 1, none, 1 2
+ | none, none, 0 1
+; | 0 0 1, none, 1 2
+ab;;c | 0 2 1, 3 3 2, 4 3
+a\r;b\r | 0 1 1, 3 4 2, 5 3
+a\r\r;b | NotText, NotText, 0 1
+a\r ;b | NotText, NotText, 0 1
+\t a\tb \t\r; | 2 5 1, none, 9 2
+\x20// \u{200}\r\r;//;x | 12 13 3, none, 13 4
+// | none, none, 2 2
+/ /;\u{7f} | 0 3 1, NotText, 4 2
+~;//;\u{200} | 0 1 1, NotText, 5 3
+\x20\u{1f} | NotText, NotText, 0 1";
 
 /// The first two lines of a text, and the place behind them.
 type TwoLines = (Found, Found, Place);
@@ -51,30 +52,31 @@ fn two_lines(text: &[u8]) -> Option<TwoLines> {
     Some((first, second, place))
 }
 
-/// Whether these cells tell the first two lines of a text, and the place behind them.
-fn are_told(alloc: Global, lines: TwoLines, cells: &str) -> Result<bool, AllocError> {
+/// The same as it is shown.
+fn shown_lines(alloc: Global, lines: TwoLines) -> Result<String, AllocError> {
     let (first, second, place) = lines;
     let first = shown_line(alloc, first)?;
     let second = shown_line(alloc, second)?;
-    let told = format!(in alloc; "{first} | {second} | {} {}", place.at, place.number)?;
-    Ok(told.as_str() == cells)
+    format!(in alloc; "{first}, {second}, {} {}", place.at, place.number)
 }
 
-/// Whether a row tells the first two lines of its text.
-fn tells_lines(alloc: Global, row: &str) -> Result<bool, AllocError> {
-    let (text, cells) = cut(row);
-    match two_lines(text.as_bytes()) {
-        Some(lines) => are_told(alloc, lines, cells),
-        None => Ok(false),
+struct Lines;
+
+impl Teller for Lines {
+    type Told = String;
+
+    type Error = Untold;
+
+    fn tell(&self, alloc: Global, asked: &str) -> Result<String, Untold> {
+        let text = text_of(alloc, asked)?;
+        let lines = two_lines(&text).ok_or(Untold::Cell)?;
+        Ok(shown_lines(alloc, lines)?)
     }
 }
 
 #[test]
-fn finds_lines(rt: HostRuntime) -> Result<(), Fail> {
-    for row in LINES.split(';') {
-        assert!(rt; tells_lines(rt.alloc(), row)?, "{row}");
-    }
-    Ok(())
+fn finds_lines(rt: HostRuntime) {
+    each_row(&rt, rt.alloc(), LINES, &Lines);
 }
 
 /// The byte of which a line is made, how often it stands there, and the line.
@@ -85,13 +87,13 @@ a | 1048577 | LongLine
 / | 1048577 | LongLine
 \r | 1048577 | LongLine";
 
-/// Whether the first line of a text is shown so.
-fn is_first(alloc: Global, text: &[u8], want: &str) -> Result<bool, AllocError> {
+/// The first line of a text.
+fn first_line(alloc: Global, text: &[u8]) -> Result<String, Untold> {
     if text.len() >= 2000000 {
-        return Ok(false);
+        return Err(Untold::Cell);
     }
     let line = next_line(text, &mut Place::start());
-    Ok(shown_line(alloc, line)?.as_str() == want)
+    Ok(shown_line(alloc, line)?)
 }
 
 /// A line of that byte, so often.
@@ -101,20 +103,24 @@ fn long_line(alloc: Global, byte: u8, count: usize) -> Result<Vec<u8>, AllocErro
     Ok(text)
 }
 
-/// Whether a row tells what is read of its line.
-fn tells_long_line(alloc: Global, row: &str) -> Result<bool, AllocError> {
-    let (byte, count, want) = cut_two(row);
-    let byte = byte.bytes().next().unwrap_or(b'?');
-    let text = long_line(alloc, byte, number(count) as usize)?;
-    is_first(alloc, &text, want)
+struct LongLines;
+
+impl Teller for LongLines {
+    type Told = String;
+
+    type Error = Untold;
+
+    fn tell(&self, alloc: Global, asked: &str) -> Result<String, Untold> {
+        let (byte, count) = cut(asked);
+        let byte = byte.bytes().next().unwrap_or(b'?');
+        let text = long_line(alloc, byte, number(count) as usize)?;
+        first_line(alloc, &text)
+    }
 }
 
 #[test]
-fn limits_lines(rt: HostRuntime) -> Result<(), Fail> {
-    for row in LONG_LINES.split('\n') {
-        assert!(rt; tells_long_line(rt.alloc(), row)?, "{row}");
-    }
-    Ok(())
+fn limits_lines(rt: HostRuntime) {
+    each_row(&rt, rt.alloc(), LONG_LINES, &LongLines);
 }
 
 /// A text, a place in it, and the next word from there: where it begins and ends, and its form.
@@ -153,23 +159,26 @@ fn whole(text: &[u8]) -> Line
     }
 }
 
-/// Whether the next word of a line from a place is shown so.
-fn is_next_word(alloc: Global, text: &[u8], at: usize, want: &str) -> Result<bool, AllocError> {
-    if at > text.len() {
-        return Ok(false);
+struct NextWords;
+
+impl Teller for NextWords {
+    type Told = String;
+
+    type Error = Untold;
+
+    fn tell(&self, alloc: Global, asked: &str) -> Result<String, Untold> {
+        let (text, at) = cut(asked);
+        let (text, at) = (text.as_bytes(), number(at) as usize);
+        if at > text.len() {
+            return Err(Untold::Cell);
+        }
+        Ok(shown_word(alloc, next_word(text, whole(text), at))?)
     }
-    let word = next_word(text, whole(text), at);
-    Ok(shown_word(alloc, word)?.as_str() == want)
 }
 
 #[test]
-fn finds_words(rt: HostRuntime) -> Result<(), Fail> {
-    for row in WORDS.split('\n') {
-        let (text, at, want) = cut_two(row);
-        let is_found = is_next_word(rt.alloc(), text.as_bytes(), number(at) as usize, want)?;
-        assert!(rt; is_found, "{row}");
-    }
-    Ok(())
+fn finds_words(rt: HostRuntime) {
+    each_row(&rt, rt.alloc(), WORDS, &NextWords);
 }
 
 /// A word, its form, and what it says.
@@ -187,17 +196,22 @@ fn form(name: &str) -> WordForm {
     }
 }
 
-/// Whether a row tells what its word says.
-fn tells_word(row: &str) -> bool {
-    let (word, name, want) = cut_two(row);
-    unquoted(form(name), word.as_bytes()) == want.as_bytes()
+struct UnquotedWords;
+
+impl Teller for UnquotedWords {
+    type Told = String;
+
+    type Error = AllocError;
+
+    fn tell(&self, alloc: Global, asked: &str) -> Result<String, AllocError> {
+        let (word, name) = cut(asked);
+        String::from_utf8_lossy(alloc, unquoted(form(name), word.as_bytes()))
+    }
 }
 
 #[test]
 fn takes_quotes_off(rt: HostRuntime) {
-    for row in UNQUOTED.split('\n') {
-        assert!(rt; tells_word(row), "{row}");
-    }
+    each_row(&rt, rt.alloc(), UNQUOTED, &UnquotedWords);
 }
 
 /// A text, a place in it, and the next symbol from there: where it begins and ends, and its form.
@@ -233,21 +247,24 @@ fn shown_symbol(alloc: Global, answer: Option<Symbol>) -> Result<String, AllocEr
     }
 }
 
-/// Whether the next symbol of a line from a place is shown so.
-fn is_next_symbol(alloc: Global, text: &[u8], at: usize, want: &str) -> Result<bool, AllocError> {
-    if at > text.len() {
-        return Ok(false);
+struct NextSymbols;
+
+impl Teller for NextSymbols {
+    type Told = String;
+
+    type Error = Untold;
+
+    fn tell(&self, alloc: Global, asked: &str) -> Result<String, Untold> {
+        let (text, at) = cut(asked);
+        let (text, at) = (text.as_bytes(), number(at) as usize);
+        if at > text.len() {
+            return Err(Untold::Cell);
+        }
+        Ok(shown_symbol(alloc, next_symbol(text, whole(text), at))?)
     }
-    let symbol = next_symbol(text, whole(text), at);
-    Ok(shown_symbol(alloc, symbol)?.as_str() == want)
 }
 
 #[test]
-fn finds_symbols(rt: HostRuntime) -> Result<(), Fail> {
-    for row in SYMBOLS.split('\n') {
-        let (text, at, want) = cut_two(row);
-        let is_found = is_next_symbol(rt.alloc(), text.as_bytes(), number(at) as usize, want)?;
-        assert!(rt; is_found, "{row}");
-    }
-    Ok(())
+fn finds_symbols(rt: HostRuntime) {
+    each_row(&rt, rt.alloc(), SYMBOLS, &NextSymbols);
 }

@@ -1,11 +1,11 @@
-// Tests of the reading of model texts. In a table `;` stands for the line feed of a text, and `?` for
-// the byte 200, which no text may hold.
-use crate::cells::{cut, cut_three, cut_two, number};
+// Tests of the reading of model texts.
+use crate::cells::{Teller, Untold, cut, cut_two, each_row, number};
+use crate::drn::text_of;
 use drn_read::read_model;
 use lift_base::{MemSink, Word, WriteFault, write_words};
 use lift_model::{Entry, Kind, Model};
 use std::alloc::{AllocError, Global};
-use std::test::Fail;
+use std::string::String;
 
 // A text, the goal's label, and the model. In order: a coin; the same with a comment, tabs and
 // carriage returns; another goal; a loop, over 2; two choices; a first choice without an action
@@ -68,8 +68,7 @@ const MODELS: &str = "\
     p;2 : 2*p/4;0 : 1/2*p;state 1 heads;action a;1 : 1;state 2;action a;2 : -1/2*p; | heads | mdp 2 \
     p q init 0 goal 1 row 0.0 to 1 1:1 to 2 0:2 1:-2 row 0.1 to 1 1:1 to 2 0:2 1:2 row 0.2 to 1 1:1 \
     to 2 0:2 1:-2 row 0.3 to 1 2:1 to 2 0:2 2:-2 row 0.4 to 1 1:2 to 2 1:1 to 0 1:1 row 1.0 to 1 \
-    0:2 row 2.0 to 2 1:-1\n\
-";
+    0:2 row 2.0 to 2 1:-1";
 
 // The coin, some of whose lines change.
 const COIN: &[u8] = b"@type: DTMC\n@parameters\np\n@model\nstate 0 init\n1 : p\n2 : 1-p\n\
@@ -78,89 +77,74 @@ const COIN: &[u8] = b"@type: DTMC\n@parameters\np\n@model\nstate 0 init\n1 : p\n
 // From which line on how many lines of the coin give way to a text, and the line and the cause of
 // the refusal.
 const CHANGES: &str = "\
-    5 | 1 | state 1 init; | 5 | StateOrder\n\
-    5 | 1 | state 0 \"init; | 5 | OpenQuote\n\
-    5 | 1 | state 0 !2 init; | 5 | ExitRate\n\
-    5 | 1 | state 0 {1} init; | 5 | Observation\n\
-    5 | 1 | state 0 init [1]; | 5 | Syntax\n\
-    5 | 1 | state 0 [1 init; | 5 | Syntax\n\
-    5 | 1 | state; | 5 | Syntax\n\
-    5 | 1 | state 0x \"; | 5 | Syntax\n\
-    5 | 1 | state 00000000000000000000000001 !; | 5 | StateOrder\n\
-    5 | 1 | state 0; | 11 | InitCount\n\
-    6 | 1 | 1 : p*p; | 6 | SharedParameter\n\
-    3 | 4 | p q;@model;state 0 init;1 : (p+1)/q; | 6 | ParametricDivisor\n\
-    6 | 1 | 1 : p^2; | 6 | Power\n\
-    1 | 1 | @type: CTMC; | 1 | UnsupportedType\n\
-    1 | 1 | @type:; | 1 | UnsupportedType\n\
-    1 | 1 | @type: DTMC DTMC; | 1 | UnsupportedType\n\
-    7 | 1 | 1 : 1-p; | 7 | RepeatedTarget\n\
-    7 | 1 | 01 : 1-p*p; | 7 | RepeatedTarget\n\
-    7 | 1 | 3 : 1-p; | 7 | TargetRange\n\
-    7 | 1 | 18446744073709551618 : 1-p; | 7 | TargetRange\n\
-    7 | 1 | 000000000000000000002 : 1-p; | 7 | Syntax\n\
-    7 | 1 | 2 1-p; | 7 | Syntax\n\
-    7 | 1 | 2 :; | 7 | Syntax\n\
-    8 | 1 | state 1 init heads; | 11 | InitCount\n\
-    9 | 1 |  | 8 | NoChoice\n\
-    11 | 1 |  | 10 | NoChoice\n\
-    3 | 1 | p p; | 3 | RepeatedName\n\
-    3 | 1 | p 2; | 3 | Syntax\n\
-    3 | 1 | p \"q\" r; | 3 | Syntax\n\
-    3 | 1 | p \"q; | 3 | OpenQuote\n\
-    3 | 1 | p b c d e f g h i j k l m n o a q; | 3 | LimitParameters\n\
-    3 | 1 | p a1234567890123456789012345678901234567890123456789012345678901234; | 3 | LimitName\n\
-    6 | 1 | 1 : q; | 6 | UnknownName\n\
-    6 | 1 | 1 : 2p; | 6 | Syntax\n\
-    6 | 1 | 1 : p/(1-1); | 6 | DivisionByZero\n\
-    6 | 1 | 1 : 4611686018427387904; | 6 | Wide\n\
-    6 | 1 | 1 : $r; | 6 | UnknownPlace\n\
-    6 | 1 | 1 : $r+1; | 6 | Syntax\n\
+    5 | 1 | state 1 init; | 5 StateOrder\n\
+    5 | 1 | state 0 \"init; | 5 OpenQuote\n\
+    5 | 1 | state 0 !2 init; | 5 ExitRate\n\
+    5 | 1 | state 0 {1} init; | 5 Observation\n\
+    5 | 1 | state 0 init [1]; | 5 Syntax\n\
+    5 | 1 | state 0 [1 init; | 5 Syntax\n\
+    5 | 1 | state; | 5 Syntax\n\
+    5 | 1 | state 0x \"; | 5 Syntax\n\
+    5 | 1 | state 00000000000000000000000001 !; | 5 StateOrder\n\
+    5 | 1 | state 0; | 11 InitCount\n\
+    6 | 1 | 1 : p*p; | 6 SharedParameter\n\
+    3 | 4 | p q;@model;state 0 init;1 : (p+1)/q; | 6 ParametricDivisor\n\
+    6 | 1 | 1 : p^2; | 6 Power\n\
+    1 | 1 | @type: CTMC; | 1 UnsupportedType\n\
+    1 | 1 | @type:; | 1 UnsupportedType\n\
+    1 | 1 | @type: DTMC DTMC; | 1 UnsupportedType\n\
+    7 | 1 | 1 : 1-p; | 7 RepeatedTarget\n\
+    7 | 1 | 01 : 1-p*p; | 7 RepeatedTarget\n\
+    7 | 1 | 3 : 1-p; | 7 TargetRange\n\
+    7 | 1 | 18446744073709551618 : 1-p; | 7 TargetRange\n\
+    7 | 1 | 000000000000000000002 : 1-p; | 7 Syntax\n\
+    7 | 1 | 2 1-p; | 7 Syntax\n\
+    7 | 1 | 2 :; | 7 Syntax\n\
+    8 | 1 | state 1 init heads; | 11 InitCount\n\
+    9 | 1 |  | 8 NoChoice\n\
+    11 | 1 |  | 10 NoChoice\n\
+    3 | 1 | p p; | 3 RepeatedName\n\
+    3 | 1 | p 2; | 3 Syntax\n\
+    3 | 1 | p \"q\" r; | 3 Syntax\n\
+    3 | 1 | p \"q; | 3 OpenQuote\n\
+    3 | 1 | p b c d e f g h i j k l m n o a q; | 3 LimitParameters\n\
+    3 | 1 | p a1234567890123456789012345678901234567890123456789012345678901234; | 3 LimitName\n\
+    6 | 1 | 1 : q; | 6 UnknownName\n\
+    6 | 1 | 1 : 2p; | 6 Syntax\n\
+    6 | 1 | 1 : p/(1-1); | 6 DivisionByZero\n\
+    6 | 1 | 1 : 4611686018427387904; | 6 Wide\n\
+    6 | 1 | 1 : $r; | 6 UnknownPlace\n\
+    6 | 1 | 1 : $r+1; | 6 Syntax\n\
     6 | 1 | 1 : (((((((((((((((((((((((((((((((((((((((((((((((((((((((((((((((((p)))))))))))))))))\
-    )))))))))))))))))))))))))))))))))))))))))))))))); | 6 | Deep\n\
-    6 | 4 | 1 : 1/4000000007*p;2 : 1-p;state 1 heads;1 : 1/4000000009; | 11 | CommonDenominator\n\
-    4 | 1 |  | 4 | Syntax\n\
-    4 | 8 |  | 3 | MissingSection\n\
-    1 | 1 |  | 3 | MissingSection\n\
-    1 | 11 |  | 0 | MissingSection\n\
-    5 | 7 |  | 4 | NoState\n\
-    2 | 0 | @type: DTMC; | 2 | RepeatedSection\n\
-    2 | 0 | @type: MDP; | 2 | RepeatedSection\n\
-    4 | 1 | @modle; | 4 | UnknownSection\n\
-    9 | 1 | @type: DTMC; | 9 | UnknownSection\n\
-    6 | 2 | action a;1 : p;action b;2 : 1-p; | 8 | ExtraChoice\n\
-    6 | 0 | action a [1] [2]; | 6 | Syntax\n\
-    6 | 0 | action a [1] \"x; | 6 | OpenQuote\n\
-    5 | 0 | action a; | 5 | Syntax\n\
-    4 | 0 | @nr_states;4; | 13 | CountMismatch\n\
-    4 | 0 | @nr_choices;4; | 13 | CountMismatch\n\
-    4 | 0 | @nr_states;@placeholders; | 5 | Syntax\n\
-    4 | 0 | @placeholders;$a : p;$b : $a; | 6 | Syntax\n\
-    4 | 0 | @placeholders;$a : p;$a : p; | 6 | RepeatedName\n\
-    8 | 1 | state 1 heads?; | 8 | NotText\n\
-";
+    )))))))))))))))))))))))))))))))))))))))))))))))); | 6 Deep\n\
+    6 | 4 | 1 : 1/4000000007*p;2 : 1-p;state 1 heads;1 : 1/4000000009; | 11 CommonDenominator\n\
+    4 | 1 |  | 4 Syntax\n\
+    4 | 8 |  | 3 MissingSection\n\
+    1 | 1 |  | 3 MissingSection\n\
+    1 | 11 |  | 0 MissingSection\n\
+    5 | 7 |  | 4 NoState\n\
+    2 | 0 | @type: DTMC; | 2 RepeatedSection\n\
+    2 | 0 | @type: MDP; | 2 RepeatedSection\n\
+    4 | 1 | @modle; | 4 UnknownSection\n\
+    9 | 1 | @type: DTMC; | 9 UnknownSection\n\
+    6 | 2 | action a;1 : p;action b;2 : 1-p; | 8 ExtraChoice\n\
+    6 | 0 | action a [1] [2]; | 6 Syntax\n\
+    6 | 0 | action a [1] \"x; | 6 OpenQuote\n\
+    5 | 0 | action a; | 5 Syntax\n\
+    4 | 0 | @nr_states;4; | 13 CountMismatch\n\
+    4 | 0 | @nr_choices;4; | 13 CountMismatch\n\
+    4 | 0 | @nr_states;@placeholders; | 5 Syntax\n\
+    4 | 0 | @placeholders;$a : p;$b : $a; | 6 Syntax\n\
+    4 | 0 | @placeholders;$a : p;$a : p; | 6 RepeatedName\n\
+    8 | 1 | state 1 heads?; | 8 NotText";
 
 // A text, the goal's label, and the line and the cause of the refusal: a label that no state
 // carries, and a value of five parameters.
 const WHOLE: &str = "\
     @type: DTMC;@parameters;p;@model;state 0 init;1 : p;2 : 1-p;state 1 heads;1 : 1;state 2;2 : 1; \
-    | tails | 11 | UnknownLabel\n\
+    | tails | 11 UnknownLabel\n\
     @type: DTMC;@parameters;a b c d e;@model;state 0 init;1 : 1/8*a+1/8*b+1/8*c+1/8*d+1/8*e; | \
-    heads | 6 | LimitValueParameters\n\
-";
-
-// The text that a cell of a table stands for.
-fn text_of(alloc: Global, cell: &str) -> Result<Vec<u8>, AllocError> {
-    let mut text = Vec::new(alloc);
-    for byte in cell.as_bytes() {
-        text.push(match *byte {
-            b';' => b'\n',
-            b'?' => 200,
-            byte => byte,
-        })?;
-    }
-    Ok(text)
-}
+    heads | 6 LimitValueParameters";
 
 // The coin, of which `count` lines from line `from` on give way to others.
 fn changed(alloc: Global, from: usize, count: usize, new: &[u8]) -> Result<Vec<u8>, AllocError> {
@@ -258,103 +242,120 @@ fn write_model(out: &mut MemSink, model: &Model) -> Result<(), WriteFault> {
     write_rows(out, model)
 }
 
-// Whether the model is the one that these words tell.
-fn is_told(alloc: Global, model: &Model, want: &str) -> Result<bool, AllocError> {
+// The words that tell a model.
+fn told(alloc: Global, model: &Model) -> Result<String, Untold> {
     let mut out = MemSink::new(alloc, 10000, 10000, Vec::new(alloc))?;
-    Ok(write_model(&mut out, model).is_ok() && out.taken() == want.as_bytes())
+    match write_model(&mut out, model) {
+        Ok(()) => Ok(String::from_utf8_lossy(alloc, out.taken())?),
+        Err(_) => Err(Untold::Cell),
+    }
 }
 
-// Whether a text stands for the model that these words tell.
-fn is_read(alloc: Global, text: &[u8], label: &str, want: &str) -> Result<bool, AllocError> {
+// The model that a text stands for.
+fn model_told(alloc: Global, text: &[u8], label: &str) -> Result<String, Untold> {
     if text.len() >= 100000 {
-        return Ok(false);
+        return Err(Untold::Cell);
     }
     match read_model(alloc, text, label.as_bytes()) {
-        Ok(model) => is_told(alloc, &model, want),
-        Err(_) => Ok(false),
+        Ok(model) => told(alloc, &model),
+        Err(_) => Err(Untold::Cell),
     }
 }
 
-// Whether a row tells the model that its text stands for.
-fn tells_model(alloc: Global, row: &str) -> Result<bool, AllocError> {
-    let (text, label, want) = cut_two(row);
-    let text = text_of(alloc, text)?;
-    is_read(alloc, &text, label, want)
+struct Models;
+
+impl Teller for Models {
+    type Told = String;
+
+    type Error = Untold;
+
+    fn tell(&self, alloc: Global, asked: &str) -> Result<String, Untold> {
+        let (text, label) = cut(asked);
+        let text = text_of(alloc, text)?;
+        model_told(alloc, &text, label)
+    }
 }
 
 #[test]
-fn reads_models(rt: HostRuntime) -> Result<(), Fail> {
-    for row in MODELS.lines() {
-        assert!(rt; tells_model(rt.alloc(), row)?, "{row}");
-    }
-    Ok(())
+fn reads_models(rt: HostRuntime) {
+    each_row(&rt, rt.alloc(), MODELS, &Models);
 }
 
-// Whether a text is refused at this line and for this cause.
-fn is_refused(alloc: Global, text: &[u8], label: &str, line: &str, cause: &str) -> bool {
+// The line at which a text is refused, and the cause.
+fn refusal(alloc: Global, text: &[u8], label: &str) -> Option<(u32, &'static str)> {
     if text.len() >= 1 << 31 {
-        return false;
+        return None;
     }
     match read_model(alloc, text, label.as_bytes()) {
-        Ok(_) => false,
-        Err(error) => u64::from(error.line) == number(line) && error.cause.name() == cause,
+        Ok(_) => None,
+        Err(error) => Some((error.line, error.cause.name())),
     }
 }
 
-// Whether the coin is refused so, of which `count` lines from line `from` on give way to others.
-fn is_change_refused(
-    alloc: Global,
-    lines: (usize, usize),
-    new: &[u8],
-    want: &str,
-) -> Result<bool, AllocError> {
-    let (from, count) = lines;
-    let (line, cause) = cut(want);
-    let text = changed(alloc, from, count, new)?;
-    Ok(is_refused(alloc, &text, "heads", line, cause))
-}
-
-// Whether a row tells the first fault of the coin with a change.
-fn tells_change(alloc: Global, row: &str) -> Result<bool, AllocError> {
-    let (from, count, new, want) = cut_three(row);
-    let lines = (number(from) as usize, number(count) as usize);
-    let new = text_of(alloc, new)?;
-    is_change_refused(alloc, lines, &new, want)
-}
-
-#[test]
-fn refuses_the_first_fault(rt: HostRuntime) -> Result<(), Fail> {
-    for row in CHANGES.lines() {
-        assert!(rt; tells_change(rt.alloc(), row)?, "{row}");
+// The same as it is shown.
+fn refusal_told(alloc: Global, text: &[u8], label: &str) -> Result<String, Untold> {
+    match refusal(alloc, text, label) {
+        Some((line, cause)) => Ok(format!(in alloc; "{line} {cause}")?),
+        None => Err(Untold::Cell),
     }
-    Ok(())
 }
 
-// Whether a row tells the first fault of its text.
-fn tells_fault(alloc: Global, row: &str) -> Result<bool, AllocError> {
-    let (text, label, rest) = cut_two(row);
-    let (line, cause) = cut(rest);
-    let text = text_of(alloc, text)?;
-    Ok(is_refused(alloc, &text, label, line, cause))
-}
+struct Changes;
 
-#[test]
-fn refuses_by_the_whole_text(rt: HostRuntime) -> Result<(), Fail> {
-    for row in WHOLE.lines() {
-        assert!(rt; tells_fault(rt.alloc(), row)?, "{row}");
+impl Teller for Changes {
+    type Told = String;
+
+    type Error = Untold;
+
+    fn tell(&self, alloc: Global, asked: &str) -> Result<String, Untold> {
+        let (from, count, new) = cut_two(asked);
+        let new = text_of(alloc, new)?;
+        let text = changed(alloc, number(from) as usize, number(count) as usize, &new)?;
+        refusal_told(alloc, &text, "heads")
     }
-    Ok(())
 }
 
-// Whether so many line feeds are refused at this line, for the section that they lack.
-fn are_feeds_refused(alloc: Global, count: usize, line: &str) -> Result<bool, AllocError> {
-    let feeds = vec![in alloc; b'\n'; count]?;
-    Ok(is_refused(alloc, &feeds, "heads", line, "MissingSection"))
-}
-
-// A line for each of 2^26 line feeds.
 #[test]
-fn reads_many_lines(rt: HostRuntime) -> Result<(), Fail> {
-    assert!(rt; are_feeds_refused(rt.alloc(), 1 << 26, "67108864")?);
-    Ok(())
+fn refuses_the_first_fault(rt: HostRuntime) {
+    each_row(&rt, rt.alloc(), CHANGES, &Changes);
+}
+
+struct WholeTexts;
+
+impl Teller for WholeTexts {
+    type Told = String;
+
+    type Error = Untold;
+
+    fn tell(&self, alloc: Global, asked: &str) -> Result<String, Untold> {
+        let (text, label) = cut(asked);
+        let text = text_of(alloc, text)?;
+        refusal_told(alloc, &text, label)
+    }
+}
+
+#[test]
+fn refuses_by_the_whole_text(rt: HostRuntime) {
+    each_row(&rt, rt.alloc(), WHOLE, &WholeTexts);
+}
+
+// How many line feeds a text has, 2^26, and its refusal: they are as many lines, and lack a section.
+const FEEDS: &str = "67108864 | 67108864 MissingSection";
+
+struct Feeds;
+
+impl Teller for Feeds {
+    type Told = String;
+
+    type Error = Untold;
+
+    fn tell(&self, alloc: Global, asked: &str) -> Result<String, Untold> {
+        let feeds = vec![in alloc; b'\n'; number(asked) as usize]?;
+        refusal_told(alloc, &feeds, "heads")
+    }
+}
+
+#[test]
+fn reads_many_lines(rt: HostRuntime) {
+    each_row(&rt, rt.alloc(), FEEDS, &Feeds);
 }

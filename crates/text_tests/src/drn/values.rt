@@ -1,12 +1,12 @@
 //! Tests of values.
 
-use crate::cells::cut;
+use crate::cells::{Teller, cut_two, each_row, number};
 use drn_expr::{ExprError, RatPoly, read_value};
 use drn_lexer::Line;
 use lift_names::Names;
 use std::alloc::{AllocError, Global};
 use std::fmt::Write;
-use std::test::Fail;
+use std::string::String;
 
 /// The value of a text over the names `p` and `q`.
 fn read(alloc: Global, text: &[u8]) -> Result<RatPoly, ExprError> {
@@ -98,45 +98,52 @@ p*p+r | UnknownName
 p*p+1/0 | SharedParameter
 (p*p)^2 | Power";
 
-/// Whether the value of a text is shown so.
-fn is_value(alloc: Global, text: &[u8], want: &str) -> Result<bool, AllocError> {
-    Ok(shown(alloc, read(alloc, text))?.as_str() == want)
-}
+struct Values;
 
-/// Whether a row tells the value of its text, or its refusal.
-fn tells_value(alloc: Global, row: &str) -> Result<bool, AllocError> {
-    let (text, want) = cut(row);
-    is_value(alloc, text.as_bytes(), want)
-}
+impl Teller for Values {
+    type Told = String;
 
-#[test]
-fn expands_values(rt: HostRuntime) -> Result<(), Fail> {
-    for row in EXPANDED.split('\n') {
-        assert!(rt; tells_value(rt.alloc(), row)?, "{row}");
+    type Error = AllocError;
+
+    fn tell(&self, alloc: Global, asked: &str) -> Result<String, AllocError> {
+        shown(alloc, read(alloc, asked.as_bytes()))
     }
-    Ok(())
 }
 
 #[test]
-fn tells_the_first_refusal(rt: HostRuntime) -> Result<(), Fail> {
-    for row in REFUSED.split('\n') {
-        assert!(rt; tells_value(rt.alloc(), row)?, "{row}");
+fn expands_values(rt: HostRuntime) {
+    each_row(&rt, rt.alloc(), EXPANDED, &Values);
+}
+
+#[test]
+fn tells_the_first_refusal(rt: HostRuntime) {
+    each_row(&rt, rt.alloc(), REFUSED, &Values);
+}
+
+/// A byte, how often it stands in front, what stands behind it, and the value.
+const NESTED: &str = "\
+- | 64 | p | 1:1 /1
+( | 65 |  | Deep";
+
+struct Nested;
+
+impl Teller for Nested {
+    type Told = String;
+
+    type Error = AllocError;
+
+    fn tell(&self, alloc: Global, asked: &str) -> Result<String, AllocError> {
+        let (byte, count, rest) = cut_two(asked);
+        let byte = byte.bytes().next().unwrap_or(b'?');
+        let mut text = vec![in alloc; byte; number(count) as usize]?;
+        text.extend_from_slice(rest.as_bytes())?;
+        shown(alloc, read(alloc, &text))
     }
-    Ok(())
-}
-
-/// Whether p behind so many signs has this value.
-fn is_nested(alloc: Global, signs: usize, want: &str) -> Result<bool, AllocError> {
-    let mut text = vec![in alloc; b'-'; signs]?;
-    text.push(b'p')?;
-    is_value(alloc, &text, want)
 }
 
 #[test]
-fn limits_nesting(rt: HostRuntime) -> Result<(), Fail> {
-    assert!(rt; is_nested(rt.alloc(), 64, "1:1 /1")?);
-    assert!(rt; is_value(rt.alloc(), &[b'('; 65], "Deep")?);
-    Ok(())
+fn limits_nesting(rt: HostRuntime) {
+    each_row(&rt, rt.alloc(), NESTED, &Nested);
 }
 
 /// The first bytes of a sum of 2049 times p.
@@ -149,16 +156,26 @@ fn front_of_sum(alloc: Global, len: usize) -> Result<Vec<u8>, AllocError> {
     Ok(sum)
 }
 
-/// Whether so many bytes at the front of the sum have this value.
-fn is_sum(alloc: Global, len: usize, want: &str) -> Result<bool, AllocError> {
-    let text = front_of_sum(alloc, len)?;
-    is_value(alloc, &text, want)
+/// How many bytes of the sum there are, and their value.
+const SUMS: &str = "\
+4097 | Long
+4096 | Syntax
+4095 | 1:2048 /1";
+
+struct Sums;
+
+impl Teller for Sums {
+    type Told = String;
+
+    type Error = AllocError;
+
+    fn tell(&self, alloc: Global, asked: &str) -> Result<String, AllocError> {
+        let text = front_of_sum(alloc, number(asked) as usize)?;
+        shown(alloc, read(alloc, &text))
+    }
 }
 
 #[test]
-fn limits_symbols(rt: HostRuntime) -> Result<(), Fail> {
-    assert!(rt; is_sum(rt.alloc(), 4097, "Long")?);
-    assert!(rt; is_sum(rt.alloc(), 4096, "Syntax")?);
-    assert!(rt; is_sum(rt.alloc(), 4095, "1:2048 /1")?);
-    Ok(())
+fn limits_symbols(rt: HostRuntime) {
+    each_row(&rt, rt.alloc(), SUMS, &Sums);
 }

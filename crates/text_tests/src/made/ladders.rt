@@ -1,10 +1,10 @@
 //! Texts of ladders.
 ghost use Rattle.std.specs.Prelude.{◌≤◌};
 
+use crate::cells::{Teller, Untold, cut, each_row, number};
 use lift_base::{MemSink, SureSink, write_buffered};
 use model_gen::{Ladder, generate};
 use std::alloc::{AllocError, Global};
-use std::test::Fail;
 
 /// The ladder of one block.
 const ONE: &str = "\
@@ -36,55 +36,52 @@ fn ladder_of_one(alloc: Global, room: usize, step: usize) -> Result<(MemSink, bo
 
 /// The room, the bytes of a call, and how many of the text's bytes are written.
 const ROOMS: &str = "\
-1000 1000 117
-1000 1 117
-117 7 117
-116 7 116
-36 36 36
-3 2 3
-0 1 0";
+1000 | 1000 | 117
+1000 | 1 | 117
+117 | 7 | 117
+116 | 7 | 116
+36 | 36 | 36
+3 | 2 | 3
+0 | 1 | 0";
 
-fn numbers(row: &str) -> Option<(usize, usize, usize)> {
-    let mut words = row.split(' ');
-    let room = words.next()?.parse::<u32>().ok()?;
-    let step = words.next()?.parse::<u32>().ok()?;
-    let written = words.next()?.parse::<u32>().ok()?;
-    Some((room as usize, step as usize, written as usize))
+/// How many bytes of the ladder the sink took from its front, where it was said rightly whether these are all.
+fn taken(out: &MemSink, is_whole: bool) -> Option<usize> {
+    let taken = out.taken();
+    let is_right = ONE.as_bytes().starts_with(taken) && is_whole == (taken.len() == ONE.len());
+    is_right.then_some(taken.len())
 }
 
-/// Whether so much of the ladder is written into so much room, and it is said rightly whether that is all.
-fn has_written(alloc: Global, room: usize, step: usize, written: usize) -> Result<bool, AllocError>
-    requires { 1 ≤ step }
-{
-    let (out, is_whole) = ladder_of_one(alloc, room, step)?;
-    let is_front = ONE.as_bytes().get(..written) == Some(out.taken());
-    Ok(is_front && is_whole == (written == ONE.len()))
-}
+struct Rooms;
 
-/// Whether a row tells how much is written.
-fn tells_written(alloc: Global, row: &str) -> Result<bool, AllocError> {
-    match numbers(row) {
-        Some((room, step, written)) if 1 <= step => has_written(alloc, room, step, written),
-        _ => Ok(false),
+impl Teller for Rooms {
+    type Told = usize;
+
+    type Error = Untold;
+
+    fn tell(&self, alloc: Global, asked: &str) -> Result<usize, Untold> {
+        let (room, step) = cut(asked);
+        let (out, is_whole) = ladder_of_one(
+            alloc,
+            number(room) as usize,
+            number(step).max(1) as usize,
+        )?;
+        taken(&out, is_whole).ok_or(Untold::Cell)
     }
 }
 
 #[test]
-fn a_front_is_written_where_room_ends(rt: HostRuntime) -> Result<(), Fail> {
-    for row in ROOMS.lines() {
-        assert!(rt; tells_written(rt.alloc(), row)?, "{row}");
-    }
-    Ok(())
+fn a_front_is_written_where_room_ends(rt: HostRuntime) {
+    each_row(&rt, rt.alloc(), ROOMS, &Rooms);
 }
 
 /// How many blocks, and how long the text is.
 const LENGTHS: &str = "\
-1 117
-2 161
-5 303
-50 2608
-1000 59313
-32767 2200474";
+1 | 117
+2 | 161
+5 | 303
+50 | 2608
+1000 | 59313
+32767 | 2200474";
 
 fn length_of(blocks: u32) -> Option<u64> {
     if blocks < 1 || 32767 < blocks {
@@ -95,14 +92,22 @@ fn length_of(blocks: u32) -> Option<u64> {
     Some(out.count())
 }
 
-fn has_length(row: &str) -> Option<bool> {
-    let (blocks, length) = row.split_once(' ')?;
-    Some(length_of(blocks.parse().ok()?)? == length.parse::<u64>().ok()?)
+struct Lengths;
+
+impl Teller for Lengths {
+    type Told = u64;
+
+    type Error = Untold;
+
+    fn tell(&self, _alloc: Global, asked: &str) -> Result<u64, Untold> {
+        match asked.parse::<u32>() {
+            Ok(blocks) => length_of(blocks).ok_or(Untold::Cell),
+            Err(_) => Err(Untold::Cell),
+        }
+    }
 }
 
 #[test]
 fn texts_have_their_length(rt: HostRuntime) {
-    for row in LENGTHS.lines() {
-        assert!(rt; has_length(row) == Some(true), "{row}");
-    }
+    each_row(&rt, rt.alloc(), LENGTHS, &Lengths);
 }
