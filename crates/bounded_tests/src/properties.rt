@@ -1,8 +1,5 @@
 //! Formulas, read or refused, and models that are cut for them.
 
-ghost use Rattle.std.specs.Prelude.{◌≡◌, length, IfOk};
-ghost use Rattle.property_text.specs.Restricted.{restricted};
-
 use crate::cases::{COIN, model_of};
 use lift_model::{Model, Row};
 use property_text::{FormulaError, Op, read_formula, restrict};
@@ -183,41 +180,39 @@ fn stays(row: &Row, state: u32, common: i64) -> bool {
     }
 }
 
-/// Whether the row of a state's choice is so.
-fn stays_at(model: &Model, state: u32, choice: u32) -> bool {
-    state < model.states()
-        && choice < model.choices(state)
-        && stays(model.row(state, choice), state, model.common())
-}
-
-/// How many entries that row has.
-fn entries_at(model: &Model, state: u32, choice: u32) -> Option<usize> {
-    if state < model.states() && choice < model.choices(state) {
-        Some(model.row(state, choice).entries().len())
-    } else {
-        None
+/// How many entries the row of a state's choice has after the cut, and whether it stays in the state.
+fn row_of(
+    alloc: Global,
+    text: &[u8],
+    safe: &[bool],
+    state: u32,
+    choice: u32,
+) -> Result<(usize, bool), Fail> {
+    let cut = cut_of(alloc, text, safe)?;
+    if state >= cut.states() || choice >= cut.choices(state) {
+        return Err(Fail::new("there is no such choice"));
     }
+    let row = cut.row(state, choice);
+    Ok((row.entries().len(), stays(row, state, cut.common())))
 }
 
 #[test]
 fn a_state_that_is_not_safe_is_cut(rt: HostRuntime) -> Result<(), Fail> {
-    let cut = cut_of(rt.alloc(), COIN, &[false, true, false])?;
-    assert!(rt; stays_at(&cut, 0, 0));
-    assert!(rt; stays_at(&cut, 1, 0));
-    assert!(rt; stays_at(&cut, 2, 0));
-    assert_eq!(rt; cut.live(), 0);
-    let kept = cut_of(rt.alloc(), COIN, &[true, false, false])?;
-    assert_eq!(rt; entries_at(&kept, 0, 0), Some(2));
-    assert_eq!(rt; kept.live(), 1);
+    let alloc = rt.alloc();
+    let safe = [false, true, false];
+    assert!(rt; row_of(alloc, COIN, &safe, 0, 0)? == (1, true));
+    assert!(rt; row_of(alloc, COIN, &safe, 1, 0)? == (1, true));
+    assert!(rt; row_of(alloc, COIN, &safe, 2, 0)? == (1, true));
+    assert!(rt; row_of(alloc, COIN, &[true, false, false], 0, 0)? == (2, false));
     Ok(())
 }
 
 #[test]
 fn each_choice_is_cut_that_has_an_entry(rt: HostRuntime) -> Result<(), Fail> {
-    let cut = cut_of(rt.alloc(), CHOICE, &[false, false, true])?;
-    assert_eq!(rt; entries_at(&cut, 0, 0), Some(0));
-    assert!(rt; stays_at(&cut, 0, 1));
-    let kept = cut_of(rt.alloc(), CHOICE, &[true, true, true])?;
-    assert_eq!(rt; entries_at(&kept, 0, 1), Some(2));
+    let alloc = rt.alloc();
+    let safe = [false, false, true];
+    assert!(rt; row_of(alloc, CHOICE, &safe, 0, 0)? == (0, false));
+    assert!(rt; row_of(alloc, CHOICE, &safe, 0, 1)? == (1, true));
+    assert!(rt; row_of(alloc, CHOICE, &[true, true, true], 0, 1)? == (2, false));
     Ok(())
 }
