@@ -5,6 +5,8 @@
 #[cfg(test)]
 mod cases;
 #[cfg(test)]
+mod cells;
+#[cfg(test)]
 mod lumping;
 #[cfg(test)]
 mod properties;

@@ -4,11 +4,12 @@ ghost use Rattle.std.specs.Prelude.{◌≡◌, ◌<◌, ◌≤◌, ℕ, true, le
 ghost use Rattle.lift_model.specs.Model.{is_goal, row_at};
 ghost use Rattle.lift_lump.specs.Laws.{GoalsHaveEntries};
 
-use drn_read::read_model;
-use lift_lump::{LumpError, Lumped, lump};
+use crate::cases::model_of;
+use crate::cells::{Teller, Untold, each_row};
+use lift_lump::{Lumped, lump};
 use lift_model::Model;
-use std::alloc::Global;
-use std::test::Fail;
+use std::alloc::{AllocError, Global};
+use std::string::String;
 
 /// A die that is thrown with a coin: all its faces but one behave alike.
 const DIE: &[u8] = b"@type: DTMC\n@parameters\np\n@model\nstate 0 init\n1 : p\n2 : 1-p\n\
@@ -38,14 +39,15 @@ state 1\n3 : 1\nstate 2\n3 : 1\nstate 3 goal\n3 : 1\n";
 const PROCESS: &[u8] = b"@type: MDP\n@parameters\np\n@model\nstate 0 init\n\
 action a\n1 : p\n0 : 1-p\naction b\n1 : 1\nstate 1 goal\n1 : 1\n";
 
-/// The model of a text; its goal states carry the label `goal`.
-fn model_of(alloc: Global, text: &[u8]) -> Result<Model, Fail> {
-    if text.len() >= 1 << 31 {
-        return Err(Fail::new("the text is too long"));
-    }
-    match read_model(alloc, text, b"goal") {
-        Ok(model) => Ok(model),
-        Err(_) => Err(Fail::new("the text stands for no model")),
+/// The text of that name.
+fn text_of(name: &str) -> &'static [u8] {
+    match name {
+        "DIE" => DIE,
+        "PAIR" => PAIR,
+        "OTHER" => OTHER,
+        "PRIME" => PRIME,
+        "CANCELLED" => CANCELLED,
+        _ => PROCESS,
     }
 }
 
@@ -62,48 +64,60 @@ fn goals_have_entries(model: &Model) -> bool
     true
 }
 
-/// The answer for the chain of a text.
-fn lumped_of(alloc: Global, text: &[u8]) -> Result<Result<Lumped, LumpError>, Fail> {
-    let model = model_of(alloc, text)?;
-    if !goals_have_entries(&model) {
-        return Err(Fail::new("a goal state has no entry"));
+/// The blocks of so many states.
+fn blocks_shown(alloc: Global, lumped: &Lumped, states: u32) -> Result<String, AllocError>
+    requires { states ≤ length lumped.now.blocks.of_states }
+{
+    let mut blocks = Vec::new(alloc);
+    for s in 0..states {
+        blocks.push(lumped.block(s))?;
     }
-    Ok(lump(alloc, &model))
+    format!(in alloc; "{blocks:?}")
 }
 
-/// Whether the states of a chain are in these blocks.
-fn has_blocks(alloc: Global, text: &[u8], blocks: &[u32]) -> Result<bool, Fail> {
-    let model = model_of(alloc, text)?;
-    if !goals_have_entries(&model) {
-        return Err(Fail::new("a goal state has no entry"));
+/// The blocks of a chain's states, or why it isn't lumped.
+fn blocks_told(alloc: Global, model: &Model) -> Result<String, AllocError>
+    requires { GoalsHaveEntries model.now }
+{
+    match lump(alloc, model) {
+        Ok(lumped) => blocks_shown(alloc, &lumped, model.states()),
+        Err(cause) => format!(in alloc; "{cause:?}"),
     }
-    match lump(alloc, &model) {
-        Ok(lumped) => {
-            let states = model.states();
-            let mut same = blocks.len() == states as usize;
-            for s in 0..states {
-                same = same && blocks.get(s as usize).copied() == Some(lumped.block(s));
-            }
-            Ok(same)
+}
+
+struct Blocks;
+
+impl Teller for Blocks {
+    type Told = String;
+
+    type Error = Untold;
+
+    fn tell(&self, alloc: Global, asked: &str) -> Result<String, Untold> {
+        let model = model_of(alloc, text_of(asked), b"goal")?;
+        if !goals_have_entries(&model) {
+            return Err(Untold::Cell);
         }
-        Err(_) => Err(Fail::new("the chain isn't lumped")),
+        Ok(blocks_told(alloc, &model)?)
     }
 }
 
-#[test]
-fn states_of_equal_behaviour_are_one_block(rt: HostRuntime) -> Result<(), Fail> {
-    let alloc = rt.alloc();
-    assert!(rt; has_blocks(alloc, DIE, &[0, 1, 2, 3, 2, 2, 2, 4, 2, 2, 2, 2, 2])?);
-    assert!(rt; has_blocks(alloc, PAIR, &[0, 1, 1, 2, 3])?);
-    assert!(rt; has_blocks(alloc, OTHER, &[0, 1, 2, 3, 4])?);
-    assert!(rt; has_blocks(alloc, PRIME, &[0, 1, 2, 3, 4])?);
-    assert!(rt; has_blocks(alloc, CANCELLED, &[0, 1, 1, 2])?);
-    Ok(())
-}
+/// A chain, and the block of each state.
+const LUMPED: &str = "\
+DIE | [0, 1, 2, 3, 2, 2, 2, 4, 2, 2, 2, 2, 2]
+PAIR | [0, 1, 1, 2, 3]
+OTHER | [0, 1, 2, 3, 4]
+PRIME | [0, 1, 2, 3, 4]
+CANCELLED | [0, 1, 1, 2]";
 
 #[test]
-fn a_decision_process_is_refused(rt: HostRuntime) -> Result<(), Fail> {
-    let answer = lumped_of(rt.alloc(), PROCESS)?;
-    assert!(rt; matches!(answer, Err(LumpError::NotChain)));
-    Ok(())
+fn states_of_equal_behaviour_are_one_block(rt: HostRuntime) {
+    each_row(&rt, rt.alloc(), LUMPED, &Blocks);
+}
+
+/// A decision process, and why it isn't lumped.
+const REFUSED: &str = "PROCESS | NotChain";
+
+#[test]
+fn a_decision_process_is_refused(rt: HostRuntime) {
+    each_row(&rt, rt.alloc(), REFUSED, &Blocks);
 }
