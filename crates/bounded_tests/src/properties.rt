@@ -1,6 +1,6 @@
 //! Formulas, read or refused, and models that are cut for them.
 
-use crate::cases::{COIN, model_of};
+use crate::cases::{model_of, text_of};
 use lift_model::{Model, Row};
 use property_text::{FormulaError, Op, read_formula, restrict};
 use std::alloc::Global;
@@ -158,7 +158,9 @@ fn bounds_out_of_range_are_refused(rt: HostRuntime) -> Result<(), Fail> {
 
 /// The model of a text after the cut that leaves these states.
 fn cut_of(alloc: Global, text: &[u8], safe: &[bool]) -> Result<Model, Fail> {
-    let model = model_of(alloc, text)?;
+    let Ok(model) = model_of(alloc, text, b"heads") else {
+        return Err(Fail::new("the text stands for no model"));
+    };
     if safe.len() != model.states() as usize {
         return Err(Fail::new("there are more states or fewer"));
     }
@@ -199,11 +201,12 @@ fn row_of(
 #[test]
 fn a_state_that_is_not_safe_is_cut(rt: HostRuntime) -> Result<(), Fail> {
     let alloc = rt.alloc();
+    let coin = text_of("COIN");
     let safe = [false, true, false];
-    assert!(rt; row_of(alloc, COIN, &safe, 0, 0)? == (1, true));
-    assert!(rt; row_of(alloc, COIN, &safe, 1, 0)? == (1, true));
-    assert!(rt; row_of(alloc, COIN, &safe, 2, 0)? == (1, true));
-    assert!(rt; row_of(alloc, COIN, &[true, false, false], 0, 0)? == (2, false));
+    assert!(rt; row_of(alloc, coin, &safe, 0, 0)? == (1, true));
+    assert!(rt; row_of(alloc, coin, &safe, 1, 0)? == (1, true));
+    assert!(rt; row_of(alloc, coin, &safe, 2, 0)? == (1, true));
+    assert!(rt; row_of(alloc, coin, &[true, false, false], 0, 0)? == (2, false));
     Ok(())
 }
 
