@@ -13,6 +13,8 @@ mod faults;
 #[cfg(test)]
 mod limits;
 #[cfg(test)]
+mod lumped;
+#[cfg(test)]
 mod malformed;
 #[cfg(test)]
 mod models;

@@ -1,5 +1,5 @@
 -- What an answer says, by the refusal that it comes from.
-use Rattle.std.proofs.Common.{IsOk, ◌≡◌, ◌≢◌, ◌≤◌, ◌<◌, ◌⊎◌, inl, inr, ℕ, List, [], length, append-nil, None, Some, Ok, Err, refl, sym, ap, ◌∙◌, subst, arith, Result, IsErr, IsErrAnd}
+use Rattle.std.proofs.Common.{IsOk, ◌≡◌, ◌≢◌, ◌≤◌, ◌<◌, ◌⊎◌, inl, inr, ℕ, List, [], length, append-nil, false, None, Some, Ok, Err, refl, sym, ap, ◌∙◌, subst, arith, Result, IsErr, IsErrAnd}
 use Rattle.std.specs.declared.option.Option.{Option}
 use Rattle.std.specs.Io.KnownBytes.{Appends}
 use Rattle.lift_base.specs.Outside.{Rose, AppendsFront, TakenHas, Wrote}
@@ -23,7 +23,10 @@ use Rattle.plift_words.specs.declared.job.Field.TheVariants as field
 use Rattle.plift_words.specs.declared.error.WordsError.{WordsError}
 use Rattle.plift_words.specs.declared.error.WordsError.TheVariants as words
 use Rattle.plift_top.specs.Refused.{words_refusal}
-use Rattle.plift_top.specs.Verify.{WasRead, Makes, IsReported, IsAnswered, Reports, ReportsFront, IsRefused, KeepsLimit}
+use Rattle.plift_words.specs.Way.{steps_told}
+use Rattle.plift_words.specs.declared.way.Way.{Way}
+use Rattle.plift_words.specs.declared.way.Way.TheVariants as way
+use Rattle.plift_top.specs.Verify.{WasRead, Makes, IsAnswered, IsAnswerable, Reports, ReportsFront, IsRefused, KeepsLimit, lacks_chain}
 use Rattle.cert_text.specs.Forms.{IsToldBound}
 use Rattle.cert_check.specs.Sound.{IsSoundFile, leaf_counts}
 use Rattle.cert_check.specs.Answer.{Answers}
@@ -31,7 +34,7 @@ use Rattle.cert_check.specs.Laws.{AnswersAreOne, SoundFilesPass}
 use Rattle.cert_check.specs.Source.{NoFault, file_limit}
 use Rattle.cert_check.specs.declared.summary.Summary.{Summary}
 use Rattle.cert_check.specs.declared.error.CheckError.{CheckError}
-use Rattle.plift_top.specs.Laws.{RightReportsAreSound}
+use Rattle.plift_top.specs.Laws.{RightReportsAreSound, LumpedReportsAreSound}
 use Rattle.plift_top.specs.Check.{IsFoundSound, IsFoundInPart, IsUnsound}
 use Rattle.plift_top.specs.Selftest.{one_half, IsLadderTree, ladder_report, tested_line, IsTestedTree, HasLongReport, TellsTested, Selftests}
 use Rattle.plift_top.specs.Answers.{Acts, Generates, wanted, AsksToVerify, AsksToCheck, AsksToGenerate, AsksToSelftest, IsTooLong, WroteNote, IsNoted, HasNote, status_of, answered, note_of}
@@ -40,7 +43,9 @@ use Rattle.check_notes.specs.declared.status.Status.TheVariants as status
 use Rattle.plift_top.specs.declared.refusal.Refusal.{Refusal}
 use Rattle.plift_top.specs.declared.refusal.Refusal.TheVariants as refusal
 use Rattle.plift_top.proofs.Reading.{read_as, short, given}
+use Rattle.plift_top.specs.Lumped.{lumped_case}
 use Rattle.plift_top.proofs.Refusals.{never_refused, one_status, rows_status}
+use Rattle.plift_top.proofs.Lumping.{not_wide}
 
 -- no refusal has the status of what is done
 pub never_done : (r : Refusal) → status_of r ≡ status.Done → ⊥
@@ -53,19 +58,28 @@ faulty : SoundFilesPass → AnswersAreOne → (bytes : List ℕ) (leaves : Summa
 faulty pass one bytes leaves error file is = (let same = one bytes (Ok leaves) (Err error) (pass bytes leaves file) is in absurd (cc))
 
 -- what is answered is a case
-answered_case : (old new : Option (List ℕ)) (bound : Bound) (steps : Option ℕ) (k : CaseData) → IsAnswered old new bound steps k → IsCase k
-answered_case old new bound None k h = h.case
-answered_case old new bound (Some n) k h = h.case
+answered_case : (old new : Option (List ℕ)) (bound : Bound) (asked : Way) (k : CaseData) → IsAnswered old new bound asked k → IsCase k
+answered_case old new bound way.Whole k h = h.case
+answered_case old new bound (way.Within n) k h = h.case
+answered_case old new bound way.Lumped k h = h.is.case
 
--- without a number of steps it is answered by its report
-whole_report : (old new : Option (List ℕ)) (j : VerifyData) (text : List ℕ) → j.steps ≡ None → Reports old new j text → Makes (IsReported old new j.bound) j text
-whole_report old new j text none h = record {
-  model = h.model;
-  root = h.root;
-  read = h.read;
-  named = h.named;
-  has = subst (λ (steps : Option ℕ). IsAnswered old new j.bound steps (case_of h.model h.root j.precision)) none h.has;
-}
+-- and can be
+answerable : (old new : Option (List ℕ)) (bound : Bound) (asked : Way) (k : CaseData) → IsAnswered old new bound asked k → IsAnswerable asked k.model
+answerable old new bound way.Whole k h = (refl, λ e. absurd (cc))
+answerable old new bound (way.Within n) k h = (refl, λ e. absurd (cc))
+answerable old new bound way.Lumped k h = (ap (lacks_chain way.Lumped) h.is.chain, λ e wide. not_wide h.is.lumped h.reported.case.asked.model wide)
+
+-- what answers a case that a text stands for, without a number of steps, is a sound file
+answered_soundly : RightReportsAreSound → LumpedReportsAreSound → (old new : Option (List ℕ)) (bound : Bound) (asked : Way) (text label : List ℕ) (m : ModelData) (root : Region) (w : ℕ) → drn text label ≡ Ok m → IsToldBound bound → steps_told asked ≡ None
+    → IsAnswered old new bound asked (case_of m root w) → (report : List ℕ) × (leaves : Summary) × IsSoundFile report leaves × Appends old new report
+answered_soundly law lumped old new bound way.Whole text label m root w read told none h =
+    let k = case_of m root w in
+    (report_text k None bound h.tree, leaf_counts h.tree, law text label m root w bound h.tree read h.case told h.right, h.report)
+answered_soundly law lumped old new bound (way.Within n) text label m root w read told none h = absurd (cc)
+answered_soundly law lumped old new bound way.Lumped text label m root w read told none h =
+    let k = lumped_case (case_of m root w) h.l in
+    let r = h.reported in
+    (report_text k None bound r.tree, leaf_counts r.tree, lumped text label (case_of m root w) h.l bound r.tree read h.is.lumped r.case told r.right, r.report)
 
 module _ {S K : Type 0} (left : S → Option (List ℕ)) (faults : S → ℕ) (taken : K → Option (List ℕ)) (counts : K → ℕ) (source source' : S) (out out' : K) where
   pub done : (asked : Result JobData Field) (answer : Result (Unit {0}) Refusal) → Acts left faults taken counts asked source source' out out' answer → answered answer ≡ status.Done
@@ -104,20 +118,18 @@ module _ {S K : Type 0} (left : S → Option (List ℕ)) (faults : S → ℕ) (t
   reads_nothing (Err f) answer a n is = absurd (cc)
 
   -- what was written for a job is a sound file
-  pub sound : RightReportsAreSound → (asked : Result JobData Field) (answer : Result (Unit {0}) Refusal) → Acts left faults taken counts asked source source' out out' answer
-      → (IsOk answer → (j : VerifyData) → AsksToVerify asked j → IsToldBound j.bound) → answered answer ≡ status.Done → (j : VerifyData) → AsksToVerify asked j → j.steps ≡ None
+  pub sound : RightReportsAreSound → LumpedReportsAreSound → (asked : Result JobData Field) (answer : Result (Unit {0}) Refusal) → Acts left faults taken counts asked source source' out out' answer
+      → (IsOk answer → (j : VerifyData) → AsksToVerify asked j → IsToldBound j.bound) → answered answer ≡ status.Done → (j : VerifyData) → AsksToVerify asked j → steps_told j.way ≡ None
       → (report : List ℕ) × (leaves : Summary) × IsSoundFile report leaves × Appends (taken out) (taken out') report
-  sound law (Ok (verify i)) (Ok x) a told e j is none =
+  sound law lumped (Ok (verify i)) (Ok x) a told e j is none =
       let same : i ≡ j = cc in
-      let m = whole_report (taken out) (taken out') i a.text (ap (λ (k : VerifyData). k.steps) same ∙ none) a.has in
-      let k = case_of m.model m.root i.precision in
-      let h = m.has in
-      (report_text k None i.bound h.tree, leaf_counts h.tree, law a.text i.goal m.model m.root i.precision i.bound h.tree m.read h.case (told refl i refl) h.right, h.report)
-  sound law (Ok (generate n)) (Ok x) a told e j is none = absurd (cc)
-  sound law (Ok check) (Ok x) a told e j is none = absurd (cc)
-  sound law (Ok (selftest n)) (Ok x) a told e j is none = absurd (cc)
-  sound law (Err f) (Ok x) a told e j is none = absurd a.0
-  sound law asked (Err r) a told e j is none = absurd (never_done r e)
+      let m = a.has in
+      answered_soundly law lumped (taken out) (taken out') i.bound i.way a.text i.goal m.model m.root i.precision m.read (told refl i refl) (ap (λ (k : VerifyData). steps_told k.way) same ∙ none) m.has
+  sound law lumped (Ok (generate n)) (Ok x) a told e j is none = absurd (cc)
+  sound law lumped (Ok check) (Ok x) a told e j is none = absurd (cc)
+  sound law lumped (Ok (selftest n)) (Ok x) a told e j is none = absurd (cc)
+  sound law lumped (Err f) (Ok x) a told e j is none = absurd a.0
+  sound law lumped asked (Err r) a told e j is none = absurd (never_done r e)
 
   noted : (asked : Result JobData Field) (r : Refusal) → Acts {T = Unit {0}} left faults taken counts asked source source' out out' (Err r) → HasNote (status_of r) asked (left source) (left source') (note_of r)
   noted (Ok (verify j)) (refusal.Usage f) a = absurd a.0
@@ -129,6 +141,8 @@ module _ {S K : Type 0} (left : S → Option (List ℕ)) (faults : S → ℕ) (t
   noted (Ok (verify j)) (refusal.Model error) a = (refusal.Model error, refl, refl, (j, refl, a.0))
   noted (Ok (verify j)) (refusal.Unsound error) a = absurd a.0
   noted (Ok (verify j)) (refusal.Rows error) a = (refusal.Rows error, refl, refl, (j, refl, a.0))
+  noted (Ok (verify j)) refusal.NotChain a = (refusal.NotChain, refl, refl, (j, refl, a.0))
+  noted (Ok (verify j)) refusal.TooWide a = (refusal.TooWide, refl, refl, (j, refl, a.0))
   noted (Ok (generate n)) refusal.WriteFault a = (refusal.WriteFault, refl, refl, tt)
   noted (Ok (generate n)) _ a = absurd a.0
   noted (Ok check) refusal.ReadFault a = (refusal.ReadFault, refl, refl, tt)
@@ -406,29 +420,29 @@ module _ {S K : Type 0} (left : S → Option (List ℕ)) (faults : S → ℕ) (t
   module _ (none : AdmittedHasNoFault) where
     -- a job whose model is admitted over its region is done, but for want of memory
     pub complete : (asked : Result JobData Field) (answer : Result (Unit {0}) Refusal) → Acts left faults taken counts asked source source' out out' answer → AsksToVerify asked j → (m : ModelData) (root : Region)
-        → drn text j.goal ≡ Ok m → region m.names j.depth j.region ≡ Ok root → IsAdmitted (case_of m root j.precision)
+        → drn text j.goal ≡ Ok m → region m.names j.depth j.region ≡ Ok root → IsAdmitted (case_of m root j.precision) → IsAnswerable j.way m
         → (answered answer ≡ status.Done) ⊎ (answered answer ≡ status.Memory)
-    complete asked answer a is m root read named admitted =
-        by_answer (λ (s : Status). (s ≡ status.Done) ⊎ (s ≡ status.Memory)) (λ h. inl refl) (λ why h. absurd (never_refused none j (drn text j.goal) m root read named admitted why h)) (inr refl) asked answer a is
+    complete asked answer a is m root read named admitted can =
+        by_answer (λ (s : Status). (s ≡ status.Done) ⊎ (s ≡ status.Memory)) (λ h. inl refl) (λ why h. absurd (never_refused none j (drn text j.goal) m root read named admitted can why h)) (inr refl) asked answer a is
 
     -- a job that is refused at its text is refused so, but for want of memory
     pub refused : (asked : Result JobData Field) (answer : Result (Unit {0}) Refusal) → Acts left faults taken counts asked source source' out out' answer → AsksToVerify asked j → (why : Refusal) → IsRefused j why text
         → (answered answer ≡ status_of why) ⊎ (answered answer ≡ status.Memory)
     refused asked answer a is why bad =
         by_answer (λ (s : Status). (s ≡ status_of why) ⊎ (s ≡ status.Memory))
-        (λ h. absurd (never_refused none j (drn text j.goal) h.model h.root h.read h.named (answered_case _ _ _ j.steps _ h.has).admitted why bad))
+        (λ h. absurd (never_refused none j (drn text j.goal) h.model h.root h.read h.named (answered_case _ _ _ j.way _ h.has).admitted (answerable _ _ _ j.way _ h.has) why bad))
         (λ other h. inl (one_status j (drn text j.goal) other why h bad)) (inr refl) asked answer a is
 
   -- a job whose rows aren't admitted is refused by them, but for want of memory
   pub unadmitted : (asked : Result JobData Field) (answer : Result (Unit {0}) Refusal) → Acts left faults taken counts asked source source' out out' answer → AsksToVerify asked j → (m : ModelData) (root : Region)
-      → drn text j.goal ≡ Ok m → region m.names j.depth j.region ≡ Ok root → (IsAdmitted (case_of m root j.precision) → ⊥)
+      → drn text j.goal ≡ Ok m → region m.names j.depth j.region ≡ Ok root → (IsAdmitted (case_of m root j.precision) → ⊥) → lacks_chain j.way m.kind ≡ false
       → (answered answer ≡ status.RowsRefused) ⊎ (answered answer ≡ status.Memory)
-  unadmitted asked answer a is m root read named bad =
+  unadmitted asked answer a is m root read named bad chain =
       by_answer (λ (s : Status). (s ≡ status.RowsRefused) ⊎ (s ≡ status.Memory))
-      (λ h. absurd (bad (same_case h))) (λ why h. inl (rows_status j (drn text j.goal) m root read named why h)) (inr refl) asked answer a is
+      (λ h. absurd (bad (same_case h))) (λ why h. inl (rows_status j (drn text j.goal) m root read named chain why h)) (inr refl) asked answer a is
     where
       same_case : Reports (taken out) (taken out') j text → IsAdmitted (case_of m root j.precision)
-      same_case h = admitted_by h.model h.root h.read h.named (answered_case _ _ _ j.steps _ h.has).admitted
+      same_case h = admitted_by h.model h.root h.read h.named (answered_case _ _ _ j.way _ h.has).admitted
         where
           admitted_by : (n : ModelData) (r : Region) → drn text j.goal ≡ Ok n → region n.names j.depth j.region ≡ Ok r → IsAdmitted (case_of n r j.precision) → IsAdmitted (case_of m root j.precision)
           admitted_by n r e f h =

@@ -22,6 +22,7 @@ use Rattle.lift_bounded.specs.Decided.{BoundedLeaf, IsRightWithin}
 use Rattle.lift_bounded.specs.Laws.{AcceptingBoundsWithin, RejectingReachesWithin}
 use Rattle.lift_bounded.specs.Text.{tree_text, IsTreeText}
 use Rattle.cert_text.specs.Report.{model_lines, box_line}
+use Rattle.plift_words.specs.declared.way.Way.TheVariants as way
 use Rattle.plift_top.specs.Bounded.{bounded_line, within_lines, bounded_head, bounded_text, IsBoundedText, bounded_parts, BoundedPart, PartHolds, IsReportedWithin}
 use Rattle.plift_top.specs.Steps.{IsTestedCase, WritesCase}
 use Rattle.plift_top.proofs.Telling.{front_then, front_of}
@@ -135,7 +136,7 @@ module _ (deeper : HalvesAreDeeper) (k : CaseData) (bound : Bound) (h : ℕ) (ca
 -- what is said of a case's text holds
 pub reported_within : AcceptingBoundsWithin → RejectingReachesWithin → RootIsAtDepth → HalvesAreDeeper → TreesTile → LiveHasSpan
     → {K : Type 0} (taken : K → Option (List ℕ)) (faults : K → ℕ) (k : CaseData) (bound : Bound) (h : ℕ) (old new : K) (result : Written) → IsTestedCase k → WroteSome (IsBoundedText k bound h) taken faults old new result
-    → WritesCase taken faults bound (Some h) k old new result
+    → WritesCase taken faults bound (way.Within h) k old new result
 reported_within accepting rejecting root deeper tile live taken faults k bound h old new (Ok x) case w =
     let tree = w.some.1.1.0 in
     let right = w.some.1.1.1.0 in

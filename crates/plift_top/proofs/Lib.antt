@@ -7,4 +7,5 @@ pub mod Acts
 pub mod Leaves
 pub mod Telling
 pub mod BoundedTexts
+pub mod Lumping
 mod Samples

@@ -1,5 +1,5 @@
 -- What the steps of a job say of the whole.
-use Rattle.std.proofs.Common.{◌≡◌, ◌≢◌, ◌≤◌, ◌<◌, ℕ, List, ◌++◌, length, length-append, append-nil, None, Some, Ok, Err, refl, sym, ap, ◌∙◌, subst, arith, Result, IsErrAnd}
+use Rattle.std.proofs.Common.{◌≡◌, ◌≢◌, ◌≤◌, ◌<◌, ℕ, Bool, true, false, List, ◌++◌, length, length-append, append-nil, None, Some, Ok, Err, refl, sym, ap, ◌∙◌, subst, arith, Result, IsErrAnd}
 use Rattle.std.specs.declared.option.Option.{Option}
 use Rattle.std.specs.Io.KnownBytes.{Consumes, IsAtEnd}
 use Rattle.lift_base.specs.Outside.{Rose, TakenHas}
@@ -17,8 +17,9 @@ use Rattle.drn_read.specs.declared.error.DrnCause.TheVariants as cause
 use Rattle.drn_read.specs.declared.error.DrnError.{DrnError}
 use Rattle.cert_check.specs.Source.{file_limit}
 use Rattle.plift_words.specs.Job.{VerifyData}
+use Rattle.plift_words.specs.declared.way.Way.{Way}
 use Rattle.plift_top.specs.Refused.{model_refusal, region_refusal}
-use Rattle.plift_top.specs.Verify.{WasRead, Makes, IsAnswered, IsAnsweredInPart, IsRefused, IsRefusedAt, IsRefusedOver, Stops, Verifies}
+use Rattle.plift_top.specs.Verify.{WasRead, Makes, IsAnswered, IsAnsweredInPart, IsRefused, IsRefusedAt, IsRefusedOf, IsRefusedOver, IsTooWide, Stops, Verifies, lacks_chain}
 use Rattle.plift_top.specs.Steps.{ReadsModel, NamesRoot, AdmitsCase, AnswersCase, WritesOver}
 use Rattle.plift_top.specs.declared.refusal.Refusal.{Refusal}
 use Rattle.plift_top.specs.declared.refusal.Refusal.TheVariants as refusal
@@ -71,13 +72,20 @@ module _ {S : Type 0} (left : S → Option (List ℕ)) (faults : S → ℕ) (job
   stops_reading _ h = absurd h
 
   module _ (m : ModelData) (read : ReadsModel left faults job.goal source source' (Ok m)) where
-    pub refused_over : (why : Refusal) → IsRefusedOver job m (region m.names job.depth job.region) why → WasRead (IsRefused job why) (left source) (left source')
-    refused_over why h = read_as (λ text is. subst (λ (a : Result ModelData DrnError). IsRefusedAt job a why) (sym is) h) read
+    refused_of : (why : Refusal) (lacks : Bool) → lacks_chain job.way m.kind ≡ lacks → IsRefusedOf lacks job m why → WasRead (IsRefused job why) (left source) (left source')
+    refused_of why lacks by h = read_as (λ text is. subst (λ (a : Result ModelData DrnError). IsRefusedAt job a why) (sym is) (subst (λ b. IsRefusedOf b job m why) (sym by) h)) read
 
-    pub stops_naming : (why : Refusal) → NamesRoot job m.names (Err why) → Stops left faults job source source' why
-    stops_naming (refusal.Region error) h = refused_over (refusal.Region error) (subst (λ (r : Result Region RegionError). IsRefusedOver job m r (refusal.Region error)) (sym h) refl)
-    stops_naming refusal.Memory h = tt
-    stops_naming _ h = absurd h
+    -- a decision process where a chain is to be lumped
+    pub stops_process : lacks_chain job.way m.kind ≡ true → Stops left faults job source source' refusal.NotChain
+    stops_process lacks = refused_of refusal.NotChain true lacks refl
+
+    pub refused_over : lacks_chain job.way m.kind ≡ false → (why : Refusal) → IsRefusedOver job m (region m.names job.depth job.region) why → WasRead (IsRefused job why) (left source) (left source')
+    refused_over chain why h = refused_of why false chain h
+
+    pub stops_naming : lacks_chain job.way m.kind ≡ false → (why : Refusal) → NamesRoot job m.names (Err why) → Stops left faults job source source' why
+    stops_naming chain (refusal.Region error) h = refused_over chain (refusal.Region error) (subst (λ (r : Result Region RegionError). IsRefusedOver job m r (refusal.Region error)) (sym h) refl)
+    stops_naming chain refusal.Memory h = tt
+    stops_naming chain _ h = absurd h
 
 -- a job that stopped before anything was written
 pub stopped : {S K T : Type 0} (left : S → Option (List ℕ)) (faults : S → ℕ) (taken : K → Option (List ℕ)) (counts : K → ℕ) (job : VerifyData) (source source' : S) (out : K) (why : Refusal) (result : Result T Refusal)
@@ -90,18 +98,19 @@ stopped {T = T} left faults taken counts job source source' out why (Err e) is h
     by _ h = (h, refl)
 
 -- the answer to a case was cut off
-pub answer_cut_off : {K T : Type 0} (taken : K → Option (List ℕ)) (counts : K → ℕ) (bound : Bound) (steps : Option ℕ) (k : CaseData) (out out' : K) (result : Result T Refusal) → IsErrAnd result (λ e. e ≡ refusal.WriteFault)
-    → IsAnsweredInPart (taken out) (taken out') bound steps k × Rose (counts out) (counts out') → AnswersCase taken counts bound steps k out out' result
-answer_cut_off taken counts bound steps k out out' (Ok x) is h = absurd is
-answer_cut_off {T = T} taken counts bound steps k out out' (Err e) is h = subst (λ (f : Refusal). AnswersCase {T = T} taken counts bound steps k out out' (Err f)) (sym is) h
+pub answer_cut_off : {K T : Type 0} (taken : K → Option (List ℕ)) (counts : K → ℕ) (bound : Bound) (asked : Way) (k : CaseData) (out out' : K) (result : Result T Refusal) → IsErrAnd result (λ e. e ≡ refusal.WriteFault)
+    → IsAnsweredInPart (taken out) (taken out') bound asked k × Rose (counts out) (counts out') → AnswersCase taken counts bound asked k out out' result
+answer_cut_off taken counts bound asked k out out' (Ok x) is h = absurd is
+answer_cut_off {T = T} taken counts bound asked k out out' (Err e) is h = subst (λ (f : Refusal). AnswersCase {T = T} taken counts bound asked k out out' (Err f)) (sym is) h
 
 -- the case of a model over a region was answered
 pub over_answered : {K T : Type 0} (taken : K → Option (List ℕ)) (counts : K → ℕ) (job : VerifyData) (m : ModelData) (r : Region) (k : CaseData) (out out' : K) (result : Result T Refusal) → AdmitsCase job m r (Ok k)
-    → AnswersCase taken counts job.bound job.steps k out out' result → WritesOver taken counts job m r out out' result
-over_answered taken counts job m r k out out' (Ok x) admits h = subst (λ (c : CaseData). IsAnswered (taken out) (taken out') job.bound job.steps c) admits.0 h
+    → AnswersCase taken counts job.bound job.way k out out' result → WritesOver taken counts job m r out out' result
+over_answered taken counts job m r k out out' (Ok x) admits h = subst (λ (c : CaseData). IsAnswered (taken out) (taken out') job.bound job.way c) admits.0 h
 over_answered taken counts job m r k out out' (Err refusal.WriteFault) admits h =
-    (subst (λ (c : CaseData). IsAnsweredInPart (taken out) (taken out') job.bound job.steps c) admits.0 h.0, h.1)
+    (subst (λ (c : CaseData). IsAnsweredInPart (taken out) (taken out') job.bound job.way c) admits.0 h.0, h.1)
 over_answered taken counts job m r k out out' (Err refusal.Memory) admits h = h
+over_answered taken counts job m r k out out' (Err refusal.TooWide) admits h = (subst (IsTooWide job.way) admits.0 h.0, h.1)
 over_answered taken counts job m r k out out' (Err _) admits h = absurd h
 
 -- memory ran out before anything was written
@@ -117,19 +126,21 @@ over_refused {T = T} taken counts job m r out why (Err e) is h = subst (λ (f : 
   where
     by : (why : Refusal) → IsRefusedOver job m (Ok r) why → WritesOver {T = T} taken counts job m r out out (Err why)
     by (refusal.Rows error) h = (h, refl)
+    by refusal.TooWide h = (h, refl)
     by _ h = absurd h
 
 -- a whole job, by what was written over the root
-module _ {S : Type 0} (left : S → Option (List ℕ)) (faults : S → ℕ) (job : VerifyData) (source source' : S) (m : ModelData) (r : Region) (read : ReadsModel left faults job.goal source source' (Ok m)) (named : region m.names job.depth job.region ≡ Ok r) where
+module _ {S : Type 0} (left : S → Option (List ℕ)) (faults : S → ℕ) (job : VerifyData) (source source' : S) (m : ModelData) (r : Region) (read : ReadsModel left faults job.goal source source' (Ok m)) (chain : lacks_chain job.way m.kind ≡ false) (named : region m.names job.depth job.region ≡ Ok r) where
   makes : (P : CaseData → Type 0) → P (case_of m r job.precision) → WasRead (Makes P job) (left source) (left source')
   makes P h = read_as (λ text is. record { model = m; root = r; read = is; named = named; has = h }) read
 
   over : (why : Refusal) → IsRefusedOver job m (Ok r) why → WasRead (IsRefused job why) (left source) (left source')
-  over why h = refused_over left faults job source source' m read why (subst (λ (q : Result Region RegionError). IsRefusedOver job m q why) (sym named) h)
+  over why h = refused_over left faults job source source' m read chain why (subst (λ (q : Result Region RegionError). IsRefusedOver job m q why) (sym named) h)
 
   pub verified : {K T : Type 0} (taken : K → Option (List ℕ)) (counts : K → ℕ) (out out' : K) (result : Result T Refusal) → WritesOver taken counts job m r out out' result → Verifies left faults taken counts job source source' out out' result
-  verified taken counts out out' (Ok x) h = makes (IsAnswered (taken out) (taken out') job.bound job.steps) h
-  verified taken counts out out' (Err refusal.WriteFault) h = (makes (IsAnsweredInPart (taken out) (taken out') job.bound job.steps) h.0, h.1)
+  verified taken counts out out' (Ok x) h = makes (IsAnswered (taken out) (taken out') job.bound job.way) h
+  verified taken counts out out' (Err refusal.WriteFault) h = (makes (IsAnsweredInPart (taken out) (taken out') job.bound job.way) h.0, h.1)
   verified taken counts out out' (Err refusal.Memory) h = (tt, h)
   verified taken counts out out' (Err (refusal.Rows error)) h = (over (refusal.Rows error) h.0, h.1)
+  verified taken counts out out' (Err refusal.TooWide) h = (over refusal.TooWide h.0, h.1)
   verified taken counts out out' (Err _) h = absurd h.0

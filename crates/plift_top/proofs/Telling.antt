@@ -15,6 +15,7 @@ use Rattle.region_tree.specs.Visits.{Visits, Walks, entries}
 use Rattle.region_tree.specs.declared.visitor.Seen.{Seen}
 use Rattle.region_tree.specs.declared.visitor.Seen.TheVariants.{Kept, Failed}
 use Rattle.cert_text.specs.Report.{head_lines, report_text}
+use Rattle.plift_words.specs.declared.way.Way.TheVariants as way
 use Rattle.plift_top.specs.RightReport.{IsRightReport, node_text}
 use Rattle.plift_top.specs.Steps.{IsTestedCase, WritesCase}
 use Rattle.plift_top.proofs.Leaves.{entries_are, leaves_hold}
@@ -78,7 +79,7 @@ module _ {K : Type 0} (k : CaseData) (bound : Bound) (taken : K → Option (List
 
 -- what is said of a case's report holds
 pub reported : AcceptingBounds → RejectingReaches → RootIsAtDepth → HalvesAreDeeper → RightTreesTile
-    → {K : Type 0} (taken : K → Option (List ℕ)) (faults : K → ℕ) (k : CaseData) (bound : Bound) (old new : K) (result : Written) → IsTestedCase k → WroteSome (IsRightReport k bound) taken faults old new result → WritesCase taken faults bound None k old new result
+    → {K : Type 0} (taken : K → Option (List ℕ)) (faults : K → ℕ) (k : CaseData) (bound : Bound) (old new : K) (result : Written) → IsTestedCase k → WroteSome (IsRightReport k bound) taken faults old new result → WritesCase taken faults bound way.Whole k old new result
 reported accepting reached root deeper tile taken faults k bound old new (Ok x) case w =
     let tree = w.some.1.0 in
     let right = w.some.1.1 in

@@ -25,7 +25,8 @@ use Rattle.cert_check.specs.declared.error.CheckError.{CheckError}
 use Rattle.cert_check.specs.declared.error.CheckError.TheVariants as check
 use Rattle.plift_words.specs.Job.{VerifyData}
 use Rattle.plift_top.specs.Refused.{check_refusal}
-use Rattle.plift_top.specs.Verify.{Makes, IsReported, IsCutOff, IsRefused, Verifies}
+use Rattle.plift_top.specs.Reported.{IsReported, IsCutOff}
+use Rattle.plift_top.specs.Verify.{Makes, IsRefused, Verifies}
 use Rattle.plift_top.specs.Laws.{RightReportsAreSound}
 use Rattle.plift_top.specs.Selftest.{one_half, ladder_job, IsLadderTree, ladder_report, tested_line, HasLongReport, IsLadderReport, GivesWithin, ReportsLadder, Selftests}
 use Rattle.plift_top.specs.declared.refusal.Refusal.{Refusal}
@@ -106,7 +107,7 @@ module _ (n : ℕ) (some : 1 ≤ n) (few : n ≤ most_blocks) (texts : TextIsSho
 
   -- a ladder isn't refused
   never : AdmittedHasNoFault → (why : Refusal) → IsRefused ladder_job why (ladder_text n) → ⊥
-  never none why h = never_refused none ladder_job (drn (ladder_text n) (codes "done")) (ladder n) ladder_region (reads n some few) (names n) (cases n some few).admitted why h
+  never none why h = never_refused none ladder_job (drn (ladder_text n) (codes "done")) (ladder n) ladder_region (reads n some few) (names n) (cases n some few).admitted (refl, λ e. absurd (cc)) why h
 
   module _ {S K : Type 0} (source source' : S) (out out' : K) (left : S → Option (List ℕ)) (faults : S → ℕ) (taken : K → Option (List ℕ)) (counts : K → ℕ) (bytes : List ℕ)
       (told : left source ≡ Some (ladder_text n)) (calm : faults source' ≡ 0) (empty : taken out ≡ Some []) (took : taken out' ≡ Some bytes) (none : counts out ≡ 0) where

@@ -35,6 +35,8 @@ status_of (refusal.Usage f) = status.Usage
 status_of (refusal.Region error) = status.Usage
 status_of (refusal.Model error) = status.ModelRefused
 status_of (refusal.Rows error) = status.RowsRefused
+status_of refusal.NotChain = status.ModelRefused
+status_of refusal.TooWide = status.RowsRefused
 status_of (refusal.Unsound error) = status.NotSound
 status_of refusal.ReadFault = status.ReadFault
 status_of refusal.WriteFault = status.WriteFault
@@ -70,6 +72,8 @@ note_of (refusal.Region error) = region_note error
 note_of (refusal.Model error) = model_note error
 note_of (refusal.Rows error) = rows_note error
 note_of (refusal.Unsound error) = unsound_note error
+note_of refusal.NotChain = codes "lump: not a chain\n"
+note_of refusal.TooWide = codes "lump: too wide\n"
 note_of refusal.ReadFault = codes "read fault\n"
 note_of refusal.WriteFault = codes "write fault\n"
 note_of refusal.TooLong = codes "too long\n"
@@ -84,7 +88,7 @@ answered (Err why) = status_of why
 unfoldable pub wanted : List (String Global) → Result JobData Field
 wanted words = asked words
 
--- the words ask to verify that, on any number of steps or on as many as are told
+-- the words ask to verify that: by `verify`, `bounded` or `lumped`
 abbrev pub AsksToVerify : Result JobData Field → VerifyData → Type 0
 AsksToVerify asked j = asked ≡ Ok (verify j)
 

@@ -3,7 +3,7 @@ use Rattle.std.specs.Prelude.{◌≡◌, ◌≤◌, ℕ, List, None, Ok}
 use Rattle.lift_grid.specs.Region.{Region}
 use Rattle.lift_grid.specs.Tree.{Tree}
 use Rattle.lift_model.specs.Model.{ModelData}
-use Rattle.corner_lift.specs.Case.{IsCase, case_of}
+use Rattle.corner_lift.specs.Case.{CaseData, IsCase, case_of}
 use Rattle.lift_cert.specs.declared.bound.Bound.{Bound}
 use Rattle.region_tree.specs.Right.{IsRightTree}
 use Rattle.drn_read.specs.Reading.{drn}
@@ -11,12 +11,20 @@ use Rattle.model_gen.specs.Ladder.{most_blocks}
 use Rattle.cert_text.specs.Report.{report_text}
 use Rattle.cert_text.specs.Forms.{IsToldBound}
 use Rattle.cert_check.specs.Sound.{IsSoundFile, leaf_counts}
+use Rattle.lift_lump.specs.LumpedData.{LumpedData}
+use Rattle.lift_lump.specs.Lumped.{IsLumped}
+use Rattle.plift_top.specs.Lumped.{lumped_case}
 use Rattle.plift_top.specs.Selftest.{IsLadderTree}
 
 -- where a case is of a model that a text stands for, the report of its right tree is a sound file with that tree's leaves
 abbrev pub RightReportsAreSound : Type 0
 RightReportsAreSound = (text label : List ℕ) (m : ModelData) (root : Region) (w : ℕ) (bound : Bound) (tree : Tree) → drn text label ≡ Ok m → IsCase (case_of m root w) → IsToldBound bound
     → IsRightTree (case_of m root w) w bound tree → IsSoundFile (report_text (case_of m root w) None bound tree) (leaf_counts tree)
+
+-- the same of the quotient of a chain that a text stands for
+abbrev pub LumpedReportsAreSound : Type 0
+LumpedReportsAreSound = (text label : List ℕ) (k : CaseData) (l : LumpedData) (bound : Bound) (tree : Tree) → drn text label ≡ Ok k.model → IsLumped k.model l → IsCase (lumped_case k l) → IsToldBound bound
+    → IsRightTree (lumped_case k l) k.w bound tree → IsSoundFile (report_text (lumped_case k l) None bound tree) (leaf_counts tree)
 
 -- each ladder that can be asked for has a right tree
 abbrev pub LaddersHaveTrees : Type 0

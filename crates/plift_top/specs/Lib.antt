@@ -1,5 +1,7 @@
 pub mod RightReport
+pub mod Reported
 pub mod Bounded
+pub mod Lumped
 pub mod Verify
 pub mod Check
 pub mod Steps

@@ -9,6 +9,8 @@ use Rattle.drn_read.specs.declared.error.DrnCause.TheVariants as cause
 use Rattle.drn_read.specs.declared.error.DrnError.{DrnError}
 use Rattle.cert_check.specs.declared.error.CheckError.{CheckError}
 use Rattle.cert_check.specs.declared.error.CheckError.TheVariants as check
+use Rattle.lift_lump.specs.declared.error.LumpError.{LumpError}
+use Rattle.lift_lump.specs.declared.error.LumpError.TheVariants as lump
 use Rattle.plift_top.specs.declared.refusal.Refusal.{Refusal}
 use Rattle.plift_top.specs.declared.refusal.Refusal.TheVariants as refusal
 
@@ -38,3 +40,9 @@ check_refusal check.Fault = refusal.ReadFault
 check_refusal check.TooLong = refusal.TooLong
 check_refusal check.Memory = refusal.Memory
 check_refusal error = refusal.Unsound error
+
+-- a model that isn't lumped, where it isn't for want of memory
+abbrev pub lump_refusal : LumpError → Refusal
+lump_refusal lump.NotChain = refusal.NotChain
+lump_refusal lump.Wide = refusal.TooWide
+lump_refusal lump.Memory = refusal.Memory

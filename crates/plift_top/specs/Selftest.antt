@@ -15,6 +15,7 @@ use Rattle.cert_check.specs.Sound.{IsSoundFile, leaf_counts}
 use Rattle.cert_check.specs.declared.summary.Summary.{Summary}
 use Rattle.cert_check.specs.Source.{file_limit}
 use Rattle.plift_words.specs.Job.{VerifyData}
+use Rattle.plift_words.specs.declared.way.Way.TheVariants as way
 use Rattle.plift_top.specs.declared.refusal.Refusal.{Refusal}
 use Rattle.plift_top.specs.declared.refusal.Refusal.TheVariants as refusal
 
@@ -26,7 +27,7 @@ one_half = record { num = 1; den = 2 }
 
 -- what a ladder is verified for: that it is done with probability at most 1/2, over the ladder's region
 abbrev pub ladder_job : VerifyData
-ladder_job = record { goal = codes "done"; bound = one_half; region = ladder_region_text; depth = ladder_depth; precision = ladder_precision; steps = None }
+ladder_job = record { goal = codes "done"; bound = one_half; region = ladder_region_text; depth = ladder_depth; precision = ladder_precision; way = way.Whole }
 
 -- the right tree of the ladder of so many blocks
 abbrev pub IsLadderTree : ℕ → Tree → Type 0

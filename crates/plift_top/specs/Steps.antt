@@ -14,7 +14,8 @@ use Rattle.lift_rows.specs.Admitted.{HasWeightsFromZero, HasSumsOfTotal}
 use Rattle.drn_read.specs.Reading.{drn}
 use Rattle.cert_check.specs.Source.{file_limit}
 use Rattle.plift_words.specs.Job.{VerifyData}
-use Rattle.plift_top.specs.Verify.{WasRead, IsRefusedOver, IsAnswered, IsAnsweredInPart}
+use Rattle.plift_words.specs.declared.way.Way.{Way}
+use Rattle.plift_top.specs.Verify.{WasRead, IsTooWide, IsRefusedOver, IsAnswered, IsAnsweredInPart}
 use Rattle.plift_top.specs.declared.refusal.Refusal.{Refusal}
 use Rattle.plift_top.specs.declared.refusal.Refusal.TheVariants as refusal
 
@@ -46,21 +47,22 @@ AdmitsCase job m r (Ok k) = (k ≡ case_of m r job.precision) × IsTestedCase k
 AdmitsCase job m r (Err why) = IsRefusedOver job m (Ok r) why
 
 -- the answer to a case was written, or a fault came and a front of it was
-abbrev pub WritesCase : {K : Type 0} → (K → Option (List ℕ)) → (K → ℕ) → Bound → Option ℕ → CaseData → K → K → Written → Type 0
-WritesCase taken counts bound steps k out out' (Ok _) = IsAnswered (taken out) (taken out') bound steps k
-WritesCase taken counts bound steps k out out' (Err _) = IsAnsweredInPart (taken out) (taken out') bound steps k × Rose (counts out) (counts out')
+abbrev pub WritesCase : {K : Type 0} → (K → Option (List ℕ)) → (K → ℕ) → Bound → Way → CaseData → K → K → Written → Type 0
+WritesCase taken counts bound asked k out out' (Ok _) = IsAnswered (taken out) (taken out') bound asked k
+WritesCase taken counts bound asked k out out' (Err _) = IsAnsweredInPart (taken out) (taken out') bound asked k × Rose (counts out) (counts out')
 
--- the answer to a case was written, or there was no memory to begin, or a fault came and a front of it was
-abbrev pub AnswersCase : {K T : Type 0} → (K → Option (List ℕ)) → (K → ℕ) → Bound → Option ℕ → CaseData → K → K → Result T Refusal → Type 0
-AnswersCase taken counts bound steps k out out' (Ok _) = IsAnswered (taken out) (taken out') bound steps k
-AnswersCase taken counts bound steps k out out' (Err refusal.WriteFault) = IsAnsweredInPart (taken out) (taken out') bound steps k × Rose (counts out) (counts out')
-AnswersCase taken counts bound steps k out out' (Err refusal.Memory) = out' ≡ out
-AnswersCase taken counts bound steps k out out' (Err _) = ⊥
+-- the answer to a case was written, or there was no memory to begin, or its quotient is too wide, or a fault came and a front of it was
+abbrev pub AnswersCase : {K T : Type 0} → (K → Option (List ℕ)) → (K → ℕ) → Bound → Way → CaseData → K → K → Result T Refusal → Type 0
+AnswersCase taken counts bound asked k out out' (Ok _) = IsAnswered (taken out) (taken out') bound asked k
+AnswersCase taken counts bound asked k out out' (Err refusal.WriteFault) = IsAnsweredInPart (taken out) (taken out') bound asked k × Rose (counts out) (counts out')
+AnswersCase taken counts bound asked k out out' (Err refusal.Memory) = out' ≡ out
+AnswersCase taken counts bound asked k out out' (Err refusal.TooWide) = IsTooWide asked k × (out' ≡ out)
+AnswersCase taken counts bound asked k out out' (Err _) = ⊥
 
 -- the rows of a model over a region are tested, and the answer to that case is written, or there is a cause
 abbrev pub WritesOver : {K T : Type 0} → (K → Option (List ℕ)) → (K → ℕ) → VerifyData → ModelData → Region → K → K → Result T Refusal → Type 0
-WritesOver taken counts job m r out out' (Ok _) = IsAnswered (taken out) (taken out') job.bound job.steps (case_of m r job.precision)
+WritesOver taken counts job m r out out' (Ok _) = IsAnswered (taken out) (taken out') job.bound job.way (case_of m r job.precision)
 WritesOver taken counts job m r out out' (Err refusal.WriteFault) =
-    IsAnsweredInPart (taken out) (taken out') job.bound job.steps (case_of m r job.precision) × Rose (counts out) (counts out')
+    IsAnsweredInPart (taken out) (taken out') job.bound job.way (case_of m r job.precision) × Rose (counts out) (counts out')
 WritesOver taken counts job m r out out' (Err refusal.Memory) = out' ≡ out
 WritesOver taken counts job m r out out' (Err why) = IsRefusedOver job m (Ok r) why × (out' ≡ out)

@@ -1,24 +1,26 @@
--- What `verify` and `bounded` answer, and what stands after them.
-use Rattle.std.specs.Prelude.{◌≡◌, ◌<◌, ◌≤◌, ℕ, List, All, length, map, Some, None, Ok, Err, Result, ⊤}
+-- What `verify`, `bounded` and `lumped` answer, and what stands after them.
+use Rattle.std.specs.Prelude.{◌≡◌, ◌<◌, ◌≤◌, ℕ, Bool, true, false, List, length, Ok, Err, Result, ⊤}
 use Rattle.std.specs.declared.option.Option.{Option}
-use Rattle.std.specs.Io.KnownBytes.{Appends, Consumes, IsAtEnd}
-use Rattle.lift_base.specs.Outside.{Rose, TakenHas, AppendsFront}
+use Rattle.std.specs.Io.KnownBytes.{Consumes, IsAtEnd}
+use Rattle.lift_base.specs.Outside.{Rose, TakenHas}
 use Rattle.lift_model.specs.Model.{ModelData}
 use Rattle.lift_grid.specs.Region.{Region, region}
 use Rattle.lift_grid.specs.declared.error.RegionError.{RegionError}
-use Rattle.lift_grid.specs.Tree.{Tree, Tiles, leaves}
-use Rattle.corner_lift.specs.Case.{CaseData, IsCase, case_of}
+use Rattle.lift_model.specs.declared.kind.Kind.{Kind}
+use Rattle.lift_model.specs.declared.kind.Kind.TheVariants.{Mdp}
+use Rattle.corner_lift.specs.Case.{CaseData, IsAdmitted, case_of}
 use Rattle.lift_cert.specs.declared.bound.Bound.{Bound}
-use Rattle.lift_rows.specs.Admitted.{HasWeightsFromZero, HasSumsOfTotal}
 use Rattle.lift_rows.specs.Fault.{IsFirstFault}
+use Rattle.lift_lump.specs.Lumped.{IsWide}
 use Rattle.drn_read.specs.Reading.{drn}
 use Rattle.drn_read.specs.declared.error.DrnError.{DrnError}
-use Rattle.region_tree.specs.Right.{IsRightTree}
-use Rattle.cert_text.specs.Report.{report_text}
 use Rattle.cert_check.specs.Source.{file_limit}
-use Rattle.cert_check.specs.Trust.{LeafHolds}
 use Rattle.plift_words.specs.Job.{VerifyData}
+use Rattle.plift_words.specs.declared.way.Way.{Way}
+use Rattle.plift_words.specs.declared.way.Way.TheVariants as way
+use Rattle.plift_top.specs.Reported.{IsReported, IsCutOff}
 use Rattle.plift_top.specs.Bounded.{IsReportedWithin, IsCutOffWithin}
+use Rattle.plift_top.specs.Lumped.{IsReportedLumped, IsCutOffLumped}
 use Rattle.plift_top.specs.declared.refusal.Refusal.{Refusal}
 use Rattle.plift_top.specs.declared.refusal.Refusal.TheVariants as refusal
 
@@ -29,49 +31,52 @@ pub record WasRead (P : List ℕ → Type 0) (old new : Option (List ℕ)) : Typ
   pub ended : IsAtEnd new
   pub has : P text
 
--- Why a job is refused at a model whose region comes to that: the region is at fault, or a row isn't admitted.
+-- a chain is to be lumped, and the model is a decision process
+abbrev pub lacks_chain : Way → Kind → Bool
+lacks_chain way.Lumped Mdp = true
+lacks_chain _ _ = false
+
+-- a chain is to be lumped whose rows are admitted, and its quotient has a coefficient that is too large
+abbrev pub IsTooWide : Way → CaseData → Type 0
+IsTooWide asked k = (asked ≡ way.Lumped) × IsAdmitted k × IsWide k.model
+
+-- The model can be answered in this way, if its rows are admitted: where a chain is to be lumped, it is one, and its quotient isn't too wide.
+abbrev pub IsAnswerable : Way → ModelData → Type 0
+IsAnswerable asked m = (lacks_chain asked m.kind ≡ false) × (asked ≡ way.Lumped → IsWide m → ⊥)
+
+-- Why a job is refused at a model whose region comes to that: the region is at fault, a row isn't admitted, or the quotient is too wide.
 abbrev pub IsRefusedOver : VerifyData → ModelData → Result Region RegionError → Refusal → Type 0
 IsRefusedOver job m (Err error) (refusal.Region f) = f ≡ error
 IsRefusedOver job m (Ok r) (refusal.Rows error) = IsFirstFault (case_of m r job.precision) error
+IsRefusedOver job m (Ok r) refusal.TooWide = IsTooWide job.way (case_of m r job.precision)
 IsRefusedOver job m _ _ = ⊥
+
+-- why a job is refused at a model, by whether it lacks a chain
+abbrev pub IsRefusedOf : Bool → VerifyData → ModelData → Refusal → Type 0
+IsRefusedOf true job m why = why ≡ refusal.NotChain
+IsRefusedOf false job m why = IsRefusedOver job m (region m.names job.depth job.region) why
 
 -- Why a job is refused at a text that comes to that: it stands for no model; or by what is asked of its model.
 abbrev pub IsRefusedAt : VerifyData → Result ModelData DrnError → Refusal → Type 0
 IsRefusedAt job (Err error) (refusal.Model f) = f ≡ error
 IsRefusedAt job (Err error) _ = ⊥
-IsRefusedAt job (Ok m) why = IsRefusedOver job m (region m.names job.depth job.region) why
+IsRefusedAt job (Ok m) why = IsRefusedOf (lacks_chain job.way m.kind) job m why
 
 -- why a job is refused at a text
 abbrev pub IsRefused : VerifyData → Refusal → List ℕ → Type 0
 IsRefused job why text = IsRefusedAt job (drn text job.goal) why
 
--- The report of a case was appended, whole: that of its right tree. The tree's leaves tile the root, and what each says holds everywhere inside its rectangle. At each valuation inside the root each row of the case is a distribution.
-pub record IsReported (old new : Option (List ℕ)) (bound : Bound) (k : CaseData) : Type 0 where
-  pub tree : Tree
-  pub case : IsCase k
-  pub weights : HasWeightsFromZero k
-  pub sums : HasSumsOfTotal k
-  pub right : IsRightTree k k.w bound tree
-  pub tiles : Tiles k.d k.root (map (λ leaf. leaf.spans) (leaves k.root 0 tree))
-  pub schedulers : All (LeafHolds k bound) (leaves k.root 0 tree)
-  pub report : Appends old new (report_text k None bound tree)
-
--- A front of the report of a case was appended: whichever tree is right, a front of its report.
-pub record IsCutOff (old new : Option (List ℕ)) (bound : Bound) (k : CaseData) : Type 0 where
-  pub case : IsCase k
-  pub weights : HasWeightsFromZero k
-  pub sums : HasSumsOfTotal k
-  pub front : (tree : Tree) → IsRightTree k k.w bound tree → AppendsFront old new (report_text k None bound tree)
-
--- The answer to a case was appended, whole: its report for a bound on any number of steps, and its text for a bound on as many as are told.
-abbrev pub IsAnswered : Option (List ℕ) → Option (List ℕ) → Bound → Option ℕ → CaseData → Type 0
-IsAnswered old new bound None = IsReported old new bound
-IsAnswered old new bound (Some h) = IsReportedWithin old new bound h
+-- The answer to a case was appended, whole: its report for a bound on any number of steps, its text for a bound on as many as are told, and the report of its quotient where it is lumped.
+abbrev pub IsAnswered : Option (List ℕ) → Option (List ℕ) → Bound → Way → CaseData → Type 0
+IsAnswered old new bound way.Whole = IsReported old new bound
+IsAnswered old new bound (way.Within h) = IsReportedWithin old new bound h
+IsAnswered old new bound way.Lumped = IsReportedLumped old new bound
 
 -- A front of it was appended.
-abbrev pub IsAnsweredInPart : Option (List ℕ) → Option (List ℕ) → Bound → Option ℕ → CaseData → Type 0
-IsAnsweredInPart old new bound None = IsCutOff old new bound
-IsAnsweredInPart old new bound (Some h) = IsCutOffWithin old new bound h
+abbrev pub IsAnsweredInPart : Option (List ℕ) → Option (List ℕ) → Bound → Way → CaseData → Type 0
+IsAnsweredInPart old new bound way.Whole = IsCutOff old new bound
+IsAnsweredInPart old new bound (way.Within h) = IsCutOffWithin old new bound h
+IsAnsweredInPart old new bound way.Lumped = IsCutOffLumped old new bound
 
 -- The text stands for a model, the job's region names a rectangle of its parameters, and P holds of the case that the two make at the job's precision.
 pub record Makes (P : CaseData → Type 0) (job : VerifyData) (text : List ℕ) : Type 0 where
@@ -83,11 +88,11 @@ pub record Makes (P : CaseData → Type 0) (job : VerifyData) (text : List ℕ) 
 
 -- what was appended is the answer to the case that the text and the job make
 abbrev pub Reports : Option (List ℕ) → Option (List ℕ) → VerifyData → List ℕ → Type 0
-Reports old new job text = Makes (IsAnswered old new job.bound job.steps) job text
+Reports old new job text = Makes (IsAnswered old new job.bound job.way) job text
 
 -- what was appended is a front of that answer
 abbrev pub ReportsFront : Option (List ℕ) → Option (List ℕ) → VerifyData → List ℕ → Type 0
-ReportsFront old new job text = Makes (IsAnsweredInPart old new job.bound job.steps) job text
+ReportsFront old new job text = Makes (IsAnsweredInPart old new job.bound job.way) job text
 
 -- why a job stopped before anything was written
 abbrev pub Stops : {S : Type 0} → (S → Option (List ℕ)) → (S → ℕ) → VerifyData → S → S → Refusal → Type 0

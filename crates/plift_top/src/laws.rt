@@ -1,9 +1,10 @@
 //! Laws of reports, for who reasons about them. The functions do nothing.
 
-ghost use Rattle.plift_top.specs.Laws.{RightReportsAreSound};
+ghost use Rattle.plift_top.specs.Laws.{RightReportsAreSound, LumpedReportsAreSound};
 
 use cert_check::sound_trees_are_reports;
 use drn_read::texts_are_valid;
+use lift_lump::quotients_are_cases;
 use lower_cert::ranks_fit;
 
 /// The report of a right tree, of a case whose model a text stands for, is a sound file.
@@ -12,5 +13,15 @@ pub fn right_reports_are_sound()
 {
     texts_are_valid();
     ranks_fit();
+    sound_trees_are_reports();
+}
+
+/// The report of a right tree, of a case that is the quotient of a chain for which a text stands, is a sound file.
+pub fn lumped_reports_are_sound()
+    ensures { LumpedReportsAreSound }
+{
+    texts_are_valid();
+    ranks_fit();
+    quotients_are_cases();
     sound_trees_are_reports();
 }

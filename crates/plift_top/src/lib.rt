@@ -6,6 +6,7 @@ mod checking;
 mod edge;
 mod laws;
 mod limited;
+mod lumped;
 mod notes;
 mod program;
 mod refusal;
@@ -15,6 +16,6 @@ mod verify;
 
 pub use check_notes::{Status, exit_code};
 pub use edge::launch;
-pub use laws::right_reports_are_sound;
+pub use laws::{lumped_reports_are_sound, right_reports_are_sound};
 pub use program::run;
 pub use report::write_report;

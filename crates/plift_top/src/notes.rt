@@ -17,8 +17,8 @@ fn status_of(refusal: Refusal) -> Status
 {
     match refusal {
         Refusal::Usage(_) | Refusal::Region(_) => Status::Usage,
-        Refusal::Model(_) => Status::ModelRefused,
-        Refusal::Rows(_) => Status::RowsRefused,
+        Refusal::Model(_) | Refusal::NotChain => Status::ModelRefused,
+        Refusal::Rows(_) | Refusal::TooWide => Status::RowsRefused,
         Refusal::Unsound(_) => Status::NotSound,
         Refusal::ReadFault => Status::ReadFault,
         Refusal::WriteFault => Status::WriteFault,
@@ -87,6 +87,8 @@ fn write_note<E: Sink>(notes: &mut E, refusal: Refusal) -> Result<(), WriteFault
         Refusal::Model(error) => write_model_note(notes, error),
         Refusal::Rows(error) => write_rows_note(notes, error),
         Refusal::Unsound(error) => write_unsound_note(notes, error),
+        Refusal::NotChain => write_all(notes, b"lump: not a chain\n"),
+        Refusal::TooWide => write_all(notes, b"lump: too wide\n"),
         Refusal::ReadFault => write_all(notes, b"read fault\n"),
         Refusal::WriteFault => write_all(notes, b"write fault\n"),
         Refusal::TooLong => write_all(notes, b"too long\n"),

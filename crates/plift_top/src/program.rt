@@ -1,6 +1,6 @@
 // The whole program, over any source and sinks.
 ghost use Rattle.std.specs.Prelude.{◌≡◌, ◌≢◌, ◌≤◌, ◌<◌, ◌⊎◌, length, List, ℕ};
-ghost use Rattle.std.specs.Prelude.{Some, None, Ok, Err, IsErr, IsOk};
+ghost use Rattle.std.specs.Prelude.{Some, None, Ok, Err, IsErr, IsOk, false};
 ghost use Rattle.std.specs.Io.KnownBytes.{Appends};
 ghost use Rattle.lift_base.specs.Outside.{Rose, AppendsFront, TakenHas};
 ghost use Rattle.lift_grid.specs.Region.{Region, region};
@@ -14,7 +14,8 @@ ghost use Rattle.cert_text.specs.Forms.{IsToldBound};
 ghost use Rattle.drn_read.specs.Reading.{drn};
 ghost use Rattle.plift_words.specs.Job.{VerifyData};
 ghost use Rattle.plift_words.specs.declared.job.Field.TheVariants.{Words};
-ghost use Rattle.plift_top.specs.Verify.{WasRead, Reports, ReportsFront};
+ghost use Rattle.plift_words.specs.Way.{steps_told};
+ghost use Rattle.plift_top.specs.Verify.{WasRead, Reports, ReportsFront, IsAnswerable, lacks_chain};
 ghost use Rattle.plift_top.specs.Verify.{IsRefused, KeepsLimit};
 ghost use Rattle.model_gen.specs.Ladder.{ladder_text, ladder_case, ladder_precision};
 ghost use Rattle.plift_top.specs.Answers.{status_of, wanted, AsksToVerify, AsksToCheck};
@@ -28,7 +29,7 @@ ghost use Rattle.plift_top.specs.Check.{IsFoundSound, IsFoundInPart, IsUnsound};
 ghost use Rattle.plift_top.specs.Answers.{HasNote, WroteNote, Acts, Generates};
 
 use crate::checking::check_report;
-use crate::laws::right_reports_are_sound;
+use crate::laws::{lumped_reports_are_sound, right_reports_are_sound};
 use crate::notes::end;
 use crate::refusal::Refusal;
 use crate::selftest::selftest;
@@ -83,18 +84,18 @@ pub fn run<S: Source, K: Sink, E: Sink>(
     out: &mut K,
     notes: &mut E,
 ) -> Status
-    // Done of `verify` or `bounded`: the source gave a text that stands for a model, which with the
-    // job's region makes a case, and out took the report of this case, or its text for the number of
-    // steps, whole, and that of its right tree. The tree's leaves tile the root, and each bounds the
-    // schedulers inside its rectangle.
+    // Done of `verify`, `bounded` or `lumped`: the source gave a text that stands for a model, which with
+    // the job's region makes a case, and out took the report of this case, its text for the number of
+    // steps, or the report of its quotient, whole, and that of its right tree. The tree's leaves tile
+    // the root, and each bounds the schedulers inside its rectangle: those of the model that was read.
     ensures done { result ≡ Status.Done
         → (j : VerifyData) → AsksToVerify (wanted words.now.items) j
         → WasRead (Reports (K.taken out.old) (K.taken out.new) j)
         (S.left source.old) (S.left source.new) }
 
-    // What out took of `verify` is a sound file.
+    // What out took of `verify` or `lumped` is a sound file.
     ensures sound { result ≡ Status.Done
-        → (j : VerifyData) → AsksToVerify (wanted words.now.items) j → j.steps ≡ None
+        → (j : VerifyData) → AsksToVerify (wanted words.now.items) j → steps_told j.way ≡ None
         → (report : List ℕ) × (leaves : Summary) × IsSoundFile report leaves
         × Appends (K.taken out.old) (K.taken out.new) report }
 
@@ -147,11 +148,11 @@ pub fn run<S: Source, K: Sink, E: Sink>(
         → (result ≡ Status.NotSound) ⊎ (result ≡ Status.Memory) }
 
     // A job, a text that stands for a model, and a region over which its rows are admitted give
-    // Done or Memory, where no fault is counted.
+    // Done or Memory, where no fault is counted. `lumped` wants a chain whose quotient isn't too wide.
     ensures complete { (j : VerifyData) (text : List ℕ) (m : ModelData) (root : Region)
         → AsksToVerify (wanted words.now.items) j → S.left source.old ≡ Some text
         → drn text j.goal ≡ Ok m → region m.names j.depth j.region ≡ Ok root
-        → IsAdmitted (case_of m root j.precision) → length text ≤ file_limit
+        → IsAdmitted (case_of m root j.precision) → IsAnswerable j.way m → length text ≤ file_limit
         → NoFault (S.faults source.old) (S.faults source.new)
         → NoFault (K.faults out.old) (K.faults out.new)
         → (result ≡ Status.Done) ⊎ (result ≡ Status.Memory) }
@@ -166,11 +167,11 @@ pub fn run<S: Source, K: Sink, E: Sink>(
         → (result ≡ status_of why) ⊎ (result ≡ Status.Memory) }
 
     // Rows that aren't admitted over the job's region give RowsRefused or Memory, where no fault is
-    // counted.
+    // counted, of a chain where one is to be lumped.
     ensures unadmitted { (j : VerifyData) (text : List ℕ) (m : ModelData) (root : Region)
         → AsksToVerify (wanted words.now.items) j → S.left source.old ≡ Some text
         → drn text j.goal ≡ Ok m → region m.names j.depth j.region ≡ Ok root
-        → (IsAdmitted (case_of m root j.precision) → ⊥) → length text ≤ file_limit
+        → (IsAdmitted (case_of m root j.precision) → ⊥) → lacks_chain j.way m.kind ≡ false → length text ≤ file_limit
         → NoFault (S.faults source.old) (S.faults source.new)
         → NoFault (K.faults out.old) (K.faults out.new)
         → (result ≡ Status.RowsRefused) ⊎ (result ≡ Status.Memory) }
@@ -232,6 +233,7 @@ pub fn run<S: Source, K: Sink, E: Sink>(
     sound_files_pass();
     answers_are_one();
     right_reports_are_sound();
+    lumped_reports_are_sound();
     right_trees_are_one();
     right_trees_exist();
     ladders_are_cases();

@@ -2,12 +2,13 @@
 ghost use Rattle.std.specs.Prelude.{◌≡◌};
 ghost use Rattle.plift_top.specs.declared.refusal.Refusal.TheVariants.{Memory, WriteFault, Rows};
 ghost use Rattle.plift_top.specs.Refused.{words_refusal, refusal_of, model_refusal, region_refusal};
-ghost use Rattle.plift_top.specs.Refused.{check_refusal};
+ghost use Rattle.plift_top.specs.Refused.{check_refusal, lump_refusal};
 
 use cert_check::CheckError;
 use drn_read::{DrnCause, DrnError};
 use lift_base::ReadError;
 use lift_grid::RegionError;
+use lift_lump::LumpError;
 use lift_rows::RowError;
 use plift_words::{Field, WordsError};
 use std::alloc::AllocError;
@@ -23,6 +24,10 @@ pub enum Refusal {
     Region(RegionError),
     /// A row of the model isn't admitted over the region.
     Rows(RowError),
+    /// A decision process can't be lumped.
+    NotChain,
+    /// A coefficient of the chain's quotient is too large.
+    TooWide,
     /// The file isn't sound. The error is a first fault of its bytes.
     Unsound(CheckError),
     ReadFault,
@@ -110,6 +115,18 @@ impl From<CheckError> for Refusal {
             CheckError::TooLong => Refusal::TooLong,
             CheckError::Memory => Refusal::Memory,
             _ => Refusal::Unsound(error),
+        }
+    }
+}
+
+impl From<LumpError> for Refusal {
+    ghost from_gives = { λ error e. e ≡ lump_refusal error };
+
+    fn from(error: LumpError) -> Self {
+        match error {
+            LumpError::NotChain => Refusal::NotChain,
+            LumpError::Wide => Refusal::TooWide,
+            LumpError::Memory => Refusal::Memory,
         }
     }
 }

@@ -19,7 +19,7 @@ use lift_base::{Sink, SureSource, Text, Word, WriteFault, write_words};
 use lift_cert::Bound;
 use lift_rows::first_fault_is_one;
 use model_gen::{Ladder, ladders_are_cases};
-use plift_words::VerifyJob;
+use plift_words::{VerifyJob, Way};
 use region_tree::right_trees_are_one;
 use std::alloc::{AllocError, Global};
 
@@ -51,7 +51,7 @@ fn job() -> VerifyJob<'static>
         region: b"1/2<=p<=3/5,1/2<=q<=3/5",
         depth: 2,
         precision: 24,
-        steps: None,
+        way: Way::Whole,
     }
 }
 

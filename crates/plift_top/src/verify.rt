@@ -1,16 +1,18 @@
-// Verifies a model against a bound, on any number of steps or on as many as are told.
-ghost use Rattle.std.specs.Prelude.{◌≡◌, None, Some, IfOk, length};
+// Verifies a model against a bound: on any number of steps, on as many as are told, or by its quotient.
+ghost use Rattle.std.specs.Prelude.{◌≡◌, false, IfOk, length};
 ghost use Rattle.lift_grid.specs.Rectangle.{IsOnGrid};
 ghost use Rattle.lift_grid.specs.Parts.{region_of};
 ghost use Rattle.lift_model.specs.Links.{AreLinks};
 ghost use Rattle.region_tree.specs.Rooms as whole;
 ghost use Rattle.lift_bounded.specs.Rooms as within;
 ghost use Rattle.plift_words.specs.Given.{verify_data};
-ghost use Rattle.plift_top.specs.Verify.{Verifies, KeepsLimit};
+ghost use Rattle.plift_words.specs.declared.way.Way.TheVariants.{Whole, Within};
+ghost use Rattle.plift_top.specs.Verify.{Verifies, KeepsLimit, lacks_chain};
 ghost use Rattle.plift_top.specs.Steps.{IsTestedCase, ReadsModel, NamesRoot, AdmitsCase};
 ghost use Rattle.plift_top.specs.Steps.{WritesCase, AnswersCase, WritesOver};
 
 use crate::bounded::write_bounded_buffered;
+use crate::lumped::write_lumped;
 use crate::refusal::Refusal;
 use crate::report::write_report_buffered;
 use corner_lift::{Case, live_parameters_have_spans};
@@ -19,10 +21,10 @@ use lift_base::{Sink, Source, WriteFault, read_all};
 use lift_bounded::{BoundedRoom, certificates_by_steps_decide};
 use lift_cert::{Bound, certificates_decide, rejecting_certificates_reach};
 use lift_grid::{Grid, Rect, read_region, trees_tile};
-use lift_model::{Links, Model};
+use lift_model::{Kind, Links, Model};
 use lift_names::Names;
 use lift_rows::{admit, admit_linked};
-use plift_words::VerifyJob;
+use plift_words::{VerifyJob, Way};
 use region_tree::{Room, rectangles_at_depths, right_trees_tile};
 use std::alloc::Global;
 
@@ -81,8 +83,8 @@ fn linked_case_of<'m>(
     Ok(case)
 }
 
-// Writes the report of a case whose rows were tested. From here on no memory is taken.
-fn write_case<K: Sink>(
+/// Writes the report of a case whose rows were tested. From here on no memory is taken.
+pub(crate) fn write_case<K: Sink>(
     case: &Case,
     links: &Links,
     bound: Bound,
@@ -92,7 +94,7 @@ fn write_case<K: Sink>(
     requires case { IsTestedCase case.now }
     requires links { AreLinks case.now.model links.now }
     requires made { whole.IsMadeFor case.now links.now room.old }
-    ensures { WritesCase K.taken K.faults bound None case.now out.old out.new result }
+    ensures { WritesCase K.taken K.faults bound Whole case.now out.old out.new result }
 {
     certificates_decide();
     rejecting_certificates_reach();
@@ -112,7 +114,7 @@ fn write_case_within<K: Sink>(
     requires case { IsTestedCase case.now }
     requires links { AreLinks case.now.model links.now }
     requires made { within.IsMadeFor case.now links.now room.old }
-    ensures { WritesCase K.taken K.faults bound (Some room.old.steps) case.now out.old out.new result }
+    ensures { WritesCase K.taken K.faults bound (Within room.old.steps) case.now out.old out.new result }
 {
     certificates_by_steps_decide();
     rectangles_at_depths();
@@ -131,20 +133,23 @@ fn write_answer<K: Sink>(
 ) -> Result<(), Refusal>
     requires case { IsTestedCase case.now }
     requires links { AreLinks case.now.model links.now }
-    ensures { AnswersCase K.taken K.faults job.now.bound job.now.steps case.now
+    requires chain { lacks_chain job.now.way case.now.model.kind ≡ false }
+    ensures { AnswersCase K.taken K.faults job.now.bound job.now.way case.now
         out.old out.new result }
 {
-    match job.steps {
-        None => {
+    match job.way {
+        Way::Whole => {
             let mut room = Room::make(alloc, case, links)?;
             write_case(case, links, job.bound, &mut room, out)?;
+            Ok(())
         }
-        Some(steps) => {
+        Way::Within(steps) => {
             let mut room = BoundedRoom::make(alloc, case, links, steps)?;
             write_case_within(case, links, job.bound, &mut room, out)?;
+            Ok(())
         }
+        Way::Lumped => write_lumped(alloc, case, job.bound, out),
     }
-    Ok(())
 }
 
 // Tests the rows of a model over a root, and writes the answer to that case.
@@ -158,6 +163,7 @@ fn write_over<K: Sink>(
 ) -> Result<(), Refusal>
     requires grid { IsOnGrid grid.d grid.depth (length model.now.names) root.now }
     requires depth { grid.depth ≡ job.now.depth }
+    requires chain { lacks_chain job.now.way model.now.kind ≡ false }
     ensures { WritesOver K.taken K.faults (verify_data job.now) model.now
         (region_of (grid, root.now)) out.old out.new result }
 {
@@ -170,8 +176,21 @@ fn write_over<K: Sink>(
     write_answer(alloc, job, &case, &links, out)
 }
 
-/// Reads a model from the source, tests its rows over the job's region, and writes its report, or its text for the
-/// job's number of steps.
+// Whether a chain is to be lumped, and the model is a decision process.
+fn lacks_chain(way: Way, kind: Kind) -> bool
+    ensures { result ≡ lacks_chain way kind }
+{
+    match way {
+        Way::Lumped => match kind {
+            Kind::Mdp => true,
+            Kind::Dtmc => false,
+        },
+        Way::Whole | Way::Within(_) => false,
+    }
+}
+
+/// Reads a model from the source, tests its rows over the job's region, and writes its report, its text for the job's
+/// number of steps, or the report of its quotient.
 pub fn verify<S: Source, K: Sink>(
     alloc: Global,
     job: &VerifyJob,
@@ -183,6 +202,9 @@ pub fn verify<S: Source, K: Sink>(
     ensures limit { KeepsLimit result (S.left source.old) (S.left source.new) }
 {
     let model = model_of(alloc, job.goal, source)?;
+    if lacks_chain(job.way, model.kind()) {
+        return Err(Refusal::NotChain);
+    }
     let (grid, root) = root_of(alloc, job, model.names())?;
     write_over(alloc, job, &model, &root, grid, out)
 }

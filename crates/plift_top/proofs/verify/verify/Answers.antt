@@ -1,4 +1,4 @@
-use Rattle.std.proofs.Common.{ℕ, List, Err, subst}
+use Rattle.std.proofs.Common.{ℕ, List, Err, rules, subst}
 use Rattle.plift_words.specs.Given.{verify_data}
 use Rattle.plift_top.specs.Steps.{NamesRoot}
 use Rattle.plift_top.proofs.Reading.{stops_reading, stops_naming, stopped, verified}
@@ -11,7 +11,7 @@ returns-in_err-model-clause-answer g c =
 pub returns-in_err-grid-clause-answer : goal.returns-in_err-grid-clause-answer
 returns-in_err-grid-clause-answer g c =
     stopped g.S.Source.left g.S.Source.faults g.K.Sink.taken g.K.Sink.faults (verify_data c.args.job.now) _ _ c.args.out.now _ _ c.from_residual-in_err-grid.ensures.1
-    (stops_naming g.S.Source.left g.S.Source.faults (verify_data c.args.job.now) _ _ _ c.in_ok-model.ensures.answer _ (subst (λ (names : List (List ℕ)). NamesRoot (verify_data c.args.job.now) names (Err c.in_err-grid.field-0.0)) c.names.ensures.value c.in_err-grid.ensures.answer))
+    (stops_naming g.S.Source.left g.S.Source.faults (verify_data c.args.job.now) _ _ _ c.in_ok-model.ensures.answer (search rules) _ (subst (λ (names : List (List ℕ)). NamesRoot (verify_data c.args.job.now) names (Err c.in_err-grid.field-0.0)) c.names.ensures.value c.in_err-grid.ensures.answer))
 
 pub returns-clause-answer : goal.returns-clause-answer
-returns-clause-answer g c = verified g.S.Source.left g.S.Source.faults (verify_data c.args.job.now) _ _ _ _ c.in_ok-model.ensures.answer (rw c.names.ensures.value at c.in_ok-grid.ensures.answer) g.K.Sink.taken g.K.Sink.faults _ _ _ c.write_over.ensures
+returns-clause-answer g c = verified g.S.Source.left g.S.Source.faults (verify_data c.args.job.now) _ _ _ _ c.in_ok-model.ensures.answer (search rules) (rw c.names.ensures.value at c.in_ok-grid.ensures.answer) g.K.Sink.taken g.K.Sink.faults _ _ _ c.write_over.ensures
