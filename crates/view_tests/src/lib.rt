@@ -5,4 +5,6 @@
 #[cfg(test)]
 mod pictures;
 #[cfg(test)]
+mod rows;
+#[cfg(test)]
 mod views;

@@ -1,8 +1,8 @@
 // The rectangles of pictures.
+use crate::rows::{Judge, each_row};
 use lift_base::{MemSink, Text};
-use std::alloc::Global;
-use std::test::Fail;
-use view_map::{read_map, slice_of};
+use std::alloc::{AllocError, Global};
+use view_map::{ReportMap, read_map, slice_of};
 use view_text::Picture;
 
 // Reports, each by its name. A semicolon stands for the end of a line. WIDE: a coin with p from 1/10
@@ -52,7 +52,7 @@ pub fn find_report(name: &str) -> Option<&'static str> {
 }
 
 /// The bytes of a text in which a semicolon stands for the end of a line.
-pub fn lines_of(alloc: Global, text: &str) -> Result<Vec<u8>, Fail> {
+pub fn lines_of(alloc: Global, text: &str) -> Result<Vec<u8>, AllocError> {
     let mut bytes = Vec::new(alloc);
     for byte in text.as_bytes() {
         bytes.push(if *byte == b';' { b'\n' } else { *byte })?;
@@ -70,48 +70,58 @@ pub fn is_within(text: &[u8], part: &[u8]) -> bool {
     false
 }
 
+// Whether a picture has that part.
+fn has_part(alloc: Global, picture: &Picture, part: &str) -> Result<bool, AllocError> {
+    let mut out = MemSink::new(alloc, 10_000, 64, Vec::new(alloc))?;
+    Ok(picture.write_to(&mut out).is_ok() && is_within(out.taken(), part.as_bytes()))
+}
+
+// Whether the picture of a map has that part.
+fn shows_part(alloc: Global, map: &ReportMap, part: &str) -> Result<bool, AllocError> {
+    let slice = slice_of(alloc, map.head(), None, None, &[])?;
+    has_part(alloc, &Picture { map, slice: &slice }, part)
+}
+
 // Whether the picture of a report has that part.
-fn has_part(alloc: Global, report: &str, part: &str) -> Result<bool, Fail> {
-    let text = lines_of(alloc, report)?;
+fn is_drawn(alloc: Global, text: &[u8], part: &str) -> Result<bool, AllocError> {
     if text.len() > 1 << 26 {
         return Ok(false);
     }
-    let Ok(map) = read_map(alloc, &text) else {
-        return Ok(false);
-    };
-    let slice = slice_of(alloc, map.head(), None, None, &[])?;
-    let mut out = MemSink::new(alloc, 10_000, 64, Vec::new(alloc))?;
-    let picture = Picture {
-        map: &map,
-        slice: &slice,
-    };
-    let written = picture.write_to(&mut out);
-    Ok(written.is_ok() && is_within(out.taken(), part.as_bytes()))
+    match read_map(alloc, text) {
+        Ok(map) => shows_part(alloc, &map, part),
+        Err(_) => Ok(false),
+    }
 }
 
-// Whether the picture of a row's report has the row's part.
-fn is_drawn(alloc: Global, row: &str) -> Result<bool, Fail> {
-    let Some((name, part)) = row.split_once(" | ") else {
-        return Ok(false);
-    };
+struct Drawn;
+
+impl Judge for Drawn {
+    fn holds(&self, alloc: Global, row: &str) -> Result<bool, AllocError> {
+        let Some((name, part)) = row.split_once(" | ") else {
+            return Ok(false);
+        };
+        match find_report(name) {
+            Some(report) => is_drawn(alloc, &lines_of(alloc, report)?, part),
+            None => Ok(false),
+        }
+    }
+}
+
+#[test]
+fn pictures_have_rectangles(rt: HostRuntime) {
+    each_row(&rt, rt.alloc(), PICTURES, &Drawn);
+}
+
+// Whether the report of that name, which has to be short, has no map.
+fn has_no_map(alloc: Global, name: &str) -> Result<bool, AllocError> {
     let Some(report) = find_report(name) else {
         return Ok(false);
     };
-    has_part(alloc, report, part)
+    let text = lines_of(alloc, report)?;
+    Ok(text.len() < 1000 && read_map(alloc, &text).is_err())
 }
 
 #[test]
-fn pictures_have_rectangles(rt: HostRuntime) -> Result<(), Fail> {
-    for row in PICTURES.lines() {
-        assert!(rt; is_drawn(rt.alloc(), row)?, "{row}");
-    }
-    Ok(())
-}
-
-#[test]
-fn unsound_reports_have_no_map(rt: HostRuntime) -> Result<(), Fail> {
-    let text = lines_of(rt.alloc(), find_report("UNSOUND").ok_or("no report")?)?;
-    assert!(rt; text.len() < 1000);
-    assert!(rt; read_map(rt.alloc(), &text).is_err());
-    Ok(())
+fn unsound_reports_have_no_map(rt: HostRuntime) {
+    assert!(rt; matches!(has_no_map(rt.alloc(), "UNSOUND"), Ok(true)));
 }

@@ -1,9 +1,9 @@
 // Runs of the program that shows reports, and what they are compared with.
 use crate::pictures::{find_report, is_within, lines_of};
+use crate::rows::{Judge, each_row};
 use check_notes::Status;
 use lift_base::{MemSink, MemSource};
-use std::alloc::Global;
-use std::test::Fail;
+use std::alloc::{AllocError, Global};
 use view_follow::Lines;
 use view_top::run;
 
@@ -114,7 +114,7 @@ fn fault_of(row: &str) -> Option<Want<'_>> {
     })
 }
 
-fn words_of(alloc: Global, line: &str) -> Result<Vec<String>, Fail> {
+fn words_of(alloc: Global, line: &str) -> Result<Vec<String>, AllocError> {
     let mut words = Vec::new(alloc);
     for word in line.split(' ') {
         if !word.is_empty() {
@@ -137,14 +137,13 @@ fn status_name(status: Status) -> &'static str {
     }
 }
 
-fn one_call(alloc: Global, call: u64) -> Result<Vec<u64>, Fail> {
-    let mut calls = Vec::new(alloc);
-    calls.push(call)?;
-    Ok(calls)
+// A sink with so much room that takes so many bytes a call, and of which one call fails, none where it is 0.
+fn sink(alloc: Global, room: usize, step: usize, call: u64) -> Result<MemSink, AllocError> {
+    MemSink::new(alloc, room, step.max(1), Vec::from_slice(alloc, &[call])?)
 }
 
 // The bytes of a cell: nothing where it is a dash.
-fn cell_of(alloc: Global, cell: &str) -> Result<Vec<u8>, Fail> {
+fn cell_of(alloc: Global, cell: &str) -> Result<Vec<u8>, AllocError> {
     if cell == "-" {
         Ok(Vec::new(alloc))
     } else {
@@ -152,47 +151,78 @@ fn cell_of(alloc: Global, cell: &str) -> Result<Vec<u8>, Fail> {
     }
 }
 
-// Whether a run gives what the row says: the output is that text, or at Done has it as a part.
-fn is_answered(alloc: Global, want: Want<'_>) -> Result<bool, Fail> {
-    let Some(report) = find_report(want.report) else {
-        return Ok(false);
-    };
-    let words = words_of(alloc, want.words)?;
-    let mut source = MemSource::new(lines_of(alloc, report)?, 16, one_call(alloc, want.read)?);
-    let mut out = MemSink::new(alloc, want.room, 1, one_call(alloc, want.write)?)?;
-    let mut notes = MemSink::new(alloc, 1000, 1000, one_call(alloc, want.tell)?)?;
-    let got = run(
-        alloc,
-        &words,
-        &mut source,
-        &mut out,
-        &mut notes,
-        Lines::Apart,
-    );
+// The name of the status with which the program ends. Nothing is promised of it, so that no other proof carries what `run`
+// promises.
+fn ending(
+    alloc: Global,
+    words: &str,
+    source: &mut MemSource,
+    out: &mut MemSink,
+    notes: &mut MemSink,
+) -> Result<&'static str, AllocError> {
+    let words = words_of(alloc, words)?;
+    let status = run(alloc, &words, source, out, notes, Lines::Apart);
+    Ok(status_name(status))
+}
+
+// Whether the output is the row's text, or at Done has it as a part.
+fn has_written(alloc: Global, want: Want<'_>, out: &MemSink) -> Result<bool, AllocError> {
     let taken = cell_of(alloc, want.taken)?;
-    let is_there = if want.status == "Done" {
+    Ok(if want.status == "Done" {
         is_within(out.taken(), &taken)
     } else {
         out.taken() == taken.as_slice()
-    };
+    })
+}
+
+// Whether the notes are the row's.
+fn has_told(alloc: Global, want: Want<'_>, notes: &MemSink) -> Result<bool, AllocError> {
     let told = cell_of(alloc, want.told)?;
-    Ok(status_name(got) == want.status && is_there && notes.taken() == told.as_slice())
+    Ok(notes.taken() == told.as_slice())
+}
+
+// Whether a run on that report gives what the row says.
+fn is_answered_on(alloc: Global, want: Want<'_>, report: Vec<u8>) -> Result<bool, AllocError> {
+    let mut source = MemSource::new(report, 16, Vec::from_slice(alloc, &[want.read])?);
+    let mut out = sink(alloc, want.room, 1, want.write)?;
+    let mut notes = sink(alloc, 1000, 1000, want.tell)?;
+    let got = ending(alloc, want.words, &mut source, &mut out, &mut notes)?;
+    Ok(got == want.status && has_written(alloc, want, &out)? && has_told(alloc, want, &notes)?)
+}
+
+// Whether a run gives what the row says, if it is one.
+fn is_answered(alloc: Global, want: Option<Want<'_>>) -> Result<bool, AllocError> {
+    let Some(want) = want else {
+        return Ok(false);
+    };
+    match find_report(want.report) {
+        Some(report) => is_answered_on(alloc, want, lines_of(alloc, report)?),
+        None => Ok(false),
+    }
+}
+
+struct Shown;
+
+impl Judge for Shown {
+    fn holds(&self, alloc: Global, row: &str) -> Result<bool, AllocError> {
+        is_answered(alloc, view_of(row))
+    }
 }
 
 #[test]
-fn views_are_written(rt: HostRuntime) -> Result<(), Fail> {
-    for row in VIEWS.lines() {
-        let want = view_of(row).ok_or("a row")?;
-        assert!(rt; is_answered(rt.alloc(), want)?, "{row}");
+fn views_are_written(rt: HostRuntime) {
+    each_row(&rt, rt.alloc(), VIEWS, &Shown);
+}
+
+struct Faulty;
+
+impl Judge for Faulty {
+    fn holds(&self, alloc: Global, row: &str) -> Result<bool, AllocError> {
+        is_answered(alloc, fault_of(row))
     }
-    Ok(())
 }
 
 #[test]
-fn faults_are_told(rt: HostRuntime) -> Result<(), Fail> {
-    for row in FAULTS.lines() {
-        let want = fault_of(row).ok_or("a row")?;
-        assert!(rt; is_answered(rt.alloc(), want)?, "{row}");
-    }
-    Ok(())
+fn faults_are_told(rt: HostRuntime) {
+    each_row(&rt, rt.alloc(), FAULTS, &Faulty);
 }
