@@ -22,7 +22,7 @@ lumped --goal heads --bound 1/3 --precision 4 --depth 2 --region 0<=p<=1 | THIRD
     bound 1/3;precision 4;depth 2;grid 4;box 0 4;unknown; | -
 lumped --goal heads --bound 1/2 --precision 4 --region 1/10<=p<=2/5 | TWIN | ModelRefused | - | lump: not a chain;
 lumped --goal heads --bound 1/2 --precision 4 | TWIN | ModelRefused | - | lump: not a chain;
-lumped --goal tails --bound 1/2 --precision 4 | TWIN | ModelRefused | - | model: line 14: UnknownLabel;
+lumped --goal tails --bound 1/2 --precision 4 | TWIN | ModelRefused | - | model: line 15: UnknownLabel;
 lumped --goal heads --bound 1/2 | COIN | Usage | - | usage: --region Missing;
 lumped --goal heads --bound 1/2 | LESS | RowsRefused | - | rows: state 0 choice 0: set 0 sums to 3;
 lumped --goal heads --bound 1/2 --precision 0 | LESS | Usage | - | usage: --precision;
