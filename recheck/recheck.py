@@ -8,7 +8,7 @@ from math import gcd, prod
 from operator import mul
 
 NONE = 2 ** 32  # for a choice or a rank that is `-`
-MOST_BYTES, MOST_LINE = 2 ** 26, 2 ** 20  # of a report, and of one of its lines
+MOST_BYTES, MOST_LINE = 2 ** 32, 2 ** 20  # of a report, and of one of its lines
 NUMBER, NAME = re.compile(rb'0|-?[1-9][0-9]*'), re.compile(rb'[A-Za-z_][A-Za-z0-9_]*')
 getattr(sys, 'set_int_max_str_digits', int)(0)  # a line may hold a number of any length
 
@@ -309,7 +309,7 @@ def check(text):
     return tuple(map(kinds.count, [b'accept', b'reject', b'unknown']))
 
 def main():
-    text = Text(sys.stdin.buffer.read(MOST_BYTES + 1))
+    text = Text(sys.stdin.buffer.read())
     if len(text.data) > MOST_BYTES:
         print('too long', file=sys.stderr)
         sys.exit(7)

@@ -537,13 +537,13 @@ def compare_steps() -> Comparison:
 
 
 def compare_prefixes(tests: Comparison) -> None:
-    """Every proper prefix of a report of each version, and a file that is too long."""
+    """Every proper prefix of a report of each version, and a file that is longer than a model may be."""
     for name in ('COIN', 'RANGE'):
         for size in range(len(REPORTS[name])):
             text = REPORTS[name][:size]
             line = text.count(b'\n') + 1
             tests.compare(f'{size} bytes of {name}', text, answer(f'line {line}: Truncated'))
-    tests.compare('too long', b'\n' * (2 ** 26 + 1), Answer(7, b'', b'too long\n'), is_started=True)
+    tests.compare('line feeds', b'\n' * (2 ** 26 + 1), answer('line 1: Syntax'), is_started=True)
 
 
 def compare_mutants(tests: Comparison, paths: list[str], count: int) -> None:

@@ -15,8 +15,8 @@ CHECKOUT = Path(__file__).resolve().parent.parent.parent
 BUILT, QUICK = CHECKOUT / 'crates/plift/out/plift', CHECKOUT / 'build/quick/plift'
 RELEASED = CHECKOUT / 'programs/plift'
 """Where it lies in an unpacked release, and where all of plift is installed."""
-MOST_BYTES = 2 ** 26
-"""The longest text that it reads."""
+MOST_BYTES, MOST_CHECKED_BYTES = 2 ** 26, 2 ** 32
+"""The longest text that it reads whole, and the longest report that it checks."""
 
 
 def find_program() -> 'Program':

@@ -105,14 +105,14 @@ class Ends(TilesCase):
 
     def test_a_report_that_check_would_not_read(self) -> None:
         job = self.job()
-        with mock.patch("plift_tiles.work.MOST_BYTES", 400), mock.patch("sys.stderr") as told:
+        with mock.patch("plift_tiles.work.MOST_CHECKED_BYTES", 400), mock.patch("sys.stderr") as told:
             self.assertEqual(work(self.program, job, [1, 2]), 7)
         self.assertIn("longer than the 400 bytes", "".join(call.args[0] for call in told.write.call_args_list))
         self.assertEqual((job.left, self.parts()), ([1, 2, 3], []))
 
     def test_a_joined_report_that_check_would_not_read(self) -> None:
         self.done_job()
-        with mock.patch("plift_tiles.join.MOST_BYTES", 400):
+        with mock.patch("plift_tiles.join.MOST_CHECKED_BYTES", 400):
             with open(self.folder / "whole.report", "wb") as out:
                 told = join(Job(self.folder / "work"), False, out)
         length = (self.folder / "whole.report").stat().st_size

@@ -10,7 +10,7 @@ from pathlib import Path
 from typing import Iterable, List, NoReturn, Optional
 
 from plift_lab.faults import LOST, Fault
-from plift_lab.program import MOST_BYTES, find_program
+from plift_lab.program import find_program
 from plift_lab.values import read_count
 from plift_lab.words import Words
 
@@ -95,7 +95,7 @@ def _run_split(given: argparse.Namespace) -> int:
         raise Fault('%s is there already; a job begins in a folder of its own' % given.place)
     if sys.stdin.isatty():
         _tell('reading the report from standard input; give a file by < report')
-    count = split(find_program(), sys.stdin.buffer.read(MOST_BYTES + 1), given.place, depth)
+    count = split(find_program(), sys.stdin.buffer.read(), given.place, depth)
     _tell('%d tiles' % count)
     return DONE
 

@@ -5,7 +5,7 @@ from __future__ import annotations
 from typing import BinaryIO, Iterable, Iterator, List, Tuple
 
 from plift_lab.faults import Fault
-from plift_lab.program import MOST_BYTES
+from plift_lab.program import MOST_CHECKED_BYTES
 from plift_lab.report import Report
 
 from .faults import UNFIT
@@ -70,9 +70,9 @@ def join(job: Job, partial: bool, out: BinaryIO) -> List[str]:
     told = []
     if joining.left:
         told.append('%d of %d tiles are left, and stay unknown' % (len(joining.left), len(job.regions)))
-    if length > MOST_BYTES:
+    if length > MOST_CHECKED_BYTES:
         told.append('the report has %d bytes, more than the %d that `plift check` reads; it has judged each tile: keep %s'
-                    % (length, MOST_BYTES, job.place))
+                    % (length, MOST_CHECKED_BYTES, job.place))
     return told
 
 

@@ -7,7 +7,7 @@ from pathlib import Path
 from typing import Iterable
 
 from plift_lab.faults import LOST, Fault
-from plift_lab.program import MOST_BYTES, Program
+from plift_lab.program import MOST_CHECKED_BYTES, Program
 
 from .faults import DONE, LONG, WRITING, fault_of, status_of
 from .job import Job, beside
@@ -47,6 +47,6 @@ def _decide(program: Program, job: Job, number: int) -> None:
 
 def _require_readable(report: Path) -> None:
     """Ends a tile that `plift check` won't read."""
-    if report.stat().st_size > MOST_BYTES:
+    if report.stat().st_size > MOST_CHECKED_BYTES:
         raise Fault('its report is longer than the %d bytes that `plift check` reads: split to a smaller depth'
-                    % MOST_BYTES, LONG)
+                    % MOST_CHECKED_BYTES, LONG)

@@ -9,6 +9,7 @@ from typing import List, Optional
 from hints.refusal import Refusal
 
 MOST_BYTES = 2**26
+MOST_CHECKED_BYTES = 2**32
 MEM_FULL = (1, 7)  # the device /dev/full
 
 
@@ -53,7 +54,8 @@ def size_hints(refusal: Refusal) -> List[str]:
     if refusal.command() == "selftest":
         return [f"the report would have more than {MOST_BYTES:,} bytes: selftest with fewer blocks"]
     if refusal.command() == "check" or refusal.program != "plift":
-        told = f"the report has more than {MOST_BYTES:,} bytes (64 MiB)"
+        most = MOST_CHECKED_BYTES if refusal.program == "plift" else MOST_BYTES
+        told = f"the report has more than {most:,} bytes ({most >> 20:,} MiB)"
         return [f"{told}: verify with a lower --depth, or the region in parts"]
     return [f"the text has more than {MOST_BYTES:,} bytes (64 MiB): take a smaller model"]
 

@@ -11,7 +11,8 @@ use Rattle.corner_lift.specs.Case.{greatest_depth}
 use Rattle.line_text.specs.Reading.{◌>>=◌, Cursor, Reader, fault}
 use Rattle.line_text.specs.declared.error.TextCause.TheVariants.{Limit, Truncated}
 use Rattle.line_text.specs.declared.error.TextError.{TextError}
-use Rattle.cert_text.specs.Head.{HeadData, head_at}
+use Rattle.line_text.specs.Follow.{told_fault}
+use Rattle.cert_text.specs.Head.{HeadData, head_at, version}
 use Rattle.cert_text.specs.Nodes.{Node, split, accept, reject, unknown, node_at, node_lines}
 use Rattle.cert_text.specs.Report.{tree_lines}
 use Rattle.cert_text.specs.Forms.{IsHead, IsNode, IsTree}
@@ -25,13 +26,13 @@ use Rattle.cert_check.specs.declared.error.CheckError.TheVariants.{Text}
 
 -- the leaves of both
 abbrev pub plus : Summary → Summary → Summary
-plus a b = record { accept = a.accept + b.accept; reject = a.reject + b.reject; unknown = a.unknown + b.unknown }
+plus a b = record { accept = a.accept + b.accept; reject = a.reject + b.reject; unknown = a.unknown + b.unknown; version = a.version }
 
-pub leaves_are : (a b : Summary) → a.accept ≡ b.accept → a.reject ≡ b.reject → a.unknown ≡ b.unknown → a ≡ b
-leaves_are a b e f g = λ i. record { accept = e i; reject = f i; unknown = g i }
+pub leaves_are : (a b : Summary) → a.accept ≡ b.accept → a.reject ≡ b.reject → a.unknown ≡ b.unknown → a.version ≡ b.version → a ≡ b
+leaves_are a b e f g v = λ i. record { accept = e i; reject = f i; unknown = g i; version = v i }
 
-pub none_and : (t : Tree) → plus no_leaves (leaf_counts t) ≡ leaf_counts t
-none_and t = leaves_are (plus no_leaves (leaf_counts t)) (leaf_counts t) (omega arith) (omega arith) (omega arith)
+pub none_and : (v : ℕ) (t : Tree) → plus (no_leaves v) (leaf_counts v t) ≡ leaf_counts v t
+none_and v t = leaves_are (plus (no_leaves v) (leaf_counts v t)) (leaf_counts v t) (omega arith) (omega arith) (omega arith) refl
 
 zero_and : (n : ℕ) → 0 + n ≡ n
 zero_and n = omega arith
@@ -75,8 +76,8 @@ module _ (back : NodesAreReadBack) (told : ReadNodesAreTold) (h : HeadData) (hea
 
   -- The walk ends as the tree is read: by the same fault, or behind the tree, whose leaves were met, and there the rest stands.
   Follows : (Answer Came → Type 0) → Tree → Came → List ℕ → Result (Tree × Cursor) TextError → Type 0
-  Follows ends t came rest (Ok x) = (next : Came) × ends (Ok next) × (next.place ≡ x.1) × (next.leaves ≡ plus came.leaves (leaf_counts t)) × (x.1.1 ++ tail ≡ rest)
-  Follows ends t came rest (Err e) = ends (Err (Text e))
+  Follows ends t came rest (Ok x) = (next : Came) × ends (Ok next) × (next.place ≡ x.1) × (next.leaves ≡ plus came.leaves (leaf_counts (version h) t)) × (x.1.1 ++ tail ≡ rest)
+  Follows ends t came rest (Err e) = ends (Err (Text (told_fault e)))
 
   step : (levels : ℕ) (halves : Ending) (half : Reader Tree) (spans : Spans) (t : Tree) (came : Came) (rest back_rest : List ℕ) (first : Node) (r : Result (Node × Cursor) TextError)
       → ((node : Node) (c : Cursor) → r ≡ Ok (node, c) → (node ≡ first) × (c.1 ++ tail ≡ back_rest))
@@ -95,20 +96,21 @@ module _ (back : NodesAreReadBack) (told : ReadNodesAreTold) (h : HeadData) (hea
       → ((there : Came) → there.place.1 ++ tail ≡ between → Follows (upper_ends there) upper there rest (half there.place))
       → Follows (Then lower_ends upper_ends) (splits axis lower upper) came rest (r >>= λ x. half x.1 >>= λ y. Ok (splits axis x.0 y.0, y.1))
   unfolding Follows
-  both lower_ends upper_ends axis lower upper came next between rest half (Err e) leaves first second = (Err (Text e), first, refl)
+  both lower_ends upper_ends axis lower upper came next between rest half (Err e) leaves first second = (Err (Text (told_fault e)), first, refl)
   both lower_ends upper_ends axis lower upper came next between rest half (Ok x) leaves (there, ends, place, met, stands) second =
       behind_lower (half x.1) (subst (λ (c : Cursor). Follows (upper_ends there) upper there rest (half c)) place (second there (ap (λ (c : Cursor). c.1 ++ tail) place ∙ stands)))
     where
       behind_lower : (s : Result (Tree × Cursor) TextError) → Follows (upper_ends there) upper there rest s → Follows (Then lower_ends upper_ends) (splits axis lower upper) came rest (s >>= λ y. Ok (splits axis x.0 y.0, y.1))
       behind_lower (Err e) g = (Ok there, ends, g)
       behind_lower (Ok y) (last, g, at, more, end) =
-          let l : last.leaves.accept ≡ there.leaves.accept + (leaf_counts upper).accept = ap (λ s. s.accept) more in
-          let m : last.leaves.reject ≡ there.leaves.reject + (leaf_counts upper).reject = ap (λ s. s.reject) more in
-          let n : last.leaves.unknown ≡ there.leaves.unknown + (leaf_counts upper).unknown = ap (λ s. s.unknown) more in
-          let all : last.leaves ≡ plus came.leaves (leaf_counts (splits axis lower upper)) = leaves_are last.leaves (plus came.leaves (leaf_counts (splits axis lower upper)))
+          let l : last.leaves.accept ≡ there.leaves.accept + (leaf_counts (version h) upper).accept = ap (λ s. s.accept) more in
+          let m : last.leaves.reject ≡ there.leaves.reject + (leaf_counts (version h) upper).reject = ap (λ s. s.reject) more in
+          let n : last.leaves.unknown ≡ there.leaves.unknown + (leaf_counts (version h) upper).unknown = ap (λ s. s.unknown) more in
+          let all : last.leaves ≡ plus came.leaves (leaf_counts (version h) (splits axis lower upper)) = leaves_are last.leaves (plus came.leaves (leaf_counts (version h) (splits axis lower upper)))
           (omega (arith, l, ap (λ s. s.accept) met, ap (λ s. s.accept) leaves))
           (omega (arith, m, ap (λ s. s.reject) met, ap (λ s. s.reject) leaves))
-          (omega (arith, n, ap (λ s. s.unknown) met, ap (λ s. s.unknown) leaves)) in
+          (omega (arith, n, ap (λ s. s.unknown) met, ap (λ s. s.unknown) leaves))
+          (ap (λ (s : Summary). s.version) more ∙ ap (λ (s : Summary). s.version) met ∙ ap (λ (s : Summary). s.version) leaves) in
           (last, (Ok there, ends, g), at, all, end)
 
   -- a sound tree is followed
@@ -118,16 +120,16 @@ module _ (back : NodesAreReadBack) (told : ReadNodesAreTold) (h : HeadData) (hea
   follow (accepts u x) levels depth spans came rest fit s e whole =
       subst (λ r. Follows (TreeEnds h levels spans came) (accepts u x) came rest r) (sym (tree_by h levels came.place))
       (step levels (HalfEnds h levels) (half_at h levels) spans (accepts u x) came rest rest (accept u x) (node_at h came.place) (λ node c. node_same node (accept u x) came.place c rest fit whole)
-      (λ c end. (behind came c (one_accept came.leaves), inl (s, refl), refl, leaves_are (one_accept came.leaves) (plus came.leaves (leaf_counts (accepts u x))) refl (omega arith) (omega arith), end)))
+      (λ c end. (behind came c (one_accept came.leaves), inl (s, refl), refl, leaves_are (one_accept came.leaves) (plus came.leaves (leaf_counts (version h) (accepts u x))) refl (omega arith) (omega arith) refl, end)))
   follow (rejects u r) levels depth spans came rest fit s e whole =
       subst (λ a. Follows (TreeEnds h levels spans came) (rejects u r) came rest a) (sym (tree_by h levels came.place))
       (step levels (HalfEnds h levels) (half_at h levels) spans (rejects u r) came rest rest (reject u r) (node_at h came.place) (λ node c. node_same node (reject u r) came.place c rest fit whole)
-      (λ c end. (behind came c (one_reject came.leaves), inl (s, refl), refl, leaves_are (one_reject came.leaves) (plus came.leaves (leaf_counts (rejects u r))) (omega arith) refl (omega arith), end)))
+      (λ c end. (behind came c (one_reject came.leaves), inl (s, refl), refl, leaves_are (one_reject came.leaves) (plus came.leaves (leaf_counts (version h) (rejects u r))) (omega arith) refl (omega arith) refl, end)))
   follow unknowns (suc levels) depth spans came rest fit s e whole = absurd (omega (arith, s))
   follow unknowns zero depth spans came rest fit s e whole =
       subst (λ r. Follows (TreeEnds h zero spans came) unknowns came rest r) (sym (tree_by h zero came.place))
       (step zero (HalfEnds h zero) (half_at h zero) spans unknowns came rest rest unknown (node_at h came.place) (λ node c. node_same node unknown came.place c rest fit whole)
-      (λ c end. (behind came c (one_unknown came.leaves), refl, refl, leaves_are (one_unknown came.leaves) (plus came.leaves (leaf_counts unknowns)) (omega arith) (omega arith) refl, end)))
+      (λ c end. (behind came c (one_unknown came.leaves), refl, refl, leaves_are (one_unknown came.leaves) (plus came.leaves (leaf_counts (version h) unknowns)) (omega arith) (omega arith) refl refl, end)))
   follow (splits axis lower upper) zero depth spans came rest fit s e whole = absurd (omega (arith, s.0.left))
   follow (splits axis lower upper) (suc levels) depth spans came rest fit s e whole =
       let first = tree_lines h.from h.asked.model.init lower in
@@ -152,13 +154,13 @@ module _ (back : NodesAreReadBack) (told : ReadNodesAreTold) (h : HeadData) (hea
       halved c (Ok x) (next, g, place, met, end) = (next, inl (s.0.axis_is, g), place, met, end)
 
   -- a walk over a tree whose reading stops
-  cut_short : (ends : Answer Came → Type 0) (t : Tree) (came : Came) (rest : List ℕ) (r : Result (Tree × Cursor) TextError) (e : TextError) → r ≡ Err e → Follows ends t came rest r → ends (Err (Text e))
+  cut_short : (ends : Answer Came → Type 0) (t : Tree) (came : Came) (rest : List ℕ) (r : Result (Tree × Cursor) TextError) (e : TextError) → r ≡ Err e → Follows ends t came rest r → ends (Err (Text (told_fault e)))
   unfolding Follows
   cut_short ends t came rest (Ok x) e is g = absurd (ok_not_err is)
     where
       ok_not_err : ◌≡◌ {A = Result (Tree × Cursor) TextError} (Ok x) (Err e) → ⊥
       ok_not_err k = cc
-  cut_short ends t came rest (Err f) e is g = let same : f ≡ e = err_is is in subst (λ (d : TextError). ends (Err (Text d))) same g
+  cut_short ends t came rest (Err f) e is g = let same : f ≡ e = err_is is in subst (λ (d : TextError). ends (Err (Text (told_fault d)))) same g
     where
       err_is : ◌≡◌ {A = Result (Tree × Cursor) TextError} (Err f) (Err e) → f ≡ e
       err_is k = cc
@@ -193,9 +195,9 @@ sound_passes heads back told reports bytes leaves file =
     ap (λ b. report_at levels (1, b)) (sym (append-nil (text_of h t))) ∙ reports h t levels [] fit (sound_height h t k.root 0 levels file.sound.tree (zero_and levels)) in
     let tree : (tree_at h levels c >>= λ x. Ok ((h, x.0), x.1)) ≡ Ok ((h, t), (1 + line_count h t, [])) = rw (heads h 1 trees fit.head) at whole in
     let got = bind_is (tree_at h levels c) (λ x. Ok ((h, x.0), x.1)) ((h, t), (1 + line_count h t, [])) tree in
-    let ends = follow back told h fit.head [] t levels 0 k.root (start c) [] fit.nodes file.sound.tree (zero_and levels) refl in
-    let followed = subst (λ r. Follows back told h fit.head [] (TreeEnds h levels k.root (start c)) t (start c) [] r) got.1 ends in
-    let met : followed.0.leaves ≡ leaves = followed.3 ∙ none_and t ∙ sym file.counts in
+    let ends = follow back told h fit.head [] t levels 0 k.root (start h c) [] fit.nodes file.sound.tree (zero_and levels) refl in
+    let followed = subst (λ r. Follows back told h fit.head [] (TreeEnds h levels k.root (start h c)) t (start h c) [] r) got.1 ends in
+    let met : followed.0.leaves ≡ leaves = followed.3 ∙ none_and (version h) t ∙ sym file.counts in
     let none : followed.0.place.1 ≡ [] = ap (λ (p : Cursor). p.1) followed.2 ∙ sym (append-nil got.0.1.1) ∙ followed.4 in
     let end : RestEnds followed.0 (Ok leaves) = sym (rest_is followed.0.place.1 followed.0.leaves none ∙ ap (λ s. Ok s) met) in
     subst (λ r. FileEnds r (Ok leaves)) (sym read) (inl (file.sound.admitted, (Ok followed.0, followed.1, end)))
@@ -211,8 +213,8 @@ module _ (heads : HeadsAreReadBack) (told : ReadHeadsAreTold) where
       let pairs = ok_is (g, (1 + length (told_lines g), left ++ back)) (h, (1 + length (told_lines h), rest)) same in
       (ap (λ (p : HeadData × Cursor). p.0) pairs, ap (λ (p : HeadData × Cursor). p.1.1) pairs)
 
-  fault_is : {A : Type 0} {e f : TextError} → ◌≡◌ {A = Result A TextError} (Err e) (Err f) → ◌≡◌ {A = Answer Summary} (Err (Text f)) (Err (Text e))
-  fault_is k = cc
+  fault_is : {A : Type 0} {e f : TextError} → ◌≡◌ {A = Result A TextError} (Err e) (Err f) → ◌≡◌ {A = Answer Summary} (Err (Text (told_fault f))) (Err (Text (told_fault e)))
+  fault_is {A} {e} {f} k = let same : f ≡ e = cc in ap (λ (d : TextError). Err (Text (told_fault d))) same
 
   pub prefixes_refused : NodesAreReadBack → ReadNodesAreTold → PrefixesAreTruncated → PrefixesAreRefused
   unfolding report_at
@@ -224,7 +226,7 @@ module _ (heads : HeadsAreReadBack) (told : ReadHeadsAreTold) where
       cut : report_at (greatest_depth file.head.asked) (1, front) ≡ Err due
       cut = truncated file.head file.tree (greatest_depth file.head.asked) front tail file.sound.report (sound_height file.head file.tree file.head.asked.root 0 (greatest_depth file.head.asked) file.sound.tree (zero_and (greatest_depth file.head.asked))) (sym file.text) some
 
-      by_head : (r : Result (HeadData × Cursor) TextError) → head_at (1, front) ≡ r → FileEnds r (Err (Text due))
+      by_head : (r : Result (HeadData × Cursor) TextError) → head_at (1, front) ≡ r → FileEnds r (Err (Text (told_fault due)))
       by_head (Err e) is = let same : ◌≡◌ {A = Result ((HeadData × Tree) × Cursor) TextError} (Err e) (Err due) = rw is at cut in fault_is same
       by_head (Ok x) is =
           let h = file.head in
@@ -233,6 +235,6 @@ module _ (heads : HeadsAreReadBack) (told : ReadHeadsAreTold) where
           let same = head_same x.0 h x.1.0 front tail x.1.1 (concat (tree_lines h.from h.asked.model.init t)) file.sound.report.head file.text is in
           let here : (tree_at x.0 levels x.1 >>= λ y. Ok ((x.0, y.0), y.1)) ≡ Err due = rw is at cut in
           let stops : tree_at h levels x.1 ≡ Err due = ap (λ g. tree_at g levels x.1) (sym same.0) ∙ tree_fault (tree_at x.0 levels x.1) (λ y. ((x.0, y.0), y.1)) due here in
-          let ends = follow back told_nodes h file.sound.report.head tail t levels 0 h.asked.root (start x.1) [] file.sound.report.nodes file.sound.tree (zero_and levels) (same.1 ∙ sym (append-nil (concat (tree_lines h.from h.asked.model.init t)))) in
-          let stopped : TreeEnds h levels h.asked.root (start x.1) (Err (Text due)) = cut_short back told_nodes h file.sound.report.head tail (TreeEnds h levels h.asked.root (start x.1)) t (start x.1) [] (tree_at h levels x.1) due stops ends in
-          subst (λ g. HeadEnds g x.1 (Err (Text due))) (sym same.0) (inl (file.sound.admitted, (Err (Text due), stopped, refl)))
+          let ends = follow back told_nodes h file.sound.report.head tail t levels 0 h.asked.root (start h x.1) [] file.sound.report.nodes file.sound.tree (zero_and levels) (same.1 ∙ sym (append-nil (concat (tree_lines h.from h.asked.model.init t)))) in
+          let stopped : TreeEnds h levels h.asked.root (start h x.1) (Err (Text (told_fault due))) = cut_short back told_nodes h file.sound.report.head tail (TreeEnds h levels h.asked.root (start h x.1)) t (start h x.1) [] (tree_at h levels x.1) due stops ends in
+          subst (λ g. HeadEnds g x.1 (Err (Text (told_fault due)))) (sym same.0) (inl (file.sound.admitted, (Err (Text (told_fault due)), stopped, refl)))

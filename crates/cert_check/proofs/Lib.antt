@@ -6,3 +6,5 @@ mod Passing
 mod Holding
 mod Forms
 mod Steps
+mod Walking
+mod Sources

@@ -11,7 +11,7 @@ use Rattle.lift_model.specs.Model.{live}
 use Rattle.corner_lift.specs.Case.{greatest_depth}
 use Rattle.line_text.specs.Reading.{Cursor}
 use Rattle.line_text.specs.declared.error.TextError.{TextError}
-use Rattle.cert_text.specs.Head.{HeadData, head_at}
+use Rattle.cert_text.specs.Head.{HeadData, head_at, version}
 use Rattle.cert_text.specs.Nodes.{Node, split, accept, reject, unknown, node_at, node_lines}
 use Rattle.cert_text.specs.Report.{tree_lines}
 use Rattle.cert_text.specs.Forms.{IsHead, IsNode, IsTree}
@@ -37,11 +37,11 @@ module _ (told : ReadNodesAreTold) (h : HeadData) (head : IsHead h) where
     fit : IsTree h tree
     sound : IsSoundTree h.asked h.bound spans depth tree
     text : came.place.1 ≡ concat (tree_lines h.from h.asked.model.init tree) ++ next.place.1
-    met : next.leaves ≡ plus came.leaves (leaf_counts tree)
+    met : next.leaves ≡ plus came.leaves (leaf_counts (version h) tree)
 
   -- a leaf
   leaf : (depth : ℕ) (spans : Spans) (came next : Came) (t : Tree) (node : Node) (c : Cursor) (leaves : Summary) → node_at h came.place ≡ Ok (node, c) → tree_lines h.from h.asked.model.init t ≡ node_lines h.from h.asked.model.init node → (IsNode h node → IsTree h t)
-      → IsSoundTree h.asked h.bound spans depth t → next ≡ behind came c leaves → leaves ≡ plus came.leaves (leaf_counts t) → Passed depth spans came next
+      → IsSoundTree h.asked h.bound spans depth t → next ≡ behind came c leaves → leaves ≡ plus came.leaves (leaf_counts (version h) t) → Passed depth spans came next
   leaf depth spans came next t node c leaves read lines fits sound is met =
       let n = told h node came.place.0 c.0 came.place.1 c.1 head read in
       record {
@@ -73,19 +73,20 @@ module _ (told : ReadNodesAreTold) (h : HeadData) (head : IsHead h) where
             ∙ ap (λ l. concat own ++ (l ++ next.place.1)) (sym (concat-append a b))
             ∙ sym (append_assoc (concat own) (concat (a ++ b)) next.place.1)
             ∙ ap (λ l. l ++ next.place.1) (sym (concat-append own (a ++ b)));
-        met = leaves_are next.leaves (plus came.leaves (leaf_counts (splits axis one.tree other.tree)))
+        met = leaves_are next.leaves (plus came.leaves (leaf_counts (version h) (splits axis one.tree other.tree)))
             (omega (arith, ap (λ (s : Summary). s.accept) one.met, ap (λ (s : Summary). s.accept) other.met))
             (omega (arith, ap (λ (s : Summary). s.reject) one.met, ap (λ (s : Summary). s.reject) other.met))
-            (omega (arith, ap (λ (s : Summary). s.unknown) one.met, ap (λ (s : Summary). s.unknown) other.met));
+            (omega (arith, ap (λ (s : Summary). s.unknown) one.met, ap (λ (s : Summary). s.unknown) other.met))
+            (ap (λ (s : Summary). s.version) other.met ∙ ap (λ (s : Summary). s.version) one.met);
       }
 
   by_node : (levels depth : ℕ) (halves : Ending) → PassesBelow levels depth halves → depth + levels ≡ greatest_depth h.asked → (spans : Spans) (came next : Came) (node : Node) (c : Cursor) → node_at h came.place ≡ Ok (node, c)
       → NodeEnds h levels halves spans came node c (Ok next) → Passed depth spans came next
-  by_node levels depth halves below e spans came next (accept u x) c read (inl p) = leaf depth spans came next (accepts u x) (accept u x) c (one_accept came.leaves) read refl (λ f. f) p.0 (ok_is _ _ p.1) (leaves_are (one_accept came.leaves) (plus came.leaves (leaf_counts (accepts u x))) refl (omega arith) (omega arith))
+  by_node levels depth halves below e spans came next (accept u x) c read (inl p) = leaf depth spans came next (accepts u x) (accept u x) c (one_accept came.leaves) read refl (λ f. f) p.0 (ok_is _ _ p.1) (leaves_are (one_accept came.leaves) (plus came.leaves (leaf_counts (version h) (accepts u x))) refl (omega arith) (omega arith) refl)
   by_node levels depth halves below e spans came next (accept u x) c read (inr p) = absurd (ok_not_err _ _ p.2)
-  by_node levels depth halves below e spans came next (reject u r) c read (inl p) = leaf depth spans came next (rejects u r) (reject u r) c (one_reject came.leaves) read refl (λ f. f) p.0 (ok_is _ _ p.1) (leaves_are (one_reject came.leaves) (plus came.leaves (leaf_counts (rejects u r))) (omega arith) refl (omega arith))
+  by_node levels depth halves below e spans came next (reject u r) c read (inl p) = leaf depth spans came next (rejects u r) (reject u r) c (one_reject came.leaves) read refl (λ f. f) p.0 (ok_is _ _ p.1) (leaves_are (one_reject came.leaves) (plus came.leaves (leaf_counts (version h) (rejects u r))) (omega arith) refl (omega arith) refl)
   by_node levels depth halves below e spans came next (reject u r) c read (inr p) = absurd (ok_not_err _ _ p.2)
-  by_node zero depth halves below e spans came next unknown c read p = leaf depth spans came next unknowns unknown c (one_unknown came.leaves) read refl (λ f. f) (omega arith) (ok_is _ _ p) (leaves_are (one_unknown came.leaves) (plus came.leaves (leaf_counts unknowns)) (omega arith) (omega arith) refl)
+  by_node zero depth halves below e spans came next unknown c read p = leaf depth spans came next unknowns unknown c (one_unknown came.leaves) read refl (λ f. f) (omega arith) (ok_is _ _ p) (leaves_are (one_unknown came.leaves) (plus came.leaves (leaf_counts (version h) unknowns)) (omega arith) (omega arith) refl refl)
   by_node (suc levels) depth halves below e spans came next unknown c read p = absurd (ok_not_err _ _ p)
   by_node zero depth halves below e spans came next (split axis) c read p = absurd (ok_not_err _ _ p)
   by_node (suc levels) depth halves below e spans came next (split axis) c read (inr p) = absurd (ok_not_err _ _ p.1)
@@ -120,12 +121,12 @@ passing_sound heads told bytes leaves p = by_head (head_at (1, bytes)) refl p
     by_head (Ok (h, c)) is (inl (admitted, (Err f, first, goes))) = absurd (ok_not_err _ _ goes)
     by_head (Ok (h, c)) is (inl (admitted, (Ok next, first, goes))) =
         let t = heads h 1 c.0 bytes c.1 is in
-        let passed = tree_passes told h t.0 (greatest_depth h.asked) 0 (omega arith) h.asked.root (start c) next first in
+        let passed = tree_passes told h t.0 (greatest_depth h.asked) 0 (omega arith) h.asked.root (start h c) next first in
         let none = rest_none next.place.1 next.leaves leaves goes in
         record {
           head = h;
           tree = passed.tree;
           sound = record { report = record { head = t.0; nodes = passed.fit }; admitted = admitted; tree = passed.sound };
           text = t.1 ∙ ap (λ l. concat (told_lines h) ++ l) (passed.text ∙ ap (λ l. concat (tree_lines h.from h.asked.model.init passed.tree) ++ l) none.0 ∙ append-nil (concat (tree_lines h.from h.asked.model.init passed.tree)));
-          counts = none.1 ∙ passed.met ∙ none_and passed.tree;
+          counts = none.1 ∙ passed.met ∙ none_and (version h) passed.tree;
         }

@@ -1,56 +1,43 @@
 -- What the steps of a check say of the whole.
-use Rattle.std.proofs.Common.{◌≡◌, ◌≢◌, ℕ, ℤ, zero, suc, ◌+◌, ◌-◌, ◌<◌, ◌≤◌, List, [], ◌∷◌, ◌++◌, length, drop, Result, Ok, Err, IfErr, refl, sym, ap, ◌∙◌, subst, arith, length-drop, length-append, append-nil, inl, inr, None, Some}
-use Rattle.std.specs.Io.KnownBytes.{Consumes, IsAtEnd}
-use Rattle.std.specs.declared.option.Option.{Option}
-use Rattle.lift_base.specs.Outside.{TakenHas}
+use Rattle.std.proofs.Common.{◌≡◌, ℕ, ℤ, zero, suc, ◌+◌, ◌-◌, ◌<◌, ◌≤◌, ◌^◌, ◌==◌, Bool, true, false, List, [], ◌∷◌, ◌++◌, length, Vec, Option, Some, None, Result, Ok, Err, refl, sym, ap, ◌∙◌, subst, arith, inl, inr}
+use Rattle.std.specs.declared.alloc.Global.{Global}
+use Rattle.std.proofs.lemmas.Bool.{eqb-true}
 use Rattle.lift_grid.specs.Rectangle.{Spans}
 use Rattle.lift_grid.specs.Splitting.{IsHalvable, IsSplitAxis}
-use Rattle.lift_grid.specs.Tree.{lower_half, upper_half}
+use Rattle.lift_grid.specs.Tree.{RejectData, lower_half, upper_half}
 use Rattle.lift_grid.specs.Parts.{region_of}
 use Rattle.lift_grid.specs.declared.rect.Grid.{Grid}
+use Rattle.lift_base.specs.Lines.{LinesData, KeepsLimit}
+use Rattle.lift_base.specs.declared.pieces.LineError.{LineError}
+use Rattle.lift_base.specs.declared.pieces.LineError.TheVariants as why
 use Rattle.lift_model.specs.Model.{ModelData, live}
 use Rattle.corner_lift.specs.Case.{CaseData, IsCase, IsAdmitted, case_of, greatest_depth}
 use Rattle.lift_cert.specs.declared.bound.Bound.{Bound}
+use Rattle.lift_cert.specs.Certificate.{IsAccepting, IsRejecting}
 use Rattle.lift_cert.specs.Miss.{IsFirstAcceptMiss}
+use Rattle.lift_cert.specs.declared.miss.Miss.{Miss}
+use Rattle.lift_cert.specs.RejectMiss.{IsFirstRejectMiss}
 use Rattle.lift_rows.specs.Fault.{IsFirstFault}
 use Rattle.lift_rows.specs.declared.error.RowError.{RowError}
 use Rattle.line_text.specs.Reading.{Cursor}
-use Rattle.line_text.specs.declared.cursor.Place.{Place}
-use Rattle.cert_text.specs.Head.{HeadData, case_at}
+use Rattle.line_text.specs.declared.error.TextError.{TextError}
+use Rattle.line_text.specs.Follow.{Follows, Ran, SeesEnd, place, told_fault}
+use Rattle.line_text.specs.Laws.{AddsUp}
+use Rattle.cert_text.specs.Head.{HeadData, case_at, head_at, version}
+use Rattle.cert_text.specs.Leaf.{node_of}
 use Rattle.cert_text.specs.Nodes.{Node, split, accept, reject, unknown, node_at, node_lines}
-use Rattle.cert_text.specs.Forms.{IsHead}
-use Rattle.cert_text.specs.Laws.{ReadNodesAreTold}
-use Rattle.cert_check.specs.Answer.{Came, Answer, Answers, Then, ReadEnds, HalfEnds, TreeEnds, RestEnds, HeadEnds, start, behind, no_leaves, one_accept, one_reject, rest_of}
-use Rattle.cert_check.specs.Laws.{AnswersAreOne, PassingFilesAreSound, SoundFilesPass, SoundReportsHold}
-use Rattle.cert_check.specs.Trust.{IsTrusted}
-use Rattle.cert_check.specs.Source.{AnswersTold, ChecksSource, KeepsLimit, WasRead, file_limit}
-use Rattle.cert_check.specs.Shown.{Says, Misses, IsIn, IsPlaced, HalvesArePlaced, IsToldOfFile, came_of}
-use Rattle.cert_check.specs.declared.came.Came.{Came as Held}
+use Rattle.cert_text.specs.declared.node_reader.Node.{Node as Given}
+use Rattle.cert_text.specs.Forms.{IsHead, IsNode}
+use Rattle.cert_text.specs.Laws.{ReadHeadsAreTold, ReadNodesAreTold, told_lines}
+use Rattle.cert_check.specs.Answer.{Came, Answer, Then, ReadEnds, HalfEnds, TreeEnds, RestEnds, HeadEnds, FileEnds, rest_of, start, behind, no_leaves, one_accept, one_reject, one_unknown}
+use Rattle.cert_check.specs.Shown.{Checks, IsPlaced, IsSplitTold, IsUnderWay, HalvesArePlaced, Misses, came_of, failure_of, told_line}
+use Rattle.cert_check.specs.declared.walk.Walk.{Walk}
 use Rattle.cert_check.specs.declared.summary.Summary.{Summary}
 use Rattle.cert_check.specs.declared.error.CheckError.{CheckError}
-use Rattle.cert_check.specs.declared.error.CheckError.TheVariants.{Text, Rows, Missed, Depth, Axis, Rest, Fault, TooLong, Memory}
+use Rattle.cert_check.specs.declared.error.CheckError.TheVariants.{Text, Rows, Depth, Rest}
+use Rattle.cert_check.proofs.Walking.{SoFar, answered, begin, checked, faulted, goes_by, unchecked}
 
--- ---- answers
-
--- what may be answered may be answered for another reason
-pub says_as : {X Y : Type 0} (view : X → Y) (may might : Answer Y → Type 0) (result : Result X CheckError) → ((a : Answer Y) → may a → might a) → Says view may result → Says view might result
-says_as view may might (Ok x) how h = how (Ok (view x)) h
-says_as view may might (Err e) how h = λ some. how (Err e) (h some)
-
--- a fault is handed on
-pub says_err : {X Y : Type 0} (view : X → Y) (may : Answer Y → Type 0) (result : Result X CheckError) (e : CheckError) → result ≡ Err e → (e ≢ Memory → may (Err e)) → Says view may result
-says_err view may result e is h = subst (λ r. Says view may r) (sym is) h
-
--- ---- behind the last node
-
-some_rest : (bytes : List ℕ) (leaves : Summary) → 0 < length bytes → ◌≡◌ {A = Answer Summary} (Err Rest) (rest_of bytes leaves)
-some_rest [] leaves h = absurd (omega (arith, h))
-some_rest (b ∷ bytes) leaves h = refl
-
-pub more_follows : (text : List ℕ) (at : ℕ) (leaves : Summary) → at < length text → ◌≡◌ {A = Answer Summary} (Err Rest) (rest_of (drop at text) leaves)
-more_follows text at leaves h = some_rest (drop at text) leaves (let size = length-drop at text in omega (arith, size, h))
-
--- ---- a node
+-- ---- lines
 
 -- each node has a line
 some_line : (from : Option ℕ) (init : ℕ) (node : Node) → 0 < length (node_lines from init node)
@@ -61,35 +48,155 @@ some_line (Some v) init (accept u x) = omega arith
 some_line (Some v) init (reject u r) = omega arith
 some_line from init unknown = omega arith
 
-pub later : ReadNodesAreTold → (h : HeadData) (node : Node) (n m : ℕ) (text rest : List ℕ) → IsHead h → node_at h (n, text) ≡ Ok (node, (m, rest)) → n < m
-later told h node n m text rest head read =
-    let t = told h node n m text rest head read in
-    let some = some_line h.from h.asked.model.init node in
-    let m_is = t.2 in
-    omega (arith, some, m_is)
+-- a line was given for a node
+pub node_given : {S : Type 0} {left : S → Option (List ℕ)} {faults : S → ℕ} → ReadNodesAreTold → (h : HeadData) → IsHead h → {a b : LinesData} {s t : S} {node : Given} → Follows left faults node_of (node_at h) a b s t (Ok node) → a.given < b.given
+node_given told h head {a} {b} {node = node} f =
+    let t = told h (node_of node) (a.given + 1) (b.given + 1) (a.held ++ (f.bytes ++ [])) (b.held ++ []) head (f.agrees [] (λ _. refl)) in
+    let some = some_line h.from h.asked.model.init (node_of node) in
+    let is = t.2 in
+    omega (arith, some, is)
+
+-- a node that was read is one of the report
+pub node_fits : {S : Type 0} {left : S → Option (List ℕ)} {faults : S → ℕ} → ReadNodesAreTold → (h : HeadData) → IsHead h → (node : Node) {a b : LinesData} {s t : S} {given : Given} → node_of given ≡ node → Follows left faults node_of (node_at h) a b s t (Ok given) → IsNode h node
+node_fits told h head node {a} {b} {given = given} is f =
+    let t = told h (node_of given) (a.given + 1) (b.given + 1) (a.held ++ (f.bytes ++ [])) (b.held ++ []) head (f.agrees [] (λ _. refl)) in
+    subst (λ (n : Node). IsNode h n) is t.0
+
+-- two lines were given for a head
+pub head_given : {S : Type 0} {left : S → Option (List ℕ)} {faults : S → ℕ} → ReadHeadsAreTold → {a b : LinesData} {s t : S} {h : HeadData} → Follows left faults (λ (h : HeadData). h) head_at a b s t (Ok h) → 2 ≤ b.given
+head_given told {a} {b} {h = h} f =
+    let t = told h (a.given + 1) (b.given + 1) (a.held ++ (f.bytes ++ [])) (b.held ++ []) (f.agrees [] (λ _. refl)) in
+    let some : 2 ≤ length (told_lines h) = many h in
+    let is = t.2 in
+    omega (arith, some, is)
+  where
+    many : (h : HeadData) → 2 ≤ length (told_lines h)
+    many h = omega arith
+
+-- no more lines than bytes were given, so that the number of a node is small
+pub few_given : (w : Walk) (l : LinesData) → IsUnderWay w → w.lines.given < l.given → l.failure ≡ None → l.given + length l.held ≤ l.taken → KeepsLimit l.failure l.limit l.taken → l.limit ≤ 2 ^ 32 → w.node + 1 < 2 ^ 32
+few_given w l way more none counted keeps small =
+    let few : l.taken ≤ l.limit = subst (λ f. KeepsLimit f l.limit l.taken) none keeps in
+    let nodes = way.nodes in
+    omega (arith, more, counted, few, small, nodes)
+
+-- so is the number of leaves of each kind
+pub few_met : (w : Walk) → IsUnderWay w → w.node + 1 < 2 ^ 32 → (w.leaves.accept + 1 < 2 ^ 32) × (w.leaves.reject + 1 < 2 ^ 32) × (w.leaves.unknown + 1 < 2 ^ 32)
+few_met w way few = let met = way.leaves in (omega (arith, few, met), omega (arith, few, met), omega (arith, few, met))
 
 -- where the code stands behind a node
-pub in_behind : (text : List ℕ) (came next : Held) (place : Place) → IsIn text came → came.place.number < place.number → place.at ≤ length text → place.number ≤ place.at + 1 → next.node ≡ came.node + 1 → next.place ≡ place
-    → next.leaves.accept + next.leaves.reject + next.leaves.unknown ≤ came.leaves.accept + came.leaves.reject + came.leaves.unknown + 1 → IsIn text next
-in_behind text came next place h past at lines node is met =
-    let a : next.place.at ≡ place.at = ap (λ (p : Place). p.at) is in
-    let n : next.place.number ≡ place.number = ap (λ (p : Place). p.number) is in
-    record { at = omega (arith, a, at); lines = omega (arith, a, n, lines); nodes = omega (arith, n, node, past, h.nodes); leaves = omega (arith, node, met, h.leaves) }
+pub way_behind : (w x : Walk) (l : LinesData) (ws : Vec ℤ Global) (leaves : Summary) → IsUnderWay w → w.lines.given < l.given → l.failure ≡ None → x ≡ record { lines = l; node = w.node + 1; leaves = leaves; weights = ws }
+    → leaves.accept + leaves.reject + leaves.unknown ≤ w.leaves.accept + w.leaves.reject + w.leaves.unknown + 1 → IsUnderWay x
+way_behind w x l ws leaves way more none is met =
+    let y : Walk = record { lines = l; node = w.node + 1; leaves = leaves; weights = ws } in
+    let nodes = way.nodes in
+    let counted = way.leaves in
+    subst (λ (x : Walk). IsUnderWay x) (sym is) (record { clean = none; nodes = omega (arith, nodes, more); leaves = omega (arith, counted, met) })
 
-pub met_same : (a b : Summary) → a ≡ b → a.accept + a.reject + a.unknown ≤ b.accept + b.reject + b.unknown + 1
-met_same a b e = let x = ap (λ (l : Summary). l.accept) e in let y = ap (λ (l : Summary). l.reject) e in let z = ap (λ (l : Summary). l.unknown) e in omega (arith, x, y, z)
+-- ---- a node
 
-pub met_accept : (a b : Summary) → a ≡ one_accept b → a.accept + a.reject + a.unknown ≤ b.accept + b.reject + b.unknown + 1
-met_accept a b e = let x = ap (λ (l : Summary). l.accept) e in let y = ap (λ (l : Summary). l.reject) e in let z = ap (λ (l : Summary). l.unknown) e in omega (arith, x, y, z)
+-- what the nodes of a rectangle may come to behind a walk, where these bytes follow
+abbrev pub Whole : HeadData → ℕ → Spans → Walk → List ℕ → Answer Came → Type 0
+Whole h levels spans w later = TreeEnds h levels spans (came_of w later)
 
-pub met_reject : (a b : Summary) → a ≡ one_reject b → a.accept + a.reject + a.unknown ≤ b.accept + b.reject + b.unknown + 1
-met_reject a b e = let x = ap (λ (l : Summary). l.accept) e in let y = ap (λ (l : Summary). l.reject) e in let z = ap (λ (l : Summary). l.unknown) e in omega (arith, x, y, z)
+-- no node is read
+pub not_read : (h : HeadData) (levels : ℕ) (spans : Spans) (w : Walk) (rest : List ℕ) (f : TextError) → node_at h (place w.lines rest) ≡ Err f → Whole h levels spans w rest (Err (Text (told_fault f)))
+not_read h levels spans w rest f bad = subst (λ r. ReadEnds h levels (HalfEnds h levels) spans (came_of w rest) r (Err (Text (told_fault f)))) (sym bad) refl
 
-pub came_behind : (text : List ℕ) (came next : Held) (place : Place) (leaves : Summary) → next.node ≡ came.node + 1 → next.place ≡ place → next.leaves ≡ leaves → came_of text next ≡ behind (came_of text came) (place.number, drop place.at text) leaves
-came_behind text came next place leaves e f g = λ i. record { node = e i; place = ((f i).number, drop (f i).at text); leaves = g i }
+-- a miss is no failure of the lines
+pub missed_calm : (node : ℕ) (IsFirst : Miss → Type 0) (e : CheckError) → Misses node IsFirst e → failure_of {X = Unit {0}} (Err e) ≡ None
+missed_calm node IsFirst e missed = ap (λ (d : CheckError). failure_of {X = Unit {0}} (Err d)) missed.2
 
-pub came_start : (text : List ℕ) (next : Held) (place : Place) → next.node ≡ 0 → next.place ≡ place → next.leaves ≡ no_leaves → came_of text next ≡ start (place.number, drop place.at text)
-came_start text next place e f g = λ i. record { node = e i; place = ((f i).number, drop (f i).at text); leaves = g i }
+-- nor is a depth
+pub depth_calm : (node : ℕ) (e : CheckError) → e ≡ Depth node → failure_of {X = Unit {0}} (Err e) ≡ None
+depth_calm node e told = ap (λ (d : CheckError). failure_of {X = Unit {0}} (Err d)) told
+
+-- nor is what is wrong with a split
+pub split_calm : (live levels : ℕ) (spans : Spans) (node axis : ℕ) (e : CheckError) → IsSplitTold live levels spans node axis e → failure_of {X = Unit {0}} (Err e) ≡ None
+split_calm live zero spans node axis e told = ap (λ (d : CheckError). failure_of {X = Unit {0}} (Err d)) told
+split_calm live (suc levels) spans node axis e told = ap (λ (d : CheckError). failure_of {X = Unit {0}} (Err d)) told.1
+
+module _ {S : Type 0} {left : S → Option (List ℕ)} {faults : S → ℕ} (adds : AddsUp left faults) (h : HeadData) (levels : ℕ) (spans : Spans) (w : Walk) {l : LinesData} {s t : S} where
+  -- a node was read
+  pub node_read : {given : Given} (node : Node) → node_of given ≡ node → Follows left faults node_of (node_at h) w.lines l s t (Ok given) → (next : List ℕ → Answer Came → Type 0)
+      → ((rest later : List ℕ) → node_at h (place w.lines rest) ≡ Ok (node, place l later) → (answer : Answer Came) → next later answer → Whole h levels spans w rest answer)
+      → SoFar left faults (Whole h levels spans w) next w.lines l s t
+  node_read node is f next how =
+      goes_by adds next f.bytes (begin adds (Whole h levels spans w) w.lines s) f.ran (λ later may answer go. how (f.bytes ++ later) later (f.agrees later may ∙ ap (λ (n : Node). Ok (n, place l later)) is) answer go)
+
+  -- a leaf was counted
+  pub leaf_passed : (x : Walk) (ws : Vec ℤ Global) (leaves : Summary) → x ≡ record { lines = l; node = w.node + 1; leaves = leaves; weights = ws } → l.failure ≡ None
+      → SoFar left faults (Whole h levels spans w) (λ later answer. answer ≡ Ok (record { node = w.node + 1; place = place l later; leaves = leaves })) w.lines l s t
+      → Checks {X = Unit {0}} left faults w.lines x.lines s t (λ later _. came_of x later) (Whole h levels spans w) (Ok tt)
+  leaf_passed x ws leaves is none so =
+      subst (λ (x : Walk). Checks {X = Unit {0}} left faults w.lines x.lines s t (λ later _. came_of x later) (Whole h levels spans w) (Ok tt)) (sym is)
+      (answered adds (λ later _. record { node = w.node + 1; place = place l later; leaves = leaves }) tt none so (λ later. refl))
+
+  -- a node's fault is told
+  pub node_faulted : (view : List ℕ → Unit {0} → Came) (e : CheckError) (r : Result (Unit {0}) CheckError) → r ≡ Err e → l.failure ≡ None → failure_of {X = Unit {0}} (Err e) ≡ None → SoFar left faults (Whole h levels spans w) (λ later answer. answer ≡ Err e) w.lines l s t
+      → Checks {X = Unit {0}} left faults w.lines l s t view (Whole h levels spans w) r
+  node_faulted view e r same none calm so = faulted adds view e r same none calm so (λ _ later. refl)
+
+-- what is answered of a node that was read
+module _ (h : HeadData) (levels : ℕ) (spans : Spans) (came : Came) (c : Cursor) where
+  by_node : (node : Node) (answer : Answer Came) → node_at h came.place ≡ Ok (node, c) → ReadEnds h levels (HalfEnds h levels) spans came (Ok (node, c)) answer → TreeEnds h levels spans came answer
+  by_node node answer read ends = subst (λ r. ReadEnds h levels (HalfEnds h levels) spans came r answer) (sym read) ends
+
+  -- a miss of an accepting leaf's certificate
+  pub accept_missed : (u : ℕ) (x : List ℤ) (k : CaseData) (bound : Bound) (e : CheckError) → node_at h came.place ≡ Ok (accept u x, c) → k ≡ case_at u h.asked → bound ≡ h.bound
+      → Misses came.node (IsFirstAcceptMiss k spans bound x) e → TreeEnds h levels spans came (Err e)
+  accept_missed u x k bound e read asked_is bound_is missed =
+      let asked : IsFirstAcceptMiss (case_at u h.asked) spans bound x missed.0 = subst (λ (j : CaseData). IsFirstAcceptMiss j spans bound x missed.0) asked_is missed.1 in
+      let first : IsFirstAcceptMiss (case_at u h.asked) spans h.bound x missed.0 = subst (λ (b : Bound). IsFirstAcceptMiss (case_at u h.asked) spans b x missed.0) bound_is asked in
+      by_node (accept u x) (Err e) read (inr (missed.0, first, ap (λ d. Err d) missed.2))
+
+  -- a miss of a rejecting one's
+  pub reject_missed : (u : ℕ) (r : RejectData) (k : CaseData) (bound : Bound) (e : CheckError) → node_at h came.place ≡ Ok (reject u r, c) → k ≡ case_at u h.asked → bound ≡ h.bound
+      → Misses came.node (IsFirstRejectMiss k spans bound r) e → TreeEnds h levels spans came (Err e)
+  reject_missed u r k bound e read asked_is bound_is missed =
+      let asked : IsFirstRejectMiss (case_at u h.asked) spans bound r missed.0 = subst (λ (j : CaseData). IsFirstRejectMiss j spans bound r missed.0) asked_is missed.1 in
+      let first : IsFirstRejectMiss (case_at u h.asked) spans h.bound r missed.0 = subst (λ (b : Bound). IsFirstRejectMiss (case_at u h.asked) spans b r missed.0) bound_is asked in
+      by_node (reject u r) (Err e) read (inr (missed.0, first, ap (λ d. Err d) missed.2))
+
+  -- a certificate that holds
+  pub accept_holds : (u : ℕ) (x : List ℤ) (k : CaseData) (bound : Bound) (answer : Answer Came) → node_at h came.place ≡ Ok (accept u x, c) → k ≡ case_at u h.asked → bound ≡ h.bound
+      → IsAccepting k spans bound x → answer ≡ Ok (behind came c (one_accept came.leaves)) → TreeEnds h levels spans came answer
+  accept_holds u x k bound answer read asked_is bound_is holds is =
+      by_node (accept u x) answer read (inl (subst (λ (b : Bound). IsAccepting (case_at u h.asked) spans b x) bound_is (subst (λ (j : CaseData). IsAccepting j spans bound x) asked_is holds), is))
+
+  pub reject_holds : (u : ℕ) (r : RejectData) (k : CaseData) (bound : Bound) (answer : Answer Came) → node_at h came.place ≡ Ok (reject u r, c) → k ≡ case_at u h.asked → bound ≡ h.bound
+      → IsRejecting k spans bound r → answer ≡ Ok (behind came c (one_reject came.leaves)) → TreeEnds h levels spans came answer
+  reject_holds u r k bound answer read asked_is bound_is holds is =
+      by_node (reject u r) answer read (inl (subst (λ (b : Bound). IsRejecting (case_at u h.asked) spans b r) bound_is (subst (λ (j : CaseData). IsRejecting j spans bound r) asked_is holds), is))
+
+-- an unknown leaf where no halving is left
+pub unknown_stands : (h : HeadData) (levels : ℕ) (spans : Spans) (came : Came) (c : Cursor) (answer : Answer Came) → node_at h came.place ≡ Ok (unknown, c) → levels ≡ 0 → answer ≡ Ok (behind came c (one_unknown came.leaves)) → TreeEnds h levels spans came answer
+unknown_stands h zero spans came c answer read none is = by_node h zero spans came c unknown answer read is
+unknown_stands h (suc levels) spans came c answer read none is = absurd (omega (arith, none))
+
+-- and where one is
+pub unknown_deep : (h : HeadData) (levels : ℕ) (spans : Spans) (came : Came) (c : Cursor) (e : CheckError) → node_at h came.place ≡ Ok (unknown, c) → 0 < levels → e ≡ Depth came.node → TreeEnds h levels spans came (Err e)
+unknown_deep h zero spans came c e read some is = absurd (omega (arith, some))
+unknown_deep h (suc levels) spans came c e read some is = by_node h (suc levels) spans came c unknown (Err e) read (ap (λ (d : CheckError). Err d) is)
+
+-- a split that may not stand there
+pub split_told : (h : HeadData) (levels : ℕ) (spans : Spans) (came : Came) (c : Cursor) (axis : ℕ) (k : CaseData) (e : CheckError) → node_at h came.place ≡ Ok (split axis, c) → k ≡ h.asked → IsSplitTold (live k.model) levels spans came.node axis e → TreeEnds h levels spans came (Err e)
+split_told h zero spans came c axis k e read same told = by_node h zero spans came c (split axis) (Err e) read (ap (λ (d : CheckError). Err d) told)
+split_told h (suc levels) spans came c axis k e read same told =
+    let not : IsSplitAxis (live h.asked.model) spans axis → ⊥ = subst (λ (j : CaseData). IsSplitAxis (live j.model) spans axis → ⊥) same told.0 in
+    by_node h (suc levels) spans came c (split axis) (Err e) read (inr (not, ap (λ (d : CheckError). Err d) told.1))
+
+pub met_same : (a : Summary) → a.accept + a.reject + a.unknown ≤ a.accept + a.reject + a.unknown + 1
+met_same a = omega arith
+
+pub met_accept : (b a : Summary) → a ≡ one_accept b → a.accept + a.reject + a.unknown ≤ b.accept + b.reject + b.unknown + 1
+met_accept b a e = let x = ap (λ (l : Summary). l.accept) e in let y = ap (λ (l : Summary). l.reject) e in let z = ap (λ (l : Summary). l.unknown) e in omega (arith, x, y, z)
+
+pub met_reject : (b a : Summary) → a ≡ one_reject b → a.accept + a.reject + a.unknown ≤ b.accept + b.reject + b.unknown + 1
+met_reject b a e = let x = ap (λ (l : Summary). l.accept) e in let y = ap (λ (l : Summary). l.reject) e in let z = ap (λ (l : Summary). l.unknown) e in omega (arith, x, y, z)
+
+pub met_unknown : (b a : Summary) → a ≡ one_unknown b → a.accept + a.reject + a.unknown ≤ b.accept + b.reject + b.unknown + 1
+met_unknown b a e = let x = ap (λ (l : Summary). l.accept) e in let y = ap (λ (l : Summary). l.reject) e in let z = ap (λ (l : Summary). l.unknown) e in omega (arith, x, y, z)
 
 -- ---- a split
 
@@ -116,13 +223,63 @@ split_then h (suc levels) axis spans came c answer read some axis_is t =
     subst (λ n. Then (TreeEnds h n (lower_half axis spans) (behind came c came.leaves)) (TreeEnds h n (upper_half axis spans)) answer) less t in
     subst (λ r. ReadEnds h (suc levels) (HalfEnds h (suc levels)) spans came r answer) (sym read) (inl (axis_is, both))
 
--- a miss of an accepting leaf's certificate is what the rectangle comes to
-pub accept_missed : (h : HeadData) (levels : ℕ) (spans : Spans) (came : Came) (u : ℕ) (x : List ℤ) (c : Cursor) (k : CaseData) (bound : Bound) (e : CheckError) → node_at h came.place ≡ Ok (accept u x, c) → k ≡ case_at u h.asked → bound ≡ h.bound
-    → Misses came.node (IsFirstAcceptMiss k spans bound x) e → TreeEnds h levels spans came (Err e)
-accept_missed h levels spans came u x c k bound e read asked_is bound_is missed =
-    let asked : IsFirstAcceptMiss (case_at u h.asked) spans bound x missed.0 = subst (λ (j : CaseData). IsFirstAcceptMiss j spans bound x missed.0) asked_is missed.1 in
-    let first : IsFirstAcceptMiss (case_at u h.asked) spans h.bound x missed.0 = subst (λ (b : Bound). IsFirstAcceptMiss (case_at u h.asked) spans b x missed.0) bound_is asked in
-    subst (λ r. ReadEnds h levels (HalfEnds h levels) spans came r (Err e)) (sym read) (inr (missed.0, first, ap (λ d. Err d) missed.2))
+-- what both halves may come to
+abbrev pub Halves : HeadData → ℕ → Spans → ℕ → Walk → List ℕ → Answer Came → Type 0
+Halves h levels spans axis x later = Then (TreeEnds h (levels - 1) (lower_half axis spans) (came_of x later)) (TreeEnds h (levels - 1) (upper_half axis spans))
+
+module _ {S : Type 0} {left : S → Option (List ℕ)} {faults : S → ℕ} (adds : AddsUp left faults) (h : HeadData) (levels axis : ℕ) (spans : Spans) (w x : Walk) {s t : S} where
+  -- a split that may stand there was read and counted
+  pub halves_begin : {l : LinesData} {given : Given} (ws : Vec ℤ Global) → x ≡ record { lines = l; node = w.node + 1; leaves = w.leaves; weights = ws } → node_of given ≡ split axis → Follows left faults node_of (node_at h) w.lines l s t (Ok given)
+      → 0 < levels → IsSplitAxis (live h.asked.model) spans axis → SoFar left faults (Whole h levels spans w) (Halves h levels spans axis x) w.lines x.lines s t
+  halves_begin {l} ws is node f some axis_is =
+      subst (λ (x : Walk). SoFar left faults (Whole h levels spans w) (Halves h levels spans axis x) w.lines x.lines s t) (sym is)
+      (node_read adds h levels spans w (split axis) node f (Halves h levels spans axis (record { lines = l; node = w.node + 1; leaves = w.leaves; weights = ws }))
+      (λ rest later read answer both. split_then h levels axis spans (came_of w rest) (place l later) answer read some axis_is both))
+
+  module _ {m : LinesData} {u : S} (so : SoFar left faults (Whole h levels spans w) (Halves h levels spans axis x) w.lines x.lines s t) (ss : Spans) (lower : ss ≡ lower_half axis spans) where
+    -- the lower half has a fault
+    pub lower_fails : (see view : List ℕ → Unit {0} → Came) (e : CheckError) (r : Result (Unit {0}) CheckError) → r ≡ Err e → Checks left faults x.lines m t u see (λ later. TreeEnds h (levels - 1) ss (came_of x later)) (Err e) → Checks left faults w.lines m s u view (Whole h levels spans w) r
+    lower_fails see view e r same f = unchecked adds so view e r same (λ l bad. (Err e, subst (λ z. TreeEnds h (levels - 1) z (came_of x l) (Err e)) lower bad, refl)) f
+
+    -- the lower half was passed
+    pub lower_passed : (y : Walk) → Checks {X = Unit {0}} left faults x.lines m t u (λ later _. came_of y later) (λ later. TreeEnds h (levels - 1) ss (came_of x later)) (Ok tt) → SoFar left faults (Whole h levels spans w) (λ later. TreeEnds h (levels - 1) (upper_half axis spans) (came_of y later)) w.lines m s u
+    lower_passed y f =
+        checked adds so tt (λ later. TreeEnds h (levels - 1) (upper_half axis spans) (came_of y later)) (λ l later first answer second. (Ok (came_of y later), subst (λ z. TreeEnds h (levels - 1) z (came_of x l) (Ok (came_of y later))) lower first, second)) f
+
+-- ---- behind the last node
+
+none_left : (bytes : List ℕ) (leaves : Summary) → (length bytes == 0) ≡ true → rest_of bytes leaves ≡ Ok leaves
+none_left [] leaves is = refl
+none_left (b ∷ bytes) leaves is = absurd (let none : suc (length bytes) ≡ 0 = eqb-true (suc (length bytes)) 0 is in omega (arith, none))
+
+some_left : (bytes : List ℕ) (leaves : Summary) → (length bytes == 0) ≡ false → rest_of bytes leaves ≡ Err Rest
+some_left [] leaves is = absurd cc
+some_left (b ∷ bytes) leaves is = refl
+
+module _ {S : Type 0} {left : S → Option (List ℕ)} {faults : S → ℕ} {a b : LinesData} {s t : S} (leaves : Summary) where
+  -- nothing follows
+  pub rest_ended : (none : Bool) → none ≡ true → SeesEnd left faults a b s t none → Checks left faults a b s t (λ _ x. x) (λ later answer. answer ≡ rest_of (a.held ++ later) leaves) (Ok leaves)
+  rest_ended none is d = record {
+    bytes = d.bytes;
+    ran = d.ran;
+    agrees = λ later may. sym (ap (λ (p : Cursor). rest_of p.1 leaves) (d.same later) ∙ none_left (b.held ++ later) leaves (d.rest later may ∙ is));
+  }
+
+  -- something follows
+  pub rest_goes_on : (none : Bool) → none ≡ false → SeesEnd left faults a b s t none → Checks left faults a b s t (λ _ x. x) (λ later answer. answer ≡ rest_of (a.held ++ later) leaves) (Err Rest)
+  rest_goes_on none is d = record {
+    bytes = d.bytes;
+    ran = d.ran;
+    agrees = λ _ later may. sym (ap (λ (p : Cursor). rest_of p.1 leaves) (d.same later) ∙ some_left (b.held ++ later) leaves (d.rest later may ∙ is));
+  }
+
+  by_error : (e : LineError) (bytes : List ℕ) → Ran left faults a b s t bytes (Some e) → Checks left faults a b s t (λ _ x. x) (λ later answer. answer ≡ rest_of (a.held ++ later) leaves) (Err (told_line e))
+  by_error why.Fault bytes ran = record { bytes = bytes; ran = ran; agrees = λ bad. absurd bad }
+  by_error why.TooLong bytes ran = record { bytes = bytes; ran = ran; agrees = λ bad. absurd bad }
+
+  -- the source fails
+  pub rest_fails : (e : LineError) (r : Answer Summary) → r ≡ Err (told_line e) → (bytes : List ℕ) × Ran left faults a b s t bytes (Some e) → Checks left faults a b s t (λ _ x. x) (λ later answer. answer ≡ rest_of (a.held ++ later) leaves) r
+  rest_fails e r same (bytes, ran) = subst (λ (r : Answer Summary). Checks left faults a b s t (λ _ x. x) (λ later answer. answer ≡ rest_of (a.held ++ later) leaves) r) (sym same) (by_error e bytes ran)
 
 -- ---- a head
 
@@ -134,76 +291,38 @@ pub fault_ends : (h : HeadData) (c : Cursor) (k : CaseData) (e : RowError) → k
 fault_ends h c k e same f = inr (e, subst (λ a. IsFirstFault a e) same f, refl)
 
 -- what the nodes come to is what the head comes to
-pub nodes_end : (h : HeadData) (c : Cursor) (k : CaseData) (came : Came) (spans : Spans) (answer : Answer Summary) → k ≡ h.asked → IsAdmitted k → came ≡ start c → spans ≡ h.asked.root
-    → Then (TreeEnds h (greatest_depth k) spans came) RestEnds answer → HeadEnds h c answer
-nodes_end h c k came spans answer same admitted begins root t =
-    inl (
-      subst IsAdmitted same admitted,
-      subst (λ a. Then (TreeEnds h (greatest_depth a) h.asked.root (start c)) RestEnds answer) same
-          (subst (λ ss. Then (TreeEnds h (greatest_depth k) ss (start c)) RestEnds answer) root
-          (subst (λ d. Then (TreeEnds h (greatest_depth k) spans d) RestEnds answer) begins t)),
-    )
+pub head_nodes : (h : HeadData) (c : Cursor) (k : CaseData) (answer : Answer Summary) → k ≡ h.asked → IsAdmitted k → Then (TreeEnds h (greatest_depth h.asked) h.asked.root (start h c)) RestEnds answer → HeadEnds h c answer
+head_nodes h c k answer same admitted t = inl (subst IsAdmitted same admitted, t)
 
--- ---- a source
+-- a head that isn't read
+pub head_not_read : (a : LinesData) (later : List ℕ) (f : TextError) → head_at (place a later) ≡ Err f → FileEnds (head_at (place a later)) (Err (Text (told_fault f)))
+head_not_read a later f bad = subst (λ r. FileEnds r (Err (Text (told_fault f)))) (sym bad) refl
 
-module _ {S : Type 0} (left : S → Option (List ℕ)) (faults : S → ℕ) (old new : S) (pass : SoundFilesPass) (sound : PassingFilesAreSound) (holds : SoundReportsHold) (bytes : List ℕ) (consumed : Consumes (left old) (left new) bytes) (ended : IsAtEnd (left new)) (small : length bytes ≤ file_limit) where
-  was_read : (P : List ℕ → Type 0) → P bytes → WasRead P (left old) (left new)
-  was_read P p = record { bytes = bytes; consumed = consumed; ended = ended; small = small; has = p }
+-- a head that is read
+pub head_read : {S : Type 0} {left : S → Option (List ℕ)} {faults : S → ℕ} → AddsUp left faults → {a b : LinesData} {s t : S} {h : HeadData} → Follows left faults (λ (h : HeadData). h) head_at a b s t (Ok h)
+    → SoFar left faults (λ later. FileEnds (head_at (place a later))) (λ later. HeadEnds h (place b later)) a b s t
+head_read adds {a} {b} {s} {h = h} f =
+    goes_by adds (λ later. HeadEnds h (place b later)) f.bytes (begin adds (λ later. FileEnds (head_at (place a later))) a s) f.ran (λ later may answer ends. subst (λ r. FileEnds r answer) (sym (f.agrees later may)) ends)
 
-  trusted : (leaves : Summary) → Answers bytes (Ok leaves) → IsTrusted bytes leaves
-  trusted leaves h = let file = sound bytes leaves h in record { file = file; holds = holds file.head file.tree file.sound }
+-- where nodes begin
+pub came_start : (h : HeadData) (w : Walk) (a : LinesData) (later : List ℕ) → w.lines ≡ a → w.node ≡ 0 → w.leaves ≡ no_leaves (version h) → came_of w later ≡ start h (place a later)
+came_start h w a later e f g = λ i. record { node = f i; place = place (e i) later; leaves = g i }
 
-  pub source_checked : (result : Answer Summary) → Says (λ s. s) (Answers bytes) result → ((e : CheckError) → result ≡ Err e → IsToldOfFile e) → ChecksSource left faults old new result
-  source_checked (Ok leaves) h told = was_read (λ b. IsTrusted b leaves) (trusted leaves h)
-  source_checked (Err Fault) h told = absurd (told Fault refl)
-  source_checked (Err TooLong) h told = absurd (told TooLong refl)
-  source_checked (Err Memory) h told = tt
-  source_checked (Err (Text e)) h told = was_read (λ b. Answers b (Err (Text e))) (h (λ is. absurd cc))
-  source_checked (Err (Rows e)) h told = was_read (λ b. Answers b (Err (Rows e))) (h (λ is. absurd cc))
-  source_checked (Err (Missed node miss)) h told = was_read (λ b. Answers b (Err (Missed node miss))) (h (λ is. absurd cc))
-  source_checked (Err (Depth node)) h told = was_read (λ b. Answers b (Err (Depth node))) (h (λ is. absurd cc))
-  source_checked (Err (Axis node)) h told = was_read (λ b. Answers b (Err (Axis node))) (h (λ is. absurd cc))
-  source_checked (Err Rest) h told = was_read (λ b. Answers b (Err Rest)) (h (λ is. absurd cc))
+-- what the nodes behind a head may come to
+abbrev pub Nodes : HeadData → LinesData → List ℕ → Answer Summary → Type 0
+Nodes h a later = Then (TreeEnds h (greatest_depth h.asked) h.asked.root (start h (place a later))) RestEnds
 
-  pub limit_kept : (result : Answer Summary) → ((e : CheckError) → result ≡ Err e → IsToldOfFile e) → KeepsLimit result (left old) (left new)
-  limit_kept (Ok leaves) told = (bytes, consumed, small)
-  limit_kept (Err TooLong) told = absurd (told TooLong refl)
-  limit_kept (Err _) told = (bytes, consumed, small)
+module _ (h : HeadData) (w : Walk) (ss : Spans) (levels : ℕ) (deep : levels ≡ greatest_depth h.asked) (root : ss ≡ h.asked.root) (begins : (later : List ℕ) → came_of w later ≡ start h (place w.lines later)) where
+  -- a walk that begins there
+  whole_tree : (later : List ℕ) (answer : Answer Came) → TreeEnds h levels ss (came_of w later) answer → TreeEnds h (greatest_depth h.asked) h.asked.root (start h (place w.lines later)) answer
+  whole_tree later answer ends = moved h levels (greatest_depth h.asked) ss h.asked.root (came_of w later) (start h (place w.lines later)) answer deep root (begins later) ends
 
--- what holds of a fault holds of each
-pub each_fault : (P : CheckError → Type 0) (result : Answer Summary) → IfErr result P → (e : CheckError) → result ≡ Err e → P e
-each_fault P (Ok s) h e is = absurd cc
-each_fault P (Err f) h e is = let same : f ≡ e = cc in subst P same h
+  -- a node has a fault
+  pub nodes_fail : {S : Type 0} {left : S → Option (List ℕ)} {faults : S → ℕ} → AddsUp left faults → {m : LinesData} {s t : S} → (see : List ℕ → Unit {0} → Came) (e : CheckError) (r : Answer Summary) → r ≡ Err e
+      → Checks left faults w.lines m s t see (λ later. TreeEnds h levels ss (came_of w later)) (Err e) → Checks left faults w.lines m s t (λ _ x. x) (Nodes h w.lines) r
+  nodes_fail adds {m} {s} {t} see e r same f = unchecked adds (begin adds (Nodes h w.lines) w.lines s) (λ _ x. x) e r same (λ l bad. (Err e, whole_tree l (Err e) bad, refl)) f
 
--- what was read of bytes that are told is all of them
-all_read : (bytes text : List ℕ) (old new : Option (List ℕ)) → old ≡ Some bytes → Consumes old new text → IsAtEnd new → text ≡ bytes
-all_read bytes text old new told consumed ended = by new (subst (λ o. Consumes o new text) told consumed) ended
-  where
-    by : (new : Option (List ℕ)) → Consumes (Some bytes) new text → IsAtEnd new → text ≡ bytes
-    by None c e = absurd c
-    by (Some rest) c e = sym (c ∙ ap (λ r. text ++ r) e ∙ append-nil text)
-
--- no more are taken than are told
-not_more : (n : ℕ) (bytes : List ℕ) (old new : Option (List ℕ)) → old ≡ Some bytes → TakenHas (λ b. n < length b) old new → length bytes ≤ n → ⊥
-not_more n bytes old new told (taken, consumed, more) few = by new (subst (λ o. Consumes o new taken) told consumed)
-  where
-    by : (new : Option (List ℕ)) → Consumes (Some bytes) new taken → ⊥
-    by None c = c
-    by (Some rest) c = let size = length-append taken rest in let all = ap (λ (b : List ℕ). length b) c in omega (arith, more, few, size, all)
-
--- what may be answered to told bytes is answered
-module _ {S : Type 0} (left : S → Option (List ℕ)) (faults : S → ℕ) (old new : S) (pass : SoundFilesPass) (one : AnswersAreOne) where
-  same_text : (bytes : List ℕ) (answer result : Answer Summary) → left old ≡ Some bytes → Answers bytes answer → WasRead (λ b. Answers b result) (left old) (left new) → result ≡ answer
-  same_text bytes answer result told may read = one bytes result answer (subst (λ b. Answers b result) (all_read bytes read.bytes (left old) (left new) told read.consumed read.ended) read.has) may
-
-  pub told_answered : (result : Answer Summary) → ChecksSource left faults old new result → AnswersTold (left old) (faults old) (faults new) result
-  told_answered (Ok leaves) h bytes answer told may few calm = inl (same_text bytes answer (Ok leaves) told may (record { bytes = h.bytes; consumed = h.consumed; ended = h.ended; small = h.small; has = pass h.bytes leaves h.has.file }))
-  told_answered (Err Fault) h bytes answer told may few calm = absurd (calm h)
-  told_answered (Err TooLong) h bytes answer told may few calm = absurd (not_more file_limit bytes (left old) (left new) told h few)
-  told_answered (Err Memory) h bytes answer told may few calm = inr refl
-  told_answered (Err (Text e)) h bytes answer told may few calm = inl (same_text bytes answer (Err (Text e)) told may h)
-  told_answered (Err (Rows e)) h bytes answer told may few calm = inl (same_text bytes answer (Err (Rows e)) told may h)
-  told_answered (Err (Missed node miss)) h bytes answer told may few calm = inl (same_text bytes answer (Err (Missed node miss)) told may h)
-  told_answered (Err (Depth node)) h bytes answer told may few calm = inl (same_text bytes answer (Err (Depth node)) told may h)
-  told_answered (Err (Axis node)) h bytes answer told may few calm = inl (same_text bytes answer (Err (Axis node)) told may h)
-  told_answered (Err Rest) h bytes answer told may few calm = inl (same_text bytes answer (Err Rest) told may h)
+  -- the nodes were passed
+  pub nodes_passed : {S : Type 0} {left : S → Option (List ℕ)} {faults : S → ℕ} → AddsUp left faults → {m : LinesData} {s t : S} → (y : Walk) → Checks {X = Unit {0}} left faults w.lines m s t (λ later _. came_of y later) (λ later. TreeEnds h levels ss (came_of w later)) (Ok tt)
+      → SoFar left faults (Nodes h w.lines) (λ later answer. answer ≡ rest_of (y.lines.held ++ later) y.leaves) w.lines m s t
+  nodes_passed adds {m} {s} {t} y f = checked adds (begin adds (Nodes h w.lines) w.lines s) tt (λ later answer. answer ≡ rest_of (y.lines.held ++ later) y.leaves) (λ l later ends answer is. (Ok (came_of y later), whole_tree l (Ok (came_of y later)) ends, is)) f

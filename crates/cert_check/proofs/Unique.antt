@@ -105,8 +105,8 @@ module _ (accept_one : FirstAcceptMissIsOne) (accept_none : AcceptingMissesNone)
     heads : (h : HeadData) (c : Cursor) (a b : Answer Summary) → IsHead h → HeadEnds h c a → HeadEnds h c b → a ≡ b
     heads h c a b head (inl p) (inl q) =
         let is : IsCase h.asked = record { asked = head.asked; admitted = p.0 } in
-        then_one (TreeEnds h (greatest_depth h.asked) h.asked.root (start c)) RestEnds
-        (λ x y. tree_one placed h is (greatest_depth h.asked) h.asked.root (start c) x y (root h.asked is))
+        then_one (TreeEnds h (greatest_depth h.asked) h.asked.root (start h c)) RestEnds
+        (λ x y. tree_one placed h is (greatest_depth h.asked) h.asked.root (start h c) x y (root h.asked is))
         (λ next x y s t. s ∙ sym t) a b p.1 q.1
     heads h c a b head (inl p) (inr q) = absurd (fault_none h.asked q.0 p.0 q.1)
     heads h c a b head (inr p) (inl q) = absurd (fault_none h.asked p.0 q.0 p.1)

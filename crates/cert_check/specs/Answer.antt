@@ -14,7 +14,8 @@ use Rattle.lift_cert.specs.RejectMiss.{IsFirstRejectMiss}
 use Rattle.lift_cert.specs.declared.miss.Miss.{Miss}
 use Rattle.line_text.specs.Reading.{Cursor}
 use Rattle.line_text.specs.declared.error.TextError.{TextError}
-use Rattle.cert_text.specs.Head.{HeadData, case_at, head_at}
+use Rattle.line_text.specs.Follow.{told_fault}
+use Rattle.cert_text.specs.Head.{HeadData, case_at, head_at, version}
 use Rattle.cert_text.specs.Nodes.{Node, split, accept, reject, unknown, node_at}
 use Rattle.cert_check.specs.declared.summary.Summary.{Summary}
 use Rattle.cert_check.specs.declared.error.CheckError.{CheckError}
@@ -28,9 +29,9 @@ pub record Came : Type 0 where
   pub place : Cursor
   pub leaves : Summary
 
--- no leaf was met
-abbrev pub no_leaves : Summary
-no_leaves = record { accept = 0; reject = 0; unknown = 0 }
+-- no leaf was met of a report of that version
+abbrev pub no_leaves : ℕ → Summary
+no_leaves version = record { accept = 0; reject = 0; unknown = 0; version = version }
 
 -- an accepting leaf more
 abbrev pub one_accept : Summary → Summary
@@ -103,7 +104,7 @@ NodeEnds h levels halves spans came unknown c answer = UnknownEnds levels came c
 -- a node that is due, as it is read
 abbrev pub ReadEnds : HeadData → ℕ → Ending → Spans → Came → Result (Node × Cursor) TextError → Answer Came → Type 0
 ReadEnds h levels halves spans came (Ok x) answer = NodeEnds h levels halves spans came x.0 x.1 answer
-ReadEnds h levels halves spans came (Err e) answer = answer ≡ Err (Text e)
+ReadEnds h levels halves spans came (Err e) answer = answer ≡ Err (Text (told_fault e))
 
 -- ---- the nodes of a rectangle, and the whole
 
@@ -125,20 +126,20 @@ rest_of (b ∷ rest) leaves = Err Rest
 abbrev pub RestEnds : Came → Answer Summary → Type 0
 RestEnds came answer = answer ≡ rest_of came.place.1 came.leaves
 
--- where nodes begin
-abbrev pub start : Cursor → Came
-start c = record { node = 0; place = c; leaves = no_leaves }
+-- where the nodes behind a head begin
+abbrev pub start : HeadData → Cursor → Came
+start h c = record { node = 0; place = c; leaves = no_leaves (version h) }
 
 -- behind a head rows are tested, and then nodes follow
 abbrev pub HeadEnds : HeadData → Cursor → Answer Summary → Type 0
 HeadEnds h c answer =
-    (IsAdmitted h.asked × Then (TreeEnds h (greatest_depth h.asked) h.asked.root (start c)) RestEnds answer)
+    (IsAdmitted h.asked × Then (TreeEnds h (greatest_depth h.asked) h.asked.root (start h c)) RestEnds answer)
     ⊎ ((e : RowError) × IsFirstFault h.asked e × (answer ≡ Err (Rows e)))
 
 -- a head, as it is read
 abbrev pub FileEnds : Result (HeadData × Cursor) TextError → Answer Summary → Type 0
 FileEnds (Ok x) answer = HeadEnds x.0 x.1 answer
-FileEnds (Err e) answer = answer ≡ Err (Text e)
+FileEnds (Err e) answer = answer ≡ Err (Text (told_fault e))
 
 -- what is answered to a text
 abbrev pub Answers : List ℕ → Answer Summary → Type 0

@@ -5,6 +5,7 @@ use Rattle.lift_grid.specs.Tree.Tree.{split, accept, reject, unknown}
 use Rattle.corner_lift.specs.Case.{IsAdmitted}
 use Rattle.lift_cert.specs.RejectMiss.{most_height}
 use Rattle.line_text.specs.declared.error.TextCause.TheVariants.{Truncated}
+use Rattle.line_text.specs.Follow.{told_fault}
 use Rattle.cert_text.specs.Head.{HeadData}
 use Rattle.cert_text.specs.Forms.{IsHead, IsPrecision}
 use Rattle.cert_text.specs.Whole.{feed_count}
@@ -31,7 +32,7 @@ PassingFilesAreSound = (bytes : List ℕ) (leaves : Summary) → Answers bytes (
 -- every proper prefix of a sound file is refused as truncated, at the line that was due
 abbrev pub PrefixesAreRefused : Type 0
 PrefixesAreRefused = (front back : List ℕ) (leaves : Summary) → IsSoundFile (front ++ back) leaves → 0 < length back
-    → Answers front (Err (Text (record { line = 1 + feed_count front; cause = Truncated })))
+    → Answers front (Err (Text (told_fault (record { line = 1 + feed_count front; cause = Truncated }))))
 
 -- ---- sound files
 

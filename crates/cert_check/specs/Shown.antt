@@ -1,7 +1,9 @@
 -- How what the code holds is seen, and what its functions answer.
-use Rattle.std.specs.Prelude.{◌≡◌, ◌≢◌, ◌+◌, ◌≤◌, ⊤, ℕ, zero, suc, List, length, drop, Result, Ok, Err}
-use Rattle.lift_base.specs.declared.input.ReadError.{ReadError}
-use Rattle.lift_base.specs.declared.input.ReadError.TheVariants as read
+use Rattle.std.specs.Prelude.{◌≡◌, ◌≢◌, ◌+◌, ◌≤◌, ⊤, ℕ, zero, suc, List, ◌++◌, Some, None, Result, Ok, Err}
+use Rattle.std.specs.declared.option.Option.{Option}
+use Rattle.lift_base.specs.declared.pieces.LineError.{LineError}
+use Rattle.lift_base.specs.declared.pieces.LineError.TheVariants as why
+use Rattle.lift_base.specs.Lines.{LinesData, MayFollow}
 use Rattle.lift_grid.specs.Rectangle.{Spans}
 use Rattle.lift_grid.specs.Splitting.{HasHalvings, IsHalvable, IsSplitAxis}
 use Rattle.lift_grid.specs.Tree.{RejectData, lower_half, upper_half}
@@ -13,39 +15,42 @@ use Rattle.lift_cert.specs.declared.miss.Miss.{Miss}
 use Rattle.line_text.specs.declared.error.TextCause.{TextCause}
 use Rattle.line_text.specs.declared.error.TextCause.TheVariants as cause
 use Rattle.line_text.specs.declared.error.TextError.{TextError}
-use Rattle.cert_check.specs.Answer.{Came}
-use Rattle.cert_check.specs.declared.came.Came.{Came as Held}
+use Rattle.line_text.specs.declared.error.FileError.{FileError}
+use Rattle.line_text.specs.declared.error.FileError.TheVariants as file
+use Rattle.line_text.specs.Follow.{Ran, place}
+use Rattle.cert_check.specs.Answer.{Came, Answer}
+use Rattle.cert_check.specs.declared.walk.Walk.{Walk}
 use Rattle.cert_check.specs.declared.error.CheckError.{CheckError}
 use Rattle.cert_check.specs.declared.leaf.Rejecting.{Rejecting}
 use Rattle.cert_check.specs.declared.error.CheckError.TheVariants.{Text, Rows, Missed, Depth, Axis, Fault, TooLong, Memory}
 
 -- ---- values of the code
 
--- a cause at a line, as it is told
-abbrev pub told_at : ℕ → TextCause → CheckError
-told_at line cause.Memory = Memory
-told_at line why = Text (record { line = line; cause = why })
+-- a text's fault with that cause, as it is told
+abbrev pub told_as : TextCause → TextError → CheckError
+told_as cause.Memory e = Memory
+told_as _ e = Text e
 
--- a text's fault, as it is told
-abbrev pub told : TextError → CheckError
-told e = told_at e.line e.cause
+-- why no more is read of a report, as it is told
+abbrev pub told : FileError → CheckError
+told (file.Text e) = told_as e.cause e
+told file.Fault = Fault
+told file.TooLong = TooLong
 
--- a source's fault, as it is told
-abbrev pub told_read : ReadError → CheckError
-told_read read.Fault = Fault
-told_read read.TooLong = TooLong
-told_read read.Memory = Memory
+-- why no more lines are read, as it is told
+abbrev pub told_line : LineError → CheckError
+told_line why.Fault = Fault
+told_line why.TooLong = TooLong
 
--- how far the code has come in a text
-abbrev pub came_of : List ℕ → Held → Came
-came_of text c = record { node = c.node; place = (c.place.number, drop c.place.at text); leaves = c.leaves }
+-- how far the code has come, where these bytes follow those that are held
+abbrev pub came_of : Walk → List ℕ → Came
+came_of w later = record { node = w.node; place = place w.lines later; leaves = w.leaves }
 
--- the place is in the text; each line before it had a byte at least, each node a line, and no leaf was counted twice
-pub record IsIn (text : List ℕ) (c : Held) : Type 0 where
-  pub at : c.place.at ≤ length text
-  pub lines : c.place.number ≤ c.place.at + 1
-  pub nodes : c.node ≤ c.place.number
-  pub leaves : c.leaves.accept + c.leaves.reject + c.leaves.unknown ≤ c.node
+-- the lines didn't fail; a line was given for each node, and two before them, and no leaf was counted twice
+pub record IsUnderWay (w : Walk) : Type 0 where
+  pub clean : w.lines.failure ≡ None
+  pub nodes : w.node + 2 ≤ w.lines.given
+  pub leaves : w.leaves.accept + w.leaves.reject + w.leaves.unknown ≤ w.node
 
 -- a rectangle inside the root that may be halved so often
 pub record IsPlaced (k : CaseData) (levels : ℕ) (spans : Spans) : Type 0 where
@@ -58,6 +63,30 @@ pub record IsPlaced (k : CaseData) (levels : ℕ) (spans : Spans) : Type 0 where
 abbrev pub Says : {X Y : Type 0} → (X → Y) → (Result Y CheckError → Type 0) → Result X CheckError → Type 0
 Says view may (Ok x) = may (Ok (view x))
 Says view may (Err e) = e ≢ Memory → may (Err e)
+
+-- the failure of the lines that an answer tells
+abbrev pub failure_of : {X : Type 0} → Result X CheckError → Option LineError
+failure_of (Err Fault) = Some why.Fault
+failure_of (Err TooLong) = Some why.TooLong
+failure_of _ = None
+
+-- the fault is one of the file
+abbrev pub IsOfFile : CheckError → Type 0
+IsOfFile Fault = ⊥
+IsOfFile TooLong = ⊥
+IsOfFile Memory = ⊥
+IsOfFile _ = ⊤
+
+-- What is answered, seen by view, may be answered to what was left, whatever may follow the bytes that were taken of it. Of a source that failed, and where memory ran out, nothing is said.
+abbrev pub Agrees : {X Y : Type 0} → (List ℕ → X → Y) → (List ℕ → Answer Y → Type 0) → LinesData → List ℕ → Result X CheckError → Type 0
+Agrees view may new bytes (Ok x) = (later : List ℕ) → MayFollow new later → may (bytes ++ later) (Ok (view later x))
+Agrees view may new bytes (Err e) = IsOfFile e → (later : List ℕ) → MayFollow new later → may (bytes ++ later) (Err e)
+
+-- what a check over lines of a source comes to: bytes were taken, and what is answered may be answered
+pub record Checks {S X Y : Type 0} (left : S → Option (List ℕ)) (faults : S → ℕ) (old new : LinesData) (before after : S) (view : List ℕ → X → Y) (may : List ℕ → Answer Y → Type 0) (result : Result X CheckError) : Type 0 where
+  pub bytes : List ℕ
+  pub ran : Ran left faults old new before after bytes (failure_of result)
+  pub agrees : Agrees view may new bytes result
 
 -- a certificate's first miss is told of the node
 abbrev pub Misses : ℕ → (Miss → Type 0) → CheckError → Type 0

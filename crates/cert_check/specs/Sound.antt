@@ -8,7 +8,7 @@ use Rattle.lift_model.specs.Model.{live}
 use Rattle.corner_lift.specs.Case.{CaseData, IsAdmitted, greatest_depth}
 use Rattle.lift_cert.specs.Certificate.{IsAccepting, IsRejecting}
 use Rattle.lift_cert.specs.declared.bound.Bound.{Bound}
-use Rattle.cert_text.specs.Head.{HeadData, case_at}
+use Rattle.cert_text.specs.Head.{HeadData, case_at, version}
 use Rattle.cert_text.specs.Forms.{IsReport}
 use Rattle.cert_text.specs.Laws.{text_of}
 use Rattle.cert_check.specs.declared.summary.Summary.{Summary}
@@ -53,14 +53,14 @@ unknown_count (accept u x) = 0
 unknown_count (reject u r) = 0
 unknown_count unknown = 1
 
--- the numbers of a tree's leaves, by kind
-abbrev pub leaf_counts : Tree → Summary
-leaf_counts t = record { accept = accept_count t; reject = reject_count t; unknown = unknown_count t }
+-- the numbers of a tree's leaves, by kind, in a report of that version
+abbrev pub leaf_counts : ℕ → Tree → Summary
+leaf_counts version t = record { accept = accept_count t; reject = reject_count t; unknown = unknown_count t; version = version }
 
--- a sound file with so many leaves: the text of a sound report whose tree has them
+-- a sound file with so many leaves: the text of a sound report of that version whose tree has them
 pub record IsSoundFile (bytes : List ℕ) (leaves : Summary) : Type 0 where
   pub head : HeadData
   pub tree : Tree
   pub sound : IsSound head tree
   pub text : bytes ≡ text_of head tree
-  pub counts : leaves ≡ leaf_counts tree
+  pub counts : leaves ≡ leaf_counts (version head) tree

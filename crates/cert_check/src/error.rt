@@ -1,10 +1,10 @@
 // Why a file isn't sound, or wasn't checked.
 ghost use Rattle.std.specs.Prelude.{◌≡◌};
-ghost use Rattle.cert_check.specs.Shown.{told, told_read};
+ghost use Rattle.cert_check.specs.Shown.{told, told_line};
 ghost use Rattle.cert_check.specs.declared.error.CheckError.TheVariants.{Memory, Rows};
 
-use cert_text::{TextCause, TextError};
-use lift_base::ReadError;
+use cert_text::{FileError, TextCause, TextError};
+use lift_base::LineError;
 use lift_cert::Miss;
 use lift_rows::RowError;
 use std::alloc::AllocError;
@@ -27,19 +27,23 @@ pub enum CheckError {
     Rest,
     /// Reading the source failed.
     Fault,
-    /// The source gives more than 2^26 bytes.
+    /// The source gives more bytes than were allowed.
     TooLong,
     /// Want of memory.
     Memory,
 }
 
-impl From<TextError> for CheckError {
+impl From<FileError> for CheckError {
     ghost from_gives = { λ x e. e ≡ told x };
 
-    fn from(error: TextError) -> Self {
-        match error.cause {
-            TextCause::Memory => CheckError::Memory,
-            _ => CheckError::Text(error),
+    fn from(error: FileError) -> Self {
+        match error {
+            FileError::Text(error) => match error.cause {
+                TextCause::Memory => CheckError::Memory,
+                _ => CheckError::Text(error),
+            },
+            FileError::Fault => CheckError::Fault,
+            FileError::TooLong => CheckError::TooLong,
         }
     }
 }
@@ -60,14 +64,13 @@ impl From<AllocError> for CheckError {
     }
 }
 
-impl From<ReadError> for CheckError {
-    ghost from_gives = { λ x e. e ≡ told_read x };
+impl From<LineError> for CheckError {
+    ghost from_gives = { λ x e. e ≡ told_line x };
 
-    fn from(error: ReadError) -> Self {
+    fn from(error: LineError) -> Self {
         match error {
-            ReadError::Fault => CheckError::Fault,
-            ReadError::TooLong => CheckError::TooLong,
-            ReadError::Memory => CheckError::Memory,
+            LineError::Fault => CheckError::Fault,
+            LineError::TooLong => CheckError::TooLong,
         }
     }
 }

@@ -1,41 +1,88 @@
-// The bytes of a file.
-ghost use Rattle.std.specs.Prelude.{◌≡◌, ◌≤◌, ◌+◌, drop, length, IfErr};
-ghost use Rattle.cert_check.specs.Answer.{Answers, HeadEnds, RestEnds};
-ghost use Rattle.cert_check.specs.Source.{file_limit};
-ghost use Rattle.cert_check.specs.Shown.{IsIn, Says, IsToldOfFile, came_of};
+// The lines of a report.
+ghost use Rattle.std.specs.Prelude.{◌≡◌, ◌≤◌, ◌++◌, None, IsTrue, IfOk, IfErr};
+ghost use Rattle.lift_model.specs.Links.{ArePlaces};
+ghost use Rattle.corner_lift.specs.Case.{IsAdmitted, greatest_depth};
+ghost use Rattle.line_text.specs.Follow.{place};
+ghost use Rattle.cert_text.specs.Head.{head_at};
+ghost use Rattle.cert_check.specs.Answer.{FileEnds, HeadEnds, RestEnds, Then, TreeEnds, rest_of, start};
+ghost use Rattle.cert_check.specs.Source.{TellsSmallNumbers};
+ghost use Rattle.cert_check.specs.Shown.{Checks};
 
-use crate::came::Came;
 use crate::error::CheckError;
 use crate::laws::rectangles_are_placed;
 use crate::nodes::{Report, check_tree};
 use crate::summary::Summary;
-use cert_text::{Head, Place, read_head};
+use crate::walk::Walk;
+use cert_text::{Head, heads_are_read, read_head};
+use lift_base::{Lines, Source};
 use lift_model::Links;
 use lift_rows::{admit, admit_linked};
+use line_text::{calls_add_up, is_end};
 use std::alloc::Global;
 
 /// Tests that nothing follows the last node.
-#[tactic(auto, using(crate::proofs::Steps::more_follows))]
-fn check_rest(text: &[u8], came: Came) -> Result<Summary, CheckError>
-    requires { IsIn text.now came }
-    ensures end { Says (λ s. s) (RestEnds (came_of text.now came)) result }
-    ensures told { IfErr result IsToldOfFile }
+fn check_rest<S: Source>(
+    lines: &mut Lines,
+    src: &mut S,
+    leaves: Summary,
+) -> Result<Summary, CheckError>
+    ensures end { Checks S.left S.faults lines.old lines.new src.old src.new (λ _ s. s)
+        (λ later answer. answer ≡ rest_of (lines.old.held ++ later) leaves) result }
+    ensures ended { IfOk result (λ _. IsTrue lines.new.ended) }
+    ensures told { IfErr result TellsSmallNumbers }
 {
-    if came.place.at < text.len() {
-        return Err(CheckError::Rest);
+    let none = is_end(lines, src)?;
+    if none {
+        Ok(leaves)
+    } else {
+        Err(CheckError::Rest)
     }
-    Ok(came.leaves)
+}
+
+/// Checks the nodes of a report, and that nothing follows them.
+fn check_nodes<S: Source>(
+    report: &Report,
+    walk: &mut Walk,
+    src: &mut S,
+) -> Result<Summary, CheckError>
+    requires asked { report.now.case.now ≡ report.now.head.now.asked }
+    requires places { ArePlaces report.now.case.now.model report.now.links.now }
+    requires clean { walk.old.lines.failure ≡ None }
+    requires lines { 2 ≤ walk.old.lines.given }
+    requires node { walk.old.node ≡ 0 }
+    ensures end { Checks S.left S.faults walk.old.lines walk.new.lines src.old src.new (λ _ s. s)
+        (λ later. Then
+        (TreeEnds report.now.head.now (greatest_depth report.now.head.now.asked) report.now.head.now.asked.root
+        (start report.now.head.now (place walk.old.lines later))) RestEnds) result }
+    ensures ended { IfOk result (λ _. IsTrue walk.new.lines.ended) }
+    ensures told { IfErr result TellsSmallNumbers }
+{
+    rectangles_are_placed();
+    calls_add_up::<S>();
+    let _ = report.case.w();
+    walk.leaves = Summary::none(report.head.version());
+    walk.weights = vec![in report.alloc; 0i128; report.links.weights_len()]?;
+    let mut sides = Vec::from_slice(report.alloc, report.case.root().sides())?;
+    check_tree(report, walk, src, report.case.greatest_depth(), &mut sides)?;
+    check_rest(&mut walk.lines, src, walk.leaves)
 }
 
 /// Checks what stands behind a head: its rows, and then the nodes.
-fn check_head(alloc: Global, text: &[u8], head: &Head, place: Place) -> Result<Summary, CheckError>
-    requires text { length text.now ≤ file_limit }
-    requires at { place.at ≤ length text.now }
-    requires number { place.number ≤ place.at + 1 }
-    ensures end { Says (λ s. s) (HeadEnds head.now (place.number, drop place.at text.now)) result }
-    ensures told { IfErr result IsToldOfFile }
+fn check_head<S: Source>(
+    alloc: Global,
+    walk: &mut Walk,
+    src: &mut S,
+    head: &Head,
+) -> Result<Summary, CheckError>
+    requires clean { walk.old.lines.failure ≡ None }
+    requires lines { 2 ≤ walk.old.lines.given }
+    requires node { walk.old.node ≡ 0 }
+    ensures end { Checks S.left S.faults walk.old.lines walk.new.lines src.old src.new (λ _ s. s)
+        (λ later. HeadEnds head.now (place walk.old.lines later)) result }
+    ensures ended { IfOk result (λ _. IsTrue walk.new.lines.ended) }
+    ensures told { IfErr result TellsSmallNumbers }
 {
-    rectangles_are_placed();
+    calls_add_up::<S>();
     let _ = head.w();
     let Ok(links) = Links::build_places(alloc, head.model()) else {
         // A row that isn't admitted is told all the same.
@@ -43,34 +90,29 @@ fn check_head(alloc: Global, text: &[u8], head: &Head, place: Place) -> Result<S
         return Err(CheckError::Memory);
     };
     let case = admit_linked(head.model(), head.root(), head.grid(), head.w(), &links)?;
-    let mut weights = vec![in alloc; 0i128; links.weights_len()]?;
-    let mut sides = Vec::from_slice(alloc, head.root().sides())?;
-    let levels = case.greatest_depth();
     let report = Report {
         alloc,
-        text: &*text,
-        head: &*head,
+        head,
         case: &case,
         links: &links,
     };
-    let came = check_tree(
-        &report,
-        &mut weights,
-        levels,
-        &mut sides,
-        Came::start(place),
-    )?;
-    check_rest(text, came)
+    check_nodes(&report, walk, src)
 }
 
-/// Checks a file.
-pub(crate) fn check_bytes(alloc: Global, text: &[u8]) -> Result<Summary, CheckError>
-    requires { length text.now ≤ file_limit }
-    ensures end { Says (λ s. s) (Answers text.now) result }
-    ensures told { IfErr result IsToldOfFile }
+/// Checks a report whose first line is due.
+pub(crate) fn check_file<S: Source>(
+    alloc: Global,
+    walk: &mut Walk,
+    src: &mut S,
+) -> Result<Summary, CheckError>
+    requires node { walk.old.node ≡ 0 }
+    ensures end { Checks S.left S.faults walk.old.lines walk.new.lines src.old src.new (λ _ s. s)
+        (λ later. FileEnds (head_at (place walk.old.lines later))) result }
+    ensures ended { IfOk result (λ _. IsTrue walk.new.lines.ended) }
+    ensures told { IfErr result TellsSmallNumbers }
 {
-    match read_head(alloc, text) {
-        Ok((head, place)) => check_head(alloc, text, &head, place),
-        Err(error) => Err(CheckError::from(error)),
-    }
+    calls_add_up::<S>();
+    heads_are_read();
+    let head = read_head(alloc, &mut walk.lines, src)?;
+    check_head(alloc, walk, src, &head)
 }

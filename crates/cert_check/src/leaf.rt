@@ -9,7 +9,8 @@ ghost use Rattle.corner_lift.specs.Certificate.{AreNumbers};
 ghost use Rattle.lift_cert.specs.Certificate.{IsAccepting, IsRejecting};
 ghost use Rattle.lift_cert.specs.Miss.{IsFirstAcceptMiss};
 ghost use Rattle.lift_cert.specs.RejectMiss.{HasRejectForm, IsFirstRejectMiss};
-ghost use Rattle.cert_check.specs.Shown.{IsSplitTold, IsToldOfFile, Misses, reject_of};
+ghost use Rattle.cert_check.specs.Source.{TellsSmallNumbers};
+ghost use Rattle.cert_check.specs.Shown.{IsSplitTold, Misses, reject_of};
 
 use crate::error::CheckError;
 use corner_lift::{Case, fill, live_parameters_have_spans};
@@ -67,7 +68,7 @@ impl Asked<'_> {
         ensures test { MatchResult result
             (λ _. IsAccepting self.now.case (spans_of sides.now) self.now.bound x.now)
             (Misses node (IsFirstAcceptMiss self.now.case (spans_of sides.now) self.now.bound x.now)) }
-        ensures told { IfErr result IsToldOfFile }
+        ensures told { IfErr result TellsSmallNumbers }
     {
         if self.accepts(sides, weights, x) {
             return Ok(());
@@ -110,7 +111,7 @@ impl Asked<'_> {
         ensures test { MatchResult result
             (λ _. IsRejecting self.now.case (spans_of sides.now) self.now.bound (reject_of leaf.now))
             (Misses node (IsFirstRejectMiss self.now.case (spans_of sides.now) self.now.bound (reject_of leaf.now))) }
-        ensures told { IfErr result IsToldOfFile }
+        ensures told { IfErr result TellsSmallNumbers }
     {
         if self.rejects(sides, weights, leaf) {
             return Ok(());

@@ -1,7 +1,6 @@
 //! Checks a report by itself: whether its rows are admitted over its region, and its certificates hold.
 #![tactic(auto)]
 
-mod came;
 mod checking;
 mod error;
 mod file;
@@ -10,8 +9,9 @@ mod leaf;
 mod nodes;
 mod summary;
 mod text;
+mod walk;
 
-pub use checking::check;
+pub use checking::{check, check_within};
 pub use error::CheckError;
 pub use laws::{
     answers_are_one, prefixes_are_refused, sound_files_pass, sound_reports_hold,

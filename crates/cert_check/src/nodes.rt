@@ -1,5 +1,5 @@
 // The nodes of a report.
-ghost use Rattle.std.specs.Prelude.{◌≡◌, ◌<◌, ◌≤◌, ◌^◌, ℕ, drop, length, IfOk, IfErr};
+ghost use Rattle.std.specs.Prelude.{◌≡◌, ◌<◌, ◌≤◌, ◌^◌, length, IfOk, IfErr};
 ghost use Rattle.lift_grid.specs.Rectangle.{sides_of, spans_of};
 ghost use Rattle.lift_grid.specs.Splitting.{IsHalvable};
 ghost use Rattle.lift_grid.specs.Tree.{lower_half};
@@ -7,17 +7,19 @@ ghost use Rattle.lift_model.specs.Links.{ArePlaces};
 ghost use Rattle.corner_lift.specs.Case.{IsCase};
 ghost use Rattle.cert_text.specs.Head.{case_at};
 ghost use Rattle.cert_check.specs.Answer.{TreeEnds};
-ghost use Rattle.cert_check.specs.Source.{file_limit};
-ghost use Rattle.cert_check.specs.Shown.{IsIn, IsPlaced, Says, IsToldOfFile, came_of};
+ghost use Rattle.cert_check.specs.Source.{TellsSmallNumbers};
+ghost use Rattle.cert_check.specs.Shown.{Checks, IsPlaced, IsUnderWay, came_of};
 
-use crate::came::Came;
 use crate::error::CheckError;
 use crate::laws::rectangles_are_placed;
 use crate::leaf::{Asked, Rejecting, test_split, test_unknown};
+use crate::walk::Walk;
 use cert_text::{Head, Node, nodes_are_read, read_node};
 use corner_lift::Case;
+use lift_base::Source;
 use lift_grid::narrow;
 use lift_model::Links;
+use line_text::calls_add_up;
 use std::alloc::{AllocError, Global};
 
 /// A copy of the lower half.
@@ -32,11 +34,10 @@ fn lower_half(alloc: Global, sides: &[i64], axis: u32) -> Result<Vec<i64>, Alloc
     Ok(lower)
 }
 
-/// A report whose nodes are checked: its text, its head, and the case that the head asks for, with its links.
+/// A report whose nodes are checked: its head, and the case that the head asks for, with its links.
 #[derive(Drop)]
 pub(crate) struct Report<'a> {
     pub alloc: Global,
-    pub text: &'a [u8],
     pub head: &'a Head,
     pub case: &'a Case<'a>,
     pub links: &'a Links,
@@ -57,45 +58,47 @@ fn asked_at<'a>(report: &'a Report, u: u32) -> Asked<'a>
     }
 }
 
-/// Checks the nodes of the rectangle with these sides, which may be halved `levels` times, and gives
-/// where they end. On the way down it keeps a rectangle for each level. The sides and the weights are free
-/// afterwards.
-pub(crate) fn check_tree(
+/// Checks the nodes of the rectangle with these sides, which may be halved `levels` times. On the way
+/// down it keeps a rectangle for each level. The sides are free afterwards.
+pub(crate) fn check_tree<S: Source>(
     report: &Report,
-    weights: &mut [i128],
+    walk: &mut Walk,
+    src: &mut S,
     levels: u32,
     sides: &mut [i64],
-    came: Came,
-) -> Result<Came, CheckError>
-    requires text { length report.now.text.now ≤ file_limit }
+) -> Result<(), CheckError>
     requires asked { report.now.case.now ≡ report.now.head.now.asked }
     requires places { ArePlaces report.now.case.now.model report.now.links.now }
-    requires weights { length weights.old ≡ report.now.links.now.weights }
+    requires weights { length walk.old.weights.items ≡ report.now.links.now.weights }
     requires placed { IsPlaced report.now.case.now levels (spans_of sides.old) }
     requires paired { sides_of (spans_of sides.old) ≡ sides.old }
-    requires came { IsIn report.now.text.now came }
-    ensures end { Says (came_of report.now.text.now)
-        (TreeEnds report.now.head.now levels (spans_of sides.old) (came_of report.now.text.now came)) result }
-    ensures came { IfOk result (IsIn report.now.text.now) }
-    ensures told { IfErr result IsToldOfFile }
+    requires way { IsUnderWay walk.old }
+    ensures end { Checks S.left S.faults walk.old.lines walk.new.lines src.old src.new (λ later _. came_of walk.new later)
+        (λ later. TreeEnds report.now.head.now levels (spans_of sides.old) (came_of walk.old later)) result }
+    ensures weights { IfOk result (λ _. length walk.new.weights.items ≡ length walk.old.weights.items) }
+    ensures way { IfOk result (λ _. IsUnderWay walk.new) }
+    ensures told { IfErr result TellsSmallNumbers }
 {
     rectangles_are_placed();
     nodes_are_read();
+    calls_add_up::<S>();
     let _ = report.head.w();
     let _ = report.case.w();
-    let (node, place) = read_node(report.alloc, report.text, came.place, report.head)?;
+    let node = read_node(report.alloc, &mut walk.lines, src, report.head)?;
+    let _ = walk.lines.given();
     match node {
         Node::Split { axis } => {
-            test_split(report.case, levels, sides, came.node, axis)?;
+            test_split(report.case, levels, sides, walk.node, axis)?;
             let mut lower = lower_half(report.alloc, sides, axis)?;
-            let behind = came.behind(place, came.leaves);
-            let between = check_tree(report, weights, levels - 1, &mut lower, behind)?;
+            walk.pass(walk.leaves);
+            check_tree(report, walk, src, levels - 1, &mut lower)?;
             narrow(sides, axis, false);
-            check_tree(report, weights, levels - 1, sides, between)
+            check_tree(report, walk, src, levels - 1, sides)
         }
         Node::Accept { u, x } => {
-            asked_at(report, u).test_accept(sides, weights, came.node, x.as_slice())?;
-            Ok(came.behind(place, came.leaves.one_accept()))
+            asked_at(report, u).test_accept(sides, &mut walk.weights, walk.node, x.as_slice())?;
+            walk.pass(walk.leaves.one_accept());
+            Ok(())
         }
         Node::Reject {
             u,
@@ -112,12 +115,14 @@ pub(crate) fn check_tree(
                 e,
                 k,
             };
-            asked_at(report, u).test_reject(sides, weights, came.node, &leaf)?;
-            Ok(came.behind(place, came.leaves.one_reject()))
+            asked_at(report, u).test_reject(sides, &mut walk.weights, walk.node, &leaf)?;
+            walk.pass(walk.leaves.one_reject());
+            Ok(())
         }
         Node::Unknown => {
-            test_unknown(levels, came.node)?;
-            Ok(came.behind(place, came.leaves.one_unknown()))
+            test_unknown(levels, walk.node)?;
+            walk.pass(walk.leaves.one_unknown());
+            Ok(())
         }
     }
 }

@@ -2,7 +2,7 @@
 ghost use Rattle.std.specs.Prelude.{◌≡◌, ◌+◌, ◌<◌, ◌^◌};
 ghost use Rattle.cert_check.specs.Answer.{no_leaves, one_accept, one_reject, one_unknown};
 
-/// How many leaves of each kind a report has.
+/// How many leaves of each kind a report has, and its version.
 #[derive(Clone, Copy, Debug, PartialEq, Eq)]
 pub struct Summary {
     /// The accepting leaves.
@@ -11,17 +11,20 @@ pub struct Summary {
     pub reject: u32,
     /// The unknown leaves.
     pub unknown: u32,
+    /// The version of the report's text.
+    pub version: u32,
 }
 
 impl Summary {
-    /// No leaf.
-    pub(crate) fn none() -> Summary
-        ensures { result ≡ no_leaves }
+    /// No leaf of a report of that version.
+    pub(crate) fn none(version: u32) -> Summary
+        ensures { result ≡ no_leaves version }
     {
         Summary {
             accept: 0,
             reject: 0,
             unknown: 0,
+            version,
         }
     }
 

@@ -163,3 +163,8 @@ entries_done states parameters before front count i c total le so_far =
 
 pub targets_more : (front : List Entry) (e : Entry) → targets_back (front ++ e ∷ []) ≡ e.target ∷ targets_back front
 targets_more front e = ap reverse (map-append (λ (x : Entry). x.target) front (e ∷ [])) ∙ reverse-append (map (λ (x : Entry). x.target) front) (e.target ∷ [])
+
+pub entries_begin : (states parameters count : ℕ) (c : Cursor) → entries_at states parameters [] count c ≡ with_front [] (entries_at states parameters [] (count - 0) c)
+entries_begin states parameters count c =
+    let k : count ≡ count - 0 = omega arith in
+    ap (λ (n : ℕ). entries_at states parameters [] n c) k ∙ sym (entries_start (entries_at states parameters [] (count - 0) c))

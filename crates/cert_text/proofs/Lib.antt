@@ -26,7 +26,7 @@ mod EntryLoop
 mod LineLoops
 mod EntryTerms
 mod BoxLoop
-mod Places
+mod Following
 mod Remainders
 mod RowWords
 mod FirstNumbers
@@ -34,3 +34,5 @@ mod FirstMarks
 mod Ends
 mod RowLoops
 mod HeadSteps
+mod HeadRests
+mod NodeSteps

@@ -241,3 +241,7 @@ reject_of words = do
   zb ← spelled (pair_of (code "/") b.0)
   _ ← ended b.1
   rejected ze zk zm zb
+
+-- the line of an unknown leaf, that word alone
+abbrev pub unknown_of : Words → Read (Unit {0})
+unknown_of words = keyed (codes "unknown") words >>= ended

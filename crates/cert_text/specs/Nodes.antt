@@ -10,8 +10,8 @@ use Rattle.cert_text.specs.Report.{split_line, accept_line, reject_lines, unknow
 use Rattle.line_text.specs.Words.{words}
 use Rattle.line_text.specs.Reading.{◌>>=◌, Reader, at, due, fault, line_at}
 use Rattle.cert_text.specs.Head.{HeadData, least_precision, at_precision}
-use Rattle.line_text.specs.Parts.{must, keyed, ended, number_in}
-use Rattle.cert_text.specs.Lines.{values_of, marks_of, reject_of, Rejected}
+use Rattle.line_text.specs.Parts.{must, number_in}
+use Rattle.cert_text.specs.Lines.{values_of, marks_of, reject_of, unknown_of, Rejected}
 
 -- a node without its halves; a decided leaf has its precision
 pub data Node : Type 0 where
@@ -64,7 +64,7 @@ reject_at h c = line_at reject_of c >>= λ r. rejecting_at h r.0 r.1
 
 -- an unknown leaf
 unfoldable pub unknown_at : Reader Node
-unknown_at c = line_at (λ words. keyed (codes "unknown") words >>= ended) c >>= λ x. Ok (unknown, x.1)
+unknown_at c = line_at unknown_of c >>= λ x. Ok (unknown, x.1)
 
 -- the node whose first line is due and has these words, in the first version
 unfoldable pub node_by : HeadData → List (List ℕ) → Reader Node

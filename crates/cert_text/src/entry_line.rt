@@ -3,16 +3,20 @@ ghost use Rattle.std.specs.Prelude.{◌≡◌, ◌≤◌, ◌<◌, ◌^◌, ◌+
 ghost use Rattle.line_text.specs.Reading.{line_at};
 ghost use Rattle.cert_text.specs.Head.{entries_at};
 ghost use Rattle.line_text.specs.Parts.{between};
-ghost use Rattle.line_text.specs.Shown.{Says, Gives};
+ghost use Rattle.line_text.specs.Shown.{Says};
+ghost use Rattle.line_text.specs.Follow.{Follows};
 ghost use Rattle.lift_model.specs.Valid.{most_parameters, most_states};
 ghost use Rattle.cert_text.specs.Recent.{AreKnown};
 ghost use Rattle.cert_text.specs.Shown.{AreMarked, coefficient_in, entry_by, entry_in, has_mark, targets_back, terms_of, set_in, term_first, term_in};
 
 use crate::head_lines::{counted, is_above, short_counted};
 use crate::known::KnownTerms;
+use lift_base::{Lines, Source};
 use lift_model::{Entry, SharedPoly};
 use lift_poly::MultiAffine;
-use line_text::{Cursor, Decimal, TextCause, TextError, Words, between};
+use line_text::{
+    Decimal, FileError, TextCause, Words, between, calls_add_up, due, fault, take_line,
+};
 use std::alloc::Global;
 
 /// How many parameters an entry has at most.
@@ -217,11 +221,11 @@ fn is_free(marks: &[u32], mark: u32, s: u64) -> bool
 
 /// The entry with that target and the terms that words write. A state with that mark is taken.
 #[inline(never)]
-fn entry_in<'t>(
+fn entry_in(
     alloc: Global,
-    known: &mut KnownTerms<'t>,
+    known: &mut KnownTerms,
     target: &Decimal,
-    words: Words<'t>,
+    words: Words,
     marks: &[u32],
     mark: u32,
     parameters: u32,
@@ -262,11 +266,11 @@ fn below(n: u64, end: u64) -> Result<u64, TextCause>
 
 /// The entry with a target of few digits, and the terms that words write.
 #[inline(always)]
-fn short_entry<'t>(
+fn short_entry(
     alloc: Global,
-    known: &mut KnownTerms<'t>,
+    known: &mut KnownTerms,
     target: u64,
-    words: Words<'t>,
+    words: Words,
     marks: &[u32],
     mark: u32,
     parameters: u32,
@@ -294,10 +298,10 @@ fn short_entry<'t>(
 }
 
 /// The entry that the words of its line tell.
-fn entry_by<'t>(
+fn entry_by(
     alloc: Global,
-    known: &mut KnownTerms<'t>,
-    words: &Words<'t>,
+    known: &mut KnownTerms,
+    words: &Words,
     marks: &[u32],
     mark: u32,
     parameters: u32,
@@ -318,65 +322,73 @@ fn entry_by<'t>(
 }
 
 /// The line that is due, as an entry.
-#[tactic(auto, unfolding(line_text::specs::Reading::line_at))]
-fn entry_line<'t>(
+fn entry_line<S: Source>(
     alloc: Global,
-    known: &mut KnownTerms<'t>,
-    cursor: &Cursor<'t>,
+    known: &mut KnownTerms,
+    lines: &mut Lines,
+    src: &mut S,
     marks: &[u32],
     mark: u32,
     parameters: u32,
-) -> Result<(Entry, Cursor<'t>), TextError>
+) -> Result<Entry, FileError>
     requires states { length marks.now ≤ most_states }
     requires parameters { parameters ≤ most_parameters }
     requires known { AreKnown parameters known.old.texts.items }
-    ensures value { Gives (λ x. x) result
-        (line_at (entry_by (length marks.now) parameters (has_mark mark marks.now)) cursor.now) }
-    ensures range { IfOk result (λ x. x.0.target < length marks.now) }
+    ensures value { Follows S.left S.faults (λ x. x)
+        (line_at (entry_by (length marks.now) parameters (has_mark mark marks.now)))
+        lines.old lines.new src.old src.new result }
+    ensures range { IfOk result (λ x. x.target < length marks.now) }
     ensures known { AreKnown parameters known.new.texts.items }
 {
-    let (line, behind) = cursor.due()?;
-    match entry_by(alloc, known, &Words::of(line), marks, mark, parameters) {
-        Ok(entry) => Ok((entry, behind)),
-        Err(cause) => Err(cursor.fault(cause)),
-    }
+    due(lines, src)?;
+    let read = entry_by(
+        alloc,
+        known,
+        &Words::of(lines.line()),
+        marks,
+        mark,
+        parameters,
+    );
+    take_line(lines, read)
 }
 
 /// So many entries, whose targets differ. Their marks are set, where no mark was so great.
-pub(crate) fn entries<'t>(
+pub(crate) fn entries<S: Source>(
     alloc: Global,
-    known: &mut KnownTerms<'t>,
-    cursor: Cursor<'t>,
+    known: &mut KnownTerms,
+    lines: &mut Lines,
+    src: &mut S,
     marks: &mut [u32],
     mark: u32,
     parameters: u32,
     count: u32,
-) -> Result<(Vec<Entry>, Cursor<'t>), TextError>
+) -> Result<Vec<Entry>, FileError>
+    requires ready { lines.old.failure ≡ None }
     requires states { length marks.old ≤ most_states }
     requires parameters { parameters ≤ most_parameters }
     requires known { AreKnown parameters known.old.texts.items }
     requires free { All (λ m. m < mark) marks.old }
-    ensures value { Gives (λ x. (x.0.items, x.1)) result
-        (entries_at (length marks.old) parameters [] count cursor.entry) }
+    ensures value { Follows S.left S.faults (λ x. x.items)
+        (entries_at (length marks.old) parameters [] count) lines.old lines.new src.old src.new result }
     ensures size { length marks.new ≡ length marks.old }
     ensures marks { All (λ m. m ≤ mark) marks.new }
     ensures known { AreKnown parameters known.new.texts.items }
 {
+    calls_add_up::<S>();
     let Ok(mut entries) = Vec::with_capacity(alloc, count as usize) else {
-        return Err(cursor.fault(TextCause::Memory));
+        return Err(fault(lines, TextCause::Memory));
     };
-    let mut rest = cursor;
     for _ in 0..count {
-        match entry_line(alloc, known, &rest, marks, mark, parameters) {
-            Ok((entry, behind)) => {
+        match entry_line(alloc, known, lines, src, marks, mark, parameters) {
+            Ok(entry) => {
                 marks[entry.target as usize] = mark;
                 match entries.push(entry) {
-                    Ok(()) => rest = behind,
-                    Err(_) => return Err(rest.fault(TextCause::Memory)),
+                    Ok(()) => {}
+                    Err(_) => return Err(fault(lines, TextCause::Memory)),
                 }
             }
-            Err(fault) => return Err(fault),
+            Err(error) => return Err(error),
         }
     }
-    Ok((entries, rest))
+    Ok(entries)
 }

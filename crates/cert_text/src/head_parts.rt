@@ -1,9 +1,9 @@
 // The parts of a head, line by line.
-ghost use Rattle.std.specs.Prelude.{◌≡◌, ◌≤◌, length, IfOk};
+ghost use Rattle.std.specs.Prelude.{◌≡◌, ◌≤◌, ◌<◌, ◌^◌, pos, length, None, IfOk};
 ghost use Rattle.lift_model.specs.Valid.{most_parameters};
 ghost use Rattle.lift_grid.specs.Rectangle.{most_halvings};
 ghost use Rattle.line_text.specs.Reading.{line_at};
-ghost use Rattle.line_text.specs.Shown.{Gives};
+ghost use Rattle.line_text.specs.Follow.{Follows};
 ghost use Rattle.cert_text.specs.Lines.{version_of, kind_of, parameters_of, goal_of, bound_of, box_of};
 ghost use Rattle.corner_lift.specs.Case.{most_precision};
 ghost use Rattle.cert_text.specs.Head.{from_at, head_at};
@@ -13,14 +13,16 @@ ghost use Rattle.cert_text.specs.HeadParts.{head_of};
 use crate::box_line::box_of;
 use crate::head_lines::{bound_of, goal_of, kind_of, version_of};
 use crate::head_reader::Head;
+use crate::number_line::number_line;
 use crate::parameters::parameters_of;
 use crate::precisions::Precisions;
 use crate::rows::states;
+use lift_base::{Lines, Source};
 use lift_cert::Bound;
 use lift_grid::{Grid, Rect};
 use lift_model::{Kind, Model, Row};
 use lift_names::Names;
-use line_text::{Cursor, TextError, Words, number_line};
+use line_text::{FileError, Words, calls_add_up, due, take_line};
 use std::alloc::Global;
 
 /// Above each common denominator and each number of a grid.
@@ -39,13 +41,14 @@ const MOST_HALVINGS: u64 = 20;
 #[derive(Drop)]
 pub(crate) struct Parts {
     pub kind: Kind,
-    pub common: i64,
+    pub common: u64,
     pub names: Names,
     pub goal: Vec<bool>,
     pub init: u32,
     pub states: Vec<Vec<Row>>,
     pub root: Rect,
-    pub grid: Grid,
+    pub d: u64,
+    pub depth: u32,
     pub precisions: Precisions,
     pub bound: Bound,
 }
@@ -58,154 +61,160 @@ impl Parts {
     {
         let model = Model::new(
             self.kind,
-            self.common,
+            signed(self.common),
             self.names,
             self.goal,
             self.init,
             self.states,
         );
-        Head::new(model, self.root, self.grid, self.precisions, self.bound)
+        let grid = Grid {
+            d: signed(self.d),
+            depth: self.depth,
+        };
+        Head::new(model, self.root, grid, self.precisions, self.bound)
     }
 }
 
 /// The line that is due, as whether the version is the second one.
-#[tactic(auto, unfolding(line_text::specs::Reading::line_at))]
-fn version_line<'t>(alloc: Global, cursor: &Cursor<'t>) -> Result<(bool, Cursor<'t>), TextError>
-    ensures { Gives (λ x. x) result (line_at version_of cursor.now) }
+fn version_line<S: Source>(alloc: Global, lines: &mut Lines, src: &mut S) -> Result<bool, FileError>
+    ensures { Follows S.left S.faults (λ x. x) (line_at version_of)
+        lines.old lines.new src.old src.new result }
 {
-    let (line, behind) = cursor.due()?;
-    match version_of(alloc, &Words::of(line)) {
-        Ok(part) => Ok((part, behind)),
-        Err(cause) => Err(cursor.fault(cause)),
-    }
+    due(lines, src)?;
+    let read = version_of(alloc, &Words::of(lines.line()));
+    take_line(lines, read)
 }
 
 /// The line that is due, as the kind.
-#[tactic(auto, unfolding(line_text::specs::Reading::line_at))]
-fn kind_line<'t>(cursor: &Cursor<'t>) -> Result<(Kind, Cursor<'t>), TextError>
-    ensures { Gives (λ x. x) result (line_at kind_of cursor.now) }
+fn kind_line<S: Source>(lines: &mut Lines, src: &mut S) -> Result<Kind, FileError>
+    ensures { Follows S.left S.faults (λ x. x) (line_at kind_of)
+        lines.old lines.new src.old src.new result }
 {
-    let (line, behind) = cursor.due()?;
-    match kind_of(&Words::of(line)) {
-        Ok(part) => Ok((part, behind)),
-        Err(cause) => Err(cursor.fault(cause)),
-    }
+    due(lines, src)?;
+    let read = kind_of(&Words::of(lines.line()));
+    take_line(lines, read)
 }
 
 /// The line that is due, as the parameters' names.
-#[tactic(auto, unfolding(line_text::specs::Reading::line_at))]
-fn parameters_line<'t>(alloc: Global, cursor: &Cursor<'t>) -> Result<(Names, Cursor<'t>), TextError>
-    ensures value { Gives (λ x. x) result (line_at parameters_of cursor.now) }
-    ensures few { IfOk result (λ x. length x.0 ≤ most_parameters) }
+fn parameters_line<S: Source>(
+    alloc: Global,
+    lines: &mut Lines,
+    src: &mut S,
+) -> Result<Names, FileError>
+    ensures value { Follows S.left S.faults (λ x. x) (line_at parameters_of)
+        lines.old lines.new src.old src.new result }
+    ensures few { IfOk result (λ x. length x ≤ most_parameters) }
 {
-    let (line, behind) = cursor.due()?;
-    match parameters_of(alloc, &Words::of(line)) {
-        Ok(part) => Ok((part, behind)),
-        Err(cause) => Err(cursor.fault(cause)),
-    }
+    due(lines, src)?;
+    let read = parameters_of(alloc, &Words::of(lines.line()));
+    take_line(lines, read)
 }
 
 /// The line that is due, as the goal states of so many.
-#[tactic(auto, unfolding(line_text::specs::Reading::line_at))]
-fn goal_line<'t>(
+fn goal_line<S: Source>(
     alloc: Global,
-    cursor: &Cursor<'t>,
+    lines: &mut Lines,
+    src: &mut S,
     states: u32,
-) -> Result<(Vec<bool>, Cursor<'t>), TextError>
-    ensures { Gives (λ x. (x.0.items, x.1)) result (line_at (goal_of states) cursor.now) }
+) -> Result<Vec<bool>, FileError>
+    ensures { Follows S.left S.faults (λ x. x.items) (line_at (goal_of states))
+        lines.old lines.new src.old src.new result }
 {
-    let (line, behind) = cursor.due()?;
-    match goal_of(alloc, states, &Words::of(line)) {
-        Ok(part) => Ok((part, behind)),
-        Err(cause) => Err(cursor.fault(cause)),
-    }
+    due(lines, src)?;
+    let read = goal_of(alloc, states, &Words::of(lines.line()));
+    take_line(lines, read)
 }
 
 /// The line that is due, as the bound.
-#[tactic(auto, unfolding(line_text::specs::Reading::line_at))]
-fn bound_line<'t>(cursor: &Cursor<'t>) -> Result<(Bound, Cursor<'t>), TextError>
-    ensures { Gives (λ x. x) result (line_at bound_of cursor.now) }
+fn bound_line<S: Source>(lines: &mut Lines, src: &mut S) -> Result<Bound, FileError>
+    ensures { Follows S.left S.faults (λ x. x) (line_at bound_of)
+        lines.old lines.new src.old src.new result }
 {
-    let (line, behind) = cursor.due()?;
-    match bound_of(&Words::of(line)) {
-        Ok(part) => Ok((part, behind)),
-        Err(cause) => Err(cursor.fault(cause)),
-    }
+    due(lines, src)?;
+    let read = bound_of(&Words::of(lines.line()));
+    take_line(lines, read)
 }
 
 /// The line that is due in the second version, as the least precision of a range up to that one.
-#[tactic(auto, unfolding(crate::specs::Head::from_at))]
-fn from_line<'t>(
+fn from_line<S: Source>(
     alloc: Global,
-    cursor: Cursor<'t>,
+    lines: &mut Lines,
+    src: &mut S,
     second: bool,
     w: u32,
-) -> Result<(Option<u32>, Cursor<'t>), TextError>
-    requires { w ≤ most_precision }
-    ensures { Gives (λ x. x) result (from_at second w cursor.entry) }
+) -> Result<Option<u32>, FileError>
+    requires small { w ≤ most_precision }
+    requires ready { lines.old.failure ≡ None }
+    ensures { Follows S.left S.faults (λ x. x) (from_at second w) lines.old lines.new src.old src.new result }
 {
+    calls_add_up::<S>();
     if !second {
-        return Ok((None, cursor));
+        return Ok(None);
     }
-    let (v, behind) = number_line(alloc, &cursor, b"from", 1, u64::from(w) + 1)?;
-    Ok((Some(v as u32), behind))
+    let v = number_line(alloc, lines, src, b"from", 1, u64::from(w) + 1)?;
+    Ok(Some(v as u32))
 }
 
 /// The line that is due, as the root.
-#[tactic(auto, unfolding(line_text::specs::Reading::line_at))]
-fn box_line<'t>(
+fn box_line<S: Source>(
     alloc: Global,
-    cursor: &Cursor<'t>,
+    lines: &mut Lines,
+    src: &mut S,
     parameters: u32,
     depth: u32,
-) -> Result<(Rect, Cursor<'t>), TextError>
+) -> Result<Rect, FileError>
     requires { depth ≤ most_halvings }
-    ensures { Gives (λ x. x) result (line_at (box_of parameters depth) cursor.now) }
+    ensures { Follows S.left S.faults (λ x. x) (line_at (box_of parameters depth))
+        lines.old lines.new src.old src.new result }
 {
-    let (line, behind) = cursor.due()?;
-    match box_of(alloc, &Words::of(line), parameters, depth) {
-        Ok(part) => Ok((part, behind)),
-        Err(cause) => Err(cursor.fault(cause)),
-    }
+    due(lines, src)?;
+    let read = box_of(alloc, &Words::of(lines.line()), parameters, depth);
+    take_line(lines, read)
+}
+
+/// A number of a head as a signed one.
+fn signed(n: u64) -> i64
+    requires { n < 2 ^ 62 }
+    ensures { result ≡ pos n }
+{
+    n as i64
 }
 
 /// The parts of the head whose first line is due.
-#[tactic(auto, unfolding(crate::specs::Head::head_at))]
-pub(crate) fn parts_at<'t>(
+pub(crate) fn parts_at<S: Source>(
     alloc: Global,
-    cursor: &Cursor<'t>,
-) -> Result<(Parts, Cursor<'t>), TextError>
-    ensures { Gives (λ x. (head_of x.0, x.1)) result (head_at cursor.now) }
+    lines: &mut Lines,
+    src: &mut S,
+) -> Result<Parts, FileError>
+    ensures { Follows S.left S.faults head_of head_at lines.old lines.new src.old src.new result }
 {
-    let (second, rest) = version_line(alloc, cursor)?;
-    let (kind, rest) = kind_line(&rest)?;
-    let (names, rest) = parameters_line(alloc, &rest)?;
+    calls_add_up::<S>();
+    let second = version_line(alloc, lines, src)?;
+    let kind = kind_line(lines, src)?;
+    let names = parameters_line(alloc, lines, src)?;
     let parameters = names.len();
-    let (common, rest) = number_line(alloc, &rest, b"common", 1, NUMBER_LIMIT)?;
-    let (count, rest) = number_line(alloc, &rest, b"states", 1, MOST_STATES + 1)?;
-    let (init, rest) = number_line(alloc, &rest, b"init", 0, count)?;
-    let (goal, rest) = goal_line(alloc, &rest, count as u32)?;
-    let (states, rest) = states(alloc, rest, kind, count as u32, parameters)?;
-    let (bound, rest) = bound_line(&rest)?;
-    let (w, rest) = number_line(alloc, &rest, b"precision", 1, MOST_PRECISION + 1)?;
-    let (from, rest) = from_line(alloc, rest, second, w as u32)?;
-    let (depth, rest) = number_line(alloc, &rest, b"depth", 0, MOST_HALVINGS + 1)?;
-    let (d, rest) = number_line(alloc, &rest, b"grid", 1, NUMBER_LIMIT)?;
-    let (root, rest) = box_line(alloc, &rest, parameters, depth as u32)?;
-    let parts = Parts {
+    let common = number_line(alloc, lines, src, b"common", 1, NUMBER_LIMIT)?;
+    let count = number_line(alloc, lines, src, b"states", 1, MOST_STATES + 1)?;
+    let init = number_line(alloc, lines, src, b"init", 0, count)?;
+    let goal = goal_line(alloc, lines, src, count as u32)?;
+    let states = states(alloc, lines, src, kind, count as u32, parameters)?;
+    let bound = bound_line(lines, src)?;
+    let w = number_line(alloc, lines, src, b"precision", 1, MOST_PRECISION + 1)?;
+    let from = from_line(alloc, lines, src, second, w as u32)?;
+    let depth = number_line(alloc, lines, src, b"depth", 0, MOST_HALVINGS + 1)?;
+    let d = number_line(alloc, lines, src, b"grid", 1, NUMBER_LIMIT)?;
+    let root = box_line(alloc, lines, src, parameters, depth as u32)?;
+    Ok(Parts {
         kind,
-        common: common as i64,
+        common,
         names,
         goal,
         init: init as u32,
         states,
         root,
-        grid: Grid {
-            d: d as i64,
-            depth: depth as u32,
-        },
+        d,
+        depth: depth as u32,
         precisions: Precisions { from, w: w as u32 },
         bound,
-    };
-    Ok((parts, rest))
+    })
 }

@@ -1,16 +1,17 @@
 // What a report says before its nodes, as it is read.
-ghost use Rattle.std.specs.Prelude.{◌≡◌, ◌≤◌, ◌<◌, ◌+◌, ◌^◌, drop, length, IfOk};
-ghost use Rattle.line_text.specs.Shown.{Gives};
+ghost use Rattle.std.specs.Prelude.{◌≡◌};
+ghost use Rattle.line_text.specs.Follow.{Follows};
 ghost use Rattle.corner_lift.specs.Case.{case_of};
 ghost use Rattle.cert_text.specs.Forms.{IsHead};
 ghost use Rattle.cert_text.specs.Head.{head_at, least_precision, version};
 
 use crate::head_parts::parts_at;
 use crate::precisions::Precisions;
+use lift_base::{Lines, Source};
 use lift_cert::Bound;
 use lift_grid::{Grid, Rect};
 use lift_model::Model;
-use line_text::{Cursor, Place, TextError};
+use line_text::FileError;
 use std::alloc::Global;
 
 /// The head of a report: its model, root, grid, precisions and bound.
@@ -137,17 +138,14 @@ impl Head {
     }
 }
 
-/// Reads the head with which a text begins, and gives the place behind it.
-#[tactic(auto, using(crate::proofs::Places::head_left))]
-pub fn read_head(alloc: Global, text: &[u8]) -> Result<(Head, Place), TextError>
-    requires { length text.now < 2 ^ 31 }
-    ensures value { Gives (λ x. (x.0, (x.1.number, drop x.1.at text.now))) result
-        (head_at (1, text.now)) }
-    ensures at { IfOk result (λ x. x.1.at ≤ length text.now) }
-    ensures number { IfOk result (λ x. x.1.number ≤ x.1.at + 1) }
+/// Reads the head of a report, whose first line is due.
+pub fn read_head<S: Source>(
+    alloc: Global,
+    lines: &mut Lines,
+    src: &mut S,
+) -> Result<Head, FileError>
+    ensures { Follows S.left S.faults (λ h. h) head_at lines.old lines.new src.old src.new result }
 {
-    let cursor = Cursor::start(text);
-    let (parts, behind) = parts_at(alloc, &cursor)?;
-    let place = behind.place_in(text);
-    Ok((parts.into_head(), place))
+    let parts = parts_at(alloc, lines, src)?;
+    Ok(parts.into_head())
 }

@@ -20,15 +20,15 @@ const MOST_BYTES: usize = 256;
 
 /// A text, and the polynomial that it writes.
 #[derive(Drop)]
-pub(crate) struct Known<'t> {
-    pub text: &'t [u8],
+pub(crate) struct Known {
+    pub text: Vec<u8>,
     pub poly: SharedPoly,
 }
 
 /// Texts that were read, and for each hash of a text the place where it is looked for.
 #[derive(Drop)]
-pub(crate) struct KnownTerms<'t> {
-    pub texts: Vec<Known<'t>>,
+pub(crate) struct KnownTerms {
+    pub texts: Vec<Known>,
     pub places: [u8; 256],
 }
 
@@ -41,7 +41,7 @@ fn hash_of(text: &[u8]) -> u8 {
     hash.wrapping_mul(0x9E37_79B1).to_be_bytes()[0]
 }
 
-impl<'t> KnownTerms<'t> {
+impl KnownTerms {
     /// No text was read yet. It takes no memory.
     pub fn new(alloc: Global) -> Self
         ensures { result.texts.items ≡ [] }
@@ -58,7 +58,7 @@ impl<'t> KnownTerms<'t> {
             ≡ Some (text.now, poly.now)) }
     {
         let known = self.texts.get(place)?;
-        if known.text == text {
+        if known.text.as_slice() == text {
             Some(&known.poly)
         } else {
             None
@@ -66,8 +66,8 @@ impl<'t> KnownTerms<'t> {
     }
 
     /// One more text that is kept, in place of another where there are many.
-    fn keep(&mut self, hash: u8, known: Known<'t>) -> Result<(), AllocError>
-        ensures { (parameters : ℕ) → AreKnown parameters self.old.texts.items → IsKnown parameters known.entry
+    fn keep(&mut self, hash: u8, known: Known) -> Result<(), AllocError>
+        ensures { (parameters : ℕ) → AreKnown parameters self.old.texts.items → IsKnown parameters known
             → AreKnown parameters self.new.texts.items }
     {
         if self.texts.len() < MOST_TEXTS {
@@ -85,7 +85,7 @@ impl<'t> KnownTerms<'t> {
     fn text_terms(
         &mut self,
         alloc: Global,
-        text: &'t [u8],
+        text: &[u8],
         parameters: u32,
     ) -> Result<Result<SharedPoly, TextCause>, TextCause>
         requires parameters { parameters ≤ most_parameters }
@@ -101,7 +101,7 @@ impl<'t> KnownTerms<'t> {
         match terms_of(alloc, Words::of(text), parameters)? {
             Ok(poly) => {
                 let known = Known {
-                    text,
+                    text: Vec::from_slice(alloc, text)?,
                     poly: poly.share()?,
                 };
                 self.keep(hash, known)?;
@@ -116,7 +116,7 @@ impl<'t> KnownTerms<'t> {
     pub fn terms(
         &mut self,
         alloc: Global,
-        words: Words<'t>,
+        words: Words,
         parameters: u32,
     ) -> Result<Result<SharedPoly, TextCause>, TextCause>
         requires parameters { parameters ≤ most_parameters }

@@ -1,5 +1,5 @@
-//! The text of a report: its head and the lines of its nodes, written and read. The writers take no
-//! memory.
+//! The text of a report: its head and the lines of its nodes, written, and read line by line of a source. The
+//! writers take no memory.
 #![tactic(auto)]
 
 mod at_precision;
@@ -15,6 +15,7 @@ mod marks;
 mod model;
 mod node;
 mod node_reader;
+mod number_line;
 mod parameters;
 mod precisions;
 mod rejected;
@@ -26,7 +27,7 @@ pub use head_reader::{Head, read_head};
 pub use laws::{
     heads_are_read, nodes_are_read, prefixes_are_truncated, reports_are_read, texts_tell_one_report,
 };
-pub use line_text::{Place, TextCause, TextError};
+pub use line_text::{FileError, TextCause, TextError};
 pub use model::write_model;
 pub use node::{write_accept, write_at, write_reject, write_split, write_unknown};
 pub use node_reader::{Node, read_node};

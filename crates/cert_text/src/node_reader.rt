@@ -1,23 +1,34 @@
 // Reads a node of a report.
-ghost use Rattle.std.specs.Prelude.{◌≡◌, ◌≤◌, ◌<◌, ◌+◌, ◌^◌, ℕ, drop, length, map, codes, IfOk};
+ghost use Rattle.std.specs.Prelude.{◌≡◌, ◌≤◌, ◌+◌, length, map, codes, None, IfOk};
+ghost use Rattle.std.specs.List.{before_first};
+ghost use Rattle.lift_base.specs.Lines.{IsFront, is_feed};
+ghost use Rattle.lift_base.specs.declared.pieces.Front.TheVariants as front;
 ghost use Rattle.line_text.specs.Reading.{line_at};
+ghost use Rattle.line_text.specs.Words.{words};
+ghost use Rattle.line_text.specs.declared.error.TextCause.TheVariants.{Syntax};
+ghost use Rattle.line_text.specs.declared.error.FileError.TheVariants as file;
+ghost use Rattle.line_text.specs.Follow.{Follows, told_fault};
 ghost use Rattle.lift_cert.specs.RejectMiss.{most_height};
 ghost use Rattle.corner_lift.specs.Certificate.{most_rate};
-ghost use Rattle.cert_text.specs.Lines.{values_of, marks_of, reject_of};
+ghost use Rattle.cert_text.specs.Lines.{values_of, marks_of, reject_of, unknown_of};
 ghost use Rattle.cert_text.specs.Nodes.{begins, fits_leaf, reject};
 ghost use Rattle.cert_text.specs.Nodes.{split_at, accept_at, rejecting_at, reject_at, unknown_at, node_at};
 ghost use Rattle.cert_text.specs.Nodes.{node_by, decided_by, told_at, second_by, node_in};
-ghost use Rattle.line_text.specs.Shown.{Gives};
-ghost use Rattle.cert_text.specs.Leaf.{rejected_of, node_of};
+ghost use Rattle.line_text.specs.Shown.{Says};
+ghost use Rattle.cert_text.specs.Leaf.{Copies, rejected_of, node_of};
 
 use crate::at_precision::AtPrecision;
 use crate::head_reader::Head;
 use crate::marks::{Ends, fit_states, marks_of};
+use crate::number_line::number_line;
 use crate::rejected::{Rejected, reject_of};
 use crate::values::values_of;
 use corner_lift::one_at;
+use lift_base::{Lines, Source};
 use lift_grid::{Marks, Values};
-use line_text::{Cursor, Place, TextCause, TextError, Words, is_number, is_signed, number_line};
+use line_text::{
+    FileError, TextCause, Words, calls_add_up, due, fault, is_number, is_signed, take_line,
+};
 use std::alloc::Global;
 
 /// A node of a report, without its halves.
@@ -47,93 +58,86 @@ pub enum Node {
 }
 
 /// Whether the line begins with that word.
-fn begins(words: &Words, key: &[u8]) -> bool
-    ensures { result ≡ begins key.now words.now }
+fn begins(line: &[u8], key: &[u8]) -> bool
+    ensures { result ≡ begins key.now (words line.now) }
 {
-    match words.first() {
+    match Words::of(line).first() {
         Ok((word, _)) => word == key,
         Err(_) => false,
     }
 }
 
 /// The line that is due, as a word and a number for each state.
-#[tactic(auto, unfolding(line_text::specs::Reading::line_at))]
-fn values_line<'t>(
+fn values_line<S: Source>(
     alloc: Global,
-    cursor: &Cursor<'t>,
+    lines: &mut Lines,
+    src: &mut S,
     key: &[u8],
     at: &AtPrecision,
-) -> Result<(Vec<i64>, Cursor<'t>), TextError>
-    ensures value { Gives (λ x. (x.0.items, x.1)) result
-        (line_at (values_of key.now (length at.now.asked.model.states) at.now.asked.w) cursor.now) }
-    ensures size { IfOk result (λ x. length x.0.items ≡ length at.now.asked.model.states) }
+) -> Result<Vec<i64>, FileError>
+    ensures value { Follows S.left S.faults (λ x. x.items)
+        (line_at (values_of key.now (length at.now.asked.model.states) at.now.asked.w))
+        lines.old lines.new src.old src.new result }
+    ensures size { IfOk result (λ x. length x.items ≡ length at.now.asked.model.states) }
+    ensures given { IfOk result (λ _. lines.new.given ≡ lines.old.given + 1) }
 {
-    let (line, behind) = cursor.due()?;
-    match values_of(alloc, &Words::of(line), key, at.model().states(), at.u()) {
-        Ok(values) => Ok((values, behind)),
-        Err(cause) => Err(cursor.fault(cause)),
-    }
+    due(lines, src)?;
+    let read = values_of(
+        alloc,
+        &Words::of(lines.line()),
+        key,
+        at.model().states(),
+        at.u(),
+    );
+    take_line(lines, read)
 }
 
 /// The line that is due, as a word and a mark for each of the ends.
-#[tactic(auto, unfolding(line_text::specs::Reading::line_at))]
-fn marks_line<'t>(
+fn marks_line<S: Source>(
     alloc: Global,
-    cursor: &Cursor<'t>,
+    lines: &mut Lines,
+    src: &mut S,
     key: &[u8],
     ends: &Ends,
-) -> Result<(Vec<u32>, Cursor<'t>), TextError>
-    ensures value { Gives (λ x. (x.0.items, x.1)) result
-        (line_at (marks_of key.now ends.now) cursor.now) }
-    ensures size { IfOk result (λ x. length x.0.items ≡ length ends.now) }
+) -> Result<Vec<u32>, FileError>
+    ensures value { Follows S.left S.faults (λ x. x.items)
+        (line_at (marks_of key.now ends.now)) lines.old lines.new src.old src.new result }
+    ensures size { IfOk result (λ x. length x.items ≡ length ends.now) }
+    ensures given { IfOk result (λ _. lines.new.given ≡ lines.old.given + 1) }
 {
-    let (line, behind) = cursor.due()?;
-    match marks_of(alloc, &Words::of(line), key, ends) {
-        Ok(marks) => Ok((marks, behind)),
-        Err(cause) => Err(cursor.fault(cause)),
-    }
-}
-
-/// The line that is due, as the first one of a rejecting leaf.
-#[tactic(auto, unfolding(line_text::specs::Reading::line_at))]
-fn rejected_line<'t>(cursor: &Cursor<'t>) -> Result<(Rejected<'t>, Cursor<'t>), TextError>
-    ensures value { Gives (λ x. (rejected_of x.0, x.1)) result (line_at reject_of cursor.now) }
-    ensures e { IfOk result (λ x. x.0.e ≤ most_rate) }
-    ensures k { IfOk result (λ x. x.0.k ≤ most_height) }
-{
-    let (line, behind) = cursor.due()?;
-    match reject_of(&Words::of(line)) {
-        Ok(rejected) => Ok((rejected, behind)),
-        Err(cause) => Err(cursor.fault(cause)),
-    }
+    due(lines, src)?;
+    let read = marks_of(alloc, &Words::of(lines.line()), key, ends);
+    take_line(lines, read)
 }
 
 /// A split, whose line is due.
-#[tactic(auto, unfolding(crate::specs::Nodes::split_at))]
-fn split_at<'t>(
+fn split_at<S: Source>(
     alloc: Global,
-    cursor: &Cursor<'t>,
+    lines: &mut Lines,
+    src: &mut S,
     head: &Head,
-) -> Result<(Node, Cursor<'t>), TextError>
-    ensures { Gives (λ x. (node_of x.0, x.1)) result (split_at head.now cursor.now) }
+) -> Result<Node, FileError>
+    ensures { Follows S.left S.faults node_of (split_at head.now) lines.old lines.new src.old src.new result }
 {
+    calls_add_up::<S>();
     let parameters = u64::from(head.model().names().len());
-    let (axis, behind) = number_line(alloc, cursor, b"split", 0, parameters)?;
-    Ok((Node::Split { axis: axis as u32 }, behind))
+    let axis = number_line(alloc, lines, src, b"split", 0, parameters)?;
+    Ok(Node::Split { axis: axis as u32 })
 }
 
 /// An accepting leaf, whose line is due.
-#[tactic(auto, unfolding(crate::specs::Nodes::accept_at))]
-fn accept_at<'t>(
+fn accept_at<S: Source>(
     alloc: Global,
-    cursor: &Cursor<'t>,
+    lines: &mut Lines,
+    src: &mut S,
     at: &AtPrecision,
-) -> Result<(Node, Cursor<'t>), TextError>
-    ensures { Gives (λ x. (node_of x.0, x.1)) result (accept_at at.now cursor.now) }
+) -> Result<Node, FileError>
+    ensures { Follows S.left S.faults node_of (accept_at at.now) lines.old lines.new src.old src.new result }
 {
-    let (numbers, behind) = values_line(alloc, cursor, b"accept", at)?;
+    calls_add_up::<S>();
+    let numbers = values_line(alloc, lines, src, b"accept", at)?;
     let x = Values::from_vec(numbers);
-    Ok((Node::Accept { u: at.u(), x }, behind))
+    Ok(Node::Accept { u: at.u(), x })
 }
 
 /// What is tested of a rejecting leaf after its four lines.
@@ -153,72 +157,95 @@ fn fits_leaf(at: &AtPrecision, rejected: &Rejected, y: &[i64], picks: &[u32], ra
         && fit_states(model, picks, ranks)
 }
 
-/// An unknown leaf, whose line is due.
-#[tactic(auto, unfolding(crate::specs::Nodes::unknown_at, line_text::specs::Reading::line_at))]
-fn unknown_at<'t>(cursor: &Cursor<'t>) -> Result<(Node, Cursor<'t>), TextError>
-    ensures { Gives (λ x. (node_of x.0, x.1)) result (unknown_at cursor.now) }
+/// The words of an unknown leaf's line: one word.
+fn unknown_of(words: &Words) -> Result<(), TextCause>
+    ensures { Says (λ x. x) result (unknown_of words.now) }
 {
-    let (line, behind) = cursor.due()?;
-    match Words::of(line).keyed(b"unknown") {
-        Ok(rest) => {
-            if rest.is_empty() {
-                Ok((Node::Unknown, behind))
-            } else {
-                Err(cursor.fault(TextCause::Syntax))
-            }
-        }
-        Err(cause) => Err(cursor.fault(cause)),
+    let rest = words.keyed(b"unknown")?;
+    if rest.is_empty() {
+        Ok(())
+    } else {
+        Err(TextCause::Syntax)
     }
+}
+
+/// An unknown leaf, whose line is due.
+fn unknown_at<S: Source>(lines: &mut Lines, src: &mut S) -> Result<Node, FileError>
+    ensures { Follows S.left S.faults node_of unknown_at lines.old lines.new src.old src.new result }
+{
+    calls_add_up::<S>();
+    unknown_line(lines, src)?;
+    Ok(Node::Unknown)
+}
+
+/// The line that is due, as the one of an unknown leaf.
+fn unknown_line<S: Source>(lines: &mut Lines, src: &mut S) -> Result<(), FileError>
+    ensures { Follows S.left S.faults (λ x. x) (line_at unknown_of)
+        lines.old lines.new src.old src.new result }
+{
+    due(lines, src)?;
+    let read = unknown_of(&Words::of(lines.line()));
+    take_line(lines, read)
 }
 
 /// The line that is due, as the pick of each state.
-fn picks_line<'t>(
+fn picks_line<S: Source>(
     alloc: Global,
-    cursor: &Cursor<'t>,
+    lines: &mut Lines,
+    src: &mut S,
     at: &AtPrecision,
-) -> Result<(Vec<u32>, Cursor<'t>), TextError>
-    ensures value { Gives (λ x. (x.0.items, x.1)) result
-        (line_at (marks_of (codes "choice") (map length at.now.asked.model.states)) cursor.now) }
-    ensures size { IfOk result (λ x. length x.0.items ≡ length at.now.asked.model.states) }
+) -> Result<Vec<u32>, FileError>
+    ensures value { Follows S.left S.faults (λ x. x.items)
+        (line_at (marks_of (codes "choice") (map length at.now.asked.model.states)))
+        lines.old lines.new src.old src.new result }
+    ensures size { IfOk result (λ x. length x.items ≡ length at.now.asked.model.states) }
+    ensures given { IfOk result (λ _. lines.new.given ≡ lines.old.given + 1) }
 {
-    marks_line(alloc, cursor, b"choice", &Ends::choices(at.model()))
+    marks_line(alloc, lines, src, b"choice", &Ends::choices(at.model()))
 }
 
 /// The line that is due, as the rank of each state.
-fn ranks_line<'t>(
+fn ranks_line<S: Source>(
     alloc: Global,
-    cursor: &Cursor<'t>,
+    lines: &mut Lines,
+    src: &mut S,
     at: &AtPrecision,
     k: u32,
-) -> Result<(Vec<u32>, Cursor<'t>), TextError>
+) -> Result<Vec<u32>, FileError>
     requires { k ≤ most_height }
-    ensures value { Gives (λ x. (x.0.items, x.1)) result
-        (line_at (marks_of (codes "rank") (map (λ _. k + 1) at.now.asked.model.states)) cursor.now) }
-    ensures size { IfOk result (λ x. length x.0.items ≡ length at.now.asked.model.states) }
+    ensures value { Follows S.left S.faults (λ x. x.items)
+        (line_at (marks_of (codes "rank") (map (λ _. k + 1) at.now.asked.model.states)))
+        lines.old lines.new src.old src.new result }
+    ensures size { IfOk result (λ x. length x.items ≡ length at.now.asked.model.states) }
+    ensures given { IfOk result (λ _. lines.new.given ≡ lines.old.given + 1) }
 {
-    marks_line(alloc, cursor, b"rank", &Ends::limit(at.model(), k + 1))
+    marks_line(alloc, lines, src, b"rank", &Ends::limit(at.model(), k + 1))
 }
 
-/// A rejecting leaf from its second line on, of which the first is read.
-#[tactic(auto, unfolding(crate::specs::Nodes::rejecting_at))]
-fn rejecting<'t>(
+/// A rejecting leaf from its second line on, of which the first is read. That the leaf doesn't fit is told of its
+/// first line.
+fn rejecting<S: Source>(
     alloc: Global,
-    cursor: &Cursor<'t>,
+    lines: &mut Lines,
+    src: &mut S,
     at: &AtPrecision,
     rejected: &Rejected,
-) -> Result<(Node, Cursor<'t>), TextError>
+    misfit: FileError,
+) -> Result<Node, FileError>
     requires e { rejected.now.e ≤ most_rate }
     requires k { rejected.now.k ≤ most_height }
-    ensures { Gives (λ x. (node_of x.0, x.1)) result
-        (rejecting_at at.now (rejected_of rejected.now) cursor.now) }
+    requires misfit { misfit ≡ file.Text (told_fault (record { line = lines.old.given; cause = Syntax })) }
+    ensures { Follows S.left S.faults node_of (rejecting_at at.now (rejected_of rejected.now))
+        lines.old lines.new src.old src.new result }
 {
-    let (y, behind) = values_line(alloc, cursor, b"y", at)?;
-    let (picks, behind) = picks_line(alloc, &behind, at)?;
-    let (ranks, behind) = ranks_line(alloc, &behind, at, rejected.k)?;
+    calls_add_up::<S>();
+    let y = values_line(alloc, lines, src, b"y", at)?;
+    let picks = picks_line(alloc, lines, src, at)?;
+    let ranks = ranks_line(alloc, lines, src, at, rejected.k)?;
     if !fits_leaf(at, rejected, &y, &picks, &ranks) {
-        return Err(behind.fault_above(4, TextCause::Syntax));
+        return Err(misfit);
     }
-    Ok((leaf(at.u(), rejected, y, picks, ranks), behind))
+    Ok(leaf(at.u(), rejected, y, picks, ranks))
 }
 
 /// A rejecting leaf of these parts, at that precision.
@@ -241,147 +268,143 @@ fn leaf(u: u32, rejected: &Rejected, y: Vec<i64>, picks: Vec<u32>, ranks: Vec<u3
     }
 }
 
-/// A rejecting leaf, whose first line is due.
-#[tactic(auto, unfolding(crate::specs::Nodes::reject_at))]
-fn reject_at<'t>(
-    alloc: Global,
-    cursor: &Cursor<'t>,
-    at: &AtPrecision,
-) -> Result<(Node, Cursor<'t>), TextError>
-    ensures { Gives (λ x. (node_of x.0, x.1)) result (reject_at at.now cursor.now) }
+/// A copy of the line that is due, which is left at the front.
+fn copy_due<S: Source>(alloc: Global, lines: &mut Lines, src: &mut S) -> Result<Vec<u8>, FileError>
+    ensures { Copies S.left S.faults lines.old lines.new src.old src.new result }
 {
-    let (rejected, behind) = rejected_line(cursor)?;
-    rejecting(alloc, &behind, at, &rejected)
-}
-
-/// The node whose first line is due, by the words of that line, in the first version.
-#[tactic(auto, unfolding(crate::specs::Nodes::node_by))]
-fn node_by<'t>(
-    alloc: Global,
-    words: &Words,
-    cursor: &Cursor<'t>,
-    head: &Head,
-) -> Result<(Node, Cursor<'t>), TextError>
-    ensures { Gives (λ x. (node_of x.0, x.1)) result (node_by head.now words.now cursor.now) }
-{
-    if begins(words, b"split") {
-        split_at(alloc, cursor, head)
-    } else if begins(words, b"accept") {
-        accept_at(alloc, cursor, &AtPrecision::greatest(head))
-    } else if begins(words, b"reject") {
-        reject_at(alloc, cursor, &AtPrecision::greatest(head))
-    } else {
-        unknown_at(cursor)
+    due(lines, src)?;
+    match Vec::from_slice(alloc, lines.line()) {
+        Ok(line) => Ok(line),
+        Err(_) => Err(fault(lines, TextCause::Memory)),
     }
 }
 
-/// The decided leaf whose line is due, by the words of that line.
-#[tactic(auto, unfolding(crate::specs::Nodes::decided_by))]
-fn decided_by<'t>(
+/// A rejecting leaf, whose first line is due. That line is kept until the others are read.
+fn reject_at<S: Source>(
     alloc: Global,
-    words: &Words,
-    cursor: &Cursor<'t>,
+    lines: &mut Lines,
+    src: &mut S,
     at: &AtPrecision,
-) -> Result<(Node, Cursor<'t>), TextError>
-    ensures { Gives (λ x. (node_of x.0, x.1)) result (decided_by at.now words.now cursor.now) }
+) -> Result<Node, FileError>
+    ensures { Follows S.left S.faults node_of (reject_at at.now) lines.old lines.new src.old src.new result }
 {
-    if begins(words, b"accept") {
-        accept_at(alloc, cursor, at)
-    } else if begins(words, b"reject") {
-        reject_at(alloc, cursor, at)
+    calls_add_up::<S>();
+    let first = copy_due(alloc, lines, src)?;
+    let misfit = fault(lines, TextCause::Syntax);
+    let read = reject_of(&Words::of(&first));
+    let rejected = take_line(lines, read)?;
+    rejecting(alloc, lines, src, at, &rejected, misfit)
+}
+
+/// The node whose first line is at the front, in the first version.
+fn node_by<S: Source>(
+    alloc: Global,
+    lines: &mut Lines,
+    src: &mut S,
+    head: &Head,
+) -> Result<Node, FileError>
+    requires { IsFront front.Line lines.old.held }
+    ensures { Follows S.left S.faults node_of (node_by head.now (words (before_first is_feed lines.old.held)))
+        lines.old lines.new src.old src.new result }
+{
+    if begins(lines.line(), b"split") {
+        split_at(alloc, lines, src, head)
+    } else if begins(lines.line(), b"accept") {
+        accept_at(alloc, lines, src, &AtPrecision::greatest(head))
+    } else if begins(lines.line(), b"reject") {
+        reject_at(alloc, lines, src, &AtPrecision::greatest(head))
     } else {
-        Err(cursor.fault(TextCause::Syntax))
+        unknown_at(lines, src)
+    }
+}
+
+/// The decided leaf whose line is at the front.
+fn decided_by<S: Source>(
+    alloc: Global,
+    lines: &mut Lines,
+    src: &mut S,
+    at: &AtPrecision,
+) -> Result<Node, FileError>
+    requires line { IsFront front.Line lines.old.held }
+    requires ready { lines.old.failure ≡ None }
+    ensures { Follows S.left S.faults node_of (decided_by at.now (words (before_first is_feed lines.old.held)))
+        lines.old lines.new src.old src.new result }
+{
+    calls_add_up::<S>();
+    if begins(lines.line(), b"accept") {
+        accept_at(alloc, lines, src, at)
+    } else if begins(lines.line(), b"reject") {
+        reject_at(alloc, lines, src, at)
+    } else {
+        Err(fault(lines, TextCause::Syntax))
     }
 }
 
 /// The decided leaf behind the line of its precision, which is due.
-#[tactic(auto, unfolding(crate::specs::Nodes::told_at))]
-fn told_at<'t>(
+fn told_at<S: Source>(
     alloc: Global,
-    cursor: &Cursor<'t>,
+    lines: &mut Lines,
+    src: &mut S,
     head: &Head,
-) -> Result<(Node, Cursor<'t>), TextError>
-    ensures { Gives (λ x. (node_of x.0, x.1)) result (told_at head.now cursor.now) }
+) -> Result<Node, FileError>
+    ensures { Follows S.left S.faults node_of (told_at head.now) lines.old lines.new src.old src.new result }
 {
+    calls_add_up::<S>();
     let low = u64::from(head.from());
     let end = u64::from(head.w()) + 1;
-    let (u, behind) = number_line(alloc, cursor, b"at", low, end)?;
-    let (line, _) = behind.due()?;
-    decided_by(
-        alloc,
-        &Words::of(line),
-        &behind,
-        &AtPrecision::new(head, u as u32),
-    )
+    let u = number_line(alloc, lines, src, b"at", low, end)?;
+    due(lines, src)?;
+    decided_by(alloc, lines, src, &AtPrecision::new(head, u as u32))
 }
 
-/// The node whose first line is due, by the words of that line, in the second version.
-#[tactic(auto, unfolding(crate::specs::Nodes::second_by))]
-fn second_by<'t>(
+/// The node whose first line is at the front, in the second version.
+fn second_by<S: Source>(
     alloc: Global,
-    words: &Words,
-    cursor: &Cursor<'t>,
+    lines: &mut Lines,
+    src: &mut S,
     head: &Head,
-) -> Result<(Node, Cursor<'t>), TextError>
-    ensures { Gives (λ x. (node_of x.0, x.1)) result (second_by head.now words.now cursor.now) }
+) -> Result<Node, FileError>
+    requires { IsFront front.Line lines.old.held }
+    ensures { Follows S.left S.faults node_of (second_by head.now (words (before_first is_feed lines.old.held)))
+        lines.old lines.new src.old src.new result }
 {
-    if begins(words, b"split") {
-        split_at(alloc, cursor, head)
-    } else if begins(words, b"at") {
-        told_at(alloc, cursor, head)
+    if begins(lines.line(), b"split") {
+        split_at(alloc, lines, src, head)
+    } else if begins(lines.line(), b"at") {
+        told_at(alloc, lines, src, head)
     } else {
-        unknown_at(cursor)
+        unknown_at(lines, src)
     }
 }
 
-/// The node whose first line is due, by the words of that line.
-fn node_in<'t>(
+/// The node whose first line is at the front.
+fn node_in<S: Source>(
     alloc: Global,
-    words: &Words,
-    cursor: &Cursor<'t>,
+    lines: &mut Lines,
+    src: &mut S,
     head: &Head,
-) -> Result<(Node, Cursor<'t>), TextError>
-    ensures { Gives (λ x. (node_of x.0, x.1)) result
-        (node_in head.now head.now.from words.now cursor.now) }
+) -> Result<Node, FileError>
+    requires { IsFront front.Line lines.old.held }
+    ensures { Follows S.left S.faults node_of
+        (node_in head.now head.now.from (words (before_first is_feed lines.old.held)))
+        lines.old lines.new src.old src.new result }
 {
     match head.told_from() {
-        None => node_by(alloc, words, cursor, head),
-        Some(_) => second_by(alloc, words, cursor, head),
+        None => node_by(alloc, lines, src, head),
+        Some(_) => second_by(alloc, lines, src, head),
     }
 }
 
-/// The node whose first line is due.
-#[tactic(auto, unfolding(crate::specs::Nodes::node_at))]
-fn node_at<'t>(
+/// Reads the node whose first line is due.
+pub fn read_node<S: Source>(
     alloc: Global,
-    cursor: &Cursor<'t>,
+    lines: &mut Lines,
+    src: &mut S,
     head: &Head,
-) -> Result<(Node, Cursor<'t>), TextError>
-    ensures { Gives (λ x. (node_of x.0, x.1)) result (node_at head.now cursor.now) }
+) -> Result<Node, FileError>
+    ensures { Follows S.left S.faults node_of (node_at head.now) lines.old lines.new src.old src.new result }
 {
-    let (line, _) = cursor.due()?;
-    node_in(alloc, &Words::of(line), cursor, head)
-}
-
-/// Reads the node whose first line is due at that place, and gives the place behind it.
-pub fn read_node(
-    alloc: Global,
-    text: &[u8],
-    place: Place,
-    head: &Head,
-) -> Result<(Node, Place), TextError>
-    requires text { length text.now < 2 ^ 31 }
-    requires at { place.at ≤ length text.now }
-    requires number { place.number ≤ place.at + 1 }
-    ensures value { Gives
-        (λ x. (node_of x.0, (x.1.number, drop x.1.at text.now)))
-        result
-        (node_at head.now (place.number, drop place.at text.now)) }
-    ensures at { IfOk result (λ x. x.1.at ≤ length text.now) }
-    ensures number { IfOk result (λ x. x.1.number ≤ x.1.at + 1) }
-{
-    let _w = head.w();
-    let cursor = Cursor::at(text, place);
-    let (node, behind) = node_at(alloc, &cursor, head)?;
-    Ok((node, behind.place_in(text)))
+    calls_add_up::<S>();
+    due(lines, src)?;
+    node_in(alloc, lines, src, head)
 }

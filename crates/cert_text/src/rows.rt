@@ -1,22 +1,25 @@
 // The rows of a head.
-ghost use Rattle.std.specs.Prelude.{◌≡◌, ◌≤◌, ◌<◌, ◌-◌, ◌++◌, ◌∷◌, [], length, map, All, IfOk};
+ghost use Rattle.std.specs.Prelude.{◌≡◌, ◌≤◌, ◌<◌, ◌-◌, ◌++◌, ◌∷◌, [], length, map, None, All, IfOk};
 ghost use Rattle.std.specs.List.{sum_by};
 ghost use Rattle.std.specs.Str.{bytes_eq};
 ghost use Rattle.std.specs.Fmt.{decimal};
 ghost use Rattle.line_text.specs.Words.{words};
 ghost use Rattle.line_text.specs.Reading.{line_at};
-ghost use Rattle.line_text.specs.Shown.{Gives};
+ghost use Rattle.line_text.specs.Follow.{Follows};
 ghost use Rattle.lift_model.specs.Valid.{most_parameters, most_states, most_choices, most_transitions};
 ghost use Rattle.cert_text.specs.Lines.{row_of};
 ghost use Rattle.cert_text.specs.Head.{row_at, is_row_of, further_at, behind_first, state_at, states_at};
 ghost use Rattle.cert_text.specs.Recent.{AreKnown};
-ghost use Rattle.cert_text.specs.Rows.{row_due, tells, row_mark, Leaves};
+ghost use Rattle.cert_text.specs.Rows.{SeesRow, tells, row_mark, Leaves};
 
 use crate::entry_line::entries;
 use crate::head_lines::row_of;
 use crate::known::KnownTerms;
+use lift_base::{Lines, Source};
 use lift_model::{Entry, Kind, Row};
-use line_text::{Cursor, Decimal, TextCause, TextError, Words, is_number};
+use line_text::{
+    Decimal, FileError, TextCause, Words, calls_add_up, due, fault, is_number, take_line,
+};
 use std::alloc::{AllocError, Global};
 
 /// How many choices a model has at most.
@@ -41,30 +44,22 @@ struct RowReader {
 }
 
 /// The line that is due, as how many entries the row of state s and choice a has.
-#[tactic(auto, unfolding(line_text::specs::Reading::line_at))]
-fn row_line<'t>(
+fn row_line<S: Source>(
     alloc: Global,
-    cursor: &Cursor<'t>,
+    lines: &mut Lines,
+    src: &mut S,
     s: u32,
     a: u32,
     left: Left,
-) -> Result<(u32, Cursor<'t>), TextError>
-    ensures value { Gives (λ x. x) result
-        (line_at (row_of s a left.choices left.transitions) cursor.now) }
+) -> Result<u32, FileError>
+    ensures value { Follows S.left S.faults (λ x. x)
+        (line_at (row_of s a left.choices left.transitions)) lines.old lines.new src.old src.new result }
     ensures some { IfOk result (λ _. 0 < left.choices) }
 {
-    let (line, behind) = cursor.due()?;
-    match row_of(
-        alloc,
-        &Words::of(line),
-        s,
-        a,
-        left.choices,
-        left.transitions,
-    ) {
-        Ok(count) => Ok((count, behind)),
-        Err(cause) => Err(cursor.fault(cause)),
-    }
+    due(lines, src)?;
+    let words = Words::of(lines.line());
+    let read = row_of(alloc, &words, s, a, left.choices, left.transitions);
+    take_line(lines, read)
 }
 
 /// The mark of a row where so many choices are left. The rows before it have lower ones.
@@ -110,12 +105,12 @@ fn is_row_of(line: &[u8], s: u32) -> bool
     }
 }
 
-/// Whether the line that is due is one of a row of state s.
-fn row_due(cursor: &Cursor, s: u32) -> Result<bool, TextError>
-    ensures { Gives (λ b. b) result (row_due s cursor.now) }
+/// Whether the line that is due is one of a row of state s. It is left at the front.
+fn row_due<S: Source>(lines: &mut Lines, src: &mut S, s: u32) -> Result<bool, FileError>
+    ensures { SeesRow S.left S.faults s lines.old lines.new src.old src.new result }
 {
-    let (line, _) = cursor.due()?;
-    Ok(is_row_of(line, s))
+    due(lines, src)?;
+    Ok(is_row_of(lines.line(), s))
 }
 
 /// Keeps a row.
@@ -161,79 +156,87 @@ fn keep_state(all: &mut Vec<Vec<Row>>, rows: Vec<Row>) -> Result<(), AllocError>
 
 impl RowReader {
     /// The row of state s and choice a, whose first line is due. Its targets are marked.
-    #[tactic(auto, unfolding(crate::specs::Head::row_at), using(crate::proofs::RowLoops::marks_below))]
-    fn row<'t>(
+    #[tactic(auto, using(crate::proofs::RowLoops::marks_below))]
+    fn row<S: Source>(
         &self,
-        known: &mut KnownTerms<'t>,
-        cursor: &Cursor<'t>,
+        known: &mut KnownTerms,
+        lines: &mut Lines,
+        src: &mut S,
         marks: &mut [u32],
         s: u32,
         a: u32,
         left: Left,
-    ) -> Result<(Row, Cursor<'t>), TextError>
+    ) -> Result<Row, FileError>
         requires states { length marks.old ≤ most_states }
         requires parameters { self.now.parameters ≤ most_parameters }
         requires known { AreKnown self.now.parameters known.old.texts.items }
         requires choices { left.choices ≤ most_choices }
         requires free { All (λ m. m < row_mark left.choices) marks.old }
-        ensures value { Gives (λ x. x) result
-            (row_at (length marks.old) self.now.parameters left.choices left.transitions s a cursor.now) }
+        ensures value { Follows S.left S.faults (λ x. x)
+            (row_at (length marks.old) self.now.parameters left.choices left.transitions s a)
+            lines.old lines.new src.old src.new result }
         ensures size { length marks.new ≡ length marks.old }
         ensures known { AreKnown self.now.parameters known.new.texts.items }
         ensures some { IfOk result (λ _. 0 < left.choices) }
         ensures marks { IfOk result (λ _. All (λ m. m < row_mark (left.choices - 1)) marks.new) }
     {
-        match row_line(self.alloc, cursor, s, a, left) {
-            Ok((count, rest)) => {
-                let mark = row_mark(left.choices);
-                match entries(self.alloc, known, rest, marks, mark, self.parameters, count) {
-                    Ok((entries, behind)) => Ok((Row::new(entries), behind)),
-                    Err(fault) => Err(fault),
-                }
-            }
-            Err(fault) => Err(fault),
-        }
+        calls_add_up::<S>();
+        let count = row_line(self.alloc, lines, src, s, a, left)?;
+        let mark = row_mark(left.choices);
+        let entries = entries(
+            self.alloc,
+            known,
+            lines,
+            src,
+            marks,
+            mark,
+            self.parameters,
+            count,
+        )?;
+        Ok(Row::new(entries))
     }
 
     /// The rows of state s behind its first, and what they leave.
-    fn further<'t>(
+    fn further<S: Source>(
         &self,
-        known: &mut KnownTerms<'t>,
-        cursor: Cursor<'t>,
+        known: &mut KnownTerms,
+        lines: &mut Lines,
+        src: &mut S,
         marks: &mut [u32],
         s: u32,
         left: Left,
-    ) -> Result<(Vec<Row>, Left, Cursor<'t>), TextError>
+    ) -> Result<(Vec<Row>, Left), FileError>
+        requires ready { lines.old.failure ≡ None }
         requires states { length marks.old ≤ most_states }
         requires parameters { self.now.parameters ≤ most_parameters }
         requires known { AreKnown self.now.parameters known.old.texts.items }
         requires choices { left.choices ≤ most_choices }
         requires transitions { left.transitions ≤ most_transitions }
         requires free { All (λ m. m < row_mark left.choices) marks.old }
-        ensures value { Gives (λ x. (x.0.items, x.2)) result
-            (further_at (length marks.old) self.now.parameters left.choices left.transitions s 1 cursor.entry) }
+        ensures value { Follows S.left S.faults (λ x. x.0.items)
+            (further_at (length marks.old) self.now.parameters left.choices left.transitions s 1)
+            lines.old lines.new src.old src.new result }
         ensures left { IfOk result (λ x. Leaves left x.1 (length x.0.items) (sum_by length x.0.items)) }
         ensures size { length marks.new ≡ length marks.old }
         ensures known { AreKnown self.now.parameters known.new.texts.items }
         ensures marks { IfOk result (λ x. All (λ m. m < row_mark x.1.choices) marks.new) }
     {
+        calls_add_up::<S>();
         let mut rows = Vec::new(self.alloc);
-        let mut rest = cursor;
         let mut now = left;
         let mut a = 1;
         loop {
-            match row_due(&rest, s) {
-                Err(fault) => return Err(fault),
-                Ok(false) => return Ok((rows, now, rest)),
-                Ok(true) => match self.row(known, &rest, marks, s, a, now) {
-                    Err(fault) => return Err(fault),
-                    Ok((row, behind)) => {
+            match row_due(lines, src, s) {
+                Err(error) => return Err(error),
+                Ok(false) => return Ok((rows, now)),
+                Ok(true) => match self.row(known, lines, src, marks, s, a, now) {
+                    Err(error) => return Err(error),
+                    Ok(row) => {
                         now = behind_row(now, row.entries());
                         match keep_row(&mut rows, row) {
-                            Ok(()) => rest = behind,
-                            Err(_) => return Err(rest.fault(TextCause::Memory)),
+                            Ok(()) => a += 1,
+                            Err(_) => return Err(fault(lines, TextCause::Memory)),
                         }
-                        a += 1;
                     }
                 },
             }
@@ -241,122 +244,125 @@ impl RowReader {
     }
 
     /// The rows of state s behind its first, and what they leave. A chain has none.
-    #[tactic(auto, unfolding(crate::specs::Head::behind_first))]
-    fn behind_first<'t>(
+    fn behind_first<S: Source>(
         &self,
-        known: &mut KnownTerms<'t>,
-        cursor: Cursor<'t>,
+        known: &mut KnownTerms,
+        lines: &mut Lines,
+        src: &mut S,
         marks: &mut [u32],
         s: u32,
         left: Left,
-    ) -> Result<(Vec<Row>, Left, Cursor<'t>), TextError>
+    ) -> Result<(Vec<Row>, Left), FileError>
+        requires ready { lines.old.failure ≡ None }
         requires states { length marks.old ≤ most_states }
         requires parameters { self.now.parameters ≤ most_parameters }
         requires known { AreKnown self.now.parameters known.old.texts.items }
         requires choices { left.choices ≤ most_choices }
         requires transitions { left.transitions ≤ most_transitions }
         requires free { All (λ m. m < row_mark left.choices) marks.old }
-        ensures value { Gives (λ x. (x.0.items, x.2)) result
-            (behind_first self.now.kind (length marks.old) self.now.parameters left.choices left.transitions s cursor.entry) }
+        ensures value { Follows S.left S.faults (λ x. x.0.items)
+            (behind_first self.now.kind (length marks.old) self.now.parameters left.choices left.transitions s)
+            lines.old lines.new src.old src.new result }
         ensures left { IfOk result (λ x. Leaves left x.1 (length x.0.items) (sum_by length x.0.items)) }
         ensures size { length marks.new ≡ length marks.old }
         ensures known { AreKnown self.now.parameters known.new.texts.items }
         ensures marks { IfOk result (λ x. All (λ m. m < row_mark x.1.choices) marks.new) }
     {
+        calls_add_up::<S>();
         match self.kind {
-            Kind::Dtmc => Ok((Vec::new(self.alloc), left, cursor)),
-            Kind::Mdp => self.further(known, cursor, marks, s, left),
+            Kind::Dtmc => Ok((Vec::new(self.alloc), left)),
+            Kind::Mdp => self.further(known, lines, src, marks, s, left),
         }
     }
 
     /// The rows of state s, and what they leave.
-    #[tactic(auto, unfolding(crate::specs::Head::state_at))]
-    fn state<'t>(
+    fn state<S: Source>(
         &self,
-        known: &mut KnownTerms<'t>,
-        cursor: &Cursor<'t>,
+        known: &mut KnownTerms,
+        lines: &mut Lines,
+        src: &mut S,
         marks: &mut [u32],
         s: u32,
         left: Left,
-    ) -> Result<(Vec<Row>, Left, Cursor<'t>), TextError>
+    ) -> Result<(Vec<Row>, Left), FileError>
         requires states { length marks.old ≤ most_states }
         requires parameters { self.now.parameters ≤ most_parameters }
         requires known { AreKnown self.now.parameters known.old.texts.items }
         requires choices { left.choices ≤ most_choices }
         requires transitions { left.transitions ≤ most_transitions }
         requires free { All (λ m. m < row_mark left.choices) marks.old }
-        ensures value { Gives (λ x. (x.0.items, x.2)) result
-            (state_at self.now.kind (length marks.old) self.now.parameters left.choices left.transitions s cursor.now) }
+        ensures value { Follows S.left S.faults (λ x. x.0.items)
+            (state_at self.now.kind (length marks.old) self.now.parameters left.choices left.transitions s)
+            lines.old lines.new src.old src.new result }
         ensures left { IfOk result (λ x. Leaves left x.1 (length x.0.items) (sum_by length x.0.items)) }
         ensures size { length marks.new ≡ length marks.old }
         ensures known { AreKnown self.now.parameters known.new.texts.items }
         ensures marks { IfOk result (λ x. All (λ m. m < row_mark x.1.choices) marks.new) }
     {
-        match self.row(known, cursor, marks, s, 0, left) {
-            Err(fault) => Err(fault),
-            Ok((first, rest)) => {
-                let now = behind_row(left, first.entries());
-                match self.behind_first(known, rest, marks, s, now) {
-                    Err(fault) => Err(fault),
-                    Ok((others, after, behind)) => match with_first(self.alloc, first, others) {
-                        Ok(rows) => Ok((rows, after, behind)),
-                        Err(_) => Err(cursor.fault(TextCause::Memory)),
-                    },
-                }
-            }
+        calls_add_up::<S>();
+        let first = self.row(known, lines, src, marks, s, 0, left)?;
+        let now = behind_row(left, first.entries());
+        let (others, after) = self.behind_first(known, lines, src, marks, s, now)?;
+        match with_first(self.alloc, first, others) {
+            Ok(rows) => Ok((rows, after)),
+            Err(_) => Err(fault(lines, TextCause::Memory)),
         }
     }
 
     /// The rows of as many states as there are marks.
-    fn all_states<'t>(
+    fn all_states<S: Source>(
         &self,
-        known: &mut KnownTerms<'t>,
-        cursor: Cursor<'t>,
+        known: &mut KnownTerms,
+        lines: &mut Lines,
+        src: &mut S,
         marks: &mut [u32],
         left: Left,
-    ) -> Result<(Vec<Vec<Row>>, Cursor<'t>), TextError>
+    ) -> Result<Vec<Vec<Row>>, FileError>
+        requires ready { lines.old.failure ≡ None }
         requires states { length marks.old ≤ most_states }
         requires parameters { self.now.parameters ≤ most_parameters }
         requires known { AreKnown self.now.parameters known.old.texts.items }
         requires choices { left.choices ≤ most_choices }
         requires transitions { left.transitions ≤ most_transitions }
         requires free { All (λ m. m < row_mark left.choices) marks.old }
-        ensures { Gives (λ x. (map (λ v. v.items) x.0.items, x.1)) result
-            (states_at self.now.kind (length marks.old) self.now.parameters (length marks.old) left.choices left.transitions 0 cursor.entry) }
+        ensures { Follows S.left S.faults (λ x. map (λ v. v.items) x.items)
+            (states_at self.now.kind (length marks.old) self.now.parameters (length marks.old) left.choices left.transitions 0)
+            lines.old lines.new src.old src.new result }
     {
+        calls_add_up::<S>();
         let mut all = Vec::new(self.alloc);
-        let mut rest = cursor;
         let mut now = left;
         for s in 0..marks.len() as u32 {
-            match self.state(known, &rest, marks, s, now) {
-                Err(fault) => return Err(fault),
-                Ok((rows, after, behind)) => match keep_state(&mut all, rows) {
-                    Ok(()) => {
-                        now = after;
-                        rest = behind;
-                    }
-                    Err(_) => return Err(rest.fault(TextCause::Memory)),
+            match self.state(known, lines, src, marks, s, now) {
+                Err(error) => return Err(error),
+                Ok((rows, after)) => match keep_state(&mut all, rows) {
+                    Ok(()) => now = after,
+                    Err(_) => return Err(fault(lines, TextCause::Memory)),
                 },
             }
         }
-        Ok((all, rest))
+        Ok(all)
     }
 }
 
 /// The rows of so many states.
 #[tactic(auto, using(crate::proofs::RowLoops::marks_none))]
-pub(crate) fn states<'t>(
+pub(crate) fn states<S: Source>(
     alloc: Global,
-    cursor: Cursor<'t>,
+    lines: &mut Lines,
+    src: &mut S,
     kind: Kind,
     states: u32,
     parameters: u32,
-) -> Result<(Vec<Vec<Row>>, Cursor<'t>), TextError>
+) -> Result<Vec<Vec<Row>>, FileError>
+    requires ready { lines.old.failure ≡ None }
     requires states { states ≤ most_states }
     requires parameters { parameters ≤ most_parameters }
-    ensures { Gives (λ x. (map (λ v. v.items) x.0.items, x.1)) result
-        (states_at kind states parameters states most_choices most_transitions 0 cursor.entry) }
+    ensures { Follows S.left S.faults (λ x. map (λ v. v.items) x.items)
+        (states_at kind states parameters states most_choices most_transitions 0)
+        lines.old lines.new src.old src.new result }
 {
+    calls_add_up::<S>();
     let left = Left {
         choices: MOST_CHOICES,
         transitions: MOST_TRANSITIONS,
@@ -369,8 +375,8 @@ pub(crate) fn states<'t>(
                 kind,
                 parameters,
             };
-            reader.all_states(&mut known, cursor, &mut marks, left)
+            reader.all_states(&mut known, lines, src, &mut marks, left)
         }
-        Err(_) => Err(cursor.fault(TextCause::Memory)),
+        Err(_) => Err(fault(lines, TextCause::Memory)),
     }
 }

@@ -6,7 +6,6 @@ mod Keys
 mod LongNumbers
 mod ShortNumbers
 mod Comparing
-pub mod FirstFeed
-pub mod Following
-pub mod Dues
-pub mod Ending
+mod Following
+mod Dues
+mod Ending

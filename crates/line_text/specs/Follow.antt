@@ -1,5 +1,5 @@
 -- Reading a text of a source line by line: what a reader of a text comes to over lines of a source.
-use Rattle.std.specs.Prelude.{◌≡◌, ◌≢◌, ◌⊎◌, ◌+◌, ◌-◌, ◌^◌, ◌≤◌, ⊤, ℕ, List, [], ◌++◌, length, min, IsTrue, Some, None, Ok, Err}
+use Rattle.std.specs.Prelude.{◌≡◌, ◌≢◌, ◌⊎◌, ◌+◌, ◌-◌, ◌^◌, ◌≤◌, ◌==◌, ⊤, ℕ, Bool, List, [], ◌++◌, length, min, IsTrue, Some, None, Ok, Err}
 use Rattle.std.specs.declared.option.Option.{Option}
 use Rattle.std.specs.declared.result.Result.{Result}
 use Rattle.std.specs.Io.KnownBytes.{Consumes, IsAtEnd}
@@ -7,7 +7,9 @@ use Rattle.lift_base.specs.Outside.{Rose}
 use Rattle.lift_base.specs.declared.pieces.LineError.{LineError}
 use Rattle.lift_base.specs.declared.pieces.LineError.TheVariants as why
 use Rattle.lift_base.specs.declared.pieces.Front.TheVariants as front
-use Rattle.lift_base.specs.Lines.{LinesData, MayFollow, ReadOn, IsFront}
+use Rattle.std.specs.List.{before_first}
+use Rattle.lift_base.specs.Lines.{LinesData, MayFollow, IsFront, is_feed, passed}
+use Rattle.line_text.specs.declared.error.TextCause.{TextCause}
 use Rattle.line_text.specs.declared.error.TextCause.TheVariants.{Memory}
 use Rattle.line_text.specs.declared.error.TextError.{TextError}
 use Rattle.line_text.specs.Reading.{Cursor, Reader, due}
@@ -45,22 +47,58 @@ failure_of (Err file.Fault) = Some why.Fault
 failure_of (Err file.TooLong) = Some why.TooLong
 failure_of _ = None
 
--- no fault was counted, but where Fault is answered; that comes only where one was, or there had been one
-abbrev pub CountsFault : {X S : Type 0} → (S → ℕ) → Option LineError → S → S → Result X FileError → Type 0
-CountsFault faults failure before after (Err file.Fault) =
-    (faults before ≤ faults after) × ((failure ≡ Some why.Fault) ⊎ Rose (faults before) (faults after))
-CountsFault faults failure before after _ = faults after ≡ faults before
+-- no fault was counted, but where the failure is Fault; it comes only where one was, or there had been one
+abbrev pub CountsFault : {S : Type 0} → (S → ℕ) → Option LineError → S → S → Option LineError → Type 0
+CountsFault faults earlier before after (Some why.Fault) =
+    (faults before ≤ faults after) × ((earlier ≡ Some why.Fault) ⊎ Rose (faults before) (faults after))
+CountsFault faults earlier before after _ = faults after ≡ faults before
+
+-- calls took these bytes, and left that failure, or none
+pub record Ran {S : Type 0} (left : S → Option (List ℕ)) (faults : S → ℕ) (old new : LinesData) (before after : S) (bytes : List ℕ) (failure : Option LineError) : Type 0 where
+  pub took : Took left old new before after bytes
+  pub left_with : new.failure ≡ failure
+  pub fault : CountsFault faults old.failure before after failure
+
+-- calls took these bytes and none failed, or none was made
+pub record Went {S : Type 0} (left : S → Option (List ℕ)) (faults : S → ℕ) (old new : LinesData) (before after : S) (bytes : List ℕ) : Type 0 where
+  pub took : Took left old new before after bytes
+  pub calm : faults after ≡ faults before
+  pub clean : (new.failure ≡ None) ⊎ (new ≡ old)
 
 -- what a reader of a text comes to over lines of a source
 pub record Follows {S X Y : Type 0} (left : S → Option (List ℕ)) (faults : S → ℕ) (view : X → Y) (read : Reader Y) (old new : LinesData) (before after : S) (result : Result X FileError) : Type 0 where
   pub bytes : List ℕ
-  pub took : Took left old new before after bytes
+  pub ran : Ran left faults old new before after bytes (failure_of result)
   pub agrees : Agrees view read old new bytes result
-  pub failure : new.failure ≡ failure_of result
-  pub fault : CountsFault faults old.failure before after result
+
+-- The line that is due was read on for, and is at the front; nothing was given.
+pub record IsDue {S : Type 0} (left : S → Option (List ℕ)) (faults : S → ℕ) (old new : LinesData) (before after : S) : Type 0 where
+  pub bytes : List ℕ
+  pub ran : Ran left faults old new before after bytes None
+  pub front : IsFront front.Line new.held
+  pub given : new.given ≡ old.given
+  pub same : (later : List ℕ) → place old (bytes ++ later) ≡ place new later
+  pub line : (later : List ℕ) → due (place new later) ≡ Ok (before_first is_feed new.held, place (passed new) later)
 
 -- What reading on for the line that is due comes to: a whole line is at the front, or there is none, as the definition of what is due has it.
 abbrev pub Due : {S : Type 0} → (S → Option (List ℕ)) → (S → ℕ) → LinesData → LinesData → S → S → Result (Unit {0}) FileError → Type 0
-Due left faults old new before after (Ok u) =
-    (bytes : List ℕ) × ReadOn left old new before after bytes × (new.failure ≡ None) × (faults after ≡ faults before) × IsFront front.Line new.held
+Due left faults old new before after (Ok u) = IsDue left faults old new before after
 Due left faults old new before after (Err e) = Follows {X = Unit {0}} left faults (λ _. []) due old new before after (Err e)
+
+-- what is read of the line at the front: the line is given then, or the cause of a refusal is told of it
+abbrev pub Takes : {X : Type 0} → LinesData → LinesData → Result X TextCause → Result X FileError → Type 0
+Takes old new (Ok x) result = (result ≡ Ok x) × (new ≡ passed old)
+Takes old new (Err cause) result = (result ≡ Err (file.Text (told_fault (record { line = old.given + 1; cause = cause })))) × (new ≡ old)
+
+-- Whether nothing is left was read on for; nothing was given.
+pub record SeesEnd {S : Type 0} (left : S → Option (List ℕ)) (faults : S → ℕ) (old new : LinesData) (before after : S) (none : Bool) : Type 0 where
+  pub bytes : List ℕ
+  pub ran : Ran left faults old new before after bytes None
+  pub same : (later : List ℕ) → place old (bytes ++ later) ≡ place new later
+  pub rest : (later : List ℕ) → MayFollow new later → (length (new.held ++ later) == 0) ≡ none
+  pub ended : IsTrue none → IsTrue new.ended
+
+-- what reading on for the end comes to
+abbrev pub Ends : {S : Type 0} → (S → Option (List ℕ)) → (S → ℕ) → LinesData → LinesData → S → S → Result Bool LineError → Type 0
+Ends left faults old new before after (Ok none) = SeesEnd left faults old new before after none
+Ends left faults old new before after (Err e) = (bytes : List ℕ) × Ran left faults old new before after bytes (Some e)

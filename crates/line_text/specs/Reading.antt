@@ -1,5 +1,5 @@
 -- Reading a text line by line: the line that is due, and the first fault.
-use Rattle.std.specs.Prelude.{◌≡◌, ◌≤◌, ◌++◌, ℕ, ◌+◌, List, length, nat_lt, Result, Ok, Err, if◌then◌else◌}
+use Rattle.std.specs.Prelude.{ℕ, ◌+◌, List, length, nat_lt, Result, Ok, Err, if◌then◌else◌}
 use Rattle.std.specs.List.{position_or_len, before_first, after_first}
 pub use Rattle.lift_base.specs.Lines.{is_feed, most_line_bytes}
 use Rattle.line_text.specs.declared.error.TextCause.{TextCause}
@@ -16,12 +16,6 @@ abbrev pub ◌>>=◌ : {A B E : Type 0} → Result A E → (A → Result B E) �
 -- a place in a text: the number of the line that is due, and the bytes that are left
 abbrev pub Cursor : Type 0
 Cursor = ℕ × List ℕ
-
--- a place in that text: what is left is its end, and each line before it had a byte at least
-pub record IsIn (text : List ℕ) (c : Cursor) : Type 0 where
-  pub front : List ℕ
-  pub whole : text ≡ front ++ c.1
-  pub low : c.0 ≤ length front + 1
 
 -- what reads a part of a text: the part's value and the place behind it, or the first fault
 abbrev pub Reader : Type 0 → Type 0

@@ -6,17 +6,11 @@ use Rattle.std.specs.Str.{bytes_eq}
 use Rattle.std.specs.Str.Parse.{digits_value}
 use Rattle.line_text.specs.declared.error.TextCause.{TextCause}
 use Rattle.line_text.specs.declared.error.TextCause.TheVariants.{Memory}
-use Rattle.line_text.specs.declared.error.TextError.{TextError}
 use Rattle.line_text.specs.Words.{are_digits, words}
 use Rattle.line_text.specs.Reading.{◌>>=◌}
 use Rattle.line_text.specs.Parts.{Words, Read, each}
 
--- what a function answers, seen by view, is what is read there, unless memory ran out
-abbrev pub Gives : {X Y : Type 0} → (X → Y) → Result X TextError → Result Y TextError → Type 0
-Gives view (Ok x) read = read ≡ Ok (view x)
-Gives view (Err e) read = e.cause ≢ Memory → read ≡ Err e
-
--- the same of what reads words
+-- what a function answers, seen by view, is what is read of the words, unless memory ran out
 abbrev pub Says : {X Y : Type 0} → (X → Y) → Result X TextCause → Read Y → Type 0
 Says view (Ok x) read = read ≡ Ok (view x)
 Says view (Err e) read = e ≢ Memory → read ≡ Err e

@@ -1,18 +1,13 @@
 // Numbers of a line.
 ghost use Rattle.std.specs.Prelude.{◌≡◌, ◌≤◌, ◌<◌, ◌^◌, pos, length, IfOk};
 ghost use Rattle.line_text.specs.Words.{number_of};
-ghost use Rattle.line_text.specs.Reading.{line_at};
 ghost use Rattle.line_text.specs.Parts.{each, numbers_of, between, number_in};
 ghost use Rattle.std.specs.Ordering.{int_eq};
-ghost use Rattle.line_text.specs.Shown.{Says, Gives};
-ghost use Rattle.line_text.specs.Follow.{Follows};
+ghost use Rattle.line_text.specs.Shown.{Says};
 
-use crate::cursor::Cursor;
 use crate::decimal::Decimal;
-use crate::error::{FileError, TextCause, TextError};
-use crate::line_due::{due, fault};
+use crate::error::TextCause;
 use crate::words::Words;
-use lift_base::{Lines, Source};
 use std::alloc::Global;
 
 /// The numbers that words write.
@@ -60,7 +55,13 @@ pub fn between(number: &Decimal, low: u64, end: u64) -> Result<u64, TextCause>
 }
 
 /// A word and one number from low to below end.
-fn number_in(alloc: Global, words: &Words, key: &[u8], low: u64, end: u64) -> Result<u64, TextCause>
+pub fn number_in(
+    alloc: Global,
+    words: &Words,
+    key: &[u8],
+    low: u64,
+    end: u64,
+) -> Result<u64, TextCause>
     requires { end ≤ 2 ^ 62 }
     ensures value { Says (λ n. n) result (number_in key.now low end words.now) }
     ensures range { IfOk result (λ n. n < end) }
@@ -69,50 +70,6 @@ fn number_in(alloc: Global, words: &Words, key: &[u8], low: u64, end: u64) -> Re
     match numbers.as_slice() {
         [number] => between(number, low, end),
         _ => Err(TextCause::Syntax),
-    }
-}
-
-/// The line that is due, as a word and one number from low to below end.
-#[tactic(auto, unfolding(crate::specs::Reading::line_at))]
-pub fn number_line<'t>(
-    alloc: Global,
-    cursor: &Cursor<'t>,
-    key: &[u8],
-    low: u64,
-    end: u64,
-) -> Result<(u64, Cursor<'t>), TextError>
-    requires { end ≤ 2 ^ 62 }
-    ensures value { Gives (λ x. x) result (line_at (number_in key.now low end) cursor.now) }
-    ensures range { IfOk result (λ x. x.0 < end) }
-{
-    let (line, behind) = cursor.due()?;
-    match number_in(alloc, &Words::of(line), key, low, end) {
-        Ok(n) => Ok((n, behind)),
-        Err(cause) => Err(cursor.fault(cause)),
-    }
-}
-
-/// The line that is due of a source, as a word and one number from low to below end.
-pub fn number_due<S: Source>(
-    alloc: Global,
-    lines: &mut Lines,
-    src: &mut S,
-    key: &[u8],
-    low: u64,
-    end: u64,
-) -> Result<u64, FileError>
-    requires { end ≤ 2 ^ 62 }
-    ensures follows { Follows S.left S.faults (λ n. n) (line_at (number_in key.now low end))
-        lines.old lines.new src.old src.new result }
-    ensures range { IfOk result (λ n. n < end) }
-{
-    due(lines, src)?;
-    match number_in(alloc, &Words::of(lines.line()), key, low, end) {
-        Ok(n) => {
-            lines.pass();
-            Ok(n)
-        }
-        Err(cause) => Err(fault(lines, cause)),
     }
 }
 

@@ -27,6 +27,7 @@ verify --goal heads --bound 1/2 --precision 4 --depth 0 --region 1/10<=p<=2/5 | 
     plift 1;kind dtmc;parameters 1 p;common 1;states 3;init 0;goal 1 1;row 0 0 2;to 1 1:1;to 2 0:1 1:-1; | \
     write fault;
 verify --goal heads --bound 1/2 --precision 4 --depth 0 --region 1/2<=p<=3/2 | COIN | 0 | 0 | 1 | 1000 | RowsRefused | - | -
+check | COIN | 2 | 0 | 0 | 1000 | NotSound | - | not sound: line 1: Syntax;
 ";
 
 #[derive(Clone, Copy)]

@@ -1,4 +1,4 @@
-// How many bytes a text may have.
+// How many bytes a text may have that is read whole; a report is read line by line.
 ghost use Rattle.std.specs.Prelude.{None};
 
 use crate::runs::{ending, has_taken, sink};
@@ -11,7 +11,7 @@ const LIMITS: &str = "\
 verify --goal heads --bound 1/2 --precision 4 | 67108864 | ModelRefused | model: line 67108864: MissingSection;
 verify --goal heads --bound 1/2 --precision 4 | 67108865 | TooLong | too long;
 check | 67108864 | NotSound | not sound: line 1: Syntax;
-check | 67108865 | TooLong | too long;
+check | 67108865 | NotSound | not sound: line 1: Syntax;
 ";
 
 // Gives so many line feeds, made as they are read.

@@ -1,5 +1,5 @@
 -- What an answer says, by the refusal that it comes from.
-use Rattle.std.proofs.Common.{IsOk, ◌≡◌, ◌≢◌, ◌≤◌, ◌<◌, ◌⊎◌, inl, inr, ℕ, List, [], length, append-nil, false, None, Some, Ok, Err, refl, sym, ap, ◌∙◌, subst, arith, Result, IsErr, IsErrAnd}
+use Rattle.std.proofs.Common.{IsOk, ◌≡◌, ◌≢◌, ◌≤◌, ◌<◌, ◌⊎◌, inl, inr, ℕ, List, [], ◌++◌, length, length-append, append-nil, false, None, Some, Ok, Err, refl, sym, ap, ◌∙◌, subst, arith, Result, IsErr, IsErrAnd}
 use Rattle.std.specs.declared.option.Option.{Option}
 use Rattle.std.specs.Io.KnownBytes.{Appends}
 use Rattle.lift_base.specs.Outside.{Rose, AppendsFront, TakenHas, Wrote}
@@ -26,18 +26,19 @@ use Rattle.plift_top.specs.Refused.{words_refusal}
 use Rattle.plift_words.specs.Way.{steps_told}
 use Rattle.plift_words.specs.declared.way.Way.{Way}
 use Rattle.plift_words.specs.declared.way.Way.TheVariants as way
-use Rattle.plift_top.specs.Verify.{WasRead, Makes, IsAnswered, IsAnswerable, Reports, ReportsFront, IsRefused, KeepsLimit, lacks_chain}
+use Rattle.plift_top.specs.Verify.{WasRead, Makes, IsAnswered, IsAnswerable, Reports, ReportsFront, IsRefused, KeepsWithin, lacks_chain}
 use Rattle.cert_text.specs.Forms.{IsToldBound}
 use Rattle.cert_check.specs.Sound.{IsSoundFile, leaf_counts}
 use Rattle.cert_check.specs.Answer.{Answers}
 use Rattle.cert_check.specs.Laws.{AnswersAreOne, SoundFilesPass}
-use Rattle.cert_check.specs.Source.{NoFault, file_limit}
+use Rattle.cert_check.specs.Source.{NoFault, file_limit, report_limit}
+use Rattle.line_text.specs.Met.{WasMet}
 use Rattle.cert_check.specs.declared.summary.Summary.{Summary}
 use Rattle.cert_check.specs.declared.error.CheckError.{CheckError}
 use Rattle.plift_top.specs.Laws.{RightReportsAreSound, LumpedReportsAreSound}
 use Rattle.plift_top.specs.Check.{IsFoundSound, IsFoundInPart, IsUnsound}
 use Rattle.plift_top.specs.Selftest.{one_half, IsLadderTree, ladder_report, tested_line, IsTestedTree, HasLongReport, TellsTested, Selftests}
-use Rattle.plift_top.specs.Answers.{Acts, Generates, wanted, AsksToVerify, AsksToCheck, AsksToGenerate, AsksToSelftest, IsTooLong, WroteNote, IsNoted, HasNote, status_of, answered, note_of}
+use Rattle.plift_top.specs.Answers.{Acts, Generates, wanted, AsksToVerify, AsksToCheck, AsksToGenerate, AsksToSelftest, IsTooLong, limit_of, WroteNote, IsNoted, HasNote, status_of, answered, note_of}
 use Rattle.check_notes.specs.declared.status.Status.{Status}
 use Rattle.check_notes.specs.declared.status.Status.TheVariants as status
 use Rattle.plift_top.specs.declared.refusal.Refusal.{Refusal}
@@ -57,6 +58,20 @@ never_done _ e = absurd (cc)
 faulty : SoundFilesPass → AnswersAreOne → (bytes : List ℕ) (leaves : Summary) (error : CheckError) → IsSoundFile bytes leaves → Answers bytes (Err error) → ⊥
 faulty pass one bytes leaves error file is = (let same = one bytes (Ok leaves) (Err error) (pass bytes leaves file) is in absurd (cc))
 
+-- what holds whatever may follow follows from what is known of it
+met_as : {P Q : List ℕ → Type 0} {limit : ℕ} {old new : Option (List ℕ)} → ((bytes : List ℕ) → P bytes → Q bytes) → WasMet limit P old new → WasMet limit Q old new
+met_as f h = record { bytes = h.bytes; consumed = h.consumed; small = h.small; ended = h.ended; finished = h.finished; has = λ later may. f (h.bytes ++ later) (h.has later may) }
+
+-- a source that tells its content gave these bytes, or will give some of them
+met_of : (P : List ℕ → Type 0) (limit : ℕ) (bytes : List ℕ) (new : Option (List ℕ)) → WasMet limit P (Some bytes) new → P bytes
+met_of P limit bytes None h = absurd h.consumed
+met_of P limit bytes (Some rest) h = subst P (sym h.consumed) (h.has rest h.finished)
+
+-- a report that was given isn't too long where it is short
+not_long_report : (bytes : List ℕ) (rest : Option (List ℕ)) → length bytes ≤ report_limit → TakenHas (λ taken. report_limit < length taken) (Some bytes) rest → ⊥
+not_long_report bytes None h long = absurd long.1
+not_long_report bytes (Some ys) h (taken, is, more) = omega (arith, ap length is, length-append taken ys)
+
 -- what is answered is a case
 answered_case : (old new : Option (List ℕ)) (bound : Bound) (asked : Way) (k : CaseData) → IsAnswered old new bound asked k → IsCase k
 answered_case old new bound way.Whole k h = h.case
@@ -74,12 +89,12 @@ answered_soundly : RightReportsAreSound → LumpedReportsAreSound → (old new :
     → IsAnswered old new bound asked (case_of m root w) → (report : List ℕ) × (leaves : Summary) × IsSoundFile report leaves × Appends old new report
 answered_soundly law lumped old new bound way.Whole text label m root w read told none h =
     let k = case_of m root w in
-    (report_text k None bound h.tree, leaf_counts h.tree, law text label m root w bound h.tree read h.case told h.right, h.report)
+    (report_text k None bound h.tree, leaf_counts 1 h.tree, law text label m root w bound h.tree read h.case told h.right, h.report)
 answered_soundly law lumped old new bound (way.Within n) text label m root w read told none h = absurd (cc)
 answered_soundly law lumped old new bound way.Lumped text label m root w read told none h =
     let k = lumped_case (case_of m root w) h.l in
     let r = h.reported in
-    (report_text k None bound r.tree, leaf_counts r.tree, lumped text label (case_of m root w) h.l bound r.tree read h.is.lumped r.case told r.right, r.report)
+    (report_text k None bound r.tree, leaf_counts 1 r.tree, lumped text label (case_of m root w) h.l bound r.tree read h.is.lumped r.case told r.right, r.report)
 
 module _ {S K : Type 0} (left : S → Option (List ℕ)) (faults : S → ℕ) (taken : K → Option (List ℕ)) (counts : K → ℕ) (source source' : S) (out out' : K) where
   pub done : (asked : Result JobData Field) (answer : Result (Unit {0}) Refusal) → Acts left faults taken counts asked source source' out out' answer → answered answer ≡ status.Done
@@ -264,9 +279,9 @@ module _ {S K : Type 0} (left : S → Option (List ℕ)) (faults : S → ℕ) (t
   line_part (Err f) (Err _) a e is = absurd (cc)
 
   pub not_sound : SoundFilesPass → AnswersAreOne → (asked : Result JobData Field) (answer : Result (Unit {0}) Refusal) → Acts left faults taken counts asked source source' out out' answer → answered answer ≡ status.NotSound
-      → AsksToCheck asked × WasRead IsUnsound (left source) (left source')
+      → AsksToCheck asked × WasMet report_limit IsUnsound (left source) (left source')
   not_sound pass one asked (Ok x) a e = absurd (cc)
-  not_sound pass one (Ok check) (Err (refusal.Unsound error)) a e = (refl, read_as (λ bytes is leaves file. faulty pass one bytes leaves error file is) a.0)
+  not_sound pass one (Ok check) (Err (refusal.Unsound error)) a e = (refl, met_as (λ bytes is leaves file. faulty pass one bytes leaves error file is) a.0)
   not_sound pass one (Ok check) (Err _) a e = absurd (cc)
   not_sound pass one (Ok (verify j)) (Err (refusal.Unsound error)) a e = absurd a.0
   not_sound pass one (Ok (verify j)) (Err _) a e = absurd (cc)
@@ -278,10 +293,10 @@ module _ {S K : Type 0} (left : S → Option (List ℕ)) (faults : S → ℕ) (t
   not_sound pass one (Err f) (Err _) a e = absurd (cc)
 
   pub selftested : (asked : Result JobData Field) (answer : Result (Unit {0}) Refusal) → Acts left faults taken counts asked source source' out out' answer → answered answer ≡ status.Done
-      → (n : ℕ) → AsksToSelftest asked n → (tree : Tree) × IsCase (ladder_case n) × IsLadderTree n tree × Appends (taken out) (taken out') (tested_line n (leaf_counts tree))
+      → (n : ℕ) → AsksToSelftest asked n → (tree : Tree) × IsCase (ladder_case n) × IsLadderTree n tree × Appends (taken out) (taken out') (tested_line n (leaf_counts 1 tree))
   selftested (Ok (selftest m)) (Ok x) a e n is =
       let same : m ≡ n = cc in
-      subst (λ (i : ℕ). (tree : Tree) × IsCase (ladder_case i) × IsLadderTree i tree × Appends (taken out) (taken out') (tested_line i (leaf_counts tree))) same (a.0.0, a.0.1.case, a.0.1.right, a.0.2)
+      subst (λ (i : ℕ). (tree : Tree) × IsCase (ladder_case i) × IsLadderTree i tree × Appends (taken out) (taken out') (tested_line i (leaf_counts 1 tree))) same (a.0.0, a.0.1.case, a.0.1.right, a.0.2)
   selftested (Ok (verify j)) (Ok x) a e n is = absurd (cc)
   selftested (Ok (generate m)) (Ok x) a e n is = absurd (cc)
   selftested (Ok check) (Ok x) a e n is = absurd (cc)
@@ -289,12 +304,12 @@ module _ {S K : Type 0} (left : S → Option (List ℕ)) (faults : S → ℕ) (t
   selftested asked (Err r) a e n is = absurd (never_done r e)
 
   pub tested_part : (asked : Result JobData Field) (answer : Result (Unit {0}) Refusal) → Acts left faults taken counts asked source source' out out' answer → answered answer ≡ status.WriteFault
-      → (n : ℕ) → AsksToSelftest asked n → (tree : Tree) × IsCase (ladder_case n) × IsLadderTree n tree × AppendsFront (taken out) (taken out') (tested_line n (leaf_counts tree))
+      → (n : ℕ) → AsksToSelftest asked n → (tree : Tree) × IsCase (ladder_case n) × IsLadderTree n tree × AppendsFront (taken out) (taken out') (tested_line n (leaf_counts 1 tree))
   tested_part asked (Ok x) a e n is = absurd (cc)
   tested_part (Ok (selftest m)) (Err refusal.WriteFault) a e n is =
       let same : m ≡ n = cc in
       let tested = a.0.0 in
-      subst (λ (i : ℕ). (tree : Tree) × IsCase (ladder_case i) × IsLadderTree i tree × AppendsFront (taken out) (taken out') (tested_line i (leaf_counts tree))) same (tested.0, tested.1.case, tested.1.right, tested.2)
+      subst (λ (i : ℕ). (tree : Tree) × IsCase (ladder_case i) × IsLadderTree i tree × AppendsFront (taken out) (taken out') (tested_line i (leaf_counts 1 tree))) same (tested.0, tested.1.case, tested.1.right, tested.2)
   tested_part (Ok (selftest m)) (Err _) a e n is = absurd (cc)
   tested_part (Ok (verify j)) (Err _) a e n is = absurd (cc)
   tested_part (Ok (generate m)) (Err _) a e n is = absurd (cc)
@@ -361,39 +376,39 @@ silent kept lost notes notes' (Err r) n e = absurd (never_done r e)
 -- ---- how much is too much
 
 -- nothing was taken
-untouched : (left : Option (List ℕ)) → TakenHas (λ bytes. length bytes ≤ file_limit) left left
-untouched None = ([], tt, omega arith)
-untouched (Some text) = ([], refl, omega arith)
+untouched : (limit : ℕ) (left : Option (List ℕ)) → TakenHas (λ bytes. length bytes ≤ limit) left left
+untouched limit None = ([], tt, omega arith)
+untouched limit (Some text) = ([], refl, omega arith)
 
--- more bytes than a text may have were taken at TooLong, and only there
-took_more : (answer : Result (Unit {0}) Refusal) (old new : Option (List ℕ)) → KeepsLimit answer old new → answered answer ≡ status.TooLong → TakenHas (λ bytes. file_limit < length bytes) old new
-took_more (Ok x) old new h e = absurd (cc)
-took_more (Err refusal.TooLong) old new h e = h
-took_more (Err _) old new h e = absurd (cc)
+-- more bytes than the limit were taken at TooLong, and only there
+took_more : (limit : ℕ) (answer : Result (Unit {0}) Refusal) (old new : Option (List ℕ)) → KeepsWithin limit answer old new → answered answer ≡ status.TooLong → TakenHas (λ bytes. limit < length bytes) old new
+took_more limit (Ok x) old new h e = absurd (cc)
+took_more limit (Err refusal.TooLong) old new h e = h
+took_more limit (Err _) old new h e = absurd (cc)
 
-took_few : (answer : Result (Unit {0}) Refusal) (old new : Option (List ℕ)) → KeepsLimit answer old new → answered answer ≢ status.TooLong → TakenHas (λ bytes. length bytes ≤ file_limit) old new
-took_few (Ok x) old new h e = h
-took_few (Err refusal.TooLong) old new h e = absurd (e refl)
-took_few (Err _) old new h e = h
+took_few : (limit : ℕ) (answer : Result (Unit {0}) Refusal) (old new : Option (List ℕ)) → KeepsWithin limit answer old new → answered answer ≢ status.TooLong → TakenHas (λ bytes. length bytes ≤ limit) old new
+took_few limit (Ok x) old new h e = h
+took_few limit (Err refusal.TooLong) old new h e = absurd (e refl)
+took_few limit (Err _) old new h e = h
 
 module _ {S K : Type 0} (left : S → Option (List ℕ)) (faults : S → ℕ) (taken : K → Option (List ℕ)) (counts : K → ℕ) (source source' : S) (out out' : K) where
-  pub too_long : (asked : Result JobData Field) (answer : Result (Unit {0}) Refusal) → Acts left faults taken counts asked source source' out out' answer → (((n : ℕ) → AsksToSelftest asked n → ⊥) → KeepsLimit answer (left source) (left source'))
+  pub too_long : (asked : Result JobData Field) (answer : Result (Unit {0}) Refusal) → Acts left faults taken counts asked source source' out out' answer → (((n : ℕ) → AsksToSelftest asked n → ⊥) → KeepsWithin (limit_of asked) answer (left source) (left source'))
       → answered answer ≡ status.TooLong → IsTooLong asked (left source) (left source')
   too_long (Ok (selftest n)) (Ok x) a limit e = absurd (cc)
   too_long (Ok (selftest n)) (Err refusal.TooLong) a limit e = a.0.0
   too_long (Ok (selftest n)) (Err _) a limit e = absurd (cc)
-  too_long (Ok (verify j)) answer a limit e = took_more answer (left source) (left source') (limit (λ n is. absurd (cc))) e
-  too_long (Ok (generate n)) answer a limit e = took_more answer (left source) (left source') (limit (λ n is. absurd (cc))) e
-  too_long (Ok check) answer a limit e = took_more answer (left source) (left source') (limit (λ n is. absurd (cc))) e
-  too_long (Err f) answer a limit e = took_more answer (left source) (left source') (limit (λ n is. absurd (cc))) e
+  too_long (Ok (verify j)) answer a limit e = took_more file_limit answer (left source) (left source') (limit (λ n is. absurd (cc))) e
+  too_long (Ok (generate n)) answer a limit e = took_more file_limit answer (left source) (left source') (limit (λ n is. absurd (cc))) e
+  too_long (Ok check) answer a limit e = took_more report_limit answer (left source) (left source') (limit (λ n is. absurd (cc))) e
+  too_long (Err f) answer a limit e = took_more file_limit answer (left source) (left source') (limit (λ n is. absurd (cc))) e
 
-  pub within : (asked : Result JobData Field) (answer : Result (Unit {0}) Refusal) → Acts left faults taken counts asked source source' out out' answer → (((n : ℕ) → AsksToSelftest asked n → ⊥) → KeepsLimit answer (left source) (left source'))
-      → answered answer ≢ status.TooLong → TakenHas (λ bytes. length bytes ≤ file_limit) (left source) (left source')
-  within (Ok (selftest n)) answer a limit e = subst (λ (s : S). TakenHas (λ bytes. length bytes ≤ file_limit) (left source) (left s)) (sym a.1) (untouched (left source))
-  within (Ok (verify j)) answer a limit e = took_few answer (left source) (left source') (limit (λ n is. absurd (cc))) e
-  within (Ok (generate n)) answer a limit e = took_few answer (left source) (left source') (limit (λ n is. absurd (cc))) e
-  within (Ok check) answer a limit e = took_few answer (left source) (left source') (limit (λ n is. absurd (cc))) e
-  within (Err f) answer a limit e = took_few answer (left source) (left source') (limit (λ n is. absurd (cc))) e
+  pub within : (asked : Result JobData Field) (answer : Result (Unit {0}) Refusal) → Acts left faults taken counts asked source source' out out' answer → (((n : ℕ) → AsksToSelftest asked n → ⊥) → KeepsWithin (limit_of asked) answer (left source) (left source'))
+      → answered answer ≢ status.TooLong → TakenHas (λ bytes. length bytes ≤ limit_of asked) (left source) (left source')
+  within (Ok (selftest n)) answer a limit e = subst (λ (s : S). TakenHas (λ bytes. length bytes ≤ file_limit) (left source) (left s)) (sym a.1) (untouched file_limit (left source))
+  within (Ok (verify j)) answer a limit e = took_few file_limit answer (left source) (left source') (limit (λ n is. absurd (cc))) e
+  within (Ok (generate n)) answer a limit e = took_few file_limit answer (left source) (left source') (limit (λ n is. absurd (cc))) e
+  within (Ok check) answer a limit e = took_few report_limit answer (left source) (left source') (limit (λ n is. absurd (cc))) e
+  within (Err f) answer a limit e = took_few file_limit answer (left source) (left source') (limit (λ n is. absurd (cc))) e
 
 -- where a text was given and nothing failed
 module _ {S K : Type 0} (left : S → Option (List ℕ)) (faults : S → ℕ) (taken : K → Option (List ℕ)) (counts : K → ℕ) (source source' : S) (out out' : K) (j : VerifyData) (text : List ℕ) (told : left source ≡ Some text)
@@ -453,16 +468,16 @@ module _ {S K : Type 0} (left : S → Option (List ℕ)) (faults : S → ℕ) (t
 
 -- where a check was asked for, bytes were given and nothing failed
 module _ {S K : Type 0} (left : S → Option (List ℕ)) (faults : S → ℕ) (taken : K → Option (List ℕ)) (counts : K → ℕ) (source source' : S) (out out' : K) (bytes : List ℕ) (told : left source ≡ Some bytes)
-    (len : length bytes ≤ file_limit) (sure1 : NoFault (faults source) (faults source')) (sure2 : NoFault (counts out) (counts out')) where
+    (len : length bytes ≤ report_limit) (sure1 : NoFault (faults source) (faults source')) (sure2 : NoFault (counts out) (counts out')) where
   -- an answer is that the bytes are sound, or their first fault, or for want of memory
   by_check : (Q : Status → Type 0) → (IsFoundSound (taken out) (taken out') bytes → Q status.Done) → ((error : CheckError) → Answers bytes (Err error) → Q status.NotSound) → Q status.Memory
       → (asked : Result JobData Field) (answer : Result (Unit {0}) Refusal) → Acts left faults taken counts asked source source' out out' answer → AsksToCheck asked → Q (answered answer)
   by_check Q sound faulty memory (Ok check) (Ok x) a is = sound (given (IsFoundSound (taken out) (taken out')) bytes (left source') (rw told at a))
   by_check Q sound faulty memory (Ok check) (Err refusal.ReadFault) a is = absurd (sure1 a.0)
   by_check Q sound faulty memory (Ok check) (Err refusal.WriteFault) a is = absurd (sure2 a.1)
-  by_check Q sound faulty memory (Ok check) (Err refusal.TooLong) a is = absurd (short bytes (left source') len (rw told at a.0))
+  by_check Q sound faulty memory (Ok check) (Err refusal.TooLong) a is = absurd (not_long_report bytes (left source') len (rw told at a.0))
   by_check Q sound faulty memory (Ok check) (Err refusal.Memory) a is = memory
-  by_check Q sound faulty memory (Ok check) (Err (refusal.Unsound error)) a is = faulty error (given (λ bytes. Answers bytes (Err error)) bytes (left source') (rw told at a.0))
+  by_check Q sound faulty memory (Ok check) (Err (refusal.Unsound error)) a is = faulty error (met_of (λ bytes. Answers bytes (Err error)) report_limit bytes (left source') (rw told at a.0))
   by_check Q sound faulty memory (Ok check) (Err _) a is = absurd a.0
   by_check Q sound faulty memory (Ok (verify j)) answer a is = absurd (cc)
   by_check Q sound faulty memory (Ok (generate n)) answer a is = absurd (cc)
@@ -491,16 +506,16 @@ written taken faults old new (Err e) note w = record { part = w.part; whole = λ
 -- ---- the words
 
 -- a refusal of the words comes before any byte is taken
-pub line_limit : (error : WordsError) (result : Result (Unit {0}) Refusal) (left : Option (List ℕ)) → IsErrAnd result (λ e. e ≡ words_refusal error) → KeepsLimit result left left
-line_limit error (Ok x) left is = absurd is
-line_limit (words.Usage f) (Err e) left is = subst (λ (r : Refusal). KeepsLimit {T = Unit {0}} (Err r) left left) (sym is) (untouched left)
-line_limit words.Memory (Err e) left is = subst (λ (r : Refusal). KeepsLimit {T = Unit {0}} (Err r) left left) (sym is) (untouched left)
+pub line_limit : (limit : ℕ) (error : WordsError) (result : Result (Unit {0}) Refusal) (left : Option (List ℕ)) → IsErrAnd result (λ e. e ≡ words_refusal error) → KeepsWithin limit result left left
+line_limit limit error (Ok x) left is = absurd is
+line_limit limit (words.Usage f) (Err e) left is = subst (λ (r : Refusal). KeepsWithin {T = Unit {0}} limit (Err r) left left) (sym is) (untouched limit left)
+line_limit limit words.Memory (Err e) left is = subst (λ (r : Refusal). KeepsWithin {T = Unit {0}} limit (Err r) left left) (sym is) (untouched limit left)
 
 -- a ladder is written before any byte is taken
-pub ladder_limit : {K : Type 0} (taken : K → Option (List ℕ)) (counts : K → ℕ) (blocks : ℕ) (out out' : K) (result : Result (Unit {0}) Refusal) (left : Option (List ℕ)) → Generates taken counts blocks out out' result → KeepsLimit result left left
-ladder_limit taken counts blocks out out' (Ok x) left a = untouched left
-ladder_limit taken counts blocks out out' (Err refusal.WriteFault) left a = untouched left
-ladder_limit taken counts blocks out out' (Err _) left a = absurd a
+pub ladder_limit : {K : Type 0} (limit : ℕ) (taken : K → Option (List ℕ)) (counts : K → ℕ) (blocks : ℕ) (out out' : K) (result : Result (Unit {0}) Refusal) (left : Option (List ℕ)) → Generates taken counts blocks out out' result → KeepsWithin limit result left left
+ladder_limit limit taken counts blocks out out' (Ok x) left a = untouched limit left
+ladder_limit limit taken counts blocks out out' (Err refusal.WriteFault) left a = untouched limit left
+ladder_limit limit taken counts blocks out out' (Err _) left a = absurd a
 
 module _ {S K : Type 0} (left : S → Option (List ℕ)) (faults : S → ℕ) (taken : K → Option (List ℕ)) (counts : K → ℕ) (source : S) (out out' : K) (line : List (String Global)) where
   -- the words ask for a ladder, and it is written

@@ -72,7 +72,7 @@ module _ (fits : HeightFits) (k : CaseData) (bound : Bound) (case : IsCase k) wh
 -- ---- the file
 
 report_is_sound : HeightFits → SoundTreesAreReports → (k : CaseData) (bound : Bound) (tree : Tree) → All IsShortName k.model.names → All (All (All IsSmallEntry)) k.model.states → IsCase k → IsToldBound bound
-    → IsRightTree k k.w bound tree → IsSoundFile (report_text k None bound tree) (leaf_counts tree)
+    → IsRightTree k k.w bound tree → IsSoundFile (report_text k None bound tree) (leaf_counts 1 tree)
 report_is_sound fits reports k bound tree names entries is told right =
     let h : HeadData = record { asked = k; from = None; bound = bound } in
     record {

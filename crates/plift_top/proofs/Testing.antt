@@ -19,7 +19,7 @@ use Rattle.model_gen.specs.Laws.{TextIsShort, TextIsLadder, LadderIsCase, TextNa
 use Rattle.cert_text.specs.Forms.{IsToldBound}
 use Rattle.cert_check.specs.Sound.{IsSoundFile, leaf_counts}
 use Rattle.cert_check.specs.Laws.{SoundFilesPass}
-use Rattle.cert_check.specs.Source.{AnswersTold, file_limit}
+use Rattle.cert_check.specs.Source.{AnswersTold, file_limit, report_limit}
 use Rattle.cert_check.specs.declared.summary.Summary.{Summary}
 use Rattle.cert_check.specs.declared.error.CheckError.{CheckError}
 use Rattle.cert_check.specs.declared.error.CheckError.TheVariants as check
@@ -69,7 +69,7 @@ module _ (n : ℕ) (some : 1 ≤ n) (few : n ≤ most_blocks) (texts : TextIsSho
           subst (λ (r : Region). P (case_of (ladder n) r ladder_precision)) second (subst (λ (m : ModelData). P (case_of m root ladder_precision)) first h)
 
   -- the report of its right tree is a sound file
-  is_sound : RightReportsAreSound → (tree : Tree) → IsLadderTree n tree → IsSoundFile (ladder_report n tree) (leaf_counts tree)
+  is_sound : RightReportsAreSound → (tree : Tree) → IsLadderTree n tree → IsSoundFile (ladder_report n tree) (leaf_counts 1 tree)
   is_sound law tree right = law (ladder_text n) (codes "done") (ladder n) ladder_region ladder_precision one_half tree (reads n some few) (cases n some few) half_is_told right
 
   -- what was written, whole: a report that fits
@@ -81,7 +81,7 @@ module _ (n : ℕ) (some : 1 ≤ n) (few : n ≤ most_blocks) (texts : TextIsSho
         tree = h.tree;
         tested = record { case = cases n some few; right = h.right; short = omega (arith, ap length is) };
         report = is;
-        sound = subst (λ (b : List ℕ). IsSoundFile b (leaf_counts h.tree)) (sym is) (is_sound law h.tree h.right);
+        sound = subst (λ (b : List ℕ). IsSoundFile b (leaf_counts 1 h.tree)) (sym is) (is_sound law h.tree h.right);
       }
 
   -- or one that doesn't
@@ -154,9 +154,9 @@ module _ (n : ℕ) (some : 1 ≤ n) (few : n ≤ most_blocks) (texts : TextIsSho
 -- ---- its check
 
 -- a sound file is found so, or memory runs out
-pub found : (bytes : List ℕ) (old new : ℕ) → SoundFilesPass → length bytes ≤ file_limit → (new ≡ 0) → (old ≡ 0) → (result : Result Summary CheckError) → AnswersTold (Some bytes) old new result → (leaves : Summary) → IsSoundFile bytes leaves
+pub found : (bytes : List ℕ) (old new : ℕ) → SoundFilesPass → length bytes ≤ file_limit → (new ≡ 0) → (old ≡ 0) → (result : Result Summary CheckError) → AnswersTold report_limit (Some bytes) old new result → (leaves : Summary) → IsSoundFile bytes leaves
     → (result ≡ Ok leaves) ⊎ (result ≡ Err check.Memory)
-found bytes old new pass fits calm begin result told leaves sound = told bytes (Ok leaves) refl (pass bytes leaves sound) fits (λ rose. omega arith)
+found bytes old new pass fits calm begin result told leaves sound = told bytes (Ok leaves) refl (pass bytes leaves sound) (omega (arith, fits)) (λ rose. omega arith)
 
 -- what is told of a report that is sound: its leaves, or that memory ran out
 pub refused_check : (error : CheckError) (answer : Result Summary CheckError) → answer ≡ Err error → (result : Result Summary Refusal) → IsErrAnd result (λ e. e ≡ check_refusal error) → (leaves : Summary)
@@ -186,17 +186,17 @@ module _ {K : Type 0} (taken : K → Option (List ℕ)) (counts : K → ℕ) (n 
     -- its leaves weren't counted
     pub not_counted : (why : Refusal) → answer ≡ Err why → (result : Result (Unit {0}) Refusal) (out : K) → IsErrAnd result (λ e. e ≡ why) → Selftests taken counts n out out result
     not_counted why was (Ok x) out is = absurd is
-    not_counted why was (Err e) out is = by (told (leaf_counts report.tree) report.sound)
+    not_counted why was (Err e) out is = by (told (leaf_counts 1 report.tree) report.sound)
       where
-        by : (answer ≡ Ok (leaf_counts report.tree)) ⊎ (answer ≡ Err refusal.Memory) → Selftests {T = Unit {0}} taken counts n out out (Err e)
+        by : (answer ≡ Ok (leaf_counts 1 report.tree)) ⊎ (answer ≡ Err refusal.Memory) → Selftests {T = Unit {0}} taken counts n out out (Err e)
         by (inl found) = absurd (cc)
         by (inr found) = let same : e ≡ refusal.Memory = cc in subst (λ (r : Refusal). Selftests {T = Unit {0}} taken counts n out out (Err r)) (sym same) refl
 
     -- the leaves are those of the ladder's right tree
-    leaves_are : (leaves : Summary) → answer ≡ Ok leaves → leaves ≡ leaf_counts report.tree
-    leaves_are leaves was = by (told (leaf_counts report.tree) report.sound)
+    leaves_are : (leaves : Summary) → answer ≡ Ok leaves → leaves ≡ leaf_counts 1 report.tree
+    leaves_are leaves was = by (told (leaf_counts 1 report.tree) report.sound)
       where
-        by : (answer ≡ Ok (leaf_counts report.tree)) ⊎ (answer ≡ Err refusal.Memory) → leaves ≡ leaf_counts report.tree
+        by : (answer ≡ Ok (leaf_counts 1 report.tree)) ⊎ (answer ≡ Err refusal.Memory) → leaves ≡ leaf_counts 1 report.tree
         by (inl found) = cc
         by (inr found) = absurd (cc)
 

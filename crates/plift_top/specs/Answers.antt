@@ -23,7 +23,8 @@ use Rattle.plift_top.specs.Verify.{Verifies, WasRead, IsRefused}
 use Rattle.plift_top.specs.Check.{Checks}
 use Rattle.plift_top.specs.Selftest.{HasLongReport, Selftests}
 use Rattle.cert_check.specs.Answer.{Answers}
-use Rattle.cert_check.specs.Source.{NoFault, file_limit}
+use Rattle.cert_check.specs.Source.{NoFault, file_limit, report_limit}
+use Rattle.line_text.specs.Met.{WasMet}
 use Rattle.check_notes.specs.declared.status.Status.{Status}
 use Rattle.check_notes.specs.declared.status.Status.TheVariants as status
 use Rattle.plift_top.specs.declared.refusal.Refusal.{Refusal}
@@ -104,19 +105,24 @@ AsksToGenerate asked blocks = asked ≡ Ok (generate blocks)
 abbrev pub AsksToSelftest : Result JobData Field → ℕ → Type 0
 AsksToSelftest asked blocks = asked ≡ Ok (selftest blocks)
 
+-- how many bytes may be taken for a job: a report is read line by line, and other texts whole
+abbrev pub limit_of : Result JobData Field → ℕ
+limit_of (Ok check) = report_limit
+limit_of asked = file_limit
+
 -- What is too long: the report of the ladder that is tested, and else the text that was read.
 abbrev pub IsTooLong : Result JobData Field → Option (List ℕ) → Option (List ℕ) → Type 0
 IsTooLong (Ok (selftest blocks)) old new = HasLongReport blocks
-IsTooLong asked old new = TakenHas (λ bytes. file_limit < length bytes) old new
+IsTooLong asked old new = TakenHas (λ bytes. limit_of asked < length bytes) old new
 
--- The words, and what was read of a source, give cause for a refusal: the words are at fault in this part, or they ask to verify and the job is refused at the text that was read, or they ask to check and this is the first fault of the bytes that were read. Of a fault, a text that is too long and want of memory nothing is asked here.
+-- The words, and what was read of a source, give cause for a refusal: the words are at fault in this part, or they ask to verify and the job is refused at the text that was read, or they ask to check and this is the first fault that was met, whatever may follow the bytes that were taken. Of a fault, a text that is too long and want of memory nothing is asked here.
 abbrev pub HasCause : Refusal → Result JobData Field → Option (List ℕ) → Option (List ℕ) → Type 0
 HasCause (refusal.Usage f) asked old new = asked ≡ Err f
 HasCause refusal.ReadFault asked old new = ⊤
 HasCause refusal.WriteFault asked old new = ⊤
 HasCause refusal.TooLong asked old new = ⊤
 HasCause refusal.Memory asked old new = ⊤
-HasCause (refusal.Unsound error) asked old new = AsksToCheck asked × WasRead (λ bytes. Answers bytes (Err error)) old new
+HasCause (refusal.Unsound error) asked old new = AsksToCheck asked × WasMet report_limit (λ bytes. Answers bytes (Err error)) old new
 HasCause why asked old new = (j : VerifyData) × AsksToVerify asked j × WasRead (IsRefused j why) old new
 
 -- An answer to these words, and to what was read of a source, has this note: that of a refusal with its status, for which they give cause. A job that is done has none.

@@ -19,12 +19,12 @@ use Rattle.plift_top.specs.Selftest.{IsLadderTree}
 -- where a case is of a model that a text stands for, the report of its right tree is a sound file with that tree's leaves
 abbrev pub RightReportsAreSound : Type 0
 RightReportsAreSound = (text label : List ℕ) (m : ModelData) (root : Region) (w : ℕ) (bound : Bound) (tree : Tree) → drn text label ≡ Ok m → IsCase (case_of m root w) → IsToldBound bound
-    → IsRightTree (case_of m root w) w bound tree → IsSoundFile (report_text (case_of m root w) None bound tree) (leaf_counts tree)
+    → IsRightTree (case_of m root w) w bound tree → IsSoundFile (report_text (case_of m root w) None bound tree) (leaf_counts 1 tree)
 
 -- the same of the quotient of a chain that a text stands for
 abbrev pub LumpedReportsAreSound : Type 0
 LumpedReportsAreSound = (text label : List ℕ) (k : CaseData) (l : LumpedData) (bound : Bound) (tree : Tree) → drn text label ≡ Ok k.model → IsLumped k.model l → IsCase (lumped_case k l) → IsToldBound bound
-    → IsRightTree (lumped_case k l) k.w bound tree → IsSoundFile (report_text (lumped_case k l) None bound tree) (leaf_counts tree)
+    → IsRightTree (lumped_case k l) k.w bound tree → IsSoundFile (report_text (lumped_case k l) None bound tree) (leaf_counts 1 tree)
 
 -- each ladder that can be asked for has a right tree
 abbrev pub LaddersHaveTrees : Type 0

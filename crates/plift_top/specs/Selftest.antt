@@ -60,7 +60,7 @@ pub record IsLadderReport (blocks : ℕ) (bytes : List ℕ) : Type 0 where
   pub tree : Tree
   pub tested : IsTestedTree blocks tree
   pub report : bytes ≡ ladder_report blocks tree
-  pub sound : IsSoundFile bytes (leaf_counts tree)
+  pub sound : IsSoundFile bytes (leaf_counts 1 tree)
 
 -- bytes are given back where they are no more than the limit, and else told as too long
 abbrev pub GivesWithin : ℕ → Vec ℕ Global → Result (Vec ℕ Global) Refusal → Type 0
@@ -77,7 +77,7 @@ ReportsLadder blocks (Err _) = ⊥
 
 -- the line of a ladder's right tree was appended
 abbrev pub TellsTested : (List ℕ → Type 0) → ℕ → Type 0
-TellsTested Took blocks = (tree : Tree) × IsTestedTree blocks tree × Took (tested_line blocks (leaf_counts tree))
+TellsTested Took blocks = (tree : Tree) × IsTestedTree blocks tree × Took (tested_line blocks (leaf_counts 1 tree))
 
 -- What testing a ladder comes to: the line of its right tree is written, or a front of it and a fault was counted; its report is too long; or memory ran out.
 abbrev pub Selftests : {K T : Type 0} → (K → Option (List ℕ)) → (K → ℕ) → ℕ → K → K → Result T Refusal → Type 0

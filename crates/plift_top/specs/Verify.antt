@@ -113,6 +113,10 @@ Verifies left faults taken counts job source source' out out' (Err refusal.Write
 Verifies left faults taken counts job source source' out out' (Err why) = Stops left faults job source source' why × (out' ≡ out)
 
 -- more bytes than the limit were taken at TooLong, and only there
+abbrev pub KeepsWithin : {T : Type 0} → ℕ → Result T Refusal → Option (List ℕ) → Option (List ℕ) → Type 0
+KeepsWithin limit (Err refusal.TooLong) old new = TakenHas (λ bytes. limit < length bytes) old new
+KeepsWithin limit _ old new = TakenHas (λ bytes. length bytes ≤ limit) old new
+
+-- the same of a text that is read whole
 abbrev pub KeepsLimit : {T : Type 0} → Result T Refusal → Option (List ℕ) → Option (List ℕ) → Type 0
-KeepsLimit (Err refusal.TooLong) old new = TakenHas (λ bytes. file_limit < length bytes) old new
-KeepsLimit _ old new = TakenHas (λ bytes. length bytes ≤ file_limit) old new
+KeepsLimit result old new = KeepsWithin file_limit result old new

@@ -2,7 +2,8 @@
 ghost use Rattle.std.specs.Prelude.{◌≡◌};
 ghost use Rattle.lift_base.specs.Outside.{Wrote};
 ghost use Rattle.plift_top.specs.Check.{Checks, sound_line};
-ghost use Rattle.plift_top.specs.Verify.{KeepsLimit};
+ghost use Rattle.plift_top.specs.Verify.{KeepsWithin};
+ghost use Rattle.cert_check.specs.Source.{report_limit};
 
 use crate::refusal::Refusal;
 use cert_check::{Summary, check};
@@ -27,7 +28,7 @@ fn write_sound<K: Sink>(out: &mut K, leaves: Summary) -> Result<(), WriteFault>
     )
 }
 
-/// Checks the report that the source gives, and writes how many leaves of each kind it has.
+/// Checks the report that the source gives, line by line, and writes how many leaves of each kind it has.
 pub fn check_report<S: Source, K: Sink>(
     alloc: Global,
     source: &mut S,
@@ -35,7 +36,7 @@ pub fn check_report<S: Source, K: Sink>(
 ) -> Result<(), Refusal>
     ensures answer { Checks S.left S.faults K.taken K.faults
         source.old source.new out.old out.new result }
-    ensures limit { KeepsLimit result (S.left source.old) (S.left source.new) }
+    ensures limit { KeepsWithin report_limit result (S.left source.old) (S.left source.new) }
 {
     let leaves = check(alloc, source)?;
     write_sound(out, leaves)?;

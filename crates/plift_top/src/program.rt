@@ -16,14 +16,15 @@ ghost use Rattle.plift_words.specs.Job.{VerifyData};
 ghost use Rattle.plift_words.specs.declared.job.Field.TheVariants.{Words};
 ghost use Rattle.plift_words.specs.Way.{steps_told};
 ghost use Rattle.plift_top.specs.Verify.{WasRead, Reports, ReportsFront, IsAnswerable, lacks_chain};
-ghost use Rattle.plift_top.specs.Verify.{IsRefused, KeepsLimit};
+ghost use Rattle.plift_top.specs.Verify.{IsRefused, KeepsWithin};
 ghost use Rattle.model_gen.specs.Ladder.{ladder_text, ladder_case, ladder_precision};
 ghost use Rattle.plift_top.specs.Answers.{status_of, wanted, AsksToVerify, AsksToCheck};
-ghost use Rattle.plift_top.specs.Answers.{AsksToGenerate, AsksToSelftest, IsTooLong};
+ghost use Rattle.plift_top.specs.Answers.{AsksToGenerate, AsksToSelftest, IsTooLong, limit_of};
 ghost use Rattle.plift_top.specs.Selftest.{one_half, tested_line};
 ghost use Rattle.plift_top.specs.Laws.{LaddersHaveTrees};
 ghost use Rattle.cert_check.specs.Sound.{IsSoundFile, leaf_counts};
-ghost use Rattle.cert_check.specs.Source.{NoFault, file_limit};
+ghost use Rattle.cert_check.specs.Source.{NoFault, file_limit, report_limit};
+ghost use Rattle.line_text.specs.Met.{WasMet};
 ghost use Rattle.cert_check.specs.declared.summary.Summary.{Summary};
 ghost use Rattle.plift_top.specs.Check.{IsFoundSound, IsFoundInPart, IsUnsound};
 ghost use Rattle.plift_top.specs.Answers.{HasNote, WroteNote, Acts, Generates};
@@ -62,7 +63,7 @@ fn act<S: Source, K: Sink>(
     ensures answer { Acts S.left S.faults K.taken K.faults (wanted words.now)
         source.old source.new out.old out.new result }
     ensures limit { ((n : ℕ) → AsksToSelftest (wanted words.now) n → ⊥)
-        → KeepsLimit result (S.left source.old) (S.left source.new) }
+        → KeepsWithin (limit_of (wanted words.now)) result (S.left source.old) (S.left source.new) }
     ensures bound { IsOk result → (j : VerifyData) → AsksToVerify (wanted words.now) j
         → IsToldBound j.bound }
 {
@@ -114,7 +115,7 @@ pub fn run<S: Source, K: Sink, E: Sink>(
     ensures selftested { result ≡ Status.Done
         → (n : ℕ) → AsksToSelftest (wanted words.now.items) n
         → (tree : Tree) × IsCase (ladder_case n) × IsRightTree (ladder_case n) ladder_precision one_half tree
-        × Appends (K.taken out.old) (K.taken out.new) (tested_line n (leaf_counts tree)) }
+        × Appends (K.taken out.old) (K.taken out.new) (tested_line n (leaf_counts 1 tree)) }
 
     // Each refusal has its cause. What `told` says of its note has the causes of the others.
     ensures at_fault { IsErr (wanted words.now.items)
@@ -126,23 +127,25 @@ pub fn run<S: Source, K: Sink, E: Sink>(
     ensures too_long { result ≡ Status.TooLong
         → IsTooLong (wanted words.now.items) (S.left source.old) (S.left source.new) }
     ensures within { result ≢ Status.TooLong
-        → TakenHas (λ bytes. length bytes ≤ file_limit) (S.left source.old) (S.left source.new) }
+        → TakenHas (λ bytes. length bytes ≤ limit_of (wanted words.now.items))
+        (S.left source.old) (S.left source.new) }
 
-    // Only `check` answers NotSound, and only to bytes that are no sound file.
+    // Only `check` answers NotSound, and only to bytes that are no front of a sound file, whatever may
+    // follow those that were taken; nothing may where the end was seen.
     ensures not_sound { result ≡ Status.NotSound → AsksToCheck (wanted words.now.items)
-        × WasRead IsUnsound (S.left source.old) (S.left source.new) }
+        × WasMet report_limit IsUnsound (S.left source.old) (S.left source.new) }
 
     // `check` answers Done or Memory to a sound file, and NotSound or Memory to any other, where no
     // fault is counted.
     ensures check_complete { (bytes : List ℕ) (leaves : Summary)
         → AsksToCheck (wanted words.now.items) → S.left source.old ≡ Some bytes
-        → IsSoundFile bytes leaves → length bytes ≤ file_limit
+        → IsSoundFile bytes leaves → length bytes ≤ report_limit
         → NoFault (S.faults source.old) (S.faults source.new)
         → NoFault (K.faults out.old) (K.faults out.new)
         → (result ≡ Status.Done) ⊎ (result ≡ Status.Memory) }
     ensures check_refused { (bytes : List ℕ)
         → AsksToCheck (wanted words.now.items) → S.left source.old ≡ Some bytes
-        → IsUnsound bytes → length bytes ≤ file_limit
+        → IsUnsound bytes → length bytes ≤ report_limit
         → NoFault (S.faults source.old) (S.faults source.new)
         → NoFault (K.faults out.old) (K.faults out.new)
         → (result ≡ Status.NotSound) ⊎ (result ≡ Status.Memory) }
@@ -213,7 +216,7 @@ pub fn run<S: Source, K: Sink, E: Sink>(
     ensures tested_part { result ≡ Status.WriteFault
         → (n : ℕ) → AsksToSelftest (wanted words.now.items) n
         → (tree : Tree) × IsCase (ladder_case n) × IsRightTree (ladder_case n) ladder_precision one_half tree
-        × AppendsFront (K.taken out.old) (K.taken out.new) (tested_line n (leaf_counts tree)) }
+        × AppendsFront (K.taken out.old) (K.taken out.new) (tested_line n (leaf_counts 1 tree)) }
     ensures kept { result ≢ Status.Done → result ≢ Status.WriteFault → out.new ≡ out.old }
     ensures unread { IsErr (wanted words.now.items) → source.new ≡ source.old }
 

@@ -28,11 +28,11 @@ pub enum Refusal {
     NotChain,
     /// A coefficient of the chain's quotient is too large.
     TooWide,
-    /// The file isn't sound. The error is a first fault of its bytes.
+    /// The file isn't sound. The error is the first fault that was met.
     Unsound(CheckError),
     ReadFault,
     WriteFault,
-    /// The source gives more bytes than a text may have.
+    /// The source gives more bytes than a text or a report may have.
     TooLong,
     Memory,
 }

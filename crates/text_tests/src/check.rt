@@ -2,6 +2,7 @@
 //! bars.
 
 mod answers;
+mod limits;
 mod precisions;
 mod prefixes;
 mod reports;

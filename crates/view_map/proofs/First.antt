@@ -1,5 +1,5 @@
 -- The first node of a sound tree's lines, and what stands behind it.
-use Rattle.std.proofs.Common.{◌≡◌, ℕ, ℤ, ◌+◌, ◌<◌, ◌≤◌, List, [], ◌∷◌, ◌++◌, length, Result, Ok, Err, refl, sym, ap, ◌∙◌, subst, arith, append_assoc, append-nil}
+use Rattle.std.proofs.Common.{◌≡◌, ℕ, ℤ, ◌+◌, ◌<◌, List, [], ◌∷◌, ◌++◌, length, Result, Ok, refl, sym, ap, ◌∙◌, subst, append_assoc}
 use Rattle.std.specs.Prelude.{Option}
 use Rattle.std.specs.List.{concat}
 use Rattle.std.proofs.lemmas.List.Folds.{concat-append}
@@ -8,12 +8,12 @@ use Rattle.lift_grid.specs.Tree.{Tree, RejectData, lower_half, upper_half}
 use Rattle.lift_grid.specs.Tree.Tree.{split as splits, accept as accepts, reject as rejects, unknown as unknowns}
 use Rattle.line_text.specs.Reading.{Cursor}
 use Rattle.line_text.specs.declared.error.TextError.{TextError}
-use Rattle.cert_text.specs.Head.{HeadData, head_at}
+use Rattle.cert_text.specs.Head.{HeadData}
 use Rattle.cert_text.specs.Nodes.{Node, split, accept, reject, unknown, node_at, node_lines}
 use Rattle.cert_text.specs.Report.{tree_lines}
 use Rattle.cert_text.specs.Forms.{IsHead, IsNode, IsTree}
-use Rattle.cert_text.specs.Laws.{told_lines, HeadsAreReadBack, NodesAreReadBack}
-use Rattle.cert_check.specs.Sound.{IsSoundSplit, IsSoundTree}
+use Rattle.cert_text.specs.Laws.{NodesAreReadBack}
+use Rattle.cert_check.specs.Sound.{IsSoundSplit}
 use Rattle.view_map.specs.Parts.{PartData, part_with, parts_over}
 use Rattle.view_map.specs.Mapping.{Adds, BeginsWithTree}
 use Rattle.view_map.specs.declared.part.LeafKind.TheVariants.{Accept, Reject, Unknown}

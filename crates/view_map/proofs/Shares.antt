@@ -1,9 +1,9 @@
 -- The shares of a tree's leaves.
-use Rattle.std.proofs.Common.{◌≡◌, ℕ, zero, suc, ◌+◌, ◌-◌, ◌*◌, ◌^◌, ◌<◌, ◌≤◌, ◌==◌, Bool, true, false, cond, List, [], ◌∷◌, ◌++◌, length, map, take, get_or, refl, sym, ap, ◌∙◌, subst, arith}
+use Rattle.std.proofs.Common.{◌≡◌, ℕ, zero, suc, ◌+◌, ◌-◌, ◌^◌, ◌<◌, ◌≤◌, ◌==◌, Bool, true, false, cond, List, [], ◌∷◌, ◌++◌, length, map, take, get_or, refl, ap, arith}
 use Rattle.std.specs.Prelude.{sum_by}
 use Rattle.std.proofs.lemmas.List.Sums.{sum_by-append, sum_by_more_le_part}
 use Rattle.lift_grid.specs.Rectangle.{Spans}
-use Rattle.lift_grid.specs.Tree.{Tree, Leaf, leaves, lower_half, upper_half}
+use Rattle.lift_grid.specs.Tree.{Tree, leaves, lower_half, upper_half}
 use Rattle.lift_grid.specs.Tree.Tree.{split as splits, accept as accepts, reject as rejects, unknown as unknowns}
 use Rattle.lift_model.specs.Model.{live}
 use Rattle.lift_cert.specs.declared.bound.Bound.{Bound}

@@ -1,18 +1,17 @@
 -- Where the root and the halves of a rectangle stand.
-use Rattle.std.proofs.Common.{◌≡◌, ℕ, zero, suc, ◌+◌, ◌-◌, ◌<◌, ◌≤◌, ◌==◌, Bool, true, false, cond, List, [], ◌++◌, length, Result, Ok, Err, IfOk, append-nil, refl, sym, ap, ◌∙◌, subst, arith}
+use Rattle.std.proofs.Common.{◌≡◌, ℕ, ◌+◌, ◌-◌, ◌<◌, ◌==◌, Bool, true, false, cond, List, [], length, Result, Ok, Err, IfOk, append-nil, sym, ap, ◌∙◌, subst, arith}
 use Rattle.lift_grid.specs.Laws.{HalvesHaveOneLess, HalvesKeepCount, SpansAreHalvable}
 use Rattle.lift_grid.specs.Rectangle.{Spans}
 use Rattle.lift_grid.specs.Splitting.{HasHalvings, IsHalvable}
 use Rattle.lift_grid.specs.Tree.{lower_half, upper_half}
 use Rattle.lift_model.specs.Model.{live}
-use Rattle.corner_lift.specs.Case.{CaseData, IsAsked, greatest_depth}
+use Rattle.corner_lift.specs.Case.{CaseData, IsAsked}
 use Rattle.cert_check.specs.Sound.{IsSoundSplit}
 use Rattle.lift_grid.specs.Tree.{Tree}
 use Rattle.cert_text.specs.Head.{HeadData}
 use Rattle.cert_text.specs.Nodes.{split, node_at}
 use Rattle.cert_text.specs.Forms.{IsHead}
 use Rattle.cert_text.specs.Laws.{NodesAreReadBack}
-use Rattle.std.specs.List.{concat}
 use Rattle.view_map.specs.Parts.{PartData, parts}
 use Rattle.view_map.specs.Share.{total_share, whole_volume}
 use Rattle.view_map.specs.Mapping.{Adds, AreNodes, BeginsWithTree, BeginsWithSomeTree, HasNodes, StandsAt}

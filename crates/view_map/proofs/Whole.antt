@@ -1,5 +1,5 @@
 -- The head and the nodes of a sound file.
-use Rattle.std.proofs.Common.{◌≡◌, ℕ, ◌+◌, List, ◌++◌, length, Result, Ok, sym, ap, ◌∙◌, subst}
+use Rattle.std.proofs.Common.{◌≡◌, ℕ, ◌+◌, List, length, Result, Ok, sym, ap, ◌∙◌, subst}
 use Rattle.std.specs.List.{concat}
 use Rattle.line_text.specs.Reading.{Cursor}
 use Rattle.line_text.specs.declared.error.TextError.{TextError}
@@ -9,7 +9,7 @@ use Rattle.cert_text.specs.Laws.{told_lines, text_of, HeadsAreReadBack}
 use Rattle.cert_check.specs.Sound.{IsSound, IsSoundFile}
 use Rattle.cert_check.specs.declared.summary.Summary.{Summary}
 use Rattle.view_map.specs.Parts.{MapData, PartData, parts}
-use Rattle.view_map.specs.Share.{total_share, whole_volume}
+use Rattle.view_map.specs.Share.{total_share}
 use Rattle.view_map.specs.Mapping.{AreNodes, HasNodes, IsMapOf, IsMapped}
 use Rattle.view_map.proofs.Shares.{total_of_sound}
 

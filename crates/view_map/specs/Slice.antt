@@ -1,5 +1,5 @@
 -- The leaves that meet a slice of a region. A slice leaves some parameters free, its axes, and gives each other one a value.
-use Rattle.std.specs.Prelude.{ℕ, Bool, ◌&&◌, ◌||◌, List, ℤ, pos, ◌*ℤ◌, int_le, int_lt, filter, slice_index_or, Option}
+use Rattle.std.specs.Prelude.{ℕ, Bool, ◌&&◌, ◌||◌, List, ℤ, pos, ◌*ℤ◌, int_le, int_lt, slice_index_or, Option}
 use Rattle.std.specs.List.{list_all}
 use Rattle.std.specs.Ordering.{int_eq}
 use Rattle.lift_grid.specs.Rectangle.{Spans}

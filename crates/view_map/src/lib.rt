@@ -7,6 +7,7 @@ mod map;
 mod part;
 mod reading;
 mod slice;
+mod text_lines;
 
 pub use choice::slice_of;
 pub use map::ReportMap;

@@ -1,5 +1,5 @@
 // Reads the leaves of a sound report.
-ghost use Rattle.std.specs.Prelude.{◌≡◌, ◌≢◌, ◌≤◌, ◌+◌, ◌++◌, ◌∷◌, [], drop, length, Err, IfOk, IfErr};
+ghost use Rattle.std.specs.Prelude.{◌≡◌, ◌≢◌, ◌≤◌, ◌+◌, ◌++◌, ◌∷◌, [], length, Err, IfOk, IfErr};
 ghost use Rattle.lift_grid.specs.Rectangle.{sides_of, spans_of};
 ghost use Rattle.lift_grid.specs.Splitting.{IsHalvable};
 ghost use Rattle.lift_grid.specs.Tree.{lower_half};
@@ -11,8 +11,9 @@ ghost use Rattle.view_map.specs.Mapping.{Adds, BeginsWithSomeTree, HasNodes, IsM
 
 use crate::map::ReportMap;
 use crate::part::{LeafKind, Part};
+use crate::text_lines::TextLines;
 use cert_check::{CheckError, check_text};
-use cert_text::{Head, Node, Place, heads_are_read, nodes_are_read, read_head, read_node};
+use cert_text::{Head, Node, heads_are_read, nodes_are_read};
 use lift_grid::{halves_stay_on_grid, narrow};
 use std::alloc::{AllocError, Global};
 
@@ -45,71 +46,62 @@ fn keep(
     Ok(())
 }
 
-/// Adds the leaves of the tree over the rectangle with these sides, and gives the place behind its
-/// lines. The text was found sound, so that only memory can be wanted. On the way down it keeps a
-/// rectangle for each level. The sides are free afterwards.
+/// Adds the leaves of the tree over the rectangle with these sides. The text was found sound, so that
+/// only memory can be wanted. On the way down it keeps a rectangle for each level. The sides are free
+/// afterwards.
 fn add_parts(
     alloc: Global,
-    text: &[u8],
+    text: &mut TextLines,
     head: &Head,
     depth: u32,
     sides: &mut [i64],
-    place: Place,
     parts: &mut Vec<Part>,
-) -> Result<Place, CheckError>
-    requires text { length text.now ≤ file_limit }
-    requires at { place.at ≤ length text.now }
-    requires number { place.number ≤ place.at + 1 }
+) -> Result<(), CheckError>
     requires stands { StandsAt head.now.asked depth (spans_of sides.old) }
     requires paired { sides_of (spans_of sides.old) ≡ sides.old }
-    requires begins { BeginsWithSomeTree head.now (spans_of sides.old) depth (drop place.at text.now) }
-    ensures at { IfOk result (λ p. p.at ≤ length text.now) }
-    ensures number { IfOk result (λ p. p.number ≤ p.at + 1) }
-    ensures adds { IfOk result (λ p. Adds head.now (spans_of sides.old) depth
-        (drop place.at text.now) (drop p.at text.now) parts.old.items parts.new.items) }
+    requires begins { BeginsWithSomeTree head.now (spans_of sides.old) depth text.old.1 }
+    ensures adds { IfOk result (λ _. Adds head.now (spans_of sides.old) depth text.old.1 text.new.1
+        parts.old.items parts.new.items) }
     ensures memory { IfErr result (λ e. e ≡ CheckError.Memory) }
 {
     nodes_are_read();
     halves_stay_on_grid();
     let _ = head.w();
-    let Ok((node, behind)) = read_node(alloc, text, place, head) else {
+    let Ok(node) = text.node(head) else {
         return Err(CheckError::Memory);
     };
     match node {
         Node::Split { axis } => {
             let mut lower = lower_half(alloc, sides, axis)?;
-            let between = add_parts(alloc, text, head, depth + 1, &mut lower, behind, parts)?;
+            add_parts(alloc, text, head, depth + 1, &mut lower, parts)?;
             narrow(sides, axis, false);
-            add_parts(alloc, text, head, depth + 1, sides, between, parts)
+            add_parts(alloc, text, head, depth + 1, sides, parts)
         }
         Node::Accept { .. } => {
             keep(alloc, sides, depth, LeafKind::Accept, parts)?;
-            Ok(behind)
+            Ok(())
         }
         Node::Reject { .. } => {
             keep(alloc, sides, depth, LeafKind::Reject, parts)?;
-            Ok(behind)
+            Ok(())
         }
         Node::Unknown => {
             keep(alloc, sides, depth, LeafKind::Unknown, parts)?;
-            Ok(behind)
+            Ok(())
         }
     }
 }
 
 /// Reads the leaves behind a head.
-fn read_parts(alloc: Global, text: &[u8], head: Head, place: Place) -> Result<ReportMap, CheckError>
-    requires text { length text.now ≤ file_limit }
-    requires at { place.at ≤ length text.now }
-    requires number { place.number ≤ place.at + 1 }
-    requires nodes { HasNodes head (drop place.at text.now) }
-    ensures map { IfOk result (IsMapped head (drop place.at text.now)) }
+fn read_parts(alloc: Global, text: &mut TextLines, head: Head) -> Result<ReportMap, CheckError>
+    requires { HasNodes head text.old.1 }
+    ensures map { IfOk result (IsMapped head text.old.1) }
     ensures memory { IfErr result (λ e. e ≡ CheckError.Memory) }
 {
     let _ = head.w();
     let mut sides = Vec::from_slice(alloc, head.root().sides())?;
     let mut parts = Vec::new(alloc);
-    add_parts(alloc, text, &head, 0, &mut sides, place, &mut parts)?;
+    add_parts(alloc, text, &head, 0, &mut sides, &mut parts)?;
     Ok(ReportMap::new(head, parts))
 }
 
@@ -124,8 +116,9 @@ pub fn read_map(alloc: Global, text: &[u8]) -> Result<ReportMap, CheckError>
 {
     heads_are_read();
     check_text(alloc, text)?;
-    match read_head(alloc, text) {
-        Ok((head, place)) => read_parts(alloc, text, head, place),
-        Err(_) => Err(CheckError::Memory),
-    }
+    let mut lines = TextLines::make(alloc, text)?;
+    let Ok(head) = lines.head() else {
+        return Err(CheckError::Memory);
+    };
+    read_parts(alloc, &mut lines, head)
 }

@@ -5,7 +5,8 @@ use Rattle.std.specs.Io.KnownBytes.{Consumes, IsAtEnd}
 use Rattle.lift_base.specs.Outside.{Wrote}
 use Rattle.cert_text.specs.Head.{HeadData}
 use Rattle.cert_check.specs.Answer.{Answers}
-use Rattle.cert_check.specs.Source.{WasRead, file_limit}
+use Rattle.line_text.specs.Met.{WasRead}
+use Rattle.cert_check.specs.Source.{file_limit}
 use Rattle.cert_check.specs.Shown.{IsToldOfFile}
 use Rattle.cert_check.specs.declared.error.CheckError.{CheckError}
 use Rattle.cert_check.specs.declared.error.CheckError.TheVariants as check
@@ -59,8 +60,8 @@ module _ {K : Type 0} (taken : K → Option (List ℕ)) (counts : K → ℕ) (ol
 -- ---- reading
 
 -- what is known of bytes that were read
-was : (P Q : List ℕ → Type 0) (old new : Option (List ℕ)) → ((bytes : List ℕ) → P bytes → Q bytes) → WasRead P old new → WasRead Q old new
-was P Q old new f h = record { bytes = h.bytes; consumed = h.consumed; ended = h.ended; small = h.small; has = f h.bytes h.has }
+was : (P Q : List ℕ → Type 0) (old new : Option (List ℕ)) → ((bytes : List ℕ) → P bytes → Q bytes) → WasRead file_limit P old new → WasRead file_limit Q old new
+was P Q old new f h = record { bytes = h.bytes; consumed = h.consumed; finished = h.finished; small = h.small; has = f h.bytes h.has }
 
 module _ {S : Type 0} (left : S → Option (List ℕ)) (faults : S → ℕ) (source source' : S) where
   -- a report that was read to its end, and isn't sound
@@ -69,12 +70,12 @@ module _ {S : Type 0} (left : S → Option (List ℕ)) (faults : S → ℕ) (sou
   unsound bytes took ended small check.Fault h told = absurd told
   unsound bytes took ended small check.TooLong h told = absurd told
   unsound bytes took ended small check.Memory h told = tt
-  unsound bytes took ended small (check.Text e) h told = record { bytes = bytes; consumed = took; ended = ended; small = small; has = h (λ is. absurd cc) }
-  unsound bytes took ended small (check.Rows e) h told = record { bytes = bytes; consumed = took; ended = ended; small = small; has = h (λ is. absurd cc) }
-  unsound bytes took ended small (check.Missed node miss) h told = record { bytes = bytes; consumed = took; ended = ended; small = small; has = h (λ is. absurd cc) }
-  unsound bytes took ended small (check.Depth node) h told = record { bytes = bytes; consumed = took; ended = ended; small = small; has = h (λ is. absurd cc) }
-  unsound bytes took ended small (check.Axis node) h told = record { bytes = bytes; consumed = took; ended = ended; small = small; has = h (λ is. absurd cc) }
-  unsound bytes took ended small check.Rest h told = record { bytes = bytes; consumed = took; ended = ended; small = small; has = h (λ is. absurd cc) }
+  unsound bytes took ended small (check.Text e) h told = record { bytes = bytes; consumed = took; finished = ended; small = small; has = h (λ is. absurd cc) }
+  unsound bytes took ended small (check.Rows e) h told = record { bytes = bytes; consumed = took; finished = ended; small = small; has = h (λ is. absurd cc) }
+  unsound bytes took ended small (check.Missed node miss) h told = record { bytes = bytes; consumed = took; finished = ended; small = small; has = h (λ is. absurd cc) }
+  unsound bytes took ended small (check.Depth node) h told = record { bytes = bytes; consumed = took; finished = ended; small = small; has = h (λ is. absurd cc) }
+  unsound bytes took ended small (check.Axis node) h told = record { bytes = bytes; consumed = took; finished = ended; small = small; has = h (λ is. absurd cc) }
+  unsound bytes took ended small check.Rest h told = record { bytes = bytes; consumed = took; finished = ended; small = small; has = h (λ is. absurd cc) }
 
   pub refused : (bytes : List ℕ) → Consumes (left source) (left source') bytes → IsAtEnd (left source') → length bytes ≤ file_limit
       → (e : CheckError) (result : Result MapData Refusal) → IsErrAnd result (λ r. r ≡ check_refusal e) → (e ≢ check.Memory → Answers bytes (Err e)) → IsToldOfFile e
@@ -94,7 +95,7 @@ module _ {S : Type 0} (left : S → Option (List ℕ)) (faults : S → ℕ) (sou
 
   -- the map of a sound report
   pub mapped : (bytes : List ℕ) (m : MapData) → Consumes (left source) (left source') bytes → IsAtEnd (left source') → length bytes ≤ file_limit → IsMapOf bytes m.head m.parts → ReadsMap left faults source source' (Ok m)
-  mapped bytes m took ended small of = record { bytes = bytes; consumed = took; ended = ended; small = small; has = of }
+  mapped bytes m took ended small of = record { bytes = bytes; consumed = took; finished = ended; small = small; has = of }
 
   -- ---- both
 
@@ -112,11 +113,11 @@ module _ {S : Type 0} (left : S → Option (List ℕ)) (faults : S → ℕ) (sou
     stopped_as e (Ok x) out is h = absurd is
     stopped_as e (Err r) out is h = subst (λ (r : Refusal). Shows {T = Unit {0}} left faults taken counts v source source' out out (Err r)) (sym is) (stopped e out h)
 
-    shown : (P : Result (List ℕ) Usage → Type 0) (m : MapData) → WasRead (λ bytes. IsMapOf bytes m.head m.parts) (left source) (left source') → P (text_for v m) → WasRead (IsShown v P) (left source) (left source')
+    shown : (P : Result (List ℕ) Usage → Type 0) (m : MapData) → WasRead file_limit (λ bytes. IsMapOf bytes m.head m.parts) (left source) (left source') → P (text_for v m) → WasRead file_limit (IsShown v P) (left source) (left source')
     shown P m h p = was (λ bytes. IsMapOf bytes m.head m.parts) (IsShown v P) (left source) (left source') (λ bytes of. record { map = m; of = of; has = p }) h
 
     -- a report that was read, and what is written of it
-    pub written : (m : MapData) (result : Result (Unit {0}) Refusal) (out out' : K) → WasRead (λ bytes. IsMapOf bytes m.head m.parts) (left source) (left source')
+    pub written : (m : MapData) (result : Result (Unit {0}) Refusal) (out out' : K) → WasRead file_limit (λ bytes. IsMapOf bytes m.head m.parts) (left source) (left source')
         → WritesView taken counts (text_for v m) out out' result → Shows left faults taken counts v source source' out out' result
     written m (Ok x) out out' h w = shown (IsWritten (taken out) (taken out')) m h w
     written m (Err refusal.WriteFault) out out' h w = (shown (IsCutOff (taken out) (taken out')) m h w.0, w.1)

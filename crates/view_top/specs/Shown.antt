@@ -4,7 +4,8 @@ use Rattle.std.specs.declared.option.Option.{Option}
 use Rattle.std.specs.Io.KnownBytes.{Appends}
 use Rattle.lift_base.specs.Outside.{Rose, TakenHas, AppendsFront}
 use Rattle.cert_check.specs.Answer.{Answers}
-use Rattle.cert_check.specs.Source.{WasRead, file_limit}
+use Rattle.line_text.specs.Met.{WasRead}
+use Rattle.cert_check.specs.Source.{file_limit}
 use Rattle.view_map.specs.Parts.{MapData}
 use Rattle.view_map.specs.Slice.{SliceData}
 use Rattle.view_map.specs.Mapping.{IsMapOf}
@@ -53,19 +54,19 @@ abbrev pub StopsReading : {S : Type 0} → (S → Option (List ℕ)) → (S → 
 StopsReading left faults source source' refusal.ReadFault = Rose (faults source) (faults source')
 StopsReading left faults source source' refusal.TooLong = TakenHas (λ bytes. file_limit < length bytes) (left source) (left source')
 StopsReading left faults source source' refusal.Memory = ⊤
-StopsReading left faults source source' (refusal.Unsound error) = WasRead (λ bytes. Answers bytes (Err error)) (left source) (left source')
+StopsReading left faults source source' (refusal.Unsound error) = WasRead file_limit (λ bytes. Answers bytes (Err error)) (left source) (left source')
 StopsReading left faults source source' _ = ⊥
 
 -- reading a report: the source was read to its end, and this is the map of the sound report that it gave; or there is a cause
 abbrev pub ReadsMap : {S : Type 0} → (S → Option (List ℕ)) → (S → ℕ) → S → S → Result MapData Refusal → Type 0
-ReadsMap left faults source source' (Ok m) = WasRead (λ bytes. IsMapOf bytes m.head m.parts) (left source) (left source')
+ReadsMap left faults source source' (Ok m) = WasRead file_limit (λ bytes. IsMapOf bytes m.head m.parts) (left source) (left source')
 ReadsMap left faults source source' (Err why) = StopsReading left faults source source' why
 
 -- What showing a report comes to: the source was read to its end and gave a sound report, and what is asked of it was written; or there is a cause. The sink is as it was but for that text or a front of it.
 abbrev pub Shows : {S K T : Type 0} → (S → Option (List ℕ)) → (S → ℕ) → (K → Option (List ℕ)) → (K → ℕ) → ViewData → S → S → K → K → Result T Refusal → Type 0
-Shows left faults taken counts v source source' out out' (Ok _) = WasRead (IsShown v (IsWritten (taken out) (taken out'))) (left source) (left source')
+Shows left faults taken counts v source source' out out' (Ok _) = WasRead file_limit (IsShown v (IsWritten (taken out) (taken out'))) (left source) (left source')
 Shows left faults taken counts v source source' out out' (Err refusal.WriteFault) =
-    WasRead (IsShown v (IsCutOff (taken out) (taken out'))) (left source) (left source') × Rose (counts out) (counts out')
+    WasRead file_limit (IsShown v (IsCutOff (taken out) (taken out'))) (left source) (left source') × Rose (counts out) (counts out')
 Shows left faults taken counts v source source' out out' (Err (refusal.Usage fault)) =
-    WasRead (IsShown v (λ asked. asked ≡ Err fault)) (left source) (left source') × (out' ≡ out)
+    WasRead file_limit (IsShown v (λ asked. asked ≡ Err fault)) (left source) (left source') × (out' ≡ out)
 Shows left faults taken counts v source source' out out' (Err why) = StopsReading left faults source source' why × (out' ≡ out)

@@ -6,13 +6,13 @@ use std::test::Fail;
 
 // Each row: the report, the changes of its lines, and the answer.
 const ANSWERS: &str = "\
-COIN | - | Summary { accept: 1, reject: 0, unknown: 0 }
-COIN | 20=accept 8 16 0 | Summary { accept: 1, reject: 0, unknown: 0 }
-HIGH | - | Summary { accept: 0, reject: 1, unknown: 0 }
-SPLIT | - | Summary { accept: 1, reject: 1, unknown: 1 }
-MIDDLE | - | Summary { accept: 0, reject: 0, unknown: 1 }
-HALVED | - | Summary { accept: 1, reject: 0, unknown: 1 }
-IDLE | - | Summary { accept: 1, reject: 0, unknown: 1 }
+COIN | - | Summary { accept: 1, reject: 0, unknown: 0, version: 1 }
+COIN | 20=accept 8 16 0 | Summary { accept: 1, reject: 0, unknown: 0, version: 1 }
+HIGH | - | Summary { accept: 0, reject: 1, unknown: 0, version: 1 }
+SPLIT | - | Summary { accept: 1, reject: 1, unknown: 1, version: 1 }
+MIDDLE | - | Summary { accept: 0, reject: 0, unknown: 1, version: 1 }
+HALVED | - | Summary { accept: 1, reject: 0, unknown: 1, version: 1 }
+IDLE | - | Summary { accept: 1, reject: 0, unknown: 1, version: 1 }
 COIN | 20=accept 6 16 0 | Missed { node: 0, miss: Row { state: 0, choice: 0, corner: 1, left: 64, right: 60 } }
 COIN | 20=accept 7 16 0;x | Rest
 COIN | 20=accept 7 16 0; | Rest

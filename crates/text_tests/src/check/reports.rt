@@ -32,8 +32,8 @@ pub fn find_report(name: &str) -> Option<&'static str> {
     None
 }
 
-// An answer, as it is shown.
-fn shown(alloc: Global, answer: Result<Summary, CheckError>) -> Result<String, Fail> {
+/// An answer, as it is shown.
+pub fn shown(alloc: Global, answer: Result<Summary, CheckError>) -> Result<String, Fail> {
     match answer {
         Ok(summary) => Ok(format!(in alloc; "{summary:?}")?),
         Err(error) => Ok(format!(in alloc; "{error:?}")?),

@@ -1,27 +1,28 @@
 // Heads with changes, and what is read of them.
-use crate::text::reports::{changed_report, shown_fault};
-use cert_text::{Head, Place, read_head};
+use crate::text::reports::{changed_report, fresh_lines, line_due, shown_fault};
+use cert_text::{Head, read_head};
+use line_text::TextSource;
 use std::alloc::Global;
 use std::fmt::Write;
 use std::test::Fail;
 
 // Each row: the report and the changes of its lines, and what the head tells. That is the parameters,
 // the states, the initial state, the bound, the precision, the depth, the grid, the root's sides, and
-// the place behind it.
+// the line behind it.
 const READ: &str = "\
-COIN - | p 3 0 1/2 4 0 10 box 1 4 line 20 at 184
-COIN 3=parameters 1 aaaaaaaaaaaaaaaaaaaaaaaaaaaaaaaaaaaaaaaaaaaaaaaaaaaaaaaaaaaaaaaa | aaaaaaaaaaaaaaaaaaaaaaaaaaaaaaaaaaaaaaaaaaaaaaaaaaaaaaaaaaaaaaaa 3 0 1/2 4 0 10 box 1 4 line 20 at 247
-COIN 4=common 4611686018427387903 | p 3 0 1/2 4 0 10 box 1 4 line 20 at 202
-COIN 6=init 2 / 7=goal 3 0 1 2 | p 3 2 1/2 4 0 10 box 1 4 line 20 at 188
-COIN 9=to 1 / 10=to 2 1:1267650600228229401496703205375 | p 3 0 1/2 4 0 10 box 1 4 line 20 at 205
-COIN 2=kind mdp / 14=to 2 0:1;row 2 1 0 | p 3 0 1/2 4 0 10 box 1 4 line 21 at 193
-COIN 15=bound 0/1 / 16=precision 40 | p 3 0 0/1 40 0 10 box 1 4 line 20 at 185
-COIN 15=bound 4294967294/4294967295 | p 3 0 4294967294/4294967295 4 0 10 box 1 4 line 20 at 202
-COIN 17=depth 20 / 19=box 0 1048576 | p 3 0 1/2 4 20 10 box 0 1048576 line 20 at 191
-COIN 18=grid 4611686018427387903 / 19=box -4611686018427387903 0 | p 3 0 1/2 4 0 4611686018427387903 box -4611686018427387903 0 line 20 at 220
-COIN 3=parameters 5 a b c d e / 9=to 1 1:1 2:1 12:1 / 19=box 1 4 1 4 1 4 1 4 1 4 | a b c d e 3 0 1/2 4 0 10 box 1 4 1 4 1 4 1 4 1 4 line 20 at 217
-COIN 3=parameters 4 a b c d / 9=to 1 0:1 1:1 2:1 3:1 4:1 5:1 6:1 7:1 8:1 9:1 10:1 11:1 12:1 13:1 14:1 15:1 / 19=box 1 4 1 4 1 4 1 4 | a b c d 3 0 1/2 4 0 10 box 1 4 1 4 1 4 1 4 line 20 at 268
-PAIR - | p q 2 0 1/1 10 2 40 box 4 36 -8 40 line 20 at 193
+COIN - | p 3 0 1/2 4 0 10 box 1 4 line 20
+COIN 3=parameters 1 aaaaaaaaaaaaaaaaaaaaaaaaaaaaaaaaaaaaaaaaaaaaaaaaaaaaaaaaaaaaaaaa | aaaaaaaaaaaaaaaaaaaaaaaaaaaaaaaaaaaaaaaaaaaaaaaaaaaaaaaaaaaaaaaa 3 0 1/2 4 0 10 box 1 4 line 20
+COIN 4=common 4611686018427387903 | p 3 0 1/2 4 0 10 box 1 4 line 20
+COIN 6=init 2 / 7=goal 3 0 1 2 | p 3 2 1/2 4 0 10 box 1 4 line 20
+COIN 9=to 1 / 10=to 2 1:1267650600228229401496703205375 | p 3 0 1/2 4 0 10 box 1 4 line 20
+COIN 2=kind mdp / 14=to 2 0:1;row 2 1 0 | p 3 0 1/2 4 0 10 box 1 4 line 21
+COIN 15=bound 0/1 / 16=precision 40 | p 3 0 0/1 40 0 10 box 1 4 line 20
+COIN 15=bound 4294967294/4294967295 | p 3 0 4294967294/4294967295 4 0 10 box 1 4 line 20
+COIN 17=depth 20 / 19=box 0 1048576 | p 3 0 1/2 4 20 10 box 0 1048576 line 20
+COIN 18=grid 4611686018427387903 / 19=box -4611686018427387903 0 | p 3 0 1/2 4 0 4611686018427387903 box -4611686018427387903 0 line 20
+COIN 3=parameters 5 a b c d e / 9=to 1 1:1 2:1 12:1 / 19=box 1 4 1 4 1 4 1 4 1 4 | a b c d e 3 0 1/2 4 0 10 box 1 4 1 4 1 4 1 4 1 4 line 20
+COIN 3=parameters 4 a b c d / 9=to 1 0:1 1:1 2:1 3:1 4:1 5:1 6:1 7:1 8:1 9:1 10:1 11:1 12:1 13:1 14:1 15:1 / 19=box 1 4 1 4 1 4 1 4 | a b c d 3 0 1/2 4 0 10 box 1 4 1 4 1 4 1 4 line 20
+PAIR - | p q 2 0 1/1 10 2 40 box 4 36 -8 40 line 20
 ";
 
 // Each row: the report and the changes of its lines, and the line and the cause.
@@ -191,7 +192,7 @@ PAIR 8=row 0 0 0;row 0 1 2 / 11=row 0 2 1 | row 0 0 row 0 1 to 1 1:2 to 0 0:2 1:
 ";
 
 // What a head tells beside its rows.
-fn shown(alloc: Global, head: &Head, place: Place) -> Result<String, Fail> {
+fn shown(alloc: Global, head: &Head, line: u64) -> Result<String, Fail> {
     let mut text = String::new(alloc);
     let model = head.model();
     for name in 0..model.names().len() {
@@ -212,7 +213,7 @@ fn shown(alloc: Global, head: &Head, place: Place) -> Result<String, Fail> {
     for end in head.root().sides() {
         write!(text, " {end}")?;
     }
-    write!(text, " line {} at {}", place.number, place.at)?;
+    write!(text, " line {line}")?;
     Ok(text)
 }
 
@@ -237,12 +238,10 @@ fn shown_rows(alloc: Global, head: &Head) -> Result<String, Fail> {
 
 // What is read of a text's head, or its rows alone.
 fn answer_of(alloc: Global, text: &[u8], rows: bool) -> Result<String, Fail> {
-    if text.len() >= 1 << 31 {
-        return Ok(String::new(alloc));
-    }
-    match read_head(alloc, text) {
-        Ok((head, _)) if rows => shown_rows(alloc, &head),
-        Ok((head, place)) => shown(alloc, &head, place),
+    let mut lines = fresh_lines(alloc)?;
+    match read_head(alloc, &mut lines, &mut TextSource::new(text)) {
+        Ok(head) if rows => shown_rows(alloc, &head),
+        Ok(head) => shown(alloc, &head, line_due(&lines)),
         Err(error) => shown_fault(alloc, error),
     }
 }

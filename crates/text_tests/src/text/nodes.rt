@@ -1,6 +1,8 @@
 // Nodes with changes, and what is read of them.
-use crate::text::reports::{changed_report, shown_fault};
-use cert_text::{Node, Place, TextError, read_head, read_node};
+use crate::text::reports::{changed_report, fresh_lines, line_due, shown_fault};
+use cert_text::{FileError, Node, read_head, read_node};
+use lift_base::Lines;
+use line_text::TextSource;
 use std::alloc::Global;
 use std::fmt::Write;
 use std::test::Fail;
@@ -87,15 +89,11 @@ PAIR 20=accept 1024 0 0 | 20 Syntax
 PAIR 20=reject e 0 k 2 m 0 b 1024/1024;y 1024 1024;choice 2 -;rank 2 0 | 22 Limit
 ";
 
-// The first node of a text, and the place behind it.
-fn first_node(alloc: Global, text: &[u8]) -> Result<(Node, Place), TextError> {
-    if text.len() >= 1 << 31 {
-        return Ok((Node::Unknown, Place { at: 0, number: 0 }));
-    }
-    match read_head(alloc, text) {
-        Ok((head, place)) => read_node(alloc, text, place, &head),
-        Err(error) => Err(error),
-    }
+// The first node of a text.
+fn first_node(alloc: Global, lines: &mut Lines, text: &[u8]) -> Result<Node, FileError> {
+    let mut source = TextSource::new(text);
+    let head = read_head(alloc, lines, &mut source)?;
+    read_node(alloc, lines, &mut source, &head)
 }
 
 // Adds a word and the numbers of the states.
@@ -146,10 +144,11 @@ pub fn shown(alloc: Global, node: &Node) -> Result<String, Fail> {
 
 // What is read of a text's first node.
 fn answer_of(alloc: Global, text: &[u8]) -> Result<String, Fail> {
-    match first_node(alloc, text) {
-        Ok((node, place)) => {
+    let mut lines = fresh_lines(alloc)?;
+    match first_node(alloc, &mut lines, text) {
+        Ok(node) => {
             let mut told = shown(alloc, &node)?;
-            write!(told, " line {}", place.number)?;
+            write!(told, " line {}", line_due(&lines))?;
             Ok(told)
         }
         Err(error) => shown_fault(alloc, error),

@@ -1,6 +1,7 @@
 // The reports of the tests. A semicolon stands between two lines.
 use crate::changes::changed;
-use cert_text::TextError;
+use cert_text::FileError;
+use lift_base::Lines;
 use std::alloc::Global;
 use std::test::Fail;
 
@@ -19,7 +20,19 @@ pub fn changed_report(alloc: Global, told: &str) -> Result<Vec<u8>, Fail> {
 }
 
 /// A fault as its line and its cause.
-pub fn shown_fault(alloc: Global, error: TextError) -> Result<String, Fail> {
-    let told = format!(in alloc; "{} {:?}", error.line, error.cause)?;
-    Ok(told)
+pub fn shown_fault(alloc: Global, error: FileError) -> Result<String, Fail> {
+    match error {
+        FileError::Text(error) => Ok(format!(in alloc; "{} {:?}", error.line, error.cause)?),
+        other => Ok(format!(in alloc; "{other:?}")?),
+    }
+}
+
+/// Lines of which none was read.
+pub fn fresh_lines(alloc: Global) -> Result<Lines, Fail> {
+    Ok(Lines::make(alloc, 1 << 32)?)
+}
+
+/// The number of the line that is due.
+pub fn line_due(lines: &Lines) -> u64 {
+    u64::from(lines.given()) + 1
 }

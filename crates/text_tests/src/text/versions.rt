@@ -1,7 +1,9 @@
 // Reports of both versions, and what is read of their precisions.
 use crate::text::nodes::shown;
-use crate::text::reports::{changed_report, shown_fault};
-use cert_text::{Head, Node, Place, read_head, read_node};
+use crate::text::reports::{changed_report, fresh_lines, line_due, shown_fault};
+use cert_text::{FileError, Head, Node, read_head, read_node};
+use lift_base::Lines;
+use line_text::TextSource;
 use std::alloc::Global;
 use std::fmt::Write;
 use std::test::Fail;
@@ -81,27 +83,30 @@ fn precision(node: &Node) -> Option<u32> {
 }
 
 // What a head tells of its precisions, and the node behind it.
-fn told(alloc: Global, head: &Head, node: &Node, behind: Place) -> Result<String, Fail> {
+fn told(alloc: Global, head: &Head, node: &Node, line: u64) -> Result<String, Fail> {
     let mut text = String::new(alloc);
     write!(text, "{} {} {} ", head.version(), head.from(), head.w())?;
     if let Some(u) = precision(node) {
         write!(text, "at {u} ")?;
     }
     let node = shown(alloc, node)?;
-    write!(text, "{node} line {}", behind.number)?;
+    write!(text, "{node} line {line}")?;
     Ok(text)
+}
+
+// A report's head and first node.
+fn first_of(alloc: Global, lines: &mut Lines, text: &[u8]) -> Result<(Head, Node), FileError> {
+    let mut source = TextSource::new(text);
+    let head = read_head(alloc, lines, &mut source)?;
+    let node = read_node(alloc, lines, &mut source, &head)?;
+    Ok((head, node))
 }
 
 // What is read of a report's head and first node.
 fn answer_of(alloc: Global, text: &[u8]) -> Result<String, Fail> {
-    if text.len() >= 1 << 31 {
-        return Ok(String::new(alloc));
-    }
-    match read_head(alloc, text) {
-        Ok((head, place)) => match read_node(alloc, text, place, &head) {
-            Ok((node, behind)) => told(alloc, &head, &node, behind),
-            Err(error) => shown_fault(alloc, error),
-        },
+    let mut lines = fresh_lines(alloc)?;
+    match first_of(alloc, &mut lines, text) {
+        Ok((head, node)) => told(alloc, &head, &node, line_due(&lines)),
         Err(error) => shown_fault(alloc, error),
     }
 }

@@ -1,16 +1,14 @@
-use Rattle.std.proofs.Common.{List, ℕ, IfOk, Result, Ok, Err}
-use Rattle.cert_check.specs.Answer.{Answers}
-use Rattle.cert_check.specs.Shown.{Says}
-use Rattle.cert_check.specs.Sound.{IsSoundFile}
-use Rattle.cert_check.specs.Laws.{PassingFilesAreSound}
-use Rattle.cert_check.specs.declared.summary.Summary.{Summary}
-use Rattle.cert_check.specs.declared.error.CheckError.{CheckError}
+use Rattle.std.proofs.Common.{length, arith}
+use Rattle.cert_check.proofs.Sources.{passes, text_says, text_told}
 use Rattle.cert_check.proofs.text.check_text.Goals as goal
 
--- a file that passes is sound
-passes : PassingFilesAreSound → (bytes : List ℕ) (result : Result Summary CheckError) → Says (λ s. s) (Answers bytes) result → IfOk result (IsSoundFile bytes)
-passes sound bytes (Ok leaves) h = sound bytes leaves h
-passes sound bytes (Err e) h = tt
-
 pub returns-clause-sound : goal.returns-clause-sound
-returns-clause-sound c = passes c.sound_files_pass.ensures.sound c.args.text.now c.check_bytes.result c.check_bytes.ensures.end
+returns-clause-sound c =
+    passes c.sound_files_pass.ensures.sound c.args.text.now c.check_within.result
+    (text_says (length c.args.text.now) c.args.text.now c.check_within.new.src c.sound_files_pass.ensures.pass (omega arith) c.check_within.result (rw c.new.ensures at c.check_within.ensures.answer))
+
+pub returns-clause-answer : goal.returns-clause-answer
+returns-clause-answer c = text_says (length c.args.text.now) c.args.text.now c.check_within.new.src c.sound_files_pass.ensures.pass (omega arith) c.check_within.result (rw c.new.ensures at c.check_within.ensures.answer)
+
+pub returns-clause-told : goal.returns-clause-told
+returns-clause-told c = text_told (length c.args.text.now) c.args.text.now c.check_within.new.src c.sound_files_pass.ensures.pass (omega arith) c.check_within.result (rw c.new.ensures at c.check_within.ensures.answer) c.check_within.ensures.numbers

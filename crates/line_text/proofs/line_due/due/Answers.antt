@@ -3,13 +3,13 @@ use Rattle.lift_base.specs.declared.pieces.Front.{Front}
 use Rattle.lift_base.specs.declared.pieces.Front.TheVariants as front
 use Rattle.lift_base.specs.Lines.{FrontIs, IsFront}
 use Rattle.line_text.specs.declared.error.TextCause.TheVariants.{Limit, Truncated}
-use Rattle.line_text.proofs.Dues.{due_fails, is_long, is_cut, is_end}
+use Rattle.line_text.proofs.Dues.{is_due, due_fails, is_long, is_cut, is_end}
 use Rattle.line_text.proofs.line_due.due.Goals as goal
 
 pub returns-in-Ok-Line : goal.returns-in-Ok-Line
 returns-in-Ok-Line g c =
     let now = c.in-Ok-Line.ensures in
-    (now.reads.0, now.reads.1, now.tells, now.faults, subst (λ (f : Front). IsFront f c.look.new.self.held) c.in-Ok-Line.field-0-is now.here)
+    is_due g.S.Source.left g.S.Source.faults c.args.lines.now c.look.new.self c.args.src.now c.look.new.src now.reads.0 now.reads.1 now.tells now.faults (subst (λ (f : Front). IsFront f c.look.new.self.held) c.in-Ok-Line.field-0-is now.here)
 
 pub returns-in-Ok-Long : goal.returns-in-Ok-Long
 returns-in-Ok-Long g c =

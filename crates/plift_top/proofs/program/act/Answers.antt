@@ -7,13 +7,13 @@ pub returns-in-Ok-Generate-clause-answer : goal.returns-in-Ok-Generate-clause-an
 returns-in-Ok-Generate-clause-answer g c = writes_ladder g.S.Source.left g.S.Source.faults g.K.Sink.taken g.K.Sink.faults _ _ _ c.args.words.now _ _ c.write_ladder.ensures (search rules)
 
 pub returns-in-Ok-Generate-clause-limit : goal.returns-in-Ok-Generate-clause-limit
-returns-in-Ok-Generate-clause-limit g c other = ladder_limit g.K.Sink.taken g.K.Sink.faults _ _ _ _ _ c.write_ladder.ensures
+returns-in-Ok-Generate-clause-limit g c other = ladder_limit _ g.K.Sink.taken g.K.Sink.faults _ _ _ _ _ c.write_ladder.ensures
 
 pub returns-in-Err-clause-answer : goal.returns-in-Err-clause-answer
 returns-in-Err-clause-answer g c = refuses_line g.S.Source.left g.S.Source.faults g.K.Sink.taken g.K.Sink.faults _ _ c.args.out.now c.args.words.now c.in-Err.cause _ c.in-Err.ensures c.from.ensures
 
 pub returns-in-Err-clause-limit : goal.returns-in-Err-clause-limit
-returns-in-Err-clause-limit g c other = line_limit c.in-Err.cause (Err c.from.result) _ c.from.ensures
+returns-in-Err-clause-limit g c other = line_limit _ c.in-Err.cause (Err c.from.result) _ c.from.ensures
 
 pub returns-in-Ok-Selftest-clause-answer : goal.returns-in-Ok-Selftest-clause-answer
 returns-in-Ok-Selftest-clause-answer g c = tests_ladder g.S.Source.left g.S.Source.faults g.K.Sink.taken g.K.Sink.faults _ _ _ c.args.words.now _ _ c.selftest.ensures (search rules)

@@ -1,4 +1,4 @@
-use Rattle.std.proofs.Common.{◌≡◌, ◌-◌, ℕ, None, sym, ap, ◌∙◌, arith}
+use Rattle.std.proofs.Common.{◌≡◌, ◌-◌, sym, ap, ◌∙◌, arith}
 use Rattle.view_map.specs.Choice.{first_from, is_choice}
 use Rattle.view_map.proofs.Choosing.{first_here, first_next, first_none}
 use Rattle.view_map.proofs.choice.first_live.Goals as goal

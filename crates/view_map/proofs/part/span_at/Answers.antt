@@ -1,4 +1,4 @@
-use Rattle.std.proofs.Common.{◌+◌, ◌*◌, ◌≤◌, length, pos, w64, get_or, rules, sym, SFits, to_z-of_z}
+use Rattle.std.proofs.Common.{◌+◌, ◌*◌, pos, w64, get_or, rules, sym, SFits, to_z-of_z}
 use Rattle.view_map.proofs.Rows.{pair_at, none_at}
 use Rattle.view_map.proofs.part.span_at.Goals as goal
 
