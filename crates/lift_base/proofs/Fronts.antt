@@ -72,9 +72,5 @@ pub front_now : (l : LinesData) (f : Front) → FrontIs l f → IsFront f l.held
 front_now l f is = subst (λ (rest : List ℕ). IsFront f rest) (append-nil l.held) (is [] (λ _. refl))
 
 -- the line at the front, as a part of the buffer
-pub line_part : (xs : List ℕ) (from to k : ℕ) → k ≡ feed_at (slice_range xs from to) → slice_range xs from (from + k) ≡ before_first is_feed (slice_range xs from to)
-line_part xs from to k at =
-    let few : k ≤ to - from = omega (arith, at, within (slice_range xs from to), length-take (to - from) (drop from xs)) in
-    ap (λ (n : ℕ). take n (drop from xs)) (let e : from + k - from ≡ k = omega arith in e)
-    ∙ sym (take-take k (to - from) (drop from xs) few)
-    ∙ ap (λ (n : ℕ). take n (slice_range xs from to)) at
+pub line_part : (xs : List ℕ) (from k : ℕ) → k ≡ feed_at (drop from xs) → slice_range xs from (from + k) ≡ before_first is_feed (drop from xs)
+line_part xs from k at = ap (λ (n : ℕ). take n (drop from xs)) (let e : from + k - from ≡ k = omega arith in e) ∙ ap (λ (n : ℕ). take n (drop from xs)) at

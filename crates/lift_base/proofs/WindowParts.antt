@@ -1,35 +1,22 @@
--- Parts of a buffer.
-use Rattle.std.proofs.Common.{◌≡◌, ◌≤◌, ◌+◌, ◌-◌, ◌∙◌, ap, sym, ℕ, List, length, take, drop, ◌++◌, arith, length-take, length-drop}
-use Rattle.std.specs.List.{slice_range}
-use Rattle.std.proofs.Math.Seq.{paste, take-append-add, take-append_seam}
-use Rattle.std.proofs.lemmas.List.{drop-take, drop-drop, drop-append-le}
-use Rattle.std.proofs.lemmas.List.Edits.{paste_all}
+-- The rest of a buffer.
+use Rattle.std.proofs.Common.{◌≡◌, ◌≤◌, ◌+◌, ◌-◌, ◌∙◌, ap, sym, ℕ, List, length, take, drop, ◌++◌, arith, length-drop, take_all}
+use lib.Seq.{paste}
+use Rattle.std.proofs.lemmas.List.{drop-drop, drop-append-le}
+use Rattle.std.proofs.lemmas.List.Edits.{take-paste}
 
--- the part without its first elements
-pub part_skipped : (xs : List ℕ) (from to n : ℕ) → n ≤ length (slice_range xs from to) → slice_range xs (from + n) to ≡ drop n (slice_range xs from to)
-part_skipped xs from to n within =
-    let rest : ℕ = to - (from + n) in
-    let few : n ≤ to - from = omega (arith, within, length-take (to - from) (drop from xs)) in
-    ap (λ (l : List ℕ). take rest l) (sym (drop-drop n from xs))
-    ∙ sym (drop-take n rest (drop from xs))
-    ∙ ap (λ (k : ℕ). drop n (take k (drop from xs))) (let e : n + rest ≡ to - from = omega (arith, few) in e)
+-- the rest without its first elements
+pub rest_skipped : (xs : List ℕ) (from n : ℕ) → drop (from + n) xs ≡ drop n (drop from xs)
+rest_skipped xs from n = sym (drop-drop n from xs)
 
--- the part of a text that begins with the old one up to the part's end, and with more behind it
-pub part_put : (xs piece tail : List ℕ) (from to n : ℕ) → n ≡ length piece → from ≤ to → to ≤ length xs
-    → slice_range (take to xs ++ (piece ++ tail)) from (to + n) ≡ slice_range xs from to ++ piece
-part_put xs piece tail from to n len order within =
-    let part : List ℕ = slice_range xs from to in
-    let size : length part ≡ to - from = omega (arith, order, within, length-take (to - from) (drop from xs), length-drop from xs) in
-    let front : drop from (take to xs) ≡ part =
-    ap (λ (k : ℕ). drop from (take k xs)) (let e : to ≡ from + (to - from) = omega (arith, order) in e) ∙ drop-take from (to - from) xs in
-    ap (λ (l : List ℕ). take (to + n - from) l)
-    (drop-append-le from (take to xs) (piece ++ tail) (omega (arith, order, within, length-take to xs)) ∙ ap (λ (l : List ℕ). l ++ (piece ++ tail)) front)
-    ∙ ap (λ (k : ℕ). take k (part ++ (piece ++ tail))) (let e : to + n - from ≡ length part + length piece = omega (arith, order, size, len) in e)
-    ∙ take-append-add part (piece ++ tail) (length piece)
-    ∙ ap (λ (l : List ℕ). part ++ l) (take-append_seam piece tail)
+-- the rest with more behind it
+pub rest_grown : (xs piece : List ℕ) (from : ℕ) → from ≤ length xs → drop from (xs ++ piece) ≡ drop from xs ++ piece
+rest_grown xs piece from within = drop-append-le from xs piece within
 
--- the part with what was put behind it
-pub part_pasted : (xs piece : List ℕ) (from to n : ℕ) → n ≡ length piece → from ≤ to → to + n ≤ length xs
-    → slice_range (paste xs to piece n) from (to + n) ≡ slice_range xs from to ++ piece
-part_pasted xs piece from to n len order within =
-    ap (λ (l : List ℕ). slice_range l from (to + n)) (paste_all xs to piece n len) ∙ part_put xs piece (drop (to + n) xs) from to n len order (omega (arith, within))
+-- what stands at the front, once the rest was moved there
+pub rest_moved : (xs : List ℕ) (from len : ℕ) → len ≡ length xs - from → take len (paste xs 0 (drop from xs) len) ≡ drop from xs
+rest_moved xs from len at =
+    let size : length (drop from xs) ≡ len = omega (arith, at, length-drop from xs) in
+    let same : len ≡ 0 + len = omega arith in
+    ap (λ (k : ℕ). take k (paste xs 0 (drop from xs) len)) same
+    ∙ take-paste xs 0 (drop from xs) len (omega (arith, at)) (omega (arith, size))
+    ∙ take_all len (drop from xs) (omega (arith, size))

@@ -1,6 +1,5 @@
 -- What a window on a source holds, and what one read does to it.
-use Rattle.std.specs.Prelude.{◌≡◌, ◌≤◌, ℕ, List, ◌++◌, length}
-use Rattle.std.specs.List.{slice_range}
+use Rattle.std.specs.Prelude.{◌≡◌, ◌≤◌, ℕ, List, ◌++◌, length, drop}
 use Rattle.std.specs.declared.option.Option.{Option}
 use Rattle.std.specs.Io.KnownBytes.{Consumes, Keeps, IsAtEnd}
 use Rattle.lift_base.specs.Outside.{Rose}
@@ -8,15 +7,14 @@ use Rattle.lift_base.specs.Lines.{most_read_bytes}
 use Rattle.lift_base.specs.declared.input.Got.{Got}
 use Rattle.lift_base.specs.declared.input.Got.TheVariants as got
 
--- a buffer, and the part of it that is held
+-- a buffer, and where what is held begins in it
 pub record WindowData : Type 0 where
   pub buf : List ℕ
   pub from : ℕ
-  pub to : ℕ
 
--- the bytes that are held: a part of the buffer
+-- the bytes that are held: the rest of the buffer
 abbrev pub held_of : WindowData → List ℕ
-held_of w = slice_range w.buf w.from w.to
+held_of w = drop w.from w.buf
 
 -- what one read did: the bytes that it gave are held behind the others, or it failed and a fault was counted
 abbrev pub Fills : {S : Type 0} → (S → Option (List ℕ)) → (S → ℕ) → S → S → List ℕ → List ℕ → Got → Type 0

@@ -16,24 +16,24 @@ pub(crate) const SIZE: usize = (1 << 20) + (1 << 16);
 /// So few bytes are moved to the front before each read, so that short lines stay in few pages.
 const FEW: usize = 256;
 
-/// Bytes that were read and not given yet: a part of a buffer.
+/// Bytes that were read and not given yet: what stands in a buffer from a place on. The buffer has its room from the
+/// beginning, and only what was read is ever written into it, so that a short text touches few pages.
 #[derive(Drop)]
 pub(crate) struct Window {
     buf: Vec<u8>,
     from: usize,
-    to: usize,
 }
 
 impl Model for Window {
-    ghost use Rattle.std.specs.Prelude.{◌≡◌, ◌≤◌, vec_len};
+    ghost use Rattle.std.specs.Prelude.{◌≤◌, vec_len, vec_capacity};
     ghost use Rattle.lift_base.specs.Window.{WindowData};
     ghost use Rattle.lift_base.specs.declared.window.TheConstants.{SIZE};
 
     ghost Value = { WindowData };
 
-    ghost view = { λ w. record { buf = w.buf.items; from = w.from; to = w.to } };
+    ghost view = { λ w. record { buf = w.buf.items; from = w.from } };
 
-    ghost invariant = { λ w. (vec_len w.buf ≡ SIZE) × (w.from ≤ w.to) × (w.to ≤ SIZE) };
+    ghost invariant = { λ w. (w.from ≤ vec_len w.buf) × (vec_len w.buf ≤ SIZE) × (SIZE ≤ vec_capacity w.buf) };
 }
 
 impl Window {
@@ -41,11 +41,8 @@ impl Window {
     pub fn make(alloc: Global) -> Result<Window, AllocError>
         ensures { IfOk result (λ w. held_of w ≡ []) }
     {
-        Ok(Window {
-            buf: vec![in alloc; 0u8; SIZE]?,
-            from: 0,
-            to: 0,
-        })
+        let buf = Vec::with_capacity(alloc, SIZE)?;
+        Ok(Window { buf, from: 0 })
     }
 
     /// How many bytes are held.
@@ -53,7 +50,7 @@ impl Window {
     pub fn len(&self) -> usize
         ensures { result ≡ length (held_of self.now) }
     {
-        self.to - self.from
+        self.buf.len() - self.from
     }
 
     /// What is held.
@@ -61,12 +58,12 @@ impl Window {
     pub fn held(&self) -> &[u8]
         ensures { result.now ≡ held_of self.now }
     {
-        &self.buf[self.from..self.to]
+        &self.buf[self.from..]
     }
 
     /// Lets the first bytes go.
     #[inline(always)]
-    #[tactic(auto, using(crate::proofs::WindowParts::part_skipped))]
+    #[tactic(auto, using(crate::proofs::WindowParts::rest_skipped))]
     pub fn skip(&mut self, count: usize)
         requires { count ≤ length (held_of self.old) }
         ensures held { held_of self.new ≡ drop count (held_of self.old) }
@@ -77,12 +74,14 @@ impl Window {
     }
 
     /// Moves what is held to the front of the buffer.
+    #[tactic(auto, using(crate::proofs::WindowParts::rest_moved))]
     fn to_front(&mut self)
         ensures held { held_of self.new ≡ held_of self.old }
-        ensures to { self.new.to ≡ length (held_of self.old) }
+        ensures buf { self.new.buf ≡ held_of self.old }
     {
-        self.buf.copy_within(self.from..self.to, 0);
-        self.to -= self.from;
+        let len = self.len();
+        self.buf.copy_within(self.from.., 0);
+        self.buf.truncate(len);
         self.from = 0;
     }
 
@@ -90,22 +89,20 @@ impl Window {
     fn make_room(&mut self)
         requires { length (held_of self.old) + PIECE ≤ SIZE }
         ensures held { held_of self.new ≡ held_of self.old }
-        ensures room { self.new.to + PIECE ≤ SIZE }
+        ensures room { length self.new.buf + PIECE ≤ SIZE }
     {
-        if self.to - self.from <= FEW || self.to + PIECE > SIZE {
+        if self.len() <= FEW || self.buf.len() + PIECE > SIZE {
             self.to_front();
         }
     }
 
     /// Holds these bytes too, behind the others.
-    #[tactic(auto, using(crate::proofs::WindowParts::part_pasted))]
+    #[tactic(auto, using(crate::proofs::WindowParts::rest_grown))]
     fn push(&mut self, piece: &[u8])
-        requires { self.old.to + length piece.now ≤ SIZE }
+        requires { length self.old.buf + length piece.now ≤ SIZE }
         ensures { held_of self.new ≡ held_of self.old ++ piece.now }
     {
-        let end = self.to + piece.len();
-        self.buf[self.to..end].copy_from_slice(piece);
-        self.to = end;
+        self.buf.extend_from_slice(piece).unwrap();
     }
 
     /// Reads once, behind what is held.

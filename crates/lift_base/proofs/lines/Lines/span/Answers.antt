@@ -14,4 +14,4 @@ returns-clause-line c =
     let len : ℕ = c.self.inside.line_len in
     let from : ℕ = c.from-from.result in
     subst (λ (l : LinesData). slice_range l.text from (from + len) ≡ before_first is_feed l.held) c.self.view_is
-    (subst (λ (n : ℕ). slice_range window.buf n (n + len) ≡ before_first is_feed (held_of window)) (sym c.from-from.ensures.value) (line_part window.buf window.from window.to len c.self.invariant.0))
+    (subst (λ (n : ℕ). slice_range window.buf n (n + len) ≡ before_first is_feed (held_of window)) (sym c.from-from.ensures.value) (line_part window.buf window.from len c.self.invariant.0))
