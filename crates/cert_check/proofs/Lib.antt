@@ -8,3 +8,4 @@ mod Forms
 mod Steps
 mod Walking
 mod Sources
+mod Migrating

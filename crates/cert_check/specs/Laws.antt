@@ -8,6 +8,7 @@ use Rattle.line_text.specs.declared.error.TextCause.TheVariants.{Truncated}
 use Rattle.line_text.specs.Follow.{told_fault}
 use Rattle.cert_text.specs.Head.{HeadData}
 use Rattle.cert_text.specs.Forms.{IsHead, IsPrecision}
+use Rattle.cert_text.specs.Migrated.{MigratesTo}
 use Rattle.cert_text.specs.Whole.{feed_count}
 use Rattle.cert_check.specs.Sound.{IsSound, IsSoundTree, IsSoundFile}
 use Rattle.cert_check.specs.Trust.{ReportHolds}
@@ -50,3 +51,7 @@ CanBeTold h unknown = ⊤
 -- a sound tree of an admitted head makes a sound report
 abbrev pub SoundTreesAreReports : Type 0
 SoundTreesAreReports = (h : HeadData) (t : Tree) → IsHead h → IsAdmitted h.asked → IsSoundTree h.asked h.bound h.asked.root 0 t → CanBeTold h t → IsSound h t
+
+-- a sound file of the first version has one of the second that tells the same report, with the same leaves
+abbrev pub SoundFilesMigrate : Type 0
+SoundFilesMigrate = (old : List ℕ) (leaves : Summary) → IsSoundFile old leaves → leaves.version ≡ 1 → (new : List ℕ) × MigratesTo old new × IsSoundFile new (record leaves { version = 2 })

@@ -4,6 +4,7 @@ ghost use Rattle.cert_check.specs.Laws.{
   AnswersAreOne,
   PassingFilesAreSound,
   PrefixesAreRefused,
+  SoundFilesMigrate,
   SoundFilesPass,
   SoundReportsHold,
   SoundTreesAreReports,
@@ -64,6 +65,11 @@ pub fn sound_trees_are_reports()
     rectangles_are_placed();
     live_parameters_have_spans();
 }
+
+/// A sound file of the first version can be told in the second, and is sound there too.
+pub fn sound_files_migrate()
+    ensures { SoundFilesMigrate }
+{}
 
 /// Where the root and the halves of a rectangle stand.
 pub(crate) fn rectangles_are_placed()

@@ -14,8 +14,8 @@ mod walk;
 pub use checking::{check, check_within};
 pub use error::CheckError;
 pub use laws::{
-    answers_are_one, prefixes_are_refused, sound_files_pass, sound_reports_hold,
-    sound_trees_are_reports,
+    answers_are_one, prefixes_are_refused, sound_files_migrate, sound_files_pass,
+    sound_reports_hold, sound_trees_are_reports,
 };
 pub use summary::Summary;
 pub use text::check_text;

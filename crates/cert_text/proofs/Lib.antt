@@ -36,3 +36,5 @@ mod RowLoops
 mod HeadSteps
 mod HeadRests
 mod NodeSteps
+mod TextLines
+mod SecondLines

@@ -641,7 +641,7 @@ node_second h v unknown ls from (are, _) = inr (inr (refl, are))
 -- ---- a node
 
 -- in the first version the only precision is the greatest
-only_precision : (h : HeadData) (u : ℕ) → h.from ≡ None → IsPrecision h u → u ≡ h.asked.w
+pub only_precision : (h : HeadData) (u : ℕ) → h.from ≡ None → IsPrecision h u → u ≡ h.asked.w
 only_precision h u from ranged = let least : least_precision h ≡ h.asked.w = ap (λ f. unwrap_or f h.asked.w) from in omega (arith, least, ranged.0, ranged.1)
 
 first_node : (h : HeadData) (node : Node) (ls : Lines) → h.from ≡ None → AllLines h node ls → NodeLines h node ls

@@ -11,3 +11,4 @@ pub mod Rows
 pub mod HeadParts
 pub mod Left
 pub mod Recent
+pub mod Migrated

@@ -12,6 +12,7 @@ mod head_reader;
 mod known;
 mod laws;
 mod marks;
+mod migrate;
 mod model;
 mod node;
 mod node_reader;
@@ -28,6 +29,7 @@ pub use laws::{
     heads_are_read, nodes_are_read, prefixes_are_truncated, reports_are_read, texts_tell_one_report,
 };
 pub use line_text::{FileError, TextCause, TextError};
+pub use migrate::migrate_text;
 pub use model::write_model;
 pub use node::{write_accept, write_at, write_reject, write_split, write_unknown};
 pub use node_reader::{Node, read_node};

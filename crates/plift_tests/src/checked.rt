@@ -1,4 +1,4 @@
-// Reports that are checked, and what is told of them.
+// Reports that are checked or migrated, and what comes of it.
 use crate::models::lines_of;
 use crate::runs::{ending, has_taken, sink};
 use lift_base::SureSource;
@@ -56,6 +56,33 @@ IDLE | unknown; | NotSound | - | not sound: node 0 depth;
 IDLE | split 1; | NotSound | - | not sound: node 0 axis;
 ";
 
+// Each row: the head, what follows it, the status, what is written when that is migrated, and the note.
+const MIGRATED: &str = "\
+LOW | accept 7 16 0; | Done | plift 2;kind dtmc;parameters 1 p;common 1;states 3;init 0;goal 1 1;row 0 0 2;to 1 1:1;\
+    to 2 0:1 1:-1;row 1 0 1;to 1 0:1;row 2 0 1;to 2 0:1;bound 1/2;precision 4;from 4;depth 0;grid 10;box 1 4;at 4;\
+    accept 7 16 0; | -
+HIGH | reject e 1 k 1 m 1 b 9/16;y 9 16 0;choice 0 - -;rank 1 0 -; | Done | plift 2;kind dtmc;parameters 1 p;common 1;\
+    states 3;init 0;goal 1 1;row 0 0 2;to 1 1:1;to 2 0:1 1:-1;row 1 0 1;to 1 0:1;row 2 0 1;to 2 0:1;bound 1/2;\
+    precision 4;from 4;depth 0;grid 10;box 6 9;at 4;reject e 1 k 1 m 1 b 9/16;y 9 16 0;choice 0 - -;rank 1 0 -; | -
+WIDE | split 0;accept 8 16 0;split 0;unknown;reject e 1 k 1 m 1 b 11/16;y 11 16 0;choice 0 - -;rank 1 0 -; | Done | \
+    plift 2;kind dtmc;parameters 1 p;common 1;states 3;init 0;goal 1 1;row 0 0 2;to 1 1:1;to 2 0:1 1:-1;row 1 0 1;\
+    to 1 0:1;row 2 0 1;to 2 0:1;bound 1/2;precision 4;from 4;depth 2;grid 40;box 4 36;split 0;at 4;accept 8 16 0;\
+    split 0;unknown;at 4;reject e 1 k 1 m 1 b 11/16;y 11 16 0;choice 0 - -;rank 1 0 -; | -
+RANGE | at 1;accept 1 2 0; | NotSound | - | not sound: line 1: Version;
+RANGE | at 5;accept 1 2 0; | NotSound | - | not sound: line 1: Version;
+RANGE | - | NotSound | - | not sound: line 1: Version;
+NEXT | accept 7 16 0; | NotSound | - | not sound: line 1: Version;
+LOW | accept 6 16 0; | NotSound | - | not sound: node 0 state 0 choice 0 corner 1: 64 > 60;
+LOW | accept 7 16 0;x; | NotSound | - | not sound: rest;
+LOW | at 4;accept 7 16 0; | NotSound | - | not sound: line 20: Syntax;
+LOW | - | NotSound | - | not sound: line 20: Truncated;
+FAR | accept 7 16 0; | NotSound | - | not sound: line 6: Limit;
+NOTHING | - | NotSound | - | not sound: line 1: Truncated;
+NOTHING | plift 2 | NotSound | - | not sound: line 1: Truncated;
+UNEVEN | accept 7 16 0; | NotSound | - | not sound: state 0 choice 0: set 1 sums to -1;
+IDLE | split 1; | NotSound | - | not sound: node 0 axis;
+";
+
 // The head of that name; none where there is none.
 fn find_head(name: &str) -> Option<&'static str> {
     for row in HEADS.lines() {
@@ -90,12 +117,17 @@ fn checked_of(row: &str) -> Option<Checked<'_>> {
     })
 }
 
-// Whether checking a text gives what the row says.
-fn is_answered_on(alloc: Global, want: Checked<'_>, text: Vec<u8>) -> Result<bool, Fail> {
+// Whether a command gives at a text what the row says.
+fn is_answered_on(
+    alloc: Global,
+    command: &str,
+    want: Checked<'_>,
+    text: Vec<u8>,
+) -> Result<bool, Fail> {
     let mut source = SureSource::new(text);
-    let mut out = sink(alloc, 100, 7)?;
+    let mut out = sink(alloc, 1000, 7)?;
     let mut notes = sink(alloc, 100, 3)?;
-    let got = ending(alloc, "check", &mut source, &mut out, &mut notes)?;
+    let got = ending(alloc, command, &mut source, &mut out, &mut notes)?;
     let has_written = has_taken(alloc, &out, want.written)?;
     Ok(got == want.status && has_written && has_taken(alloc, &notes, want.told)?)
 }
@@ -107,18 +139,26 @@ fn text_of(alloc: Global, want: Checked<'_>) -> Result<Vec<u8>, Fail> {
     Ok(text)
 }
 
-fn is_answered(alloc: Global, row: &str) -> Result<bool, Fail> {
+fn is_answered(alloc: Global, command: &str, row: &str) -> Result<bool, Fail> {
     let Some(want) = checked_of(row) else {
         return Ok(false);
     };
     let text = text_of(alloc, want)?;
-    is_answered_on(alloc, want, text)
+    is_answered_on(alloc, command, want, text)
 }
 
 #[test]
 fn files_are_checked(rt: HostRuntime) -> Result<(), Fail> {
     for row in FILES.lines() {
-        assert!(rt; is_answered(rt.alloc(), row)?, "{row}");
+        assert!(rt; is_answered(rt.alloc(), "check", row)?, "{row}");
+    }
+    Ok(())
+}
+
+#[test]
+fn reports_are_migrated(rt: HostRuntime) -> Result<(), Fail> {
+    for row in MIGRATED.lines() {
+        assert!(rt; is_answered(rt.alloc(), "migrate", row)?, "{row}");
     }
     Ok(())
 }

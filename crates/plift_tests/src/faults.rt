@@ -28,6 +28,14 @@ verify --goal heads --bound 1/2 --precision 4 --depth 0 --region 1/10<=p<=2/5 | 
     write fault;
 verify --goal heads --bound 1/2 --precision 4 --depth 0 --region 1/2<=p<=3/2 | COIN | 0 | 0 | 1 | 1000 | RowsRefused | - | -
 check | COIN | 2 | 0 | 0 | 1000 | NotSound | - | not sound: line 1: Syntax;
+migrate | COIN | 2 | 0 | 0 | 1000 | ReadFault | - | read fault;
+migrate | REPORT | 3 | 0 | 0 | 1000 | ReadFault | - | read fault;
+migrate | REPORT | 0 | 2 | 0 | 1000 | WriteFault | p | write fault;
+migrate | REPORT | 0 | 0 | 0 | 210 | Done | plift 2;kind dtmc;parameters 1 p;common 1;states 3;init 0;goal 1 1;row 0 0 2;\
+    to 1 1:1;to 2 0:1 1:-1;row 1 0 1;to 1 0:1;row 2 0 1;to 2 0:1;bound 1/2;precision 4;from 4;depth 0;grid 10;box 1 4;\
+    at 4;accept 7 16 0; | -
+migrate | REPORT | 0 | 0 | 0 | 131 | WriteFault | plift 2;kind dtmc;parameters 1 p;common 1;states 3;init 0;goal 1 1;\
+    row 0 0 2;to 1 1:1;to 2 0:1 1:-1;row 1 0 1;to 1 0:1;row 2 0 1;to | write fault;
 ";
 
 #[derive(Clone, Copy)]

@@ -19,6 +19,8 @@ mod malformed;
 #[cfg(test)]
 mod models;
 #[cfg(test)]
+mod ranges;
+#[cfg(test)]
 mod refused;
 #[cfg(test)]
 mod regions;

@@ -6,7 +6,7 @@ use std::test::Fail;
 // it. LESS, DECIMALS: rows that sum to less than 1. APART_COIN: values of different parameters, which
 // sum to 1 where these are equal alone. BELOW: a value below 0, in a row that sums to 1. LADDER2: a
 // ladder of two blocks. SURE: two states of equal behaviour, which lead to the goal by different parameters. THIRD: two such states to which a parameter leads. UNUSED: the
-// coin with a parameter that no row depends on. LOOP, LADDER, DIE
+// coin with a parameter that no row depends on. REPORT: no model, but a report of the coin. LOOP, LADDER, DIE
 // and EXPORT stand in the folder examples too.
 const MODELS: &str = "\
 COIN = @type: DTMC;@parameters;p;@model;state 0 init;1 : p;2 : 1-p;state 1 heads;1 : 1;state 2;2 : 1;
@@ -49,6 +49,8 @@ THIRD = @type: DTMC;@parameters;p;@model;state 0 init;1 : 1/3*p;2 : 1/3-1/3*p;3 
     3 : 1;state 4 heads;4 : 1;
 UNUSED = @type: DTMC;@parameters;p q;@model;state 0 init;1 : p;2 : 1-p;state 1 heads;1 : 1;state 2;2 : 1;
 APART = @type: DTMC;@model;state 0 init;0 : 1;state 1 heads;1 : 1;
+REPORT = plift 1;kind dtmc;parameters 1 p;common 1;states 3;init 0;goal 1 1;row 0 0 2;to 1 1:1;to 2 0:1 1:-1;row 1 0 1;\
+    to 1 0:1;row 2 0 1;to 2 0:1;bound 1/2;precision 4;depth 0;grid 10;box 1 4;accept 7 16 0;
 ZERO = @type: DTMC;@model;state 0 heads;0 : 1;1 : 0;state 1 init;0 : 1;
 NOTHING = -
 ";

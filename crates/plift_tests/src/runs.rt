@@ -139,3 +139,33 @@ pub fn is_checked(alloc: Global, row: &str) -> Result<bool, Fail> {
         None => Ok(false),
     }
 }
+
+/// The words of a job on the coin, and what it writes.
+#[derive(Clone, Copy)]
+pub struct CoinJob<'a> {
+    pub words: &'a str,
+    pub text: &'a str,
+}
+
+// Whether these are so many bytes from the front of the lines.
+fn is_front(alloc: Global, taken: &[u8], lines: &str, count: usize) -> Result<bool, Fail> {
+    Ok(lines_of(alloc, lines)?.get(..count) == Some(taken))
+}
+
+/// Whether the job, over a sink that holds so many bytes, ends so, and the sink takes as many from the front of what
+/// the job writes.
+pub fn is_cut_off(
+    alloc: Global,
+    job: CoinJob<'_>,
+    room: usize,
+    status: &str,
+) -> Result<bool, Fail> {
+    let Some(text) = model_text(alloc, "COIN")? else {
+        return Ok(false);
+    };
+    let mut source = SureSource::new(text);
+    let mut out = sink(alloc, room, 1)?;
+    let mut notes = sink(alloc, 100, 100)?;
+    let got = ending(alloc, job.words, &mut source, &mut out, &mut notes)?;
+    Ok(got == status && is_front(alloc, out.taken(), job.text, room)?)
+}

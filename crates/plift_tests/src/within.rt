@@ -1,8 +1,5 @@
 // Models that are decided for a number of steps. The numbers of the leaves were worked out by hand.
-use crate::models::{lines_of, model_text};
-use crate::runs::{ending, is_answered, sink};
-use lift_base::SureSource;
-use std::alloc::Global;
+use crate::runs::{CoinJob, is_answered, is_cut_off};
 use std::test::Fail;
 
 // Each row: the words, the model, the status, how the output ends, and the notes.
@@ -54,6 +51,11 @@ const REPORT: &str =
     row 1 0 1;to 1 0:1;row 2 0 1;to 2 0:1;bound 1/2;steps 1;precision 4;depth 1;grid 10;box 2 6;split 0;accept;\
     x 1 7 16 0;unknown;";
 
+const JOB: CoinJob<'static> = CoinJob {
+    words: REGION,
+    text: REPORT,
+};
+
 #[test]
 fn steps_are_bounded(rt: HostRuntime) -> Result<(), Fail> {
     for row in WITHIN.lines() {
@@ -62,30 +64,12 @@ fn steps_are_bounded(rt: HostRuntime) -> Result<(), Fail> {
     Ok(())
 }
 
-// Whether that job, over a sink that holds so many bytes, ends so, and the sink takes as many from the front of the
-// text.
-fn is_cut_off(alloc: Global, room: usize, status: &str) -> Result<bool, Fail> {
-    let Some(text) = model_text(alloc, "COIN")? else {
-        return Ok(false);
-    };
-    let mut source = SureSource::new(text);
-    let mut out = sink(alloc, room, 1)?;
-    let mut notes = sink(alloc, 100, 100)?;
-    let got = ending(alloc, REGION, &mut source, &mut out, &mut notes)?;
-    Ok(got == status && is_front(alloc, out.taken(), room)?)
-}
-
-// Whether these are so many bytes from the front of the text.
-fn is_front(alloc: Global, taken: &[u8], count: usize) -> Result<bool, Fail> {
-    Ok(lines_of(alloc, REPORT)?.get(..count) == Some(taken))
-}
-
 #[test]
 fn texts_for_steps_are_cut_off_anywhere(rt: HostRuntime) -> Result<(), Fail> {
     let alloc = rt.alloc();
     for room in 0..REPORT.len() {
-        assert!(rt; is_cut_off(alloc, room, "WriteFault")?, "{room}");
+        assert!(rt; is_cut_off(alloc, JOB, room, "WriteFault")?, "{room}");
     }
-    assert!(rt; is_cut_off(alloc, REPORT.len(), "Done")?);
+    assert!(rt; is_cut_off(alloc, JOB, REPORT.len(), "Done")?);
     Ok(())
 }

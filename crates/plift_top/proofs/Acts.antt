@@ -16,14 +16,15 @@ use Rattle.plift_words.specs.Job.{JobData, VerifyData}
 use Rattle.plift_words.specs.Given.{asked, Asks}
 use Rattle.std.specs.declared.alloc.Global.{Global}
 use Rattle.std.specs.Prelude.{String}
-use Rattle.plift_words.specs.Job.JobData.{verify, check, generate, selftest}
+use Rattle.plift_words.specs.Job.JobData.{verify, check, migrate, generate, selftest}
 use Rattle.model_gen.specs.Ladder.{ladder_text, ladder_case, ladder_precision}
 use Rattle.plift_words.specs.declared.job.Field.{Field}
 use Rattle.plift_words.specs.declared.job.Field.TheVariants as field
 use Rattle.plift_words.specs.declared.error.WordsError.{WordsError}
 use Rattle.plift_words.specs.declared.error.WordsError.TheVariants as words
 use Rattle.plift_top.specs.Refused.{words_refusal}
-use Rattle.plift_words.specs.Way.{steps_told}
+use Rattle.plift_words.specs.Way.{steps_told, from_told}
+use Rattle.plift_top.specs.RightReport.{version_of}
 use Rattle.plift_words.specs.declared.way.Way.{Way}
 use Rattle.plift_words.specs.declared.way.Way.TheVariants as way
 use Rattle.plift_top.specs.Verify.{WasRead, Makes, IsAnswered, IsAnswerable, Reports, ReportsFront, IsRefused, KeepsWithin, lacks_chain}
@@ -37,8 +38,9 @@ use Rattle.cert_check.specs.declared.summary.Summary.{Summary}
 use Rattle.cert_check.specs.declared.error.CheckError.{CheckError}
 use Rattle.plift_top.specs.Laws.{RightReportsAreSound, LumpedReportsAreSound}
 use Rattle.plift_top.specs.Check.{IsFoundSound, IsFoundInPart, IsUnsound}
+use Rattle.plift_top.specs.Migrate.{IsMigrated, IsRefusedFirst, IsSoundFirst, IsUnsoundFirst}
 use Rattle.plift_top.specs.Selftest.{one_half, IsLadderTree, ladder_report, tested_line, IsTestedTree, HasLongReport, TellsTested, Selftests}
-use Rattle.plift_top.specs.Answers.{Acts, Generates, wanted, AsksToVerify, AsksToCheck, AsksToGenerate, AsksToSelftest, IsTooLong, limit_of, WroteNote, IsNoted, HasNote, status_of, answered, note_of}
+use Rattle.plift_top.specs.Answers.{Acts, Generates, wanted, AsksToVerify, AsksToCheck, AsksToMigrate, AsksToGenerate, AsksToSelftest, IsTooLong, limit_of, WroteNote, IsNoted, HasNote, status_of, answered, note_of}
 use Rattle.check_notes.specs.declared.status.Status.{Status}
 use Rattle.check_notes.specs.declared.status.Status.TheVariants as status
 use Rattle.plift_top.specs.declared.refusal.Refusal.{Refusal}
@@ -47,6 +49,7 @@ use Rattle.plift_top.proofs.Reading.{read_as, short, given}
 use Rattle.plift_top.specs.Lumped.{lumped_case}
 use Rattle.plift_top.proofs.Refusals.{never_refused, one_status, rows_status}
 use Rattle.plift_top.proofs.Lumping.{not_wide}
+use Rattle.plift_top.proofs.Migrating.{never_refused as never_migrated}
 
 -- no refusal has the status of what is done
 pub never_done : (r : Refusal) → status_of r ≡ status.Done → ⊥
@@ -74,27 +77,27 @@ not_long_report bytes (Some ys) h (taken, is, more) = omega (arith, ap length is
 
 -- what is answered is a case
 answered_case : (old new : Option (List ℕ)) (bound : Bound) (asked : Way) (k : CaseData) → IsAnswered old new bound asked k → IsCase k
-answered_case old new bound way.Whole k h = h.case
+answered_case old new bound (way.Whole from) k h = h.case
 answered_case old new bound (way.Within n) k h = h.case
 answered_case old new bound way.Lumped k h = h.is.case
 
 -- and can be
 answerable : (old new : Option (List ℕ)) (bound : Bound) (asked : Way) (k : CaseData) → IsAnswered old new bound asked k → IsAnswerable asked k.model
-answerable old new bound way.Whole k h = (refl, λ e. absurd (cc))
+answerable old new bound (way.Whole from) k h = (refl, λ e. absurd (cc))
 answerable old new bound (way.Within n) k h = (refl, λ e. absurd (cc))
 answerable old new bound way.Lumped k h = (ap (lacks_chain way.Lumped) h.is.chain, λ e wide. not_wide h.is.lumped h.reported.case.asked.model wide)
 
 -- what answers a case that a text stands for, without a number of steps, is a sound file
 answered_soundly : RightReportsAreSound → LumpedReportsAreSound → (old new : Option (List ℕ)) (bound : Bound) (asked : Way) (text label : List ℕ) (m : ModelData) (root : Region) (w : ℕ) → drn text label ≡ Ok m → IsToldBound bound → steps_told asked ≡ None
-    → IsAnswered old new bound asked (case_of m root w) → (report : List ℕ) × (leaves : Summary) × IsSoundFile report leaves × Appends old new report
-answered_soundly law lumped old new bound way.Whole text label m root w read told none h =
+    → IsAnswered old new bound asked (case_of m root w) → (report : List ℕ) × (leaves : Summary) × IsSoundFile report leaves × (leaves.version ≡ version_of (from_told asked)) × Appends old new report
+answered_soundly law lumped old new bound (way.Whole from) text label m root w read told none h =
     let k = case_of m root w in
-    (report_text k None bound h.tree, leaf_counts 1 h.tree, law text label m root w bound h.tree read h.case told h.right, h.report)
+    (report_text k from bound h.tree, leaf_counts (version_of from) h.tree, law text label m root w from bound h.tree read h.case h.range told h.right, refl, h.report)
 answered_soundly law lumped old new bound (way.Within n) text label m root w read told none h = absurd (cc)
 answered_soundly law lumped old new bound way.Lumped text label m root w read told none h =
     let k = lumped_case (case_of m root w) h.l in
     let r = h.reported in
-    (report_text k None bound r.tree, leaf_counts 1 r.tree, lumped text label (case_of m root w) h.l bound r.tree read h.is.lumped r.case told r.right, r.report)
+    (report_text k None bound r.tree, leaf_counts 1 r.tree, lumped text label (case_of m root w) h.l bound r.tree read h.is.lumped r.case told r.right, refl, r.report)
 
 module _ {S K : Type 0} (left : S → Option (List ℕ)) (faults : S → ℕ) (taken : K → Option (List ℕ)) (counts : K → ℕ) (source source' : S) (out out' : K) where
   pub done : (asked : Result JobData Field) (answer : Result (Unit {0}) Refusal) → Acts left faults taken counts asked source source' out out' answer → answered answer ≡ status.Done
@@ -102,6 +105,7 @@ module _ {S K : Type 0} (left : S → Option (List ℕ)) (faults : S → ℕ) (t
   done (Ok (verify k)) (Ok x) a e j is = let same : k ≡ j = cc in subst (λ (i : VerifyData). WasRead (Reports (taken out) (taken out') i) (left source) (left source')) same a
   done (Ok (generate n)) (Ok x) a e j is = absurd (cc)
   done (Ok check) (Ok x) a e j is = absurd (cc)
+  done (Ok migrate) (Ok x) a e j is = absurd (cc)
   done (Ok (selftest n)) (Ok x) a e j is = absurd (cc)
   done (Err f) (Ok x) a e j is = absurd a.0
   done asked (Err r) a e j is = absurd (never_done r e)
@@ -111,6 +115,7 @@ module _ {S K : Type 0} (left : S → Option (List ℕ)) (faults : S → ℕ) (t
   generated (Ok (generate m)) (Ok x) a e n is = let same : m ≡ n = cc in subst (λ (i : ℕ). Appends (taken out) (taken out') (ladder_text i)) same a.0
   generated (Ok (verify k)) (Ok x) a e n is = absurd (cc)
   generated (Ok check) (Ok x) a e n is = absurd (cc)
+  generated (Ok migrate) (Ok x) a e n is = absurd (cc)
   generated (Ok (selftest m)) (Ok x) a e n is = absurd (cc)
   generated (Err f) (Ok x) a e n is = absurd a.0
   generated asked (Err r) a e n is = absurd (never_done r e)
@@ -122,6 +127,7 @@ module _ {S K : Type 0} (left : S → Option (List ℕ)) (faults : S → ℕ) (t
   generates (Ok (generate m)) (Err _) a n is = absurd a.0
   generates (Ok (verify k)) answer a n is = absurd (cc)
   generates (Ok check) answer a n is = absurd (cc)
+  generates (Ok migrate) answer a n is = absurd (cc)
   generates (Ok (selftest m)) answer a n is = absurd (cc)
   generates (Err f) answer a n is = absurd (cc)
 
@@ -129,19 +135,23 @@ module _ {S K : Type 0} (left : S → Option (List ℕ)) (faults : S → ℕ) (t
   reads_nothing (Ok (generate m)) answer a n is = a.1
   reads_nothing (Ok (verify k)) answer a n is = absurd (cc)
   reads_nothing (Ok check) answer a n is = absurd (cc)
+  reads_nothing (Ok migrate) answer a n is = absurd (cc)
   reads_nothing (Ok (selftest m)) answer a n is = absurd (cc)
   reads_nothing (Err f) answer a n is = absurd (cc)
 
   -- what was written for a job is a sound file
   pub sound : RightReportsAreSound → LumpedReportsAreSound → (asked : Result JobData Field) (answer : Result (Unit {0}) Refusal) → Acts left faults taken counts asked source source' out out' answer
       → (IsOk answer → (j : VerifyData) → AsksToVerify asked j → IsToldBound j.bound) → answered answer ≡ status.Done → (j : VerifyData) → AsksToVerify asked j → steps_told j.way ≡ None
-      → (report : List ℕ) × (leaves : Summary) × IsSoundFile report leaves × Appends (taken out) (taken out') report
+      → (report : List ℕ) × (leaves : Summary) × IsSoundFile report leaves × (leaves.version ≡ version_of (from_told j.way)) × Appends (taken out) (taken out') report
   sound law lumped (Ok (verify i)) (Ok x) a told e j is none =
       let same : i ≡ j = cc in
       let m = a.has in
-      answered_soundly law lumped (taken out) (taken out') i.bound i.way a.text i.goal m.model m.root i.precision m.read (told refl i refl) (ap (λ (k : VerifyData). steps_told k.way) same ∙ none) m.has
+      let asked_on : Way → Type 0 = λ way. (report : List ℕ) × (leaves : Summary) × IsSoundFile report leaves × (leaves.version ≡ version_of (from_told way)) × Appends (taken out) (taken out') report in
+      subst (λ (k : VerifyData). asked_on k.way) same
+      (answered_soundly law lumped (taken out) (taken out') i.bound i.way a.text i.goal m.model m.root i.precision m.read (told refl i refl) (ap (λ (k : VerifyData). steps_told k.way) same ∙ none) m.has)
   sound law lumped (Ok (generate n)) (Ok x) a told e j is none = absurd (cc)
   sound law lumped (Ok check) (Ok x) a told e j is none = absurd (cc)
+  sound law lumped (Ok migrate) (Ok x) a told e j is none = absurd (cc)
   sound law lumped (Ok (selftest n)) (Ok x) a told e j is none = absurd (cc)
   sound law lumped (Err f) (Ok x) a told e j is none = absurd a.0
   sound law lumped asked (Err r) a told e j is none = absurd (never_done r e)
@@ -164,8 +174,14 @@ module _ {S K : Type 0} (left : S → Option (List ℕ)) (faults : S → ℕ) (t
   noted (Ok check) refusal.WriteFault a = (refusal.WriteFault, refl, refl, tt)
   noted (Ok check) refusal.TooLong a = (refusal.TooLong, refl, refl, tt)
   noted (Ok check) refusal.Memory a = (refusal.Memory, refl, refl, tt)
-  noted (Ok check) (refusal.Unsound error) a = (refusal.Unsound error, refl, refl, (refl, a.0))
+  noted (Ok check) (refusal.Unsound error) a = (refusal.Unsound error, refl, refl, inl (refl, a.0))
   noted (Ok check) _ a = absurd a.0
+  noted (Ok migrate) refusal.ReadFault a = (refusal.ReadFault, refl, refl, tt)
+  noted (Ok migrate) refusal.WriteFault a = (refusal.WriteFault, refl, refl, tt)
+  noted (Ok migrate) refusal.TooLong a = (refusal.TooLong, refl, refl, tt)
+  noted (Ok migrate) refusal.Memory a = (refusal.Memory, refl, refl, tt)
+  noted (Ok migrate) (refusal.Unsound error) a = (refusal.Unsound error, refl, refl, inr (refl, a.0))
+  noted (Ok migrate) _ a = absurd a.0
   noted (Ok (selftest n)) refusal.WriteFault a = (refusal.WriteFault, refl, refl, tt)
   noted (Ok (selftest n)) refusal.TooLong a = (refusal.TooLong, refl, refl, tt)
   noted (Ok (selftest n)) refusal.Memory a = (refusal.Memory, refl, refl, tt)
@@ -205,6 +221,8 @@ module _ {S K : Type 0} (left : S → Option (List ℕ)) (faults : S → ℕ) (t
   read_fault (Ok (generate n)) (Err _) a e = absurd (cc)
   read_fault (Ok check) (Err refusal.ReadFault) a e = a.0
   read_fault (Ok check) (Err _) a e = absurd (cc)
+  read_fault (Ok migrate) (Err refusal.ReadFault) a e = a.0
+  read_fault (Ok migrate) (Err _) a e = absurd (cc)
   read_fault (Ok (selftest n)) (Err refusal.ReadFault) a e = absurd a.0
   read_fault (Ok (selftest n)) (Err _) a e = absurd (cc)
   read_fault (Err f) (Err refusal.ReadFault) a e = absurd a.0
@@ -219,6 +237,8 @@ module _ {S K : Type 0} (left : S → Option (List ℕ)) (faults : S → ℕ) (t
   write_fault (Ok (generate n)) (Err _) a e = absurd (cc)
   write_fault (Ok check) (Err refusal.WriteFault) a e = a.1
   write_fault (Ok check) (Err _) a e = absurd (cc)
+  write_fault (Ok migrate) (Err refusal.WriteFault) a e = a.1
+  write_fault (Ok migrate) (Err _) a e = absurd (cc)
   write_fault (Ok (selftest n)) (Err refusal.WriteFault) a e = a.0.1
   write_fault (Ok (selftest n)) (Err _) a e = absurd (cc)
   write_fault (Err f) (Err refusal.WriteFault) a e = absurd a.0
@@ -231,6 +251,7 @@ module _ {S K : Type 0} (left : S → Option (List ℕ)) (faults : S → ℕ) (t
   part (Ok (verify k)) (Err _) a e j is = absurd (cc)
   part (Ok (generate n)) (Err _) a e j is = absurd (cc)
   part (Ok check) (Err _) a e j is = absurd (cc)
+  part (Ok migrate) (Err _) a e j is = absurd (cc)
   part (Ok (selftest n)) (Err _) a e j is = absurd (cc)
   part (Err f) (Err _) a e j is = absurd (cc)
 
@@ -241,6 +262,7 @@ module _ {S K : Type 0} (left : S → Option (List ℕ)) (faults : S → ℕ) (t
   ladder_part (Ok (generate m)) (Err _) a e n is = absurd (cc)
   ladder_part (Ok (verify k)) (Err _) a e n is = absurd (cc)
   ladder_part (Ok check) (Err _) a e n is = absurd (cc)
+  ladder_part (Ok migrate) (Err _) a e n is = absurd (cc)
   ladder_part (Ok (selftest m)) (Err _) a e n is = absurd (cc)
   ladder_part (Err f) (Err _) a e n is = absurd (cc)
 
@@ -253,6 +275,8 @@ module _ {S K : Type 0} (left : S → Option (List ℕ)) (faults : S → ℕ) (t
   kept (Ok (generate n)) (Err _) a d e = absurd a.0
   kept (Ok check) (Err refusal.WriteFault) a d e = absurd (e refl)
   kept (Ok check) (Err _) a d e = a.1
+  kept (Ok migrate) (Err refusal.WriteFault) a d e = absurd (e refl)
+  kept (Ok migrate) (Err _) a d e = a.1
   kept (Ok (selftest n)) (Err refusal.WriteFault) a d e = absurd (e refl)
   kept (Ok (selftest n)) (Err refusal.TooLong) a d e = a.0.1
   kept (Ok (selftest n)) (Err refusal.Memory) a d e = a.0
@@ -262,6 +286,7 @@ module _ {S K : Type 0} (left : S → Option (List ℕ)) (faults : S → ℕ) (t
   pub checked : (asked : Result JobData Field) (answer : Result (Unit {0}) Refusal) → Acts left faults taken counts asked source source' out out' answer → answered answer ≡ status.Done
       → AsksToCheck asked → WasRead (IsFoundSound (taken out) (taken out')) (left source) (left source')
   checked (Ok check) (Ok x) a e is = a
+  checked (Ok migrate) (Ok x) a e is = absurd (cc)
   checked (Ok (verify j)) (Ok x) a e is = absurd (cc)
   checked (Ok (generate n)) (Ok x) a e is = absurd (cc)
   checked (Ok (selftest n)) (Ok x) a e is = absurd (cc)
@@ -273,16 +298,40 @@ module _ {S K : Type 0} (left : S → Option (List ℕ)) (faults : S → ℕ) (t
   line_part asked (Ok x) a e is = absurd (cc)
   line_part (Ok check) (Err refusal.WriteFault) a e is = a.0
   line_part (Ok check) (Err _) a e is = absurd (cc)
+  line_part (Ok migrate) (Err _) a e is = absurd (cc)
   line_part (Ok (verify j)) (Err _) a e is = absurd (cc)
   line_part (Ok (generate n)) (Err _) a e is = absurd (cc)
   line_part (Ok (selftest n)) (Err _) a e is = absurd (cc)
   line_part (Err f) (Err _) a e is = absurd (cc)
 
+  pub migrated : (asked : Result JobData Field) (answer : Result (Unit {0}) Refusal) → Acts left faults taken counts asked source source' out out' answer → answered answer ≡ status.Done
+      → AsksToMigrate asked → WasRead (IsMigrated (Appends (taken out) (taken out'))) (left source) (left source')
+  migrated (Ok migrate) (Ok x) a e is = a
+  migrated (Ok check) (Ok x) a e is = absurd (cc)
+  migrated (Ok (verify j)) (Ok x) a e is = absurd (cc)
+  migrated (Ok (generate n)) (Ok x) a e is = absurd (cc)
+  migrated (Ok (selftest n)) (Ok x) a e is = absurd (cc)
+  migrated (Err f) (Ok x) a e is = absurd a.0
+  migrated asked (Err r) a e is = absurd (never_done r e)
+
+  pub migrated_part : (asked : Result JobData Field) (answer : Result (Unit {0}) Refusal) → Acts left faults taken counts asked source source' out out' answer → answered answer ≡ status.WriteFault
+      → AsksToMigrate asked → WasRead (IsMigrated (AppendsFront (taken out) (taken out'))) (left source) (left source')
+  migrated_part asked (Ok x) a e is = absurd (cc)
+  migrated_part (Ok migrate) (Err refusal.WriteFault) a e is = a.0
+  migrated_part (Ok migrate) (Err _) a e is = absurd (cc)
+  migrated_part (Ok check) (Err _) a e is = absurd (cc)
+  migrated_part (Ok (verify j)) (Err _) a e is = absurd (cc)
+  migrated_part (Ok (generate n)) (Err _) a e is = absurd (cc)
+  migrated_part (Ok (selftest n)) (Err _) a e is = absurd (cc)
+  migrated_part (Err f) (Err _) a e is = absurd (cc)
+
   pub not_sound : SoundFilesPass → AnswersAreOne → (asked : Result JobData Field) (answer : Result (Unit {0}) Refusal) → Acts left faults taken counts asked source source' out out' answer → answered answer ≡ status.NotSound
-      → AsksToCheck asked × WasMet report_limit IsUnsound (left source) (left source')
+      → (AsksToCheck asked × WasMet report_limit IsUnsound (left source) (left source')) ⊎ (AsksToMigrate asked × WasRead IsUnsoundFirst (left source) (left source'))
   not_sound pass one asked (Ok x) a e = absurd (cc)
-  not_sound pass one (Ok check) (Err (refusal.Unsound error)) a e = (refl, met_as (λ bytes is leaves file. faulty pass one bytes leaves error file is) a.0)
+  not_sound pass one (Ok check) (Err (refusal.Unsound error)) a e = inl (refl, met_as (λ bytes is leaves file. faulty pass one bytes leaves error file is) a.0)
   not_sound pass one (Ok check) (Err _) a e = absurd (cc)
+  not_sound pass one (Ok migrate) (Err (refusal.Unsound error)) a e = inr (refl, read_as (λ bytes is leaves file. never_migrated pass one bytes leaves error file is) a.0)
+  not_sound pass one (Ok migrate) (Err _) a e = absurd (cc)
   not_sound pass one (Ok (verify j)) (Err (refusal.Unsound error)) a e = absurd a.0
   not_sound pass one (Ok (verify j)) (Err _) a e = absurd (cc)
   not_sound pass one (Ok (generate n)) (Err (refusal.Unsound error)) a e = absurd a.0
@@ -300,6 +349,7 @@ module _ {S K : Type 0} (left : S → Option (List ℕ)) (faults : S → ℕ) (t
   selftested (Ok (verify j)) (Ok x) a e n is = absurd (cc)
   selftested (Ok (generate m)) (Ok x) a e n is = absurd (cc)
   selftested (Ok check) (Ok x) a e n is = absurd (cc)
+  selftested (Ok migrate) (Ok x) a e n is = absurd (cc)
   selftested (Err f) (Ok x) a e n is = absurd a.0
   selftested asked (Err r) a e n is = absurd (never_done r e)
 
@@ -314,6 +364,7 @@ module _ {S K : Type 0} (left : S → Option (List ℕ)) (faults : S → ℕ) (t
   tested_part (Ok (verify j)) (Err _) a e n is = absurd (cc)
   tested_part (Ok (generate m)) (Err _) a e n is = absurd (cc)
   tested_part (Ok check) (Err _) a e n is = absurd (cc)
+  tested_part (Ok migrate) (Err _) a e n is = absurd (cc)
   tested_part (Err f) (Err _) a e n is = absurd (cc)
 
   pub tests_unread : (asked : Result JobData Field) (answer : Result (Unit {0}) Refusal) → Acts left faults taken counts asked source source' out out' answer → (n : ℕ) → AsksToSelftest asked n → source' ≡ source
@@ -321,6 +372,7 @@ module _ {S K : Type 0} (left : S → Option (List ℕ)) (faults : S → ℕ) (t
   tests_unread (Ok (verify k)) answer a n is = absurd (cc)
   tests_unread (Ok (generate m)) answer a n is = absurd (cc)
   tests_unread (Ok check) answer a n is = absurd (cc)
+  tests_unread (Ok migrate) answer a n is = absurd (cc)
   tests_unread (Err f) answer a n is = absurd (cc)
 
   -- an answer to `selftest`, by its kind
@@ -338,6 +390,7 @@ module _ {S K : Type 0} (left : S → Option (List ℕ)) (faults : S → ℕ) (t
   by_test Q done part long memory (Ok (verify j)) answer a n is = absurd (cc)
   by_test Q done part long memory (Ok (generate m)) answer a n is = absurd (cc)
   by_test Q done part long memory (Ok check) answer a n is = absurd (cc)
+  by_test Q done part long memory (Ok migrate) answer a n is = absurd (cc)
   by_test Q done part long memory (Err f) answer a n is = absurd (cc)
 
   pub tests : (asked : Result JobData Field) (answer : Result (Unit {0}) Refusal) → Acts left faults taken counts asked source source' out out' answer → (n : ℕ) → AsksToSelftest asked n
@@ -400,6 +453,7 @@ module _ {S K : Type 0} (left : S → Option (List ℕ)) (faults : S → ℕ) (t
   too_long (Ok (verify j)) answer a limit e = took_more file_limit answer (left source) (left source') (limit (λ n is. absurd (cc))) e
   too_long (Ok (generate n)) answer a limit e = took_more file_limit answer (left source) (left source') (limit (λ n is. absurd (cc))) e
   too_long (Ok check) answer a limit e = took_more report_limit answer (left source) (left source') (limit (λ n is. absurd (cc))) e
+  too_long (Ok migrate) answer a limit e = took_more file_limit answer (left source) (left source') (limit (λ n is. absurd (cc))) e
   too_long (Err f) answer a limit e = took_more file_limit answer (left source) (left source') (limit (λ n is. absurd (cc))) e
 
   pub within : (asked : Result JobData Field) (answer : Result (Unit {0}) Refusal) → Acts left faults taken counts asked source source' out out' answer → (((n : ℕ) → AsksToSelftest asked n → ⊥) → KeepsWithin (limit_of asked) answer (left source) (left source'))
@@ -408,6 +462,7 @@ module _ {S K : Type 0} (left : S → Option (List ℕ)) (faults : S → ℕ) (t
   within (Ok (verify j)) answer a limit e = took_few file_limit answer (left source) (left source') (limit (λ n is. absurd (cc))) e
   within (Ok (generate n)) answer a limit e = took_few file_limit answer (left source) (left source') (limit (λ n is. absurd (cc))) e
   within (Ok check) answer a limit e = took_few report_limit answer (left source) (left source') (limit (λ n is. absurd (cc))) e
+  within (Ok migrate) answer a limit e = took_few file_limit answer (left source) (left source') (limit (λ n is. absurd (cc))) e
   within (Err f) answer a limit e = took_few file_limit answer (left source) (left source') (limit (λ n is. absurd (cc))) e
 
 -- where a text was given and nothing failed
@@ -429,6 +484,7 @@ module _ {S K : Type 0} (left : S → Option (List ℕ)) (faults : S → ℕ) (t
       by (Err r) a = refused r (given (IsRefused j r) text (left source') (rw told at a.0))
   by_answer Q done refused memory (Ok (generate n)) answer a is = absurd (cc)
   by_answer Q done refused memory (Ok check) answer a is = absurd (cc)
+  by_answer Q done refused memory (Ok migrate) answer a is = absurd (cc)
   by_answer Q done refused memory (Ok (selftest n)) answer a is = absurd (cc)
   by_answer Q done refused memory (Err e) answer a is = absurd (cc)
 
@@ -479,6 +535,7 @@ module _ {S K : Type 0} (left : S → Option (List ℕ)) (faults : S → ℕ) (t
   by_check Q sound faulty memory (Ok check) (Err refusal.Memory) a is = memory
   by_check Q sound faulty memory (Ok check) (Err (refusal.Unsound error)) a is = faulty error (met_of (λ bytes. Answers bytes (Err error)) report_limit bytes (left source') (rw told at a.0))
   by_check Q sound faulty memory (Ok check) (Err _) a is = absurd a.0
+  by_check Q sound faulty memory (Ok migrate) answer a is = absurd (cc)
   by_check Q sound faulty memory (Ok (verify j)) answer a is = absurd (cc)
   by_check Q sound faulty memory (Ok (generate n)) answer a is = absurd (cc)
   by_check Q sound faulty memory (Ok (selftest n)) answer a is = absurd (cc)
@@ -495,6 +552,37 @@ module _ {S K : Type 0} (left : S → Option (List ℕ)) (faults : S → ℕ) (t
       → IsUnsound bytes → (answered answer ≡ status.NotSound) ⊎ (answered answer ≡ status.Memory)
   check_refused asked answer a is bad =
       by_check (λ (s : Status). (s ≡ status.NotSound) ⊎ (s ≡ status.Memory)) (λ h. absurd (bad h.leaves h.trusted.file)) (λ error h. inl refl) (inr refl) asked answer a is
+
+-- where a report was to be migrated, bytes were given and nothing failed
+module _ {S K : Type 0} (left : S → Option (List ℕ)) (faults : S → ℕ) (taken : K → Option (List ℕ)) (counts : K → ℕ) (source source' : S) (out out' : K) (bytes : List ℕ) (told : left source ≡ Some bytes)
+    (len : length bytes ≤ file_limit) (sure1 : NoFault (faults source) (faults source')) (sure2 : NoFault (counts out) (counts out')) where
+  -- an answer is that the bytes are sound, or why they aren't, or for want of memory
+  by_migrate : (Q : Status → Type 0) → (IsMigrated (Appends (taken out) (taken out')) bytes → Q status.Done) → ((error : CheckError) → IsRefusedFirst error bytes → Q status.NotSound) → Q status.Memory
+      → (asked : Result JobData Field) (answer : Result (Unit {0}) Refusal) → Acts left faults taken counts asked source source' out out' answer → AsksToMigrate asked → Q (answered answer)
+  by_migrate Q sound refused memory (Ok migrate) (Ok x) a is = sound (given (IsMigrated (Appends (taken out) (taken out'))) bytes (left source') (rw told at a))
+  by_migrate Q sound refused memory (Ok migrate) (Err refusal.ReadFault) a is = absurd (sure1 a.0)
+  by_migrate Q sound refused memory (Ok migrate) (Err refusal.WriteFault) a is = absurd (sure2 a.1)
+  by_migrate Q sound refused memory (Ok migrate) (Err refusal.TooLong) a is = absurd (short bytes (left source') len (rw told at a.0))
+  by_migrate Q sound refused memory (Ok migrate) (Err refusal.Memory) a is = memory
+  by_migrate Q sound refused memory (Ok migrate) (Err (refusal.Unsound error)) a is = refused error (given (IsRefusedFirst error) bytes (left source') (rw told at a.0))
+  by_migrate Q sound refused memory (Ok migrate) (Err _) a is = absurd a.0
+  by_migrate Q sound refused memory (Ok check) answer a is = absurd (cc)
+  by_migrate Q sound refused memory (Ok (verify j)) answer a is = absurd (cc)
+  by_migrate Q sound refused memory (Ok (generate n)) answer a is = absurd (cc)
+  by_migrate Q sound refused memory (Ok (selftest n)) answer a is = absurd (cc)
+  by_migrate Q sound refused memory (Err f) answer a is = absurd (cc)
+
+  -- a sound file of the first version is migrated, but for want of memory
+  pub migrate_complete : SoundFilesPass → AnswersAreOne → (asked : Result JobData Field) (answer : Result (Unit {0}) Refusal) → Acts left faults taken counts asked source source' out out' answer → AsksToMigrate asked
+      → (leaves : Summary) → IsSoundFirst bytes leaves → (answered answer ≡ status.Done) ⊎ (answered answer ≡ status.Memory)
+  migrate_complete pass one asked answer a is leaves file =
+      by_migrate (λ (s : Status). (s ≡ status.Done) ⊎ (s ≡ status.Memory)) (λ h. inl refl) (λ error h. absurd (never_migrated pass one bytes leaves error file h)) (inr refl) asked answer a is
+
+  -- and no other bytes are
+  pub migrate_refused : (asked : Result JobData Field) (answer : Result (Unit {0}) Refusal) → Acts left faults taken counts asked source source' out out' answer → AsksToMigrate asked
+      → IsUnsoundFirst bytes → (answered answer ≡ status.NotSound) ⊎ (answered answer ≡ status.Memory)
+  migrate_refused asked answer a is bad =
+      by_migrate (λ (s : Status). (s ≡ status.NotSound) ⊎ (s ≡ status.Memory)) (λ h. absurd (bad h.leaves h.sound)) (λ error h. inl refl) (inr refl) asked answer a is
 
 -- ---- notes
 
@@ -533,12 +621,14 @@ module _ {S K : Type 0} (left : S → Option (List ℕ)) (faults : S → ℕ) (t
   refused_by (Ok (verify j)) words.Memory is = (tt, refl)
   refused_by (Ok (generate n)) words.Memory is = absurd is
   refused_by (Ok check) words.Memory is = absurd is
+  refused_by (Ok migrate) words.Memory is = absurd is
   refused_by (Ok (selftest n)) words.Memory is = absurd is
   refused_by (Err field.Goal) words.Memory is = (λ e. absurd (cc), refl, refl)
   refused_by (Err field.Bound) words.Memory is = (λ e. absurd (cc), refl, refl)
   refused_by (Err field.Depth) words.Memory is = (λ e. absurd (cc), refl, refl)
   refused_by (Err field.Precision) words.Memory is = (λ e. absurd (cc), refl, refl)
   refused_by (Err field.Steps) words.Memory is = (λ e. absurd (cc), refl, refl)
+  refused_by (Err field.From) words.Memory is = (λ e. absurd (cc), refl, refl)
   refused_by (Err field.Words) words.Memory is = absurd is
   refused_by (Err field.Blocks) words.Memory is = absurd is
 

@@ -9,3 +9,4 @@ pub mod Telling
 pub mod BoundedTexts
 pub mod Lumping
 mod Samples
+mod Migrating

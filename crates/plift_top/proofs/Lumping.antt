@@ -1,10 +1,9 @@
 -- What is said of a chain's quotient is said of the chain.
-use Rattle.std.proofs.Common.{◌≡◌, ◌⊎◌, inl, inr, ℕ, zero, suc, ◌-◌, ◌*◌, ◌^◌, ◌<◌, ◌≤◌, List, [], length, get_or, false, ℤ, pos, ◌+ℤ◌, ◌*ℤ◌, ◌≤ℤ◌, All, Ok, Err, Result, IsErrAnd, refl, sym, ap, ◌∙◌, subst, arith}
+use Rattle.std.proofs.Common.{◌≡◌, ◌⊎◌, inl, inr, ℕ, zero, suc, ◌-◌, ◌*◌, ◌^◌, ◌<◌, ◌≤◌, List, [], length, get_or, false, ℤ, pos, ◌+ℤ◌, ◌*ℤ◌, ◌≤ℤ◌, All, None, Ok, Err, Result, IsErrAnd, refl, sym, ap, ◌∙◌, subst, arith}
 use Rattle.std.specs.declared.option.Option.{Option}
 use Rattle.std.proofs.lemmas.List.{get_or_past}
 use Rattle.lift_poly.proofs.Ring.{linear, mul-comm, mul-assoc, mul-le, mul-nonneg, one-mul}
 use Rattle.lift_poly.specs.Polynomial.{Valuation}
-use Rattle.lift_base.specs.Outside.{Rose}
 use Rattle.lift_grid.specs.Rectangle.{Spans}
 use Rattle.lift_grid.specs.Tree.{Tree, Leaf, RejectData}
 use Rattle.lift_grid.specs.Tree.Tree.{accept, reject, unknown, split}
@@ -31,11 +30,10 @@ use Rattle.lift_lump.specs.declared.error.LumpError.TheVariants as lump
 use Rattle.lift_rows.specs.Laws.{CasesHaveWeights, CasesHaveSums}
 use Rattle.cert_check.specs.Trust.{HoldsInside, LeafHolds}
 use Rattle.plift_words.specs.declared.way.Way.TheVariants as way
-use Rattle.plift_top.specs.Reported.{IsCutOff}
 use Rattle.plift_top.specs.Lumped.{lumped_case, IsHeldAt, HoldsOfChain, ChainLeafHolds, BlocksHold, IsLumpedCase}
 use Rattle.plift_top.specs.Verify.{lacks_chain}
 use Rattle.plift_top.specs.Refused.{lump_refusal}
-use Rattle.plift_top.specs.Steps.{IsTestedCase, WritesCase, AnswersCase}
+use Rattle.plift_top.specs.Steps.{IsTestedCase, AnswersCase}
 use Rattle.plift_top.specs.declared.refusal.Refusal.{Refusal}
 use Rattle.plift_top.specs.declared.refusal.Refusal.TheVariants as refusal
 
@@ -144,15 +142,14 @@ module _ (plans : ChainsHaveOnePlan) (some : ChainsHaveAPlan) (k : CaseData) (l 
   leaves_say : (bound : Bound) (leaves : List Leaf) → All (LeafHolds (lumped_case k l) bound) leaves → All (ChainLeafHolds k l bound) leaves
   leaves_say bound leaves h i d lt = holds_of_chain bound (get_or leaves i d).spans (get_or leaves i d).node (h i d lt)
 
-  -- what was written of the quotient answers the chain's case
-  pub answered : {K : Type 0} (taken : K → Option (List ℕ)) (counts : K → ℕ) (bound : Bound) (out out' : K) (x : Unit {0}) → WritesCase taken counts bound way.Whole (lumped_case k l) out out' (Ok x) → AnswersCase {T = Unit {0}} taken counts bound way.Lumped k out out' (Ok x)
-  answered taken counts bound out out' x h = record { l = l; is = is; reported = h; schedulers = leaves_say bound _ h.schedulers }
-
--- a front of it was
-pub answered_in_part : {K T : Type 0} (taken : K → Option (List ℕ)) (counts : K → ℕ) (bound : Bound) (k : CaseData) (l : LumpedData) → IsLumpedCase k l → (out out' : K) (result : Result T Refusal) → IsErrAnd result (λ e. e ≡ refusal.WriteFault)
-    → IsCutOff (taken out) (taken out') bound (lumped_case k l) × Rose (counts out) (counts out') → AnswersCase taken counts bound way.Lumped k out out' result
-answered_in_part taken counts bound k l is out out' (Ok x) e h = absurd e
-answered_in_part {T = T} taken counts bound k l is out out' (Err why) e h = subst (λ (f : Refusal). AnswersCase {T = T} taken counts bound way.Lumped k out out' (Err f)) (sym e) (record { l = l; is = is; cut_off = h.0 }, h.1)
+  -- what comes of the quotient answers the chain's case
+  pub of_quotient : {K T : Type 0} (taken : K → Option (List ℕ)) (counts : K → ℕ) (bound : Bound) (out out' : K) (result : Result T Refusal)
+      → AnswersCase taken counts bound (way.Whole None) (lumped_case k l) out out' result → AnswersCase taken counts bound way.Lumped k out out' result
+  of_quotient taken counts bound out out' (Ok x) h = record { l = l; is = is; reported = h; schedulers = leaves_say bound _ h.schedulers }
+  of_quotient taken counts bound out out' (Err refusal.WriteFault) h = (record { l = l; is = is; cut_off = h.0 }, h.1)
+  of_quotient taken counts bound out out' (Err refusal.Memory) h = h
+  of_quotient taken counts bound out out' (Err refusal.TooWide) h = absurd (let e = h.0.0 in cc)
+  of_quotient taken counts bound out out' (Err _) h = absurd h
 
 -- the chain wasn't lumped
 pub not_lumped : {K T : Type 0} (taken : K → Option (List ℕ)) (counts : K → ℕ) (bound : Bound) (k : CaseData) → IsCase k → (out : K) (error : LumpError) (result : Result T Refusal) → IsErrAnd result (λ e. e ≡ lump_refusal error)

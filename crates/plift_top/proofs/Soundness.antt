@@ -1,13 +1,14 @@
 -- Why what is written is a sound file: its head can be told, and its right tree is sound and can be told.
 use Rattle.std.proofs.Common.{ℕ, ◌+◌, List, [], ◌∷◌, ◌≡◌, ◌≤◌, All, refl, sym, subst, arith, rules}
 use Rattle.std.specs.Prelude.{None}
+use Rattle.std.specs.declared.option.Option.{Option}
 use Rattle.lift_grid.specs.Rectangle.{Spans}
 use Rattle.lift_grid.specs.Tree.{Tree, lower_half, upper_half}
 use Rattle.lift_grid.specs.Tree.Tree.{accept, reject, unknown, split}
 use Rattle.lift_model.specs.declared.entry.Entry.{Entry}
 use Rattle.lift_model.specs.Model.{ModelData}
 use Rattle.corner_lift.specs.Case.{CaseData, IsCase, at, case_of}
-use Rattle.corner_lift.specs.Stages.{IsGreatestLower}
+use Rattle.corner_lift.specs.Laws.{LowerPrecisionIsCase}
 use Rattle.lift_cert.specs.declared.bound.Bound.{Bound}
 use Rattle.lower_cert.specs.AnyRanks.{HeightFits}
 use Rattle.lift_lump.specs.Laws.{HasFewTerms, CasesHaveFewTerms}
@@ -20,7 +21,8 @@ use Rattle.cert_check.specs.Sound.{IsSoundTree, IsSoundFile, leaf_counts}
 use Rattle.cert_check.specs.Laws.{CanBeTold, SoundTreesAreReports}
 use Rattle.plift_top.specs.Lumped.{lumped_case}
 use Rattle.plift_top.specs.Laws.{RightReportsAreSound, LumpedReportsAreSound}
-use Rattle.plift_top.proofs.Leaves.{only_precision}
+use Rattle.plift_top.specs.RightReport.{IsRange, least, version_of}
+use Rattle.plift_top.proofs.Leaves.{range_begins}
 
 -- ---- the head
 
@@ -40,20 +42,20 @@ case_entry : (e : Entry) → HasFewTerms e → IsSmallEntry e
 case_entry e h = record { terms = h.terms; parameters = h.parameters }
 
 -- the head of a case with such names and entries
-head : (k : CaseData) (bound : Bound) → All IsShortName k.model.names → All (All (All IsSmallEntry)) k.model.states → IsCase k → IsToldBound bound → IsHead (record { asked = k; from = None; bound = bound })
-head k bound names entries case told = record {
+head : (k : CaseData) (from : Option ℕ) (bound : Bound) → All IsShortName k.model.names → All (All (All IsSmallEntry)) k.model.states → IsCase k → IsRange k from → IsToldBound bound → IsHead (record { asked = k; from = from; bound = bound })
+head k from bound names entries case range told = record {
   asked = case.asked;
   names = names;
   entries = entries;
   bound = told;
-  range = (case.asked.precision.0, omega arith);
+  range = range_begins k from case range;
 }
 
 -- ---- the tree
 
-module _ (fits : HeightFits) (k : CaseData) (bound : Bound) (case : IsCase k) where
+module _ (fits : HeightFits) (lowers : LowerPrecisionIsCase) (k : CaseData) (from : Option ℕ) (bound : Bound) (case : IsCase k) (above : 1 ≤ least k from) where
   -- a right tree is sound
-  sound_tree : (spans : Spans) (depth : ℕ) (tree : Tree) → IsRight k k.w spans bound depth tree → IsSoundTree k bound spans depth tree
+  sound_tree : (spans : Spans) (depth : ℕ) (tree : Tree) → IsRight k (least k from) spans bound depth tree → IsSoundTree k bound spans depth tree
   sound_tree spans depth (accept u x) h = h.accepting
   sound_tree spans depth (reject u r) h = h.rejecting
   sound_tree spans depth unknown h = h.1
@@ -61,35 +63,39 @@ module _ (fits : HeightFits) (k : CaseData) (bound : Bound) (case : IsCase k) wh
       (record { left = h.0.left; axis_is = h.0.axis_is }, sound_tree (lower_half axis spans) (depth + 1) lower h.1, sound_tree (upper_half axis spans) (depth + 1) upper h.2)
 
   -- and can be told: no rank is above the number of states
-  can_be_told : (spans : Spans) (depth : ℕ) (tree : Tree) → IsRight k k.w spans bound depth tree → CanBeTold (record { asked = k; from = None; bound = bound }) tree
+  can_be_told : (spans : Spans) (depth : ℕ) (tree : Tree) → IsRight k (least k from) spans bound depth tree → CanBeTold (record { asked = k; from = from; bound = bound }) tree
   can_be_told spans depth (accept u x) h = h.first.between
   can_be_told spans depth (reject u r) h =
-      let greatest : IsGreatestLower k spans r = subst (λ n. IsGreatestLower (at k n) spans r) (only_precision k spans bound u h.first) h.greatest in
-      (h.first.between, (let fit = fits k spans r case greatest in let few = case.asked.model.count.1 in omega arith))
+      let between = h.first.between in
+      let there : IsCase (at k u) = lowers k u case (omega (arith, above, between.0)) between.1 in
+      let fit = fits (at k u) spans r there h.greatest in
+      let few = case.asked.model.count.1 in
+      (between, omega (arith, fit, few))
   can_be_told spans depth unknown h = tt
   can_be_told spans depth (split axis lower upper) h = (can_be_told (lower_half axis spans) (depth + 1) lower h.1, can_be_told (upper_half axis spans) (depth + 1) upper h.2)
 
 -- ---- the file
 
-report_is_sound : HeightFits → SoundTreesAreReports → (k : CaseData) (bound : Bound) (tree : Tree) → All IsShortName k.model.names → All (All (All IsSmallEntry)) k.model.states → IsCase k → IsToldBound bound
-    → IsRightTree k k.w bound tree → IsSoundFile (report_text k None bound tree) (leaf_counts 1 tree)
-report_is_sound fits reports k bound tree names entries is told right =
-    let h : HeadData = record { asked = k; from = None; bound = bound } in
+report_is_sound : HeightFits → LowerPrecisionIsCase → SoundTreesAreReports → (k : CaseData) (from : Option ℕ) (bound : Bound) (tree : Tree) → All IsShortName k.model.names → All (All (All IsSmallEntry)) k.model.states → IsCase k → IsRange k from → IsToldBound bound
+    → IsRightTree k (least k from) bound tree → IsSoundFile (report_text k from bound tree) (leaf_counts (version_of from) tree)
+report_is_sound fits lowers reports k from bound tree names entries is range told right =
+    let h : HeadData = record { asked = k; from = from; bound = bound } in
+    let above = (range_begins k from is range).0 in
     record {
       head = h;
       tree = tree;
-      sound = reports h tree (head k bound names entries is told) is.admitted (sound_tree fits k bound is k.root 0 tree right) (can_be_told fits k bound is k.root 0 tree right);
+      sound = reports h tree (head k from bound names entries is range told) is.admitted (sound_tree fits lowers k from bound is above k.root 0 tree right) (can_be_told fits lowers k from bound is above k.root 0 tree right);
       text = refl;
       counts = refl;
     }
 
-pub right_reports : read.TextsAreValid → HeightFits → SoundTreesAreReports → RightReportsAreSound
-right_reports valid fits reports text label m root w bound tree is case told right =
+pub right_reports : read.TextsAreValid → HeightFits → LowerPrecisionIsCase → SoundTreesAreReports → RightReportsAreSound
+right_reports valid fits lowers reports text label m root w from bound tree is case range told right =
     let r = valid text label m is in
-    report_is_sound fits reports (case_of m root w) bound tree (names_told m r) (λ i c h j d g l e f. entry _ (r.entries i c h j d g l e f)) case told right
+    report_is_sound fits lowers reports (case_of m root w) from bound tree (names_told m r) (λ i c h j d g l e f. entry _ (r.entries i c h j d g l e f)) case range told right
 
-pub lumped_reports : read.TextsAreValid → HeightFits → CasesHaveFewTerms → SoundTreesAreReports → LumpedReportsAreSound
-lumped_reports valid fits few reports text label k l bound tree is lumped case told right =
+pub lumped_reports : read.TextsAreValid → HeightFits → LowerPrecisionIsCase → CasesHaveFewTerms → SoundTreesAreReports → LumpedReportsAreSound
+lumped_reports valid fits lowers few reports text label k l bound tree is lumped case told right =
     let names = subst (λ (q : ModelData). All IsShortName q.names) (sym lumped.model) (names_told k.model (valid text label k.model is)) in
     let terms = few (lumped_case k l) case in
-    report_is_sound fits reports (lumped_case k l) bound tree names (λ i c h j d g n e f. case_entry _ (terms i c h j d g n e f)) case told right
+    report_is_sound fits lowers reports (lumped_case k l) None bound tree names (λ i c h j d g n e f. case_entry _ (terms i c h j d g n e f)) case (λ v e. absurd (cc)) told right

@@ -1,5 +1,5 @@
 -- What testing a ladder comes to, by what its steps answer.
-use Rattle.std.proofs.Common.{◌≡◌, ◌≤◌, ◌<◌, ◌+◌, ◌^◌, ◌⊎◌, inl, inr, ℕ, List, [], codes, length, length-append, Some, Ok, Err, refl, sym, ap, ◌∙◌, subst, arith, Result, IsErrAnd}
+use Rattle.std.proofs.Common.{◌≡◌, ◌≤◌, ◌<◌, ◌+◌, ◌^◌, ◌⊎◌, inl, inr, ℕ, List, [], codes, length, length-append, None, Some, Ok, Err, refl, sym, ap, ◌∙◌, subst, arith, Result, IsErrAnd}
 use Rattle.std.specs.Prelude.{Vec}
 use Rattle.std.specs.declared.alloc.Global.{Global}
 use Rattle.std.specs.declared.option.Option.{Option}
@@ -70,12 +70,12 @@ module _ (n : ℕ) (some : 1 ≤ n) (few : n ≤ most_blocks) (texts : TextIsSho
 
   -- the report of its right tree is a sound file
   is_sound : RightReportsAreSound → (tree : Tree) → IsLadderTree n tree → IsSoundFile (ladder_report n tree) (leaf_counts 1 tree)
-  is_sound law tree right = law (ladder_text n) (codes "done") (ladder n) ladder_region ladder_precision one_half tree (reads n some few) (cases n some few) half_is_told right
+  is_sound law tree right = law (ladder_text n) (codes "done") (ladder n) ladder_region ladder_precision None one_half tree (reads n some few) (cases n some few) (λ v e. absurd (cc)) half_is_told right
 
   -- what was written, whole: a report that fits
-  pub whole_report : RightReportsAreSound → (bytes : List ℕ) → Makes (IsReported (Some []) (Some bytes) one_half) ladder_job (ladder_text n) → length bytes ≤ file_limit → IsLadderReport n bytes
+  pub whole_report : RightReportsAreSound → (bytes : List ℕ) → Makes (IsReported (Some []) (Some bytes) None one_half) ladder_job (ladder_text n) → length bytes ≤ file_limit → IsLadderReport n bytes
   whole_report law bytes m fits =
-      let h = ladder_case_is (IsReported (Some []) (Some bytes) one_half) m in
+      let h = ladder_case_is (IsReported (Some []) (Some bytes) None one_half) m in
       let is : bytes ≡ ladder_report n h.tree = h.report in
       record {
         tree = h.tree;
@@ -85,22 +85,22 @@ module _ (n : ℕ) (some : 1 ≤ n) (few : n ≤ most_blocks) (texts : TextIsSho
       }
 
   -- or one that doesn't
-  pub long_report : RightTreesAreOne → (bytes : List ℕ) → Makes (IsReported (Some []) (Some bytes) one_half) ladder_job (ladder_text n) → file_limit < length bytes → HasLongReport n
+  pub long_report : RightTreesAreOne → (bytes : List ℕ) → Makes (IsReported (Some []) (Some bytes) None one_half) ladder_job (ladder_text n) → file_limit < length bytes → HasLongReport n
   long_report one bytes m long tree right =
-      let h = ladder_case_is (IsReported (Some []) (Some bytes) one_half) m in
+      let h = ladder_case_is (IsReported (Some []) (Some bytes) None one_half) m in
       let is : bytes ≡ ladder_report n h.tree = h.report in
       let same : h.tree ≡ tree = one (ladder_case n) ladder_precision one_half h.tree tree (cases n some few) (omega arith) h.right right in
       omega (arith, ap length is, ap (λ (t : Tree). length (ladder_report n t)) same)
 
   -- where the room was filled, the report is longer than a text may be
-  pub cut_report : (bytes : List ℕ) → Makes (IsCutOff (Some []) (Some bytes) one_half) ladder_job (ladder_text n) → length bytes ≡ file_limit + 1 → HasLongReport n
+  pub cut_report : (bytes : List ℕ) → Makes (IsCutOff (Some []) (Some bytes) None one_half) ladder_job (ladder_text n) → length bytes ≡ file_limit + 1 → HasLongReport n
   cut_report bytes m full tree right =
-      let h = ladder_case_is (IsCutOff (Some []) (Some bytes) one_half) m in
+      let h = ladder_case_is (IsCutOff (Some []) (Some bytes) None one_half) m in
       let least = front_is_short bytes (ladder_report n tree) (h.front tree right) in
       omega arith
 
   -- so what is given back of it is the report, or that it is too long
-  pub within_report : RightReportsAreSound → RightTreesAreOne → (bytes : Vec ℕ Global) (result : Result (Vec ℕ Global) Refusal) → Makes (IsReported (Some []) (Some bytes.items) one_half) ladder_job (ladder_text n) → GivesWithin file_limit bytes result → ReportsLadder n result
+  pub within_report : RightReportsAreSound → RightTreesAreOne → (bytes : Vec ℕ Global) (result : Result (Vec ℕ Global) Refusal) → Makes (IsReported (Some []) (Some bytes.items) None one_half) ladder_job (ladder_text n) → GivesWithin file_limit bytes result → ReportsLadder n result
   within_report law one bytes (Ok same) m h = subst (λ (b : Vec ℕ Global). IsLadderReport n b.items) (sym h.0) (whole_report law bytes.items m h.1)
   within_report law one bytes (Err refusal.TooLong) m h = long_report one bytes.items m h
   within_report law one bytes (Err _) m h = absurd h
@@ -112,12 +112,12 @@ module _ (n : ℕ) (some : 1 ≤ n) (few : n ≤ most_blocks) (texts : TextIsSho
   module _ {S K : Type 0} (source source' : S) (out out' : K) (left : S → Option (List ℕ)) (faults : S → ℕ) (taken : K → Option (List ℕ)) (counts : K → ℕ) (bytes : List ℕ)
       (told : left source ≡ Some (ladder_text n)) (calm : faults source' ≡ 0) (empty : taken out ≡ Some []) (took : taken out' ≡ Some bytes) (none : counts out ≡ 0) where
     -- what verifying the ladder came to, where its report was written
-    pub verified_ladder : Verifies {T = Unit {0}} left faults taken counts ladder_job source source' out out' (Ok tt) → Makes (IsReported (Some []) (Some bytes) one_half) ladder_job (ladder_text n)
-    verified_ladder v = given (Makes (IsReported (Some []) (Some bytes) one_half) ladder_job) (ladder_text n) (left source') (rw (told, empty, took) at v)
+    pub verified_ladder : Verifies {T = Unit {0}} left faults taken counts ladder_job source source' out out' (Ok tt) → Makes (IsReported (Some []) (Some bytes) None one_half) ladder_job (ladder_text n)
+    verified_ladder v = given (Makes (IsReported (Some []) (Some bytes) None one_half) ladder_job) (ladder_text n) (left source') (rw (told, empty, took) at v)
 
     -- where there was no room for it
-    pub overflowed : Verifies {T = Unit {0}} left faults taken counts ladder_job source source' out out' (Err refusal.WriteFault) → Makes (IsCutOff (Some []) (Some bytes) one_half) ladder_job (ladder_text n) × (0 < counts out')
-    overflowed v = (given (Makes (IsCutOff (Some []) (Some bytes) one_half) ladder_job) (ladder_text n) (left source') (rw (told, empty, took) at v.0), counted (counts out') (rw none at v.1))
+    pub overflowed : Verifies {T = Unit {0}} left faults taken counts ladder_job source source' out out' (Err refusal.WriteFault) → Makes (IsCutOff (Some []) (Some bytes) None one_half) ladder_job (ladder_text n) × (0 < counts out')
+    overflowed v = (given (Makes (IsCutOff (Some []) (Some bytes) None one_half) ladder_job) (ladder_text n) (left source') (rw (told, empty, took) at v.0), counted (counts out') (rw none at v.1))
 
     -- else memory ran out
     pub stopped_short : AdmittedHasNoFault → (faults source ≡ 0) → (why : Refusal) → (why ≡ refusal.WriteFault → ⊥) → Verifies {T = Unit {0}} left faults taken counts ladder_job source source' out out' (Err why) → why ≡ refusal.Memory
@@ -149,7 +149,7 @@ module _ (n : ℕ) (some : 1 ≤ n) (few : n ≤ most_blocks) (texts : TextIsSho
         → (kept : Vec ℕ Global) → kept.items ≡ bytes → (result : Result (Vec ℕ Global) Refusal) → GivesWithin file_limit kept result → ReportsLadder n result
     given_report law one job same v kept is result h =
         let m = verified_ladder (subst (λ (j : VerifyData). Verifies {T = Unit {0}} left faults taken counts j source source' out out' (Ok tt)) same v) in
-        within_report law one kept result (subst (λ (b : List ℕ). Makes (IsReported (Some []) (Some b) one_half) ladder_job (ladder_text n)) (sym is) m) h
+        within_report law one kept result (subst (λ (b : List ℕ). Makes (IsReported (Some []) (Some b) None one_half) ladder_job (ladder_text n)) (sym is) m) h
 
 -- ---- its check
 

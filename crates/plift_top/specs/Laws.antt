@@ -1,5 +1,6 @@
 -- What holds of the reports that are written, for who reasons about them.
 use Rattle.std.specs.Prelude.{◌≡◌, ◌≤◌, ℕ, List, None, Ok}
+use Rattle.std.specs.declared.option.Option.{Option}
 use Rattle.lift_grid.specs.Region.{Region}
 use Rattle.lift_grid.specs.Tree.{Tree}
 use Rattle.lift_model.specs.Model.{ModelData}
@@ -13,13 +14,14 @@ use Rattle.cert_text.specs.Forms.{IsToldBound}
 use Rattle.cert_check.specs.Sound.{IsSoundFile, leaf_counts}
 use Rattle.lift_lump.specs.LumpedData.{LumpedData}
 use Rattle.lift_lump.specs.Lumped.{IsLumped}
+use Rattle.plift_top.specs.RightReport.{IsRange, least, version_of}
 use Rattle.plift_top.specs.Lumped.{lumped_case}
 use Rattle.plift_top.specs.Selftest.{IsLadderTree}
 
--- where a case is of a model that a text stands for, the report of its right tree is a sound file with that tree's leaves
+-- where a case is of a model that a text stands for, the report of its right tree is a sound file with that tree's leaves, of the second version where a range of precisions is told
 abbrev pub RightReportsAreSound : Type 0
-RightReportsAreSound = (text label : List ℕ) (m : ModelData) (root : Region) (w : ℕ) (bound : Bound) (tree : Tree) → drn text label ≡ Ok m → IsCase (case_of m root w) → IsToldBound bound
-    → IsRightTree (case_of m root w) w bound tree → IsSoundFile (report_text (case_of m root w) None bound tree) (leaf_counts 1 tree)
+RightReportsAreSound = (text label : List ℕ) (m : ModelData) (root : Region) (w : ℕ) (from : Option ℕ) (bound : Bound) (tree : Tree) → drn text label ≡ Ok m → IsCase (case_of m root w) → IsRange (case_of m root w) from → IsToldBound bound
+    → IsRightTree (case_of m root w) (least (case_of m root w) from) bound tree → IsSoundFile (report_text (case_of m root w) from bound tree) (leaf_counts (version_of from) tree)
 
 -- the same of the quotient of a chain that a text stands for
 abbrev pub LumpedReportsAreSound : Type 0

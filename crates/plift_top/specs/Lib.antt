@@ -4,6 +4,7 @@ pub mod Bounded
 pub mod Lumped
 pub mod Verify
 pub mod Check
+pub mod Migrate
 pub mod Steps
 pub mod Refused
 pub mod Selftest

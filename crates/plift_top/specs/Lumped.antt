@@ -1,5 +1,5 @@
 -- What `lumped` writes of a chain: the report of its quotient, and what the leaves of that report say of the chain itself.
-use Rattle.std.specs.Prelude.{◌≡◌, ⊤, ℕ, ◌-◌, ◌*◌, ◌^◌, ◌<◌, List, pos, ℤ, ◌+ℤ◌, ◌*ℤ◌, ◌≤ℤ◌, All, length}
+use Rattle.std.specs.Prelude.{◌≡◌, ⊤, None, ℕ, ◌-◌, ◌*◌, ◌^◌, ◌<◌, List, pos, ℤ, ◌+ℤ◌, ◌*ℤ◌, ◌≤ℤ◌, All, length}
 use Rattle.std.specs.declared.option.Option.{Option}
 use Rattle.lift_poly.specs.Polynomial.{Valuation}
 use Rattle.lift_grid.specs.Rectangle.{Spans, Inside}
@@ -58,11 +58,11 @@ pub record IsLumpedCase (k : CaseData) (l : LumpedData) : Type 0 where
 pub record IsReportedLumped (old new : Option (List ℕ)) (bound : Bound) (k : CaseData) : Type 0 where
   pub l : LumpedData
   pub is : IsLumpedCase k l
-  pub reported : IsReported old new bound (lumped_case k l)
+  pub reported : IsReported old new None bound (lumped_case k l)
   pub schedulers : All (ChainLeafHolds k l bound) (leaves k.root 0 reported.tree)
 
 -- A front of that report was appended.
 pub record IsCutOffLumped (old new : Option (List ℕ)) (bound : Bound) (k : CaseData) : Type 0 where
   pub l : LumpedData
   pub is : IsLumpedCase k l
-  pub cut_off : IsCutOff old new bound (lumped_case k l)
+  pub cut_off : IsCutOff old new None bound (lumped_case k l)

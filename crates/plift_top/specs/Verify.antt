@@ -66,15 +66,15 @@ IsRefusedAt job (Ok m) why = IsRefusedOf (lacks_chain job.way m.kind) job m why
 abbrev pub IsRefused : VerifyData → Refusal → List ℕ → Type 0
 IsRefused job why text = IsRefusedAt job (drn text job.goal) why
 
--- The answer to a case was appended, whole: its report for a bound on any number of steps, its text for a bound on as many as are told, and the report of its quotient where it is lumped.
+-- The answer to a case was appended, whole: its report for a bound on any number of steps, with a range of precisions where one is told, its text for a bound on as many as are told, and the report of its quotient where it is lumped.
 abbrev pub IsAnswered : Option (List ℕ) → Option (List ℕ) → Bound → Way → CaseData → Type 0
-IsAnswered old new bound way.Whole = IsReported old new bound
+IsAnswered old new bound (way.Whole from) = IsReported old new from bound
 IsAnswered old new bound (way.Within h) = IsReportedWithin old new bound h
 IsAnswered old new bound way.Lumped = IsReportedLumped old new bound
 
 -- A front of it was appended.
 abbrev pub IsAnsweredInPart : Option (List ℕ) → Option (List ℕ) → Bound → Way → CaseData → Type 0
-IsAnsweredInPart old new bound way.Whole = IsCutOff old new bound
+IsAnsweredInPart old new bound (way.Whole from) = IsCutOff old new from bound
 IsAnsweredInPart old new bound (way.Within h) = IsCutOffWithin old new bound h
 IsAnsweredInPart old new bound way.Lumped = IsCutOffLumped old new bound
 

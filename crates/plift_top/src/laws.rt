@@ -3,16 +3,18 @@
 ghost use Rattle.plift_top.specs.Laws.{RightReportsAreSound, LumpedReportsAreSound};
 
 use cert_check::sound_trees_are_reports;
+use corner_lift::lower_precisions_are_cases;
 use drn_read::texts_are_valid;
 use lift_lump::quotients_are_cases;
 use lower_cert::ranks_fit;
 
-/// The report of a right tree, of a case whose model a text stands for, is a sound file.
+/// The report of a right tree, of a case whose model a text stands for, is a sound file, for any range of precisions.
 pub fn right_reports_are_sound()
     ensures { RightReportsAreSound }
 {
     texts_are_valid();
     ranks_fit();
+    lower_precisions_are_cases();
     sound_trees_are_reports();
 }
 
@@ -23,5 +25,6 @@ pub fn lumped_reports_are_sound()
     texts_are_valid();
     ranks_fit();
     quotients_are_cases();
+    lower_precisions_are_cases();
     sound_trees_are_reports();
 }

@@ -7,6 +7,7 @@ mod edge;
 mod laws;
 mod limited;
 mod lumped;
+mod migrate;
 mod notes;
 mod program;
 mod refusal;

@@ -37,6 +37,7 @@ fn usage_note(field: Field) -> &'static [u8]
         Field::Depth => b"usage: --depth\n",
         Field::Precision => b"usage: --precision\n",
         Field::Steps => b"usage: --steps\n",
+        Field::From => b"usage: --from\n",
         Field::Blocks => b"usage: N\n",
     }
 }

@@ -14,11 +14,12 @@ ghost use Rattle.cert_text.specs.Forms.{IsToldBound};
 ghost use Rattle.drn_read.specs.Reading.{drn};
 ghost use Rattle.plift_words.specs.Job.{VerifyData};
 ghost use Rattle.plift_words.specs.declared.job.Field.TheVariants.{Words};
-ghost use Rattle.plift_words.specs.Way.{steps_told};
+ghost use Rattle.plift_words.specs.Way.{steps_told, from_told};
+ghost use Rattle.plift_top.specs.RightReport.{version_of};
 ghost use Rattle.plift_top.specs.Verify.{WasRead, Reports, ReportsFront, IsAnswerable, lacks_chain};
 ghost use Rattle.plift_top.specs.Verify.{IsRefused, KeepsWithin};
 ghost use Rattle.model_gen.specs.Ladder.{ladder_text, ladder_case, ladder_precision};
-ghost use Rattle.plift_top.specs.Answers.{status_of, wanted, AsksToVerify, AsksToCheck};
+ghost use Rattle.plift_top.specs.Answers.{status_of, wanted, AsksToVerify, AsksToCheck, AsksToMigrate};
 ghost use Rattle.plift_top.specs.Answers.{AsksToGenerate, AsksToSelftest, IsTooLong, limit_of};
 ghost use Rattle.plift_top.specs.Selftest.{one_half, tested_line};
 ghost use Rattle.plift_top.specs.Laws.{LaddersHaveTrees};
@@ -27,10 +28,12 @@ ghost use Rattle.cert_check.specs.Source.{NoFault, file_limit, report_limit};
 ghost use Rattle.line_text.specs.Met.{WasMet};
 ghost use Rattle.cert_check.specs.declared.summary.Summary.{Summary};
 ghost use Rattle.plift_top.specs.Check.{IsFoundSound, IsFoundInPart, IsUnsound};
+ghost use Rattle.plift_top.specs.Migrate.{IsMigrated, IsSoundFirst, IsUnsoundFirst};
 ghost use Rattle.plift_top.specs.Answers.{HasNote, WroteNote, Acts, Generates};
 
 use crate::checking::check_report;
 use crate::laws::{lumped_reports_are_sound, right_reports_are_sound};
+use crate::migrate::migrate;
 use crate::notes::end;
 use crate::refusal::Refusal;
 use crate::selftest::selftest;
@@ -71,6 +74,7 @@ fn act<S: Source, K: Sink>(
         Ok(Job::Verify(job)) => verify(alloc, &job, source, out),
         Ok(Job::Generate(ladder)) => write_ladder(&ladder, out),
         Ok(Job::Check) => check_report(alloc, source, out),
+        Ok(Job::Migrate) => migrate(alloc, source, out),
         Ok(Job::Selftest(ladder)) => selftest(alloc, &ladder, out),
         Err(cause) => Err(Refusal::from(cause)),
     }
@@ -86,24 +90,31 @@ pub fn run<S: Source, K: Sink, E: Sink>(
     notes: &mut E,
 ) -> Status
     // Done of `verify`, `bounded` or `lumped`: the source gave a text that stands for a model, which with
-    // the job's region makes a case, and out took the report of this case, its text for the number of
-    // steps, or the report of its quotient, whole, and that of its right tree. The tree's leaves tile
-    // the root, and each bounds the schedulers inside its rectangle: those of the model that was read.
+    // the job's region makes a case, and out took the report of this case, with a range of precisions
+    // where the job tells one, its text for the number of steps, or the report of its quotient, whole, and
+    // that of its right tree. The tree's leaves tile the root, and each bounds the schedulers inside its
+    // rectangle: those of the model that was read.
     ensures done { result ≡ Status.Done
         → (j : VerifyData) → AsksToVerify (wanted words.now.items) j
         → WasRead (Reports (K.taken out.old) (K.taken out.new) j)
         (S.left source.old) (S.left source.new) }
 
-    // What out took of `verify` or `lumped` is a sound file.
+    // What out took of `verify` or `lumped` is a sound file: of the second version where a range is told.
     ensures sound { result ≡ Status.Done
         → (j : VerifyData) → AsksToVerify (wanted words.now.items) j → steps_told j.way ≡ None
         → (report : List ℕ) × (leaves : Summary) × IsSoundFile report leaves
-        × Appends (K.taken out.old) (K.taken out.new) report }
+        × (leaves.version ≡ version_of (from_told j.way)) × Appends (K.taken out.old) (K.taken out.new) report }
 
     // Done of `check`: the source gave a sound file, and out took its line. The leaves of its report
     // tile its region, and each holds inside its rectangle, for the model and the bound in the file.
     ensures checked { result ≡ Status.Done → AsksToCheck (wanted words.now.items)
         → WasRead (IsFoundSound (K.taken out.old) (K.taken out.new))
+        (S.left source.old) (S.left source.new) }
+
+    // Done of `migrate`: the source gave a sound file of the first version, and out took the text of the
+    // same report in the second, and nothing else; that is a sound file with the same leaves.
+    ensures migrated { result ≡ Status.Done → AsksToMigrate (wanted words.now.items)
+        → WasRead (IsMigrated (Appends (K.taken out.old) (K.taken out.new)))
         (S.left source.old) (S.left source.new) }
 
     // Done of `generate`: out took the text of the ladder that is asked for, and nothing else.
@@ -130,10 +141,14 @@ pub fn run<S: Source, K: Sink, E: Sink>(
         → TakenHas (λ bytes. length bytes ≤ limit_of (wanted words.now.items))
         (S.left source.old) (S.left source.new) }
 
-    // Only `check` answers NotSound, and only to bytes that are no front of a sound file, whatever may
-    // follow those that were taken; nothing may where the end was seen.
-    ensures not_sound { result ≡ Status.NotSound → AsksToCheck (wanted words.now.items)
-        × WasMet report_limit IsUnsound (S.left source.old) (S.left source.new) }
+    // `check` answers NotSound only to bytes that are no front of a sound file, whatever may follow
+    // those that were taken; nothing may where the end was seen. `migrate` does only to bytes that were
+    // read to their end and are no sound file of the first version. No other command does.
+    ensures not_sound { result ≡ Status.NotSound
+        → (AsksToCheck (wanted words.now.items)
+        × WasMet report_limit IsUnsound (S.left source.old) (S.left source.new))
+        ⊎ (AsksToMigrate (wanted words.now.items)
+        × WasRead IsUnsoundFirst (S.left source.old) (S.left source.new)) }
 
     // `check` answers Done or Memory to a sound file, and NotSound or Memory to any other, where no
     // fault is counted.
@@ -146,6 +161,21 @@ pub fn run<S: Source, K: Sink, E: Sink>(
     ensures check_refused { (bytes : List ℕ)
         → AsksToCheck (wanted words.now.items) → S.left source.old ≡ Some bytes
         → IsUnsound bytes → length bytes ≤ report_limit
+        → NoFault (S.faults source.old) (S.faults source.new)
+        → NoFault (K.faults out.old) (K.faults out.new)
+        → (result ≡ Status.NotSound) ⊎ (result ≡ Status.Memory) }
+
+    // `migrate` answers Done or Memory to a sound file of the first version, and NotSound or Memory to
+    // any other text, where no fault is counted.
+    ensures migrate_complete { (bytes : List ℕ) (leaves : Summary)
+        → AsksToMigrate (wanted words.now.items) → S.left source.old ≡ Some bytes
+        → IsSoundFirst bytes leaves → length bytes ≤ file_limit
+        → NoFault (S.faults source.old) (S.faults source.new)
+        → NoFault (K.faults out.old) (K.faults out.new)
+        → (result ≡ Status.Done) ⊎ (result ≡ Status.Memory) }
+    ensures migrate_refused { (bytes : List ℕ)
+        → AsksToMigrate (wanted words.now.items) → S.left source.old ≡ Some bytes
+        → IsUnsoundFirst bytes → length bytes ≤ file_limit
         → NoFault (S.faults source.old) (S.faults source.new)
         → NoFault (K.faults out.old) (K.faults out.new)
         → (result ≡ Status.NotSound) ⊎ (result ≡ Status.Memory) }
@@ -209,6 +239,9 @@ pub fn run<S: Source, K: Sink, E: Sink>(
         (S.left source.old) (S.left source.new) }
     ensures line_part { result ≡ Status.WriteFault → AsksToCheck (wanted words.now.items)
         → WasRead (IsFoundInPart (K.taken out.old) (K.taken out.new))
+        (S.left source.old) (S.left source.new) }
+    ensures migrated_part { result ≡ Status.WriteFault → AsksToMigrate (wanted words.now.items)
+        → WasRead (IsMigrated (AppendsFront (K.taken out.old) (K.taken out.new)))
         (S.left source.old) (S.left source.new) }
     ensures ladder_part { result ≡ Status.WriteFault
         → (n : ℕ) → AsksToGenerate (wanted words.now.items) n

@@ -1,13 +1,15 @@
 // The report of a case, which is written while the tree is walked over.
 ghost use Rattle.std.specs.Prelude.{◌≡◌, List, ℕ, MatchResult, length};
-ghost use Rattle.lift_base.specs.Outside.{WroteSome};
+ghost use Rattle.std.specs.List.{concat};
+ghost use Rattle.lift_base.specs.Outside.{Wrote, WroteSome};
 ghost use Rattle.lift_model.specs.Links.{AreLinks};
 ghost use Rattle.region_tree.specs.Rooms.{IsAsMade, IsMadeFor};
 ghost use Rattle.region_tree.specs.Visits.{Walks};
 ghost use Rattle.region_tree.specs.declared.visitor.Seen.TheVariants.{Failed, Kept};
-ghost use Rattle.plift_top.specs.RightReport.{IsRightReport, node_text};
+ghost use Rattle.cert_text.specs.Report.{at_lines};
+ghost use Rattle.plift_top.specs.RightReport.{IsRange, IsRightReport, least, node_text};
 
-use cert_text::{write_accept, write_head, write_reject, write_split, write_unknown};
+use cert_text::{write_accept, write_at, write_head, write_reject, write_split, write_unknown};
 use corner_lift::Case;
 use lift_base::{Sink, Telling, WriteFault, tell_buffered, writes_in_turn};
 use lift_cert::Bound;
@@ -19,6 +21,19 @@ use region_tree::{Room, Seen, Visitor, walk};
 struct Reporter<'r, 'c, 'm, K: Sink> {
     out: &'r mut K,
     case: &'c Case<'m>,
+    /// The least precision of the range, where the report tells one.
+    from: Option<u32>,
+}
+
+// Writes the precision of a decided leaf, where the report tells a range.
+fn write_precision<K: Sink>(out: &mut K, from: Option<u32>, u: u32) -> Result<(), WriteFault>
+    ensures { Wrote K.taken K.faults out.old out.new result (concat (at_lines from u)) }
+{
+    writes_in_turn::<K>();
+    match from {
+        None => Ok(()),
+        Some(_) => write_at(out, u),
+    }
 }
 
 // What a visitor answers, by what was written.
@@ -36,7 +51,7 @@ impl<'r, 'c, 'm, K: Sink> Visitor for Reporter<'r, 'c, 'm, K> {
 
     ghost precision = { λ r. r.case.now.w };
 
-    ghost entry = { λ r. node_text r.case.now };
+    ghost entry = { λ r. node_text r.case.now r.from };
 
     ghost taken = { λ r. K.taken r.out.now };
 
@@ -48,15 +63,23 @@ impl<'r, 'c, 'm, K: Sink> Visitor for Reporter<'r, 'c, 'm, K> {
         seen(write_split(self.out, axis))
     }
 
-    // The report's first version tells no leaf's precision.
     fn accept(&mut self, u: u32, x: &[i64]) -> Seen {
-        let _ = u;
-        seen(write_accept(self.out, x))
+        writes_in_turn::<K>();
+        match write_precision(self.out, self.from, u) {
+            Ok(()) => seen(write_accept(self.out, x)),
+            Err(WriteFault) => Seen::Failed,
+        }
     }
 
     fn reject(&mut self, u: u32, e: u32, k: u32, y: &[i64], picks: &[u32], ranks: &[u32]) -> Seen {
-        let case = self.case.at(u);
-        seen(write_reject(self.out, &case, e, k, y, picks, ranks))
+        writes_in_turn::<K>();
+        match write_precision(self.out, self.from, u) {
+            Ok(()) => {
+                let case = self.case.at(u);
+                seen(write_reject(self.out, &case, e, k, y, picks, ranks))
+            }
+            Err(WriteFault) => Seen::Failed,
+        }
     }
 
     fn unknown(&mut self) -> Seen {
@@ -64,27 +87,31 @@ impl<'r, 'c, 'm, K: Sink> Visitor for Reporter<'r, 'c, 'm, K> {
     }
 }
 
-// Walks over the tree of a case at its precision and writes the lines of its nodes.
+// Walks over the tree of a case for its range of precisions and writes the lines of its nodes.
 fn write_tree<K: Sink>(
     case: &Case,
     links: &Links,
     bound: Bound,
+    from: Option<u32>,
     room: &mut Room,
     out: &mut K,
 ) -> Seen
     requires links { AreLinks case.now.model links.now }
+    requires from { IsRange case.now from }
     requires made { IsMadeFor case.now links.now room.old }
-    ensures walks { Walks case.now case.now.w case.now.root bound 0
-        K.taken K.faults (node_text case.now) out.old out.new result }
+    ensures walks { Walks case.now (least case.now from) case.now.root bound 0
+        K.taken K.faults (node_text case.now from) out.old out.new result }
     ensures room { IsAsMade room.old room.new }
 {
-    let w = case.w();
-    let mut reporter = Reporter { out, case };
-    walk(case, links, bound, w, room, &mut reporter)
+    let least = from.unwrap_or(case.w());
+    let mut reporter = Reporter { out, case, from };
+    walk(case, links, bound, least, room, &mut reporter)
 }
 
 /// Writes the report of a case: its head, and then each node of its right tree, in preorder, as soon
-/// as it is decided. The room was made for the case, and after it is as made. Takes no memory.
+/// as it is decided. With the least precision of a range the tree is that for the range up to the case's precision,
+/// and the report is of the second version; without it the tree is that at the case's precision alone. The room was
+/// made for the case, and after it is as made. Takes no memory.
 ///
 /// Where all was written there is a right tree. Whichever tree is right, its report was written, or
 /// after a fault a front of it.
@@ -92,18 +119,20 @@ pub fn write_report<K: Sink>(
     case: &Case,
     links: &Links,
     bound: Bound,
+    from: Option<u32>,
     room: &mut Room,
     out: &mut K,
 ) -> Result<(), WriteFault>
     requires links { AreLinks case.now.model links.now }
+    requires from { IsRange case.now from }
     requires made { IsMadeFor case.now links.now room.old }
-    ensures wrote { WroteSome (IsRightReport case.now bound)
+    ensures wrote { WroteSome (IsRightReport case.now from bound)
         K.taken K.faults out.old out.new result }
     ensures room { IsAsMade room.old room.new }
 {
     writes_in_turn::<K>();
-    write_head(out, case, bound, None)?;
-    match write_tree(case, links, bound, room, out) {
+    write_head(out, case, bound, from)?;
+    match write_tree(case, links, bound, from, room, out) {
         Seen::Kept => Ok(()),
         Seen::Failed => Err(WriteFault),
     }
@@ -115,17 +144,18 @@ struct Report<'c, 'm, 'l, 'r> {
     case: &'c Case<'m>,
     links: &'l Links,
     bound: Bound,
+    from: Option<u32>,
     room: &'r mut Room,
 }
 
 impl<'c, 'm, 'l, 'r> Telling for Report<'c, 'm, 'l, 'r> {
     ghost is_ready = { λ r. AreLinks r.case.now.model r.links.now
-        × IsMadeFor r.case.now r.links.now r.room.now };
+        × IsRange r.case.now r.from × IsMadeFor r.case.now r.links.now r.room.now };
 
-    ghost is_text = { λ r bytes. IsRightReport r.case.now r.bound bytes };
+    ghost is_text = { λ r bytes. IsRightReport r.case.now r.from r.bound bytes };
 
     fn tell_to<K: Sink>(&mut self, out: &mut K) -> Result<(), WriteFault> {
-        write_report(self.case, self.links, self.bound, self.room, out)
+        write_report(self.case, self.links, self.bound, self.from, self.room, out)
     }
 }
 
@@ -134,17 +164,20 @@ pub(crate) fn write_report_buffered<K: Sink>(
     case: &Case,
     links: &Links,
     bound: Bound,
+    from: Option<u32>,
     room: &mut Room,
     out: &mut K,
 ) -> Result<(), WriteFault>
     requires links { AreLinks case.now.model links.now }
+    requires from { IsRange case.now from }
     requires made { IsMadeFor case.now links.now room.old }
-    ensures { WroteSome (IsRightReport case.now bound) K.taken K.faults out.old out.new result }
+    ensures { WroteSome (IsRightReport case.now from bound) K.taken K.faults out.old out.new result }
 {
     let mut report = Report {
         case,
         links,
         bound,
+        from,
         room,
     };
     tell_buffered(out, &mut report)

@@ -51,7 +51,7 @@ fn job() -> VerifyJob<'static>
         region: b"1/2<=p<=3/5,1/2<=q<=3/5",
         depth: 2,
         precision: 24,
-        way: Way::Whole,
+        way: Way::Whole(None),
     }
 }
 

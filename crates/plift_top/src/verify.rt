@@ -1,5 +1,5 @@
 // Verifies a model against a bound: on any number of steps, on as many as are told, or by its quotient.
-ghost use Rattle.std.specs.Prelude.{◌≡◌, false, IfOk, length};
+ghost use Rattle.std.specs.Prelude.{◌≡◌, ◌≤◌, false, IfOk, length};
 ghost use Rattle.lift_grid.specs.Rectangle.{IsOnGrid};
 ghost use Rattle.lift_grid.specs.Parts.{region_of};
 ghost use Rattle.lift_model.specs.Links.{AreLinks};
@@ -7,6 +7,8 @@ ghost use Rattle.region_tree.specs.Rooms as whole;
 ghost use Rattle.lift_bounded.specs.Rooms as within;
 ghost use Rattle.plift_words.specs.Given.{verify_data};
 ghost use Rattle.plift_words.specs.declared.way.Way.TheVariants.{Whole, Within};
+ghost use Rattle.plift_words.specs.Values.{most_steps};
+ghost use Rattle.plift_top.specs.RightReport.{IsRange};
 ghost use Rattle.plift_top.specs.Verify.{Verifies, KeepsLimit, lacks_chain};
 ghost use Rattle.plift_top.specs.Steps.{IsTestedCase, ReadsModel, NamesRoot, AdmitsCase};
 ghost use Rattle.plift_top.specs.Steps.{WritesCase, AnswersCase, WritesOver};
@@ -15,7 +17,7 @@ use crate::bounded::write_bounded_buffered;
 use crate::lumped::write_lumped;
 use crate::refusal::Refusal;
 use crate::report::write_report_buffered;
-use corner_lift::{Case, live_parameters_have_spans};
+use corner_lift::{Case, live_parameters_have_spans, lower_precisions_are_cases};
 use drn_read::read_model;
 use lift_base::{Sink, Source, WriteFault, read_all};
 use lift_bounded::{BoundedRoom, certificates_by_steps_decide};
@@ -83,24 +85,46 @@ fn linked_case_of<'m>(
     Ok(case)
 }
 
-/// Writes the report of a case whose rows were tested. From here on no memory is taken.
-pub(crate) fn write_case<K: Sink>(
+// Writes the report of a case whose rows were tested. From here on no memory is taken.
+fn write_case<K: Sink>(
     case: &Case,
     links: &Links,
     bound: Bound,
+    from: Option<u32>,
     room: &mut Room,
     out: &mut K,
 ) -> Result<(), WriteFault>
     requires case { IsTestedCase case.now }
     requires links { AreLinks case.now.model links.now }
+    requires from { IsRange case.now from }
     requires made { whole.IsMadeFor case.now links.now room.old }
-    ensures { WritesCase K.taken K.faults bound Whole case.now out.old out.new result }
+    ensures { WritesCase K.taken K.faults bound (Whole from) case.now out.old out.new result }
 {
     certificates_decide();
     rejecting_certificates_reach();
+    lower_precisions_are_cases();
     rectangles_at_depths();
     right_trees_tile();
-    write_report_buffered(case, links, bound, room, out)
+    write_report_buffered(case, links, bound, from, room, out)
+}
+
+/// Makes the room of a case whose rows were tested, and writes its report.
+pub(crate) fn write_whole<K: Sink>(
+    alloc: Global,
+    case: &Case,
+    links: &Links,
+    bound: Bound,
+    from: Option<u32>,
+    out: &mut K,
+) -> Result<(), Refusal>
+    requires case { IsTestedCase case.now }
+    requires links { AreLinks case.now.model links.now }
+    requires from { IsRange case.now from }
+    ensures { AnswersCase K.taken K.faults bound (Whole from) case.now out.old out.new result }
+{
+    let mut room = Room::make(alloc, case, links)?;
+    write_case(case, links, bound, from, &mut room, out)?;
+    Ok(())
 }
 
 // Writes the text of such a case for as many steps as the room was made for. Takes no memory.
@@ -123,6 +147,25 @@ fn write_case_within<K: Sink>(
     write_bounded_buffered(case, links, bound, room, out)
 }
 
+// Makes the room of such a case for a number of steps, and writes its text for them.
+fn write_within<K: Sink>(
+    alloc: Global,
+    case: &Case,
+    links: &Links,
+    bound: Bound,
+    steps: u32,
+    out: &mut K,
+) -> Result<(), Refusal>
+    requires case { IsTestedCase case.now }
+    requires links { AreLinks case.now.model links.now }
+    requires steps { (1 ≤ steps) × (steps ≤ most_steps) }
+    ensures { AnswersCase K.taken K.faults bound (Within steps) case.now out.old out.new result }
+{
+    let mut room = BoundedRoom::make(alloc, case, links, steps)?;
+    write_case_within(case, links, bound, &mut room, out)?;
+    Ok(())
+}
+
 // Takes all memory that a job needs at a case whose rows were tested, and writes its answer.
 fn write_answer<K: Sink>(
     alloc: Global,
@@ -133,21 +176,14 @@ fn write_answer<K: Sink>(
 ) -> Result<(), Refusal>
     requires case { IsTestedCase case.now }
     requires links { AreLinks case.now.model links.now }
+    requires precision { case.now.w ≡ job.now.precision }
     requires chain { lacks_chain job.now.way case.now.model.kind ≡ false }
     ensures { AnswersCase K.taken K.faults job.now.bound job.now.way case.now
         out.old out.new result }
 {
     match job.way {
-        Way::Whole => {
-            let mut room = Room::make(alloc, case, links)?;
-            write_case(case, links, job.bound, &mut room, out)?;
-            Ok(())
-        }
-        Way::Within(steps) => {
-            let mut room = BoundedRoom::make(alloc, case, links, steps)?;
-            write_case_within(case, links, job.bound, &mut room, out)?;
-            Ok(())
-        }
+        Way::Whole(from) => write_whole(alloc, case, links, job.bound, from, out),
+        Way::Within(steps) => write_within(alloc, case, links, job.bound, steps, out),
         Way::Lumped => write_lumped(alloc, case, job.bound, out),
     }
 }
@@ -185,7 +221,7 @@ fn lacks_chain(way: Way, kind: Kind) -> bool
             Kind::Mdp => true,
             Kind::Dtmc => false,
         },
-        Way::Whole | Way::Within(_) => false,
+        Way::Whole(_) | Way::Within(_) => false,
     }
 }
 

@@ -3,12 +3,12 @@ use Rattle.std.proofs.Common.{◌≡◌, [], ◌∷◌, codes, Ok, Err, Some, No
 use Rattle.lift_frac.specs.Gcd.{gcd}
 use Rattle.plift_words.specs.Line.{options}
 use Rattle.plift_words.specs.Job.{VerifyData, job}
-use Rattle.plift_words.specs.Job.JobData.{verify, check, generate, selftest}
+use Rattle.plift_words.specs.Job.JobData.{verify, check, migrate, generate, selftest}
 use Rattle.plift_words.specs.declared.job.Field.TheVariants as field
 use Rattle.plift_words.specs.declared.way.Way.TheVariants as way
 
 at_most_half : VerifyData
-at_most_half = record { goal = codes "heads"; bound = record { num = 1; den = 2 }; region = []; depth = 5; precision = 4; way = way.Whole }
+at_most_half = record { goal = codes "heads"; bound = record { num = 1; den = 2 }; region = []; depth = 5; precision = 4; way = way.Whole None }
 
 -- the words in another order and in both spellings, with a bound that isn't in lowest terms
 asks : job (codes "verify" ∷ codes "--depth=5" ∷ codes "--bound" ∷ codes "2/4" ∷ codes "--goal=heads" ∷ codes "--precision" ∷ codes "04" ∷ []) ≡ Ok (verify at_most_half)
@@ -44,7 +44,40 @@ asks_lumped = refl
 lumped_within : job (codes "lumped" ∷ codes "--goal=heads" ∷ codes "--bound=1/2" ∷ codes "--steps=4" ∷ []) ≡ Err field.Words
 lumped_within = refl
 
--- which `verify` isn't asked, and `bounded` isn't without
+-- with the least precision of a range, from 1 to the precision
+asks_from : job (codes "verify" ∷ codes "--from" ∷ codes "001" ∷ codes "--goal=heads" ∷ codes "--bound=1/2" ∷ codes "--depth=5" ∷ codes "--precision=4" ∷ []) ≡ Ok (verify (record at_most_half { way = way.Whole (Some 1) }))
+unfolding at_most_half gcd
+asks_from = refl
+
+from_the_precision : job (codes "verify" ∷ codes "--from=4" ∷ codes "--goal=heads" ∷ codes "--bound=1/2" ∷ codes "--depth=5" ∷ codes "--precision=4" ∷ []) ≡ Ok (verify (record at_most_half { way = way.Whole (Some 4) }))
+unfolding at_most_half gcd
+from_the_precision = refl
+
+from_above : job (codes "verify" ∷ codes "--from=5" ∷ codes "--goal=heads" ∷ codes "--bound=1/2" ∷ codes "--depth=5" ∷ codes "--precision=4" ∷ []) ≡ Err field.From
+unfolding gcd
+from_above = refl
+
+from_zero : job (codes "verify" ∷ codes "--from=0" ∷ codes "--goal=heads" ∷ codes "--bound=1/2" ∷ []) ≡ Err field.From
+unfolding gcd
+from_zero = refl
+
+from_four_digits : job (codes "verify" ∷ codes "--from=0001" ∷ codes "--goal=heads" ∷ codes "--bound=1/2" ∷ []) ≡ Err field.From
+unfolding gcd
+from_four_digits = refl
+
+-- the precision is told before
+precision_before_from : job (codes "verify" ∷ codes "--from=0" ∷ codes "--goal=heads" ∷ codes "--bound=1/2" ∷ codes "--precision=41" ∷ []) ≡ Err field.Precision
+unfolding gcd
+precision_before_from = refl
+
+-- which `bounded` and `lumped` aren't asked
+bounded_from : job (codes "bounded" ∷ codes "--goal=heads" ∷ codes "--bound=1/2" ∷ codes "--steps=4" ∷ codes "--from=1" ∷ []) ≡ Err field.Words
+bounded_from = refl
+
+lumped_from : job (codes "lumped" ∷ codes "--goal=heads" ∷ codes "--bound=1/2" ∷ codes "--from=1" ∷ []) ≡ Err field.Words
+lumped_from = refl
+
+-- a number of steps, which `verify` isn't asked, and `bounded` isn't without
 verify_within : job (codes "verify" ∷ codes "--goal=heads" ∷ codes "--bound=1/2" ∷ codes "--steps=4" ∷ []) ≡ Err field.Words
 verify_within = refl
 
@@ -97,6 +130,12 @@ checks = refl
 
 checks_nothing_more : job (codes "check" ∷ codes "x" ∷ []) ≡ Err field.Words
 checks_nothing_more = refl
+
+migrates : job (codes "migrate" ∷ []) ≡ Ok migrate
+migrates = refl
+
+migrates_nothing_more : job (codes "migrate" ∷ codes "x" ∷ []) ≡ Err field.Words
+migrates_nothing_more = refl
 
 generates : job (codes "generate" ∷ codes "00005" ∷ []) ≡ Ok (generate 5)
 generates = refl

@@ -21,7 +21,7 @@ use Rattle.clap.proofs.TakesLemmas.{leaf_takes}
 use Rattle.clap.proofs.WalkLemmas.{both, first_value-rows}
 use Rattle.clap.proofs.SimpleLemmas.{is_false, is_nil}
 use Rattle.lift_frac.specs.Written.{cut_at}
-use Rattle.plift_words.specs.Line.{Setting, attached, options, stands, value_of, is_option, is_value, are_options, are_asked, is_unlimited, is_verify, is_bounded, is_lumped, is_asking}
+use Rattle.plift_words.specs.Line.{Setting, attached, options, stands, value_of, is_option, is_value, are_options, are_asked, is_command, has, is_verify, is_bounded, is_lumped, is_asking}
 use Rattle.plift_words.proofs.Cuts.{neither, cut_parts, options_one, options_two, options_lone}
 use Rattle.plift_words.specs.Parser.{HasValues, verify_app}
 
@@ -41,6 +41,7 @@ data Known : Text → Text → Type 0 where
   depth : Known (codes "--depth") (codes "depth")
   precision : Known (codes "--precision") (codes "precision")
   steps : Known (codes "--steps") (codes "steps")
+  from : Known (codes "--from") (codes "from")
 
 -- waits for the value of an option
 abbrev waits : List Row → Text → Walk
@@ -64,6 +65,7 @@ name_walked name id region h = refl
 name_walked name id depth h = refl
 name_walked name id precision h = refl
 name_walked name id steps h = refl
+name_walked name id from h = refl
 
 name_passes : (name id : Text) → Known name id → (h : Held) → settle_passes rules false h ≡ true → turn_passes shape [] (walk_from h) name ≡ true
 unfolding shape verify_app
@@ -73,6 +75,7 @@ name_passes name id region h e = rw e refl
 name_passes name id depth h e = rw e refl
 name_passes name id precision h e = rw e refl
 name_passes name id steps h e = rw e refl
+name_passes name id from h e = rw e refl
 
 -- what doesn't begin with `-` is no option
 record IsNoFlag (v : Text) : Type 0 where
@@ -98,6 +101,7 @@ value_walked id v rows name region n = rw (n.long, n.short, n.marker) refl
 value_walked id v rows name depth n = rw (n.long, n.short, n.marker) refl
 value_walked id v rows name precision n = rw (n.long, n.short, n.marker) refl
 value_walked id v rows name steps n = rw (n.long, n.short, n.marker) refl
+value_walked id v rows name from n = rw (n.long, n.short, n.marker) refl
 
 value_passes : (id v : Text) (rows : List Row) (name : Text) → Known name id → IsNoFlag v → turn_passes shape [] (waits rows id) v ≡ true
 unfolding shape verify_app
@@ -107,6 +111,7 @@ value_passes id v rows name region n = rw (n.long, n.short, n.marker) refl
 value_passes id v rows name depth n = rw (n.long, n.short, n.marker) refl
 value_passes id v rows name precision n = rw (n.long, n.short, n.marker) refl
 value_passes id v rows name steps n = rw (n.long, n.short, n.marker) refl
+value_passes id v rows name from n = rw (n.long, n.short, n.marker) refl
 
 -- the rows after an option was used with a value
 abbrev used_with : Text → Text → List Row → List Row
@@ -120,6 +125,7 @@ one_walked name id v region h = refl
 one_walked name id v depth h = refl
 one_walked name id v precision h = refl
 one_walked name id v steps h = refl
+one_walked name id v from h = refl
 
 one_passes : (name id v : Text) → Known name id → (h : Held) → settle_passes rules false h ≡ true → has_row id (settled rules h).rows ≡ false
     → turn_passes shape [] (walk_from h) (name ++ code "=" ∷ v) ≡ true
@@ -130,6 +136,7 @@ one_passes name id v region h e fresh = rw (e, fresh) refl
 one_passes name id v depth h e fresh = rw (e, fresh) refl
 one_passes name id v precision h e fresh = rw (e, fresh) refl
 one_passes name id v steps h e fresh = rw (e, fresh) refl
+one_passes name id v from h e fresh = rw (e, fresh) refl
 
 -- ---- rows
 
@@ -159,6 +166,7 @@ used_new name id v region rows fresh = set_new id v rows fresh
 used_new name id v depth rows fresh = set_new id v rows fresh
 used_new name id v precision rows fresh = set_new id v rows fresh
 used_new name id v steps rows fresh = set_new id v rows fresh
+used_new name id v from rows fresh = set_new id v rows fresh
 
 -- what is held comes to these rows
 record Ready (h : Held) (rows : List Row) : Type 0 where
@@ -176,6 +184,7 @@ holds_passes name id v region rows fresh = rw fresh refl
 holds_passes name id v depth rows fresh = rw fresh refl
 holds_passes name id v precision rows fresh = rw fresh refl
 holds_passes name id v steps rows fresh = rw fresh refl
+holds_passes name id v from rows fresh = rw fresh refl
 
 holds_ready : (name id v : Text) → Known name id → (rows : List Row) → has_row id rows ≡ false → Ready (holds rows id v) (rows ++ row id v ∷ [])
 holds_ready name id v k rows fresh = record { settles = ap clean (used_new name id v k rows fresh); passes = holds_passes name id v k rows fresh }
@@ -192,17 +201,20 @@ named name word k e = subst (λ (w : Text). Known w (drop 2 w)) (sym ((bytes_eq-
 known : (name : Text) → is_option name ≡ true → Known name (drop 2 name)
 known name e =
     let is : Text → Bool = bytes_eq name in
-    elim (either (is (codes "--goal")) (list_any is (codes "--bound" ∷ codes "--region" ∷ codes "--depth" ∷ codes "--precision" ∷ codes "--steps" ∷ [])) e) [
+    elim (either (is (codes "--goal")) (list_any is (codes "--bound" ∷ codes "--region" ∷ codes "--depth" ∷ codes "--precision" ∷ codes "--steps" ∷ codes "--from" ∷ [])) e) [
       | inl g ↦ named name (codes "--goal") goal g
-      | inr e ↦ elim (either (is (codes "--bound")) (list_any is (codes "--region" ∷ codes "--depth" ∷ codes "--precision" ∷ codes "--steps" ∷ [])) e) [
+      | inr e ↦ elim (either (is (codes "--bound")) (list_any is (codes "--region" ∷ codes "--depth" ∷ codes "--precision" ∷ codes "--steps" ∷ codes "--from" ∷ [])) e) [
         | inl b ↦ named name (codes "--bound") bound b
-        | inr e ↦ elim (either (is (codes "--region")) (list_any is (codes "--depth" ∷ codes "--precision" ∷ codes "--steps" ∷ [])) e) [
+        | inr e ↦ elim (either (is (codes "--region")) (list_any is (codes "--depth" ∷ codes "--precision" ∷ codes "--steps" ∷ codes "--from" ∷ [])) e) [
           | inl r ↦ named name (codes "--region") region r
-          | inr e ↦ elim (either (is (codes "--depth")) (list_any is (codes "--precision" ∷ codes "--steps" ∷ [])) e) [
+          | inr e ↦ elim (either (is (codes "--depth")) (list_any is (codes "--precision" ∷ codes "--steps" ∷ codes "--from" ∷ [])) e) [
             | inl d ↦ named name (codes "--depth") depth d
-            | inr e ↦ elim (either (is (codes "--precision")) (list_any is (codes "--steps" ∷ [])) e) [
+            | inr e ↦ elim (either (is (codes "--precision")) (list_any is (codes "--steps" ∷ codes "--from" ∷ [])) e) [
               | inl p ↦ named name (codes "--precision") precision p
-              | inr e ↦ elim (either (is (codes "--steps")) false e) [ inl h ↦ named name (codes "--steps") steps h | inr none ↦ absurd (cc) ]
+              | inr e ↦ elim (either (is (codes "--steps")) (list_any is (codes "--from" ∷ [])) e) [
+                | inl h ↦ named name (codes "--steps") steps h
+                | inr e ↦ elim (either (is (codes "--from")) false e) [ inl v ↦ named name (codes "--from") from v | inr none ↦ absurd (cc) ]
+              ]
             ]
           ]
         ]
@@ -217,6 +229,7 @@ dashed name id region = refl
 dashed name id depth = refl
 dashed name id precision = refl
 dashed name id steps = refl
+dashed name id from = refl
 
 same_name : (n i m j : Text) → Known n i → Known m j → bytes_eq i j ≡ bytes_eq n m
 same_name n i m j a b = rw (dashed n i a, dashed m j b) refl
@@ -470,17 +483,17 @@ asked_line words e =
     let b = both (are_options (options words)) _ a.0 in
     record { all = b.0; has_goal = b.1; has_bound = a.1 }
 
--- a line with such a test of its options between two others
-between : (named rest : Bool) (words : List Text) → (named && are_asked (options words) && rest) ≡ true → PlainLine words
-between named rest words e = asked_line words (both named _ (both (named && are_asked (options words)) rest e).0).1
+-- a line of this command
+of_command : (name command : Text) (words : List Text) → is_command name (command ∷ words) ≡ true → PlainLine words
+of_command name command words e = asked_line words (both (bytes_eq command name) _ e).1
 
 plain_line : (command : Text) (words : List Text) → is_asking (command ∷ words) ≡ true → PlainLine words
 plain_line command words e = elim (either (is_verify (command ∷ words) || is_bounded (command ∷ words)) (is_lumped (command ∷ words)) e) [
   | inl o ↦ elim (either (is_verify (command ∷ words)) (is_bounded (command ∷ words)) o) [
-    | inl v ↦ between (bytes_eq command (codes "verify")) (not (stands (codes "--steps") (options words))) words v
-    | inr b ↦ between (bytes_eq command (codes "bounded")) (stands (codes "--steps") (options words)) words b
+    | inl v ↦ of_command (codes "verify") command words (both (is_command (codes "verify") (command ∷ words)) _ v).0
+    | inr b ↦ of_command (codes "bounded") command words (both (is_command (codes "bounded") (command ∷ words)) _ (both (is_command (codes "bounded") (command ∷ words) && has (codes "--steps") (command ∷ words)) _ b).0).0
   ]
-  | inr l ↦ between (bytes_eq command (codes "lumped")) (not (stands (codes "--steps") (options words))) words l
+  | inr l ↦ of_command (codes "lumped") command words (both (is_command (codes "lumped") (command ∷ words)) _ (both (is_command (codes "lumped") (command ∷ words) && not (has (codes "--steps") (command ∷ words))) _ l).0).0
 ]
 
 -- the parser takes the words, and what it finds in them
@@ -531,4 +544,5 @@ values_found a words (Ok m) is plain h = record {
   depth = value_found a words m is plain h (codes "--depth") (codes "depth") depth;
   precision = value_found a words m is plain h (codes "--precision") (codes "precision") precision;
   steps = value_found a words m is plain h (codes "--steps") (codes "steps") steps;
+  from = value_found a words m is plain h (codes "--from") (codes "from") from;
 }

@@ -9,7 +9,7 @@ use Rattle.lift_grid.specs.Rectangle.{most_halvings}
 use Rattle.lift_grid.specs.Region.{◌>>=◌}
 use Rattle.corner_lift.specs.Case.{most_precision}
 use Rattle.lift_cert.specs.declared.bound.Bound.{Bound}
-use Rattle.plift_words.specs.Line.{is_lumped, is_asking, is_check, word_behind, is_plain, options, value_of}
+use Rattle.plift_words.specs.Line.{is_lumped, is_asking, is_check, is_migrate, word_behind, is_plain, options, value_of}
 use Rattle.plift_words.specs.Values.{goal_of, bound_of, option_number, steps_of, blocks_of}
 use Rattle.plift_words.specs.Job.{JobData, way_in, verify_job, blocks_job, other_job, job}
 use Rattle.plift_words.specs.Given.{IsOfVerify}
@@ -18,28 +18,36 @@ use Rattle.plift_words.specs.declared.job.Field.{Field}
 use Rattle.plift_words.specs.declared.job.Field.TheVariants as field
 
 -- the job of the values
-abbrev job_by : Bool → Option (List ℕ) → Option Bound → List ℕ → Option ℕ → Option ℕ → Option (List ℕ) → Result JobData Field
-job_by lumps goal bound region depth precision steps = do
+abbrev job_by : Bool → Option (List ℕ) → Option Bound → List ℕ → Option ℕ → Option ℕ → Option (List ℕ) → Option (List ℕ) → Result JobData Field
+job_by lumps goal bound region depth precision steps from = do
   goal ← ok_or goal field.Goal
   bound ← ok_or bound field.Bound
   depth ← ok_or depth field.Depth
   precision ← ok_or precision field.Precision
-  asked_on ← way_in lumps steps
+  asked_on ← way_in lumps precision steps from
   Ok (JobData.verify (record { goal = goal; bound = bound; region = region; depth = depth; precision = precision; way = asked_on }))
 
-of_steps : (lumps : Bool) (goal : List ℕ) (bound : Bound) (region : List ℕ) (depth precision : ℕ) (word : List ℕ) (steps : Option ℕ) → steps_of word ≡ steps
-    → IsOfVerify (job_by lumps (Some goal) (Some bound) region (Some depth) (Some precision) (Some word))
-of_steps l g b r d p word (Some h) is = rw is tt
-of_steps l g b r d p word None is = rw is tt
+of_steps : (lumps : Bool) (goal : List ℕ) (bound : Bound) (region : List ℕ) (depth precision : ℕ) (word : List ℕ) (from : Option (List ℕ)) (steps : Option ℕ) → steps_of word ≡ steps
+    → IsOfVerify (job_by lumps (Some goal) (Some bound) region (Some depth) (Some precision) (Some word) from)
+of_steps l g b r d p word v (Some h) is = rw is tt
+of_steps l g b r d p word v None is = rw is tt
+
+of_from : (goal : List ℕ) (bound : Bound) (region : List ℕ) (depth precision : ℕ) (word : List ℕ) (from : Option ℕ) → option_number 1 precision word ≡ from
+    → IsOfVerify (job_by false (Some goal) (Some bound) region (Some depth) (Some precision) None (Some word))
+of_from g b r d p word (Some v) is = rw is tt
+of_from g b r d p word None is = rw is tt
 
 -- it is that of a line of `verify`, `bounded` or `lumped`
-of_verify : (lumps : Bool) (goal : Option (List ℕ)) (bound : Option Bound) (region : List ℕ) (depth precision : Option ℕ) (steps : Option (List ℕ)) → IsOfVerify (job_by lumps goal bound region depth precision steps)
-of_verify l (Some g) (Some b) r (Some d) (Some p) None = tt
-of_verify l (Some g) (Some b) r (Some d) (Some p) (Some word) = of_steps l g b r d p word (steps_of word) refl
-of_verify l None b r d p h = tt
-of_verify l (Some g) None r d p h = tt
-of_verify l (Some g) (Some b) r None p h = tt
-of_verify l (Some g) (Some b) r (Some d) None h = tt
+of_verify : (lumps : Bool) (goal : Option (List ℕ)) (bound : Option Bound) (region : List ℕ) (depth precision : Option ℕ) (steps from : Option (List ℕ))
+    → IsOfVerify (job_by lumps goal bound region depth precision steps from)
+of_verify true (Some g) (Some b) r (Some d) (Some p) None v = tt
+of_verify false (Some g) (Some b) r (Some d) (Some p) None None = tt
+of_verify false (Some g) (Some b) r (Some d) (Some p) None (Some word) = of_from g b r d p word (option_number 1 p word) refl
+of_verify l (Some g) (Some b) r (Some d) (Some p) (Some word) v = of_steps l g b r d p word v (steps_of word) refl
+of_verify l None b r d p h v = tt
+of_verify l (Some g) None r d p h v = tt
+of_verify l (Some g) (Some b) r None p h v = tt
+of_verify l (Some g) (Some b) r (Some d) None h v = tt
 
 -- the job of the words as a line of `verify`, `bounded` or `lumped`
 abbrev verified : List (List ℕ) → Result JobData Field
@@ -49,7 +57,8 @@ of_verified : (words : List (List ℕ)) → IsOfVerify (verified words)
 of_verified words =
     let value = λ (name : List ℕ). value_of name (options (drop 1 words)) in
     of_verify (is_lumped words) (option_and_then goal_of (value (codes "--goal"))) (option_and_then bound_of (value (codes "--bound"))) (unwrap_or (value (codes "--region")) [])
-    (option_number 0 most_halvings (unwrap_or (value (codes "--depth")) (codes "0"))) (option_number 1 most_precision (unwrap_or (value (codes "--precision")) (codes "24"))) (value (codes "--steps"))
+    (option_number 0 most_halvings (unwrap_or (value (codes "--depth")) (codes "0"))) (option_number 1 most_precision (unwrap_or (value (codes "--precision")) (codes "24")))
+    (value (codes "--steps")) (value (codes "--from"))
 
 of_first : (b : Bool) (x y : Result JobData Field) → b ≡ true → IsOfVerify x → IsOfVerify (if b then x else y)
 of_first true x y e h = h
@@ -62,42 +71,44 @@ verify_lines words e = of_first (is_asking words) (verified words) (other_job wo
 -- the values that the parser found on a plain line make its job
 pub found_job : (words : List (List ℕ)) (found : Found) (lumps : Bool) → lumps ≡ is_lumped words → is_asking words ≡ true → HasValues found (options (drop 1 words)) → job words ≡ verify_job lumps (λ name. first_value found (drop 2 name))
 found_job [] found lumps is e h = absurd (cc)
-found_job (command ∷ words) found lumps is e h = rw (is, e, h.goal, h.bound, h.region, h.depth, h.precision, h.steps) refl
+found_job (command ∷ words) found lumps is e h = rw (is, e, h.goal, h.bound, h.region, h.depth, h.precision, h.steps, h.from) refl
 
 -- ---- lines of the other commands
 
 -- the job of a line, by its tests
-abbrev job_of : Result JobData Field → Bool → Bool → Option (List ℕ) → Option (List ℕ) → Result JobData Field
-job_of verified verifies checks generates tests = if verifies then verified else (if checks then Ok JobData.check else (elim generates [
+abbrev job_of : Result JobData Field → Bool → Bool → Bool → Option (List ℕ) → Option (List ℕ) → Result JobData Field
+job_of verified verifies checks migrates generates tests = if verifies then verified else if checks then Ok JobData.check else if migrates then Ok JobData.migrate else (elim generates [
   | Some word ↦ blocks_job JobData.generate word
   | None ↦ elim tests [ Some word ↦ blocks_job JobData.selftest word | None ↦ Err field.Words ]
-]))
+])
 
 -- a number of blocks is never at fault as a whole line
 blocks_never : (make : ℕ → JobData) (blocks : Option ℕ) → (ok_or blocks field.Blocks >>= λ n. Ok (make n)) ≡ Err field.Words → ⊥
 blocks_never make None e = absurd (cc)
 blocks_never make (Some n) e = absurd (cc)
 
-others_by : (verified : Result JobData Field) (verifies checks : Bool) (generates tests : Option (List ℕ))
-    → (verifies || checks || is_some generates || is_some tests) ≡ false → job_of verified verifies checks generates tests ≡ Err field.Words
-others_by v true c g t e = absurd (cc)
-others_by v false true g t e = absurd (cc)
-others_by v false false (Some w) t e = absurd (cc)
-others_by v false false None (Some w) e = absurd (cc)
-others_by v false false None None e = refl
+others_by : (verified : Result JobData Field) (verifies checks migrates : Bool) (generates tests : Option (List ℕ))
+    → (verifies || checks || migrates || is_some generates || is_some tests) ≡ false → job_of verified verifies checks migrates generates tests ≡ Err field.Words
+others_by v true c m g t e = absurd (cc)
+others_by v false true m g t e = absurd (cc)
+others_by v false false true g t e = absurd (cc)
+others_by v false false false (Some w) t e = absurd (cc)
+others_by v false false false None (Some w) e = absurd (cc)
+others_by v false false false None None e = refl
 
-plain_by : (verified : Result JobData Field) (verifies checks : Bool) (generates tests : Option (List ℕ))
-    → (verified ≡ Err field.Words → ⊥) → job_of verified verifies checks generates tests ≡ Err field.Words → (verifies || checks || is_some generates || is_some tests) ≡ false
-plain_by v true c g t never e = absurd (never e)
-plain_by v false true g t never e = absurd (cc)
-plain_by v false false (Some w) t never e = absurd (blocks_never JobData.generate (blocks_of w) e)
-plain_by v false false None (Some w) never e = absurd (blocks_never JobData.selftest (blocks_of w) e)
-plain_by v false false None None never e = refl
+plain_by : (verified : Result JobData Field) (verifies checks migrates : Bool) (generates tests : Option (List ℕ))
+    → (verified ≡ Err field.Words → ⊥) → job_of verified verifies checks migrates generates tests ≡ Err field.Words → (verifies || checks || migrates || is_some generates || is_some tests) ≡ false
+plain_by v true c m g t never e = absurd (never e)
+plain_by v false true m g t never e = absurd (cc)
+plain_by v false false true g t never e = absurd (cc)
+plain_by v false false false (Some w) t never e = absurd (blocks_never JobData.generate (blocks_of w) e)
+plain_by v false false false None (Some w) never e = absurd (blocks_never JobData.selftest (blocks_of w) e)
+plain_by v false false false None None never e = refl
 
 pub others_at_fault : (words : List (List ℕ)) → is_plain words ≡ false → job words ≡ Err field.Words
-others_at_fault words e = others_by (verified words) (is_asking words) (is_check words) (word_behind (codes "generate") words) (word_behind (codes "selftest") words) e
+others_at_fault words e = others_by (verified words) (is_asking words) (is_check words) (is_migrate words) (word_behind (codes "generate") words) (word_behind (codes "selftest") words) e
 
 pub plain_never : (words : List (List ℕ)) → job words ≡ Err field.Words → is_plain words ≡ false
 plain_never words e =
-    plain_by (verified words) (is_asking words) (is_check words) (word_behind (codes "generate") words) (word_behind (codes "selftest") words)
+    plain_by (verified words) (is_asking words) (is_check words) (is_migrate words) (word_behind (codes "generate") words) (word_behind (codes "selftest") words)
     (λ is. subst IsOfVerify is (of_verified words)) e

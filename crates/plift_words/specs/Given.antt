@@ -28,6 +28,7 @@ verify_data j = record { goal = j.goal.now; bound = j.bound; region = j.region.n
 abbrev pub job_data : Job → JobData
 job_data (code.Verify j) = JobData.verify (verify_data j)
 job_data code.Check = JobData.check
+job_data code.Migrate = JobData.migrate
 job_data (code.Generate ladder) = JobData.generate ladder.blocks
 job_data (code.Selftest ladder) = JobData.selftest ladder.blocks
 
@@ -44,6 +45,7 @@ IsOfVerify (Err field.Bound) = ⊤
 IsOfVerify (Err field.Depth) = ⊤
 IsOfVerify (Err field.Precision) = ⊤
 IsOfVerify (Err field.Steps) = ⊤
+IsOfVerify (Err field.From) = ⊤
 IsOfVerify _ = ⊥
 
 -- The answer to a line: the job that it asks for, or its part at fault. Want of memory comes only where it is a plain line of `verify`, `bounded` or `lumped`.

@@ -5,7 +5,7 @@ use Rattle.lift_grid.specs.Rectangle.{most_halvings}
 use Rattle.lift_grid.specs.Region.{◌>>=◌}
 use Rattle.corner_lift.specs.Case.{most_precision}
 use Rattle.lift_cert.specs.declared.bound.Bound.{Bound}
-use Rattle.plift_words.specs.Line.{is_lumped, is_asking, is_check, word_behind, options, value_of}
+use Rattle.plift_words.specs.Line.{is_lumped, is_asking, is_check, is_migrate, word_behind, options, value_of}
 use Rattle.plift_words.specs.Values.{goal_of, bound_of, option_number, steps_of, blocks_of}
 use Rattle.plift_words.specs.declared.job.Field.{Field}
 use Rattle.plift_words.specs.declared.job.Field.TheVariants as field
@@ -27,24 +27,31 @@ pub data JobData : Type 0 where
   verify : VerifyData → JobData
   -- a report is to be checked
   check : JobData
+  -- the text of a report is to be written as one with a range of precisions
+  migrate : JobData
   -- the ladder of so many blocks is to be written
   generate : ℕ → JobData
   -- the ladder of so many blocks is to be verified, and its report checked
   selftest : ℕ → JobData
 
--- What a bound is asked on: within a number of steps where their option stands there, and else by whether it asks to lump.
-abbrev pub way_in : Bool → Option (List ℕ) → Result Way Field
-way_in lumps None = Ok (if lumps then way.Lumped else way.Whole)
-way_in lumps (Some word) = ok_or (steps_of word) field.Steps >>= λ steps. Ok (way.Within steps)
+-- the least precision of a range up to this one, where its option stands there
+abbrev pub from_in : ℕ → Option (List ℕ) → Result (Option ℕ) Field
+from_in precision None = Ok None
+from_in precision (Some word) = ok_or (option_number 1 precision word) field.From >>= λ from. Ok (Some from)
 
--- The job of a line of `verify`, `bounded` or `lumped`, by whether it asks to lump and the words behind its options, or the first of goal, bound, depth, precision and steps that is out of its grammar or range. Without its option the region's text is empty, the depth is 0, and the precision is 24. No text of a region is at fault here.
+-- What a bound is asked on, by whether it asks to lump, the precision, and the words of the options for steps and for a range: within a number of steps where their option stands there, by the quotient where it asks to lump, and else with a range where one is told.
+abbrev pub way_in : Bool → ℕ → Option (List ℕ) → Option (List ℕ) → Result Way Field
+way_in lumps precision (Some word) from = ok_or (steps_of word) field.Steps >>= λ steps. Ok (way.Within steps)
+way_in lumps precision None from = if lumps then Ok way.Lumped else (from_in precision from >>= λ least. Ok (way.Whole least))
+
+-- The job of a line of `verify`, `bounded` or `lumped`, by whether it asks to lump and the words behind its options, or the first of goal, bound, depth, precision, and steps or the least precision that is out of its grammar or range. Without its option the region's text is empty, the depth is 0, and the precision is 24. No text of a region is at fault here.
 abbrev pub verify_job : Bool → (List ℕ → Option (List ℕ)) → Result JobData Field
 verify_job lumps given = do
   goal ← ok_or (option_and_then goal_of (given (codes "--goal"))) field.Goal
   bound ← ok_or (option_and_then bound_of (given (codes "--bound"))) field.Bound
   depth ← ok_or (option_number 0 most_halvings (unwrap_or (given (codes "--depth")) (codes "0"))) field.Depth
   precision ← ok_or (option_number 1 most_precision (unwrap_or (given (codes "--precision")) (codes "24"))) field.Precision
-  asked_on ← way_in lumps (given (codes "--steps"))
+  asked_on ← way_in lumps precision (given (codes "--steps")) (given (codes "--from"))
   Ok (JobData.verify (record { goal = goal; bound = bound; region = unwrap_or (given (codes "--region")) []; depth = depth; precision = precision; way = asked_on }))
 
 -- the job of a number of blocks, or that it is at fault
@@ -53,7 +60,7 @@ blocks_job make word = ok_or (blocks_of word) field.Blocks >>= λ blocks. Ok (ma
 
 -- the job of a line of another command
 abbrev pub other_job : List (List ℕ) → Result JobData Field
-other_job words = if is_check words then Ok JobData.check else (elim (word_behind (codes "generate") words) [
+other_job words = if is_check words then Ok JobData.check else if is_migrate words then Ok JobData.migrate else (elim (word_behind (codes "generate") words) [
   | Some word ↦ blocks_job JobData.generate word
   | None ↦ elim (word_behind (codes "selftest") words) [ Some word ↦ blocks_job JobData.selftest word | None ↦ Err field.Words ]
 ])

@@ -1,6 +1,6 @@
 -- The words of the command line, and which lines are plain.
 use Prim.Native.Char.{code}
-use Rattle.std.specs.Prelude.{◌&&◌, ◌||◌, is_some, ℕ, List, [], ◌∷◌, codes, Option, Some, None, Bool, true, false, not, option_and_then, if◌then◌else◌, nat_eq}
+use Rattle.std.specs.Prelude.{◌&&◌, ◌||◌, is_some, ℕ, List, [], ◌∷◌, codes, drop, Option, Some, None, Bool, true, false, not, option_and_then, if◌then◌else◌, nat_eq}
 use Rattle.std.specs.List.{starts_with, list_any, find}
 use Rattle.std.specs.Str.{bytes_eq}
 use Rattle.lift_frac.specs.Written.{cut_at}
@@ -38,7 +38,7 @@ value_of name settings = option_and_then (λ s. s.value) (find (λ s. bytes_eq s
 
 -- the names of the options of `verify`, `bounded` and `lumped`
 abbrev pub is_option : List ℕ → Bool
-is_option name = list_any (bytes_eq name) (codes "--goal" ∷ codes "--bound" ∷ codes "--region" ∷ codes "--depth" ∷ codes "--precision" ∷ codes "--steps" ∷ [])
+is_option name = list_any (bytes_eq name) (codes "--goal" ∷ codes "--bound" ∷ codes "--region" ∷ codes "--depth" ∷ codes "--precision" ∷ codes "--steps" ∷ codes "--from" ∷ [])
 
 -- a value is there, and doesn't begin with `-`
 abbrev pub is_value : Option (List ℕ) → Bool
@@ -56,38 +56,49 @@ are_asked settings = are_options settings && stands (codes "--goal") settings &&
 
 -- ---- plain lines, by their commands
 
--- this command, and behind it its options in any order, the goal and the bound among them, and no number of steps
-abbrev pub is_unlimited : List ℕ → List (List ℕ) → Bool
-is_unlimited name [] = false
-is_unlimited name (command ∷ words) = bytes_eq command name && are_asked (options words) && not (stands (codes "--steps") (options words))
+-- this command, and behind it options in any order, the goal and the bound among them
+abbrev pub is_command : List ℕ → List (List ℕ) → Bool
+is_command name [] = false
+is_command name (command ∷ words) = bytes_eq command name && are_asked (options words)
 
--- the command `verify` and its options
+-- an option of this name stands behind the command
+abbrev pub has : List ℕ → List (List ℕ) → Bool
+has name words = stands name (options (drop 1 words))
+
+-- the command `verify` and its options, without a number of steps
 abbrev pub is_verify : List (List ℕ) → Bool
-is_verify words = is_unlimited (codes "verify") words
+is_verify words = is_command (codes "verify") words && not (has (codes "--steps") words)
 
--- the command `bounded`, and behind it the same options and a number of steps
+-- the command `bounded`, and behind it a number of steps and the options of `verify`, without a range of precisions
 abbrev pub is_bounded : List (List ℕ) → Bool
-is_bounded [] = false
-is_bounded (command ∷ words) = bytes_eq command (codes "bounded") && are_asked (options words) && stands (codes "--steps") (options words)
+is_bounded words = is_command (codes "bounded") words && has (codes "--steps") words && not (has (codes "--from") words)
 
--- the command `lumped`, and behind it the options of `verify`
+-- the command `lumped`, and behind it the options of `verify`, without a range of precisions
 abbrev pub is_lumped : List (List ℕ) → Bool
-is_lumped words = is_unlimited (codes "lumped") words
+is_lumped words = is_command (codes "lumped") words && not (has (codes "--steps") words) && not (has (codes "--from") words)
 
 -- one of these three
 abbrev pub is_asking : List (List ℕ) → Bool
 is_asking words = is_verify words || is_bounded words || is_lumped words
 
+-- this command, and nothing behind it
+abbrev pub is_alone : List ℕ → List (List ℕ) → Bool
+is_alone name (command ∷ []) = bytes_eq command name
+is_alone name _ = false
+
 -- the command `check`, and nothing behind it
 abbrev pub is_check : List (List ℕ) → Bool
-is_check (command ∷ []) = bytes_eq command (codes "check")
-is_check _ = false
+is_check words = is_alone (codes "check") words
+
+-- the command `migrate`, and nothing behind it
+abbrev pub is_migrate : List (List ℕ) → Bool
+is_migrate words = is_alone (codes "migrate") words
 
 -- the one word behind this command, where it doesn't begin with `-`
 abbrev pub word_behind : List ℕ → List (List ℕ) → Option (List ℕ)
 word_behind name (command ∷ word ∷ []) = if bytes_eq command name && is_value (Some word) then Some word else None
 word_behind name _ = None
 
--- a plain line: one of the six commands, and what stands behind it
+-- a plain line: one of the seven commands, and what stands behind it
 abbrev pub is_plain : List (List ℕ) → Bool
-is_plain words = is_asking words || is_check words || is_some (word_behind (codes "generate") words) || is_some (word_behind (codes "selftest") words)
+is_plain words = is_asking words || is_check words || is_migrate words || is_some (word_behind (codes "generate") words) || is_some (word_behind (codes "selftest") words)

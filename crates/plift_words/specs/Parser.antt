@@ -17,7 +17,8 @@ verify_app =
     let region = with_rule bound (option (codes "region") false) in
     let depth = with_rule region (option (codes "depth") false) in
     let precision = with_rule depth (option (codes "precision") false) in
-    with_rule precision (option (codes "steps") false)
+    let steps = with_rule precision (option (codes "steps") false) in
+    with_rule steps (option (codes "from") false)
 
 -- the values that the parser found are those of the options
 pub record HasValues (found : Found) (settings : List Setting) : Type 0 where
@@ -27,3 +28,4 @@ pub record HasValues (found : Found) (settings : List Setting) : Type 0 where
   pub depth : first_value found (codes "depth") ≡ value_of (codes "--depth") settings
   pub precision : first_value found (codes "precision") ≡ value_of (codes "--precision") settings
   pub steps : first_value found (codes "steps") ≡ value_of (codes "--steps") settings
+  pub from : first_value found (codes "from") ≡ value_of (codes "--from") settings

@@ -7,3 +7,8 @@ use Rattle.plift_words.specs.declared.way.Way.TheVariants as way
 abbrev pub steps_told : Way → Option ℕ
 steps_told (way.Within h) = Some h
 steps_told _ = None
+
+-- the least precision of a range, where one is told
+abbrev pub from_told : Way → Option ℕ
+from_told (way.Whole from) = from
+from_told _ = None

@@ -1,18 +1,17 @@
 // Reads the command line.
 ghost use Rattle.std.specs.Prelude.{◌≡◌, ◌≤◌, codes, drop, [], map, true, option_and_then};
 ghost use Rattle.std.specs.Prelude.{string_bytes, IfOk, IfSome, if◌then◌else◌};
-ghost use Rattle.plift_words.specs.declared.way.Way.TheVariants.{Lumped, Whole};
 ghost use Rattle.std.specs.Option.{option_map, unwrap_or};
 ghost use Rattle.clap.specs.Words.{found_of, first_value};
 ghost use Rattle.plift_words.specs.Line.{is_lumped, is_asking};
 ghost use Rattle.plift_words.specs.Values.{goal_of, bound_of, option_number, most_steps, blocks_of};
-ghost use Rattle.plift_words.specs.Job.{way_in, verify_job, other_job};
-ghost use Rattle.plift_words.specs.Way.{steps_told};
+ghost use Rattle.plift_words.specs.Job.{from_in, way_in, verify_job, other_job};
+ghost use Rattle.plift_words.specs.Way.{steps_told, from_told};
 ghost use Rattle.plift_words.specs.Given.{answer_data, asked, Asks};
 
 use crate::error::WordsError;
 use crate::job::{Field, Job, VerifyJob};
-use crate::line::{is_asking, is_check, is_lumped, word_behind};
+use crate::line::{is_asking, is_check, is_lumped, is_migrate, word_behind};
 use crate::parser::parse;
 use crate::values::{bound_of, goal_of, ladder_of, option_number, steps_of};
 use crate::way::Way;
@@ -64,21 +63,28 @@ fn number_in(matches: &ArgMatches<'_>, id: &str, default: &str, low: u32, high: 
     option_number(matches.get_str(id).unwrap_or(default), low, high)
 }
 
-// What a bound on any number of steps is asked on.
-fn unlimited(lumps: bool) -> Way
-    ensures { result ≡ if lumps then Lumped else Whole }
+// The least precision of a range up to this one, where one is told.
+fn from_in(matches: &ArgMatches<'_>, precision: u32) -> Result<Option<u32>, Field>
+    ensures value { result ≡ from_in precision (first_value (found_of matches.now) (codes "from")) }
+    ensures range { IfOk result (λ told. IfSome told (λ from. (1 ≤ from) × (from ≤ precision))) }
 {
-    if lumps { Way::Lumped } else { Way::Whole }
+    match matches.get_str("from") {
+        Some(word) => Ok(Some(option_number(word, 1, precision).ok_or(Field::From)?)),
+        None => Ok(None),
+    }
 }
 
 // What the bound is asked on: within how many steps, where their option stands there.
-fn way_in(matches: &ArgMatches<'_>, lumps: bool) -> Result<Way, Field>
-    ensures value { result ≡ way_in lumps (first_value (found_of matches.now) (codes "steps")) }
-    ensures range { IfOk result (λ way. IfSome (steps_told way) (λ h. (1 ≤ h) × (h ≤ most_steps))) }
+fn way_in(matches: &ArgMatches<'_>, lumps: bool, precision: u32) -> Result<Way, Field>
+    ensures value { let given = first_value (found_of matches.now) in
+        result ≡ way_in lumps precision (given (codes "steps")) (given (codes "from")) }
+    ensures steps { IfOk result (λ way. IfSome (steps_told way) (λ h. (1 ≤ h) × (h ≤ most_steps))) }
+    ensures from { IfOk result (λ way. IfSome (from_told way) (λ v. (1 ≤ v) × (v ≤ precision))) }
 {
     match matches.get_str("steps") {
         Some(word) => Ok(Way::Within(steps_of(word).ok_or(Field::Steps)?)),
-        None => Ok(unlimited(lumps)),
+        None if lumps => Ok(Way::Lumped),
+        None => Ok(Way::Whole(from_in(matches, precision)?)),
     }
 }
 
@@ -93,7 +99,7 @@ fn job_in<'a>(matches: &ArgMatches<'a>, lumps: bool) -> Result<Job<'a>, Field>
     let precision = number_in(matches, "precision", DEFAULT_PRECISION, 1, MOST_PRECISION).ok_or(
         Field::Precision,
     )?;
-    let way = way_in(matches, lumps)?;
+    let way = way_in(matches, lumps, precision)?;
     Ok(Job::Verify(VerifyJob {
         goal,
         bound,
@@ -125,6 +131,9 @@ fn other_job(words: &[String]) -> Result<Job<'static>, Field>
 {
     if is_check(words) {
         return Ok(Job::Check);
+    }
+    if is_migrate(words) {
+        return Ok(Job::Migrate);
     }
     if let Some(word) = word_behind("generate", words) {
         return Ok(Job::Generate(ladder_of(word).ok_or(Field::Blocks)?));

@@ -4,7 +4,7 @@ ghost use Rattle.std.specs.Option.{ForSome};
 ghost use Rattle.lift_grid.specs.Rectangle.{most_halvings};
 ghost use Rattle.corner_lift.specs.Case.{most_precision};
 ghost use Rattle.plift_words.specs.Values.{most_steps};
-ghost use Rattle.plift_words.specs.Way.{steps_told};
+ghost use Rattle.plift_words.specs.Way.{steps_told, from_told};
 
 use crate::way::Way;
 use lift_cert::Bound;
@@ -20,6 +20,8 @@ pub enum Field {
     Depth,
     Precision,
     Steps,
+    /// The least precision of a range.
+    From,
     /// The number of blocks.
     Blocks,
 }
@@ -35,10 +37,12 @@ pub struct VerifyJob<'a> {
     pub depth: u32,
     /// A certificate's numbers are over 2^precision, from 1 to 40.
     pub precision: u32,
-    /// What the bound is asked on; a number of steps is from 1 to 64.
+    /// What the bound is asked on; a number of steps is from 1 to 64, the least precision of a range from 1 to the
+    /// greatest.
     pub way: Way,
     ghost in_range: { (depth ≤ most_halvings) × (1 ≤ precision) × (precision ≤ most_precision) },
     ghost steps_in_range: { ForSome (steps_told way) (λ h. (1 ≤ h) × (h ≤ most_steps)) },
+    ghost from_in_range: { ForSome (from_told way) (λ from. (1 ≤ from) × (from ≤ precision)) },
 }
 
 /// What the words ask for: a command, with what it is asked.
@@ -48,6 +52,8 @@ pub enum Job<'a> {
     Verify(VerifyJob<'a>),
     /// Checks a report.
     Check,
+    /// Writes a report with a range of precisions.
+    Migrate,
     /// Writes a ladder.
     Generate(Ladder),
     /// Verifies a ladder and checks the report.

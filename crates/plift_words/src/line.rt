@@ -6,8 +6,8 @@ ghost use Rattle.lift_bytes.specs.Bytes.{code};
 ghost use Rattle.lift_frac.specs.Written.{cut_at};
 ghost use Rattle.plift_words.specs.Line.{attached, options, stands};
 ghost use Rattle.plift_words.specs.Line.{is_option, is_value, are_options, are_asked};
-ghost use Rattle.plift_words.specs.Line.{is_unlimited, is_bounded, is_lumped, is_asking, is_check};
-ghost use Rattle.plift_words.specs.Line.{word_behind};
+ghost use Rattle.plift_words.specs.Line.{is_command, has, is_verify, is_bounded, is_lumped, is_asking};
+ghost use Rattle.plift_words.specs.Line.{is_alone, is_check, is_migrate, word_behind};
 ghost use Rattle.plift_words.specs.Given.{setting_of};
 
 use lift_frac::cut_at;
@@ -90,6 +90,7 @@ fn is_option(name: &str) -> bool
         || name == "--depth"
         || name == "--precision"
         || name == "--steps"
+        || name == "--from"
 }
 
 fn is_value(value: Option<&str>) -> bool
@@ -130,30 +131,43 @@ fn are_asked(words: &[String]) -> bool
     are_options(words) && stands("--goal", words) && stands("--bound", words)
 }
 
-// Whether the line is this command, and behind it its options, without a number of steps.
-fn is_unlimited(name: &str, words: &[String]) -> bool
-    ensures { result ≡ is_unlimited name.now (map string_bytes words.now) }
+// Whether the line is this command, and behind it options, the goal and the bound among them.
+fn is_command(name: &str, words: &[String]) -> bool
+    ensures { result ≡ is_command name.now (map string_bytes words.now) }
 {
     let [command, options @ ..] = words else {
         return false;
     };
-    command.as_str() == name && are_asked(options) && !stands("--steps", options)
+    command.as_str() == name && are_asked(options)
+}
+
+// Whether an option of this name stands behind the command.
+fn has(name: &str, words: &[String]) -> bool
+    ensures { result ≡ has name.now (map string_bytes words.now) }
+{
+    match words {
+        [_, options @ ..] => stands(name, options),
+        [] => false,
+    }
+}
+
+fn is_verify(words: &[String]) -> bool
+    ensures { result ≡ is_verify (map string_bytes words.now) }
+{
+    is_command("verify", words) && !has("--steps", words)
 }
 
 fn is_bounded(words: &[String]) -> bool
     ensures { result ≡ is_bounded (map string_bytes words.now) }
 {
-    let [command, options @ ..] = words else {
-        return false;
-    };
-    command.as_str() == "bounded" && are_asked(options) && stands("--steps", options)
+    is_command("bounded", words) && has("--steps", words) && !has("--from", words)
 }
 
-/// Whether the line is the command `lumped`, and behind it the options of `verify`.
+/// Whether the line is the command `lumped`, and behind it the options of `verify`, without a range of precisions.
 pub fn is_lumped(words: &[String]) -> bool
     ensures { result ≡ is_lumped (map string_bytes words.now) }
 {
-    is_unlimited("lumped", words)
+    is_command("lumped", words) && !has("--steps", words) && !has("--from", words)
 }
 
 /// Whether the line is the command `verify`, `bounded` or `lumped`, and behind it its options with their values, in
@@ -161,17 +175,31 @@ pub fn is_lumped(words: &[String]) -> bool
 pub fn is_asking(words: &[String]) -> bool
     ensures { result ≡ is_asking (map string_bytes words.now) }
 {
-    is_unlimited("verify", words) || is_bounded(words) || is_lumped(words)
+    is_verify(words) || is_bounded(words) || is_lumped(words)
+}
+
+// Whether the line is this command, and nothing behind it.
+fn is_alone(name: &str, words: &[String]) -> bool
+    ensures { result ≡ is_alone name.now (map string_bytes words.now) }
+{
+    match words {
+        [command] => command.as_str() == name,
+        _ => false,
+    }
 }
 
 /// Whether the line is the command `check`, and nothing behind it.
 pub fn is_check(words: &[String]) -> bool
     ensures { result ≡ is_check (map string_bytes words.now) }
 {
-    match words {
-        [command] => command.as_str() == "check",
-        _ => false,
-    }
+    is_alone("check", words)
+}
+
+/// Whether the line is the command `migrate`, and nothing behind it.
+pub fn is_migrate(words: &[String]) -> bool
+    ensures { result ≡ is_migrate (map string_bytes words.now) }
+{
+    is_alone("migrate", words)
 }
 
 /// The one word behind this command, where it doesn't begin with `-`.

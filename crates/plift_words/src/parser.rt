@@ -34,7 +34,8 @@ fn verify_command<'a>(alloc: Global) -> Result<Command<'a>, AllocError>
     let command = with_option(alloc, command, "region", false)?;
     let command = with_option(alloc, command, "depth", false)?;
     let command = with_option(alloc, command, "precision", false)?;
-    with_option(alloc, command, "steps", false)
+    let command = with_option(alloc, command, "steps", false)?;
+    with_option(alloc, command, "from", false)
 }
 
 /// The values of the options of a plain line of `verify`, `bounded` or `lumped`. Fails for want of memory alone: such a

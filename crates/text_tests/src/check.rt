@@ -3,6 +3,7 @@
 
 mod answers;
 mod limits;
+mod migrated;
 mod precisions;
 mod prefixes;
 mod reports;

@@ -33,7 +33,7 @@ fn is_written(case: &Case, links: &Links, bound: Bound, room: &mut Room, out: &m
     requires made { IsMadeFor case.now links.now room.old }
     ensures { IsMadeFor case.now links.now room.new }
 {
-    write_report(case, links, bound, room, out).is_ok()
+    write_report(case, links, bound, None, room, out).is_ok()
 }
 
 /// Whether the report that a case has is cut off before its last two bytes, where the sink's last call

@@ -84,6 +84,20 @@ pub returns-clause-check_refused : goal.returns-clause-check_refused
 returns-clause-check_refused g c bytes is told bad len sure1 sure2 =
     rw c.end.ensures.status (acts.check_refused g.S.Source.left g.S.Source.faults g.K.Sink.taken g.K.Sink.faults _ _ _ _ bytes told len sure1 sure2 _ _ (rw c.deref.ensures.value at c.act-answer.ensures.answer) is bad)
 
+pub returns-clause-migrated : goal.returns-clause-migrated
+returns-clause-migrated g c e = acts.migrated g.S.Source.left g.S.Source.faults g.K.Sink.taken g.K.Sink.faults _ _ _ _ _ _ (rw c.deref.ensures.value at c.act-answer.ensures.answer) (sym c.end.ensures.status ∙ e)
+
+pub returns-clause-migrated_part : goal.returns-clause-migrated_part
+returns-clause-migrated_part g c e = acts.migrated_part g.S.Source.left g.S.Source.faults g.K.Sink.taken g.K.Sink.faults _ _ _ _ _ _ (rw c.deref.ensures.value at c.act-answer.ensures.answer) (sym c.end.ensures.status ∙ e)
+
+pub returns-clause-migrate_complete : goal.returns-clause-migrate_complete
+returns-clause-migrate_complete g c bytes leaves is told file len sure1 sure2 =
+    rw c.end.ensures.status (acts.migrate_complete g.S.Source.left g.S.Source.faults g.K.Sink.taken g.K.Sink.faults _ _ _ _ bytes told len sure1 sure2 c.sound_files_pass.ensures.pass c.answers_are_one.ensures _ _ (rw c.deref.ensures.value at c.act-answer.ensures.answer) is leaves file)
+
+pub returns-clause-migrate_refused : goal.returns-clause-migrate_refused
+returns-clause-migrate_refused g c bytes is told bad len sure1 sure2 =
+    rw c.end.ensures.status (acts.migrate_refused g.S.Source.left g.S.Source.faults g.K.Sink.taken g.K.Sink.faults _ _ _ _ bytes told len sure1 sure2 _ _ (rw c.deref.ensures.value at c.act-answer.ensures.answer) is bad)
+
 pub returns-clause-selftested : goal.returns-clause-selftested
 returns-clause-selftested g c e = acts.selftested g.S.Source.left g.S.Source.faults g.K.Sink.taken g.K.Sink.faults _ _ _ _ _ _ (rw c.deref.ensures.value at c.act-answer.ensures.answer) (sym c.end.ensures.status ∙ e)
 

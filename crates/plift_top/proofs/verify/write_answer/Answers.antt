@@ -1,22 +1,14 @@
-use Rattle.plift_words.specs.declared.way.Way.TheVariants.{Whole, Within}
-use Rattle.plift_top.proofs.Reading.{answer_cut_off}
+use Rattle.std.proofs.Common.{refl}
 use Rattle.plift_top.proofs.verify.write_answer.Goals as goal
 
-pub returns-in_err-write_case-in-Whole : goal.returns-in_err-write_case-in-Whole
-returns-in_err-write_case-in-Whole g c =
-    rw c.in-Whole.is
-    (answer_cut_off g.K.Sink.taken g.K.Sink.faults c.args.job.now.bound Whole c.args.case.now c.args.out.now c.write_case.new.out _ c.from_residual-in_err-write_case-in-Whole.ensures.1 c.in_err-write_case-in-Whole.ensures)
+pub write_whole-requires-clause-from : goal.write_whole-requires-clause-from
+write_whole-requires-clause-from g c v e = rw c.requires.precision (c.args.job.now.from_in_range v (rw c.in-Whole.is e))
 
-pub returns-in_err-write_case_within-in-Within : goal.returns-in_err-write_case_within-in-Within
-returns-in_err-write_case_within-in-Within g c =
-    let part = rw c.in_ok-room-in-Within.ensures.steps at c.in_err-write_case_within-in-Within.ensures in
-    rw c.in-Within.is
-    (answer_cut_off g.K.Sink.taken g.K.Sink.faults c.args.job.now.bound (Within c.in-Within.steps) c.args.case.now c.args.out.now c.write_case_within.new.out _ c.from_residual-in_err-write_case_within-in-Within.ensures.1 part)
+pub write_within-requires-clause-steps : goal.write_within-requires-clause-steps
+write_within-requires-clause-steps g c = c.args.job.now.steps_in_range c.in-Within.steps (rw c.in-Within.is refl)
 
-pub returns-in_ok-write_case-in-Whole : goal.returns-in_ok-write_case-in-Whole
-returns-in_ok-write_case-in-Whole g c = rw c.in-Whole.is c.in_ok-write_case-in-Whole.ensures
+pub returns-in-Whole : goal.returns-in-Whole
+returns-in-Whole g c = rw c.in-Whole.is c.write_whole.ensures
 
-pub returns-in_ok-write_case_within-in-Within : goal.returns-in_ok-write_case_within-in-Within
-returns-in_ok-write_case_within-in-Within g c =
-    let whole = rw c.in_ok-room-in-Within.ensures.steps at c.in_ok-write_case_within-in-Within.ensures in
-    rw c.in-Within.is whole
+pub returns-in-Within : goal.returns-in-Within
+returns-in-Within g c = rw c.in-Within.is c.write_within.ensures
