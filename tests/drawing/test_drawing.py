@@ -54,7 +54,7 @@ def draw(words: List[str], given: bytes) -> Answer:
 
 
 def field_of(picture: str) -> List[str]:
-    """The paths of the kinds: accepted, rejected, unknown."""
+    """The paths of the kinds, accepted, rejected and unknown, and that of the borders."""
     return [line.partition(' d="')[2].partition('"')[0] for line in picture.splitlines() if line.startswith("<path fill")]
 
 
@@ -64,10 +64,13 @@ class Steps(unittest.TestCase):
     def test_a_bar(self):
         answer = draw([], text(HALVES))
         self.assertEqual((answer.status, answer.note), (0, ""))
-        self.assertEqual(field_of(answer.out), ["", "M524288 1048576H1048576V0H524288z", "M0 1048576H524288V0H0z"])
-        self.assertIn("<text x=\"20\" y=\"26\">bound 1/4 within 2 steps, precision 4, depth 1</text>", answer.out)
+        low, high = "M0 1048576H524288V0H0z", "M524288 1048576H1048576V0H524288z"
+        self.assertEqual(field_of(answer.out), ["", high, low, low + high])
+        self.assertIn(">at most 1/4 within 2 steps, numbers over 2^4, depth 1</text>", answer.out)
+        self.assertIn(">Markov chain, states: 3</text>", answer.out)
         self.assertIn(">accepted 0.0000 %, rejected 50.0000 %, unknown 50.0000 % of the volume", answer.out)
-        self.assertIn('<text x="120" y="124">1/5</text>', answer.out)
+        self.assertIn(">from 1/5 to 4/5</text>", answer.out)
+        self.assertIn('<text x="270" y="20">0.350</text>', answer.out)
 
     def test_a_table(self):
         self.assertEqual(draw(["--summary"], text(ONE)).out.splitlines(), [

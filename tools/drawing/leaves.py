@@ -32,12 +32,15 @@ class Leaf:
 class Map:
     """What a text asked, and the leaves of its tree in their order."""
 
+    is_chain: bool
+    states: int
     names: List[str]
     live: List[int]
     grid: int
     root: Sequence[Span]
     bound: Tuple[int, int]
     steps: Optional[int]
+    least: int
     precision: int
     depth: int
     leaves: List[Leaf]
@@ -57,12 +60,15 @@ def read_map(text: recheck.Text) -> Map:
     report.test_rows()
     leaves = [Leaf(kind.decode(), spans, depth) for kind, spans, depth in recheck.leaves(report)]
     return Map(
+        is_chain=report.kind == [b"dtmc"],
+        states=report.size,
         names=[name.decode() for name in report.names],
         live=report.live,
         grid=report.grid,
         root=report.box,
         bound=report.bound,
         steps=len(report.steps) if report.steps else None,
+        least=report.least or report.most,
         precision=report.most,
         depth=report.depth,
         leaves=leaves,

@@ -9,6 +9,8 @@ from .leaves import ACCEPT, KINDS, REJECT, UNKNOWN, Leaf, Map, Span
 from .slices import Slice, meets
 
 CANVAS = 2**20
+BORDERED = 2**14  # a side of a leaf with a border is at least so long
+LONGEST = 24  # bytes of a name that is shown whole
 WORDS = {ACCEPT: "accepted", REJECT: "rejected", UNKNOWN: "unknown"}
 COLOURS = {ACCEPT: "#56b4e9", REJECT: "#b04a00", UNKNOWN: "#fff"}
 MARKS = {
@@ -16,7 +18,16 @@ MARKS = {
     REJECT: '<path d="M0 20000L20000 0M-5000 5000L5000 -5000M15000 25000L25000 15000" stroke="#fff" stroke-width="3000"/>',
     UNKNOWN: '<circle cx="10000" cy="10000" r="2500" fill="#555"/>',
 }
-PLACES = {ACCEPT: 120, REJECT: 260, UNKNOWN: 400}
+PLACES = {ACCEPT: 20, REJECT: 160, UNKNOWN: 300}
+ACROSS, UPRIGHT = 0, 1
+NAME = ('<text x="400" y="42" text-anchor="middle">', '<text x="20" y="126">')
+ENDS = ('<text x="400" y="60" font-size="11" text-anchor="middle">', '<text x="20" y="144" font-size="11">')
+TICKS = (
+    '<path d="M140 0v6M270 0v6M400 0v6M530 0v6M660 0v6" stroke="#000"/>\n'
+    '<text x="20" y="42" font-size="11">ticks are rounded</text>\n<g font-size="12" text-anchor="middle">',
+    '<path d="M140 156h-6M140 286h-6M140 416h-6M140 546h-6M140 676h-6" stroke="#000"/>\n'
+    '<text x="660" y="126" font-size="11" text-anchor="end">ticks are rounded</text>\n<g font-size="12" text-anchor="end">',
+)
 
 
 def percent(share: Fraction) -> str:
@@ -25,31 +36,57 @@ def percent(share: Fraction) -> str:
     return f"{millionths // 10000}.{millionths % 10000:04} %"
 
 
-def legend() -> List[str]:
-    """The patterns of the kinds, and for each a box and its word."""
-    lines = ['<svg xmlns="http://www.w3.org/2000/svg" viewBox="0 0 720 720" font-family="sans-serif" font-size="14">', "<defs>"]
+def asked(map_: Map) -> str:
+    """What was asked."""
+    within = "" if map_.steps is None else f" within {map_.steps} step{'s' * (map_.steps > 1)}"
+    precisions = f"2^{map_.precision}" if map_.least == map_.precision else f"2^{map_.least} to 2^{map_.precision}"
+    return f"at most {map_.bound[0]}/{map_.bound[1]}{within}, numbers over {precisions}, depth {map_.depth}"
+
+
+def shares(map_: Map) -> str:
+    """The share of each kind."""
+    return ", ".join(f"{WORDS[kind]} {percent(map_.share(kind))}" for kind in KINDS) + " of the volume, rounded down"
+
+
+def height(slice_: Slice) -> int:
+    """Of the whole picture: a bar is low, and each value of a parameter has a line."""
+    return (268 if slice_.y is None else 748) + 20 * len(slice_.cuts)
+
+
+def start(map_: Map, slice_: Slice) -> List[str]:
+    """What names and describes the picture, and the patterns of the kinds."""
+    lines = [
+        f'<svg xmlns="http://www.w3.org/2000/svg" viewBox="0 0 720 {height(slice_)}" role="img"'
+        ' font-family="sans-serif" font-size="14">',
+        f"<title>{asked(map_)}</title>", f"<desc>{shares(map_)}</desc>", "<defs>",
+    ]
     for kind in KINDS:
         lines.append(
             f'<pattern id="{WORDS[kind]}" width="20000" height="20000" patternUnits="userSpaceOnUse">'
             f'<path d="M0 0h20000v20000H0z" fill="{COLOURS[kind]}"/>{MARKS[kind]}</pattern>'
         )
-    lines += ["</defs>", '<rect width="720" height="720" fill="#fff"/>', '<g stroke="#000" stroke-width="1500">']
+    return [*lines, "</defs>", '<rect width="720" height="100%" fill="#fff"/>']
+
+
+def legend() -> List[str]:
+    """A box and a word for each kind."""
+    lines = ['<g stroke="#000" stroke-width="1500">']
     for kind in KINDS:
         lines.append(
-            f'<svg x="{PLACES[kind]}" y="68" width="26" height="18" viewBox="0 0 52429 36298">'
+            f'<svg x="{PLACES[kind]}" y="84" width="26" height="18" viewBox="0 0 52429 36298">'
             f'<path d="M0 0h52429v36298H0z" fill="url(#{WORDS[kind]})"/></svg>'
         )
     lines.append("</g>")
-    lines += [f'<text x="{PLACES[kind] + 34}" y="82">{WORDS[kind]}</text>' for kind in KINDS]
-    return lines
+    return lines + [f'<text x="{PLACES[kind] + 34}" y="98">{WORDS[kind]}</text>' for kind in KINDS]
 
 
 def title(map_: Map) -> List[str]:
-    """What was asked, and the shares of the kinds."""
-    within = "" if map_.steps is None else f" within {map_.steps} step{'s' * (map_.steps > 1)}"
-    asked = f"bound {map_.bound[0]}/{map_.bound[1]}{within}, precision {map_.precision}, depth {map_.depth}"
-    shares = ", ".join(f"{WORDS[kind]} {percent(map_.share(kind))}" for kind in KINDS)
-    return [f'<text x="20" y="26">{asked}</text>', f'<text x="20" y="50">{shares} of the volume, rounded down</text>']
+    """What was asked, of which model, and the shares of the kinds."""
+    return [
+        f'<text x="20" y="26" font-size="15" font-weight="bold">{asked(map_)}</text>',
+        f'<text x="20" y="48">{"Markov chain" if map_.is_chain else "Markov decision process"}, states: {map_.states}</text>',
+        f'<text x="20" y="70">{shares(map_)}</text>',
+    ]
 
 
 def canvas_place(root: Span, end: int) -> int:
@@ -71,37 +108,80 @@ def outline(map_: Map, slice_: Slice, leaf: Leaf) -> str:
     return f"M{left} {CANVAS - low}H{right}V{CANVAS - high}H{left}z"
 
 
+def has_border(map_: Map, slice_: Slice, leaf: Leaf) -> bool:
+    """Whether a leaf is so large that a border leaves its colour to be seen."""
+    return all(to - of >= BORDERED for of, to in (band(map_, slice_.x, leaf), band(map_, slice_.y, leaf)))
+
+
 def field(map_: Map, slice_: Slice) -> List[str]:
     """The rectangles that meet the slice, a path for each kind: a bar, or a square where there is an upright axis."""
-    height = 80 if slice_.y is None else 520
+    top, size = (116, 80) if slice_.y is None else (156, 520)
     lines = [
-        f'<svg x="120" y="132" width="520" height="{height}" viewBox="0 0 {CANVAS} {CANVAS}"'
-        ' preserveAspectRatio="xMinYMin slice" stroke="#000" stroke-width="1000">'
+        f'<svg x="140" y="{top}" width="520" height="{size}" viewBox="0 0 {CANVAS} {CANVAS}" preserveAspectRatio="xMinYMin slice">'
     ]
-    shown: Dict[str, List[str]] = {kind: [] for kind in KINDS}
-    for leaf in map_.leaves:
-        if meets(map_, slice_.cuts, leaf):
-            shown[leaf.kind].append(outline(map_, slice_, leaf))
-    lines += [f'<path fill="url(#{WORDS[kind]})" d="{"".join(shown[kind])}"/>' for kind in KINDS]
-    return [*lines, "</svg>"]
+    shown = [leaf for leaf in map_.leaves if meets(map_, slice_.cuts, leaf)]
+    for kind in KINDS:
+        rectangles = "".join(outline(map_, slice_, leaf) for leaf in shown if leaf.kind == kind)
+        lines.append(f'<path fill="url(#{WORDS[kind]})" d="{rectangles}"/>')
+    borders = "".join(outline(map_, slice_, leaf) for leaf in shown if has_border(map_, slice_, leaf))
+    lines.append(f'<path fill="none" stroke="#000" stroke-width="1000" d="{borders}"/>')
+    frame = f'<rect x="140" y="{top}" width="520" height="{size}" fill="none" stroke="#000"/>'
+    return [*lines, "</svg>", frame, f'<g transform="translate(0 {top + size})">']
 
 
-def axes(map_: Map, slice_: Slice) -> List[str]:
-    """The ends and the name of each axis, and the values of the other parameters."""
-    lines: List[str] = []
-    sides = (
-        (slice_.x, ('x="120" y="124"', 'x="380" y="124" text-anchor="middle"', 'x="640" y="124" text-anchor="end"')),
-        (slice_.y, tuple(f'x="112" y="{y}" text-anchor="end"' for y in (652, 397, 144))),
-    )
-    for axis, places in sides:
-        if axis is not None:
-            low, high = (Fraction(end, map_.grid) for end in map_.root[axis])
-            lines += [f"<text {at}>{text}</text>" for at, text in zip(places, (low, map_.names[axis], high))]
-    values = "".join(f"{map_.names[parameter]} = {value}  " for parameter, value in slice_.cuts.items())
-    return [*lines, f'<text x="120" y="680">{values}</text>']
+def label(name: str) -> str:
+    """A name, shortened in its middle where it is long, and whole for who points at it."""
+    short = name if len(name) <= LONGEST else f"{name[:11]}&#8230;{name[-12:]}"
+    return f"<title>{name}</title>{short}"
+
+
+def places(span: Span, grid: int) -> Optional[int]:
+    """How many decimal places the ticks have, three, six or nine: the fewest in which a quarter of the span is ten units or
+    more. None where nine are too few, or an end has more than four digits before them."""
+    if max(map(abs, span)) >= 10000 * grid:
+        return None
+    width = span[1] - span[0]
+    return next((count for count in (3, 6, 9) if grid * 40 <= width * 10**count), None)
+
+
+def rounded(value: Fraction, count: int) -> str:
+    """A number with so many decimal places."""
+    units = (2 * abs(value.numerator) * 10**count + value.denominator) // (2 * value.denominator)
+    return f"{'-' * (value < 0)}{units // 10**count}.{units % 10**count:0{count}}"
+
+
+def ticks(map_: Map, side: int, axis: int) -> List[str]:
+    """Five marks with their numbers."""
+    low, high = map_.root[axis]
+    count = places((low, high), map_.grid)
+    if count is None:
+        return []
+    lines = [TICKS[side]]
+    for quarter in range(5):
+        at = f'x="{140 + 130 * quarter}" y="20"' if side == ACROSS else f'x="130" y="{680 - 130 * quarter}"'
+        value = Fraction(low * (4 - quarter) + high * quarter, 4 * map_.grid)
+        lines.append(f"<text {at}>{rounded(value, count)}</text>")
+    return [*lines, "</g>"]
+
+
+def axis_lines(map_: Map, side: int, axis: Optional[int]) -> List[str]:
+    """An axis' name, its exact ends and its ticks."""
+    if axis is None:
+        return []
+    low, high = (Fraction(end, map_.grid) for end in map_.root[axis])
+    return [f"{NAME[side]}{label(map_.names[axis])}</text>", f"{ENDS[side]}from {low} to {high}</text>", *ticks(map_, side, axis)]
+
+
+def cuts(map_: Map, slice_: Slice) -> List[str]:
+    """The values of the other parameters, each on its line."""
+    return [
+        f'<text x="20" y="{84 + 20 * place}" font-size="13">{label(map_.names[parameter])} = {value}</text>'
+        for place, (parameter, value) in enumerate(slice_.cuts.items())
+    ]
 
 
 def svg_text(map_: Map, slice_: Slice) -> str:
-    """The picture: legend, title, field and axes."""
-    lines = [*legend(), *title(map_), *field(map_, slice_), *axes(map_, slice_), "</svg>"]
+    """The picture: title, legend, field and axes."""
+    lines = [*start(map_, slice_), *title(map_), *legend(), *axis_lines(map_, UPRIGHT, slice_.y), *field(map_, slice_)]
+    lines += [*axis_lines(map_, ACROSS, slice_.x), *cuts(map_, slice_), "</g>", "</svg>"]
     return "".join(f"{line}\n" for line in lines)

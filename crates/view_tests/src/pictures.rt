@@ -6,13 +6,19 @@ use view_map::{ReportMap, read_map, slice_of};
 use view_text::Picture;
 
 // Reports, each by its name. A semicolon stands for the end of a line. WIDE: a coin with p from 1/10
-// to 9/10, accepted up to 1/2. PLAIN: no parameters. TWO and THREE: as many
+// to 9/10, accepted up to 1/2. RANGE: the same in version 2, with precisions from 1 to 4. LONG: a coin whose parameter has
+// a long name and goes from 1/1000000 to 1/100000. PLAIN: no parameters. TWO and THREE: as many
 // parameters, each step of a chain taken with one of them, accepted up to 1/4. UNSOUND: its
 // certificate is too low.
 const REPORTS: &str = "\
 WIDE = plift 1;kind dtmc;parameters 1 p;common 1;states 3;init 0;goal 1 1;row 0 0 2;to 1 1:1;to 2 0:1 1:-1;row 1 0 1;\
     to 1 0:1;row 2 0 1;to 2 0:1;bound 1/2;precision 4;depth 2;grid 40;box 4 36;split 0;accept 8 16 0;split 0;unknown;\
     reject e 1 k 1 m 1 b 11/16;y 11 16 0;choice 0 - -;rank 1 0 -;
+RANGE = plift 2;kind dtmc;parameters 1 p;common 1;states 3;init 0;goal 1 1;row 0 0 2;to 1 1:1;to 2 0:1 1:-1;row 1 0 1;\
+    to 1 0:1;row 2 0 1;to 2 0:1;bound 1/2;precision 4;from 1;depth 2;grid 40;box 4 36;split 0;at 1;accept 1 2 0;split 0;\
+    unknown;at 4;reject e 1 k 1 m 1 b 11/16;y 11 16 0;choice 0 - -;rank 1 0 -;
+LONG = plift 1;kind dtmc;parameters 1 abcdefghijklmnopqrstuvwxyz;common 1;states 3;init 0;goal 1 1;row 0 0 2;to 1 1:1;\
+    to 2 0:1 1:-1;row 1 0 1;to 1 0:1;row 2 0 1;to 2 0:1;bound 1/2;precision 4;depth 0;grid 1000000;box 1 10;accept 1 16 0;
 PLAIN = plift 1;kind dtmc;parameters 0;common 4;states 3;init 0;goal 1 1;row 0 0 2;to 1 0:1;to 2 0:3;row 1 0 1;\
     to 1 0:4;row 2 0 1;to 2 0:4;bound 1/2;precision 4;depth 0;grid 1;box;accept 4 16 0;
 TWO = plift 1;kind dtmc;parameters 2 p q;common 1;states 4;init 0;goal 1 3;row 0 0 2;to 1 1:1;to 2 0:1 1:-1;row 1 0 2;\
@@ -32,8 +38,16 @@ WIDE | fill=\"url(#accepted)\" d=\"M0 1048576H524288V0H0z\"
 WIDE | fill=\"url(#unknown)\" d=\"M524288 1048576H786432V0H524288z\"
 WIDE | fill=\"url(#rejected)\" d=\"M786432 1048576H1048576V0H786432z\"
 WIDE | accepted 50.0000 %, rejected 25.0000 %, unknown 25.0000 % of the volume
-WIDE | >1/10</text>
-WIDE | >9/10</text>
+WIDE | stroke-width=\"1000\" d=\"M0 1048576H524288V0H0zM524288 1048576H786432V0H524288zM786432 1048576H1048576V0H786432z\"
+WIDE | <title>at most 1/2, numbers over 2^4, depth 2</title>
+WIDE | >Markov chain, states: 3</text>
+WIDE | <title>p</title>p</text>
+WIDE | >from 1/10 to 9/10</text>
+WIDE | <text x=\"140\" y=\"20\">0.100</text>
+WIDE | <text x=\"530\" y=\"20\">0.700</text>
+RANGE | <title>at most 1/2, numbers over 2^1 to 2^4, depth 2</title>
+LONG | <title>abcdefghijklmnopqrstuvwxyz</title>abcdefghijk&#8230;opqrstuvwxyz</text>
+LONG | <text x=\"270\" y=\"20\">0.000003250</text>
 PLAIN | fill=\"url(#accepted)\" d=\"M0 1048576H1048576V0H0z\"
 PLAIN | fill=\"url(#rejected)\" d=\"\"
 PLAIN | accepted 100.0000 %, rejected 0.0000 %, unknown 0.0000 % of the volume

@@ -20,7 +20,9 @@ const VIEWS: &str = "\
     524288H1048576V0H524288z | -
 --x p --y r --at q=0.5 | THREE | Done | url(#accepted)\" d=\"M0 1048576H524288V524288H0z\" | -
 --x p --y r --at q=49e-2 | THREE | Done | url(#accepted)\" d=\"M0 1048576H524288V0H0zM524288 1048576H1048576V524288H524288z\" | -
- | WIDE | Done | width=\"520\" height=\"80\" | -
+ | WIDE | Done | viewBox=\"0 0 720 268\" | -
+ | THREE | Done | viewBox=\"0 0 720 768\" | -
+ | THREE | Done | <text x=\"130\" y=\"550\">0.250</text> | -
  | PLAIN | Done | url(#accepted)\" d=\"M0 1048576H1048576V0H0z\" | -
 --summary | THREE | Done | leaves accept 3 reject 0 unknown 4;share accept 1/2 50.0000 %;share reject 0 0.0000 %;\
     share unknown 1/2 50.0000 %;greatest accept depth 2 p 0 1/2 q 0 1/2 r 0 1;\

@@ -1,11 +1,12 @@
 -- The field of a picture: a rectangle for each leaf that meets the slice, on a canvas of 2^20 by 2^20 units.
-use Rattle.std.specs.Prelude.{ℕ, ◌*◌, ◌-◌, ◌/◌, ◌^◌, min, max, ◌&&◌, Bool, List, [], ◌++◌, ℤ, ◌-ℤ◌, unsigned_abs, codes, filter, flat_map, Option, Some, None, if◌then◌else◌}
+use Rattle.std.specs.Prelude.{ℕ, ◌+◌, ◌*◌, ◌-◌, ◌/◌, ◌^◌, min, max, ◌&&◌, nat_le, Bool, List, [], ◌++◌, ℤ, ◌-ℤ◌, unsigned_abs, codes, filter, flat_map, Option, Some, None, if◌then◌else◌}
 use Rattle.std.specs.Fmt.{decimal}
 use Rattle.lift_grid.specs.Rectangle.{Spans}
 use Rattle.view_map.specs.Parts.{PartData, MapData}
 use Rattle.view_map.specs.Share.{is_kind}
 use Rattle.view_map.specs.Slice.{SliceData, span_at, meets_all}
-use Rattle.view_map.specs.declared.part.LeafKind.{LeafKind}
+use Rattle.view_text.specs.declared.layer.Layer.{Layer}
+use Rattle.view_text.specs.declared.layer.Layer.TheVariants.{Leaves, Borders}
 
 -- how many units the canvas has in each direction
 abbrev pub canvas : ℕ
@@ -34,20 +35,29 @@ outline x y =
 abbrev pub leaf_outline : Spans → Option ℕ → Option ℕ → PartData → List ℕ
 leaf_outline root x y p = outline (band root x p) (band root y p)
 
--- whether a leaf is of a kind and meets a slice
-abbrev pub is_shown : MapData → SliceData → LeafKind → PartData → Bool
-is_shown m s kind p = is_kind kind p.kind && meets_all m.head.asked.d m.head.asked.root s.cuts p
+-- a band is so wide that two borders leave most of it to be seen: 1/64 of the canvas
+abbrev pub is_wide : ℕ × ℕ → Bool
+is_wide b = nat_le (b.0 + 2 ^ 14) b.1
 
--- the leaves of a kind that meet a slice, in their order
-abbrev pub shown : MapData → SliceData → LeafKind → List PartData
-shown m s kind = filter (is_shown m s kind) m.parts
+-- which leaves a layer is of: those of a kind, or those that have a border, being wide both ways
+abbrev pub is_of : MapData → SliceData → Layer → PartData → Bool
+is_of m s (Leaves kind) p = is_kind kind p.kind
+is_of m s Borders p = is_wide (band m.head.asked.root s.x p) && is_wide (band m.head.asked.root s.y p)
+
+-- whether a leaf is one of a layer's and meets a slice
+abbrev pub is_shown : MapData → SliceData → Layer → PartData → Bool
+is_shown m s layer p = is_of m s layer p && meets_all m.head.asked.d m.head.asked.root s.cuts p
+
+-- the leaves of a layer that meet a slice, in their order
+abbrev pub shown : MapData → SliceData → Layer → List PartData
+shown m s layer = filter (is_shown m s layer) m.parts
 
 -- their rectangles
-abbrev pub outlines : MapData → SliceData → LeafKind → List ℕ
-outlines m s kind = flat_map (leaf_outline m.head.asked.root s.x s.y) (shown m s kind)
+abbrev pub outlines : MapData → SliceData → Layer → List ℕ
+outlines m s layer = flat_map (leaf_outline m.head.asked.root s.x s.y) (shown m s layer)
 
 -- ---- for the contract of a private function
 
--- a leaf's rectangle where it is of that kind and meets the slice, and else nothing
-abbrev pub shown_outline : MapData → SliceData → LeafKind → PartData → List ℕ
-shown_outline m s kind p = if is_shown m s kind p then leaf_outline m.head.asked.root s.x s.y p else []
+-- a leaf's rectangle where it is one of that layer's and meets the slice, and else nothing
+abbrev pub shown_outline : MapData → SliceData → Layer → PartData → List ℕ
+shown_outline m s layer p = if is_shown m s layer p then leaf_outline m.head.asked.root s.x s.y p else []

@@ -1,81 +1,101 @@
 -- The picture of a slice of a report's region, as SVG.
-use Rattle.std.specs.Prelude.{ℕ, List, [], ◌++◌, ℤ, unsigned_abs, codes, flat_map, slice_index_or, Option, Some, None}
+use Rattle.std.specs.Prelude.{ℕ, ◌+◌, ◌*◌, ◌==◌, List, [], ◌++◌, codes, length, if◌then◌else◌}
 use Rattle.std.specs.Fmt.{decimal}
-use Rattle.cert_text.specs.Head.{HeadData}
+use Rattle.lift_model.specs.declared.kind.Kind.{Kind}
+use Rattle.lift_model.specs.declared.kind.Kind.TheVariants.{Dtmc, Mdp}
+use Rattle.lift_model.specs.Model.{ModelData}
+use Rattle.cert_text.specs.Head.{HeadData, least_precision}
 use Rattle.view_map.specs.Parts.{PartData, MapData}
 use Rattle.view_map.specs.Share.{share_of}
-use Rattle.view_map.specs.Slice.{CutData, SliceData, span_at}
-use Rattle.view_map.specs.declared.part.LeafKind.{LeafKind}
+use Rattle.view_map.specs.Slice.{SliceData}
 use Rattle.view_map.specs.declared.part.LeafKind.TheVariants.{Accept, Reject, Unknown}
-use Rattle.view_text.specs.Numbers.{percent_text, fraction_text}
+use Rattle.view_text.specs.Numbers.{percent_text}
 use Rattle.view_text.specs.Field.{outlines}
-use Rattle.view_text.specs.Style.{each_kind, legend_text, title_start, shares_start, shares_end, field_start, path_start, path_end, svg_end, x_low, x_name, x_high, y_low, y_name, y_high, cuts_start, text_end}
+use Rattle.view_text.specs.Axes.{axis_text, cuts_from}
+use Rattle.view_text.specs.Style.{each_kind, least_height, picture_start, size_end, desc_start, patterns_start, pattern_text, patterns_end, question_start, model_start, shares_start, text_end, legend_text, field_start, path_start, path_end, field_end, picture_end}
+use Rattle.view_text.specs.declared.axis.Axis.TheVariants.{Across, Upright}
+use Rattle.view_text.specs.declared.layer.Layer.{Layer}
+use Rattle.view_text.specs.declared.layer.Layer.TheVariants.{Leaves, Borders}
+
+-- ---- what a report tells
+
+-- the bound
+abbrev pub bound_text : HeadData → List ℕ
+bound_text h = codes "at most " ++ decimal h.bound.num ++ codes "/" ++ decimal h.bound.den ++ codes ", numbers over 2^"
+
+-- the least precision of a range, before the greatest one, where they differ
+abbrev pub range_text : ℕ → ℕ → List ℕ
+range_text least greatest = if least == greatest then [] else decimal least ++ codes " to 2^"
+
+-- the greatest precision and the depth
+abbrev pub depth_text : HeadData → List ℕ
+depth_text h = decimal h.asked.w ++ codes ", depth " ++ decimal h.asked.depth
 
 -- what was asked
-abbrev pub title_text : HeadData → List ℕ
-title_text h =
-    codes "bound " ++ decimal h.bound.num ++ codes "/" ++ decimal h.bound.den
-    ++ codes ", precision " ++ decimal h.asked.w
-    ++ codes ", depth " ++ decimal h.asked.depth
+abbrev pub question : HeadData → List ℕ
+question h = bound_text h ++ (range_text (least_precision h) h.asked.w ++ depth_text h)
+
+-- the name of a kind of model
+abbrev pub kind_name : Kind → List ℕ
+kind_name Dtmc = codes "Markov chain"
+kind_name Mdp = codes "Markov decision process"
+
+-- of what it was asked
+abbrev pub model_text : ModelData → List ℕ
+model_text m = kind_name m.kind ++ codes ", states: " ++ decimal (length m.states)
 
 -- the shares of the kinds of leaves
 abbrev pub shares_text : List PartData → List ℕ
 shares_text ps =
     codes "accepted " ++ percent_text (share_of Accept ps)
     ++ (codes ", rejected " ++ percent_text (share_of Reject ps)
-    ++ (codes ", unknown " ++ percent_text (share_of Unknown ps)))
+    ++ (codes ", unknown " ++ percent_text (share_of Unknown ps)
+    ++ codes " of the volume, rounded down"))
 
--- the legend and the title
-abbrev pub top_text : MapData → List ℕ
-top_text m = legend_text ++ (title_start ++ (title_text m.head ++ (shares_start ++ (shares_text m.parts ++ shares_end))))
+-- ---- the picture
 
--- the path of a kind of leaf: its rectangles
-abbrev pub path_text : MapData → SliceData → LeafKind → List ℕ
-path_text m s kind = path_start kind ++ (outlines m s kind ++ path_end)
+-- its size: a line is added for each value of a parameter
+abbrev pub size_text : SliceData → List ℕ
+size_text s = picture_start ++ decimal (least_height s.y + 20 * length s.cuts) ++ size_end
 
--- the field: the path of each kind
+-- the start: size, name, description and patterns
+abbrev pub start_text : MapData → SliceData → List ℕ
+start_text m s =
+    size_text s
+    ++ (question m.head
+    ++ (desc_start
+    ++ (shares_text m.parts
+    ++ (patterns_start
+    ++ (each_kind pattern_text
+    ++ patterns_end)))))
+
+-- the title: what was asked, of what, and the shares
+abbrev pub title_text : MapData → List ℕ
+title_text m =
+    question_start
+    ++ (question m.head
+    ++ (model_start
+    ++ (model_text m.head.asked.model
+    ++ (shares_start
+    ++ (shares_text m.parts
+    ++ text_end)))))
+
+-- the path of a layer: its rectangles
+abbrev pub path_text : MapData → SliceData → Layer → List ℕ
+path_text m s layer = path_start layer ++ (outlines m s layer ++ path_end)
+
+-- the field: the path of each kind, and the borders over them
 abbrev pub field_text : MapData → SliceData → List ℕ
-field_text m s = field_start s.y ++ (each_kind (path_text m s) ++ svg_end)
+field_text m s = field_start s.y ++ (each_kind (λ kind. path_text m s (Leaves kind)) ++ (path_text m s Borders ++ field_end s.y))
 
--- the name of a parameter
-abbrev pub parameter_name : HeadData → ℕ → List ℕ
-parameter_name h parameter = slice_index_or h.asked.model.names parameter []
+-- what stands above the field
+abbrev pub top_text : MapData → SliceData → List ℕ
+top_text m s = start_text m s ++ (title_text m ++ (legend_text ++ axis_text m.head Upright s.y))
 
--- an end of a parameter's span, as a fraction
-abbrev pub end_text : HeadData → ℤ → List ℕ
-end_text h z = fraction_text z (unsigned_abs h.asked.d)
+-- what stands below it
+abbrev pub bottom_text : HeadData → SliceData → List ℕ
+bottom_text h s = axis_text h Across s.x ++ (cuts_from h 0 s.cuts ++ picture_end)
 
--- the low end of a parameter's span
-abbrev pub low_text : HeadData → ℕ → List ℕ
-low_text h parameter = end_text h (span_at h.asked.root parameter).0
-
--- the high end
-abbrev pub high_text : HeadData → ℕ → List ℕ
-high_text h parameter = end_text h (span_at h.asked.root parameter).1
-
--- the low end, the name and the high end of a parameter, each behind its own mark
-abbrev pub span_text : HeadData → ℕ → List ℕ → List ℕ → List ℕ → List ℕ
-span_text h parameter low name high =
-    low ++ (low_text h parameter
-    ++ (name ++ (parameter_name h parameter
-    ++ (high ++ (high_text h parameter ++ text_end)))))
-
--- the same of the parameter on an axis, where there is one
-abbrev pub axis_text : HeadData → Option ℕ → List ℕ → List ℕ → List ℕ → List ℕ
-axis_text h None low name high = []
-axis_text h (Some axis) low name high = span_text h axis low name high
-
--- a value of a parameter
-abbrev pub cut_text : HeadData → CutData → List ℕ
-cut_text h cut = parameter_name h cut.parameter ++ (codes " = " ++ (fraction_text cut.num (unsigned_abs cut.den) ++ codes "  "))
-
--- both axes, and the values of the other parameters
-abbrev pub axes_text : HeadData → SliceData → List ℕ
-axes_text h s =
-    axis_text h s.x x_low x_name x_high
-    ++ (axis_text h s.y y_low y_name y_high
-    ++ (cuts_start ++ (flat_map (cut_text h) s.cuts ++ text_end)))
-
--- the picture: legend, title, field and axes
+-- the picture
 abbrev pub svg_text : MapData → SliceData → List ℕ
-svg_text m s = top_text m ++ (field_text m s ++ (axes_text m.head s ++ svg_end))
+svg_text m s = top_text m s ++ (field_text m s ++ bottom_text m.head s)

@@ -8,7 +8,7 @@ use Rattle.view_map.specs.Slice.{span_at}
 use Rattle.view_map.specs.declared.part.LeafKind.{LeafKind}
 use Rattle.view_map.specs.declared.part.LeafKind.TheVariants.{Accept, Reject, Unknown}
 use Rattle.view_text.specs.Numbers.{percent_text, fraction_text}
-use Rattle.view_text.specs.Picture.{parameter_name, end_text}
+use Rattle.view_text.specs.Axes.{parameter_name, end_text}
 
 -- how many leaves of each kind there are
 abbrev pub leaves_line : MapData → List ℕ

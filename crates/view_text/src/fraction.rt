@@ -7,8 +7,8 @@ ghost use Rattle.view_text.specs.Numbers.{divisor_text, fraction_text, sign_text
 use lift_base::{Sink, Word, WriteFault, write_words, writes_in_turn};
 use lift_frac::gcd;
 
-// What stands before a number.
-fn sign_text(num: i64) -> &'static [u8]
+/// What stands before a number.
+pub(crate) fn sign_text(num: i128) -> &'static [u8]
     ensures { result.now ≡ sign_text num }
 {
     if num < 0 { b"-" } else { b"" }
@@ -45,6 +45,9 @@ pub(crate) fn write_fraction<K: Sink>(out: &mut K, num: i64, den: u64) -> Result
 {
     writes_in_turn::<K>();
     let (above, below) = lowest(num.unsigned_abs(), den);
-    write_words(out, &[Word::Text(sign_text(num)), Word::Count(above)])?;
+    write_words(
+        out,
+        &[Word::Text(sign_text(i128::from(num))), Word::Count(above)],
+    )?;
     write_divisor(out, below)
 }

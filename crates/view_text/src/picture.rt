@@ -1,16 +1,17 @@
 // The picture of a slice of a report's region.
 ghost use Rattle.std.specs.Prelude.{◌≡◌};
 ghost use Rattle.lift_base.specs.Outside.{Wrote};
-ghost use Rattle.view_text.specs.Picture.{shares_text, svg_text, title_text, top_text};
+ghost use Rattle.view_text.specs.Picture.{bottom_text, size_text, start_text, svg_text, top_text};
 
-use crate::axes::write_axes;
+use crate::axes::{write_axis, write_cuts};
+use crate::axis::Axis;
 use crate::field::write_field;
-use crate::legend::write_legend;
-use crate::share::write_percent;
-use crate::style::{SHARES_END, SHARES_START, SVG_END, TITLE_START};
+use crate::legend::{write_legend, write_patterns};
+use crate::style::{DESC_START, PATTERNS_END, PATTERNS_START, PICTURE_END, write_size};
+use crate::title::{write_question, write_shares, write_title};
 use cert_text::Head;
-use lift_base::{Sink, Text, Word, WriteFault, write_all, write_words, writes_in_turn};
-use view_map::{LeafKind, ReportMap, Slice};
+use lift_base::{Sink, Text, WriteFault, write_all, writes_in_turn};
+use view_map::{ReportMap, Slice};
 
 /// The picture of a slice of a report's region, as SVG.
 #[derive(Clone, Copy)]
@@ -19,47 +20,39 @@ pub struct Picture<'a> {
     pub slice: &'a Slice,
 }
 
-// Writes what was asked.
-fn write_title<K: Sink>(out: &mut K, head: &Head) -> Result<(), WriteFault>
-    ensures { Wrote K.taken K.faults out.old out.new result (title_text head.now) }
-{
-    let bound = head.bound();
-    write_words(
-        out,
-        &[
-            Word::Text(b"bound "),
-            Word::Count(u64::from(bound.num)),
-            Word::Text(b"/"),
-            Word::Count(u64::from(bound.den)),
-            Word::Text(b", precision "),
-            Word::Count(u64::from(head.w())),
-            Word::Text(b", depth "),
-            Word::Count(u64::from(head.grid().depth)),
-        ],
-    )
-}
-
-// Writes the shares of the kinds of leaves.
-fn write_shares<K: Sink>(out: &mut K, map: &ReportMap) -> Result<(), WriteFault>
-    ensures { Wrote K.taken K.faults out.old out.new result (shares_text map.now.parts) }
+// Writes the start: size, name, description and patterns.
+fn write_start<K: Sink>(out: &mut K, map: &ReportMap, slice: &Slice) -> Result<(), WriteFault>
+    ensures { Wrote K.taken K.faults out.old out.new result (start_text map.now slice.now) }
 {
     writes_in_turn::<K>();
-    write_percent(out, b"accepted ", map.share_of(LeafKind::Accept))?;
-    write_percent(out, b", rejected ", map.share_of(LeafKind::Reject))?;
-    write_percent(out, b", unknown ", map.share_of(LeafKind::Unknown))
-}
-
-// Writes the legend and the title.
-fn write_top<K: Sink>(out: &mut K, map: &ReportMap) -> Result<(), WriteFault>
-    ensures { Wrote K.taken K.faults out.old out.new result (top_text map.now) }
-{
-    writes_in_turn::<K>();
-    write_legend(out)?;
-    write_all(out, TITLE_START)?;
-    write_title(out, map.head())?;
-    write_all(out, SHARES_START)?;
+    write_size(out, slice)?;
+    write_question(out, map.head())?;
+    write_all(out, DESC_START)?;
     write_shares(out, map)?;
-    write_all(out, SHARES_END)
+    write_all(out, PATTERNS_START)?;
+    write_patterns(out)?;
+    write_all(out, PATTERNS_END)
+}
+
+// Writes what stands above the field.
+fn write_top<K: Sink>(out: &mut K, map: &ReportMap, slice: &Slice) -> Result<(), WriteFault>
+    ensures { Wrote K.taken K.faults out.old out.new result (top_text map.now slice.now) }
+{
+    writes_in_turn::<K>();
+    write_start(out, map, slice)?;
+    write_title(out, map)?;
+    write_legend(out)?;
+    write_axis(out, map.head(), Axis::Upright, slice.y())
+}
+
+// Writes what stands below it.
+fn write_bottom<K: Sink>(out: &mut K, head: &Head, slice: &Slice) -> Result<(), WriteFault>
+    ensures { Wrote K.taken K.faults out.old out.new result (bottom_text head.now slice.now) }
+{
+    writes_in_turn::<K>();
+    write_axis(out, head, Axis::Across, slice.x())?;
+    write_cuts(out, head, slice)?;
+    write_all(out, PICTURE_END)
 }
 
 // Writes the picture.
@@ -67,10 +60,9 @@ fn write_picture<K: Sink>(out: &mut K, map: &ReportMap, slice: &Slice) -> Result
     ensures { Wrote K.taken K.faults out.old out.new result (svg_text map.now slice.now) }
 {
     writes_in_turn::<K>();
-    write_top(out, map)?;
+    write_top(out, map, slice)?;
     write_field(out, map, slice)?;
-    write_axes(out, map.head(), slice)?;
-    write_all(out, SVG_END)
+    write_bottom(out, map.head(), slice)
 }
 
 impl<'a> Text for Picture<'a> {

@@ -1,13 +1,18 @@
 // How a picture looks: what tells the kinds of leaves apart, and what is the same in each picture. It
 // is SVG, with a canvas of 2^20 by 2^20 units for the field.
-ghost use Rattle.std.specs.Prelude.{◌≡◌, ◌≤◌};
+ghost use Rattle.std.specs.Prelude.{◌≡◌, ◌≤◌, ◌+◌, ◌*◌, pos};
 ghost use Rattle.lift_base.specs.Outside.{Wrote};
-ghost use Rattle.view_text.specs.Style.{box_text, field_start, kind_colour, kind_marks, kind_place};
-ghost use Rattle.view_text.specs.Style.{kind_word, legend_start, path_start, pattern_text};
-ghost use Rattle.view_text.specs.Style.{picture_start, word_text};
+ghost use Rattle.view_text.specs.Picture.{size_text};
+ghost use Rattle.view_text.specs.Style.{box_text, cut_start, ends_start, field_end, field_start, kind_colour};
+ghost use Rattle.view_text.specs.Style.{kind_marks, kind_place, kind_word, least_height, name_start, path_start};
+ghost use Rattle.view_text.specs.Style.{pattern_text, picture_start, size_end, tick_start, ticks_start, word_text};
+ghost use Rattle.view_text.specs.declared.axis.Axis.TheVariants.{Across, Upright};
+ghost use Rattle.view_text.specs.declared.layer.Layer.TheVariants.{Borders, Leaves};
 
-use lift_base::{Sink, Word, WriteFault, write_words};
-use view_map::LeafKind;
+use crate::axis::Axis;
+use crate::layer::Layer;
+use lift_base::{Sink, Word, WriteFault, write_all, write_words};
+use view_map::{LeafKind, Slice};
 
 // The word of a kind in the legend. Its pattern has the same name.
 fn kind_word(kind: LeafKind) -> &'static [u8]
@@ -48,12 +53,12 @@ fn kind_marks(kind: LeafKind) -> &'static [u8]
 // Where a kind stands in the legend, from left to right.
 fn kind_place(kind: LeafKind) -> u64
     ensures place { result ≡ kind_place kind }
-    ensures within { result ≤ 400 }
+    ensures within { result ≤ 300 }
 {
     match kind {
-        LeafKind::Accept => 120,
-        LeafKind::Reject => 260,
-        LeafKind::Unknown => 400,
+        LeafKind::Accept => 20,
+        LeafKind::Reject => 160,
+        LeafKind::Unknown => 300,
     }
 }
 
@@ -88,7 +93,7 @@ pub(crate) fn write_box<K: Sink>(out: &mut K, kind: LeafKind) -> Result<(), Writ
             Word::Text(b"<svg x=\""),
             Word::Count(kind_place(kind)),
             Word::Text(
-                b"\" y=\"68\" width=\"26\" height=\"18\" viewBox=\"0 0 52429 36298\">\
+                b"\" y=\"84\" width=\"26\" height=\"18\" viewBox=\"0 0 52429 36298\">\
                 <path d=\"M0 0h52429v36298H0z\" fill=\"url(#",
             ),
             Word::Text(kind_word(kind)),
@@ -106,16 +111,81 @@ pub(crate) fn write_word<K: Sink>(out: &mut K, kind: LeafKind) -> Result<(), Wri
         &[
             Word::Text(b"<text x=\""),
             Word::Count(kind_place(kind) + 34),
-            Word::Text(b"\" y=\"82\">"),
+            Word::Text(b"\" y=\"98\">"),
             Word::Text(kind_word(kind)),
             Word::Text(b"</text>\n"),
         ],
     )
 }
 
-/// Writes what stands before the rectangles of a kind: they make one path, filled by its pattern.
-pub(crate) fn write_path_start<K: Sink>(out: &mut K, kind: LeafKind) -> Result<(), WriteFault>
-    ensures { Wrote K.taken K.faults out.old out.new result (path_start kind) }
+// How high a picture is without values of parameters: less with a bar.
+fn least_height(y: Option<u32>) -> u64
+    ensures height { result ≡ least_height y }
+    ensures within { result ≤ 748 }
+{
+    match y {
+        None => 268,
+        Some(_) => 748,
+    }
+}
+
+#[tactic(auto, unfolding(crate::specs::Style::picture_start))]
+fn picture_start() -> &'static [u8]
+    ensures { result.now ≡ picture_start }
+{
+    b"<svg xmlns=\"http://www.w3.org/2000/svg\" viewBox=\"0 0 720 "
+}
+
+#[tactic(auto, unfolding(crate::specs::Style::size_end))]
+fn size_end() -> &'static [u8]
+    ensures { result.now ≡ size_end }
+{
+    b"\" role=\"img\" font-family=\"sans-serif\" font-size=\"14\">\n<title>"
+}
+
+// How high a picture is with so many lines of values.
+fn height(y: Option<u32>, lines: u64) -> i128
+    ensures { result ≡ pos (least_height y + 20 * lines) }
+{
+    i128::from(least_height(y)) + 20 * i128::from(lines)
+}
+
+/// Writes the size of a picture: a line is added for each value of a parameter.
+pub(crate) fn write_size<K: Sink>(out: &mut K, slice: &Slice) -> Result<(), WriteFault>
+    ensures { Wrote K.taken K.faults out.old out.new result (size_text slice.now) }
+{
+    let lines = slice.cuts().len() as u64;
+    write_words(
+        out,
+        &[
+            Word::Text(picture_start()),
+            Word::Number(height(slice.y(), lines)),
+            Word::Text(size_end()),
+        ],
+    )
+}
+
+/// What stands before the field: it is a bar where no parameter lies on the upright axis, and else a
+/// square.
+#[tactic(auto, unfolding(crate::specs::Style::field_start))]
+pub(crate) fn field_start(y: Option<u32>) -> &'static [u8]
+    ensures { result.now ≡ field_start y }
+{
+    match y {
+        None => {
+            b"<svg x=\"140\" y=\"116\" width=\"520\" height=\"80\" viewBox=\"0 0 1048576 1048576\" \
+            preserveAspectRatio=\"xMinYMin slice\">\n"
+        }
+        Some(_) => {
+            b"<svg x=\"140\" y=\"156\" width=\"520\" height=\"520\" viewBox=\"0 0 1048576 1048576\" \
+            preserveAspectRatio=\"xMinYMin slice\">\n"
+        }
+    }
+}
+
+// Writes what stands before the rectangles of a kind: they are filled by its pattern.
+fn write_leaves_start<K: Sink>(out: &mut K, kind: LeafKind) -> Result<(), WriteFault>
+    ensures { Wrote K.taken K.faults out.old out.new result (path_start (Leaves kind)) }
 {
     write_words(
         out,
@@ -127,76 +197,173 @@ pub(crate) fn write_path_start<K: Sink>(out: &mut K, kind: LeafKind) -> Result<(
     )
 }
 
-/// What stands before the patterns.
-#[tactic(auto, unfolding(crate::specs::Style::picture_start))]
-pub(crate) fn picture_start() -> &'static [u8]
-    ensures { result.now ≡ picture_start }
+// What stands before the borders.
+#[tactic(auto, unfolding(crate::specs::Style::path_start))]
+fn borders_start() -> &'static [u8]
+    ensures { result.now ≡ path_start Borders }
 {
-    b"<svg xmlns=\"http://www.w3.org/2000/svg\" viewBox=\"0 0 720 720\" \
-    font-family=\"sans-serif\" font-size=\"14\">\n<defs>\n"
+    b"<path fill=\"none\" stroke=\"#000\" stroke-width=\"1000\" d=\""
 }
 
-/// What stands between the patterns and the boxes of the legend.
-#[tactic(auto, unfolding(crate::specs::Style::legend_start))]
-pub(crate) fn legend_start() -> &'static [u8]
-    ensures { result.now ≡ legend_start }
+/// Writes what stands before the rectangles of a layer: they make one path.
+pub(crate) fn write_path_start<K: Sink>(out: &mut K, layer: Layer) -> Result<(), WriteFault>
+    ensures { Wrote K.taken K.faults out.old out.new result (path_start layer) }
 {
-    b"</defs>\n<rect width=\"720\" height=\"720\" fill=\"#fff\"/>\n\
-    <g stroke=\"#000\" stroke-width=\"1500\">\n"
+    match layer {
+        Layer::Leaves(kind) => write_leaves_start(out, kind),
+        Layer::Borders => write_all(out, borders_start()),
+    }
 }
 
-/// What stands before the field: it is a bar where no parameter lies on the upright axis, and else a
-/// square.
-#[tactic(auto, unfolding(crate::specs::Style::field_start))]
-pub(crate) fn field_start(y: Option<u32>) -> &'static [u8]
-    ensures { result.now ≡ field_start y }
+/// What stands behind the field: its frame, and from where on the places below it are counted.
+#[tactic(auto, unfolding(crate::specs::Style::field_end))]
+pub(crate) fn field_end(y: Option<u32>) -> &'static [u8]
+    ensures { result.now ≡ field_end y }
 {
     match y {
         None => {
-            b"<svg x=\"120\" y=\"132\" width=\"520\" height=\"80\" viewBox=\"0 0 1048576 1048576\" \
-            preserveAspectRatio=\"xMinYMin slice\" stroke=\"#000\" stroke-width=\"1000\">\n"
+            b"</svg>\n<rect x=\"140\" y=\"116\" width=\"520\" height=\"80\" fill=\"none\" stroke=\"#000\"/>\n\
+            <g transform=\"translate(0 196)\">\n"
         }
         Some(_) => {
-            b"<svg x=\"120\" y=\"132\" width=\"520\" height=\"520\" viewBox=\"0 0 1048576 1048576\" \
-            preserveAspectRatio=\"xMinYMin slice\" stroke=\"#000\" stroke-width=\"1000\">\n"
+            b"</svg>\n<rect x=\"140\" y=\"156\" width=\"520\" height=\"520\" fill=\"none\" stroke=\"#000\"/>\n\
+            <g transform=\"translate(0 676)\">\n"
         }
     }
 }
 
-/// Between the boxes of the legend and its words.
-pub const BOXES_END: &[u8] = b"</g>\n";
+/// What stands before the name of a parameter: below the field's middle, or above the field.
+#[tactic(auto, unfolding(crate::specs::Style::name_start))]
+pub(crate) fn name_start(axis: Axis) -> &'static [u8]
+    ensures { result.now ≡ name_start axis }
+{
+    match axis {
+        Axis::Across => b"<text x=\"400\" y=\"42\" text-anchor=\"middle\">",
+        Axis::Upright => b"<text x=\"20\" y=\"126\">",
+    }
+}
+
+/// What stands between the name and the ends.
+#[tactic(auto, unfolding(crate::specs::Style::ends_start))]
+pub(crate) fn ends_start(axis: Axis) -> &'static [u8]
+    ensures { result.now ≡ ends_start axis }
+{
+    match axis {
+        Axis::Across =>
+            b"</text>\n<text x=\"400\" y=\"60\" font-size=\"11\" text-anchor=\"middle\">",
+        Axis::Upright => b"</text>\n<text x=\"20\" y=\"144\" font-size=\"11\">",
+    }
+}
+
+/// What stands before the numbers of the ticks: five marks at the field's side, and that the numbers
+/// are rounded.
+#[tactic(auto, unfolding(crate::specs::Style::ticks_start))]
+pub(crate) fn ticks_start(axis: Axis) -> &'static [u8]
+    ensures { result.now ≡ ticks_start axis }
+{
+    match axis {
+        Axis::Across => {
+            b"<path d=\"M140 0v6M270 0v6M400 0v6M530 0v6M660 0v6\" stroke=\"#000\"/>\n\
+            <text x=\"20\" y=\"42\" font-size=\"11\">ticks are rounded</text>\n\
+            <g font-size=\"12\" text-anchor=\"middle\">\n"
+        }
+        Axis::Upright => {
+            b"<path d=\"M140 156h-6M140 286h-6M140 416h-6M140 546h-6M140 676h-6\" stroke=\"#000\"/>\n\
+            <text x=\"660\" y=\"126\" font-size=\"11\" text-anchor=\"end\">ticks are rounded</text>\n\
+            <g font-size=\"12\" text-anchor=\"end\">\n"
+        }
+    }
+}
+
+fn write_across_start<K: Sink>(out: &mut K, n: u32) -> Result<(), WriteFault>
+    requires { n ≤ 4 }
+    ensures { Wrote K.taken K.faults out.old out.new result (tick_start Across n) }
+{
+    write_words(
+        out,
+        &[
+            Word::Text(b"<text x=\""),
+            Word::Count(u64::from(140 + 130 * n)),
+            Word::Text(b"\" y=\"20\">"),
+        ],
+    )
+}
+
+fn write_upright_start<K: Sink>(out: &mut K, n: u32) -> Result<(), WriteFault>
+    requires { n ≤ 4 }
+    ensures { Wrote K.taken K.faults out.old out.new result (tick_start Upright n) }
+{
+    write_words(
+        out,
+        &[
+            Word::Text(b"<text x=\"130\" y=\""),
+            Word::Count(u64::from(680 - 130 * n)),
+            Word::Text(b"\">"),
+        ],
+    )
+}
+
+/// Writes what stands before the number of a tick, so many quarters of the way along an axis.
+pub(crate) fn write_tick_start<K: Sink>(out: &mut K, axis: Axis, n: u32) -> Result<(), WriteFault>
+    requires { n ≤ 4 }
+    ensures { Wrote K.taken K.faults out.old out.new result (tick_start axis n) }
+{
+    match axis {
+        Axis::Across => write_across_start(out, n),
+        Axis::Upright => write_upright_start(out, n),
+    }
+}
+
+// Where a line below the axis stands.
+fn line_place(line: u64) -> i128
+    ensures { result ≡ pos (84 + 20 * line) }
+{
+    84 + 20 * i128::from(line)
+}
+
+/// Writes what stands before the value of a parameter, on that line below the axis.
+pub(crate) fn write_cut_start<K: Sink>(out: &mut K, line: u64) -> Result<(), WriteFault>
+    ensures { Wrote K.taken K.faults out.old out.new result (cut_start line) }
+{
+    write_words(
+        out,
+        &[
+            Word::Text(b"<text x=\"20\" y=\""),
+            Word::Number(line_place(line)),
+            Word::Text(b"\" font-size=\"13\">"),
+        ],
+    )
+}
+
+/// Between the name of a picture and its description.
+pub const DESC_START: &[u8] = b"</title>\n<desc>";
+
+/// Between the description and the patterns.
+pub const PATTERNS_START: &[u8] = b"</desc>\n<defs>\n";
+
+/// Behind the patterns.
+pub const PATTERNS_END: &[u8] = b"</defs>\n<rect width=\"720\" height=\"100%\" fill=\"#fff\"/>\n";
 
 /// Before the first line of the title.
-pub const TITLE_START: &[u8] = b"<text x=\"20\" y=\"26\">";
+pub const QUESTION_START: &[u8] = b"<text x=\"20\" y=\"26\" font-size=\"15\" font-weight=\"bold\">";
 
 /// Between the first line of the title and the second.
-pub const SHARES_START: &[u8] = b"</text>\n<text x=\"20\" y=\"50\">";
+pub const MODEL_START: &[u8] = b"</text>\n<text x=\"20\" y=\"48\">";
 
-/// Behind the second line.
-pub const SHARES_END: &[u8] = b" of the volume, rounded down</text>\n";
+/// Between the second line and the third.
+pub const SHARES_START: &[u8] = b"</text>\n<text x=\"20\" y=\"70\">";
 
-/// Behind the rectangles of a kind.
+/// Before the boxes of the legend.
+pub const BOXES_START: &[u8] = b"<g stroke=\"#000\" stroke-width=\"1500\">\n";
+
+/// Behind what belongs together.
+pub const GROUP_END: &[u8] = b"</g>\n";
+
+/// Behind the rectangles of a layer.
 pub const PATH_END: &[u8] = b"\"/>\n";
-
-/// Before the low end, the name and the high end of the parameter from left to right.
-pub const X_LOW: &[u8] = b"<text x=\"120\" y=\"124\">";
-
-pub const X_NAME: &[u8] = b"</text>\n<text x=\"380\" y=\"124\" text-anchor=\"middle\">";
-
-pub const X_HIGH: &[u8] = b"</text>\n<text x=\"640\" y=\"124\" text-anchor=\"end\">";
-
-/// The same of the parameter from below up.
-pub const Y_LOW: &[u8] = b"<text x=\"112\" y=\"652\" text-anchor=\"end\">";
-
-pub const Y_NAME: &[u8] = b"</text>\n<text x=\"112\" y=\"397\" text-anchor=\"end\">";
-
-pub const Y_HIGH: &[u8] = b"</text>\n<text x=\"112\" y=\"144\" text-anchor=\"end\">";
 
 /// Behind a text.
 pub const TEXT_END: &[u8] = b"</text>\n";
 
-/// Before the values of the other parameters.
-pub const CUTS_START: &[u8] = b"<text x=\"120\" y=\"680\">";
-
-/// Behind the field, and at the end.
-pub const SVG_END: &[u8] = b"</svg>\n";
+/// At the end.
+pub const PICTURE_END: &[u8] = b"</g>\n</svg>\n";

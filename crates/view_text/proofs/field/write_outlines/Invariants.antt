@@ -5,4 +5,4 @@ use Rattle.view_text.specs.Field.{shown_outline}
 use Rattle.view_text.proofs.field.write_outlines.Given as goal
 
 abbrev pub invariant-loop-part : goal.invariant-loop-part
-invariant-loop-part g l = WroteUpTo g.K.Sink.taken g.K.Sink.faults l.fn.out l.out (flat_map (shown_outline l.map l.slice l.kind) l.part-items) (flat_map (shown_outline l.map l.slice l.kind) (drop l.part-index l.part-items))
+invariant-loop-part g l = WroteUpTo g.K.Sink.taken g.K.Sink.faults l.fn.out l.out (flat_map (shown_outline l.map l.slice l.layer) l.part-items) (flat_map (shown_outline l.map l.slice l.layer) (drop l.part-index l.part-items))

@@ -6,8 +6,5 @@ returns-in_err-write_top g c = c.writes_in_turn.ensures.stopped _ _ _ _ _ _ c.fr
 pub returns-in_err-write_field : goal.returns-in_err-write_field
 returns-in_err-write_field g c = c.writes_in_turn.ensures.both _ _ _ _ _ _ c.in_ok-write_top.ensures (c.writes_in_turn.ensures.stopped _ _ _ _ _ _ c.from_residual-in_err-write_field.ensures.0 c.in_err-write_field.ensures)
 
-pub returns-in_err-write_axes : goal.returns-in_err-write_axes
-returns-in_err-write_axes g c = c.writes_in_turn.ensures.both _ _ _ _ _ _ c.in_ok-write_top.ensures (c.writes_in_turn.ensures.both _ _ _ _ _ _ c.in_ok-write_field.ensures (c.writes_in_turn.ensures.stopped _ _ _ _ _ _ c.from_residual-in_err-write_axes.ensures.0 (rw c.head.ensures at c.in_err-write_axes.ensures)))
-
 pub returns : goal.returns
-returns g c = c.writes_in_turn.ensures.both _ _ _ _ _ _ c.in_ok-write_top.ensures (c.writes_in_turn.ensures.both _ _ _ _ _ _ c.in_ok-write_field.ensures (c.writes_in_turn.ensures.both _ _ _ _ _ _ (rw c.head.ensures at c.in_ok-write_axes.ensures) c.write_all.ensures.wrote))
+returns g c = c.writes_in_turn.ensures.both _ _ _ _ _ _ c.in_ok-write_top.ensures (c.writes_in_turn.ensures.both _ _ _ _ _ _ c.in_ok-write_field.ensures (rw (c.head.ensures) at c.write_bottom.ensures))
