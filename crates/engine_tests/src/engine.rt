@@ -4,5 +4,6 @@
 mod greatest;
 mod links;
 mod ranks;
+mod roots;
 mod tables;
 mod vectors;

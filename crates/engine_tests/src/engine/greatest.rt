@@ -4,10 +4,10 @@ ghost use Rattle.std.specs.Prelude.{◌≤◌};
 ghost use Rattle.corner_lift.specs.Case.{most_precision};
 
 use crate::cells::{Teller, Untold, each_row};
-use crate::engine::ranks::rows_of;
-use crate::example::{case_of, model_of, process_of, root_of, table_of};
+use crate::engine::roots::{Engine, Lanes, Root, find_on};
+use crate::example::{case_of, model_of, process_of, root_of};
 use corner_lift::Case;
-use lift_model::{Links, Model};
+use lift_model::Model;
 use lower_cert::{Rate, greatest_reject, greatest_reject_above};
 use std::alloc::Global;
 use std::string::String;
@@ -35,74 +35,73 @@ action a;1 : p-2/5;2 : 7/5-p | [0, 16, 0]; [4294967295, 4294967295, 4294967295];
 action a;1 : p;2 : 1-p;action b;1 : 1-p;2 : p | [6, 16, 0]; [0, 4294967295, 4294967295]; [1, 0, 4294967295]; e 2 k 1; 5
 action a;3 : 1;action b;1 : 1/2;2 : 1/2 / action a;1 : 1/2;2 : 1/2 | [8, 16, 0, 8]; [1, 4294967295, 4294967295, 0]; [1, 0, 4294967295, 1]; e 1 k 1; 7";
 
-/// Whether the call that stops at a limit finds the initial state's number above it, on the case's root.
-fn is_found_above(alloc: Global, case: &Case, limit: i64) -> Result<bool, Untold> {
-    let count = case.model().states() as usize;
-    let links = Links::build(alloc, case.model())?;
-    let weights = table_of(alloc, case, &links)?;
-    let mut lane = vec![in alloc; 8; count]?;
-    let mut allowed = vec![in alloc; 7; rows_of(case.model(), &links)]?;
-    let mut ranks = vec![in alloc; 7; count]?;
-    let mut picks = vec![in alloc; 7; count]?;
-    let mut work = vec![in alloc; 7; 2 * count]?;
-    let rate = greatest_reject_above(
-        case,
-        &links,
-        &weights,
-        limit,
-        &mut lane,
-        &mut allowed,
-        &mut ranks,
-        &mut picks,
-        &mut work,
-    );
-    Ok(rate.is_some())
+/// Whether the call that stops at a limit finds the initial state's number above it.
+#[derive(Clone, Copy)]
+struct Above {
+    limit: i64,
+}
+
+impl Engine for Above {
+    type Found = bool;
+
+    fn find(&self, _alloc: Global, root: Root, lanes: &mut Lanes) -> Result<bool, Untold> {
+        let rate = greatest_reject_above(
+            root.case,
+            root.links,
+            root.weights,
+            self.limit,
+            &mut lanes.numbers,
+            &mut lanes.allowed,
+            &mut lanes.ranks,
+            &mut lanes.picks,
+            &mut lanes.work,
+        );
+        Ok(rate.is_some())
+    }
 }
 
 /// The greatest of the limits from -1 to 16 that the initial state's number is found above.
 fn greatest_limit(alloc: Global, case: &Case) -> Result<i64, Untold> {
     let mut greatest = -2;
     for limit in -1..17 {
-        if is_found_above(alloc, case, limit)? {
+        if find_on(alloc, case, &Above { limit })? {
             greatest = limit;
         }
     }
     Ok(greatest)
 }
 
-/// A vector with what belongs to it.
-fn shown(
-    alloc: Global,
-    y: &[i64],
-    picks: &[u32],
-    ranks: &[u32],
-    rate: Rate,
-) -> Result<String, Untold> {
-    let (e, k) = (rate.e, rate.k);
-    Ok(format!(in alloc; "{y:?}; {picks:?}; {ranks:?}; e {e} k {k}")?)
+/// The greatest lower vector, with what belongs to it.
+struct Greatest;
+
+impl Engine for Greatest {
+    type Found = String;
+
+    fn find(&self, alloc: Global, root: Root, lanes: &mut Lanes) -> Result<String, Untold> {
+        let rate = greatest_reject(
+            root.case,
+            root.links,
+            root.weights,
+            &mut lanes.numbers,
+            &mut lanes.allowed,
+            &mut lanes.ranks,
+            &mut lanes.picks,
+            &mut lanes.work,
+        );
+        shown(alloc, lanes, rate)
+    }
 }
 
-/// The greatest lower vector of the case on its root, with what belongs to it.
-fn greatest_of(alloc: Global, case: &Case) -> Result<String, Untold> {
-    let count = case.model().states() as usize;
-    let links = Links::build(alloc, case.model())?;
-    let weights = table_of(alloc, case, &links)?;
-    let mut lane = vec![in alloc; 8; count]?;
-    let mut allowed = vec![in alloc; 7; rows_of(case.model(), &links)]?;
-    let mut ranks = vec![in alloc; 7; count]?;
-    let mut picks = vec![in alloc; 7; count]?;
-    let mut work = vec![in alloc; 7; 2 * count]?;
-    let rate = greatest_reject(
-        case,
-        &links,
-        &weights,
-        &mut lane,
-        &mut allowed,
-        &mut ranks,
-        &mut picks,
-        &mut work,
-    );
-    shown(alloc, &lane, &picks, &ranks, rate)
+/// The same as it is shown.
+fn shown(alloc: Global, lanes: &Lanes, rate: Rate) -> Result<String, Untold> {
+    let Lanes {
+        numbers,
+        ranks,
+        picks,
+        ..
+    } = lanes;
+    let (e, k) = (rate.e, rate.k);
+    Ok(format!(in alloc; "{numbers:?}; {picks:?}; {ranks:?}; e {e} k {k}")?)
 }
 
 /// The greatest lower vector of a model at that precision.
@@ -112,7 +111,7 @@ fn vector_over(alloc: Global, model: &Model, w: u32) -> Result<String, Untold>
 {
     let (grid, root) = root_of(alloc, REGION, model.names(), 0)?;
     let case = case_of(model, &root, grid, w)?;
-    greatest_of(alloc, &case)
+    find_on(alloc, &case, &Greatest)
 }
 
 /// The greatest limit of a model at precision 4.

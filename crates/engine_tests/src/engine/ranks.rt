@@ -1,13 +1,9 @@
 //! Tests of ranks by stages.
 
-ghost use Rattle.std.specs.Prelude.{◌≡◌};
-ghost use Rattle.lift_model.specs.Model.{row_count};
-ghost use Rattle.lift_model.specs.Links.{AreLinks};
-
 use crate::cells::{Teller, Untold, each_row};
-use crate::example::{case_of, model_of, root_of, table_of};
-use corner_lift::Case;
-use lift_model::{Links, Model};
+use crate::engine::roots::{Engine, Lanes, Root, find_on};
+use crate::example::{case_of, model_of, root_of};
+use lift_model::Model;
 use robust_rank::attract;
 use std::alloc::Global;
 use std::string::String;
@@ -30,13 +26,23 @@ action a;0 : 1;state 3;action a;2 : 3/4-p;0 : 1/4+p | [1, 0, 2, 2]; [1, 42949672
 action a;2 : 1;state 3;action a;0 : 3/4-p;2 : 1/4+p | [1, 0, 4294967295, 4294967295]; [1, 4294967295, 4294967295, 4294967295]
 action a;3 : 1/2;0 : 1/2;state 3;action a;2 : 1 | [1, 0, 2, 3]; [1, 4294967295, 0, 0]";
 
-/// How many rows the model has: as many as the number of its last row, and one.
-pub(crate) fn rows_of(model: &Model, links: &Links) -> usize
-    requires { AreLinks model.now links.now }
-    ensures { result ≡ row_count model.now }
-{
-    let last = model.states() - 1;
-    links.row_place(last, model.choices(last) - 1) + 1
+/// The ranks and picks by stages, all choices allowed: a lane that is made allows them.
+struct ByStages;
+
+impl Engine for ByStages {
+    type Found = String;
+
+    fn find(&self, alloc: Global, root: Root, lanes: &mut Lanes) -> Result<String, Untold> {
+        attract(
+            root.case,
+            root.links,
+            root.weights,
+            &lanes.allowed,
+            &mut lanes.ranks,
+            &mut lanes.picks,
+        );
+        shown(alloc, &lanes.ranks, &lanes.picks)
+    }
 }
 
 /// Ranks and picks as they are shown.
@@ -44,23 +50,11 @@ fn shown(alloc: Global, ranks: &[u32], picks: &[u32]) -> Result<String, Untold> 
     Ok(format!(in alloc; "{ranks:?}; {picks:?}")?)
 }
 
-/// The ranks and picks by stages on the case's root, all choices allowed.
-fn ranked(alloc: Global, case: &Case) -> Result<String, Untold> {
-    let count = case.model().states() as usize;
-    let links = Links::build(alloc, case.model())?;
-    let weights = table_of(alloc, case, &links)?;
-    let allowed = vec![in alloc; 1; rows_of(case.model(), &links)]?;
-    let mut ranks = vec![in alloc; 7; count]?;
-    let mut picks = vec![in alloc; 7; count]?;
-    attract(case, &links, &weights, &allowed, &mut ranks, &mut picks);
-    shown(alloc, &ranks, &picks)
-}
-
 /// The ranks and the picks of a model.
 fn ranked_over(alloc: Global, model: &Model) -> Result<String, Untold> {
     let (grid, root) = root_of(alloc, b"1/4<=p<=3/4", model.names(), 0)?;
     let case = case_of(model, &root, grid, 4)?;
-    ranked(alloc, &case)
+    find_on(alloc, &case, &ByStages)
 }
 
 struct Stages;

@@ -4,9 +4,9 @@ ghost use Rattle.std.specs.Prelude.{◌≤◌};
 ghost use Rattle.corner_lift.specs.Case.{most_precision};
 
 use crate::cells::{Teller, Untold, each_row};
-use crate::example::{case_of, model_of, process_of, root_of, table_of};
-use corner_lift::Case;
-use lift_model::{Links, Model};
+use crate::engine::roots::{Engine, Lanes, Root, find_on};
+use crate::example::{case_of, model_of, process_of, root_of};
+use lift_model::Model;
 use rounded_iter::{least_upper, least_value};
 use std::alloc::Global;
 use std::string::String;
@@ -33,22 +33,27 @@ action a;1 : p*(1-q);2 : 1-p*(1-q) | [8, 16, 0]; [4, 16, 0]
 action a;3 : 1/2;2 : 1/2 / action a;0 : 1/2;1 : 1/2 | [6, 16, 0, 11]; [6, 16, 0, 11]
 action a;1 : p;2 : 1-p / action a;0 : 1/2;3 : 1/2 | [10, 16, 0, 10]; [7, 16, 0, 7]";
 
+/// The least upper vector and the least value vector.
+struct Least;
+
+impl Engine for Least {
+    type Found = String;
+
+    fn find(&self, alloc: Global, root: Root, lanes: &mut Lanes) -> Result<String, Untold> {
+        let Root {
+            case,
+            links,
+            weights,
+        } = root;
+        least_upper(case, links, weights, &mut lanes.numbers, &mut lanes.work);
+        least_value(case, links, weights, &mut lanes.others, &mut lanes.work);
+        shown(alloc, &lanes.numbers, &lanes.others)
+    }
+}
+
 /// Both vectors as they are shown.
 fn shown(alloc: Global, upper: &[i64], value: &[i64]) -> Result<String, Untold> {
     Ok(format!(in alloc; "{upper:?}; {value:?}")?)
-}
-
-/// The least upper vector and the least value vector of the case on its root.
-fn least_of(alloc: Global, case: &Case) -> Result<String, Untold> {
-    let count = case.model().states() as usize;
-    let links = Links::build(alloc, case.model())?;
-    let weights = table_of(alloc, case, &links)?;
-    let mut upper = vec![in alloc; 8; count]?;
-    let mut value = vec![in alloc; 8; count]?;
-    let mut work = vec![in alloc; 0; 2 * count]?;
-    least_upper(case, &links, &weights, &mut upper, &mut work);
-    least_value(case, &links, &weights, &mut value, &mut work);
-    shown(alloc, &upper, &value)
 }
 
 /// The choices of state 0 and of a state 3, which lead to each other and leave that cycle with 1/4096, and
@@ -70,7 +75,7 @@ fn least_over(alloc: Global, model: &Model, w: u32) -> Result<String, Untold>
 {
     let (grid, root) = root_of(alloc, REGION, model.names(), 0)?;
     let case = case_of(model, &root, grid, w)?;
-    least_of(alloc, &case)
+    find_on(alloc, &case, &Least)
 }
 
 struct LeastVectors;

@@ -1,0 +1,97 @@
+//! What is found on the table of a case's root, in lanes that are made once and lent.
+
+ghost use Rattle.std.specs.Prelude.{◌≡◌, ℕ, length, IfOk};
+ghost use Rattle.lift_grid.specs.Rectangle.{spans_of, sides_of};
+ghost use Rattle.lift_model.specs.Model.{row_count};
+ghost use Rattle.lift_model.specs.Links.{AreLinks};
+ghost use Rattle.corner_lift.specs.Table.{IsTable};
+ghost use Rattle.engine_tests.specs.Lane.{AreLanes};
+
+use crate::cells::Untold;
+use crate::example::table_of;
+use corner_lift::Case;
+use lift_model::{Links, Model};
+use std::alloc::{AllocError, Global};
+
+/// A case with what is looked up of its model, and the table of its root.
+#[derive(Clone, Copy)]
+pub(crate) struct Root<'r> {
+    pub(crate) case: &'r Case<'r>,
+    pub(crate) links: &'r Links,
+    pub(crate) weights: &'r [i128],
+}
+
+/// Lanes for what is found. What they hold at first is of no account.
+#[derive(Drop)]
+pub(crate) struct Lanes {
+    pub(crate) numbers: Vec<i64>,
+    pub(crate) others: Vec<i64>,
+    pub(crate) ranks: Vec<u32>,
+    pub(crate) picks: Vec<u32>,
+    pub(crate) work: Vec<u32>,
+    pub(crate) allowed: Vec<u32>,
+}
+
+/// What finds something on the table of a case's root.
+pub(crate) trait Engine {
+    type Found;
+
+    /// What is found, in lanes that are lent.
+    fn find(&self, alloc: Global, root: Root, lanes: &mut Lanes) -> Result<Self::Found, Untold>
+        requires links { AreLinks root.case.now.model root.links.now }
+        requires table { IsTable root.case.now root.links.now (spans_of (sides_of root.case.now.root)) root.weights.now }
+        requires lanes { AreLanes (length root.case.now.model.states) (row_count root.case.now.model)
+            lanes.old.numbers.items lanes.old.others.items
+            lanes.old.ranks.items lanes.old.picks.items lanes.old.work.items lanes.old.allowed.items };
+}
+
+/// Lanes for so many states and rows.
+fn lanes_for(alloc: Global, states: u32, rows: usize) -> Result<Lanes, AllocError>
+    ensures { IfOk result (λ lanes. AreLanes states rows lanes.numbers.items lanes.others.items
+        lanes.ranks.items lanes.picks.items lanes.work.items lanes.allowed.items) }
+{
+    let states = states as usize;
+    Ok(Lanes {
+        numbers: vec![in alloc; 8; states]?,
+        others: vec![in alloc; 8; states]?,
+        ranks: vec![in alloc; 7; states]?,
+        picks: vec![in alloc; 7; states]?,
+        work: vec![in alloc; 7; 2 * states]?,
+        allowed: vec![in alloc; 7; rows]?,
+    })
+}
+
+/// How many rows the model has: as many as the number of its last row, and one.
+fn rows_of(model: &Model, links: &Links) -> usize
+    requires { AreLinks model.now links.now }
+    ensures { result ≡ row_count model.now }
+{
+    let last = model.states() - 1;
+    links.row_place(last, model.choices(last) - 1) + 1
+}
+
+/// What is found in lanes that are made.
+fn find_over<E: Engine>(alloc: Global, root: Root, engine: &E) -> Result<E::Found, Untold>
+    requires links { AreLinks root.case.now.model root.links.now }
+    requires table { IsTable root.case.now root.links.now (spans_of (sides_of root.case.now.root)) root.weights.now }
+{
+    let model = root.case.model();
+    let mut lanes = lanes_for(alloc, model.states(), rows_of(model, root.links))?;
+    engine.find(alloc, root, &mut lanes)
+}
+
+/// What is found on the root of a case.
+pub(crate) fn find_on<E: Engine>(
+    alloc: Global,
+    case: &Case,
+    engine: &E,
+) -> Result<E::Found, Untold> {
+    let links = Links::build(alloc, case.model())?;
+    let weights = table_of(alloc, case, &links)?;
+    let root = Root {
+        case: &*case,
+        links: &links,
+        weights: &weights,
+    };
+    find_over(alloc, root, engine)
+}
