@@ -20,22 +20,23 @@ _plift() {
     [[ ${COMP_WORDS[1]} == --quick && COMP_CWORD -gt 1 ]] && at=2
     COMPREPLY=()
     if ((COMP_CWORD == at)); then
-        _plift_offer "verify bounded lumped check generate selftest --help --version $( ((at == 1)) && echo --quick)"
+        _plift_offer "verify bounded lumped check migrate generate selftest --help --version $( ((at == 1)) && echo --quick)"
         return
     fi
     case ${COMP_WORDS[at]} in
     --help | -h | help)
-        ((COMP_CWORD == at + 1)) && _plift_offer 'verify bounded lumped check generate selftest'
+        ((COMP_CWORD == at + 1)) && _plift_offer 'verify bounded lumped check migrate generate selftest'
         ;;
     verify | bounded | lumped)
         local options='--goal --bound --region --depth --precision --help'
+        [[ ${COMP_WORDS[at]} == verify ]] && options="--from $options"
         [[ ${COMP_WORDS[at]} == bounded ]] && options="--steps $options"
         case ${COMP_WORDS[COMP_CWORD - 1]} in
-        --goal | --bound | --steps | --region | --depth | --precision | =) ;;
+        --goal | --bound | --steps | --region | --depth | --precision | --from | =) ;;
         *) _plift_offer "$(_plift_unused $options)" ;;
         esac
         ;;
-    check | generate | selftest)
+    check | migrate | generate | selftest)
         ((COMP_CWORD == at + 1)) && _plift_offer --help
         ;;
     esac

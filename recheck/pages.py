@@ -5,8 +5,8 @@ Every command of README.md and of the pages in PAGES runs in a folder with a cop
 has to print what stands below it: a block marked `text` right behind it, in which a line `..` stands for any lines;
 nothing where there is no such block. A command marked `sh not-run` isn't run. A picture that a page makes has to be
 the one in docs/pictures, and each of these has to be made by a page; the reports that docs/FORMATS.md tells of have
-to come out, and the one of version 2 that it shows has to be sound; each page that is named has to be there, and
-recheck.py has to have as many lines as pages say.
+to come out, and the lines that it shows of one of version 2; each page that is named has to be there, and recheck.py
+has to have as many lines as pages say.
 
 The lines that docs/STORM.md speaks of are put into small models and have to be read, or refused with the note that
 it tells, and its commands have to mend what they are for.
@@ -187,12 +187,11 @@ def examples(folder: Path) -> Iterator[Tried]:
 
 
 def second_version(folder: Path) -> Iterator[Tried]:
-    """The report of version 2 that docs/FORMATS.md shows from its precision on: whether it is sound."""
-    shown = re.search(r'^```text\n(precision \d+\nfrom .*?)^```', page_text('docs/FORMATS.md'), re.S | re.M)
-    head = (TOP / 'examples/coin.report').read_text().partition('precision ')[0].replace('plift 1', 'plift 2')
-    (folder / 'second.report').write_text(head + shown[1] if shown else '')
-    said = bash('./plift check < second.report', folder)
-    yield Tried('docs/FORMATS.md: a report of version 2', '' if said.startswith('sound ') else said)
+    """The report of version 2 that docs/FORMATS.md shows from its precision on: whether the words that it names give it."""
+    told = re.search(r'^With `([^`]+)` the same coin gives .*?^```text\n(.*?)^```', page_text('docs/FORMATS.md'), re.S | re.M)
+    options, shown = told.groups() if told else ('', '')
+    said = bash(f"./plift verify {options} < examples/coin.drn | sed '1,/^bound/d'", folder)
+    yield Tried('docs/FORMATS.md: a report of version 2', '' if told and said == shown else said)
 
 
 def lengths() -> Iterator[Tried]:

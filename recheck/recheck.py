@@ -4,6 +4,7 @@ Writes `sound accept A reject B unknown C`, or tells the first fault on standard
 from docs/FORMATS.md and shares nothing with plift's code; docs/CHECKING.md tells why its tests show what they show.
 """
 import re, sys
+from collections import Counter
 from math import gcd, prod
 from operator import mul
 
@@ -13,6 +14,7 @@ NUMBER, NAME = re.compile(rb'0|-?[1-9][0-9]*'), re.compile(rb'[A-Za-z_][A-Za-z0-
 getattr(sys, 'set_int_max_str_digits', int)(0)  # a line may hold a number of any length
 
 class Fault(Exception): """What is wrong. Where it is wrong, the text tells: its place."""
+class TooLong(Exception): """More bytes than a report may have."""
 
 def need(holds, cause='Syntax'):
     if not holds:
@@ -30,20 +32,27 @@ def pair(word, mark):
     return tuple(numbers(word.split(mark, 1), 2))
 
 class Text:
-    """A report, and how far it was read: which line is due, and the byte where it begins."""
-    def __init__(self, data):
-        self.data, self.line, self.start, self.place = data, 1, 0, ''
+    """A report, and how far it was read: which line is due, and how many bytes came before it."""
+    def __init__(self, source):
+        self.source, self.line, self.taken, self.held, self.place = source, 1, 0, b'', ''
+
+    def ahead(self):
+        """The line that is due, as far as a line may go; nothing where nothing is left."""
+        self.held = self.held or self.source.readline(MOST_LINE + 1)
+        if self.taken + len(self.held) > MOST_BYTES:
+            raise TooLong
+        return self.held
 
     def due(self):
-        """The words of the line that is due."""
-        self.place, self.end = f'line {self.line}: ', self.data.find(b'\n', self.start, self.start + MOST_LINE + 1)
-        need(self.end >= 0, 'Limit' if len(self.data) - self.start > MOST_LINE else 'Truncated')
-        return self.data[self.start:self.end].split(b' ')
+        """Its words."""
+        self.place, line = f'line {self.line}: ', self.ahead()
+        need(line.endswith(b'\n'), 'Limit' if len(line) > MOST_LINE else 'Truncated')
+        return line[:-1].split(b' ')
 
     def take(self, key):
         """Those behind its first word, which has to be the key. Then the next line is due."""
         words = self.due()
-        self.line, self.start = self.line + 1, self.end + 1
+        self.line, self.taken, self.held = self.line + 1, self.taken + len(self.held), b''
         need(words[0] == key)
         return words[1:]
 
@@ -73,7 +82,7 @@ class Report:
         self.text, is_bounded = text, text.due()[0] == b'plift-bounded'
         version = numbers(text.take(b'plift-bounded' if is_bounded else b'plift'), 1)
         need(version == [1] or version == [2] and not is_bounded, 'Version')
-        kind = text.take(b'kind')
+        kind = self.kind = text.take(b'kind')
         need(kind in ([b'dtmc'], [b'mdp']))
         names = text.counted(b'parameters')
         need(all(map(NAME.fullmatch, names)))
@@ -299,24 +308,24 @@ def leaves(report):
             need(levels == 0, 'depth')
         yield word, box, most - levels
     text.place = ''
-    need(text.start == len(text.data), 'rest')
+    need(not text.ahead(), 'rest')
 
 def check(text):
     """How many leaves accept, reject and are unknown."""
     report = Report(text)
     report.test_rows()
-    kinds = [kind for kind, _, _ in leaves(report)]
-    return tuple(map(kinds.count, [b'accept', b'reject', b'unknown']))
+    kinds = Counter(kind for kind, _, _ in leaves(report))
+    return tuple(kinds[kind] for kind in (b'accept', b'reject', b'unknown'))
 
 def main():
-    text = Text(sys.stdin.buffer.read())
-    if len(text.data) > MOST_BYTES:
-        print('too long', file=sys.stderr)
-        sys.exit(7)
+    text = Text(sys.stdin.buffer)
     try:
         print('sound accept %d reject %d unknown %d' % check(text))
     except Fault as fault:
         sys.exit(f'not sound: {text.place}{fault}')  # on standard error, with status 1
+    except TooLong:
+        print('too long', file=sys.stderr)
+        sys.exit(7)
 
 if __name__ == '__main__':
     main()

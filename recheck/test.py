@@ -10,6 +10,7 @@ asked where it is built, else the copy of `./plift --quick`, and where neither i
 from __future__ import annotations
 
 import argparse
+import io
 import random
 import re
 import subprocess
@@ -444,7 +445,7 @@ def asked(command: list[str], text: bytes) -> Answer:
 
 def rechecked(text: bytes) -> Answer:
     """How recheck.py ends on a text, without starting it."""
-    read = recheck.Text(text)
+    read = recheck.Text(io.BytesIO(text))
     try:
         return answer('sound accept %d reject %d unknown %d' % recheck.check(read))
     except recheck.Fault as fault:

@@ -9,6 +9,7 @@ Words, notes and statuses are those of plift-view (docs/FORMATS.md, docs/MESSAGE
 
 from __future__ import annotations
 
+import io
 import sys
 from pathlib import Path
 from typing import Sequence
@@ -24,6 +25,7 @@ from drawing.picture import svg_text  # noqa: E402
 from drawing.slices import Usage, Wish, slice_for  # noqa: E402
 from drawing.table import summary_text  # noqa: E402
 
+MOST_BYTES = 2**26  # of a text, as plift-view takes
 DONE, NOT_SOUND, USAGE, READ_FAULT, WRITE_FAULT, TOO_LONG, NO_MEMORY = 0, 1, 2, 5, 6, 7, 8
 
 
@@ -37,9 +39,9 @@ class Refused(Exception):
 
 def map_of(data: bytes) -> Map:
     """The leaves of a sound text."""
-    if len(data) > recheck.MOST_BYTES:
+    if len(data) > MOST_BYTES:
         raise Refused(TOO_LONG, "too long")
-    text = recheck.Text(data)
+    text = recheck.Text(io.BytesIO(data))
     try:
         return read_map(text)
     except recheck.Fault as fault:
@@ -67,7 +69,7 @@ def answer(words: Sequence[str], data: bytes) -> str:
 def read_text() -> bytes:
     """The text, and no more than shows that it is too long."""
     try:
-        return sys.stdin.buffer.read(recheck.MOST_BYTES + 1)
+        return sys.stdin.buffer.read(MOST_BYTES + 1)
     except OSError:
         raise Refused(READ_FAULT, "read fault") from None
 

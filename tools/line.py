@@ -18,7 +18,7 @@ from typing import Dict, List, NamedTuple, Optional, Sequence, Tuple
 sys.dont_write_bytecode = True
 
 from hints.numbers import Wide, ratio  # noqa: E402
-from hints.options import FLAGS, STEPPED, VALUED, VIEWED  # noqa: E402
+from hints.options import FLAGS, RANGED, STEPPED, VALUED, VIEWED  # noqa: E402
 
 TOOLS = Path(__file__).resolve().parent
 USAGE = 2
@@ -37,14 +37,17 @@ class Grammar(NamedTuple):
     takes_empty: bool = False
 
 
-VERIFY = Grammar(VALUED, needed=("--goal", "--bound"))
+VERIFY = Grammar(RANGED, needed=("--goal", "--bound"))
 BOUNDED = Grammar(STEPPED, needed=("--goal", "--bound", "--steps"))
-ASKING = {"verify": VERIFY, "bounded": BOUNDED, "lumped": VERIFY}
+LUMPED = Grammar(VALUED, needed=("--goal", "--bound"))
+ASKING = {"verify": VERIFY, "bounded": BOUNDED, "lumped": LUMPED}
 VIEW = Grammar(VIEWED, flags=FLAGS, often=("--at",), takes_empty=True)
 # How many words stand behind a command that has no options.
-COUNTS = {"check": 0, "generate": 1, "selftest": 1}
-# Numbers: the greatest number of digits, and the range.
-RANGES = {"--depth": (3, 0, 20), "--precision": (3, 1, 40), "--steps": (2, 1, 64), "N": (5, 1, 32767)}
+COUNTS = {"check": 0, "migrate": 0, "generate": 1, "selftest": 1}
+# Numbers in the order of their tests: the most digits, and the range. That of `--from` also ends at the precision.
+RANGES = {"--depth": (3, 0, 20), "--precision": (3, 1, 40), "--from": (3, 1, 40), "--steps": (2, 1, 64)}
+RANGES["N"] = (5, 1, 32767)
+USUAL_PRECISION = 24
 
 
 def settings_of(grammar: Grammar, words: Sequence[str]) -> Optional[List[Setting]]:
@@ -96,8 +99,10 @@ def first_bad_value(values: Dict[str, str]) -> Optional[str]:
         return "--goal"
     if not is_bound(values["--bound"]):
         return "--bound"
-    numbers = [name for name in ("--depth", "--precision", "--steps") if name in values]
-    return next((name for name in numbers if not is_number(values[name], name)), None)
+    bad = next((name for name in RANGES if name in values and not is_number(values[name], name)), None)
+    if bad is None and int(values.get("--from", 1)) > int(values.get("--precision", USUAL_PRECISION)):
+        return "--from"
+    return bad
 
 
 def plift_note(words: Sequence[str]) -> Optional[str]:

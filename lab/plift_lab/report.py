@@ -214,6 +214,11 @@ class Report:
         return '%s: %s%s' % (self.verdict, self.question, shares)
 
     @property
+    def precisions(self) -> List[int]:
+        """Of each decided leaf, in their order, its own precision."""
+        return [bits for bits, value in zip(self._precisions, self.values) if value is not None]
+
+    @property
     def picks(self) -> List[int]:
         """Of each rejecting leaf, in their order, the place of its scheduler."""
         return [pick for pick in self._picks if pick is not None]

@@ -146,7 +146,9 @@ class View(InFolder):
     def test_a_range_of_precisions(self):
         data = self.data(self.file('range.report', RANGE))[1]
         self.assertEqual((data['tree'], data['values'], data['precision']), ('0A0UR', [8, 11], 4))
+        self.assertEqual(data['precisions'], [1, 4])
         self.assertIn(['precision', '1 to 4 bits'], data['facts'])
+        self.assertIsNone(self.data(TREE)[1]['precisions'])
 
     def test_axes(self):
         self.assertEqual(self.data(TREE, '--x', 'q')[1]['axes'], [1, 0])

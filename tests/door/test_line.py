@@ -10,8 +10,8 @@ from common import TOP, quick_program, tool
 line = tool("line")
 
 WORDS = [
-    "verify", "bounded", "lumped", "check", "generate", "selftest", "--goal", "--bound", "--region", "--depth", "--precision",
-    "--steps", "--steps=64", "--steps=65", "--steps=064", "--steps=0", "--goal=a",
+    "verify", "bounded", "lumped", "check", "migrate", "generate", "selftest", "--goal", "--bound", "--region", "--depth",
+    "--precision", "--from", "--from=1", "--from=024", "--from=25", "--from=0", "--precision=40", "--steps", "--steps=64", "--steps=65", "--steps=064", "--steps=0", "--goal=a",
     "--bound=1/2", "--bound=", "--depth=3", "--depth=21", "--precision=0", "--precision=040", "-1", "", " ", "a", "1/2",
     "3%", "1e-3", "0.5", "2", "1/4294967295", "1/4294967296", "9223372036854775808/9223372036854775809", "1e-19", "20",
     "32767", "32768", "000001", "p=1", "--x", "--y", "--at", "--x=", "--at=p=1", "--at=p", "--summary", "--follow",
@@ -31,7 +31,18 @@ PLIFT = {
     "verify --goal a --bound 1/2 --precision 41": "usage: --precision",
     "verify --goal \u00fc --bound 1/2": "usage: --goal",
     "verify --goal a --bound 1/2 --steps 3": "usage: words",
+    "verify --goal a --bound 1/2 --from": "usage: words",
+    "verify --goal a --bound 1/2 --from 1 --from 2": "usage: words",
+    "verify --goal a --bound 1/2 --from 0": "usage: --from",
+    "verify --goal a --bound 1/2 --from 25": "usage: --from",
+    "verify --goal a --bound 1/2 --from 41 --precision 40": "usage: --from",
+    "verify --goal a --bound 1/2 --from 5 --precision 4": "usage: --from",
+    "verify --goal a --bound 1/2 --from 0001": "usage: --from",
+    "verify --goal a --bound 1/2 --from x": "usage: --from",
+    "verify --from x --goal a --bound 1/2 --precision 41": "usage: --precision",
+    "verify --from x --goal a --bound 2": "usage: --bound",
     "bounded --goal a --bound 1/2": "usage: words",
+    "bounded --goal a --bound 1/2 --steps 3 --from 1": "usage: words",
     "bounded --goal a --bound 1/2 --steps": "usage: words",
     "bounded --goal a --bound 1/2 --steps 0": "usage: --steps",
     "bounded --goal a --bound 1/2 --steps 65": "usage: --steps",
@@ -39,8 +50,11 @@ PLIFT = {
     "bounded --steps 0 --goal a --bound 1/2 --precision 41": "usage: --precision",
     "lumped --goal a": "usage: words",
     "lumped --goal a --bound 1/2 --steps 3": "usage: words",
+    "lumped --goal a --bound 1/2 --from 1": "usage: words",
     "lumped --goal a --bound 2": "usage: --bound",
     "check report": "usage: words",
+    "migrate report": "usage: words",
+    "migrate --from 1": "usage: words",
     "generate": "usage: words",
     "generate 0": "usage: N",
     "generate -1": "usage: words",
@@ -49,9 +63,10 @@ PLIFT = {
     "selftest 1 2": "usage: words",
 }
 PLAIN = [
-    "check", "generate 1", "selftest 32767", "verify --bound=1/2 --goal=a",
+    "check", "migrate", "generate 1", "selftest 32767", "verify --bound=1/2 --goal=a",
     "verify --goal a --bound 1/2 --region x --depth 020 --precision 1", "bounded --steps=64 --bound=1/2 --goal=a",
-    "lumped --depth 20 --bound=1/2 --goal=a",
+    "lumped --depth 20 --bound=1/2 --goal=a", "verify --from 24 --bound=1/2 --goal=a",
+    "verify --from=004 --bound=1/2 --goal=a --precision 4",
 ]
 VIEW = {
     "x": True, "--x": True, "--x p --x q": True, "--summary --follow": True, "--summary=": True,

@@ -14,7 +14,9 @@ line = tool("line")
 OPTION = re.compile(r"(?<![\w-])--[a-z]+")
 # What the launchers answer themselves.
 DOOR = {"--help", "--version", "--quick"}
-COMMANDS = ["verify", "bounded", "lumped", "check", "generate", "selftest"]
+COMMANDS = ["verify", "bounded", "lumped", "check", "migrate", "generate", "selftest"]
+# The options of all commands.
+ASKED = {*line.VERIFY.valued, *line.BOUNDED.valued, *line.LUMPED.valued}
 
 
 def help_of(name):
@@ -41,7 +43,7 @@ class Named(unittest.TestCase):
 
     def test_the_grammar(self):
         words = part_of(self.formats, "## The command line", "Any other line")
-        self.assertEqual(set(OPTION.findall(words)) - {"--name"}, set(line.BOUNDED.valued))
+        self.assertEqual(set(OPTION.findall(words)) - {"--name"}, ASKED)
         view = part_of(self.formats, "## The view of a report", "## Notes")
         self.assertEqual(rows_of(view), {*line.VIEW.valued, *line.VIEW.flags})
         named = part_of(words, "The first word is", "\n")
@@ -52,6 +54,8 @@ class Named(unittest.TestCase):
         for name, row in (("--depth", "`--depth`"), ("--precision", "`--precision`"), ("--steps", "`--steps`"), ("N", "the number of blocks")):
             digits, low, high = line.RANGES[name]
             self.assertIn(f"| {row} | 1 to {digits} digits, {low} to {high:,} |", values)
+        digits, low, _ = line.RANGES["--from"]
+        self.assertIn(f"| `--from` | 1 to {digits} digits, {low} to the precision |", values)
         for text in (help_of("verify"), help_of("lumped"), re.sub(r"\s+", " ", man_of("plift"))):
             for name in ("--depth", "--precision"):
                 self.assertRegex(text, rf"{name} \S+[^-]*{line.RANGES[name][1]} to {line.RANGES[name][2]}\b")
@@ -62,11 +66,11 @@ class Named(unittest.TestCase):
 
     def test_help(self):
         self.assertEqual(set(OPTION.findall(help_of("verify"))), set(line.VERIFY.valued))
-        self.assertEqual(set(OPTION.findall(help_of("lumped"))), set(line.VERIFY.valued))
+        self.assertEqual(set(OPTION.findall(help_of("lumped"))), set(line.LUMPED.valued))
         self.assertEqual(set(OPTION.findall(help_of("bounded"))), set(line.BOUNDED.valued))
         view = set(OPTION.findall(help_of("plift-view"))) - set(line.VERIFY.valued)
         self.assertEqual(view, {*line.VIEW.valued, *line.VIEW.flags, *DOOR})
-        self.assertEqual(set(OPTION.findall(help_of("plift"))), {*line.BOUNDED.valued, *DOOR})
+        self.assertEqual(set(OPTION.findall(help_of("plift"))), {*ASKED, *DOOR})
         for command in COMMANDS:
             self.assertIn(f"plift {command}", help_of("plift"))
             self.assertTrue(help_of(command).startswith(f"plift {command}"))
@@ -75,7 +79,7 @@ class Named(unittest.TestCase):
 
     def test_man_pages(self):
         plift, view = (set(OPTION.findall(man_of(name))) for name in ("plift", "plift-view"))
-        self.assertEqual(plift, {*line.BOUNDED.valued, *DOOR})
+        self.assertEqual(plift, {*ASKED, *DOOR})
         self.assertEqual(view, {*line.VIEW.valued, *line.VIEW.flags, *DOOR})
         version = (TOP / "VERSION").read_text().strip()
         for name in ("plift", "plift-view"):
@@ -97,7 +101,7 @@ class Named(unittest.TestCase):
 
     def test_completion_for_zsh(self):
         text = (TOP / "completion/_plift").read_text()
-        self.assertEqual(set(OPTION.findall(text)), {*line.BOUNDED.valued, *line.VIEW.valued, *line.VIEW.flags, *DOOR})
+        self.assertEqual(set(OPTION.findall(text)), {*ASKED, *line.VIEW.valued, *line.VIEW.flags, *DOOR})
         self.assertTrue(all(f"'{command}:" in text for command in COMMANDS))
 
 
@@ -121,14 +125,17 @@ class Completed(unittest.TestCase):
         self.assertEqual(self.offered("plift", "--quick", ""), {*COMMANDS, *DOOR} - {"--quick"})
         self.assertEqual(self.offered("plift", "--help", "s"), {"selftest"})
         self.assertEqual(self.offered("plift", "verify", ""), {*line.VERIFY.valued, "--help"})
-        self.assertEqual(self.offered("plift", "lumped", ""), {*line.VERIFY.valued, "--help"})
+        self.assertEqual(self.offered("plift", "lumped", ""), {*line.LUMPED.valued, "--help"})
         self.assertEqual(self.offered("plift", "bounded", ""), {*line.BOUNDED.valued, "--help"})
         self.assertEqual(self.offered("plift", "bounded", "--steps", "3", "--s"), set())
-        left = {"--bound", "--region", "--precision", "--help"}
+        left = {"--bound", "--region", "--precision", "--from", "--help"}
         self.assertEqual(self.offered("plift", "verify", "--goal", "x", "--depth=3", "--"), left)
         self.assertEqual(self.offered("plift", "--quick", "verify", "--b"), {"--bound"})
         self.assertEqual(self.offered("plift", "verify", "--goal", "-"), set())
-        self.assertEqual(self.offered("plift", "check", ""), {"--help"})
+        self.assertEqual(self.offered("plift", "verify", "--from", "1", "--f"), set())
+        self.assertEqual(self.offered("plift", "verify", "--from", "-"), set())
+        for command in ("check", "migrate"):
+            self.assertEqual(self.offered("plift", command, ""), {"--help"})
 
     def test_view(self):
         self.assertEqual(self.offered("plift-view", ""), {*line.VIEW.valued, *line.VIEW.flags, *DOOR})

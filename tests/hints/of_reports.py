@@ -18,6 +18,10 @@ def check(text: bytes, fault: str, *told: str) -> Mistake:
     return Mistake("check", text, 1, f"not sound: {fault}", told)
 
 
+def migrate(text: bytes, fault: str, *told: str) -> Mistake:
+    return Mistake("migrate", text, 1, f"not sound: {fault}", told)
+
+
 def retry(old: str, new: str, fault: str, *told: str) -> Mistake:
     """A change of the example retry.report."""
     return check(changed(REPORT, old, new), fault, *told)
@@ -112,6 +116,19 @@ SECONDS = [
     check(SECOND + b"# checked\n", "rest", "the tree ends with line 30", "line 31 follows"),
 ]
 
+STEPS = changed(COIN_REPORT, "plift 1", "plift-bounded 1")
+MIGRATED = [
+    migrate(SECOND, "line 1: Version", "of version 2 already", "keep it as it is"),
+    migrate(SECOND[:-1], "line 1: Version", "of version 2 already"),
+    migrate(changed(REPORT, "plift 1", "plift 3"), "line 1: Version", '"plift 3"', "versions 1 and 2"),
+    migrate(STEPS, "line 1: Syntax", "a report of plift bounded", "recheck/recheck.py"),
+    check(STEPS, "line 1: Syntax", "a report of plift bounded", "recheck/recheck.py"),
+    migrate(RETRY, "line 1: Syntax", "that is a model text"),
+    migrate(b"", "line 1: Truncated", "there is no text"),
+    migrate(changed(REPORT, "accept 28", "accept 27"), "node 0 state 0 choice 0 corner 1: 558 > 540", "node 0 begins at line 35"),
+    migrate(REPORT + REPORT, "rest", "a second report begins at line 36"),
+]
+
 VIEWED = [
     view("retry.report", "words", "a file is given by <", "plift-view < retry.report"),
     view("--help", "words", "plift-view --help"),
@@ -150,4 +167,4 @@ VIEWED = [
     view("--x p --y q --at q=1/10", "--at 1 Repeated", "lies on the axis --y"),
 ]
 
-MISTAKES = CHECKED + SECONDS + VIEWED
+MISTAKES = CHECKED + SECONDS + MIGRATED + VIEWED

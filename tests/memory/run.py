@@ -70,19 +70,21 @@ LADDER_ROOM = {"parameters": 2, "states": 4, "rows": 4, "weights": 9}
 ACCEPT = Case("verify " + COIN_JOB, COIN, last=room(0, **COIN_ROOM))
 DEEP_JOB = "--goal heads --bound 1/2 --region 1/10<=p<=9/10 --precision 24 --depth 12"
 DEEP = Case("verify " + DEEP_JOB, COIN, last=room(12, **COIN_ROOM))
+RANGED = Case("verify --from 1 " + DEEP_JOB, COIN, last=room(12, **COIN_ROOM))
 BOUNDED = Case("bounded --steps 1 " + COIN_JOB, COIN, last=bounded_room(1, 0, **COIN_STEPS))
 FAR = Case("bounded --steps 64 " + DEEP_JOB, COIN, last=bounded_room(64, 12, **COIN_STEPS))
 # No two states of the coin behave alike.
 LUMPED = Case("lumped " + COIN_JOB, COIN, last=room(0, **COIN_ROOM))
 GENERATE = Case("generate 1")
 CHECK = Case("check", report_of=ACCEPT)
+MIGRATE = Case("migrate", report_of=ACCEPT)
 LADDER_VERIFY = Case("verify " + LADDER_JOB, LADDER, last=room(2, **LADDER_ROOM))
 LADDER_CHECK = Case("check", report_of=LADDER_VERIFY)
 
 SELFTEST = Case("selftest 1")
 
 # Each of these runs is tried with each of its requests refused in turn.
-CASES = [ACCEPT, DEEP, LUMPED, BOUNDED, FAR, CHECK, GENERATE, LADDER_VERIFY, LADDER_CHECK, SELFTEST]
+CASES = [ACCEPT, DEEP, RANGED, LUMPED, BOUNDED, FAR, CHECK, MIGRATE, GENERATE, LADDER_VERIFY, LADDER_CHECK, SELFTEST]
 
 # What selftest does in one run: it asks for memory at least as often as these do behind their words.
 SELFTEST_PARTS = [LADDER_VERIFY, LADDER_CHECK]

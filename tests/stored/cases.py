@@ -84,7 +84,7 @@ def words_of(line: str, separator: str = " ") -> list[str]:
 def runs() -> Iterator[Case]:
     """Models with the words that they are verified by."""
     models = named(constants("plift_tests", "models")["MODELS"])
-    for module in ("decided", "lumped", "refused", "regions", "rows", "trees", "within"):
+    for module in ("decided", "lumped", "ranges", "refused", "regions", "rows", "trees", "within"):
         for name, table in constants("plift_tests", module).items():
             for row in rows(table) if name not in ("REGION", "REPORT") else []:
                 words, model, status, end, notes = row.split(" | ")
@@ -106,12 +106,13 @@ def lines() -> Iterator[Case]:
 
 
 def checked() -> Iterator[Case]:
-    """Reports that are checked."""
+    """Reports that are checked, and those that are migrated."""
     found = constants("plift_tests", "checked")
     heads = named(found["HEADS"])
-    for row in rows(found["FILES"]):
-        head, rest, *cells = row.split(" | ")
-        yield Case(f"checked: {row}", "plift", ["check"], heads[head] + lines_of(rest), answer(*cells))
+    for command, table in (("check", "FILES"), ("migrate", "MIGRATED")):
+        for row in rows(found[table]):
+            head, rest, *cells = row.split(" | ")
+            yield Case(f"{command}: {row}", "plift", [command], heads[head] + lines_of(rest), answer(*cells))
 
 
 def changed(text: str, changes: str) -> bytes:
@@ -176,5 +177,6 @@ def left_out() -> Iterator[str]:
     for (crate, module, name), why in LEFT_OUT.items():
         yield f"{len(rows(constants(crate, module)[name]))} rows of {name} in {crate}/src/{module}.rt: {why}"
     yield "reports_are_cut_off_anywhere and reports_lack_what_failed in plift_tests/src/trees.rt: an output that holds only so many bytes"
+    yield "reports_with_ranges_are_cut_off_anywhere in plift_tests/src/ranges.rt: an output that holds only so many bytes"
     yield "texts_for_steps_are_cut_off_anywhere in plift_tests/src/within.rt: an output that holds only so many bytes"
     yield "unsound_reports_have_no_map in view_tests/src/pictures.rt, and the other crates of tests: they call parts of the programs"

@@ -25,7 +25,7 @@ def models() -> Iterator[Case]:
         region = ",".join(f"1/10<={name}<=2/5" for name in parameters(text))
         for goal in labels(text):
             for bound, depth, precision in SHAPES:
-                for command in (["verify"], ["lumped"], ["bounded", "--steps", "3"]):
+                for command in (["verify"], ["verify", "--from", "1"], ["lumped"], ["bounded", "--steps", "3"]):
                     words = [*command, "--goal", goal, "--bound", bound, "--depth", depth, "--precision", precision]
                     words += ["--region", region] if region else []
                     yield Case(f"{path.name}: {' '.join(words)}", "plift", words, path.read_bytes())
@@ -33,7 +33,8 @@ def models() -> Iterator[Case]:
 
 def reports() -> Iterator[Case]:
     for path in sorted((TOP / "examples").glob("*.report")):
-        yield Case(f"{path.name}: check", "plift", ["check"], path.read_bytes())
+        for command in ("check", "migrate"):
+            yield Case(f"{path.name}: {command}", "plift", [command], path.read_bytes())
         for words in VIEWS:
             yield Case(f"{path.name}: {' '.join(words)}", "plift-view", words, path.read_bytes())
 

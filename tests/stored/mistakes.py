@@ -8,6 +8,8 @@ from tables import TOP
 
 GOAL, BOUND = "lost", "3/100"
 REGION = "1/10<=p<=3/10,1/20<=q<=1/5"
+# The commands that read a report.
+READING = ["check", "migrate"]
 
 # Each row: an option of `verify`, a value, and what is told; `Done` where it is no mistake.
 VALUES = """
@@ -41,6 +43,12 @@ VALUES = """
 --depth | 1000 | usage: --depth
 --precision | 53 | usage: --precision
 --precision | 0.001 | usage: --precision
+--from | 10 | Done
+--from | 001 | Done
+--from | 11 | usage: --from
+--from | 0 | usage: --from
+--from | 0001 | usage: --from
+--from | 1..10 | usage: --from
 """
 
 # Each row: the words between bars, and what is told. The model is on standard input.
@@ -62,14 +70,22 @@ verify|--goal|{GOAL}|--bound|{BOUND}|--region|{REGION}|--steps|3 | usage: words
 lumped|--goal|{GOAL}|--bound|{BOUND}|--region|{REGION} | lump: not a chain
 lumped|--goal|{GOAL}|--bound|{BOUND} | lump: not a chain
 lumped|--goal|{GOAL}|--bound|{BOUND}|--region|{REGION}|--steps|3 | usage: words
+lumped|--goal|{GOAL}|--bound|{BOUND}|--region|{REGION}|--from|1 | usage: words
 lumped|--goal|lots|--bound|{BOUND}|--region|{REGION} | model: line 31: UnknownLabel
 bounded|--goal|{GOAL}|--bound|{BOUND}|--region|{REGION} | usage: words
 bounded|--goal|{GOAL}|--bound|{BOUND}|--region|{REGION}|--steps|100 | usage: --steps
 bounded|--goal|{GOAL}|--bound|{BOUND}|--region|{REGION}|--steps|three | usage: --steps
 bounded|--goal|{GOAL}|--bound|{BOUND}|--steps|3 | usage: --region Missing
+bounded|--goal|{GOAL}|--bound|{BOUND}|--region|{REGION}|--steps|3|--from|1 | usage: words
 bounded|--goal|lots|--bound|{BOUND}|--region|{REGION}|--steps|3 | model: line 31: UnknownLabel
+verify|--goal|{GOAL}|--bound|{BOUND}|--region|{REGION}|--from|25 | usage: --from
+verify|--goal|{GOAL}|--bound|{BOUND}|--region|{REGION}|--from|1|--from|2 | usage: words
+verify|--goal|lots|--bound|{BOUND}|--region|{REGION}|--from|1 | model: line 31: UnknownLabel
 check|examples/retry.report | usage: words
 check | not sound: line 1: Syntax
+migrate|examples/retry.report | usage: words
+migrate|--from|1 | usage: words
+migrate | not sound: line 1: Syntax
 """
 
 # Each row: a part of the model's text, what stands in its place (`;` ends a line), and what is told.
@@ -94,10 +110,23 @@ state 0 init | state 0 "init | model: line 7: OpenQuote
 // A | // Ä | Done
 """
 
-# Each row: a part of the report's text, what stands in its place, and what is told by `check`.
+# Each row: a part of the report's text, what stands in its place, and what is told by `check` and by `migrate`.
 REPORTS = """
 28 93 308 0 1024 | 27 93 308 0 1024 | not sound: node 0 state 0 choice 0 corner 1: 558 > 540
 1024; | 1024;plift 1; | not sound: rest
+plift 1 | plift 3 | not sound: line 1: Version
+plift 1 | plift-bounded 1 | not sound: line 1: Syntax
+precision 10; | precision 10;from 10; | not sound: line 32: Syntax
+accept 28 | at 10;accept 28 | not sound: line 35: Syntax
+"""
+
+# Each row: parts of the report's text and what stands in their places, and what is told by `check` and by `migrate`.
+SECONDS = """
+precision 10; | precision 10;from 10; | accept 28 | at 10;accept 28 | Done | not sound: line 1: Version
+precision 10; | precision 10;from 11; | accept 28 | at 10;accept 28 | not sound: line 32: Limit | not sound: line 1: Version
+precision 10; | precision 10;from 10; | accept 28 | at 9;accept 28 | not sound: line 36: Limit | not sound: line 1: Version
+precision 10; | precision 10;from 1; | accept 28 | accept 28 | not sound: line 36: Syntax | not sound: line 1: Version
+precision 10; | precision 10; | accept 28 | at 10;accept 28 | not sound: line 32: Syntax | not sound: line 1: Version
 """
 
 
@@ -140,8 +169,12 @@ def texts(model: bytes, report: bytes) -> Iterator[tuple[str, list[str], bytes, 
     yield "byte order mark", verify(), b"\xef\xbb\xbf" + model, "model: line 1: NotText"
     yield "UTF-16", verify(), model.decode().encode("utf-16"), "model: line 1: NotText"
     yield "a PRISM file", verify(), b"mdp\n\nconst double p;\n", "model: line 1: Syntax"
-    yield "a report with carriage returns", ["check"], report.replace(b"\n", b"\r\n"), "not sound: line 1: Syntax"
-    yield "a report that is cut", ["check"], b"".join(report.splitlines(True)[:10]), "not sound: line 11: Truncated"
+    for command in READING:
+        cut = b"".join(report.splitlines(True)[:10])
+        yield f"{command}: a report with carriage returns", [command], report.replace(b"\n", b"\r\n"), "not sound: line 1: Syntax"
+        yield f"{command}: a report that is cut", [command], cut, "not sound: line 11: Truncated"
+        yield f"{command}: empty", [command], b"", "not sound: line 1: Truncated"
+        yield f"{command}: compressed", [command], gzip.compress(report, mtime=0), "not sound: line 1: Truncated"
 
 
 def cases() -> Iterator[Case]:
@@ -159,6 +192,12 @@ def cases() -> Iterator[Case]:
         yield case(row, verify(), replaced(model, old, new), note)
     for row in rows(REPORTS):
         old, new, note = row.split(" | ")
-        yield case(row, ["check"], replaced(report, old, new), note)
+        for command in READING:
+            yield case(f"{command}: {row}", [command], replaced(report, old, new), note)
+    for row in rows(SECONDS):
+        old, new, other, instead, *notes = row.split(" | ")
+        text = replaced(replaced(replaced(report, "plift 1", "plift 2"), old, new), other, instead)
+        for command, note in zip(READING, notes):
+            yield case(f"{command}: {row}", [command], text, note)
     for what, words, text, note in texts(model, report):
         yield case(what, words, text, note)

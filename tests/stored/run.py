@@ -4,9 +4,10 @@
     run.py [--program PATH] [--view PATH] [--proved PATH --proved-view PATH]
 
 These are the tables of crates/plift_tests and crates/view_tests and the runs beside each program's source, as far as they
-can be given by standard streams, and what newcomers get wrong. Each report that is written is checked as well. The programs
-are those of tools/quick.py if left out, which builds them where need be. With --proved and --proved-view a second pair of
-programs is given the same, and the examples besides: both have to answer the same, byte for byte.
+can be given by standard streams, and what newcomers get wrong. Each report that `verify` writes is checked as well, and
+what `migrate` makes of one of version 1 has the bytes that it should have, and is checked. The programs are those of
+tools/quick.py if left out, which builds them where need be. With --proved and --proved-view a second pair of programs is
+given the same, and the examples besides: both have to answer the same, byte for byte.
 """
 
 import argparse
@@ -22,12 +23,14 @@ sys.path.insert(0, str(Path(__file__).resolve().parent))
 import examples
 import mistakes
 import streams
-from cases import DONE, UNREADABLE, Answer, Case, left_out, stored
+from cases import DONE, STATUSES, UNREADABLE, Answer, Case, left_out, stored
 from tables import TOP
 
 SECONDS = 120
 # The status of a run that took longer.
 STOPPED = -1
+# What `migrate` answers to a report that isn't of version 1.
+NO_FIRST = Answer(STATUSES.index("NotSound"), b"", b"not sound: line 1: Version\n")
 
 
 def ask(program: str, words: list[str], given: bytes | None) -> Answer:
@@ -65,15 +68,38 @@ def told(answer: Answer) -> str:
     return f"status {answer.status}, output {short(answer.output)}, notes {short(answer.notes)}"
 
 
+def in_version_2(report: bytes) -> bytes:
+    """A report of version 1 in version 2, at its one precision."""
+    lines, bits = [], b""
+    for line in report.replace(b"plift 1\n", b"plift 2\n", 1).splitlines(keepends=True):
+        lines += [b"at " + bits] if line.startswith((b"accept", b"reject")) else []
+        lines.append(line)
+        if line.startswith(b"precision "):
+            bits = line.split(b" ")[1]
+            lines.append(b"from " + bits)
+    return b"".join(lines)
+
+
+def report_faults(plift: str, report: bytes) -> Iterator[str]:
+    """What is wrong with a report that was written."""
+    check = ask(plift, ["check"], report)
+    if check.status != DONE or not check.output.startswith(b"sound accept "):
+        yield f"its report isn't found sound: {told(check)}"
+    second = ask(plift, ["migrate"], report)
+    is_second = report.startswith(b"plift 2\n")
+    if second != (NO_FIRST if is_second else Answer(DONE, in_version_2(report), b"")):
+        yield f"its report is migrated to {told(second)}"
+    elif not is_second and ask(plift, ["check"], second.output) != check:
+        yield "its report isn't found sound in version 2"
+
+
 def faults(case: Case, programs: dict[str, str], proved: dict[str, str]) -> Iterator[str]:
     """What is wrong with the answer to a case."""
     got = ask(programs[case.program], case.words, case.given)
     if not case.is_met(got):
         yield f"got {told(got)}" + (f"; wanted {told(case.want)}" if case.want else "")
     if case.words[:1] == ["verify"] and got.status == DONE:
-        check = ask(programs["plift"], ["check"], got.output)
-        if check.status != DONE or not check.output.startswith(b"sound accept "):
-            yield f"its report isn't found sound: {told(check)}"
+        yield from report_faults(programs["plift"], got.output)
     if case.program in proved:
         other = ask(proved[case.program], case.words, case.given)
         if other != got:
@@ -111,7 +137,7 @@ def main() -> int:
                 wrong += 1
                 print(f"{case.name}: {fault}")
         print(f"{name}: {len(cases)} runs" if cases else f"{name}: none, without --proved", flush=True)
-    for fault in stream_faults([path for path in (programs["plift"], given.proved) if path]):
+    for fault in stream_faults([os.path.abspath(path) for path in (programs["plift"], given.proved) if path]):
         wrong += 1
         print(fault)
     for rows in left_out():

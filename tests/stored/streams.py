@@ -5,6 +5,7 @@ import subprocess
 from collections.abc import Iterator
 
 from cases import Answer
+from tables import TOP
 
 # Each row: the words, what the shell does to the streams, the status, and what is noted.
 ROWS = """
@@ -13,12 +14,17 @@ check | </ | 5 | read fault
 generate 1 | </dev/null >&- | 6 | write fault
 generate 1 | </dev/null >/dev/full | 6 | write fault
 check | </dev/null 2>&- | 1 |
+migrate | <&- | 5 | read fault
+migrate | </ | 5 | read fault
+migrate | <examples/coin.report >&- | 6 | write fault
+migrate | <examples/coin.report >/dev/full | 6 | write fault
+migrate | </dev/null 2>&- | 1 |
 verify | </dev/null 2>/dev/full | 2 |
 """
 
 
 def answer_of(command: list[str | bytes], **streams: int) -> Answer:
-    done = subprocess.run(command, stderr=subprocess.PIPE, timeout=60, **streams)
+    done = subprocess.run(command, stderr=subprocess.PIPE, timeout=60, cwd=TOP, **streams)
     return Answer(done.returncode, done.stdout or b"", done.stderr)
 
 

@@ -74,14 +74,19 @@ class TilesCase(unittest.TestCase):
         path.chmod(0o755)
         return path
 
-    def retry(self, depth: int) -> bytes:
+    def retry(self, depth: int, *more: str) -> bytes:
         """The report of examples/retry.drn that examples/retry-tree.report is of at depth 4."""
         words = "verify --goal lost --bound 1/40 --region 1/10<=p<=1/2,1/10<=q<=1/2 --precision 10".split()
-        return written(self.program, [*words, "--depth", str(depth)], (EXAMPLES / "retry.drn").read_bytes())
+        return written(self.program, [*words, "--depth", str(depth), *more], (EXAMPLES / "retry.drn").read_bytes())
 
     def job(self, depth: int = 7, name: str = "work") -> Job:
         """A job on examples/retry-tree.report, which has three unknown leaves."""
         split(self.program, (EXAMPLES / "retry-tree.report").read_bytes(), self.folder / name, depth)
+        return Job(self.folder / name)
+
+    def ranged_job(self, name: str = "ranged") -> Job:
+        """The same with a range of precisions."""
+        split(self.program, self.retry(4, "--from", "3"), self.folder / name, 7)
         return Job(self.folder / name)
 
     def done_job(self, depth: int = 7, name: str = "work") -> Job:

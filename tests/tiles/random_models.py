@@ -3,7 +3,8 @@
 
     tests/tiles/random_models.py [--count N] [--seed S]
 
-Chains and decision processes, of 0 to 3 parameters, with dead ones whose ends are negative, at precisions from 1 to 40.
+Chains and decision processes, of 0 to 3 parameters, with dead ones whose ends are negative, at precisions from 1 to 40,
+half of them with a range of precisions.
 The bound of each lies between what is reached everywhere and what is reached somewhere, so that most have unknown
 leaves. The joined report has to be that of a single `verify`, byte for byte, after one or two rounds, and what is joined
 in part has to be sound. Ends with 1 where one isn't, and tells its number and the seed.
@@ -30,10 +31,13 @@ class Question(NamedTuple):
     model: bytes
     region: str
     precision: int
+    least: Optional[int]
+    """The least precision of a range; none where one precision is asked for."""
 
     def words(self, bound: Fraction, depth: int) -> List[str]:
         """The program's words."""
         words = ["verify", "--goal", "goal", "--bound", str(bound), "--depth", str(depth), "--precision", str(self.precision)]
+        words += [] if self.least is None else ["--from", str(self.least)]
         return [*words, "--region", self.region] if self.region else words
 
 
@@ -69,7 +73,9 @@ def question(chance: random.Random) -> Question:
     lines += [f"state {goal} goal", f"{goal} : 1", f"state {sink}", f"{sink} : 1"]
     region = ",".join(interval(chance, name, name in dead) for name in names)
     region = " " + region if region.startswith("-") else region
-    return Question(("\n".join(lines) + "\n").encode(), region, chance.choice([1, 4, 10, 16, 24, 40]))
+    precision = chance.choice([1, 4, 10, 16, 24, 40])
+    least = chance.choice([None, chance.randint(1, precision)])
+    return Question(("\n".join(lines) + "\n").encode(), region, precision, least)
 
 
 def interval(chance: random.Random, name: str, is_dead: bool) -> str:

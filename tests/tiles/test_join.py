@@ -7,17 +7,22 @@ from common import EXAMPLES, Job, TilesCase, joined, split, work, written
 from plift_lab.faults import Fault
 from random_models import compare
 
-# Each row: an example, its goal, a bound, a region, a precision, a first depth, deeper ones in turn, and whether there are
-# tiles.
+# Each row: an example, its goal, a bound, a region, a precision, or the least and the greatest one, a first depth, deeper
+# ones in turn, and whether there are tiles.
 TABLE = """
-coin.drn  | heads | 1/3   | 1/10<=p<=9/10                          | 10 | 0 | 1, 6  | some
-loop.drn  | heads | 1/2   | 1/10<=p<=9/10                          | 24 | 2 | 9     | some
-retry.drn | lost  | 1/40  | 1/10<=p<=1/2,1/10<=q<=1/2              | 10 | 4 | 7, 10 | some
-retry.drn | lost  | 1/40  | 1/10<=q<=1/2,1/10<=p<=1/2              | 40 | 2 | 9     | some
-links.drn | lost  | 1/10  | 1/20<=p<=2/5,1/20<=q<=2/5              | 16 | 3 | 6, 8  | some
-chain.drn | lost  | 1/2   | 3/5<=p<=9/10,3/5<=q<=9/10,3/5<=r<=9/10 | 16 | 3 | 6, 8  | some
-retry.drn | lost  | 3/100 | 1/10<=p<=3/10,1/20<=q<=1/5             | 10 | 0 | 5     | none
-plain.drn | heads | 1/3   |                                        | 4  | 0 | 3     | none
+coin.drn  | heads | 1/3   | 1/10<=p<=9/10                          | 10   | 0 | 1, 6  | some
+loop.drn  | heads | 1/2   | 1/10<=p<=9/10                          | 24   | 2 | 9     | some
+retry.drn | lost  | 1/40  | 1/10<=p<=1/2,1/10<=q<=1/2              | 10   | 4 | 7, 10 | some
+retry.drn | lost  | 1/40  | 1/10<=q<=1/2,1/10<=p<=1/2              | 40   | 2 | 9     | some
+links.drn | lost  | 1/10  | 1/20<=p<=2/5,1/20<=q<=2/5              | 16   | 3 | 6, 8  | some
+chain.drn | lost  | 1/2   | 3/5<=p<=9/10,3/5<=q<=9/10,3/5<=r<=9/10 | 16   | 3 | 6, 8  | some
+retry.drn | lost  | 3/100 | 1/10<=p<=3/10,1/20<=q<=1/5             | 10   | 0 | 5     | none
+plain.drn | heads | 1/3   |                                        | 4    | 0 | 3     | none
+coin.drn  | heads | 1/3   | 1/10<=p<=9/10                          | 1 10 | 0 | 1, 6  | some
+retry.drn | lost  | 1/40  | 1/10<=p<=1/2,1/10<=q<=1/2              | 1 24 | 4 | 7, 10 | some
+links.drn | lost  | 1/10  | 1/20<=p<=2/5,1/20<=q<=2/5              | 5 16 | 3 | 6, 8  | some
+chain.drn | lost  | 1/2   | 3/5<=p<=9/10,3/5<=q<=9/10,3/5<=r<=9/10 | 9 9  | 3 | 6, 8  | some
+retry.drn | lost  | 3/100 | 1/10<=p<=3/10,1/20<=q<=1/5             | 1 10 | 0 | 5     | none
 """
 # A coin whose second parameter occurs in no row, and has negative ends.
 DEAD = b"""@type: DTMC
@@ -53,7 +58,9 @@ class Bytes(TilesCase):
     def test_examples(self) -> None:
         for row in TABLE.strip().splitlines():
             name, goal, bound, region, precision, first, others, tiles = (part.strip() for part in row.split("|"))
-            words = ["verify", "--goal", goal, "--bound", bound, "--precision", precision]
+            *least, greatest = precision.split()
+            words = ["verify", "--goal", goal, "--bound", bound, "--precision", greatest]
+            words += ["--from", *least] if least else []
             words += ["--region", region] if region else []
             with self.subTest(row):
                 model = (EXAMPLES / name).read_bytes()
@@ -63,6 +70,14 @@ class Bytes(TilesCase):
     def test_a_region_that_begins_with_a_sign(self) -> None:
         words = ["verify", "--goal", "heads", "--bound", "1/3", "--region", " -1/2<=s<=-1/4,1/10<=p<=9/10"]
         self.assertGreater(self.compare(DEAD, words, ["1", "4"]), 0)
+
+    def test_a_report_that_was_migrated(self) -> None:
+        first = written(self.program, ["migrate"], (EXAMPLES / "retry-tree.report").read_bytes())
+        split(self.program, first, self.folder / "work", 7)
+        job = Job(self.folder / "work")
+        self.assertEqual(work(self.program, job, job.numbers), 0)
+        self.assertEqual(joined(job), written(self.program, ["migrate"], self.retry(7)))
+        self.assertEqual(joined(job), self.retry(7, "--from", "10"))
 
     def test_models_made_at_random(self) -> None:
         came = list(compare(count=40, seed=1))

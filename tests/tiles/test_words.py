@@ -23,7 +23,6 @@ split new --depth 7 < cut.report            | 1  | not sound: line 51: Truncated
 split new --depth 7 < empty                 | 1  | not sound: line 1: Truncated
 split new --depth 7 < changed.report        | 1  | not sound: node 4 state 1 choice 0 corner 1: 6560 > 6400
 split new --depth 7 < steps.text            | 1  | not sound: line 1: Syntax
-split new --depth 7 < range.report          | 2  | a report of version 2 isn't split
 split new --depth 17 < fine.report          | 2  | usage: --region Wide
 left none                                   | 2  | none is no folder that `plift-tiles split` has made
 left tree.report                            | 2  | tree.report is no folder that `plift-tiles split` has made
@@ -54,8 +53,7 @@ class Words(TilesCase):
         fine = written(self.program, [*COIN, "--region", f"1/{2 ** 45}<=p<=1/2"], (EXAMPLES / "coin.drn").read_bytes())
         texts = {"tree.report": tree, "cut.report": tree[:-1], "empty": b"", "fine.report": fine,
                  "changed.report": tree.replace(b"\naccept 9 41 ", b"\naccept 9 40 ", 1),
-                 "steps.text": tree.replace(b"plift 1", b"plift-bounded 1", 1),
-                 "range.report": self.in_version_2(tree)}
+                 "steps.text": tree.replace(b"plift 1", b"plift-bounded 1", 1)}
         for name, data in texts.items():
             (self.folder / name).write_bytes(data)
         self.job()
@@ -64,14 +62,6 @@ class Words(TilesCase):
         (self.folder / "other/job.txt").write_text("depth 7\n")
         lines = (self.folder / "short/tiles.txt").read_text().splitlines(keepends=True)
         (self.folder / "short/tiles.txt").write_text("".join(lines[:2]))
-
-    def in_version_2(self, report: bytes) -> bytes:
-        """The same report in version 2, whose leaves all have the greatest precision."""
-        lines = []
-        for line in report.replace(b"plift 1\n", b"plift 2\n", 1).splitlines(keepends=True):
-            lines += [b"at 10\n"] * line.startswith((b"accept", b"reject")) + [line]
-            lines += [b"from 1\n"] * line.startswith(b"precision")
-        return b"".join(lines)
 
     def test_lines_that_are_refused(self) -> None:
         before = sorted(self.folder.rglob("*"))
@@ -106,6 +96,9 @@ class Words(TilesCase):
     def test_what_the_folder_holds(self) -> None:
         told = "depth 7\nlevels 3\nbound 1/40\nprecision 10\ntiles 3\n"
         self.assertEqual((self.folder / "work/job.txt").read_text(), told)
+        range_of = self.ranged_job()
+        self.assertEqual((range_of.place / "job.txt").read_text(), told.replace("tiles", "from 3\ntiles"))
+        self.assertEqual(range_of.words(1)[-4:], ["--precision", "10", "--from", "3"])
         regions = "1\t1/10<=p<=1/5,1/5<=q<=3/10\n2\t1/5<=p<=3/10,1/10<=q<=1/5\n3\t1/5<=p<=3/10,1/5<=q<=3/10\n"
         self.assertEqual((self.folder / "work/tiles.txt").read_text(), regions)
         names = sorted(path.name for path in (self.folder / "work").iterdir())

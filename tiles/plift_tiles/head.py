@@ -6,7 +6,7 @@ from dataclasses import dataclass, replace
 from fractions import Fraction
 from functools import reduce
 from math import gcd
-from typing import List, Tuple
+from typing import List, Optional, Tuple
 
 from plift_lab.report import UNKNOWN, Leaf, Report
 
@@ -17,6 +17,8 @@ class Head:
     model: bytes
     bound: Fraction
     precision: int
+    least: Optional[int]
+    """The least precision of version 2; none in version 1."""
     depth: int
     grid: int
     box: Tuple[int, ...]
@@ -24,7 +26,8 @@ class Head:
     @classmethod
     def of(cls, report: Report) -> 'Head':
         """That of a report."""
-        return cls(report.model_lines, report.bound, report.precision, report.depth, report.grid, report.box)
+        least = report.least_precision if report.version == 2 else None
+        return cls(report.model_lines, report.bound, report.precision, least, report.depth, report.grid, report.box)
 
     def deepened(self, depth: int) -> 'Head':
         """That of the same job at a greater depth, whose grid is finer."""
@@ -40,9 +43,10 @@ class Head:
     @property
     def text(self) -> bytes:
         """As it is written."""
-        asked = 'bound %d/%d\nprecision %d\ndepth %d\ngrid %d\n' % (self.bound.numerator, self.bound.denominator,
-                                                                   self.precision, self.depth, self.grid)
-        return self.model + (asked + ' '.join(['box', *map(str, self.box)]) + '\n').encode()
+        asked = ['bound %d/%d' % (self.bound.numerator, self.bound.denominator), 'precision %d' % self.precision]
+        asked += [] if self.least is None else ['from %d' % self.least]
+        asked += ['depth %d' % self.depth, 'grid %d' % self.grid, ' '.join(['box', *map(str, self.box)])]
+        return self.model + ''.join('%s\n' % line for line in asked).encode()
 
 
 def tile_leaves(report: Report) -> List[Leaf]:

@@ -1,6 +1,6 @@
 """The folder of a job: a report whose unknown leaves are the tiles, the model, and the reports of tiles that are done.
 
-    job.txt          depth of the whole, halvings of a tile, bound, precision, number of tiles
+    job.txt          depth of the whole, halvings of a tile, bound, precision, in version 2 the least one, number of tiles
     base.report      the report whose unknown leaves are the tiles
     model.drn        its model as a text; its goal states have the label `goal`
     tiles.txt        number and region of each tile
@@ -11,7 +11,7 @@ from __future__ import annotations
 
 import os
 from pathlib import Path
-from typing import Iterable, List
+from typing import Iterable, List, Optional
 
 from plift_lab.faults import Fault
 
@@ -29,7 +29,7 @@ class Job:
         try:
             told = dict(line.split(' ', 1) for line in (place / 'job.txt').read_text('ascii').splitlines())
             self.depth, self.levels, count = (int(told[key]) for key in ('depth', 'levels', 'tiles'))
-            self.bound, self.precision = told['bound'], told['precision']
+            self.bound, self.precision, self.least = told['bound'], told['precision'], told.get('from')
             lines = (place / 'tiles.txt').read_text('ascii').splitlines()
             self.regions = [line.split('\t', 1)[1] for line in lines]
         except (FileNotFoundError, NotADirectoryError):
@@ -69,13 +69,14 @@ class Job:
 
     def words(self, number: int) -> List[str]:
         """The program's words for a tile."""
-        return words(self.bound, self.regions[number - 1], str(self.levels), self.precision)
+        return words(self.bound, self.regions[number - 1], str(self.levels), self.precision, self.least)
 
 
-def words(bound: str, region: str, depth: str, precision: str) -> List[str]:
-    """The program's words for a region of the model's text."""
+def words(bound: str, region: str, depth: str, precision: str, least: Optional[str]) -> List[str]:
+    """The program's words for a region of the model's text, with the least precision of version 2."""
     where = ['--region', region] if region else []
-    return ['verify', '--goal', GOAL, '--bound', bound, *where, '--depth', depth, '--precision', precision]
+    range_of = ['--precision', precision] + ([] if least is None else ['--from', least])
+    return ['verify', '--goal', GOAL, '--bound', bound, *where, '--depth', depth, *range_of]
 
 
 def lay_out(place: Path, told: Iterable[str], regions: List[str]) -> None:

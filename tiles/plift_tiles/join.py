@@ -88,7 +88,8 @@ def _read_tile(job: Job, number: int, head: bytes) -> Iterator[bytes]:
             if due == 0:
                 raise Fault('tile %d has something behind its last node: %s' % (number, remedy), UNFIT)
             rest = [file.readline() for _ in range(3)] if line.startswith(b'reject ') else []
-            due += 1 if line.startswith(b'split ') else -1
+            if not line.startswith(b'at '):
+                due += 1 if line.startswith(b'split ') else -1
             if not all(each.endswith(b'\n') for each in [line, *rest]):
                 break
             yield line

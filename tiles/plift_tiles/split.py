@@ -23,8 +23,6 @@ GREATEST_DEPTH = 20
 def split(program: Program, data: bytes, place: Path, depth: int) -> int:
     """Makes the folder from the bytes of a report, whole or not at all, and returns the number of tiles."""
     report = Report(data, program.check(data))
-    if report.version != 1:
-        raise Fault('a report of version %d isn\'t split: its leaves have precisions of their own' % report.version)
     if depth <= report.depth:
         raise Fault('--depth %d: the report has depth %d, and a greater one is due' % (depth, report.depth))
     part = beside(place)
@@ -44,6 +42,7 @@ def _fill(program: Program, report: Report, place: Path, depth: int) -> int:
     regions = [shown(leaf.own_rectangle) for leaf in tile_leaves(report)]
     told = ['depth %d' % depth, 'levels %d' % (depth - head.depth), 'bound %s' % head.bound,
             'precision %d' % head.precision]
+    told += [] if head.least is None else ['from %d' % head.least]
     (place / 'base.report').write_bytes(report.data)
     (place / 'model.drn').write_bytes(report.model_text)
     lay_out(place, told, regions)
@@ -55,7 +54,8 @@ def _ask_whole(program: Program, region: str, head: Head, place: Path) -> None:
     """Whether the whole is admitted at the greater depth, and the model's text is read as the report's model: asked
     with the bound 1, which the first rectangle answers, before any tile is sent out."""
     answer = place / 'whole.report'
-    program.verify(words('1', region, str(head.depth), str(head.precision)), place / 'model.drn', answer)
+    least = None if head.least is None else str(head.least)
+    program.verify(words('1', region, str(head.depth), str(head.precision), least), place / 'model.drn', answer)
     with open(answer, 'rb') as lines:
         due = replace(head, bound=Fraction(1)).text
         if lines.read(len(due)) != due:

@@ -39,6 +39,7 @@ VALUES = {
     "--bound": amounts.bound_hints,
     "--depth": amounts.depth_hints,
     "--precision": amounts.precision_hints,
+    "--from": amounts.from_hints,
     "--steps": amounts.steps_hints,
     "N": amounts.blocks_hints,
     "words": line.words_hints,

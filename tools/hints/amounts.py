@@ -1,4 +1,4 @@
-"""Hints for the values of plift's line: the label, the bound, the depth, the precision, the numbers of steps and of blocks."""
+"""Hints for the values of plift's line: label, bound, depth, precisions, the numbers of steps and of blocks."""
 
 from __future__ import annotations
 
@@ -11,6 +11,7 @@ from hints.refusal import Refusal
 from hints.told import fraction, shown
 
 PART = 2**32  # the denominator of a bound is below it
+USUAL_PRECISION = "24"
 
 
 def goal_hints(refusal: Refusal) -> List[str]:
@@ -108,6 +109,15 @@ def precision_hints(refusal: Refusal) -> List[str]:
         return []
     bits = bits_for(word)
     return [whole_hint("--precision", word, 1, 40, 3)] + ([f"it counts bits: {bits}"] if bits else [])
+
+
+def from_hints(refusal: Refusal) -> List[str]:
+    """Why a least precision isn't one: it is at most the greatest, which is known to be a number."""
+    word, most = refusal.option("--from"), refusal.option("--precision")
+    if word is None:
+        return []
+    told = whole_hint("--from", word, 1, int(most or USUAL_PRECISION), 3)
+    return [told + (", the number behind --precision" if most else ", the precision where --precision is left out")]
 
 
 def steps_hints(refusal: Refusal) -> List[str]:

@@ -31,7 +31,7 @@ TOLD = {
     "mark": ["the text begins with a byte order mark (the bytes EF BB BF)", "tail -c +4 FILE drops it"],
     "wide": ["the text is UTF-16, as PowerShell's > writes", "iconv -f UTF-16 -t UTF-8 FILE makes it UTF-8"],
     "report": ["that is a report of plift", "plift check and plift-view read reports; verify reads models"],
-    "bounded": ["that is a report of plift bounded", "recheck/recheck.py reads it; plift reads models"],
+    "bounded": ["that is a report of plift bounded", "recheck/recheck.py reads it, and plift doesn't"],
     "answer": ["that is the line that plift check writes", "the report is another file, which verify writes"],
     "picture": ["that is a picture or another XML text", "is it the right file?"],
     "page": ["that is a page of the web, maybe a refused download", "is it the right file?"],

@@ -6,19 +6,20 @@ import re
 import shlex
 from typing import Dict, List, Optional, Sequence, Set
 
-from hints.options import STEPPED, VALUED
+from hints.options import NAMED, RANGED, STEPPED, VALUED
 from hints.refusal import Refusal
 from hints.told import listed, near, shown
 from hints.words import HELP, LONG_DASHES, PROPERTY, VERSION
 from hints.words import about_help, about_odd, asks_for_help, is_dashed, is_file
 
-COMMANDS = ["verify", "bounded", "lumped", "check", "generate", "selftest"]
-ASKING = {"verify": VALUED, "bounded": STEPPED, "lumped": VALUED}
+COMMANDS = ["verify", "bounded", "lumped", "check", "migrate", "generate", "selftest"]
+ASKING = {"verify": RANGED, "bounded": STEPPED, "lumped": VALUED}
 FORMS = {
-    "verify": "plift verify --goal LABEL --bound B [--region R] [--depth H] [--precision W] < model.drn",
+    "verify": "plift verify --goal LABEL --bound B [--region R] [--depth H] [--precision W] [--from V] < model.drn",
     "bounded": "plift bounded --goal LABEL --bound B --steps S [--region R] [--depth H] [--precision W] < model.drn",
     "lumped": "plift lumped --goal LABEL --bound B [--region R] [--depth H] [--precision W] < model.drn",
     "check": "plift check < report",
+    "migrate": "plift migrate < report > new.report",
     "generate": "plift generate N > model.drn",
     "selftest": "plift selftest N",
 }
@@ -34,6 +35,9 @@ OTHER_NAMES = {
     "--box": "--region",
     "--splits": "--depth",
     "--bits": "--precision",
+    "--least": "--from",
+    "--min-precision": "--from",
+    "--least-precision": "--from",
     "--within": "--steps",
     "--horizon": "--steps",
     "-g": "--goal",
@@ -51,7 +55,7 @@ REGION = re.compile(r"<=|>=|<|>|\.\.|≤")
 def guessed(command: str, name: str) -> Optional[str]:
     """The option of the command that a name most likely stands for."""
     options = ASKING[command]
-    if name[0] in LONG_DASHES or "-" + name in STEPPED:
+    if name[0] in LONG_DASHES or "-" + name in NAMED:
         name = "--" + name.lstrip("-" + LONG_DASHES)
     guess = OTHER_NAMES.get(name) or (near(name.split(":")[0], options) if name.strip("-") else None)
     if guess is None and len(name) > 3:
@@ -63,7 +67,7 @@ def why_not(name: str, guess: Optional[str]) -> str:
     """Why a name isn't that of the option that it is near to."""
     if name[0] in LONG_DASHES:
         return " (a long dash stands there, not two hyphens)"
-    if "-" + name in STEPPED:
+    if "-" + name in NAMED:
         return " (two dashes stand before a name)"
     return " (names aren't abbreviated)" if guess and guess.startswith(name) else ""
 
@@ -80,7 +84,7 @@ def about_option(command: str, word: str, value: str) -> str:
         return about_help(word, "plift", command)
     if PROPERTY.search(value):
         return about_property(value)
-    if name.split(":")[0] in STEPPED:
+    if name.split(":")[0] in NAMED:
         return f"{shown(word)}: a value stands behind =, or is the next word: write {word.replace(':', '=', 1)}"
     guess = guessed(command, name)
     if guess is None:
@@ -92,7 +96,7 @@ def about_value(name: str, value: str) -> Optional[str]:
     """What is wrong with the word that is the value of an option."""
     if not value.startswith("-"):
         return None
-    if value.split("=")[0] in STEPPED or value in HELP or value.startswith("--"):
+    if value.split("=")[0] in NAMED or value in HELP or value.startswith("--"):
         return f"{name} has no value: the next word is {shown(value)}"
     if name == "--region":
         return f"a value doesn't begin with -: write a blank before it, as in --region {shlex.quote(' ' + value)}"
@@ -151,11 +155,11 @@ class Walk:
     def step(self, word: str) -> None:
         """Reads a word, and those that belong to it."""
         self.at += 1
-        if word.split("=")[0] in STEPPED:
+        if word.split("=")[0] in NAMED:
             self.option(word)
         elif about_odd(word):
             self.faults.append(about_odd(word) or "")
-            self.meant.update(known for known in STEPPED if known in word)
+            self.meant.update(known for known in NAMED if known in word)
         elif is_dashed(word):
             self.unknown(word)
         elif self.is_stray(word):
@@ -173,7 +177,7 @@ class Walk:
             fault = f"{name} has no value behind it: it is the last word"
         else:
             value = value if mark else self.words[self.at]
-            self.at += 0 if mark or value.split("=")[0] in STEPPED else 1
+            self.at += 0 if mark or value.split("=")[0] in NAMED else 1
             fault = about_value(name, value)
         self.faults.extend([fault] if fault else [])
         self.values.setdefault(name, []).append(value)
@@ -192,7 +196,7 @@ class Walk:
         name, mark, value = word.partition("=")
         value = value if mark else self.next() or ""
         self.faults.append(about_option(self.command, word, value))
-        self.meant.update({name.split(":")[0], guessed(self.command, name) or ""} & set(STEPPED))
+        self.meant.update({name.split(":")[0], guessed(self.command, name) or ""} & set(NAMED))
         self.at += 0 if mark or self.next() is None or is_dashed(value) or is_file(value) else 1
         self.name = self.value = ""
 
@@ -224,19 +228,21 @@ def about_asking(command: str, words: Sequence[str]) -> List[str]:
         faults.append("--bound B is missing: the greatest probability that is allowed, as 1/2 or 0.5")
     if command != "bounded" and "--steps" in walk.values:
         faults.append("--steps stands for a number of steps: that is asked by plift bounded")
+    if command != "verify" and "--from" in walk.values:
+        faults.append("--from begins a range of precisions: that is asked by plift verify alone")
     if command == "bounded" and "--steps" not in named:
         faults.append("--steps S is missing: within how many steps, from 1 to 64; plift verify asks for any number")
     return faults
 
 
-def about_check(words: Sequence[str]) -> List[str]:
-    """What is wrong with a line of `check`."""
+def about_reading(command: str, words: Sequence[str]) -> List[str]:
+    """What is wrong with a line of `check` or `migrate`."""
     word = words[0]
     if asks_for_help(word):
-        return [about_help(word, "plift", "check")]
+        return [about_help(word, "plift", command)]
     if word.startswith("-") or not is_file(word) and "=" in word:
-        return [f"{shown(word)}: check takes no options; a report holds its model, region and bound"]
-    return [f"{shown(word)}: check reads a report from standard input: plift check < {shlex.quote(word)}"]
+        return [f"{shown(word)}: {command} takes no options; a report holds its model, region and bound"]
+    return [f"{shown(word)}: {command} reads a report from standard input: plift {command} < {shlex.quote(word)}"]
 
 
 def about_blocks(command: str, words: Sequence[str]) -> List[str]:
@@ -260,7 +266,7 @@ def about_command(word: str) -> str:
         return "help: plift --help, or plift --help verify for a command's options"
     if word in VERSION:
         return "version: plift --version"
-    if word.split("=")[0] in STEPPED:
+    if word.split("=")[0] in NAMED:
         return f"the command stands first: plift verify {word} .."
     if re.fullmatch(r"(.*/)?plift", word):
         return f"{shown(word)}: the program's own name stands once; then {commands}"
@@ -284,8 +290,8 @@ def words_hints(refusal: Refusal) -> List[str]:
         return [about_command(command), FORMS[near(command, COMMANDS) or "verify"]]
     if command in ASKING:
         faults = about_asking(command, behind)
-    elif command == "check":
-        faults = about_check(behind) if behind else []
+    elif command in ("check", "migrate"):
+        faults = about_reading(command, behind) if behind else []
     else:
         faults = about_blocks(command, behind)
     return faults[:MOST_FAULTS] + [FORMS[command]]

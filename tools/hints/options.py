@@ -7,7 +7,9 @@ from typing import List, Optional, Sequence, Tuple
 Setting = Tuple[str, Optional[str]]
 
 VALUED = ["--goal", "--bound", "--region", "--depth", "--precision"]
+RANGED = [*VALUED, "--from"]  # of `verify`
 STEPPED = [*VALUED, "--steps"]  # of `bounded`
+NAMED = [*RANGED, "--steps"]  # of all commands
 VIEWED = ["--x", "--y", "--at"]
 FLAGS = ["--summary", "--follow"]
 

@@ -53,8 +53,8 @@ def size_hints(refusal: Refusal) -> List[str]:
     """How long what was read is."""
     if refusal.command() == "selftest":
         return [f"the report would have more than {MOST_BYTES:,} bytes: selftest with fewer blocks"]
-    if refusal.command() == "check" or refusal.program != "plift":
-        most = MOST_CHECKED_BYTES if refusal.program == "plift" else MOST_BYTES
+    if refusal.command() in ("check", "migrate") or refusal.program != "plift":
+        most = MOST_CHECKED_BYTES if refusal.command() == "check" else MOST_BYTES
         told = f"the report has more than {most:,} bytes ({most >> 20:,} MiB)"
         return [f"{told}: verify with a lower --depth, or the region in parts"]
     return [f"the text has more than {MOST_BYTES:,} bytes (64 MiB): take a smaller model"]

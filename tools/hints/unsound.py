@@ -160,9 +160,12 @@ def rest_hints(text: bytes) -> List[str]:
     return [f"the tree ends with line {last}, and line {last + 1} follows: {shown(line) if line else 'a blank line'}"]
 
 
-def version_hints(text: bytes) -> List[str]:
+def version_hints(text: bytes, command: str) -> List[str]:
     """Which version it is."""
     line = text.split(b"\n", 1)[0]
+    if command == "migrate" and line == b"plift 2":
+        what = "line 1 is plift 2: the report is of version 2 already, and migrate takes version 1"
+        return [what, "keep it as it is: check, plift-view and plift-lab read both versions"]
     what = f"line 1 is {shown(line)}, and this plift reads versions 1 and 2"
     return [what, "check it with a plift that reads that version"]
 
@@ -194,7 +197,7 @@ def unsound_hints(refusal: Refusal, fault: str) -> List[str]:
         if cause == "Truncated":
             return truncated_hints(refusal.text, number)
         if cause == "Version":
-            return version_hints(refusal.text)
+            return version_hints(refusal.text, refusal.command())
         return limit_hints(refusal.text, number) if cause == "Limit" else told
     match = re.fullmatch(r"state ([0-9]{1,6}) choice ([0-9]{1,6}): (.*)", fault)
     if match:

@@ -89,6 +89,7 @@ def _data(report: Report, judge: str, axes: Tuple[int, int]) -> Dict[str, Any]:
         'axes': axes, 'live': live, 'isProcess': report.kind == 'mdp', 'precision': report.precision,
         'tree': ''.join('%x' % node if isinstance(node, int) else node[0].upper() for node in report.nodes),
         'values': [value for value in report.values if value is not None], 'picks': report.picks,
+        'precisions': report.precisions if report.least_precision < report.precision else None,
         'schedulers': schedulers if report.kind == 'mdp' and sum(map(len, schedulers)) <= MOST_SCHEDULERS else None,
         'counts': [sum(count for (one, _), count in counts.items() if one == kind) for kind in KINDS],
         'shares': [{'exact': exact(shares[kind]), 'percent': percent(shares[kind])} for kind in KINDS],

@@ -81,7 +81,8 @@ function tell(leaf) {
     const value = fraction(BigInt(data.values[places[leaf.number]]), 1n << BigInt(data.precision));
     const number = `${exactText(value)} (about ${decimal(toNumber(value), 9)})`;
     const by = !data.isProcess ? '' : leaf.kind === ACCEPT ? ', whatever is chosen' : ' by the choices below';
-    card.append(element('p', `At ${leaf.kind === ACCEPT ? 'most' : 'least'} ${number} is reached${by}.`));
+    const bits = data.precisions ? ` Its certificate has ${data.precisions[places[leaf.number]]} bits.` : '';
+    card.append(element('p', `At ${leaf.kind === ACCEPT ? 'most' : 'least'} ${number} is reached${by}.${bits}`));
   }
   const table = element('table');
   rows(table, ['', 'about', 'exactly'], parameters.map((_, axis) => interval(axis, leaf.low[axis], leaf.high[axis])), true);

@@ -86,7 +86,7 @@ fn main() {
         let bound = bound_of(option(&words, "--bound", "1/2"));
         let mut sink = StdSink::new(std::io::stdout().lock());
         let (written, walk) =
-            timed(|| report::write_report_buffered(&case, &links, bound, &mut room, &mut sink));
+            timed(|| report::write_report_buffered(&case, &links, bound, None, &mut room, &mut sink));
         found(written, "output");
         eprintln!("read {read:.2} links {link:.2} admit {admit:.2} walk {walk:.2}");
         return;
