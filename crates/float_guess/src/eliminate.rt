@@ -7,7 +7,7 @@ ghost use Rattle.lift_model.specs.Links.{AreLinks, HasChoice};
 ghost use Rattle.float_guess.specs.Part.{IsSameBeyond};
 
 use crate::floats::float_of;
-use crate::part::{Extreme, Part, first_weight};
+use crate::part::{Part, first_weight};
 use crate::step::{Ahead, NOWHERE, Outlook, Step};
 use std::num::{
     f64_from_bits_with_nan, f64_to_bits_with_nan, nearest_i64_to_f64, saturating_f64_to_u32,
@@ -58,7 +58,8 @@ impl Part<'_> {
     )
         requires links { AreLinks self.now.case.now.model self.now.links.now }
         requires size { length lane.old ≡ length self.now.case.now.model.states }
-        ensures { IsSameBeyond self.now.case.now self.now.links.now self.now.low self.now.high lane.old lane.new }
+        ensures { IsSameBeyond self.now.rule.ends self.now.case.now self.now.links.now self.now.low self.now.high
+            lane.old lane.new }
     {
         if let Some(mean) = means.get_mut(position as usize) {
             *mean = saturating_f64_to_u32((step.mean + 1.0) * MEAN_ONE + 0.5);
@@ -82,7 +83,8 @@ impl Part<'_> {
     ) -> Step
         requires links { AreLinks self.now.case.now.model self.now.links.now }
         requires size { length lane.old ≡ length self.now.case.now.model.states }
-        ensures { IsSameBeyond self.now.case.now self.now.links.now self.now.low self.now.high lane.old lane.new }
+        ensures { IsSameBeyond self.now.rule.ends self.now.case.now self.now.links.now self.now.low self.now.high
+            lane.old lane.new }
     {
         let mut step = self.step_at(lane, means, targets, from);
         for _ in self.low..self.high {
@@ -111,7 +113,8 @@ impl Part<'_> {
     ) -> Ahead
         requires links { AreLinks self.now.case.now.model self.now.links.now }
         requires size { length lane.old ≡ length self.now.case.now.model.states }
-        ensures { IsSameBeyond self.now.case.now self.now.links.now self.now.low self.now.high lane.old lane.new }
+        ensures { IsSameBeyond self.now.rule.ends self.now.case.now self.now.links.now self.now.low self.now.high
+            lane.old lane.new }
     {
         let Some(at) = self.position_of(target) else {
             return Ahead::Out(self.worth_beyond(lane, target));
@@ -142,7 +145,8 @@ impl Part<'_> {
         requires links { AreLinks self.now.case.now.model self.now.links.now }
         requires size { length lane.old ≡ length self.now.case.now.model.states }
         requires row { HasChoice self.now.case.now.model s a }
-        ensures { IsSameBeyond self.now.case.now self.now.links.now self.now.low self.now.high lane.old lane.new }
+        ensures { IsSameBeyond self.now.rule.ends self.now.case.now self.now.links.now self.now.low self.now.high
+            lane.old lane.new }
     {
         let place = self.links.place(s, a);
         let position = self.links.position(s);
@@ -171,7 +175,8 @@ impl Part<'_> {
         requires links { AreLinks self.now.case.now.model self.now.links.now }
         requires size { length lane.old ≡ length self.now.case.now.model.states }
         requires row { HasChoice self.now.case.now.model s a }
-        ensures { IsSameBeyond self.now.case.now self.now.links.now self.now.low self.now.high lane.old lane.new }
+        ensures { IsSameBeyond self.now.rule.ends self.now.case.now self.now.links.now self.now.low self.now.high
+            lane.old lane.new }
     {
         let mut counted = Counted {
             outlook: self.outlook(lane, means, targets, s, a, 0),
@@ -179,11 +184,11 @@ impl Part<'_> {
         };
         for corner in 1..self.links.place(s, a).corners {
             let outlook = self.outlook(lane, means, targets, s, a, corner);
-            let counts = match self.extreme {
-                Extreme::Greatest => outlook.worth() > counted.outlook.worth(),
-                Extreme::Least => outlook.worth() < counted.outlook.worth(),
-            };
-            if counts {
+            if self
+                .rule
+                .corner
+                .prefers(outlook.worth(), counted.outlook.worth())
+            {
                 let mark = (u64::from(a) << 4).wrapping_add(u64::from(corner));
                 counted = Counted { outlook, mark };
             }
@@ -191,7 +196,7 @@ impl Part<'_> {
         counted
     }
 
-    /// What counts of the state at a position: the choice that is worth most.
+    /// What counts of the state at a position: the choice that is worth most, or least.
     fn counted_at(
         &self,
         lane: &mut [i64],
@@ -201,7 +206,8 @@ impl Part<'_> {
     ) -> Counted
         requires links { AreLinks self.now.case.now.model self.now.links.now }
         requires size { length lane.old ≡ length self.now.case.now.model.states }
-        ensures { IsSameBeyond self.now.case.now self.now.links.now self.now.low self.now.high lane.old lane.new }
+        ensures { IsSameBeyond self.now.rule.ends self.now.case.now self.now.links.now self.now.low self.now.high
+            lane.old lane.new }
     {
         let mut counted = Counted {
             outlook: Outlook::NONE,
@@ -212,7 +218,8 @@ impl Part<'_> {
         };
         for a in 0..self.case.model().choices(s) {
             let other = self.counted_of_row(lane, means, targets, s, a);
-            if a == 0 || other.outlook.worth() > counted.outlook.worth() {
+            let (one, most) = (other.outlook.worth(), counted.outlook.worth());
+            if a == 0 || self.rule.choice.prefers(one, most) {
                 counted = other;
             }
         }
@@ -223,7 +230,8 @@ impl Part<'_> {
     fn put_in(&self, lane: &mut [i64], means: &mut [u32], targets: &mut [u32]) -> Eliminated
         requires links { AreLinks self.now.case.now.model self.now.links.now }
         requires size { length lane.old ≡ length self.now.case.now.model.states }
-        ensures { IsSameBeyond self.now.case.now self.now.links.now self.now.low self.now.high lane.old lane.new }
+        ensures { IsSameBeyond self.now.rule.ends self.now.case.now self.now.links.now self.now.low self.now.high
+            lane.old lane.new }
     {
         let mut marks: u64 = 1;
         for position in self.low..self.high {
@@ -243,7 +251,8 @@ impl Part<'_> {
     fn take_out(&self, lane: &mut [i64], means: &[u32], targets: &[u32], end: u32)
         requires links { AreLinks self.now.case.now.model self.now.links.now }
         requires size { length lane.old ≡ length self.now.case.now.model.states }
-        ensures { IsSameBeyond self.now.case.now self.now.links.now self.now.low self.now.high lane.old lane.new }
+        ensures { IsSameBeyond self.now.rule.ends self.now.case.now self.now.links.now self.now.low self.now.high
+            lane.old lane.new }
     {
         for position in (self.low..end).rev() {
             let step = self.step_at(lane, means, targets, position);
@@ -257,7 +266,8 @@ impl Part<'_> {
     pub(crate) fn eliminate(&self, lane: &mut [i64], means: &mut [u32], targets: &mut [u32]) -> bool
         requires links { AreLinks self.now.case.now.model self.now.links.now }
         requires size { length lane.old ≡ length self.now.case.now.model.states }
-        ensures { IsSameBeyond self.now.case.now self.now.links.now self.now.low self.now.high lane.old lane.new }
+        ensures { IsSameBeyond self.now.rule.ends self.now.case.now self.now.links.now self.now.low self.now.high
+            lane.old lane.new }
     {
         let mut last = 0;
         for _ in 0..ROUNDS {

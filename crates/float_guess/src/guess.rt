@@ -2,10 +2,11 @@
 
 ghost use Rattle.std.specs.Prelude.{◌≡◌, ◌≤ℤ◌, ◌^◌, pos, length};
 ghost use Rattle.lift_model.specs.Links.{AreLinks};
-ghost use Rattle.float_guess.specs.Part.{CanGuess, KeepsOthers, IsSameBeyond, AreRounded};
+ghost use Rattle.float_guess.specs.Part.{CanGuess, KeepsBeyond, IsSameBeyond, AreRounded};
 
 use crate::floats::ONE;
-use crate::part::{Extreme, Part};
+use crate::part::Part;
+use crate::rule::Rule;
 use crate::shares::SHARES_IN_A_UNIT;
 use corner_lift::{Case, one_at, rows_at_corners};
 use lift_model::Links;
@@ -70,7 +71,8 @@ impl Part<'_> {
     fn scale(&self, lane: &mut [i64], unit: i64)
         requires links { AreLinks self.now.case.now.model self.now.links.now }
         requires size { length lane.old ≡ length self.now.case.now.model.states }
-        ensures { IsSameBeyond self.now.case.now self.now.links.now self.now.low self.now.high lane.old lane.new }
+        ensures { IsSameBeyond self.now.rule.ends self.now.case.now self.now.links.now self.now.low self.now.high
+            lane.old lane.new }
     {
         for position in self.low..self.high {
             let number = self.number_at(lane, position);
@@ -82,7 +84,8 @@ impl Part<'_> {
     fn find(&self, lane: &mut [i64], means: &mut [u32], targets: &mut [u32], way: Way) -> bool
         requires links { AreLinks self.now.case.now.model self.now.links.now }
         requires size { length lane.old ≡ length self.now.case.now.model.states }
-        ensures { IsSameBeyond self.now.case.now self.now.links.now self.now.low self.now.high lane.old lane.new }
+        ensures { IsSameBeyond self.now.rule.ends self.now.case.now self.now.links.now self.now.low self.now.high
+            lane.old lane.new }
     {
         match way {
             Way::Elimination(_) => self.eliminate(lane, means, targets),
@@ -114,8 +117,10 @@ impl Part<'_> {
         requires links { AreLinks self.now.case.now.model self.now.links.now }
         requires size { length lane.old ≡ length self.now.case.now.model.states }
         requires top { self.now.top ≡ pos (2 ^ self.now.case.now.w) }
-        ensures same { IsSameBeyond self.now.case.now self.now.links.now self.now.low self.now.high lane.old lane.new }
-        ensures rounded { AreRounded self.now.case.now self.now.links.now self.now.low self.now.high lane.new }
+        ensures same { IsSameBeyond self.now.rule.ends self.now.case.now self.now.links.now self.now.low self.now.high
+            lane.old lane.new }
+        ensures rounded { AreRounded self.now.rule.ends self.now.case.now self.now.links.now self.now.low self.now.high
+            lane.new }
     {
         for position in self.low..self.high {
             let number = self.number_at(lane, position);
@@ -125,14 +130,14 @@ impl Part<'_> {
 }
 
 /// Guesses what the states of a part are worth, which stand at the positions from `low` on and before `high`
-/// and are no goal states, given the numbers of the others: at or below that, or above it, by less than two
+/// and whose numbers aren't given, by the numbers of the others: at or below that, or above it, by less than two
 /// units, if it does well. What `means` and `targets` hold is free. False: the guess isn't worth much, since
 /// the way didn't do.
 pub fn guess_part(
     case: &Case,
     links: &Links,
     weights: &[i128],
-    extreme: Extreme,
+    rule: Rule,
     rounding: Rounding,
     lane: &mut [i64],
     means: &mut [u32],
@@ -142,7 +147,7 @@ pub fn guess_part(
     way: Way,
 ) -> bool
     requires { CanGuess case.now links.now lane.old }
-    ensures { KeepsOthers case.now links.now low high lane.old lane.new }
+    ensures { KeepsBeyond rule.entry.ends case.now links.now low high lane.old lane.new }
 {
     rows_at_corners();
     let top = one_at(case.w());
@@ -150,7 +155,7 @@ pub fn guess_part(
         case: &*case,
         links: &*links,
         weights: &*weights,
-        extreme,
+        rule,
         top,
         extra: way.extra(rounding, top),
         low,

@@ -7,11 +7,12 @@ mod floats;
 mod guess;
 mod notes;
 mod part;
+mod rule;
 mod shares;
 mod step;
 mod sweep;
 
 pub use guess::{Rounding, Way, guess_part};
 pub use notes::low_word_of;
-pub use part::Extreme;
+pub use rule::{Ends, Extreme, Rule};
 pub use shares::Shares;

@@ -2,31 +2,23 @@
 
 ghost use Rattle.std.specs.Prelude.{◌≡◌, ◌≤◌, ◌<◌, ℕ, length, IfSome, IsSome};
 ghost use Rattle.lift_model.specs.Links.{AreLinks};
-ghost use Rattle.float_guess.specs.Part.{StandsAt, IsSameBeyond, IsWrittenAt};
+ghost use Rattle.float_guess.specs.Part.{IsFreeAt, IsSameBeyond, IsWrittenAt};
 
 use crate::floats::{number_of, probability_of};
+use crate::rule::Rule;
 use corner_lift::Case;
 use lift_model::{Links, RowPlace};
 use std::num::nearest_i64_to_f64;
 
-/// Which corner of a row counts for its state's number.
-#[derive(Clone, Copy)]
-pub enum Extreme {
-    /// The one with the greatest weighted mean.
-    Greatest,
-    /// The one with the least.
-    Least,
-}
-
 /// The states that stand at the positions from `low` on and before `high`. While they are guessed, the lane
-/// holds 2 to the 62 times a state's probability for each of them that is no goal state; for the others it
+/// holds 2 to the 62 times a state's probability for each of them whose number isn't given; for the others it
 /// holds numbers of which `top` stands for 1.
 #[derive(Drop)]
 pub(crate) struct Part<'a> {
     pub(crate) case: &'a Case<'a>,
     pub(crate) links: &'a Links,
     pub(crate) weights: &'a [i128],
-    pub(crate) extreme: Extreme,
+    pub(crate) rule: Rule<'a>,
     pub(crate) top: i64,
     // what each expected step brings besides
     pub(crate) extra: f64,
@@ -40,24 +32,14 @@ pub(crate) fn first_weight(place: RowPlace, corner: u32) -> usize {
     (place.weights as usize).wrapping_add(count.wrapping_mul(corner as usize))
 }
 
-impl Extreme {
-    /// The greater or the lesser of two floats.
-    pub(crate) fn of(self, a: f64, b: f64) -> f64 {
-        match self {
-            Extreme::Greatest => a.max(b),
-            Extreme::Least => a.min(b),
-        }
-    }
-}
-
 impl Part<'_> {
-    /// The state at a position of the part, if it is no goal state.
+    /// The state at a position of the part, if its number isn't given.
     pub(crate) fn state_at(&self, position: u32) -> Option<u32>
         requires { AreLinks self.now.case.now.model self.now.links.now }
         ensures part { IsSome result → (self.now.low ≤ position) × (position < self.now.high) }
-        ensures some { IfSome result (StandsAt self.now.case.now self.now.links.now position) }
+        ensures some { IfSome result (IsFreeAt self.now.rule.ends self.now.case.now self.now.links.now position) }
         ensures all { (s : ℕ) → self.now.low ≤ position → position < self.now.high
-            → StandsAt self.now.case.now self.now.links.now position s → result ≡ Some s }
+            → IsFreeAt self.now.rule.ends self.now.case.now self.now.links.now position s → result ≡ Some s }
     {
         if position < self.low || position >= self.high {
             return None;
@@ -66,18 +48,21 @@ impl Part<'_> {
             return None;
         };
         let model = self.case.model();
-        if s >= model.states() || self.links.position(s) != position || model.is_goal(s) {
+        if s >= model.states()
+            || self.links.position(s) != position
+            || self.rule.ends.has(model, s)
+        {
             return None;
         }
         Some(s)
     }
 
-    /// The position of a state, if it is one of the part and no goal state.
+    /// The position of a state, if it is one of the part whose number isn't given.
     pub(crate) fn position_of(&self, s: u32) -> Option<u32>
         requires { AreLinks self.now.case.now.model self.now.links.now }
     {
         let model = self.case.model();
-        if s >= model.states() || model.is_goal(s) {
+        if s >= model.states() || self.rule.ends.has(model, s) {
             return None;
         }
         let position = self.links.position(s);
@@ -116,11 +101,12 @@ impl Part<'_> {
         }
     }
 
-    /// Writes a number for the state at a position of the part, if it is no goal state.
+    /// Writes a number for the state at a position of the part, if its number isn't given.
     pub(crate) fn write(&self, lane: &mut [i64], position: u32, number: i64)
         requires links { AreLinks self.now.case.now.model self.now.links.now }
         requires size { length lane.old ≡ length self.now.case.now.model.states }
-        ensures { IsWrittenAt self.now.case.now self.now.links.now self.now.low self.now.high position number lane.old lane.new }
+        ensures { IsWrittenAt self.now.rule.ends self.now.case.now self.now.links.now
+            self.now.low self.now.high position number lane.old lane.new }
     {
         if let Some(s) = self.state_at(position) {
             lane[s as usize] = number;
@@ -131,7 +117,8 @@ impl Part<'_> {
     pub(crate) fn write_worth(&self, lane: &mut [i64], position: u32, worth: f64)
         requires links { AreLinks self.now.case.now.model self.now.links.now }
         requires size { length lane.old ≡ length self.now.case.now.model.states }
-        ensures { IsSameBeyond self.now.case.now self.now.links.now self.now.low self.now.high lane.old lane.new }
+        ensures { IsSameBeyond self.now.rule.ends self.now.case.now self.now.links.now self.now.low self.now.high
+            lane.old lane.new }
     {
         self.write(lane, position, number_of(worth));
     }

@@ -99,19 +99,24 @@ impl Part<'_> {
         let corners = self.links.place(s, a).corners;
         let mut mean = self.mean(lane, s, a, 0);
         for corner in 1..corners {
-            mean = self.extreme.of(mean, self.mean(lane, s, a, corner));
+            mean = self.rule.corner.of(mean, self.mean(lane, s, a, corner));
         }
         mean
     }
 
-    /// The greatest mean of a state's choices.
+    /// The mean of the choice that counts.
     fn state_mean(&self, lane: &[i64], s: u32) -> f64
         requires links { AreLinks self.now.case.now.model self.now.links.now }
         requires state { s < length self.now.case.now.model.states }
     {
         let mut mean: f64 = 0.0;
         for a in 0..self.case.model().choices(s) {
-            mean = mean.max(self.choice_mean(lane, s, a));
+            let other = self.choice_mean(lane, s, a);
+            mean = if a == 0 {
+                other
+            } else {
+                self.rule.choice.of(mean, other)
+            };
         }
         mean
     }
@@ -128,7 +133,8 @@ impl Part<'_> {
     ) -> f64
         requires links { AreLinks self.now.case.now.model self.now.links.now }
         requires size { length lane.old ≡ length self.now.case.now.model.states }
-        ensures { IsSameBeyond self.now.case.now self.now.links.now self.now.low self.now.high lane.old lane.new }
+        ensures { IsSameBeyond self.now.rule.ends self.now.case.now self.now.links.now self.now.low self.now.high
+            lane.old lane.new }
     {
         let Some(s) = self.state_at(position) else {
             return 0.0;
@@ -146,7 +152,8 @@ impl Part<'_> {
     fn sweep(&self, lane: &mut [i64], noted: &mut [u32], relaxation: f64, unit: f64) -> f64
         requires links { AreLinks self.now.case.now.model self.now.links.now }
         requires size { length lane.old ≡ length self.now.case.now.model.states }
-        ensures { IsSameBeyond self.now.case.now self.now.links.now self.now.low self.now.high lane.old lane.new }
+        ensures { IsSameBeyond self.now.rule.ends self.now.case.now self.now.links.now self.now.low self.now.high
+            lane.old lane.new }
     {
         let mut most: f64 = 0.0;
         for position in self.low..self.high {
@@ -159,7 +166,8 @@ impl Part<'_> {
     fn jump(&self, lane: &mut [i64], noted: &[u32], reach: f64)
         requires links { AreLinks self.now.case.now.model self.now.links.now }
         requires size { length lane.old ≡ length self.now.case.now.model.states }
-        ensures { IsSameBeyond self.now.case.now self.now.links.now self.now.low self.now.high lane.old lane.new }
+        ensures { IsSameBeyond self.now.rule.ends self.now.case.now self.now.links.now self.now.low self.now.high
+            lane.old lane.new }
     {
         for position in self.low..self.high {
             let step = noted.get(position as usize).copied().unwrap_or(0);
@@ -174,7 +182,8 @@ impl Part<'_> {
     pub(crate) fn approach(&self, lane: &mut [i64], noted: &mut [u32], sweeps: u32) -> bool
         requires links { AreLinks self.now.case.now.model self.now.links.now }
         requires size { length lane.old ≡ length self.now.case.now.model.states }
-        ensures { IsSameBeyond self.now.case.now self.now.links.now self.now.low self.now.high lane.old lane.new }
+        ensures { IsSameBeyond self.now.rule.ends self.now.case.now self.now.links.now self.now.low self.now.high
+            lane.old lane.new }
     {
         let small = 1.0 / nearest_i64_to_f64(self.top.saturating_mul(STEPS_IN_A_UNIT));
         let first = self.sweep(lane, noted, 1.0, 1.0);

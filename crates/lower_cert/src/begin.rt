@@ -16,7 +16,7 @@ use crate::part::{Part, clear_part, fill_part, flag_part, note};
 use crate::raise::{Aim, raise_part};
 use crate::sweep::{component_end, is_alone, pass, visit, visit_alone};
 use corner_lift::{Lifted, rows_at_corners};
-use float_guess::{Extreme, Rounding, Shares, Way, guess_part, low_word_of};
+use float_guess::{Ends, Extreme, Rounding, Rule, Shares, Way, guess_part, low_word_of};
 
 /// How many passes over a small component lower it from 1, before it is guessed, which takes as long as some fifty.
 const FIRST_PASSES: u32 = 48;
@@ -185,13 +185,17 @@ fn lower_from_guess(
     vectors_are_lowered();
     rows_at_corners();
     let _ = rows.w();
-    let (extreme, rounding) = (Extreme::Least, Rounding::Up);
+    let rule = Rule {
+        choice: Extreme::Greatest,
+        corner: Extreme::Least,
+        ends: Ends::Goals,
+    };
     let guessed = guess_part(
         rows.case(),
         rows.links(),
         rows.weights(),
-        extreme,
-        rounding,
+        rule,
+        Rounding::Up,
         lane,
         flags,
         noted,

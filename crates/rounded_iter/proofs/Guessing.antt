@@ -1,23 +1,25 @@
 -- A bound that rose from a guess is the least of all, where at each state it rose above the guess or the guess is no more than any bound.
-use Rattle.std.proofs.Common.{◌≡◌, ◌≢◌, ℕ, zero, suc, ◌<◌, ◌≤◌, ◌^◌, Bool, true, false, not, cond, List, [], ◌∷◌, length, ℤ, pos, ◌+ℤ◌, ◌≤ℤ◌, ◌<ℤ◌, int_le, refl, sym, ap, subst, ◌∙◌, arith, ◌⊎◌, ⊎_elim, inl, inr}
+use Rattle.std.proofs.Common.{◌≡◌, ◌≢◌, ℕ, zero, suc, ◌<◌, ◌≤◌, ◌^◌, Bool, true, false, not, cond, List, [], ◌∷◌, length, ℤ, pos, ◌+ℤ◌, ◌≤ℤ◌, ◌<ℤ◌, int_le, refl, sym, ap, subst, ◌∙◌, arith, ◌⊎◌, ⊎_elim, inl, inr, if◌then◌else◌}
 use Rattle.std.proofs.lemmas.Int.{by_lt_z}
 use Rattle.std.proofs.lemmas.List.{get_or_past, get_or_default}
 use Rattle.std.proofs.lemmas.List.Elements.{All-from_get_or}
 use Rattle.std.proofs.lemmas.Nat.{pow_pos}
 use Rattle.lift_poly.proofs.Ring.{linear, le_from_test}
 use Rattle.lift_grid.specs.Rectangle.{Spans}
-use Rattle.lift_model.specs.Model.{is_goal, choices}
+use Rattle.lift_model.specs.Model.{choices}
 use Rattle.lift_model.specs.Links.{LinksData, HasChoice}
 use Rattle.corner_lift.specs.Certificate.{AreNumbers, AtMost}
 use Rattle.corner_lift.specs.Case.{CaseData, number, corner_count}
-use Rattle.float_guess.specs.declared.part.Extreme.{Extreme}
-use Rattle.float_guess.specs.declared.part.Extreme.TheVariants.{Greatest, Least}
-use Rattle.float_guess.specs.Part.{KeepsOthers}
-use Rattle.rounded_iter.specs.Rising.{TableData, IsRead, IsBelow, IsEnoughEverywhere, IsLeastBound, IsEnoughAt, IsEnoughFor, Across}
+use Rattle.float_guess.specs.declared.rule.Extreme.{Extreme}
+use Rattle.float_guess.specs.declared.rule.Extreme.TheVariants.{Greatest, Least}
+use Rattle.float_guess.specs.declared.rule.Rule.{Rule}
+use Rattle.float_guess.specs.Rule.{is_given, given}
+use Rattle.float_guess.specs.Part.{KeepsBeyond}
+use Rattle.rounded_iter.specs.Rising.{TableData, IsRead, IsBelow, IsEnoughEverywhere, IsLeastBound, IsLeastBoundWithin, IsEnough, IsEnoughAt, IsEnoughFor, Across}
 use Rattle.float_guess.specs.Notes.{low_word}
 use Rattle.rounded_iter.specs.Watching.{count, flag, from_zero, IsGuess, IsLeastFrom, IsFound, IsSure}
 use Rattle.rounded_iter.proofs.Solving.{RowLaws, across_map, enough_shifted, lt_from_test, some_corner, value_range}
-use Rattle.rounded_iter.proofs.Raising.{in_or_past}
+use Rattle.rounded_iter.proofs.Raising.{in_or_past, true_or_false, given_inside, given_range}
 
 lesser : ℤ → ℤ → ℤ
 lesser a b = cond (int_le a b) a b
@@ -55,125 +57,147 @@ lowered-at m (x ∷ xs) [] s le e = absurd (omega (arith, e))
 lowered-at m (x ∷ xs) (y ∷ ys) zero le e = lesser_is x (y +ℤ m)
 lowered-at m (x ∷ xs) (y ∷ ys) (suc s) le e = lowered-at m xs ys s le (omega (arith, e))
 
--- the list that has a number so many times
-tops : ℕ → ℤ → List ℤ
-tops zero v = []
-tops (suc n) v = v ∷ tops n v
+-- the list of the first values of a function, so many
+listed : ℕ → (ℕ → ℤ) → List ℤ
+listed zero f = []
+listed (suc n) f = f 0 ∷ listed n (λ i. f (suc i))
 
-tops-length : (n : ℕ) (v : ℤ) → length (tops n v) ≡ n
-unfolding tops
-tops-length zero v = refl
-tops-length (suc n) v = ap suc (tops-length n v)
+listed-length : (n : ℕ) (f : ℕ → ℤ) → length (listed n f) ≡ n
+unfolding listed
+listed-length zero f = refl
+listed-length (suc n) f = ap suc (listed-length n (λ i. f (suc i)))
 
-tops-at : (n : ℕ) (v : ℤ) (s : ℕ) → s < n → number (tops n v) s ≡ v
-unfolding tops
-tops-at zero v s lt = absurd (omega arith)
-tops-at (suc n) v zero lt = refl
-tops-at (suc n) v (suc s) lt = tops-at n v s (omega (arith, lt))
+listed-at : (n : ℕ) (f : ℕ → ℤ) (s : ℕ) → s < n → number (listed n f) s ≡ f s
+unfolding listed
+listed-at zero f s lt = absurd (omega arith)
+listed-at (suc n) f zero lt = refl
+listed-at (suc n) f (suc s) lt = listed-at n (λ i. f (suc i)) s (omega (arith, lt))
 
--- what is so at all corners is so at those that count
+-- what is so of all is so of those that count
 across_all : (e : Extreme) (n : ℕ) (P : ℕ → Type 0) → 1 ≤ n → ((c : ℕ) → c < n → P c) → Across e n P
 across_all Greatest n P some f = f
 across_all Least n P some f = (0, (some, f 0 some))
 
 -- a vector that rises from a guess, at first
-pub guess_below : (e : Extreme) (k : CaseData) (spans : Spans) (x : List ℤ) → IsGuess k x → IsBelow e k (record { spans = spans; from = x }) x
-guess_below e k spans x h = record {
+pub guess_below : (r : Rule) (k : CaseData) (spans : Spans) (x : List ℤ) → IsGuess r k x → IsBelow r k (record { spans = spans; from = x }) x
+guess_below r k spans x h = record {
   numbers = h.numbers;
-  goal = h.goal;
+  given = h.given;
   above = λ s. omega (arith, linear);
   least = λ y bound over. over;
 }
 
 -- what was noted of a number that differs
-pub sure_of : (k : CaseData) (guess x : List ℤ) (noted : List ℕ) (s : ℕ) → flag noted s ≡ low_word (number guess s) → IsSure k noted x s → (number guess s ≢ number x s) ⊎ ((number x s ≡ pos 0) ⊎ (is_goal k.model s ≡ true))
-sure_of k guess x noted s e h = ⊎_elim
+pub sure_of : (r : Rule) (k : CaseData) (guess x : List ℤ) (noted : List ℕ) (s : ℕ) → flag noted s ≡ low_word (number guess s) → IsSure r k noted x s → (number guess s ≢ number x s) ⊎ ((number x s ≡ pos 0) ⊎ (is_given k.model r.ends s ≡ true))
+sure_of r k guess x noted s e h = ⊎_elim
     (λ (differs : flag noted s ≢ low_word (number x s)). inl (λ same. differs (e ∙ ap low_word same)))
-    (λ (sure : (number x s ≡ pos 0) ⊎ (is_goal k.model s ≡ true)). inr sure)
+    (λ (sure : (number x s ≡ pos 0) ⊎ (is_given k.model r.ends s ≡ true)). inr sure)
     h
 
 module _ (laws : RowLaws) (t : TableData) (spans : Spans) (read : IsRead t spans) where
   abbrev k : CaseData
   k = t.case
 
+  abbrev r : Rule
+  r = t.rule
+
   abbrev e : Extreme
-  e = t.extreme
+  e = r.corner
 
   abbrev Bound : List ℤ → Type 0
-  Bound y = IsEnoughEverywhere e k spans y
+  Bound y = IsEnoughEverywhere r k spans y
 
-  module _ (r y : List ℤ) (m : ℤ) (bound : Bound r) (also : Bound y) (least : pos 0 ≤ℤ m) where
-    sizes : length r ≡ length y
+  -- the greatest bound: 2 ^ w everywhere but where another number is given
+  abbrev most : ℕ → ℤ
+  most s = if is_given k.model r.ends s then given k r.ends s else pos (2 ^ k.w)
+
+  top : List ℤ
+  top = listed (count t) most
+
+  top_at : (s : ℕ) → s < count t → number top s ≡ most s
+  unfolding top
+  top_at s lt = listed-at (count t) most s lt
+
+  top_given : (s : ℕ) → s < count t → is_given k.model r.ends s ≡ true → number top s ≡ given k r.ends s
+  top_given s lt e = top_at s lt ∙ ap (λ b. if b then given k r.ends s else pos (2 ^ k.w)) e
+
+  top_free : (s : ℕ) → s < count t → is_given k.model r.ends s ≡ false → number top s ≡ pos (2 ^ k.w)
+  top_free s lt e = top_at s lt ∙ ap (λ b. if b then given k r.ends s else pos (2 ^ k.w)) e
+
+  top_numbers : AreNumbers k top
+  unfolding top
+  top_numbers = record {
+    size = listed-length (count t) most;
+    range = All-from_get_or (λ n. (pos 0 ≤ℤ n) × (n ≤ℤ pos (2 ^ k.w))) top (pos 0) (λ s lt. in_range s (omega (arith, lt, listed-length (count t) most)));
+  }
+    where
+      in_range : (s : ℕ) → s < count t → (pos 0 ≤ℤ number top s) × (number top s ≤ℤ pos (2 ^ k.w))
+      in_range s lt = ⊎_elim
+          (λ (e : is_given k.model r.ends s ≡ true). subst (λ n. (pos 0 ≤ℤ n) × (n ≤ℤ pos (2 ^ k.w))) (sym (top_given s lt e)) (given_range k r.ends s))
+          (λ (e : is_given k.model r.ends s ≡ false). subst (λ n. (pos 0 ≤ℤ n) × (n ≤ℤ pos (2 ^ k.w))) (sym (top_free s lt e)) (omega (arith, linear), omega (arith, linear)))
+          (true_or_false (is_given k.model r.ends s))
+
+  top_bound : Bound top
+  top_bound = record {
+    numbers = top_numbers;
+    given = λ s e. top_given s (given_inside k r.ends read.case.asked.model.goals s e) e;
+    enough = λ s state free. across_all r.choice (length (choices k.model s)) (λ a. IsEnoughFor e k spans top s a) (read.case.asked.model.some_choice s [] state) (λ a choice.
+        let has : HasChoice k.model s a = record { state = state; choice = choice } in
+        across_all e (corner_count k s a) (IsEnoughAt k spans top s a (number top s)) (some_corner laws k spans read.case read.table.inside s a has)
+        (λ c lt. subst (λ n. IsEnoughAt k spans top s a n c) (sym (top_free s state free)) (value_range laws k spans read.case read.table.inside s a has top top_numbers c).1));
+  }
+
+  module _ (u y : List ℤ) (m : ℤ) (bound : Bound u) (also : Bound y) (least : pos 0 ≤ℤ m) where
+    sizes : length u ≡ length y
     sizes = bound.numbers.size ∙ sym also.numbers.size
 
-    at : (s : ℕ) → IsLesser (number r s) (number y s +ℤ m) (number (lowered m r y) s)
-    at s = lowered-at m r y s least sizes
+    at : (s : ℕ) → IsLesser (number u s) (number y s +ℤ m) (number (lowered m u y) s)
+    at s = lowered-at m u y s least sizes
 
-    low : (s : ℕ) → pos 0 ≤ℤ number (lowered m r y) s
+    low : (s : ℕ) → pos 0 ≤ℤ number (lowered m u y) s
     low s = ⊎_elim
-        (λ (is : number (lowered m r y) s ≡ number r s). omega (arith, linear, is, (laws.numbers k r s bound.numbers).0))
-        (λ (is : number (lowered m r y) s ≡ number y s +ℤ m). omega (arith, linear, is, least, (laws.numbers k y s also.numbers).0))
+        (λ (is : number (lowered m u y) s ≡ number u s). omega (arith, linear, is, (laws.numbers k u s bound.numbers).0))
+        (λ (is : number (lowered m u y) s ≡ number y s +ℤ m). omega (arith, linear, is, least, (laws.numbers k y s also.numbers).0))
         (at s).one
 
-    lowered_enough : (s a : ℕ) → s < count t → a < length (choices k.model s) → is_goal k.model s ≡ false → IsEnoughFor e k spans (lowered m r y) s a
-    lowered_enough s a state choice goal =
-        let z = lowered m r y in
-        let has : HasChoice k.model s a = record { state = state; choice = choice } in
+    lowered_enough : (s : ℕ) → s < count t → is_given k.model r.ends s ≡ false → IsEnough r k spans (lowered m u y) s
+    lowered_enough s state free =
+        let z = lowered m u y in
+        let n = length (choices k.model s) in
         ⊎_elim
-        (λ (is : number z s ≡ number r s). across_map e (corner_count k s a) (IsEnoughAt k spans r s a (number r s)) (IsEnoughAt k spans z s a (number z s))
-        (λ c lt. enough_shifted laws k spans read.case read.table.inside s a has r z (pos 0) (λ i. omega (arith, linear, (at i).left)) (omega (arith, linear, is)) c lt)
-        (bound.enough s state goal a choice))
-        (λ (is : number z s ≡ number y s +ℤ m). across_map e (corner_count k s a) (IsEnoughAt k spans y s a (number y s)) (IsEnoughAt k spans z s a (number z s))
-        (λ c lt. enough_shifted laws k spans read.case read.table.inside s a has y z m (λ i. (at i).right) is c lt)
-        (also.enough s state goal a choice))
+        (λ (is : number z s ≡ number u s). across_map r.choice n (λ a. IsEnoughFor e k spans u s a) (λ a. IsEnoughFor e k spans z s a)
+        (λ a choice. across_map e (corner_count k s a) (IsEnoughAt k spans u s a (number u s)) (IsEnoughAt k spans z s a (number z s))
+        (λ c lt. enough_shifted laws k spans read.case read.table.inside s a (record { state = state; choice = choice }) u z (pos 0) (λ i. omega (arith, linear, (at i).left)) (omega (arith, linear, is)) c lt))
+        (bound.enough s state free))
+        (λ (is : number z s ≡ number y s +ℤ m). across_map r.choice n (λ a. IsEnoughFor e k spans y s a) (λ a. IsEnoughFor e k spans z s a)
+        (λ a choice. across_map e (corner_count k s a) (IsEnoughAt k spans y s a (number y s)) (IsEnoughAt k spans z s a (number z s))
+        (λ c lt. enough_shifted laws k spans read.case read.table.inside s a (record { state = state; choice = choice }) y z m (λ i. (at i).right) is c lt))
+        (also.enough s state free))
         (at s).one
 
-    lowered_bound : Bound (lowered m r y)
+    lowered_bound : Bound (lowered m u y)
     lowered_bound = record {
       numbers = record {
-        size = lowered-length m r y ∙ bound.numbers.size;
-        range = λ i d lt. subst (λ n. (pos 0 ≤ℤ n) × (n ≤ℤ pos (2 ^ k.w))) (sym (get_or_default (lowered m r y) i d (pos 0) lt)) (low i, omega (arith, linear, (at i).left, (laws.numbers k r i bound.numbers).1));
+        size = lowered-length m u y ∙ bound.numbers.size;
+        range = λ i d lt. subst (λ n. (pos 0 ≤ℤ n) × (n ≤ℤ pos (2 ^ k.w))) (sym (get_or_default (lowered m u y) i d (pos 0) lt)) (low i, omega (arith, linear, (at i).left, (laws.numbers k u i bound.numbers).1));
       };
-      goal = λ s g. ⊎_elim
-          (λ (is : number (lowered m r y) s ≡ number r s). is ∙ bound.goal s g)
-          (λ (is : number (lowered m r y) s ≡ number y s +ℤ m). omega (arith, linear, is, least, also.goal s g, bound.goal s g, (at s).left))
+      given = λ s g. ⊎_elim
+          (λ (is : number (lowered m u y) s ≡ number u s). is ∙ bound.given s g)
+          (λ (is : number (lowered m u y) s ≡ number y s +ℤ m). omega (arith, linear, is, least, also.given s g, bound.given s g, (at s).left))
           (at s).one;
-      enough = λ s state goal a choice. lowered_enough s a state choice goal;
+      enough = λ s state free. lowered_enough s state free;
     }
 
-  module _ (guess x : List ℤ) (h : IsBelow e k (record { spans = spans; from = guess }) x) (sure : (s : ℕ) → s < count t → (number guess s ≢ number x s) ⊎ ((number x s ≡ pos 0) ⊎ (is_goal k.model s ≡ true))) where
+  module _ (guess x : List ℤ) (h : IsBelow r k (record { spans = spans; from = guess }) x) (sure : (s : ℕ) → s < count t → (number guess s ≢ number x s) ⊎ ((number x s ≡ pos 0) ⊎ (is_given k.model r.ends s ≡ true))) where
     past_none : (s : ℕ) → count t ≤ s → number x s ≡ pos 0
     past_none s past = get_or_past x s (pos 0) (omega (arith, past, h.numbers.size))
 
-    goal_inside : (s : ℕ) → is_goal k.model s ≡ true → s < count t
-    goal_inside s g = ⊎_elim
-        (λ (lt : s < count t). lt)
-        (λ (past : count t ≤ s). absurd (omega (arith, linear, past_none s past, h.goal s g, pow_pos k.w)))
-        (in_or_past s (count t))
-
-    -- the vector that is 2 ^ w everywhere
-    abbrev top : List ℤ
-    top = tops (count t) (pos (2 ^ k.w))
-
-    top_numbers : AreNumbers k top
-    top_numbers = record {
-      size = tops-length (count t) (pos (2 ^ k.w));
-      range = All-from_get_or (λ n. (pos 0 ≤ℤ n) × (n ≤ℤ pos (2 ^ k.w))) top (pos 0) (λ s lt. subst (λ n. (pos 0 ≤ℤ n) × (n ≤ℤ pos (2 ^ k.w))) (sym (tops-at (count t) (pos (2 ^ k.w)) s (omega (arith, lt, tops-length (count t) (pos (2 ^ k.w)))))) (omega (arith, linear), omega (arith, linear)));
-    }
-
-    top_bound : Bound top
-    top_bound = record {
-      numbers = top_numbers;
-      goal = λ s g. tops-at (count t) (pos (2 ^ k.w)) s (goal_inside s g);
-      enough = λ s state goal a choice.
-          let has : HasChoice k.model s a = record { state = state; choice = choice } in
-          across_all e (corner_count k s a) (IsEnoughAt k spans top s a (number top s)) (some_corner laws k spans read.case read.table.inside s a has)
-          (λ c lt. subst (λ n. IsEnoughAt k spans top s a n c) (sym (tops-at (count t) (pos (2 ^ k.w)) s state)) (value_range laws k spans read.case read.table.inside s a has top top_numbers c).1);
-    }
-
     under_top : (s : ℕ) → number x s ≤ℤ number top s
     under_top s = ⊎_elim
-        (λ (lt : s < count t). omega (arith, linear, tops-at (count t) (pos (2 ^ k.w)) s lt, (laws.numbers k x s h.numbers).1))
+        (λ (lt : s < count t). ⊎_elim
+        (λ (e : is_given k.model r.ends s ≡ true). omega (arith, linear, top_given s lt e, h.given s e))
+        (λ (e : is_given k.model r.ends s ≡ false). omega (arith, linear, top_free s lt e, (laws.numbers k x s h.numbers).1))
+        (true_or_false (is_given k.model r.ends s)))
         (λ (past : count t ≤ s). omega (arith, linear, past_none s past, (laws.numbers k top s top_numbers).0))
         (in_or_past s (count t))
 
@@ -183,9 +207,9 @@ module _ (laws : RowLaws) (t : TableData) (spans : Spans) (read : IsRead t spans
         (λ (differs : number guess s ≢ number x s).
         let less : number guess s <ℤ number x s = by_lt_z (number guess s) (number x s) (λ lt. lt) (λ le. absurd (differs (omega (arith, linear, le, h.above s)))) in
         omega (arith, linear, less, near))
-        (λ (known : (number x s ≡ pos 0) ⊎ (is_goal k.model s ≡ true)). ⊎_elim
+        (λ (known : (number x s ≡ pos 0) ⊎ (is_given k.model r.ends s ≡ true)). ⊎_elim
         (λ (nothing : number x s ≡ pos 0). omega (arith, linear, nothing, h.above s, least, (laws.numbers k y s bound.numbers).0))
-        (λ (goal : is_goal k.model s ≡ true). omega (arith, linear, h.above s, h.goal s goal, bound.goal s goal, least))
+        (λ (e : is_given k.model r.ends s ≡ true). omega (arith, linear, h.above s, h.given s e, bound.given s e, least))
         known)
         (sure s lt)
 
@@ -208,41 +232,54 @@ module _ (laws : RowLaws) (t : TableData) (spans : Spans) (read : IsRead t spans
     under_bounds y bound = closer (2 ^ k.w) y bound (λ s. omega (arith, linear, (laws.numbers k x s h.numbers).1, (laws.numbers k y s bound.numbers).0))
 
     -- what rises from the guess lies at or below every bound
-    pub guessed_below : IsBelow e k (from_zero spans) x
+    pub guessed_below : IsBelow r k (from_zero spans) x
     guessed_below = record {
       numbers = h.numbers;
-      goal = h.goal;
+      given = h.given;
       above = λ s. (laws.numbers k x s h.numbers).0;
       least = λ y bound over. under_bounds y bound;
     }
 
-    pub guessed_least : Bound x → IsLeastBound e k spans x
+    pub guessed_least : Bound x → IsLeastBound r k spans x
     guessed_least bound = record { bound = bound; least = λ y other. under_bounds y other }
 
 -- the least bound rises from 0
-pub least_below : RowLaws → (e : Extreme) (k : CaseData) (spans : Spans) (x : List ℤ) → IsLeastBound e k spans x → IsBelow e k (from_zero spans) x
-least_below laws e k spans x h = record {
+pub least_below : RowLaws → (r : Rule) (k : CaseData) (spans : Spans) (x : List ℤ) → IsLeastBound r k spans x → IsBelow r k (from_zero spans) x
+least_below laws r k spans x h = record {
   numbers = h.bound.numbers;
-  goal = h.bound.goal;
+  given = h.bound.given;
   above = λ s. (laws.numbers k x s h.bound.numbers).0;
   least = λ y bound over. h.least y bound;
 }
 
-pub least_from_zero : RowLaws → (t : TableData) (spans : Spans) (x : List ℤ) → IsLeastFrom t (from_zero spans) x → IsLeastBound t.extreme t.case spans x
+pub least_from_zero : RowLaws → (t : TableData) (spans : Spans) (x : List ℤ) → IsLeastFrom t (from_zero spans) x → IsLeastBound t.rule t.case spans x
 least_from_zero laws t spans x h = record { bound = h.bound; least = λ y bound. h.least y bound (λ s. (laws.numbers t.case y s bound.numbers).0) }
 
 -- how it ends with the least bound
-pub found_of : RowLaws → (t : TableData) (spans : Spans) (x : List ℤ) (past : Bool) → IsLeastBound t.extreme t.case spans x → (past ≡ true → t.limit <ℤ number x t.case.model.init) → (past ≡ false → number x t.case.model.init ≤ℤ t.limit) → IsFound t spans x (not past)
-found_of laws t spans x true h over within = record { below = least_below laws t.extreme t.case spans x h; least = λ e. cc; within = λ e. cc; past = λ e. over refl }
-found_of laws t spans x false h over within = record { below = least_below laws t.extreme t.case spans x h; least = λ e. h; within = λ e. within refl; past = λ e. cc }
+pub found_of : RowLaws → (t : TableData) (spans : Spans) (x : List ℤ) (past : Bool) → IsLeastBound t.rule t.case spans x → (past ≡ true → t.limit <ℤ number x t.case.model.init) → (past ≡ false → number x t.case.model.init ≤ℤ t.limit) → IsFound t spans x (not past)
+found_of laws t spans x true h over within = record { below = least_below laws t.rule t.case spans x h; least = λ e. cc; within = λ e. cc; past = λ e. over refl }
+found_of laws t spans x false h over within = record { below = least_below laws t.rule t.case spans x h; least = λ e. h; within = λ e. within refl; past = λ e. cc }
 
 -- how it ends where the limit was passed
-pub found_past : (t : TableData) (spans : Spans) (x : List ℤ) → IsBelow t.extreme t.case (from_zero spans) x → t.limit <ℤ number x t.case.model.init → IsFound t spans x false
+pub found_past : (t : TableData) (spans : Spans) (x : List ℤ) → IsBelow t.rule t.case (from_zero spans) x → t.limit <ℤ number x t.case.model.init → IsFound t spans x false
 found_past t spans x below over = record { below = below; least = λ e. cc; within = λ e. cc; past = λ e. over }
 
+-- the least bound within the limit, where no number is above the limit 2 ^ w
+pub within_of : (laws : RowLaws) (t : TableData) (spans : Spans) → IsRead t spans → (x : List ℤ) (found : Bool) → IsFound t spans x found → IsLeastBoundWithin t.rule t.case spans t.limit x found
+within_of laws t spans read x found h = record {
+  least = h.least;
+  first = h.within;
+  past = λ e y bound. omega (arith, linear, h.past e, h.below.least y bound (λ s. (laws.numbers t.case y s bound.numbers).0) t.case.model.init);
+  always = λ le. by_test found refl le;
+}
+  where
+    by_test : (b : Bool) → found ≡ b → pos (2 ^ t.case.w) ≤ℤ t.limit → found ≡ true
+    by_test true e le = e
+    by_test false e le = absurd (omega (arith, linear, le, h.past e, (laws.numbers t.case x t.case.model.init h.below.numbers).1))
+
 -- what was written in a part leaves it a guess
-pub guess_kept : (k : CaseData) (l : LinksData) (low high : ℕ) (x y : List ℤ) → IsGuess k x → KeepsOthers k l low high x y → IsGuess k y
-guess_kept k l low high x y guess kept = record {
+pub guess_kept : (r : Rule) (k : CaseData) (l : LinksData) (low high : ℕ) (x y : List ℤ) → IsGuess r k x → KeepsBeyond r.ends k l low high x y → IsGuess r k y
+guess_kept r k l low high x y guess kept = record {
   numbers = kept.numbers;
-  goal = λ s g. kept.others s (rw g refl) ∙ guess.goal s g;
+  given = λ s g. kept.others s (rw g refl) ∙ guess.given s g;
 }

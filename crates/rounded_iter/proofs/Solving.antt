@@ -21,8 +21,8 @@ use Rattle.corner_lift.specs.Case.{CaseData, IsCase, IsInside, number, row_value
 use Rattle.corner_lift.specs.Dot.{only_at}
 use Rattle.corner_lift.specs.Quotient.{IsRoundedUp, IsRoundedUpFrom}
 use Rattle.corner_lift.specs.Laws.{HasRow, ParametersAreTheRoots, NumbersAreInRange, SumsAreInRange, SumsRise, WeightsSumToWhole}
-use Rattle.float_guess.specs.declared.part.Extreme.{Extreme}
-use Rattle.float_guess.specs.declared.part.Extreme.TheVariants.{Greatest, Least}
+use Rattle.float_guess.specs.declared.rule.Extreme.{Extreme}
+use Rattle.float_guess.specs.declared.rule.Extreme.TheVariants.{Greatest, Least}
 use Rattle.rounded_iter.specs.Rising.{Across, IsExtreme, IsMoreExtreme, IsEnoughAt, SolvesAt, IsSolved}
 
 -- ---- order
@@ -362,7 +362,7 @@ module _ (laws : RowLaws) (k : CaseData) (spans : Spans) (is : IsCase k) (within
     }
 
     -- a number that is enough for a corner stays so when it rises
-    risen : (u v : ℤ) (c : ℕ) → c < corner_count k s a → u ≤ℤ v → IsEnoughAt k spans (set x s u) s a u c → IsEnoughAt k spans (set x s v) s a v c
+    pub risen : (u v : ℤ) (c : ℕ) → c < corner_count k s a → u ≤ℤ v → IsEnoughAt k spans (set x s u) s a u c → IsEnoughAt k spans (set x s v) s a v c
     risen u v c lt le h =
         omega (arith, linear, h, value_set u c, value_set v c, mul-le (v -ℤ u) (own c) full (omega (arith, linear, le)) (own_most c lt), less-mul v u (own c), less-mul v u full)
 

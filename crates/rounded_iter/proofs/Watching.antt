@@ -6,7 +6,7 @@ use Rattle.lift_poly.proofs.Ring.{linear}
 use Rattle.lift_grid.specs.Rectangle.{Spans}
 use Rattle.lift_model.specs.Links.{LinksData, Leads, IsLone, position, states_before, positions_before}
 use Rattle.corner_lift.specs.Laws.{NumbersAreInRange}
-use Rattle.rounded_iter.specs.Rising.{TableData, IsRead, Run, IsBelow, IsLeastBound, IsEnough, room}
+use Rattle.rounded_iter.specs.Rising.{TableData, IsRead, Run, IsBelow, IsLeastBound, HasEnough, room}
 use Rattle.rounded_iter.specs.Watching.{count, flag, IsRaisedState, IsWatched, IsWatchedBut, CanFlag, IsFlagged, IsKept, CanVisit, IsVisited, IsTurned, IsPassed, IsLeastFrom, IsFound}
 use Rattle.rounded_iter.proofs.Solving.{same_or_not}
 use Rattle.rounded_iter.proofs.Raising.{one_more, leads_inside, enough_kept}
@@ -66,7 +66,7 @@ module _ (t : TableData) (run : Run) (old new : List ℤ) (before work : List �
         below = g.below;
         places = omega (arith, places, can.places);
         watched = λ q inside ahead clear. ⊎_elim
-            (λ (same : q ≡ s). subst (λ u. IsEnough t.extreme t.case run.spans new u) (sym same) g.enough)
+            (λ (same : q ≡ s). subst (λ u. HasEnough t.rule t.case run.spans new u) (sym same) g.enough)
             (λ (ne : q ≢ s). enough_kept t run.spans old new q s ne (λ leads. flags_set.flagged q leads inside ne ahead clear) g.other (can.watched q inside ahead (flags_set.kept (position t.links q) clear) ne))
             (same_or_not q s);
       };
@@ -84,8 +84,8 @@ module _ (t : TableData) (run : Run) (old new : List ℤ) (before work : List �
         below = g.below;
         places = ap (length {A = ℕ}) same ∙ can.places;
         watched = λ q inside ahead clear. ⊎_elim
-            (λ (e : q ≡ s). subst (λ u. IsEnough t.extreme t.case run.spans new u) (sym e) g.enough)
-            (λ (ne : q ≢ s). subst (λ x. IsEnough t.extreme t.case run.spans x q) (sym (g.kept refl)) (can.watched q inside ahead (subst (λ w. flag w (position t.links q) ≡ 0) same clear) ne))
+            (λ (e : q ≡ s). subst (λ u. HasEnough t.rule t.case run.spans new u) (sym e) g.enough)
+            (λ (ne : q ≢ s). subst (λ x. HasEnough t.rule t.case run.spans x q) (sym (g.kept refl)) (can.watched q inside ahead (subst (λ w. flag w (position t.links q) ≡ 0) same clear) ne))
             (same_or_not q s);
       };
       less = λ e. cc;
@@ -188,7 +188,7 @@ module _ (t : TableData) (run : Run) (read : IsRead t run.spans) where
 
   -- ---- the iteration
 
-  pub kept_none : (x : List ℤ) (work : List ℕ) → IsBelow t.extreme t.case run x → length work ≡ n → IsKept t run x work 0
+  pub kept_none : (x : List ℤ) (work : List ℕ) → IsBelow t.rule t.case run x → length work ≡ n → IsKept t run x work 0
   kept_none x work below places = record { below = below; places = places; watched = λ q inside ahead clear. absurd (omega (arith, ahead)) }
 
   pub kept_next : (x : List ℤ) (work : List ℕ) (i s : ℕ) → get_or t.links.order i 0 ≡ s → n ≤ s → IsKept t run x work i → IsKept t run x work (i + 1)
@@ -204,7 +204,7 @@ module _ (t : TableData) (run : Run) (read : IsRead t run.spans) where
     below = g.below;
     places = h.places;
     watched = λ q within ahead clear. ⊎_elim
-        (λ (same : q ≡ s). subst (λ u. IsEnough t.extreme t.case run.spans new u) (sym same) g.enough)
+        (λ (same : q ≡ s). subst (λ u. HasEnough t.rule t.case run.spans new u) (sym same) g.enough)
         (λ (ne : q ≢ s). enough_kept t run.spans old new q s ne
         (λ leads. ne (found q i s within (omega (arith, ahead, lone q leads, here)) at))
         g.other (watched_next old work i s at h.watched q within ahead clear ne))
@@ -219,8 +219,8 @@ module _ (t : TableData) (run : Run) (read : IsRead t run.spans) where
   kept_all x work h clear = record {
     bound = record {
       numbers = h.below.numbers;
-      goal = h.below.goal;
-      enough = λ s state e.
+      given = h.below.given;
+      enough = λ s state.
           let ahead : position t.links s < n = read.links.order.inside s state in
           h.watched s state ahead (clear (position t.links s) (omega arith) ahead);
     };
@@ -229,6 +229,6 @@ module _ (t : TableData) (run : Run) (read : IsRead t run.spans) where
   }
 
 -- where no number can pass the limit, the least bound is found
-pub found_least : NumbersAreInRange → (t : TableData) (spans : Spans) (x : List ℤ) (found : Bool) → t.limit ≡ pos (2 ^ t.case.w) → IsFound t spans x found → IsLeastBound t.extreme t.case spans x
+pub found_least : NumbersAreInRange → (t : TableData) (spans : Spans) (x : List ℤ) (found : Bool) → t.limit ≡ pos (2 ^ t.case.w) → IsFound t spans x found → IsLeastBound t.rule t.case spans x
 found_least numbers t spans x true limit h = h.least refl
 found_least numbers t spans x false limit h = absurd (omega (arith, linear, limit, h.past refl, (numbers t.case x t.case.model.init h.below.numbers).1))

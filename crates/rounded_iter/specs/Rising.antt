@@ -1,20 +1,22 @@
--- What the iteration keeps: a vector at or below every bound, which can only rise. A bound is an upper vector where the greatest corner of a row counts, and a value vector where the least does.
-use Rattle.std.specs.Prelude.{◌≡◌, ℕ, ◌+◌, ◌<◌, ◌^◌, ◌⊎◌, true, false, List, [], ◌∷◌, ℤ, pos, ◌-ℤ◌, ◌*ℤ◌, ◌≤ℤ◌, nat_abs, length, slice_set, Contains}
+-- What the iteration keeps: a vector at or below every bound, which can only rise. Which choice and which corner count is said by a rule, and so is which numbers are given. A bound is an upper vector where each choice counts, the greatest corner does, and goal states have 2 ^ w; it is a value vector where the least corner does, and an upper vector for some scheduler where one choice does.
+use Rattle.std.specs.Prelude.{◌≡◌, ℕ, ◌+◌, ◌<◌, ◌^◌, ◌⊎◌, Bool, true, false, List, [], ◌∷◌, ℤ, pos, ◌-ℤ◌, ◌*ℤ◌, ◌≤ℤ◌, ◌<ℤ◌, nat_abs, length, slice_set, Contains}
 use Rattle.lift_grid.specs.Rectangle.{Spans}
-use Rattle.lift_model.specs.Model.{is_goal, choices, row_at}
+use Rattle.lift_model.specs.Model.{choices, row_at}
 use Rattle.lift_model.specs.Links.{LinksData, AreLinks, HasChoice, targets_of}
 use Rattle.corner_lift.specs.Case.{CaseData, IsCase, IsGreatest, IsLeast, number, row_value, row_whole, corner_count}
 use Rattle.corner_lift.specs.Certificate.{AreNumbers, AtMost}
 use Rattle.corner_lift.specs.Table.{IsTable}
-use Rattle.float_guess.specs.declared.part.Extreme.{Extreme}
-use Rattle.float_guess.specs.declared.part.Extreme.TheVariants.{Greatest, Least}
+use Rattle.float_guess.specs.declared.rule.Extreme.{Extreme}
+use Rattle.float_guess.specs.declared.rule.Extreme.TheVariants.{Greatest, Least}
+use Rattle.float_guess.specs.declared.rule.Rule.{Rule}
+use Rattle.float_guess.specs.Rule.{is_given, given}
 
--- the rows of a case, their weights in a rectangle, which corner counts, and where an iteration may stop
+-- the rows of a case, their weights in a rectangle, by which rule vectors are raised, and where an iteration may stop
 pub record TableData : Type 0 where
   pub case : CaseData
   pub links : LinksData
   pub weights : List ℤ
-  pub extreme : Extreme
+  pub rule : Rule
   pub limit : ℤ
 
 -- the links are those of the case's model, and the weights are the table of a rectangle inside its root
@@ -25,7 +27,7 @@ pub record IsRead (t : TableData) (spans : Spans) : Type 0 where
 
 -- ---- bounds
 
--- at each of so many corners where the greatest counts, and at one of them where the least does
+-- for each of so many, corners or choices, where the greatest counts, and for one of them where the least does
 abbrev pub Across : Extreme → ℕ → (ℕ → Type 0) → Type 0
 Across Greatest n P = (c : ℕ) → c < n → P c
 Across Least n P = (c : ℕ) × ((c < n) × P c)
@@ -48,32 +50,47 @@ IsEnoughAt k spans x s a n c = row_value k spans s a x c ≤ℤ (n *ℤ row_whol
 abbrev pub IsEnoughFor : Extreme → CaseData → Spans → List ℤ → ℕ → ℕ → Type 0
 IsEnoughFor e k spans x s a = Across e (corner_count k s a) (IsEnoughAt k spans x s a (number x s))
 
--- the state's number is enough for each of its choices
-abbrev pub IsEnough : Extreme → CaseData → Spans → List ℤ → ℕ → Type 0
-IsEnough e k spans x s = (a : ℕ) → a < length (choices k.model s) → IsEnoughFor e k spans x s a
+-- the state's number is enough for the choices that count
+abbrev pub IsEnough : Rule → CaseData → Spans → List ℤ → ℕ → Type 0
+IsEnough r k spans x s = Across r.choice (length (choices k.model s)) (λ a. IsEnoughFor r.corner k spans x s a)
 
--- a bound of the iteration: 2 ^ w on goal states, and enough elsewhere
-pub record IsEnoughEverywhere (e : Extreme) (k : CaseData) (spans : Spans) (x : List ℤ) : Type 0 where
+-- a state has the number that is given for it, if one is
+abbrev pub HasGiven : Rule → CaseData → List ℤ → ℕ → Type 0
+HasGiven r k x s = is_given k.model r.ends s ≡ true → number x s ≡ given k r.ends s
+
+-- a state has enough, unless its number is given
+abbrev pub HasEnough : Rule → CaseData → Spans → List ℤ → ℕ → Type 0
+HasEnough r k spans x s = is_given k.model r.ends s ≡ false → IsEnough r k spans x s
+
+-- a bound by the rule: the given numbers where they are given, and enough elsewhere
+pub record IsEnoughEverywhere (r : Rule) (k : CaseData) (spans : Spans) (x : List ℤ) : Type 0 where
   pub numbers : AreNumbers k x
-  pub goal : (s : ℕ) → is_goal k.model s ≡ true → number x s ≡ pos (2 ^ k.w)
-  pub enough : (s : ℕ) → s < length k.model.states → is_goal k.model s ≡ false → IsEnough e k spans x s
+  pub given : (s : ℕ) → HasGiven r k x s
+  pub enough : (s : ℕ) → s < length k.model.states → HasEnough r k spans x s
 
 -- where an iteration runs: on which rectangle, and from which vector on
 pub record Run : Type 0 where
   pub spans : Spans
   pub from : List ℤ
 
--- one number from 0 to 2 ^ w for each state, 2 ^ w on goal states, at least the vector from which the iteration rises, and at most every bound that is
-pub record IsBelow (e : Extreme) (k : CaseData) (run : Run) (x : List ℤ) : Type 0 where
+-- one number from 0 to 2 ^ w for each state, the given ones where they are given, at least the vector from which the iteration rises, and at most every bound that is
+pub record IsBelow (r : Rule) (k : CaseData) (run : Run) (x : List ℤ) : Type 0 where
   pub numbers : AreNumbers k x
-  pub goal : (s : ℕ) → is_goal k.model s ≡ true → number x s ≡ pos (2 ^ k.w)
+  pub given : (s : ℕ) → HasGiven r k x s
   pub above : AtMost run.from x
-  pub least : (y : List ℤ) → IsEnoughEverywhere e k run.spans y → AtMost run.from y → AtMost x y
+  pub least : (y : List ℤ) → IsEnoughEverywhere r k run.spans y → AtMost run.from y → AtMost x y
 
 -- the bound that is least at each state
-pub record IsLeastBound (e : Extreme) (k : CaseData) (spans : Spans) (x : List ℤ) : Type 0 where
-  pub bound : IsEnoughEverywhere e k spans x
-  pub least : (y : List ℤ) → IsEnoughEverywhere e k spans y → AtMost x y
+pub record IsLeastBound (r : Rule) (k : CaseData) (spans : Spans) (x : List ℤ) : Type 0 where
+  pub bound : IsEnoughEverywhere r k spans x
+  pub least : (y : List ℤ) → IsEnoughEverywhere r k spans y → AtMost x y
+
+-- The least bound, where the initial state's number in it is within the limit; else that number is above the limit in every bound. No number is above 2 ^ w.
+pub record IsLeastBoundWithin (r : Rule) (k : CaseData) (spans : Spans) (limit : ℤ) (x : List ℤ) (within : Bool) : Type 0 where
+  pub least : within ≡ true → IsLeastBound r k spans x
+  pub first : within ≡ true → number x k.model.init ≤ℤ limit
+  pub past : within ≡ false → (y : List ℤ) → IsEnoughEverywhere r k spans y → limit <ℤ number y k.model.init
+  pub always : pos (2 ^ k.w) ≤ℤ limit → within ≡ true
 
 -- ---- one choice
 
@@ -112,6 +129,13 @@ pub record IsSolved (e : Extreme) (k : CaseData) (spans : Spans) (x : List ℤ) 
   pub most : v ≤ℤ pos (2 ^ k.w)
   pub enough : Across e n (IsEnoughAt k spans (slice_set x s v) s a v)
   pub least : (y : List ℤ) → AtMost x y → Across e n (IsEnoughAt k spans y s a (number y s)) → v ≤ℤ number y s
+
+-- the same for the first choices, so many, of which those count that the rule says
+pub record IsSolvedBy (r : Rule) (k : CaseData) (spans : Spans) (x : List ℤ) (s n : ℕ) (v : ℤ) : Type 0 where
+  pub grown : number x s ≤ℤ v
+  pub most : v ≤ℤ pos (2 ^ k.w)
+  pub enough : Across r.choice n (λ a. Across r.corner (corner_count k s a) (IsEnoughAt k spans (slice_set x s v) s a v))
+  pub least : (y : List ℤ) → AtMost x y → Across r.choice n (λ a. IsEnoughFor r.corner k spans y s a) → v ≤ℤ number y s
 
 -- by how much a vector can rise in all: the measure of the iteration
 abbrev pub room : ℕ → List ℤ → ℕ

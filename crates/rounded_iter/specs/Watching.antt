@@ -1,15 +1,18 @@
 -- What the iteration keeps: a vector at or below every bound, and flags at the positions of the states that may have to rise.
-use Rattle.std.specs.Prelude.{◌≡◌, ◌≢◌, ℕ, ◌*◌, ◌^◌, ◌<◌, ◌≤◌, ◌⊎◌, Bool, true, false, Option, IsSome, List, [], ℤ, pos, ◌≤ℤ◌, ◌<ℤ◌, length, slice_index_or}
+use Rattle.std.specs.Prelude.{◌≡◌, ◌≢◌, ℕ, ◌*◌, ◌^◌, ◌<◌, ◌≤◌, ◌⊎◌, Bool, true, false, Option, IsSome, List, [], ℤ, pos, ◌≤ℤ◌, ◌<ℤ◌, length, slice_index_or, if◌then◌else◌}
 use Rattle.lift_grid.specs.Rectangle.{Spans}
-use Rattle.lift_model.specs.Model.{choices, is_goal}
+use Rattle.lift_model.specs.Model.{is_goal}
 use Rattle.lift_model.specs.Links.{LinksData, AreLinks, Leads, position}
 use Rattle.corner_lift.specs.Case.{CaseData, IsCase, number}
 use Rattle.corner_lift.specs.Table.{IsTable}
 use Rattle.corner_lift.specs.Certificate.{AreNumbers, AtMost, IsUpper, IsLeastUpper}
+use Rattle.float_guess.specs.declared.rule.Ends.{Ends}
+use Rattle.float_guess.specs.declared.rule.Rule.{Rule}
+use Rattle.float_guess.specs.Rule.{is_given, given}
 use Rattle.float_guess.specs.Notes.{low_word}
 use Rattle.rounded_iter.specs.declared.table.Ended.{Ended}
 use Rattle.rounded_iter.specs.declared.table.Ended.TheVariants.{Settled, Past, Slow}
-use Rattle.rounded_iter.specs.Rising.{TableData, IsRead, Run, IsBelow, IsEnoughEverywhere, IsLeastBound, IsEnough, IsEnoughFor, room}
+use Rattle.rounded_iter.specs.Rising.{TableData, IsRead, Run, HasGiven, IsBelow, IsEnoughEverywhere, IsLeastBound, HasEnough, room}
 
 -- how many states there are
 abbrev pub count : TableData → ℕ
@@ -22,41 +25,28 @@ pub record HasGoals (k : CaseData) (old new : List ℤ) : Type 0 where
   pub goal : (s : ℕ) → s < length k.model.states → is_goal k.model s ≡ true → number new s ≡ pos (2 ^ k.w)
   pub other : (s : ℕ) → is_goal k.model s ≡ false → number new s ≡ number old s
 
+-- the number of a state in the first vector: the given one, if one is, and else 0
+abbrev pub first_number : CaseData → Ends → ℕ → ℤ
+first_number k ends s = if is_given k.model ends s then given k ends s else pos 0
+
 -- what it needs to raise a state
 pub record CanRaise (t : TableData) (run : Run) (x : List ℤ) (s : ℕ) : Type 0 where
   pub read : IsRead t run.spans
   pub state : s < count t
-  pub below : IsBelow t.extreme t.case run x
+  pub below : IsBelow t.rule t.case run x
 
--- what it needs to raise it by one choice
-pub record CanRaiseBy (t : TableData) (run : Run) (x : List ℤ) (s a : ℕ) : Type 0 where
+-- what it needs to raise one whose number isn't given, or is 2 ^ w
+pub record CanRaiseFree (t : TableData) (run : Run) (x : List ℤ) (s : ℕ) : Type 0 where
   pub can : CanRaise t run x s
-  pub choice : a < length (choices t.case.model s)
+  pub free : is_given t.case.model t.rule.ends s ≡ true → given t.case t.rule.ends s ≡ pos (2 ^ t.case.w)
 
--- the number of s was raised to what is enough for its choice a
-pub record IsRaised (t : TableData) (run : Run) (old new : List ℤ) (s a : ℕ) (rose : Bool) : Type 0 where
-  pub below : IsBelow t.extreme t.case run new
-  pub kept : rose ≡ false → new ≡ old
-  pub less : rose ≡ true → room t.case.w new < room t.case.w old
-  pub other : (i : ℕ) → i ≢ s → number new i ≡ number old i
-  pub grown : number old s ≤ℤ number new s
-  pub enough : IsEnoughFor t.extreme t.case run.spans new s a
-
--- for its choices below a
-pub record IsRaisedBy (t : TableData) (run : Run) (old new : List ℤ) (s a : ℕ) (rose : Bool) : Type 0 where
-  pub below : IsBelow t.extreme t.case run new
-  pub kept : rose ≡ false → new ≡ old
-  pub less : rose ≡ true → room t.case.w new < room t.case.w old
-  pub other : (i : ℕ) → i ≢ s → number new i ≡ number old i
-  pub enough : (b : ℕ) → b < a → IsEnoughFor t.extreme t.case run.spans new s b
-
--- for all its choices
+-- the number of s was raised to what is enough, unless it is given
 pub record IsRaisedState (t : TableData) (run : Run) (old new : List ℤ) (s : ℕ) (rose : Bool) : Type 0 where
-  pub below : IsBelow t.extreme t.case run new
+  pub below : IsBelow t.rule t.case run new
   pub kept : rose ≡ false → new ≡ old
   pub less : rose ≡ true → room t.case.w new < room t.case.w old
   pub other : (i : ℕ) → i ≢ s → number new i ≡ number old i
-  pub enough : IsEnough t.extreme t.case run.spans new s
+  pub enough : HasEnough t.rule t.case run.spans new s
 
 -- ---- flags
 
@@ -66,11 +56,11 @@ flag work i = slice_index_or work i 0
 
 -- each state that stands before the frontier and isn't flagged has enough
 abbrev pub IsWatched : TableData → Run → List ℤ → List ℕ → ℕ → Type 0
-IsWatched t run x work frontier = (q : ℕ) → q < count t → position t.links q < frontier → flag work (position t.links q) ≡ 0 → IsEnough t.extreme t.case run.spans x q
+IsWatched t run x work frontier = (q : ℕ) → q < count t → position t.links q < frontier → flag work (position t.links q) ≡ 0 → HasEnough t.rule t.case run.spans x q
 
 -- the same, but for one state
 abbrev pub IsWatchedBut : TableData → Run → List ℤ → List ℕ → ℕ → ℕ → Type 0
-IsWatchedBut t run x work frontier but = (q : ℕ) → q < count t → position t.links q < frontier → flag work (position t.links q) ≡ 0 → q ≢ but → IsEnough t.extreme t.case run.spans x q
+IsWatchedBut t run x work frontier but = (q : ℕ) → q < count t → position t.links q < frontier → flag work (position t.links q) ≡ 0 → q ≢ but → HasEnough t.rule t.case run.spans x q
 
 -- what it needs to flag the states that lead to the one at a position
 pub record CanFlag (t : TableData) (work : List ℕ) (s i : ℕ) : Type 0 where
@@ -88,7 +78,7 @@ pub record IsFlagged (t : TableData) (old new : List ℕ) (s frontier : ℕ) : T
 
 -- what an iteration keeps
 pub record IsKept (t : TableData) (run : Run) (x : List ℤ) (work : List ℕ) (frontier : ℕ) : Type 0 where
-  pub below : IsBelow t.extreme t.case run x
+  pub below : IsBelow t.rule t.case run x
   pub places : length work ≡ count t
   pub watched : IsWatched t run x work frontier
 
@@ -103,7 +93,7 @@ pub record CanVisit (t : TableData) (run : Run) (x : List ℤ) (work : List ℕ)
   pub read : IsRead t run.spans
   pub state : s < count t
   pub at : slice_index_or t.links.order i 0 ≡ s
-  pub below : IsBelow t.extreme t.case run x
+  pub below : IsBelow t.rule t.case run x
   pub places : length work ≡ count t
   pub watched : IsWatchedBut t run x work frontier s
 
@@ -151,18 +141,18 @@ pub record CanGoOn (t : TableData) (run : Run) (x : List ℤ) (work : List ℕ) 
 -- what the iteration needs
 pub record CanClimb (t : TableData) (run : Run) (x : List ℤ) (work : List ℕ) : Type 0 where
   pub read : IsRead t run.spans
-  pub below : IsBelow t.extreme t.case run x
+  pub below : IsBelow t.rule t.case run x
   pub places : length work ≡ count t
 
 -- the bound that is least among those at least the vector from which the iteration rose
 pub record IsLeastFrom (t : TableData) (run : Run) (x : List ℤ) : Type 0 where
-  pub bound : IsEnoughEverywhere t.extreme t.case run.spans x
+  pub bound : IsEnoughEverywhere t.rule t.case run.spans x
   pub above : AtMost run.from x
-  pub least : (y : List ℤ) → IsEnoughEverywhere t.extreme t.case run.spans y → AtMost run.from y → AtMost x y
+  pub least : (y : List ℤ) → IsEnoughEverywhere t.rule t.case run.spans y → AtMost run.from y → AtMost x y
 
 -- the vector is that bound, or the initial state's number passed the limit, or it took too many passes
 pub record IsClimbed (t : TableData) (run : Run) (x : List ℤ) (patience : Option ℕ) (ended : Ended) : Type 0 where
-  pub below : IsBelow t.extreme t.case run x
+  pub below : IsBelow t.rule t.case run x
   pub least : ended ≡ Settled → IsLeastFrom t run x
   pub past : ended ≡ Past → t.limit <ℤ number x t.case.model.init
   pub slow : ended ≡ Slow → IsSome patience
@@ -176,30 +166,30 @@ from_zero spans = record { spans = spans; from = [] }
 -- what it needs to find the least bound
 pub record CanFind (t : TableData) (spans : Spans) (x : List ℤ) (work : List ℕ) : Type 0 where
   pub read : IsRead t spans
-  pub below : IsBelow t.extreme t.case (from_zero spans) x
+  pub below : IsBelow t.rule t.case (from_zero spans) x
   pub places : length work ≡ 2 * count t
 
 -- the vector is the least bound, and the initial state's number within the limit; or that number is above the limit in every bound
 pub record IsFound (t : TableData) (spans : Spans) (x : List ℤ) (found : Bool) : Type 0 where
-  pub below : IsBelow t.extreme t.case (from_zero spans) x
-  pub least : found ≡ true → IsLeastBound t.extreme t.case spans x
+  pub below : IsBelow t.rule t.case (from_zero spans) x
+  pub least : found ≡ true → IsLeastBound t.rule t.case spans x
   pub within : found ≡ true → number x t.case.model.init ≤ℤ t.limit
   pub past : found ≡ false → t.limit <ℤ number x t.case.model.init
 
--- a guess: one number from 0 to 2 ^ w for each state, and 2 ^ w on goal states
-pub record IsGuess (k : CaseData) (x : List ℤ) : Type 0 where
+-- a guess: one number from 0 to 2 ^ w for each state, and the given ones where they are given
+pub record IsGuess (r : Rule) (k : CaseData) (x : List ℤ) : Type 0 where
   pub numbers : AreNumbers k x
-  pub goal : (s : ℕ) → is_goal k.model s ≡ true → number x s ≡ pos (2 ^ k.w)
+  pub given : (s : ℕ) → HasGiven r k x s
 
 -- what it needs to make one of another
 pub record CanGuess (t : TableData) (x : List ℤ) : Type 0 where
   pub links : AreLinks t.case.model t.links
-  pub guess : IsGuess t.case x
+  pub guess : IsGuess t.rule t.case x
 
 -- what it needs to rise from a guess, with room for flags and notes
 pub record CanConfirm (t : TableData) (spans : Spans) (x : List ℤ) (flags noted : List ℕ) : Type 0 where
   pub read : IsRead t spans
-  pub guess : IsGuess t.case x
+  pub guess : IsGuess t.rule t.case x
   pub places : length flags ≡ count t
   pub notes : length noted ≡ count t
 
@@ -207,9 +197,9 @@ pub record CanConfirm (t : TableData) (spans : Spans) (x : List ℤ) (flags note
 abbrev pub AreNoted : List ℤ → List ℕ → ℕ → Type 0
 AreNoted x noted n = (s : ℕ) → s < n → flag noted s ≡ low_word (number x s)
 
--- The guess at a state, of which that was noted, is no fault: the number rose above it, or it is at most every bound there, as 0 is, and 2 ^ w on goal states.
-abbrev pub IsSure : CaseData → List ℕ → List ℤ → ℕ → Type 0
-IsSure k noted x s = (flag noted s ≢ low_word (number x s)) ⊎ ((number x s ≡ pos 0) ⊎ (is_goal k.model s ≡ true))
+-- The guess at a state, of which that was noted, is no fault: the number rose above it, or it is at most every bound there, as 0 is, and a number that is given.
+abbrev pub IsSure : Rule → CaseData → List ℕ → List ℤ → ℕ → Type 0
+IsSure r k noted x s = (flag noted s ≢ low_word (number x s)) ⊎ ((number x s ≡ pos 0) ⊎ (is_given k.model r.ends s ≡ true))
 
 -- what it needs to test that
 pub record CanTest (t : TableData) (x : List ℤ) (noted : List ℕ) : Type 0 where

@@ -5,11 +5,11 @@ ghost use Rattle.std.specs.Prelude.{◌≡◌, ◌≤ℤ◌, ◌^◌, ◌<◌, �
 ghost use Rattle.lift_grid.specs.Rectangle.{Spans};
 ghost use Rattle.corner_lift.specs.Case.{number};
 ghost use Rattle.rounded_iter.specs.Rising.{IsBelow, IsLeastBound, Run};
-ghost use Rattle.rounded_iter.specs.Watching.{CanStart, HasGoals, CanClimb, CanRise, CanFind, IsFound, CanGuess, IsGuess, CanConfirm, CanTest, AreNoted, IsSure, IsClimbed, from_zero};
+ghost use Rattle.rounded_iter.specs.Watching.{CanStart, HasGoals, CanClimb, CanRise, CanFind, IsFound, CanGuess, IsGuess, CanConfirm, CanTest, AreNoted, IsSure, IsClimbed, first_number, from_zero};
 
 use crate::table::{Ended, Table};
 use corner_lift::{corners_bound_weights, rows_at_corners};
-use float_guess::{Rounding, Shares, Way, guess_part, low_word_of};
+use float_guess::{Ends, Rounding, Shares, Way, guess_part, low_word_of};
 
 /// How many passes over a component are made before the first guess.
 const FIRST_PATIENCE: u32 = 32;
@@ -90,17 +90,30 @@ fn note(lane: &[i64], noted: &mut [u32])
     }
 }
 
-impl Table<'_> {
-    /// Writes `top` for each goal state, and 0 for each other.
+impl Table<'_, '_> {
+    /// The number of a state at first: the one that is given, if one is, or else 0.
+    fn first_number(&self, s: u32) -> i64
+        requires { s < length self.now.case.model.states }
+        ensures { result ≡ first_number self.now.case self.now.rule.ends s }
+    {
+        let model = self.rows.model();
+        let is_one = match self.rule.ends {
+            Ends::Goals => model.is_goal(s),
+            Ends::Unranked(_) => self.rule.ends.has(model, s) && !model.is_goal(s),
+        };
+        if is_one { self.top } else { 0 }
+    }
+
+    /// Writes the first number of each state.
     pub(crate) fn start(&self, lane: &mut [i64])
         ghost spans: { Spans }
         requires { CanStart self.now lane.old }
-        ensures { IsBelow self.now.extreme self.now.case (from_zero spans) lane.new }
+        ensures { IsBelow self.now.rule self.now.case (from_zero spans) lane.new }
     {
         rows_at_corners();
         let model = self.rows.model();
         for s in 0..model.states() {
-            lane[s as usize] = if model.is_goal(s) { self.top } else { 0 };
+            lane[s as usize] = self.first_number(s);
         }
     }
 
@@ -121,11 +134,11 @@ impl Table<'_> {
     fn is_sure_at(&self, lane: &[i64], noted: &[u32], s: u32) -> bool
         requires can { CanTest self.now lane.now noted.now }
         requires state { s < length self.now.case.model.states }
-        ensures { IsTrue result → IsSure self.now.case noted.now lane.now s }
+        ensures { IsTrue result → IsSure self.now.rule self.now.case noted.now lane.now s }
     {
         rows_at_corners();
         let number = lane[s as usize];
-        if number == 0 || self.rows.model().is_goal(s) {
+        if number == 0 || self.rule.ends.has(self.rows.model(), s) {
             return true;
         }
         noted[s as usize] != low_word_of(number)
@@ -134,7 +147,8 @@ impl Table<'_> {
     /// Whether it is at all states.
     fn is_sure(&self, lane: &[i64], noted: &[u32]) -> bool
         requires { CanTest self.now lane.now noted.now }
-        ensures { IsTrue result → (s : ℕ) → s < length self.now.case.model.states → IsSure self.now.case noted.now lane.now s }
+        ensures { IsTrue result → (s : ℕ) → s < length self.now.case.model.states
+            → IsSure self.now.rule self.now.case noted.now lane.now s }
     {
         for s in 0..self.rows.model().states() {
             if !self.is_sure_at(lane, noted, s) {
@@ -189,10 +203,10 @@ impl Table<'_> {
     fn confirm(&self, lane: &mut [i64], flags: &mut [u32], noted: &mut [u32], passes: u32) -> Raised
         ghost spans: { Spans }
         requires { CanConfirm self.now spans lane.old flags.old noted.old }
-        ensures least { result ≡ Raised.Least → IsLeastBound self.now.extreme self.now.case spans lane.new }
+        ensures least { result ≡ Raised.Least → IsLeastBound self.now.rule self.now.case spans lane.new }
         ensures past { result ≡ Raised.Past → IsFound self.now spans lane.new false }
-        ensures below { result ≡ Raised.Certain → IsBelow self.now.extreme self.now.case (from_zero spans) lane.new }
-        ensures guess { IsGuess self.now.case lane.new }
+        ensures below { result ≡ Raised.Certain → IsBelow self.now.rule self.now.case (from_zero spans) lane.new }
+        ensures guess { IsGuess self.now.rule self.now.case lane.new }
     {
         rows_at_corners();
         corners_bound_weights();
@@ -213,7 +227,7 @@ impl Table<'_> {
         requires { CanClimb self.now (from_zero spans) lane.old flags.old }
         ensures found { IfSome result (λ found. IsFound self.now spans lane.new found) }
         ensures slow { result ≡ None → IsSome patience }
-        ensures guess { IsGuess self.now.case lane.new }
+        ensures guess { IsGuess self.now.rule self.now.case lane.new }
     {
         rows_at_corners();
         corners_bound_weights();
@@ -235,7 +249,7 @@ impl Table<'_> {
         requires { CanRise self.now spans lane.old flags.old }
         ensures found { IfSome result (λ found. IsFound self.now spans lane.new found) }
         ensures slow { result ≡ None → IsSome patience }
-        ensures guess { IsGuess self.now.case lane.new }
+        ensures guess { IsGuess self.now.rule self.now.case lane.new }
     {
         self.start(lane);
         self.rise(lane, flags, patience)
@@ -252,13 +266,13 @@ impl Table<'_> {
         way: Way,
     ) -> bool
         requires { CanGuess self.now lane.old }
-        ensures { IsGuess self.now.case lane.new }
+        ensures { IsGuess self.now.rule self.now.case lane.new }
     {
         guess_part(
             self.rows.case(),
             self.rows.links(),
             self.rows.weights(),
-            self.extreme,
+            self.rule,
             Rounding::Down,
             lane,
             flags,
@@ -273,7 +287,7 @@ impl Table<'_> {
     /// doesn't do, the guess is 0.
     fn guess(&self, lane: &mut [i64], flags: &mut [u32], noted: &mut [u32], way: Way) -> Guessed
         requires { CanGuess self.now lane.old }
-        ensures { IsGuess self.now.case lane.new }
+        ensures { IsGuess self.now.rule self.now.case lane.new }
     {
         let mut way = way;
         let mut some = false;
@@ -312,14 +326,14 @@ impl Table<'_> {
     ) -> Raised
         ghost spans: { Spans }
         requires { CanConfirm self.now spans lane.old flags.old noted.old }
-        ensures least { result ≡ Raised.Least → IsLeastBound self.now.extreme self.now.case spans lane.new }
+        ensures least { result ≡ Raised.Least → IsLeastBound self.now.rule self.now.case spans lane.new }
         ensures past { result ≡ Raised.Past → ⊥ }
-        ensures below { result ≡ Raised.Certain → IsBelow self.now.extreme self.now.case (from_zero spans) lane.new }
-        ensures guess { IsGuess self.now.case lane.new }
+        ensures below { result ≡ Raised.Certain → IsBelow self.now.rule self.now.case (from_zero spans) lane.new }
+        ensures guess { IsGuess self.now.rule self.now.case lane.new }
     {
         let boundless = Table {
             rows: self.rows,
-            extreme: self.extreme,
+            rule: self.rule,
             top: self.top,
             limit: self.top,
         };
@@ -342,10 +356,10 @@ impl Table<'_> {
     ) -> Raised
         ghost spans: { Spans }
         requires { CanConfirm self.now spans lane.old flags.old noted.old }
-        ensures least { result ≡ Raised.Least → IsLeastBound self.now.extreme self.now.case spans lane.new }
+        ensures least { result ≡ Raised.Least → IsLeastBound self.now.rule self.now.case spans lane.new }
         ensures past { result ≡ Raised.Past → IsFound self.now spans lane.new false }
-        ensures below { result ≡ Raised.Certain → IsBelow self.now.extreme self.now.case (from_zero spans) lane.new }
-        ensures guess { IsGuess self.now.case lane.new }
+        ensures below { result ≡ Raised.Certain → IsBelow self.now.rule self.now.case (from_zero spans) lane.new }
+        ensures guess { IsGuess self.now.rule self.now.case lane.new }
     {
         match self.guess(lane, flags, noted, way) {
             Guessed::Nothing => Raised::Nothing,
@@ -371,7 +385,7 @@ impl Table<'_> {
         ghost spans: { Spans }
         requires { CanConfirm self.now spans lane.old flags.old noted.old }
         ensures found { IfSome result (λ found. IsFound self.now spans lane.new found) }
-        ensures guess { IsGuess self.now.case lane.new }
+        ensures guess { IsGuess self.now.rule self.now.case lane.new }
     {
         rows_at_corners();
         corners_bound_weights();
@@ -393,7 +407,7 @@ impl Table<'_> {
         ghost spans: { Spans }
         requires { CanConfirm self.now spans lane.old flags.old noted.old }
         ensures found { IfSome result (λ found. IsFound self.now spans lane.new found) }
-        ensures guess { IsGuess self.now.case lane.new }
+        ensures guess { IsGuess self.now.rule self.now.case lane.new }
     {
         rows_at_corners();
         corners_bound_weights();
@@ -412,7 +426,7 @@ impl Table<'_> {
         ghost spans: { Spans }
         requires { CanConfirm self.now spans lane.old flags.old noted.old }
         ensures found { (found : Bool) → result ≡ Tried.Found found → IsFound self.now spans lane.new found }
-        ensures guess { IsGuess self.now.case lane.new }
+        ensures guess { IsGuess self.now.rule self.now.case lane.new }
     {
         rows_at_corners();
         corners_bound_weights();
@@ -462,7 +476,7 @@ impl Table<'_> {
         ghost spans: { Spans }
         requires { CanConfirm self.now spans lane.old flags.old noted.old }
         ensures found { IfSome result (λ found. IsFound self.now spans lane.new found) }
-        ensures guess { IsGuess self.now.case lane.new }
+        ensures guess { IsGuess self.now.rule self.now.case lane.new }
     {
         let (likely, sure) = match self.try_shares(lane, flags, noted) {
             Tried::Found(found) => return Some(found),

@@ -3,13 +3,42 @@ ghost use Rattle.lift_grid.specs.Rectangle.{Spans};
 ghost use Rattle.lift_model.specs.Links.{AreLinks};
 ghost use Rattle.corner_lift.specs.Certificate.{IsLeastUpper};
 ghost use Rattle.corner_lift.specs.Table.{IsTable};
+ghost use Rattle.rounded_iter.specs.Rising.{IsLeastBoundWithin};
 ghost use Rattle.rounded_iter.specs.Value.{IsLeastValue};
 ghost use Rattle.rounded_iter.specs.Watching.{CanIterate, CanContinue, IsLeastWithin};
 
 use crate::table::Table;
 use corner_lift::{Case, Lifted, corners_bound_weights, one_at, rows_at_corners};
-use float_guess::Extreme;
+use float_guess::{Ends, Extreme, Rule};
 use lift_model::Links;
+
+/// Leaves in `lane` the least bound by a rule of the case on the rectangle that its rows are lifted to: of the vectors
+/// of numbers from 0 to 2 to the `w` that have the given number where one is given, and elsewhere at least the weighted
+/// mean at the corner that counts of the choice that counts, the one that is least at each state. Stops where the
+/// initial state's number passes the limit. True: `lane` is that bound, and its number there is within the limit.
+/// False: in each bound it is above. What `lane` and `work` hold at entry is free. Takes no memory.
+pub fn least_bound(
+    rows: &Lifted,
+    rule: Rule,
+    limit: i64,
+    lane: &mut [i64],
+    work: &mut [u32],
+) -> bool
+    ghost spans: { Spans }
+    requires { CanIterate rows.now.case rows.now.links spans rows.now.weights lane.old work.old }
+    ensures { IsLeastBoundWithin rule.entry rows.now.case spans limit lane.new result }
+{
+    rows_at_corners();
+    corners_bound_weights();
+    let table = Table {
+        rows: &*rows,
+        rule,
+        top: one_at(rows.w()),
+        limit,
+    };
+    table.start(lane);
+    table.find(lane, work)
+}
 
 /// Leaves in `lane` the least upper vector of the case on the rectangle whose table `weights` is: of the
 /// vectors of numbers from 0 to 2 to the `w` that have 2 to the `w` on goal states, and elsewhere at
@@ -22,16 +51,13 @@ pub fn least_upper(case: &Case, links: &Links, weights: &[i128], lane: &mut [i64
 {
     rows_at_corners();
     corners_bound_weights();
-    let top = one_at(case.w());
     let rows = Lifted::new(&*case, &*links, &*weights);
-    let table = Table {
-        rows: &rows,
-        extreme: Extreme::Greatest,
-        top,
-        limit: top,
+    let rule = Rule {
+        choice: Extreme::Greatest,
+        corner: Extreme::Greatest,
+        ends: Ends::Goals,
     };
-    table.start(lane);
-    table.find(lane, work);
+    least_bound(&rows, rule, one_at(case.w()), lane, work);
 }
 
 /// Leaves in `lane` the least value vector of the case on the rectangle whose table `weights` is: of the
@@ -45,16 +71,13 @@ pub fn least_value(case: &Case, links: &Links, weights: &[i128], lane: &mut [i64
 {
     rows_at_corners();
     corners_bound_weights();
-    let top = one_at(case.w());
     let rows = Lifted::new(&*case, &*links, &*weights);
-    let table = Table {
-        rows: &rows,
-        extreme: Extreme::Least,
-        top,
-        limit: top,
+    let rule = Rule {
+        choice: Extreme::Greatest,
+        corner: Extreme::Least,
+        ends: Ends::Goals,
     };
-    table.start(lane);
-    table.find(lane, work);
+    least_bound(&rows, rule, one_at(case.w()), lane, work);
 }
 
 /// As `least_upper`, but stops where the initial state's number passes the limit. True: `lane` is the least
@@ -73,15 +96,14 @@ pub fn least_upper_within(
 {
     rows_at_corners();
     corners_bound_weights();
+    let _ = case.w();
     let rows = Lifted::new(&*case, &*links, &*weights);
-    let table = Table {
-        rows: &rows,
-        extreme: Extreme::Greatest,
-        top: one_at(case.w()),
-        limit,
+    let rule = Rule {
+        choice: Extreme::Greatest,
+        corner: Extreme::Greatest,
+        ends: Ends::Goals,
     };
-    table.start(lane);
-    table.find(lane, work)
+    least_bound(&rows, rule, limit, lane, work)
 }
 
 /// As `least_upper`, but starts from the vector in `lane`, of numbers from 0 to 2 to the `w`, which lies at
@@ -103,7 +125,11 @@ pub fn least_upper_from(
     let rows = Lifted::new(&*case, &*links, &*weights);
     let table = Table {
         rows: &rows,
-        extreme: Extreme::Greatest,
+        rule: Rule {
+            choice: Extreme::Greatest,
+            corner: Extreme::Greatest,
+            ends: Ends::Goals,
+        },
         top,
         limit: top,
     };

@@ -7,4 +7,4 @@ mod solve;
 mod table;
 mod worklist;
 
-pub use least::{least_upper, least_upper_from, least_upper_within, least_value};
+pub use least::{least_bound, least_upper, least_upper_from, least_upper_within, least_value};

@@ -18,7 +18,7 @@ use float_guess::Extreme;
 use lift_model::{OnlyRow, PairRow};
 
 /// The greater or the lesser of two numbers.
-fn more_extreme(extreme: Extreme, a: i64, b: i64) -> i64
+pub(crate) fn more_extreme(extreme: Extreme, a: i64, b: i64) -> i64
     ensures { IsMoreExtreme extreme a b result }
 {
     match extreme {
@@ -27,17 +27,17 @@ fn more_extreme(extreme: Extreme, a: i64, b: i64) -> i64
     }
 }
 
-impl Table<'_> {
+impl Table<'_, '_> {
     /// The whole of a row, and its weighted sum at the corner that counts.
     #[inline(always)]
     fn weigh(&self, lane: &[i64], s: u32, a: u32) -> Weighed
         ghost spans: { Spans }
         requires { CanTry self.now spans lane.now s a }
-        ensures extreme { IsExtreme self.now.extreme (row_value self.now.case spans s a lane.now)
+        ensures extreme { IsExtreme self.now.rule.corner (row_value self.now.case spans s a lane.now)
             (corner_count self.now.case s a) result.sum }
         ensures whole { IsWhole self.now.case s a result.whole }
     {
-        match self.extreme {
+        match self.rule.corner {
             Extreme::Greatest => self.rows.table_greatest(s, a, lane),
             Extreme::Least => self.rows.table_least(s, a, lane),
         }
@@ -48,11 +48,11 @@ impl Table<'_> {
     fn weigh_pair(&self, lane: &[i64], s: u32, a: u32) -> Option<LaneSum>
         ghost spans: { Spans }
         requires { CanTry self.now spans lane.now s a }
-        ensures extreme { IfSome result (λ row. IsExtreme self.now.extreme (row_value self.now.case spans s a lane.now)
-            (corner_count self.now.case s a) (row.sum *ℤ row.scale)) }
+        ensures extreme { IfSome result (λ row. IsExtreme self.now.rule.corner
+            (row_value self.now.case spans s a lane.now) (corner_count self.now.case s a) (row.sum *ℤ row.scale)) }
         ensures whole { IfSome result (IsWholeOver self.now.case s a) }
     {
-        match self.extreme {
+        match self.rule.corner {
             Extreme::Greatest => self.rows.greatest(s, a, lane),
             Extreme::Least => self.rows.least(s, a, lane),
         }
@@ -64,11 +64,11 @@ impl Table<'_> {
         ghost spans: { Spans }
         requires can { CanTry self.now spans lane.now s 0 }
         requires row { IsPairRow self.now.case.model self.now.links s row }
-        ensures extreme { IfSome result (λ row. IsExtreme self.now.extreme (row_value self.now.case spans s 0 lane.now)
-            (corner_count self.now.case s 0) (row.sum *ℤ row.scale)) }
+        ensures extreme { IfSome result (λ row. IsExtreme self.now.rule.corner
+            (row_value self.now.case spans s 0 lane.now) (corner_count self.now.case s 0) (row.sum *ℤ row.scale)) }
         ensures whole { IfSome result (IsWholeOver self.now.case s 0) }
     {
-        match self.extreme {
+        match self.rule.corner {
             Extreme::Greatest => self.rows.greatest_of(s, row, lane),
             Extreme::Least => self.rows.least_of(s, row, lane),
         }
@@ -138,7 +138,8 @@ impl Table<'_> {
     fn solve(&self, lane: &[i64], s: u32, a: u32) -> i64
         ghost spans: { Spans }
         requires { CanTry self.now spans lane.now s a }
-        ensures { IsSolved self.now.extreme self.now.case spans lane.now s a (corner_count self.now.case s a) result }
+        ensures { IsSolved self.now.rule.corner self.now.case spans lane.now s a
+            (corner_count self.now.case s a) result }
     {
         rows_at_corners();
         corners_bound_weights();
@@ -148,7 +149,7 @@ impl Table<'_> {
         let mut number = self.solve_either(lane, s, a, 0, narrow);
         for corner in 1..corners {
             let other = self.solve_either(lane, s, a, corner, narrow);
-            number = more_extreme(self.extreme, number, other);
+            number = more_extreme(self.rule.corner, number, other);
         }
         number
     }
@@ -158,7 +159,8 @@ impl Table<'_> {
     fn enough_for_row(&self, lane: &[i64], s: u32, a: u32) -> i64
         ghost spans: { Spans }
         requires { CanTryOther self.now spans lane.now s a }
-        ensures { IsSolved self.now.extreme self.now.case spans lane.now s a (corner_count self.now.case s a) result }
+        ensures { IsSolved self.now.rule.corner self.now.case spans lane.now s a
+            (corner_count self.now.case s a) result }
     {
         rows_at_corners();
         corners_bound_weights();
@@ -172,7 +174,8 @@ impl Table<'_> {
     fn enough_for_pair(&self, lane: &[i64], s: u32, a: u32) -> Option<i64>
         ghost spans: { Spans }
         requires { CanTryOther self.now spans lane.now s a }
-        ensures { IfSome result (IsSolved self.now.extreme self.now.case spans lane.now s a (corner_count self.now.case s a)) }
+        ensures { IfSome result (IsSolved self.now.rule.corner self.now.case spans lane.now s a
+            (corner_count self.now.case s a)) }
     {
         rows_at_corners();
         corners_bound_weights();
@@ -186,7 +189,8 @@ impl Table<'_> {
         ghost spans: { Spans }
         requires can { CanTryOnly self.now spans lane.now s }
         requires row { IsPairRow self.now.case.model self.now.links s row }
-        ensures { IfSome result (IsSolved self.now.extreme self.now.case spans lane.now s 0 (corner_count self.now.case s 0)) }
+        ensures { IfSome result (IsSolved self.now.rule.corner self.now.case spans lane.now s 0
+            (corner_count self.now.case s 0)) }
     {
         rows_at_corners();
         corners_bound_weights();
@@ -201,7 +205,8 @@ impl Table<'_> {
         ghost spans: { Spans }
         requires can { CanTryOnly self.now spans lane.now s }
         requires row { IsSingleRow self.now.case.model s target }
-        ensures { IsSolved self.now.extreme self.now.case spans lane.now s 0 (corner_count self.now.case s 0) result }
+        ensures { IsSolved self.now.rule.corner self.now.case spans lane.now s 0
+            (corner_count self.now.case s 0) result }
     {
         rows_at_corners();
         corners_bound_weights();
@@ -215,7 +220,8 @@ impl Table<'_> {
         ghost spans: { Spans }
         requires { CanTryOnly self.now spans lane.now s }
         ensures only { IsSome result → length (choices self.now.case.model s) ≡ 1 }
-        ensures solved { IfSome result (IsSolved self.now.extreme self.now.case spans lane.now s 0 (corner_count self.now.case s 0)) }
+        ensures solved { IfSome result (IsSolved self.now.rule.corner self.now.case spans lane.now s 0
+            (corner_count self.now.case s 0)) }
     {
         let number = lane[s as usize];
         if number == self.top {
@@ -233,7 +239,8 @@ impl Table<'_> {
     fn enough_by_weights(&self, lane: &[i64], s: u32, a: u32) -> i64
         ghost spans: { Spans }
         requires { CanTry self.now spans lane.now s a }
-        ensures { IsSolved self.now.extreme self.now.case spans lane.now s a (corner_count self.now.case s a) result }
+        ensures { IsSolved self.now.rule.corner self.now.case spans lane.now s a
+            (corner_count self.now.case s a) result }
     {
         if self.rows.has_loop(s, a) {
             return self.solve(lane, s, a);
@@ -250,7 +257,8 @@ impl Table<'_> {
     pub(crate) fn enough(&self, lane: &[i64], s: u32, a: u32) -> i64
         ghost spans: { Spans }
         requires { CanTry self.now spans lane.now s a }
-        ensures { IsSolved self.now.extreme self.now.case spans lane.now s a (corner_count self.now.case s a) result }
+        ensures { IsSolved self.now.rule.corner self.now.case spans lane.now s a
+            (corner_count self.now.case s a) result }
     {
         rows_at_corners();
         corners_bound_weights();

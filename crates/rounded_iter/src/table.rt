@@ -1,5 +1,5 @@
 use corner_lift::Lifted;
-use float_guess::Extreme;
+use float_guess::Rule;
 
 /// How an iteration ended.
 #[derive(Clone, Copy)]
@@ -12,17 +12,17 @@ pub(crate) enum Ended {
     Slow,
 }
 
-/// The rows of a case that is lifted to a rectangle, on which vectors are raised. `top` stands for 1. An
-/// iteration may stop where the initial state's number is above `limit`.
+/// The rows of a case that is lifted to a rectangle, on which vectors are raised by a rule. `top` stands for
+/// 1. An iteration may stop where the initial state's number is above `limit`.
 #[derive(Drop)]
-pub(crate) struct Table<'a> {
+pub(crate) struct Table<'a, 'b> {
     pub(crate) rows: &'a Lifted<'a>,
-    pub(crate) extreme: Extreme,
+    pub(crate) rule: Rule<'b>,
     pub(crate) top: i64,
     pub(crate) limit: i64,
 }
 
-impl<'a> std::marker::Model for Table<'a> {
+impl<'a, 'b> std::marker::Model for Table<'a, 'b> {
     ghost use Rattle.std.specs.Prelude.{◌≡◌, ◌^◌, pos};
     ghost use Rattle.rounded_iter.specs.Rising.{TableData};
 
@@ -32,7 +32,7 @@ impl<'a> std::marker::Model for Table<'a> {
       case = t.rows.now.case;
       links = t.rows.now.links;
       weights = t.rows.now.weights;
-      extreme = t.extreme;
+      rule = t.rule;
       limit = t.limit;
     } };
 

@@ -1,13 +1,18 @@
 //! An iteration that looks at a state again only where one that it leads to rose. Each position in the
 //! order of states has a flag, which says that its state may have to rise.
 
-ghost use Rattle.std.specs.Prelude.{◌≡◌, ◌≢◌, ◌+◌, ◌<◌, ◌≤ℤ◌, ◌<ℤ◌, ℕ, pos, length, slice_index_or, slice_set, IsTrue, IsFalse, IsSome};
+ghost use Rattle.std.specs.Prelude.{◌≡◌, ◌≢◌, ◌+◌, ◌^◌, ◌<◌, ◌≤ℤ◌, ◌<ℤ◌, ℕ, true, pos, length, slice_index_or, slice_set, IsTrue, IsFalse, IsSome};
 ghost use Rattle.corner_lift.specs.Case.{number};
-ghost use Rattle.rounded_iter.specs.Rising.{Run};
-ghost use Rattle.rounded_iter.specs.Watching.{CanRaise, CanRaiseBy, IsRaised, IsRaisedState, CanFlag, IsFlagged, CanVisit, IsVisited, CanTurn, IsTurned, CanPass, IsPassed, IsSettled, CanGoOn, IsKept, CanClimb, IsClimbed, flag};
+ghost use Rattle.lift_grid.specs.Rectangle.{Spans};
+ghost use Rattle.lift_model.specs.Model.{choices};
+ghost use Rattle.float_guess.specs.Rule.{is_given, given};
+ghost use Rattle.rounded_iter.specs.Rising.{Run, CanTryOnly, IsSolvedBy};
+ghost use Rattle.rounded_iter.specs.Watching.{CanRaise, CanRaiseFree, IsRaisedState, CanFlag, IsFlagged, CanVisit, IsVisited, CanTurn, IsTurned, CanPass, IsPassed, IsSettled, CanGoOn, IsKept, CanClimb, IsClimbed, flag};
 
+use crate::solve::more_extreme;
 use crate::table::{Ended, Table};
 use corner_lift::{corners_bound_weights, rows_at_corners};
+use float_guess::Ends;
 
 /// Flags a position that lies before the frontier, but for one.
 #[inline(always)]
@@ -73,39 +78,53 @@ fn is_over(passes: u32, patience: Option<u32>) -> bool
     }
 }
 
-impl Table<'_> {
-    /// Raises the number of a state to what is enough for one of its choices, and tells whether it rose.
+impl Table<'_, '_> {
+    /// The least number from the state's own on that is enough for the choices that count.
     #[inline(always)]
-    fn raise_choice(&self, lane: &mut [i64], s: u32, a: u32) -> bool
-        ghost run: { Run }
-        requires { CanRaiseBy self.now run lane.old s a }
-        ensures { IsRaised self.now run lane.old lane.new s a result }
+    fn enough_for_state(&self, lane: &[i64], s: u32) -> i64
+        ghost spans: { Spans }
+        requires { CanTryOnly self.now spans lane.now s }
+        ensures { IsSolvedBy self.now.rule self.now.case spans lane.now s
+            (length (choices self.now.case.model s)) result }
     {
         rows_at_corners();
         corners_bound_weights();
-        let number = self.enough(lane, s, a);
-        write_number(lane, s, number)
+        let mut number = self.enough(lane, s, 0);
+        for a in 1..self.rows.choice_count(s) {
+            let other = self.enough(lane, s, a);
+            number = more_extreme(self.rule.choice, number, other);
+        }
+        number
     }
 
-    /// Raises the number of a state to what is enough for all its choices, and tells whether it rose.
+    /// Raises the number of a state to what is enough for the choices that count, and tells whether it rose.
     #[inline(always)]
     fn raise(&self, lane: &mut [i64], s: u32) -> bool
         ghost run: { Run }
-        requires { CanRaise self.now run lane.old s }
+        requires { CanRaiseFree self.now run lane.old s }
         ensures { IsRaisedState self.now run lane.old lane.new s result }
     {
         rows_at_corners();
         corners_bound_weights();
-        let mut rose = false;
-        for a in 0..self.rows.choice_count(s) {
-            if self.raise_choice(lane, s, a) {
-                rose = true;
-            }
-        }
-        rose
+        let number = self.enough_for_state(lane, s);
+        write_number(lane, s, number)
     }
 
-    /// The same, by a short path where the state has a single choice.
+    /// Whether the number of a state is given, and less than 1.
+    #[inline(always)]
+    fn is_held(&self, s: u32) -> bool
+        requires { s < length self.now.case.model.states }
+        ensures held { IsTrue result → is_given self.now.case.model self.now.rule.ends s ≡ true }
+        ensures free { IsFalse result → is_given self.now.case.model self.now.rule.ends s ≡ true
+            → given self.now.case self.now.rule.ends s ≡ pos (2 ^ self.now.case.w) }
+    {
+        match self.rule.ends {
+            Ends::Goals => false,
+            Ends::Unranked(_) => self.rows.model().is_goal(s),
+        }
+    }
+
+    /// The same, by a short path where the state has a single choice. Where the number is given, nothing rises.
     #[inline(always)]
     fn raise_lone(&self, lane: &mut [i64], s: u32) -> bool
         ghost run: { Run }
@@ -114,6 +133,9 @@ impl Table<'_> {
     {
         rows_at_corners();
         corners_bound_weights();
+        if self.is_held(s) {
+            return false;
+        }
         match self.enough_for_only(lane, s) {
             Some(number) => write_number(lane, s, number),
             None => self.raise(lane, s),

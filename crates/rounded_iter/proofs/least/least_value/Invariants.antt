@@ -1,7 +1,4 @@
 use Rattle.rounded_iter.proofs.least.least_value.Given as goal
 
-abbrev pub ghost-start : goal.ghost-start
-ghost-start g a = g.spans
-
-abbrev pub ghost-find : goal.ghost-find
-ghost-find g a = g.spans
+abbrev pub ghost-least_bound : goal.ghost-least_bound
+ghost-least_bound g a = g.spans

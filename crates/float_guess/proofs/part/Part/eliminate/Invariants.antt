@@ -3,4 +3,4 @@ use Rattle.float_guess.proofs.part.Part.eliminate.Given as goal
 
 -- all else is as it was
 abbrev pub invariant-loop : goal.invariant-loop
-invariant-loop l = IsSameBeyond l.self.case.now l.self.links.now l.self.low l.self.high l.initial.lane l.lane
+invariant-loop l = IsSameBeyond l.self.rule.ends l.self.case.now l.self.links.now l.self.low l.self.high l.initial.lane l.lane

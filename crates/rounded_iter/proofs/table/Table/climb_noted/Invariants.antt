@@ -6,4 +6,4 @@ ghost-climb g a = g.run
 
 -- what was raised lies at or below each bound that the first vector does
 abbrev pub invariant-loop-few : goal.invariant-loop-few
-invariant-loop-few g l = IsBelow l.self.extreme l.self.case g.run l.lane
+invariant-loop-few g l = IsBelow l.self.rule l.self.case g.run l.lane

@@ -14,7 +14,7 @@ returns-then-number-self g c =
 pub bounds-lane-target : goal.bounds-lane-target
 bounds-lane-target g c =
     let r = rw (← c.self.view_is) at c.requires in
-    only_inside (laws_of c.rows_at_corners.ensures.parameters c.rows_at_corners.ensures.numbers c.rows_at_corners.ensures.range c.rows_at_corners.ensures.rise c.corners_bound_weights.ensures.sum) c.self.inside.rows.now.case g.spans r.read.case r.read.table.inside c.args.s c.args.a r.row c.args.lane.now r.numbers c.self.inside.extreme c.in-Some.target c.in-Some.ensures
+    only_inside (laws_of c.rows_at_corners.ensures.parameters c.rows_at_corners.ensures.numbers c.rows_at_corners.ensures.range c.rows_at_corners.ensures.rise c.corners_bound_weights.ensures.sum) c.self.inside.rows.now.case g.spans r.read.case r.read.table.inside c.args.s c.args.a r.row c.args.lane.now r.numbers c.self.inside.rule.corner c.in-Some.target c.in-Some.ensures
 
 pub returns-in-Some : goal.returns-in-Some
 returns-in-Some g c =
@@ -23,4 +23,4 @@ returns-in-Some g c =
     let number_fits : SFits w64 (number c.args.lane.now c.args.s) = search rules in
     let target_fits : SFits w64 (number c.args.lane.now c.in-Some.target) = search rules in
     rw (← c.self.view_is, to_z-of_z fits)
-    (only_solved (laws_of c.rows_at_corners.ensures.parameters c.rows_at_corners.ensures.numbers c.rows_at_corners.ensures.range c.rows_at_corners.ensures.rise c.corners_bound_weights.ensures.sum) c.self.inside.rows.now.case g.spans r.read.case r.read.table.inside c.args.s c.args.a r.row c.args.lane.now r.numbers c.self.inside.extreme c.in-Some.target c.in-Some.ensures (whole_positive (laws_of c.rows_at_corners.ensures.parameters c.rows_at_corners.ensures.numbers c.rows_at_corners.ensures.range c.rows_at_corners.ensures.rise c.corners_bound_weights.ensures.sum) c.self.inside.rows.now.case g.spans r.read.case r.read.table.inside c.args.s c.args.a r.row) c.more_extreme.result (rw (to_z-of_z number_fits, to_z-of_z target_fits) at c.more_extreme.ensures))
+    (only_solved (laws_of c.rows_at_corners.ensures.parameters c.rows_at_corners.ensures.numbers c.rows_at_corners.ensures.range c.rows_at_corners.ensures.rise c.corners_bound_weights.ensures.sum) c.self.inside.rows.now.case g.spans r.read.case r.read.table.inside c.args.s c.args.a r.row c.args.lane.now r.numbers c.self.inside.rule.corner c.in-Some.target c.in-Some.ensures (whole_positive (laws_of c.rows_at_corners.ensures.parameters c.rows_at_corners.ensures.numbers c.rows_at_corners.ensures.range c.rows_at_corners.ensures.rise c.corners_bound_weights.ensures.sum) c.self.inside.rows.now.case g.spans r.read.case r.read.table.inside c.args.s c.args.a r.row) c.more_extreme.result (rw (to_z-of_z number_fits, to_z-of_z target_fits) at c.more_extreme.ensures))

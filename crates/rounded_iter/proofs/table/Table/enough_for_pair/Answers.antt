@@ -11,7 +11,7 @@ rounded_up_from-requires-clause-least g c =
     let can = c.requires.can in
     let row = c.in_ok-row.row in
     let found = c.in_ok-row.ensures in
-    scaled_least row.sum row.scale found.whole.1.0 (extreme_least (laws_of c.rows_at_corners.ensures.parameters c.rows_at_corners.ensures.numbers c.rows_at_corners.ensures.range c.rows_at_corners.ensures.rise c.corners_bound_weights.ensures.sum) t.case g.spans can.read.case can.read.table.inside c.args.s c.args.a can.row c.args.lane.now can.numbers t.extreme (row.sum *ℤ row.scale) found.extreme)
+    scaled_least row.sum row.scale found.whole.1.0 (extreme_least (laws_of c.rows_at_corners.ensures.parameters c.rows_at_corners.ensures.numbers c.rows_at_corners.ensures.range c.rows_at_corners.ensures.rise c.corners_bound_weights.ensures.sum) t.case g.spans can.read.case can.read.table.inside c.args.s c.args.a can.row c.args.lane.now can.numbers t.rule.corner (row.sum *ℤ row.scale) found.extreme)
 
 pub returns : goal.returns
 returns g c =
@@ -22,6 +22,6 @@ returns g c =
     let number_fits : SFits w64 (number c.args.lane.now c.args.s) = search rules in
     let first = rw (to_z-of_z number_fits) at c.rounded_up_from.ensures in
     let n = number c.args.lane.now c.args.s in
-    map_some (λ v. AtEachScale (λ sum whole. IsRoundedUpFrom n sum whole v) row.sum row.whole) (λ v. IsSolved t.extreme t.case g.spans c.args.lane.now c.args.s c.args.a (corner_count t.case c.args.s c.args.a) v) c.rounded_up_from.result
-    (λ v is. first_solved (laws_of c.rows_at_corners.ensures.parameters c.rows_at_corners.ensures.numbers c.rows_at_corners.ensures.range c.rows_at_corners.ensures.rise c.corners_bound_weights.ensures.sum) t.case g.spans can.read.case can.read.table.inside c.args.s c.args.a can.row c.args.lane.now can.numbers t.extreme (row.sum *ℤ row.scale) found.extreme c.requires.other (rw found.whole.1.1.value at found.whole.1.1.positive) v (rw found.whole.1.1.value at (is row.scale found.whole.1.0)))
+    map_some (λ v. AtEachScale (λ sum whole. IsRoundedUpFrom n sum whole v) row.sum row.whole) (λ v. IsSolved t.rule.corner t.case g.spans c.args.lane.now c.args.s c.args.a (corner_count t.case c.args.s c.args.a) v) c.rounded_up_from.result
+    (λ v is. first_solved (laws_of c.rows_at_corners.ensures.parameters c.rows_at_corners.ensures.numbers c.rows_at_corners.ensures.range c.rows_at_corners.ensures.rise c.corners_bound_weights.ensures.sum) t.case g.spans can.read.case can.read.table.inside c.args.s c.args.a can.row c.args.lane.now can.numbers t.rule.corner (row.sum *ℤ row.scale) found.extreme c.requires.other (rw found.whole.1.1.value at found.whole.1.1.positive) v (rw found.whole.1.1.value at (is row.scale found.whole.1.0)))
     first

@@ -12,4 +12,4 @@ ghost-rise_from_zero g a = g.spans
 
 -- the vector may be guessed anew
 abbrev pub invariant-loop : goal.invariant-loop
-invariant-loop g l = IsGuess l.self.case l.lane
+invariant-loop g l = IsGuess l.self.rule l.self.case l.lane

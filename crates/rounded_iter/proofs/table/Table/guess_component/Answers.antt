@@ -10,4 +10,4 @@ pub returns : goal.returns
 returns c =
     let r = rw (← c.self.view_is) at c.requires in
     rw (← c.self.view_is)
-    (guess_kept c.self.inside.rows.now.case c.self.inside.rows.now.links c.args.low c.args.high c.args.lane.now c.guess_part.new.lane r.guess (rw (c.case.ensures, c.links.ensures) at c.guess_part.ensures))
+    (guess_kept c.self.inside.rule c.self.inside.rows.now.case c.self.inside.rows.now.links c.args.low c.args.high c.args.lane.now c.guess_part.new.lane r.guess (rw (c.case.ensures, c.links.ensures) at c.guess_part.ensures))

@@ -26,4 +26,4 @@ returns g c =
     let r = rw (← c.self.view_is) at c.requires in
     let some = pow_pos (row_parameters c.self.inside.rows.now.case (row_at c.self.inside.rows.now.case.model c.args.s c.args.a)) in
     let all : c.loop-corner.corner ≡ corner_count c.self.inside.rows.now.case c.args.s c.args.a = omega (arith, c.corners-corners.ensures, some, c.loop-corner-test.false, c.loop-corner.auto.corner-end) in
-    rw (← c.self.view_is) (subst (λ n. IsSolved c.self.inside.extreme c.self.inside.rows.now.case g.spans c.args.lane.now c.args.s c.args.a n (to_z w64 c.loop-corner.number-bits)) all (rw (← c.self.view_is) at c.loop-corner.invariant))
+    rw (← c.self.view_is) (subst (λ n. IsSolved c.self.inside.rule.corner c.self.inside.rows.now.case g.spans c.args.lane.now c.args.s c.args.a n (to_z w64 c.loop-corner.number-bits)) all (rw (← c.self.view_is) at c.loop-corner.invariant))

@@ -9,4 +9,4 @@ ghost-solve_either g a = g.spans
 
 -- the corners so far were taken
 abbrev pub invariant-loop-corner : goal.invariant-loop-corner
-invariant-loop-corner g l = IsSolved l.self.extreme l.self.case g.spans l.lane l.s l.a l.corner l.number
+invariant-loop-corner g l = IsSolved l.self.rule.corner l.self.case g.spans l.lane l.s l.a l.corner l.number

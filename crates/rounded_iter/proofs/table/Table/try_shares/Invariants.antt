@@ -6,4 +6,4 @@ ghost-rise_from_guess g a = g.spans
 
 -- the vector may be guessed anew
 abbrev pub invariant-loop : goal.invariant-loop
-invariant-loop g l = IsGuess l.self.case l.lane
+invariant-loop g l = IsGuess l.self.rule l.self.case l.lane

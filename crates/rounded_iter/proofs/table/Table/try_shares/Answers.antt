@@ -1,0 +1,12 @@
+use Rattle.std.proofs.Common.{◌≡◌, not, subst}
+use Rattle.rounded_iter.specs.Watching.{IsFound}
+use Rattle.rounded_iter.proofs.Solving.{laws_of}
+use Rattle.rounded_iter.proofs.Guessing.{found_of}
+use Rattle.rounded_iter.proofs.table.Table.try_shares.Goals as goal
+
+pub returns-in-Least-clause-found : goal.returns-in-Least-clause-found
+returns-in-Least-clause-found g c =
+    λ found e.
+    let same : not c.is_past.result ≡ found = cc in
+    subst (λ b. IsFound c.args.self.now g.spans c.rise_from_guess.new.lane b) same
+    (found_of (laws_of c.rows_at_corners.ensures.parameters c.rows_at_corners.ensures.numbers c.rows_at_corners.ensures.range c.rows_at_corners.ensures.rise c.corners_bound_weights.ensures.sum) c.args.self.now g.spans c.rise_from_guess.new.lane c.is_past.result (c.rise_from_guess.ensures.least c.in-Least.is) c.is_past.ensures.past c.is_past.ensures.within)
