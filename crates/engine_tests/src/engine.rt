@@ -1,9 +1,10 @@
-//! Tests of links, tables, and what iterates over them: least vectors, ranks and greatest lower vectors.
+//! Tests of links, tables, and what iterates over them: least vectors, also by a rule, ranks and greatest lower vectors.
 //! Each is a table of one text.
 
 mod greatest;
 mod links;
 mod ranks;
 mod roots;
+mod rules;
 mod tables;
 mod vectors;
