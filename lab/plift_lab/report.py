@@ -9,8 +9,8 @@ import re
 from collections import Counter
 from dataclasses import dataclass, field
 from fractions import Fraction
-from functools import cached_property
-from typing import Any, Dict, Iterator, List, Optional, Tuple
+from functools import cached_property, lru_cache
+from typing import Any, Dict, FrozenSet, Iterator, List, Optional, Tuple
 
 from .faults import Fault
 from .origin import Origin
@@ -46,8 +46,7 @@ class Leaf:
     @property
     def own_rectangle(self) -> Dict[str, Interval]:
         """An interval for each parameter of the report's model, which may be a rescaled one."""
-        ends = [Fraction(end, self.report.grid) for end in self.ends]
-        return dict(zip(self.report.parameters, zip(ends[::2], ends[1::2])))
+        return self.report.own_rectangle(self.ends)
 
     @property
     def share(self) -> Fraction:
@@ -69,8 +68,8 @@ class Report:
                         % (path or 'the report')) from None
 
     def _read_head(self) -> None:
-        box = re.search(rb'^box(.*)$', self.data, re.M)
-        head = self.data[:box.start()].decode('ascii')
+        box = self.data.index(b'\nbox') + 1
+        head = self.data[:box].decode('ascii')
         self._model_begin = head.index('\nrow ') + 1
         self._model_end = head.index('\nbound ') + 1
         around = head[:self._model_begin] + head[self._model_end:]
@@ -84,31 +83,36 @@ class Report:
         self.bound, self.precision = Fraction(lines['bound']), int(lines['precision'])
         self.least_precision = int(lines['from']) if self.version == 2 else self.precision
         self.depth, self.grid = int(lines['depth']), int(lines['grid'])
-        self.box = tuple(int(word) for word in box.group(1).split())
-        sets = {int(word) for word in re.findall(r' ([0-9]+):', head[self._model_begin:self._model_end])}
+        self.tree_begin = self.data.index(b'\n', box) + 1
+        self.box = tuple(int(word) for word in self.data[box:self.tree_begin].split()[1:])
+        sets = _sets(self.data[self._model_begin:self._model_end])
         self.live = [name for i, name in enumerate(self.parameters) if any(one >> i & 1 for one in sets)]
-        self._tree_begin = box.end() + 1
 
     def _read_tree(self) -> None:
         """Notes the nodes in their order: for a split its axis, for a leaf its kind, number, scheduler and precision."""
         self.nodes: List[Any] = []
+        self.starts: List[int] = []
+        """Where each node begins in the text."""
         self.values: List[Optional[int]] = []
         """Of each leaf the initial state's number, over 2 to the report's precision."""
         self._picks: List[Optional[int]] = []
         self._precisions: List[int] = []
         self._schedulers: Dict[bytes, int] = {}
-        start, end, line, bits = self._tree_begin, len(self.data), b'', self.precision
+        start, end, line, bits, is_begun = self.tree_begin, len(self.data), b'', self.precision, False
         while start < end:
+            if not is_begun:
+                self.starts.append(start)
             stop = self.data.index(b'\n', start)
             line = self.data[start:stop]
             key = line[:6]
+            is_begun = key[:3] == b'at '
             if key == b'split ':
                 self.nodes.append(int(line[6:]))
             elif key == b'unknow':
                 self._add(UNKNOWN, None, None, self.precision)
             elif key == b'accept':
                 self._add(ACCEPT, int(line.split(b' ', self.init + 2)[self.init + 1]), None, bits)
-            elif key[:3] == b'at ':
+            elif is_begun:
                 bits = int(line[3:])
             else:
                 number = int(line.rpartition(b' ')[2].partition(b'/')[0])
@@ -129,11 +133,6 @@ class Report:
     def model_lines(self) -> bytes:
         """The lines of the head down to the last row."""
         return self.data[:self._model_end]
-
-    @property
-    def node_lines(self) -> List[bytes]:
-        """The lines behind the head."""
-        return self.data[self._tree_begin:].splitlines(keepends=True)
 
     @property
     def question(self) -> str:
@@ -160,16 +159,28 @@ class Report:
                             for name, low, high in zip(self.parameters, ends[::2], ends[1::2])),
                       tuple(sorted(self.origin.fixed.items())))
 
-    def leaves(self) -> Iterator[Leaf]:
-        """The leaves, in the order of the report."""
-        one, number, due = 2 ** self.precision, 0, [(0, self.box)]
+    def own_rectangle(self, ends: Tuple[int, ...]) -> Dict[str, Interval]:
+        """An interval for each parameter of the report's model, from ends over its grid."""
+        values = [Fraction(end, self.grid) for end in ends]
+        return dict(zip(self.parameters, zip(values[::2], values[1::2])))
+
+    def walk(self) -> Iterator[Tuple[int, Tuple[int, ...]]]:
+        """Of each node, in the order of the report, below how many splits it stands, and the ends of its rectangle."""
+        due = [(0, self.box)]
         for node in self.nodes:
             depth, ends = due.pop()
+            yield depth, ends
             if isinstance(node, int):
                 low, high = ends[2 * node], ends[2 * node + 1]
                 middle = (low + high) // 2
                 due.append((depth + 1, ends[:2 * node] + (middle,) + ends[2 * node + 1:]))
                 due.append((depth + 1, ends[:2 * node + 1] + (middle,) + ends[2 * node + 2:]))
+
+    def leaves(self) -> Iterator[Leaf]:
+        """The leaves, in the order of the report."""
+        one, number = 2 ** self.precision, 0
+        for node, (depth, ends) in zip(self.nodes, self.walk()):
+            if isinstance(node, int):
                 continue
             value = self.values[number]
             yield Leaf(self, number, node, depth, ends, None if value is None else Fraction(value, one),
@@ -259,6 +270,12 @@ class Report:
         members, _, coefficient = word.partition(':')
         names = [name for i, name in enumerate(self.parameters) if int(members) >> i & 1]
         return '*'.join([str(Fraction(int(coefficient), self.common))] + names)
+
+
+@lru_cache(maxsize=4)
+def _sets(model_lines: bytes) -> FrozenSet[int]:
+    """The sets of parameters that occur in a model's rows. Reports of one session mostly have the same model."""
+    return frozenset(map(int, set(re.findall(rb' ([0-9]+):', model_lines))))
 
 
 def shares_text(report: Report) -> str:

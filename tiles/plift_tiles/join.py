@@ -5,11 +5,12 @@ from __future__ import annotations
 from typing import BinaryIO, Iterable, Iterator, List, Tuple
 
 from plift_lab.faults import Fault
+from plift_lab.head import Head
+from plift_lab.parts import Unfit, joined, tree_lines, unknown_parts
 from plift_lab.program import MOST_CHECKED_BYTES
 from plift_lab.report import Report
 
 from .faults import UNFIT
-from .head import Head, tile_leaves
 from .job import Job
 
 UNKNOWN_LINE = b'unknown\n'
@@ -25,33 +26,25 @@ class Joining:
             raise Fault('%d of %d tiles have no report, the first is tile %d; --partial leaves them unknown'
                         % (len(self.left), len(job.regions), min(self.left)), UNFIT)
         self.base = Report(job.base.read_bytes(), '')
-        self.head = Head.of(self.base)
-        ends = [leaf.ends for leaf in tile_leaves(self.base)]
-        if len(ends) != len(job.regions):
-            raise Fault('%s has %d unknown leaves, and there are %d tiles' % (job.base, len(ends), len(job.regions)), UNFIT)
-        self.heads = dict(zip(job.numbers, (self.head.of_part(each, job.levels) for each in ends)))
-        self.open_tree = _open_tree(self.base, ends[0], job.levels) if self.left else []
+        self.parts = unknown_parts(self.base)
+        if len(self.parts) != len(job.regions):
+            raise Fault('%s has %d unknown leaves, and there are %d tiles'
+                        % (job.base, len(self.parts), len(job.regions)), UNFIT)
+        head = Head.of(self.base)
+        self.heads = dict(zip(job.numbers, (head.of_part(part.ends, job.levels) for part in self.parts)))
+        self.open_tree = _open_tree(self.base, self.parts[0].ends, job.levels) if self.left else []
 
     def require_whole(self) -> int:
         """Refuses a tile of another job or one that is cut off, and returns how long the joined report is."""
-        length = len(self.head.deepened(self.job.depth).text)
-        for line in self._lines():
-            length += len(line)
-        return length
+        return sum(map(len, self._lines()))
 
     def write(self, out: BinaryIO) -> None:
         """Writes the joined report."""
-        out.write(self.head.deepened(self.job.depth).text)
         out.writelines(self._lines())
 
     def _lines(self) -> Iterator[bytes]:
-        """The lines of the joined tree."""
-        numbers = iter(self.heads)
-        for line in self.base.node_lines:
-            if line == UNKNOWN_LINE and self.heads:
-                yield from self._tile(next(numbers))
-            else:
-                yield line
+        """The text of the joined report."""
+        return joined(self.base, self.job.depth, self.parts, map(self._tile, self.job.numbers))
 
     def _tile(self, number: int) -> Iterable[bytes]:
         """The lines of a tile's tree."""
@@ -78,26 +71,12 @@ def join(job: Job, partial: bool, out: BinaryIO) -> List[str]:
 
 def _read_tile(job: Job, number: int, head: bytes) -> Iterator[bytes]:
     """The lines of a tree in a file, behind the head that is due."""
-    remedy = 'remove %s, and `plift-tiles work` makes it again' % job.report(number)
     with open(job.report(number), 'rb') as file:
-        begin = file.read(len(head))
-        if not head.startswith(begin):
-            raise Fault('tile %d isn\'t of this job: %s' % (number, remedy), UNFIT)
-        due = 1
-        for line in file:
-            if due == 0:
-                raise Fault('tile %d has something behind its last node: %s' % (number, remedy), UNFIT)
-            rest = [file.readline() for _ in range(3)] if line.startswith(b'reject ') else []
-            if not line.startswith(b'at '):
-                due += 1 if line.startswith(b'split ') else -1
-            if not all(each.endswith(b'\n') for each in [line, *rest]):
-                break
-            yield line
-            yield from rest
-        else:
-            if due == 0:
-                return
-        raise Fault('tile %d is cut off: %s' % (number, remedy), UNFIT)
+        try:
+            yield from tree_lines(file, head)
+        except Unfit as fault:
+            raise Fault('tile %d %s: remove %s, and `plift-tiles work` makes it again'
+                        % (number, fault, job.report(number)), UNFIT) from None
 
 
 def _open_tree(report: Report, ends: Tuple[int, ...], levels: int) -> List[bytes]:

@@ -9,12 +9,13 @@ from fractions import Fraction
 from pathlib import Path
 
 from plift_lab.faults import Fault
+from plift_lab.head import Head
+from plift_lab.parts import unknown_parts
 from plift_lab.program import Program
 from plift_lab.regions import shown
 from plift_lab.report import Report
 
 from .faults import UNFIT
-from .head import Head, tile_leaves
 from .job import beside, lay_out, words
 
 GREATEST_DEPTH = 20
@@ -39,7 +40,7 @@ def split(program: Program, data: bytes, place: Path, depth: int) -> int:
 def _fill(program: Program, report: Report, place: Path, depth: int) -> int:
     """Writes all that the folder has."""
     head = Head.of(report)
-    regions = [shown(leaf.own_rectangle) for leaf in tile_leaves(report)]
+    regions = [shown(report.own_rectangle(part.ends)) for part in unknown_parts(report)]
     told = ['depth %d' % depth, 'levels %d' % (depth - head.depth), 'bound %s' % head.bound,
             'precision %d' % head.precision]
     told += [] if head.least is None else ['from %d' % head.least]

@@ -6,9 +6,9 @@ from dataclasses import dataclass, replace
 from fractions import Fraction
 from functools import reduce
 from math import gcd
-from typing import List, Optional, Tuple
+from typing import Optional, Tuple
 
-from plift_lab.report import UNKNOWN, Leaf, Report
+from .report import Report
 
 
 @dataclass(frozen=True)
@@ -47,8 +47,3 @@ class Head:
         asked += [] if self.least is None else ['from %d' % self.least]
         asked += ['depth %d' % self.depth, 'grid %d' % self.grid, ' '.join(['box', *map(str, self.box)])]
         return self.model + ''.join('%s\n' % line for line in asked).encode()
-
-
-def tile_leaves(report: Report) -> List[Leaf]:
-    """The leaves that are tiles, in their order: the unknown ones, none where no row depends on a parameter."""
-    return [leaf for leaf in report.leaves() if leaf.kind == UNKNOWN] if report.live else []
