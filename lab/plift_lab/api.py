@@ -92,9 +92,10 @@ def _region(region: Union[str, Region]) -> Region:
 
 def verify(model: Source, goal: str, bound: Number, region: Union[str, Region] = '', depth: int = 0,
            precision: Optional[int] = None, relative: bool = False, coverage: Optional[Number] = None,
-           keep: Optional[str] = None) -> Report:
+           keep: Optional[str] = None, least_precision: Optional[int] = None) -> Report:
     """The report that answers whether the goal is reached with at most the bound, all over the region."""
-    question = Question(_model(model), goal, read_bound(exact(_number(bound))), _region(region), depth, precision, relative)
+    question = Question(_model(model), goal, read_bound(exact(_number(bound))), _region(region), depth, precision, relative,
+                        least_precision)
     share = None if coverage is None else read_share(coverage if isinstance(coverage, str) else exact(_number(coverage)))
     with Session(keep) as session:
         return find_verdict(session, question, share)

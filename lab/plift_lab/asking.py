@@ -53,7 +53,7 @@ def region_of(given: argparse.Namespace) -> Region:
 
 def precision_of(given: argparse.Namespace) -> Optional[int]:
     """The precision that was asked for, if any."""
-    return read_count(given.precision, '--precision', 1, MOST_BITS) if given.precision else None
+    return read_count(given.precision, '--precision', 1, MOST_BITS) if given.precision is not None else None
 
 
 def behind(report: Report) -> Dict[str, Any]:

@@ -43,9 +43,12 @@ def find_edge(session: Session, question: Question, parameter: str, width: Fract
     low, high = question.region[parameter]
     near, far = (low, high) if is_greatest else (high, low)
 
-    def ask(one: Fraction, other: Fraction, depth: int = question.depth) -> Report:
+    def between(one: Fraction, other: Fraction, depth: int = question.depth) -> Question:
         part: Region = question.region.replaced(parameter, min(one, other), max(one, other))
-        return session.ask(replace(question, region=part, depth=depth))
+        return replace(question, region=part, depth=depth)
+
+    def ask(one: Fraction, other: Fraction) -> Report:
+        return session.ask(between(one, other))
 
     whole = session.ask(question)
     if whole.verdict == 'accepted':
@@ -66,7 +69,7 @@ def find_edge(session: Session, question: Question, parameter: str, width: Fract
         if edge.limit is not None or edge.outside is None or len(edge.outside.nodes) > MOST_NODES:
             break
         tell(good, bad)
-        edge = replace(edge, outside=ask(good if bad == far else bad, beyond, depth))
+        edge = replace(edge, outside=session.deepen(between(good if bad == far else bad, beyond, depth), edge.outside))
     if edge.limit is None and beyond != far:
         return replace(edge, outside=ask(bad, far))
     return edge

@@ -27,13 +27,13 @@ from .program import MOST_BYTES
 MARK = 'plift-lab.json'
 
 
-def read_file(name: str) -> bytes:
+def read_file(name: str, most: int = MOST_BYTES) -> bytes:
     """A file's bytes, or standard input's for `-`; one byte more than plift takes at most."""
     try:
         if name == '-':
-            return sys.stdin.buffer.read(MOST_BYTES + 1)
+            return sys.stdin.buffer.read(most + 1)
         with open(name, 'rb') as source:
-            return source.read(MOST_BYTES + 1)
+            return source.read(most + 1)
     except (OSError, ValueError) as fault:
         cause = getattr(fault, 'strerror', None) or fault
         raise Fault('%s can\'t be read: %s' % (name or 'a file without a name', cause)) from None
@@ -71,6 +71,8 @@ class Evidence:
     """A folder that the user named, or one that is gone at the end."""
 
     def __init__(self, named: Optional[str] = None) -> None:
+        if named == '':
+            raise Fault('--keep takes a folder, and this one has no name')
         self.is_kept = named is not None
         self.folder = Path(named) if named is not None else Path(tempfile.mkdtemp(prefix='plift-lab.'))
         self._jobs: Dict[str, str] = {}

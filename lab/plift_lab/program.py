@@ -3,8 +3,10 @@
 from __future__ import annotations
 
 import os
+import resource
 import shutil
 import subprocess
+import tempfile
 from pathlib import Path
 from typing import Callable, List, Optional
 
@@ -48,8 +50,10 @@ class Program:
         """Who judges reports: this program's `check`, and whether it was built without proofs."""
         return '%s check%s' % (self.path, ', built without proofs' if self.path.parent.name == 'quick' else '')
 
-    def verify(self, words: List[str], model: Path, report: Path, watch: Optional[Callable[[Path], None]] = None) -> None:
-        """Writes the report of a model to a file. While it runs, `watch` is called with that file now and then."""
+    def verify(self, words: List[str], model: Path, report: Path, watch: Optional[Callable[[Path], None]] = None) -> float:
+        """Writes the report of a model to a file, and returns how many seconds of the processor that took. While it runs,
+        `watch` is called with that file now and then."""
+        before = _spent()
         with open(model, 'rb') as source, open(report, 'wb') as sink:
             process = self._start(words, source, sink)
             try:
@@ -64,14 +68,18 @@ class Program:
                 _end(process)
         if process.returncode:
             raise Refused(process.returncode, _line(note), words, model.read_bytes())
+        return _spent() - before
 
     def check(self, report: bytes) -> str:
         """The line that tells that a report is sound, and how many leaves of each kind it has."""
-        process = self._start(['check'], subprocess.PIPE, subprocess.PIPE)
-        try:
-            line, note = process.communicate(report)
-        finally:
-            _end(process)
+        with tempfile.TemporaryFile() as source:  # a pipe is fed half a kilobyte at a time
+            source.write(report)
+            source.seek(0)
+            process = self._start(['check'], source, subprocess.PIPE)
+            try:
+                line, note = process.communicate()
+            finally:
+                _end(process)
         if process.returncode:
             raise Refused(process.returncode, _line(note), ['check'], report)
         return _line(line)
@@ -91,6 +99,12 @@ def _end(process: subprocess.Popen) -> None:
     for stream in (process.stdin, process.stdout, process.stderr):
         if stream:
             stream.close()
+
+
+def _spent() -> float:
+    """Seconds of the processor that programs took which have ended."""
+    used = resource.getrusage(resource.RUSAGE_CHILDREN)
+    return used.ru_utime + used.ru_stime
 
 
 def _line(text: bytes) -> str:

@@ -10,11 +10,13 @@ from fractions import Fraction
 from pathlib import Path
 from typing import Any, Callable, Dict, List, Optional, Tuple
 
+from .deeper import Deepening
 from .evidence import Evidence, digest, read_file, read_origin
 from .faults import Refused
 from .models import Model, Scale
 from .origin import Origin
-from .program import find_program
+from .pace import Pace
+from .program import MOST_CHECKED_BYTES, find_program
 from .regions import Region
 from .report import Report
 from .values import exact
@@ -34,6 +36,8 @@ class Question:
     """None: the most bits that its rows leave room for."""
     is_relative: bool = False
     """Whether each parameter is rescaled to its interval."""
+    least_precision: Optional[int] = None
+    """From which precision on each part is decided at the least one that does; none for one precision."""
 
     def prepared(self) -> Tuple[Model, Region, Scale]:
         """The model and the region as they are given to the program, and what its numbers mean."""
@@ -48,7 +52,8 @@ class Question:
         options = ['verify', '--goal', self.goal, '--bound', exact(self.bound)]
         if region.text:
             options += ['--region', region.text]
-        return options + ['--depth', str(self.depth), '--precision', str(precision)]
+        options += ['--depth', str(self.depth), '--precision', str(precision)]
+        return options if self.least_precision is None else options + ['--from', str(self.least_precision)]
 
 
 class Progress:
@@ -64,15 +69,24 @@ class Progress:
         """What is called with the growing report while a job runs."""
         if not self.is_on:
             return None
-        begin, follower = time.monotonic(), Follower()
+        follower, tell = Follower(), self.teller('of the region is settled')
 
         def watch(path: Path) -> None:
             if self._is_due():
-                share, spent = follower.settled(path), time.monotonic() - begin
-                left = ', some %s left' % seconds_shown(spent / share - spent) if share > 0.01 else ''
-                self._put('%.1f %% of the region is settled after %s%s' % (100 * share, seconds_shown(spent), left))
+                tell(follower.settled(path))
 
         return watch
+
+    def teller(self, what: str) -> Callable[[float], None]:
+        """What is called with the share that is done, which it tells with the time that it took and may still take."""
+        begin = time.monotonic()
+
+        def tell(share: float) -> None:
+            spent = time.monotonic() - begin
+            left = ', some %s left' % seconds_shown(spent / share - spent) if share > 0.01 else ''
+            self.say('%.1f %% %s after %s%s' % (100 * share, what, seconds_shown(spent), left))
+
+        return tell
 
     def say(self, text: str) -> None:
         """Tells it, unless something was told just before."""
@@ -134,6 +148,27 @@ def seconds_shown(seconds: float) -> str:
     return '%d min' % round(seconds / 60) if seconds < 6000 else '%.1f h' % (seconds / 3600)
 
 
+@dataclass(frozen=True)
+class Job:
+    """A question as the program gets it: a model's file, a region of that model's own numbers, and a precision."""
+    question: Question
+    model: Path
+    region: Region
+    scale: Scale
+    bits: int
+
+    @property
+    def origin(self) -> Origin:
+        """What is told of its report."""
+        words = self.question.words(self.region, self.bits)
+        return Origin(self.question.goal, self.scale, dict(self.question.region.fixed), words, self.model.name)
+
+    @property
+    def name(self) -> str:
+        """A hash that names it."""
+        return digest(json.dumps(self.origin.told, sort_keys=True).encode())
+
+
 class Session:
     """Asks questions of one program, and keeps the reports in one folder."""
 
@@ -142,6 +177,7 @@ class Session:
         self.evidence = Evidence(keep)
         self.progress = Progress(is_told)
         self._room: Dict[str, int] = {}
+        self._paces: Dict[str, Pace] = {}
 
     def __enter__(self) -> 'Session':
         return self
@@ -157,37 +193,67 @@ class Session:
         bits = question.precision or self._room.get(path.name, MOST_BITS)
         while True:
             try:
-                return self._run(question, region, scale, path, bits)
+                return self._run(Job(question, path, region, scale, bits))
             except Refused as refusal:
-                if question.precision or bits <= 4 or not refusal.note.endswith('too wide'):
+                if question.precision or bits - 4 < (question.least_precision or 1) or not _is_without_room(refusal):
                     raise
                 bits -= 4
                 self._room[path.name] = bits
 
-    def _run(self, question: Question, region: Region, scale: Scale, model: Path, bits: int) -> Report:
-        origin = Origin(question.goal, scale, dict(question.region.fixed), question.words(region, bits), model.name)
-        job = digest(json.dumps(origin.told, sort_keys=True).encode())
-        known = self.evidence.find(job)
+    def deepen(self, question: Question, base: Report) -> Report:
+        """The same, from a report of the same question at a smaller depth: what is decided there is asked again only where
+        that takes less time. The bytes are those of `ask`."""
+        model, region, scale = question.prepared()
+        job = Job(question, self.evidence.model_file(model.text), region, scale, base.precision)
+        try:
+            return self._run(job, base)
+        except Refused as refusal:
+            if question.precision or not _is_without_room(refusal):
+                raise
+        return self.ask(question)  # with fewer bits, at which the base decides nothing
+
+    def _run(self, job: Job, base: Optional[Report] = None) -> Report:
+        origin, name = job.origin, job.name
+        known = self.evidence.find(name)
         if known:
-            data = read_file(str(known))
+            data = read_file(str(known), MOST_CHECKED_BYTES)
             if read_origin(known, data) == origin:
                 return Report(data, self.program.check(data), origin, str(known))
-        report = self.evidence.next_report()
-        part = report.with_name(report.name + '.part')
+        path = self.evidence.next_report()
+        part = path.with_name(path.name + '.part')
         try:
-            self.program.verify(origin.words, model, part, self.progress.watcher())
-            data = read_file(str(part))
+            seconds = self._write(job, base, part)
+            data = read_file(str(part), MOST_CHECKED_BYTES)
             soundness = self.program.check(data)
-            part.replace(report)
+            part.replace(path)
         finally:
             if part.exists():
                 part.unlink()
-        self.evidence.note(report, job, data, origin)
-        return Report(data, soundness, origin, str(report))
+        self.evidence.note(path, name, data, origin)
+        report = Report(data, soundness, origin, str(path))
+        if seconds is not None:
+            self._pace(job).note(1, len(report.nodes), seconds)
+        return report
+
+    def _write(self, job: Job, base: Optional[Report], report: Path) -> Optional[float]:
+        """Writes a job's report, from one at a smaller depth if there is one, and returns how many seconds one start took."""
+        if base is None:
+            return self.program.verify(job.origin.words, job.model, report, self.progress.watcher())
+
+        def ask(region: Region, bound: Fraction, depth: int, answer: Path) -> float:
+            words = replace(job.question, bound=bound, depth=depth).words(region, job.bits)
+            watch = self.progress.watcher() if depth == job.question.depth else None
+            return self.program.verify(words, job.model, answer, watch)
+
+        deepening = Deepening(base, job.question.depth, self._pace(job), ask)
+        return deepening.write(report, self.progress.teller('of what was unknown is asked again'))
+
+    def _pace(self, job: Job) -> Pace:
+        return self._paces.setdefault(job.model.name, Pace())
 
     def read(self, name: str) -> Report:
         """A report that somebody wrote, once `plift check` has called it sound."""
-        data = read_file(name)
+        data = read_file(name, MOST_CHECKED_BYTES)
         try:
             soundness = self.program.check(data)
         except Refused as refusal:
@@ -202,6 +268,7 @@ class Session:
         """Asks of a part of a report's region, in the report's own numbers and of its own model."""
         return self.ask(Question(Model(report.model_text), 'goal', bound, region, depth, precision))
 
-    def widen(self, question: Question, depth: int) -> Report:
-        """The same question at a greater depth. A program that goes on from a finished report would do less here."""
-        return self.ask(replace(question, depth=depth))
+
+def _is_without_room(refusal: Refused) -> bool:
+    """Whether fewer bits may help."""
+    return refusal.note.endswith('too wide')

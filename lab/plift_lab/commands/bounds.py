@@ -31,7 +31,7 @@ def add_words(words: argparse.ArgumentParser) -> None:
 
 def run(given: argparse.Namespace) -> int:
     """Does it."""
-    width = read_number(given.width) if given.width else None
+    width = read_number(given.width) if given.width is not None else None
     if width is not None and width <= 0:
         raise Fault('--width is a number above 0, and not %s' % given.width)
     calls = read_count(given.calls, '--calls', 2, 10 ** 6)

@@ -1,0 +1,74 @@
+"""Goes on from a report: the same question at a greater depth, of which only what is unknown so far is asked again."""
+
+from __future__ import annotations
+
+from fractions import Fraction
+from pathlib import Path
+from typing import Callable, Iterable, Iterator, List, Optional, Protocol
+
+from .head import Head
+from .pace import Pace
+from .parts import Part, cheapest_parts, joined, tree_lines
+from .regions import Region
+from .report import Report
+
+
+class Asker(Protocol):
+    """Writes the program's report of a region, a bound and a depth to a file, and returns how many seconds that took."""
+
+    def __call__(self, region: Region, bound: Fraction, depth: int, report: Path) -> float: ...
+
+
+class Deepening:
+    """One report that is taken to a greater depth."""
+
+    def __init__(self, base: Report, depth: int, pace: Pace, ask: Asker) -> None:
+        self.base, self.depth, self.pace, self._ask = base, depth, pace, ask
+        self._region = self._region_of(base.box)
+        self._is_admitted = False
+
+    def write(self, report: Path, tell: Callable[[float], None]) -> Optional[float]:
+        """Writes the report, and tells meanwhile which share of the work is done. Where all was asked at once it returns how
+        many seconds that took."""
+        parts = self._parts(report)
+        if [part.depth for part in parts] == [0]:
+            return self._ask(self._region, self.base.bound, self.depth, report)
+        self._require_room(report)
+        with open(report, 'wb') as out:
+            out.writelines(joined(self.base, self.depth, parts, self._trees(parts, report, tell)))
+        return None
+
+    def _parts(self, report: Path) -> List[Part]:
+        """What is asked again."""
+        if len(self.base.nodes) > 1 and self.pace.costs is None:
+            self._require_room(report)
+        return cheapest_parts(self.base, *(self.pace.costs or (1.0, 1.0)))
+
+    def _require_room(self, report: Path) -> None:
+        """Asks for the whole with the bound 1, which the first rectangle answers: where the rows have no room at this depth
+        that is refused before any part is asked."""
+        if not self._is_admitted:
+            self.pace.note(1, 1, self._ask(self._region, Fraction(1), self.depth, report))
+            self._is_admitted = True
+
+    def _trees(self, parts: List[Part], report: Path, tell: Callable[[float], None]) -> Iterator[Iterator[bytes]]:
+        """The trees of the parts, each asked when it is its turn."""
+        head, answer = Head.of(self.base), report.with_name('part-of-' + report.name)
+        whole = sum(part.stop - part.start for part in parts)
+        done = 0
+        try:
+            for part in parts:
+                levels = self.depth - part.depth
+                self._ask(self._region_of(part.ends), self.base.bound, levels, answer)
+                with open(answer, 'rb') as lines:
+                    yield tree_lines(lines, head.of_part(part.ends, levels).text)
+                done += part.stop - part.start
+                tell(done / whole)
+        finally:
+            if answer.exists():
+                answer.unlink()
+
+    def _region_of(self, ends: Iterable[int]) -> Region:
+        """A rectangle of the report as a region of the report's own model."""
+        rectangle = self.base.own_rectangle(tuple(ends))
+        return Region(tuple((name, low, high) for name, (low, high) in rectangle.items()))

@@ -1,0 +1,189 @@
+"""Reports that are taken deeper: whichever parts are asked again, the bytes are those of a single `verify`."""
+
+import unittest
+from dataclasses import replace
+from fractions import Fraction
+from unittest import mock
+
+from plift_lab.deeper import Deepening
+from plift_lab.models import Model
+from plift_lab.pace import Pace
+from plift_lab.parts import cheapest_parts, unknown_parts
+from plift_lab.program import MOST_CHECKED_BYTES, Program
+from plift_lab.regions import Region
+from plift_lab.report import Report
+from plift_lab.session import Question, Session, read_file
+
+from .helpers import EXAMPLES, RANGE, TREE, InFolder, run
+
+RETRY = Question(Model((EXAMPLES / 'retry.drn').read_bytes()), 'lost', Fraction(1, 40), Region.read('p=1/10..1/2,q=1/10..1/2'), 4, 10)
+# A product of four parameters, whose corners need the more room the finer the grid is.
+PRODUCT = (b'@type: DTMC\n@parameters\np q r s\n@model\nstate 0 init\n1 : p*q*r*s\n2 : 1-p*q*r*s\nstate 1 a\n1 : 1\n'
+           b'state 2\n2 : 1\n')
+NARROW = ','.join('%s=0.10001..0.9' % name for name in 'pqrs')
+
+
+def questions():
+    """Some of one version and some of the other, of chains and of decision processes."""
+    for name, goal, bound, region, precision in (
+            ('coin.drn', 'heads', '1/3', 'p=1/10..9/10', 10), ('links.drn', 'lost', '1/10', 'p=1/20..2/5,q=1/20..2/5', 16),
+            ('chain.drn', 'lost', '1/2', 'p=3/5..9/10,q=3/5..9/10,r=3/5..9/10', 16),
+            ('retry.drn', 'lost', '1/40', 'q=1/10..1/2,p=1/10..1/2', 40)):
+        question = Question(Model((EXAMPLES / name).read_bytes()), goal, Fraction(bound), Region.read(region), 0, precision)
+        yield question
+        yield replace(question, is_relative=True, least_precision=1)
+
+
+def costing(start, rectangle):
+    """A model that takes so long."""
+    return mock.patch.object(Pace, 'costs', (start, rectangle))
+
+
+class Bytes(unittest.TestCase):
+
+    def test_whatever_is_asked_again(self):
+        for question in questions():
+            with Session() as session:
+                due = {depth: session.ask(replace(question, depth=depth)).data for depth in (3, 6, 8)}
+            for costs in ((0.0, 1.0), (4.0, 1.0), (20.0, 1.0), (10.0 ** 6, 1.0)):
+                with self.subTest(words=question.words(question.region, 0), costs=costs), costing(*costs), Session() as session:
+                    report = session.ask(replace(question, depth=3))
+                    for depth in (6, 8):
+                        report = session.deepen(replace(question, depth=depth), report)
+                        self.assertEqual(report.data, due[depth])
+                        self.assertEqual(report.origin.words[report.origin.words.index('--depth') + 1], str(depth))
+
+    def test_what_is_decided_is_not_asked_again(self):
+        asked = []
+
+        def verify(self, words, *others):
+            asked.append((words[words.index('--bound') + 1], words[words.index('--region') + 1]))
+            return real(self, words, *others)
+
+        real = Program.verify
+        with Session() as session:
+            base = session.ask(RETRY)
+            with costing(0.0, 1.0), mock.patch.object(Program, 'verify', verify):
+                session.deepen(replace(RETRY, depth=6), base)
+        regions = [Region(tuple((name, *ends) for name, ends in leaf.rectangle.items())).text
+                   for leaf in base.leaves() if leaf.kind == 'unknown']
+        # First the whole, with the bound 1: has it room at this depth?
+        self.assertEqual(asked, [('1', RETRY.region.text)] + [('1/40', region) for region in regions])
+
+    def test_fewer_bits_where_the_finer_grid_has_no_room(self):
+        question = Question(Model(PRODUCT), 'a', Fraction(1, 10), Region.read(NARROW))
+        with Session() as session:
+            base = session.ask(replace(question, depth=2))
+            deeper = session.deepen(replace(question, depth=8), base)
+            self.assertLess(deeper.precision, base.precision)
+            self.assertEqual(deeper.data, session.ask(replace(question, depth=8)).data)
+
+    def test_an_answer_of_another_job_is_refused(self):
+        def ask(region, bound, depth, report):
+            report.write_bytes(RANGE)
+            return 0.0
+
+        with Session() as session, costing(0.0, 1.0):
+            base = session.ask(RETRY)
+            with self.assertRaisesRegex(Exception, 'isn\'t of this job'):
+                Deepening(base, 6, Pace(), ask).write(session.evidence.folder / 'x', lambda share: None)
+            self.assertEqual([path.name for path in session.evidence.folder.glob('part-of*')], [])
+
+
+class Parts(unittest.TestCase):
+
+    def setUp(self):
+        with Session() as session:
+            self.report = session.ask(replace(RETRY, depth=8))
+
+    def test_starts_that_cost_nothing(self):
+        self.assertEqual(cheapest_parts(self.report, 0.0, 1.0), unknown_parts(self.report))
+        self.assertEqual(len(unknown_parts(self.report)), self.report.nodes.count('unknown'))
+
+    def test_starts_that_are_dear(self):
+        # All that is unknown lies in a quarter of the region.
+        self.assertEqual([part.depth for part in cheapest_parts(self.report, 10.0 ** 6, 1.0)], [2])
+
+    def test_in_between(self):
+        """All that is unknown is in one part, and no part costs more than what it stands for."""
+        parts = cheapest_parts(self.report, 4.0, 1.0)
+        self.assertEqual([part.start for part in parts], sorted(part.start for part in parts))
+        left = [part for part in unknown_parts(self.report) if not any(one.start <= part.start < one.stop for one in parts)]
+        self.assertEqual(left, [])
+        self.assertTrue(1 < len(parts) < self.report.nodes.count('unknown'))
+
+    def test_nothing_is_unknown(self):
+        with Session() as session:
+            report = session.ask(replace(RETRY, bound=Fraction(1)))
+        self.assertEqual(cheapest_parts(report, 1.0, 1.0), [])
+
+    def test_pace(self):
+        pace = Pace()
+        self.assertIsNone(pace.costs)
+        pace.note(1, 1, 3.0)
+        self.assertIsNone(pace.costs)
+        pace.note(1, 11, 23.0)
+        self.assertEqual(pace.costs, (1.0, 2.0))
+        pace.note(1, 21, 1.0)  # a clock that says less for more
+        self.assertEqual(pace.costs, (3.0, 0.0))
+
+
+class Commands(InFolder):
+
+    def test_coverage(self):
+        keep, report = str(self.folder / 'k'), str(self.folder / 'a.report')
+        words = ('verify', str(EXAMPLES / 'retry.drn'), '--goal', 'lost', '--bound', '1/40', '--region', 'p=1/10..1/2,q=1/10..1/2')
+        status, told, _ = run(*words, '--coverage', '95%', '--keep', keep, '--report', report)
+        self.assertEqual((status, told.splitlines()[1]), (0, '  decided: 96.97 % at depth 10, and 95 % was asked'))
+        self.assertEqual(run(*words, '--depth', '10', '--report', report + '.once')[0], 0)
+        self.assertEqual(read_file(report), read_file(report + '.once'))
+        with mock.patch.object(Program, 'verify', side_effect=AssertionError):  # all is there already
+            self.assertEqual(run(*words, '--coverage', '95%', '--keep', keep, '--report', report)[:2], (0, told))
+
+    def test_a_range_of_precisions(self):
+        report = str(self.folder / 'a.report')
+        words = ('verify', str(EXAMPLES / 'retry.drn'), '--goal', 'lost', '--bound', '1/40', '--region', 'p=1/10..1/2,q=1/10..1/2',
+                 '--precision', '12')
+        status, told, _ = run(*words, '--from', '1', '--coverage', '95%', '--report', report)
+        self.assertEqual((status, told.splitlines()[1]), (0, '  decided: 96.97 % at depth 10, and 95 % was asked'))
+        with Session() as session:
+            read = session.read(report)
+        self.assertEqual((read.version, read.least_precision, read.precision), (2, 1, 12))
+        self.assertLess(min(read.precisions), 12)
+        for wrong in ('0', '13', 'x', ''):
+            status, told, fault = run(*words, '--from', wrong)
+            self.assertEqual((status, told, fault), (2, '', 'plift-lab: --from is a whole number from 1 to 12, and not %r\n' % wrong))
+
+    def test_a_word_without_anything_in_it(self):
+        words = (str(EXAMPLES / 'retry.drn'), '--goal', 'lost', '--region', 'p=1/10..1/2,q=1/10..1/2')
+        for command, option in (('verify', '--coverage'), ('verify', '--precision'), ('verify', '--report'), ('verify', '--keep'),
+                                ('bounds', '--width'), ('threshold', '--width')):
+            asked = ('--bound', '1/40') * (command != 'bounds') + ('--parameter', 'p') * (command == 'threshold')
+            status, told, fault = run(command, *words, *asked, option, '')
+            self.assertEqual((status, told, fault.count('\n')), (2, '', 1), (command, option))
+
+
+class Long(unittest.TestCase):
+
+    def test_a_report_may_be_longer_than_a_model(self):
+        with Session() as session, mock.patch('plift_lab.session.read_file', wraps=read_file) as read:
+            session.read(TREE)
+            session.ask(RETRY)
+        self.assertEqual([one.args[1] for one in read.call_args_list], [MOST_CHECKED_BYTES] * 2)
+
+
+class Texts(unittest.TestCase):
+
+    def test_where_nodes_begin(self):
+        for data in (RANGE, read_file(TREE)):
+            report = Report(data, '')
+            ends = [*report.starts[1:], len(data)]
+            nodes = [data[start:end] for start, end in zip(report.starts, ends)]
+            self.assertEqual(data[report.tree_begin:], b''.join(nodes))
+            self.assertEqual(len(nodes), len(report.nodes))
+            for node, text in zip(report.nodes, nodes):
+                self.assertIn(b'split %d\n' % node if isinstance(node, int) else node.encode(), text)
+
+
+if __name__ == '__main__':
+    unittest.main()
