@@ -12,6 +12,7 @@ import os
 import shutil
 import sys
 import tempfile
+from functools import lru_cache
 from pathlib import Path
 from typing import Dict, Optional, TextIO
 
@@ -47,6 +48,12 @@ def write_file(path: Path, data: bytes) -> None:
         os.replace(str(part), str(path))
     except OSError as fault:
         raise Fault('%s can\'t be written: %s' % (path, fault.strerror or fault)) from None
+
+
+@lru_cache(maxsize=4)
+def _model_name(text: bytes) -> str:
+    """The name of the file of a model, which is asked of again and again."""
+    return 'model-%s.drn' % digest(text)[:10]
 
 
 def digest(data: bytes) -> str:
@@ -113,7 +120,7 @@ class Evidence:
 
     def model_file(self, text: bytes) -> Path:
         """A file with a model's text."""
-        path = self.folder / ('model-%s.drn' % digest(text)[:10])
+        path = self.folder / _model_name(text)
         if not path.is_file() or path.read_bytes() != text:
             write_file(path, text)
         return path

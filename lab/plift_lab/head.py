@@ -1,4 +1,4 @@
-"""Heads of reports: those of the same job at a greater depth, and on a part of its region."""
+"""Heads of reports: those of the same job at another depth, and on a part of its region."""
 
 from __future__ import annotations
 
@@ -29,16 +29,16 @@ class Head:
         least = report.least_precision if report.version == 2 else None
         return cls(report.model_lines, report.bound, report.precision, least, report.depth, report.grid, report.box)
 
-    def deepened(self, depth: int) -> 'Head':
-        """That of the same job at a greater depth, whose grid is finer."""
-        times = 2 ** (depth - self.depth)
-        return replace(self, depth=depth, grid=self.grid * times, box=tuple(end * times for end in self.box))
+    def at(self, depth: int) -> 'Head':
+        """That of the same job at another depth: the grid is the finer the deeper it is."""
+        grid, *box = (end * 2 ** depth // 2 ** self.depth for end in (self.grid, *self.box))
+        return replace(self, depth=depth, grid=grid, box=tuple(box))
 
     def of_part(self, ends: Tuple[int, ...], depth: int) -> 'Head':
         """That of a job on a part of the region, whose ends are over this grid. Its own grid is made from them alone."""
         common = reduce(gcd, ends, self.grid)
         part = replace(self, depth=0, grid=self.grid // common, box=tuple(end // common for end in ends))
-        return part.deepened(depth)
+        return part.at(depth)
 
     @property
     def text(self) -> bytes:

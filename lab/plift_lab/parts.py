@@ -69,13 +69,23 @@ def _chosen(report: Report, is_chosen: List[bool]) -> List[Part]:
 
 def joined(base: Report, depth: int, parts: Iterable[Part], trees: Iterable[Iterable[bytes]]) -> Iterator[bytes]:
     """The report of the whole region at a greater depth: the base's with other trees in the places of its parts."""
-    yield Head.of(base).deepened(depth).text
+    yield Head.of(base).at(depth).text
     place = base.tree_begin
     for part, tree in zip(parts, trees):
         yield base.data[place:part.start]
         yield from tree
         place = part.stop
     yield base.data[place:]
+
+
+def cut(report: Report, depth: int) -> Iterator[bytes]:
+    """The same question's report at a smaller depth: what is halved below so many splits is unknown there."""
+    yield Head.of(report).at(depth).text
+    ends = [*report.starts[1:], len(report.data)]
+    for start, end, node, (below, _) in zip(report.starts, ends, report.nodes, report.walk()):
+        if below <= depth:
+            is_open = below == depth and isinstance(node, int)
+            yield b'unknown\n' if is_open else report.data[start:end]
 
 
 def tree_lines(report: BinaryIO, head: bytes) -> Iterator[bytes]:

@@ -7,6 +7,7 @@ import sys
 import time
 from dataclasses import dataclass, replace
 from fractions import Fraction
+from functools import lru_cache
 from pathlib import Path
 from typing import Any, Callable, Dict, List, Optional, Tuple
 
@@ -16,6 +17,7 @@ from .faults import Refused
 from .models import Model, Scale
 from .origin import Origin
 from .pace import Pace
+from .parts import cut
 from .program import MOST_CHECKED_BYTES, find_program
 from .regions import Region
 from .report import Report
@@ -41,11 +43,7 @@ class Question:
 
     def prepared(self) -> Tuple[Model, Region, Scale]:
         """The model and the region as they are given to the program, and what its numbers mean."""
-        self.region.fit(self.model.parameters)
-        model = self.model.fixed(self.region)
-        if self.is_relative:
-            return model.rescaled(self.region)
-        return model, self.region, {}
+        return _prepared(self.model, self.region, self.is_relative)
 
     def words(self, region: Region, precision: int) -> List[str]:
         """The program's command line."""
@@ -54,6 +52,13 @@ class Question:
             options += ['--region', region.text]
         options += ['--depth', str(self.depth), '--precision', str(precision)]
         return options if self.least_precision is None else options + ['--from', str(self.least_precision)]
+
+
+@lru_cache(maxsize=4)
+def _prepared(model: Model, region: Region, is_relative: bool) -> Tuple[Model, Region, Scale]:
+    region.fit(model.parameters)
+    model = model.fixed(region)
+    return model.rescaled(region) if is_relative else (model, region, {})
 
 
 class Progress:
@@ -212,6 +217,11 @@ class Session:
                 raise
         return self.ask(question)  # with fewer bits, at which the base decides nothing
 
+    def shorten(self, question: Question, base: Report) -> Report:
+        """The same, from a report of the same question at a greater depth: nothing is asked."""
+        model, region, scale = question.prepared()
+        return self._run(Job(question, self.evidence.model_file(model.text), region, scale, base.precision), base)
+
     def _run(self, job: Job, base: Optional[Report] = None) -> Report:
         origin, name = job.origin, job.name
         known = self.evidence.find(name)
@@ -236,9 +246,14 @@ class Session:
         return report
 
     def _write(self, job: Job, base: Optional[Report], report: Path) -> Optional[float]:
-        """Writes a job's report, from one at a smaller depth if there is one, and returns how many seconds one start took."""
+        """Writes a job's report, from one at another depth if there is one. Returns how many seconds that took, where all was
+        asked at once."""
         if base is None:
             return self.program.verify(job.origin.words, job.model, report, self.progress.watcher())
+        if base.depth >= job.question.depth:
+            with open(report, 'wb') as out:
+                out.writelines(cut(base, job.question.depth))
+            return None
 
         def ask(region: Region, bound: Fraction, depth: int, answer: Path) -> float:
             words = replace(job.question, bound=bound, depth=depth).words(region, job.bits)

@@ -5,7 +5,9 @@ from dataclasses import replace
 from fractions import Fraction
 from unittest import mock
 
+from plift_lab.cover import cover, levels_due
 from plift_lab.deeper import Deepening
+from plift_lab.faults import Refused
 from plift_lab.models import Model
 from plift_lab.pace import Pace
 from plift_lab.parts import cheapest_parts, unknown_parts
@@ -16,6 +18,7 @@ from plift_lab.session import Question, Session, read_file
 
 from .helpers import EXAMPLES, RANGE, TREE, InFolder, run
 
+deepen = Session.deepen
 RETRY = Question(Model((EXAMPLES / 'retry.drn').read_bytes()), 'lost', Fraction(1, 40), Region.read('p=1/10..1/2,q=1/10..1/2'), 4, 10)
 # A product of four parameters, whose corners need the more room the finer the grid is.
 PRODUCT = (b'@type: DTMC\n@parameters\np q r s\n@model\nstate 0 init\n1 : p*q*r*s\n2 : 1-p*q*r*s\nstate 1 a\n1 : 1\n'
@@ -88,6 +91,55 @@ class Bytes(unittest.TestCase):
             with self.assertRaisesRegex(Exception, 'isn\'t of this job'):
                 Deepening(base, 6, Pace(), ask).write(session.evidence.folder / 'x', lambda share: None)
             self.assertEqual([path.name for path in session.evidence.folder.glob('part-of*')], [])
+
+
+class Cover(unittest.TestCase):
+
+    def slowly(self, question, *shares):
+        """What is found by asking the whole at every second depth."""
+        with Session() as session:
+            depth, report = 0, session.ask(replace(question, depth=0))
+            for share in shares:
+                while report.shares['unknown'] > 1 - share:
+                    depth += 2
+                    report = session.ask(replace(question, depth=depth))
+                yield report
+
+    def test_the_least_depth(self):
+        shares = Fraction(1, 2), Fraction(9, 10), Fraction(19, 20)
+        for question in questions():
+            for share, due in zip(shares, self.slowly(question, *shares)):
+                with self.subTest(words=question.words(question.region, 0), share=share), Session() as session:
+                    found = cover(session, question, share, lambda report: None)
+                    self.assertEqual((found.data, found.origin), (due.data, due.origin))
+
+    def test_a_report_that_went_too_far_is_cut(self):
+        question = replace(RETRY, bound=Fraction(1, 1000), depth=0)
+        with Session() as session:
+            asked = []
+            with mock.patch.object(Session, 'deepen', lambda self, *one: asked.append(one[0].depth) or deepen(self, *one)):
+                found = cover(session, question, Fraction(9, 10), lambda report: None)
+            self.assertEqual([path.name for path in session.evidence.folder.glob('*.report')], [found.path.rpartition('/')[2]])
+        self.assertGreater(asked[-1], found.depth)
+        self.assertEqual(found.data, next(self.slowly(question, Fraction(9, 10))).data)
+
+    def test_a_leap_that_is_refused(self):
+        """Where a report is too long the next one may not be."""
+        def refuses(self, question, base):
+            if question.depth > base.depth + 2 or question.depth > 8:
+                raise Refused(7, 'too long', [], b'')
+            return deepen(self, question, base)
+
+        with Session() as session, mock.patch.object(Session, 'deepen', refuses):
+            self.assertEqual(cover(session, replace(RETRY, depth=0), Fraction(1), lambda report: None).depth, 8)
+
+    def test_levels(self):
+        with Session() as session:
+            first = session.ask(replace(RETRY, depth=0))
+            later = session.ask(replace(RETRY, depth=8))
+        self.assertEqual([levels_due(first, share) for share in (Fraction(1, 2), Fraction(19, 20), Fraction(1))], [2, 6, 6])
+        self.assertEqual(levels_due(later, 1 - later.shares['unknown'] / 2), 2)
+        self.assertEqual(levels_due(later, 1 - later.shares['unknown'] / 4), 4)
 
 
 class Parts(unittest.TestCase):

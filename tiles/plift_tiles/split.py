@@ -47,7 +47,7 @@ def _fill(program: Program, report: Report, place: Path, depth: int) -> int:
     (place / 'base.report').write_bytes(report.data)
     (place / 'model.drn').write_bytes(report.model_text)
     lay_out(place, told, regions)
-    _ask_whole(program, report.region.text, head.deepened(depth), place)
+    _ask_whole(program, report.region.text, head.at(depth), place)
     return len(regions)
 
 
