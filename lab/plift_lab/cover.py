@@ -58,7 +58,7 @@ def levels_due(report: Report, share: Fraction) -> int:
 
 
 def _open(report: Report, depth: int) -> Fraction:
-    """The share of the region that is unknown in the question's report at this depth, which isn't greater than the report's own."""
+    """The share of the region that is unknown in the question's report at a depth, of this report's own or a smaller one."""
     if depth == report.depth:
         return report.shares[UNKNOWN]
     halved = sum(below == depth and isinstance(node, int) for node, (below, _) in zip(report.nodes, report.walk()))

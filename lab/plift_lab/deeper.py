@@ -6,9 +6,10 @@ from fractions import Fraction
 from pathlib import Path
 from typing import Callable, Iterable, Iterator, List, Optional, Protocol
 
+from .faults import LOST, Fault
 from .head import Head
 from .pace import Pace
-from .parts import Part, cheapest_parts, joined, tree_lines
+from .parts import Part, Unfit, cheapest_parts, joined, tree_lines
 from .regions import Region
 from .report import Report
 
@@ -34,8 +35,11 @@ class Deepening:
         if [part.depth for part in parts] == [0]:
             return self._ask(self._region, self.base.bound, self.depth, report)
         self._require_room(report)
-        with open(report, 'wb') as out:
-            out.writelines(joined(self.base, self.depth, parts, self._trees(parts, report, tell)))
+        try:
+            with open(report, 'wb') as out:
+                out.writelines(joined(self.base, self.depth, parts, self._trees(parts, report, tell)))
+        except Unfit as fault:
+            raise Fault('what plift wrote of a part of the region %s' % fault, LOST) from None
         return None
 
     def _parts(self, report: Path) -> List[Part]:

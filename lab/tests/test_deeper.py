@@ -7,7 +7,7 @@ from unittest import mock
 
 from plift_lab.cover import cover, levels_due
 from plift_lab.deeper import Deepening
-from plift_lab.faults import Refused
+from plift_lab.faults import Fault, Refused
 from plift_lab.models import Model
 from plift_lab.pace import Pace
 from plift_lab.parts import cheapest_parts, unknown_parts
@@ -19,7 +19,8 @@ from plift_lab.session import Question, Session, read_file
 from .helpers import EXAMPLES, RANGE, TREE, InFolder, run
 
 deepen = Session.deepen
-RETRY = Question(Model((EXAMPLES / 'retry.drn').read_bytes()), 'lost', Fraction(1, 40), Region.read('p=1/10..1/2,q=1/10..1/2'), 4, 10)
+REGION = 'p=1/10..1/2,q=1/10..1/2'
+RETRY = Question(Model((EXAMPLES / 'retry.drn').read_bytes()), 'lost', Fraction(1, 40), Region.read(REGION), 4, 10)
 # A product of four parameters, whose corners need the more room the finer the grid is.
 PRODUCT = (b'@type: DTMC\n@parameters\np q r s\n@model\nstate 0 init\n1 : p*q*r*s\n2 : 1-p*q*r*s\nstate 1 a\n1 : 1\n'
            b'state 2\n2 : 1\n')
@@ -88,7 +89,7 @@ class Bytes(unittest.TestCase):
 
         with Session() as session, costing(0.0, 1.0):
             base = session.ask(RETRY)
-            with self.assertRaisesRegex(Exception, 'isn\'t of this job'):
+            with self.assertRaisesRegex(Fault, 'what plift wrote of a part of the region isn\'t of this job'):
                 Deepening(base, 6, Pace(), ask).write(session.evidence.folder / 'x', lambda share: None)
             self.assertEqual([path.name for path in session.evidence.folder.glob('part-of*')], [])
 
@@ -184,7 +185,7 @@ class Commands(InFolder):
 
     def test_coverage(self):
         keep, report = str(self.folder / 'k'), str(self.folder / 'a.report')
-        words = ('verify', str(EXAMPLES / 'retry.drn'), '--goal', 'lost', '--bound', '1/40', '--region', 'p=1/10..1/2,q=1/10..1/2')
+        words = ('verify', str(EXAMPLES / 'retry.drn'), '--goal', 'lost', '--bound', '1/40', '--region', REGION)
         status, told, _ = run(*words, '--coverage', '95%', '--keep', keep, '--report', report)
         self.assertEqual((status, told.splitlines()[1]), (0, '  decided: 96.97 % at depth 10, and 95 % was asked'))
         self.assertEqual(run(*words, '--depth', '10', '--report', report + '.once')[0], 0)
@@ -194,7 +195,7 @@ class Commands(InFolder):
 
     def test_a_range_of_precisions(self):
         report = str(self.folder / 'a.report')
-        words = ('verify', str(EXAMPLES / 'retry.drn'), '--goal', 'lost', '--bound', '1/40', '--region', 'p=1/10..1/2,q=1/10..1/2',
+        words = ('verify', str(EXAMPLES / 'retry.drn'), '--goal', 'lost', '--bound', '1/40', '--region', REGION,
                  '--precision', '12')
         status, told, _ = run(*words, '--from', '1', '--coverage', '95%', '--report', report)
         self.assertEqual((status, told.splitlines()[1]), (0, '  decided: 96.97 % at depth 10, and 95 % was asked'))
@@ -204,12 +205,13 @@ class Commands(InFolder):
         self.assertLess(min(read.precisions), 12)
         for wrong in ('0', '13', 'x', ''):
             status, told, fault = run(*words, '--from', wrong)
-            self.assertEqual((status, told, fault), (2, '', 'plift-lab: --from is a whole number from 1 to 12, and not %r\n' % wrong))
+            says = 'plift-lab: --from is a whole number from 1 to 12, and not %r\n' % wrong
+            self.assertEqual((status, told, fault), (2, '', says))
 
     def test_a_word_without_anything_in_it(self):
-        words = (str(EXAMPLES / 'retry.drn'), '--goal', 'lost', '--region', 'p=1/10..1/2,q=1/10..1/2')
-        for command, option in (('verify', '--coverage'), ('verify', '--precision'), ('verify', '--report'), ('verify', '--keep'),
-                                ('bounds', '--width'), ('threshold', '--width')):
+        words = (str(EXAMPLES / 'retry.drn'), '--goal', 'lost', '--region', REGION)
+        for command, option in (('verify', '--coverage'), ('verify', '--precision'), ('verify', '--report'),
+                                ('verify', '--keep'), ('bounds', '--width'), ('threshold', '--width')):
             asked = ('--bound', '1/40') * (command != 'bounds') + ('--parameter', 'p') * (command == 'threshold')
             status, told, fault = run(command, *words, *asked, option, '')
             self.assertEqual((status, told, fault.count('\n')), (2, '', 1), (command, option))
