@@ -290,7 +290,10 @@ def ask(job: Job, share: Fraction, keep: str, limit: int) -> Dict[str, str]:
 def published(name: str) -> Dict[str, Dict[str, str]]:
     """Figures of others by model, from a CSV table whose first column is `model`."""
     with open(name, newline='', encoding='utf-8') as source:
-        return {row.pop('model'): {'*' + column: value for column, value in row.items()} for row in csv.DictReader(source)}
+        table = csv.DictReader(source)
+        if 'model' not in (table.fieldnames or []):
+            raise ValueError('no column is headed model')
+        return {row.pop('model'): {'*' + column: value for column, value in row.items() if column} for row in table}
 
 
 def main() -> int:
@@ -320,7 +323,7 @@ def main() -> int:
     signal.signal(signal.SIGTERM, signal.default_int_handler)
     try:
         others = published(given.published) if given.published else {}
-    except (OSError, KeyError, csv.Error, UnicodeDecodeError) as fault:
+    except (OSError, ValueError, csv.Error) as fault:
         words.error('%s: %s' % (given.published, fault))
     columns = list(COLUMNS) + sorted({column for row in others.values() for column in row})
     print('| %s |\n|%s' % (' | '.join(columns), '---|' * len(columns)))

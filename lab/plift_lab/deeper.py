@@ -14,6 +14,11 @@ from .regions import Region
 from .report import Report
 
 
+COLD = 8
+"""How many rectangles' time a part loses in which the program begins without what was found next to it; measured on models
+whose rectangles are dear, where it was two to five."""
+
+
 class Asker(Protocol):
     """Writes the program's report of a region, a bound and a depth to a file, and returns how many seconds that took."""
 
@@ -46,7 +51,8 @@ class Deepening:
         """What is asked again."""
         if len(self.base.nodes) > 1 and self.pace.costs is None:
             self._require_room(report)
-        return cheapest_parts(self.base, *(self.pace.costs or (1.0, 1.0)))
+        start, rectangle = self.pace.costs or (1.0, 1.0)
+        return cheapest_parts(self.base, start + COLD * rectangle, rectangle)
 
     def _require_room(self, report: Path) -> None:
         """Asks for the whole with the bound 1, which the first rectangle answers: where the rows have no room at this depth

@@ -6,6 +6,7 @@ what its own numbers mean in the user's, and the report's hash. A job whose repo
 
 from __future__ import annotations
 
+import contextlib
 import hashlib
 import json
 import os
@@ -48,6 +49,9 @@ def write_file(path: Path, data: bytes) -> None:
         os.replace(str(part), str(path))
     except OSError as fault:
         raise Fault('%s can\'t be written: %s' % (path, fault.strerror or fault)) from None
+    finally:  # what was interrupted isn't left
+        with contextlib.suppress(OSError):
+            part.unlink()
 
 
 @lru_cache(maxsize=4)

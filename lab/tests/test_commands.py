@@ -15,7 +15,7 @@ from fractions import Fraction
 from pathlib import Path
 from unittest import mock
 
-from plift_lab.evidence import Evidence
+from plift_lab.evidence import Evidence, write_file
 from plift_lab.faults import Fault
 from plift_lab.program import find_program
 
@@ -327,6 +327,31 @@ class Interrupted(InFolder):
             self.assertNotIn(b'Traceback', err)
             self.assertEqual(list(keep.glob('*.part')) + list(keep.glob('*.report')), [])
         self.assertEqual(run('bounds', *QUESTION, '--keep', str(keep))[0], 0)
+
+    def test_a_file_that_was_not_written_whole_is_not_left(self):
+        with mock.patch('plift_lab.evidence.os.replace', side_effect=KeyboardInterrupt), self.assertRaises(KeyboardInterrupt):
+            write_file(self.folder / 'a', b'text')
+        self.assertEqual(os.listdir(str(self.folder)), [])
+
+    def test_in_a_part_that_is_asked_again(self):
+        keep, parts = self.folder / 'kept', ('--region', REGION, '--depth', '4', '--keep', str(self.folder / 'kept'))
+        words = ('verify', RETRY, '--goal', 'lost', '--bound', '1/40', *parts)
+        self.assertEqual(run(*words)[0], 0)
+        slow = self.file('slow', b'#!/bin/sh\ncase "$*" in\n*"--bound 1 "*) ;;\n*verify*) exec sleep 60 ;;\nesac\n'
+                                 b'exec "%s" "$@"\n' % str(find_program().path).encode())
+        os.chmod(slow, 0o755)
+        process = subprocess.Popen(
+            [sys.executable, str(TOP / 'lab/plift_lab/__main__.py'), *words, '--coverage', '99%'],
+            env=dict(os.environ, PLIFT_PROGRAM=slow), stdout=subprocess.PIPE, stderr=subprocess.PIPE)
+        for _ in range(400):
+            if list(keep.glob('part-of-*')):
+                break
+            time.sleep(0.05)
+        process.terminate()
+        out, err = process.communicate(timeout=20)
+        self.assertEqual((process.returncode, out, err.count(b'Traceback')), (130, b'', 0))
+        self.assertEqual([path.name for path in keep.glob('*.part')], [])
+        self.assertEqual([path.name for path in keep.glob('*.report')], ['1.report'])
 
     def test_a_reader_that_ends(self):
         command = '"%s" leaves "%s" --json | head -c 5; exit "${PIPESTATUS[0]}"' % (TOP / 'plift-lab', TREE)

@@ -1,6 +1,7 @@
 """Reports that are taken deeper: whichever parts are asked again, the bytes are those of a single `verify`."""
 
 import unittest
+from contextlib import contextmanager
 from dataclasses import replace
 from fractions import Fraction
 from unittest import mock
@@ -38,9 +39,11 @@ def questions():
         yield replace(question, is_relative=True, least_precision=1)
 
 
+@contextmanager
 def costing(start, rectangle):
     """A model that takes so long."""
-    return mock.patch.object(Pace, 'costs', (start, rectangle))
+    with mock.patch.object(Pace, 'costs', (start, rectangle)), mock.patch('plift_lab.deeper.COLD', 0):
+        yield
 
 
 class Bytes(unittest.TestCase):

@@ -9,7 +9,7 @@ from pathlib import Path
 
 from plift_lab.session import Follower, Progress, seconds_shown
 
-from .helpers import TOP, TREE, InFolder
+from .helpers import EXAMPLES, TOP, TREE, InFolder
 
 
 class Following(InFolder):
@@ -53,7 +53,7 @@ class Benchmark(unittest.TestCase):
 
     def test_mistakes(self):
         for words in (('--model', 'brp'), ('--model', 'nothing', '3'), ('--model', 'nand', '20', '9'), ('--only', 'x'), ('--coverage', 'a'),
-                      ('--published', '/nowhere'), ('--limit', '0')):
+                      ('--published', '/nowhere'), ('--published', str(EXAMPLES / 'coin.drn')), ('--limit', '0')):
             done = subprocess.run([sys.executable, str(TOP / 'bench/atva.py'), *words], stdout=subprocess.PIPE, stderr=subprocess.PIPE)
             self.assertEqual(done.returncode, 2, words)
             self.assertNotIn(b'Traceback', done.stderr)
