@@ -42,9 +42,9 @@ def cheapest_parts(report: Report, start: float, rectangle: float) -> List[Part]
     below: List[Tuple[int, float]] = []  # of trees behind the node: how many nodes they have, and what they cost
     for place in reversed(range(len(report.nodes))):
         node = report.nodes[place]
-        (low_size, low_cost), (high_size, high_cost) = \
-            (below.pop(), below.pop()) if isinstance(node, int) else ((0, 0.0), (0, 0.0))
-        size, apart, whole = 1 + low_size + high_size, low_cost + high_cost, start + rectangle * (1 + low_size + high_size)
+        halves = [below.pop(), below.pop()] if isinstance(node, int) else []
+        size, apart = 1 + sum(one for one, _ in halves), sum(cost for _, cost in halves)
+        whole = start + rectangle * size
         chosen[place] = node == UNKNOWN or 0 < whole < apart
         below.append((size, whole if chosen[place] else apart))
     return _chosen(report, chosen) if report.live else []
