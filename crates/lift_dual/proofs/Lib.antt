@@ -7,3 +7,4 @@ mod StagesOfAll
 mod Untils
 mod Apart
 mod Samples
+mod Bounds

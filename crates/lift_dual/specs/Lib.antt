@@ -5,3 +5,5 @@ pub mod StagesOfAll
 pub mod Said
 pub mod Property
 pub mod Laws
+pub mod Picking
+pub mod Bounds

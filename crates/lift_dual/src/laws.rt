@@ -5,6 +5,8 @@ ghost use Rattle.lift_dual.specs.Laws.{UntilIsBoundedForAll, UntilIsReachedByOne
 ghost use Rattle.lift_dual.specs.Laws.{SidesAreApart, EachHasASide};
 ghost use Rattle.lift_dual.specs.Avoiding.{StagesAreLeast, RestIsGreatest};
 ghost use Rattle.lift_dual.specs.StagesOfAll.{StartOfAll, NextOfAll, EndOfAll};
+ghost use Rattle.lift_dual.specs.Bounds.{BoundsAreAvoiding, LeastBoundIsAvoiding};
+ghost use Rattle.lift_dual.specs.Bounds.{UpperOneIsBound, BoundIsMet, LeastBoundIsUpperOne};
 
 use corner_lift::{corners_bound_weights, rows_at_corners, rows_inside};
 use lift_cert::{certificates_decide, rejecting_certificates_reach};
@@ -85,3 +87,15 @@ pub fn sides_are_apart()
     ensures apart { SidesAreApart }
     ensures each { EachHasASide }
 {}
+
+/// Holds the rules by which the least vectors of both kinds are least bounds: of avoiding vectors, and of
+/// upper vectors for one scheduler. It does nothing.
+pub fn bounds_are_vectors()
+    ensures avoiding { BoundsAreAvoiding }
+    ensures least_avoiding { LeastBoundIsAvoiding }
+    ensures one { UpperOneIsBound }
+    ensures met { BoundIsMet }
+    ensures least_one { LeastBoundIsUpperOne }
+{
+    rows_at_corners();
+}

@@ -5,6 +5,6 @@
 mod laws;
 
 pub use laws::{
-    all_and_one, certificates_join, plans_are_supported, rest_is_greatest, sides_are_apart,
-    stages_of_all, until_is_bounded,
+    all_and_one, bounds_are_vectors, certificates_join, plans_are_supported, rest_is_greatest,
+    sides_are_apart, stages_of_all, until_is_bounded,
 };
