@@ -7,4 +7,5 @@ mod StagesOfAll
 mod Untils
 mod Apart
 mod Samples
+mod Picking
 mod Bounds

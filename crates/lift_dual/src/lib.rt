@@ -3,8 +3,10 @@
 #![tactic(auto)]
 
 mod laws;
+mod one;
 
 pub use laws::{
     all_and_one, bounds_are_vectors, certificates_join, plans_are_supported, rest_is_greatest,
     sides_are_apart, stages_of_all, until_is_bounded,
 };
+pub use one::{least_one, least_one_within};
