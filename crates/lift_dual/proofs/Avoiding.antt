@@ -19,7 +19,7 @@ use Rattle.corner_lift.specs.Stages.{LeadsBelow}
 use Rattle.corner_lift.specs.Laws.{NumbersAreInRange, ParametersAreTheRoots, SumsAreInRange, SumsRise, WeightsSumToWhole, HasRow}
 use Rattle.lift_dual.specs.Sides.{RowHolds, IsLowerAll}
 use Rattle.lift_dual.proofs.Joining.{listed, listed-length, listed-at}
-use Rattle.lift_dual.specs.Avoiding.{AreStagesOfAll, IsAvoiding, IsLeastAvoiding, IsRest, HasLeast, StagesAreLeast, RestIsGreatest}
+use Rattle.lift_dual.specs.Avoiding.{AreStagesOfAll, IsAvoiding, IsLeastAvoiding, IsRest, HasLeast, StagesAreLeast, RestIsAvoiding, RestIsGreatest}
 
 in_or_past : (s count : ℕ) → (s < count) ⊎ (count ≤ s)
 in_or_past s count = grind arith
@@ -136,6 +136,61 @@ module _ (k : CaseData) (spans : Spans) (is : IsCase k) where
     past_number : (x : List ℤ) (s : ℕ) → length x ≡ n → n ≤ s → number x s ≡ pos 0
     past_number x s size le = get_or_past x s (pos 0) (omega (arith, size, le))
 
+    -- ---- what is left of a lower vector
+
+    module _ (rise : SumsRise) (rank : ℕ → ℕ) (stages : AreStagesOfAll k spans rank) (o : RejectData) (ho : IsLowerAll k spans o) where
+      other : List ℤ
+      other = listed n (λ s. pos (2 ^ k.w) -ℤ number o.numbers s)
+
+      other_size : length other ≡ n
+      unfolding other
+      other_size = listed-length n (λ s. pos (2 ^ k.w) -ℤ number o.numbers s)
+
+      other_at : (s : ℕ) → s < n → number other s ≡ pos (2 ^ k.w) -ℤ number o.numbers s
+      unfolding other
+      other_at s lt = listed-at n (λ s. pos (2 ^ k.w) -ℤ number o.numbers s) s (pos 0) lt
+
+      other_range : (s : ℕ) → (pos 0 ≤ℤ number other s) × (number other s ≤ℤ pos (2 ^ k.w))
+      other_range s = ⊎_elim
+          (λ (lt : s < n). let at = numbers k o.numbers s ho.numbers in (omega (arith, linear, other_at s lt, at.1), omega (arith, linear, other_at s lt, at.0)))
+          (λ (past : n ≤ s). let at = past_number other s other_size past in (omega (arith, linear, at), omega (arith, linear, at)))
+          (in_or_past s n)
+
+      other_numbers : AreNumbers k other
+      other_numbers = record { size = other_size; range = λ i d lt. subst (λ v. (pos 0 ≤ℤ v) × (v ≤ℤ pos (2 ^ k.w))) (sym (get_or_default other i d (pos 0) lt)) (other_range i) }
+
+      other_means : (s a : ℕ) → a < length (choices k.model s) → is_goal k.model s ≡ false → MeansAtMost k spans (row_at k.model s a) other (number other s)
+      other_means s a lt g c at =
+          let row = row_at k.model s a in
+          let full = whole k.model k.d spans row in
+          let left : ℕ → ℤ = λ t. pos (2 ^ k.w) -ℤ number o.numbers t in
+          let state = choice_inside s a lt in
+          let sums = on_targets s a lt c (number other) left other_at in
+          let value = ap (λ v. v *ℤ full) (other_at s state) in
+          ⊎_elim
+          (λ (ranked : mark o.ranks s < unmarked).
+          let holds : RowHolds k spans o s row = (ho.held s g ranked).rows a [] lt in
+          omega (arith, linear, sums, value, rest_at s a lt c at (number o.numbers) left (λ t. refl), holds.means c at, spread (pos (2 ^ k.w)) (number o.numbers s) full))
+          (λ (off : unmarked ≤ mark o.ranks s).
+          let most = (range k spans s a c other is within (has_row s a lt) other_numbers).1 in
+          let top : number other s ≡ pos (2 ^ k.w) = omega (arith, linear, other_at s state, ho.unranked s g off) in
+          omega (arith, linear, most, ap (λ v. v *ℤ full) top, ap (λ v. pos (2 ^ k.w) *ℤ v) (same_whole s a)))
+          (in_or_past (mark o.ranks s) unmarked)
+
+      avoids : IsAvoiding k spans rank other
+      avoids = record {
+        numbers = other_numbers;
+        goal = λ s g. omega (arith, linear, other_at s (goal_inside s g), (ho.goal s g).0);
+        lost = λ s lt g off. omega (arith, linear, other_at s lt, ho.unranked s g (none_of s lt off));
+        means = λ s g ranked. rows_of (λ row. MeansAtMost k spans row other (number other s)) s (λ a lt. other_means s a lt g);
+      }
+        where
+          none_of : (s : ℕ) → s < n → unmarked ≤ rank s → unmarked ≤ mark o.ranks s
+          none_of s lt off = ⊎_elim
+              (λ (ranked : mark o.ranks s < unmarked). absurd (omega (arith, off, ranked, upto rise within rank o stages ho (mark o.ranks s) s lt ranked (omega arith))))
+              (λ (le : unmarked ≤ mark o.ranks s). le)
+              (in_or_past (mark o.ranks s) unmarked)
+
     -- ---- what is left of a least vector
 
     module _ (z : List ℤ) (r : RejectData) (none : r.picks ≡ []) (size : length r.ranks ≡ n) (marks : All (λ rank. rank ≤ unmarked) r.ranks) (stages : AreStagesOfAll k spans (mark r.ranks)) (has : HasLeast k spans r) (h : IsLeastAvoiding k spans (mark r.ranks) z) (rest : IsRest k z r.numbers) where
@@ -177,67 +232,23 @@ module _ (k : CaseData) (spans : Spans) (is : IsCase k) where
         };
       }
 
-      module _ (rise : SumsRise) (o : RejectData) (ho : IsLowerAll k spans o) where
-        other : List ℤ
-        other = listed n (λ s. pos (2 ^ k.w) -ℤ number o.numbers s)
-
-        other_size : length other ≡ n
-        unfolding other
-        other_size = listed-length n (λ s. pos (2 ^ k.w) -ℤ number o.numbers s)
-
-        other_at : (s : ℕ) → s < n → number other s ≡ pos (2 ^ k.w) -ℤ number o.numbers s
-        unfolding other
-        other_at s lt = listed-at n (λ s. pos (2 ^ k.w) -ℤ number o.numbers s) s (pos 0) lt
-
-        other_range : (s : ℕ) → (pos 0 ≤ℤ number other s) × (number other s ≤ℤ pos (2 ^ k.w))
-        other_range s = ⊎_elim
-            (λ (lt : s < n). let at = numbers k o.numbers s ho.numbers in (omega (arith, linear, other_at s lt, at.1), omega (arith, linear, other_at s lt, at.0)))
-            (λ (past : n ≤ s). let at = past_number other s other_size past in (omega (arith, linear, at), omega (arith, linear, at)))
-            (in_or_past s n)
-
-        other_numbers : AreNumbers k other
-        other_numbers = record { size = other_size; range = λ i d lt. subst (λ v. (pos 0 ≤ℤ v) × (v ≤ℤ pos (2 ^ k.w))) (sym (get_or_default other i d (pos 0) lt)) (other_range i) }
-
-        other_means : (s a : ℕ) → a < length (choices k.model s) → is_goal k.model s ≡ false → MeansAtMost k spans (row_at k.model s a) other (number other s)
-        other_means s a lt g c at =
-            let row = row_at k.model s a in
-            let full = whole k.model k.d spans row in
-            let left : ℕ → ℤ = λ t. pos (2 ^ k.w) -ℤ number o.numbers t in
-            let state = choice_inside s a lt in
-            let sums = on_targets s a lt c (number other) left other_at in
-            let value = ap (λ v. v *ℤ full) (other_at s state) in
-            ⊎_elim
-            (λ (ranked : mark o.ranks s < unmarked).
-            let holds : RowHolds k spans o s row = (ho.held s g ranked).rows a [] lt in
-            omega (arith, linear, sums, value, rest_at s a lt c at (number o.numbers) left (λ t. refl), holds.means c at, spread (pos (2 ^ k.w)) (number o.numbers s) full))
-            (λ (off : unmarked ≤ mark o.ranks s).
-            let most = (range k spans s a c other is within (has_row s a lt) other_numbers).1 in
-            let top : number other s ≡ pos (2 ^ k.w) = omega (arith, linear, other_at s state, ho.unranked s g off) in
-            omega (arith, linear, most, ap (λ v. v *ℤ full) top, ap (λ v. pos (2 ^ k.w) *ℤ v) (same_whole s a)))
-            (in_or_past (mark o.ranks s) unmarked)
-
-        avoids : IsAvoiding k spans (mark r.ranks) other
-        avoids = record {
-          numbers = other_numbers;
-          goal = λ s g. omega (arith, linear, other_at s (goal_inside s g), (ho.goal s g).0);
-          lost = λ s lt g off. omega (arith, linear, other_at s lt, ho.unranked s g (none_of s lt off));
-          means = λ s g ranked. rows_of (λ row. MeansAtMost k spans row other (number other s)) s (λ a lt. other_means s a lt g);
-        }
-          where
-            none_of : (s : ℕ) → s < n → unmarked ≤ mark r.ranks s → unmarked ≤ mark o.ranks s
-            none_of s lt off = ⊎_elim
-                (λ (ranked : mark o.ranks s < unmarked). absurd (omega (arith, off, ranked, upto rise within (mark r.ranks) o stages ho (mark o.ranks s) s lt ranked (omega arith))))
-                (λ (le : unmarked ≤ mark o.ranks s). le)
-                (in_or_past (mark o.ranks s) unmarked)
-
-        under : AtMost o.numbers r.numbers
-        under s = ⊎_elim
-            (λ (lt : s < n). omega (arith, linear, h.least other avoids s, other_at s lt, rest.each s lt))
-            (λ (past : n ≤ s). omega (arith, linear, past_number o.numbers s ho.numbers.size past, past_number r.numbers s rest.size past))
-            (in_or_past s n)
+      under : (rise : SumsRise) (o : RejectData) → IsLowerAll k spans o → AtMost o.numbers r.numbers
+      under rise o ho s = ⊎_elim
+          (λ (lt : s < n). omega (arith, linear, h.least (other rise (mark r.ranks) stages o ho) (avoids rise (mark r.ranks) stages o ho) s, other_at rise (mark r.ranks) stages o ho s lt, rest.each s lt))
+          (λ (past : n ≤ s). omega (arith, linear, past_number o.numbers s ho.numbers.size past, past_number r.numbers s rest.size past))
+          (in_or_past s n)
 
 pub stages_are_least : SumsRise → StagesAreLeast
 stages_are_least rise k spans rank o is within stages ho s state ranked = upto k spans is rise within rank o stages ho (mark o.ranks s) s state ranked (omega arith)
+
+pub rest_is_avoiding : NumbersAreInRange → ParametersAreTheRoots → SumsAreInRange → SumsRise → WeightsSumToWhole → RestIsAvoiding
+rest_is_avoiding numbers parameters range rise sum k spans rank o is within stages ho = (
+  other k spans is numbers parameters range sum within rise rank stages o ho,
+  (
+    avoids k spans is numbers parameters range sum within rise rank stages o ho,
+    record { size = other_size k spans is numbers parameters range sum within rise rank stages o ho; each = other_at k spans is numbers parameters range sum within rise rank stages o ho },
+  ),
+)
 
 pub rest_is_greatest : NumbersAreInRange → ParametersAreTheRoots → SumsAreInRange → SumsRise → WeightsSumToWhole → RestIsGreatest
 rest_is_greatest numbers parameters range rise sum k spans z r is within none size marks stages has h rest = record {

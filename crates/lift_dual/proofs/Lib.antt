@@ -9,3 +9,6 @@ mod Apart
 mod Samples
 mod Picking
 mod Bounds
+mod Ranking
+mod Doubling
+mod Greatest

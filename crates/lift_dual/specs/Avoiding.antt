@@ -69,6 +69,11 @@ pub record IsGreatestLowerAll (k : CaseData) (spans : Spans) (r : RejectData) : 
 abbrev pub StagesAreLeast : Type 0
 StagesAreLeast = (k : CaseData) (spans : Spans) (rank : ℕ → ℕ) (o : RejectData) → IsCase k → IsInside k.root spans → AreStagesOfAll k spans rank → IsLowerAll k spans o → (s : ℕ) → s < length k.model.states → mark o.ranks s < unmarked → rank s ≤ mark o.ranks s
 
+-- what is left of a lower vector for every scheduler is avoiding
+abbrev pub RestIsAvoiding : Type 0
+RestIsAvoiding = (k : CaseData) (spans : Spans) (rank : ℕ → ℕ) (o : RejectData) → IsCase k → IsInside k.root spans → AreStagesOfAll k spans rank → IsLowerAll k spans o
+    → (z : List ℤ) × (IsAvoiding k spans rank z × IsRest k o.numbers z)
+
 -- what is left of the least upper vector of what comes to the states that the stages leave without rank is the greatest lower vector for every scheduler
 abbrev pub RestIsGreatest : Type 0
 RestIsGreatest = (k : CaseData) (spans : Spans) (z : List ℤ) (r : RejectData) → IsCase k → IsInside k.root spans

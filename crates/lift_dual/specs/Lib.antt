@@ -7,3 +7,6 @@ pub mod Property
 pub mod Laws
 pub mod Picking
 pub mod Bounds
+pub mod Ranking
+pub mod Rates
+pub mod Greatest

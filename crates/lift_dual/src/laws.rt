@@ -3,7 +3,7 @@ ghost use Rattle.lift_dual.specs.Laws.{LowerAllIsBelowUpperOne, LowerAllsJoin, U
 ghost use Rattle.lift_dual.specs.Laws.{UntilIsReachedByAll, UntilIsBoundedForOne};
 ghost use Rattle.lift_dual.specs.Laws.{UntilIsBoundedForAll, UntilIsReachedByOne};
 ghost use Rattle.lift_dual.specs.Laws.{SidesAreApart, EachHasASide};
-ghost use Rattle.lift_dual.specs.Avoiding.{StagesAreLeast, RestIsGreatest};
+ghost use Rattle.lift_dual.specs.Avoiding.{StagesAreLeast, RestIsAvoiding, RestIsGreatest};
 ghost use Rattle.lift_dual.specs.StagesOfAll.{StartOfAll, NextOfAll, EndOfAll};
 ghost use Rattle.lift_dual.specs.Bounds.{BoundsAreAvoiding, LeastBoundIsAvoiding};
 ghost use Rattle.lift_dual.specs.Bounds.{UpperOneIsBound, BoundIsMet, LeastBoundIsUpperOne};
@@ -51,6 +51,7 @@ pub fn certificates_join()
 /// does nothing.
 pub fn rest_is_greatest()
     ensures stages { StagesAreLeast }
+    ensures avoiding { RestIsAvoiding }
     ensures rest { RestIsGreatest }
 {
     rows_at_corners();

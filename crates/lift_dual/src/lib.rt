@@ -2,9 +2,13 @@
 //! one choice of each state; and what they say of until.
 #![tactic(auto)]
 
+mod all;
 mod laws;
 mod one;
+mod ranks;
+mod rates;
 
+pub use all::{greatest_all, greatest_all_above};
 pub use laws::{
     all_and_one, bounds_are_vectors, certificates_join, plans_are_supported, rest_is_greatest,
     sides_are_apart, stages_of_all, until_is_bounded,
