@@ -3,32 +3,30 @@
 ghost use Rattle.std.specs.Prelude.{◌≤◌, length, IfOk};
 ghost use Rattle.lift_grid.specs.Rectangle.{IsOnGrid, most_halvings};
 
+use crate::cells::Untold;
 use corner_lift::Case;
 use drn_read::read_model;
 use lift_cert::Bound;
+use lift_frac::{Frac, read_ratio};
 use lift_grid::{Grid, Rect, read_region};
 use lift_model::Model;
 use lift_names::Names;
 use lift_rows::admit;
 use std::alloc::Global;
-use std::test::Fail;
 
 /// A coin that shows heads with p.
 pub(crate) const COIN: &[u8] =
     b"@type: DTMC\n@parameters\np\n@model\nstate 0 init\n1 : p\n2 : 1-p\n\
 state 1 heads\n1 : 1\nstate 2\n2 : 1\n";
 
-/// The parameter's interval.
-pub(crate) const REGION: &[u8] = b"1/10<=p<=9/10";
-
 /// The model of a text; its goal states carry the label `heads`.
-pub(crate) fn model_of(alloc: Global, text: &[u8]) -> Result<Model, Fail> {
+pub(crate) fn model_of(alloc: Global, text: &[u8]) -> Result<Model, Untold> {
     if text.len() >= 1 << 31 {
-        return Err(Fail::new("the text is too long"));
+        return Err(Untold::Text(0));
     }
     match read_model(alloc, text, b"heads") {
         Ok(model) => Ok(model),
-        Err(_) => Err(Fail::new("the text stands for no model")),
+        Err(error) => Err(Untold::Text(error.line)),
     }
 }
 
@@ -38,34 +36,42 @@ pub(crate) fn root_of(
     region: &[u8],
     names: &Names,
     depth: u32,
-) -> Result<(Grid, Rect), Fail>
+) -> Result<(Grid, Rect), Untold>
     requires { depth ≤ most_halvings }
     ensures on_grid { IfOk result (λ p. IsOnGrid p.0.d p.0.depth (length names.now) p.1) }
     ensures depth { IfOk result (λ p. p.0.depth ≤ most_halvings) }
 {
     match read_region(alloc, region, names, depth) {
         Ok(root) => Ok(root),
-        Err(_) => Err(Fail::new("the text names no rectangle")),
+        Err(_) => Err(Untold::Text(0)),
     }
 }
 
 /// The case of a model over a root, at precision 4.
-pub(crate) fn case_of<'m>(model: &'m Model, root: &'m Rect, grid: Grid) -> Result<Case<'m>, Fail>
+pub(crate) fn case_of<'m>(model: &'m Model, root: &'m Rect, grid: Grid) -> Result<Case<'m>, Untold>
     requires grid { IsOnGrid grid.d grid.depth (length model.now.names) root.now }
     requires depth { grid.depth ≤ most_halvings }
 {
     match admit(model, root, grid, 4) {
         Ok(case) => Ok(case),
-        Err(_) => Err(Fail::new("a row isn't admitted")),
+        Err(_) => Err(Untold::Cell),
     }
 }
 
-/// The bound 1/2.
-pub(crate) fn half() -> Bound {
-    Bound { num: 1, den: 2 }
+/// The bound of a fraction from 0 to 1.
+fn bound_by(fraction: Frac) -> Option<Bound> {
+    let Frac { num, den } = fraction;
+    if 0 <= num && num <= den && den < 1 << 32 {
+        Some(Bound {
+            num: num as u32,
+            den: den as u32,
+        })
+    } else {
+        None
+    }
 }
 
-/// The bound 1.
-pub(crate) fn one() -> Bound {
-    Bound { num: 1, den: 1 }
+/// The bound that a cell writes.
+pub(crate) fn bound_of(cell: &str) -> Result<Bound, Untold> {
+    read_ratio(cell).and_then(bound_by).ok_or(Untold::Cell)
 }

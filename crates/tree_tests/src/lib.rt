@@ -6,6 +6,8 @@
 #[cfg(test)]
 mod cases;
 #[cfg(test)]
+mod cells;
+#[cfg(test)]
 mod rooms;
 #[cfg(test)]
 mod trees;

@@ -3,7 +3,8 @@
 ghost use Rattle.lift_model.specs.Links.{AreLinks};
 ghost use Rattle.region_tree.specs.Rooms.{IsMadeFor};
 
-use crate::cases::{COIN, REGION, case_of, half, model_of, one, root_of};
+use crate::cases::{COIN, bound_of, case_of, model_of, root_of};
+use crate::cells::{Teller, Untold, cut, each_row, number};
 use corner_lift::Case;
 use lift_base::MemSink;
 use lift_cert::Bound;
@@ -11,7 +12,7 @@ use lift_model::{Links, Model};
 use plift_top::write_report;
 use region_tree::Room;
 use std::alloc::{AllocError, Global};
-use std::test::Fail;
+use std::string::String;
 
 /// The report of the coin for p from 1/10 to 9/10, the bound 1/2, precision 4 and depth 2.
 const REPORT: &[u8] = b"plift 1\nkind dtmc\nparameters 1 p\ncommon 1\nstates 3\ninit 0\ngoal 1 1\n\
@@ -22,9 +23,7 @@ reject e 1 k 1 m 1 b 11/16\ny 11 16 0\nchoice 0 - -\nrank 1 0 -\n";
 
 /// A sink that takes one byte in each call, and whose call of that number fails: none where it is 0.
 fn sink(alloc: Global, failing: u64) -> Result<MemSink, AllocError> {
-    let mut calls = Vec::new(alloc);
-    calls.push(failing)?;
-    MemSink::new(alloc, 1000, 1, calls)
+    MemSink::new(alloc, 1000, 1, Vec::from_slice(alloc, &[failing])?)
 }
 
 /// Whether the report of a case in this room is written whole.
@@ -36,69 +35,92 @@ fn is_written(case: &Case, links: &Links, bound: Bound, room: &mut Room, out: &m
     write_report(case, links, bound, None, room, out).is_ok()
 }
 
-/// Whether the report that a case has is cut off before its last two bytes, where the sink's last call
-/// but one fails, and is afterwards written whole in the same room.
-fn serves_again(alloc: Global, case: &Case, report: &[u8]) -> Result<bool, Fail> {
-    let mut broken = sink(alloc, (report.len() as u64).saturating_sub(1))?;
-    let mut whole = sink(alloc, 0)?;
+/// Whether a case's reports for two bounds are written whole, in one room.
+fn are_written(
+    alloc: Global,
+    case: &Case,
+    bounds: [Bound; 2],
+    first: &mut MemSink,
+    second: &mut MemSink,
+) -> Result<(bool, bool), AllocError> {
     let links = Links::build(alloc, case.model())?;
     let mut room = Room::make(alloc, case, &links)?;
-    let first = is_written(case, &links, half(), &mut room, &mut broken);
-    let second = is_written(case, &links, half(), &mut room, &mut whole);
-    Ok(!first && is_cut_off(broken.taken(), report) && second && whole.taken() == report)
+    let is_first = is_written(case, &links, bounds[0], &mut room, first);
+    let is_second = is_written(case, &links, bounds[1], &mut room, second);
+    Ok((is_first, is_second))
 }
 
-/// Whether the report that a case has for the bound 1/2 is written in a room in which that for the bound 1 was:
-/// rectangles that were accepted for the one say nothing for the other.
-fn serves_other_bound(alloc: Global, case: &Case, report: &[u8]) -> Result<bool, Fail> {
-    let mut other = sink(alloc, 0)?;
-    let mut whole = sink(alloc, 0)?;
-    let links = Links::build(alloc, case.model())?;
-    let mut room = Room::make(alloc, case, &links)?;
-    let first = is_written(case, &links, one(), &mut room, &mut other);
-    let second = is_written(case, &links, half(), &mut room, &mut whole);
-    Ok(first && second && whole.taken() == report)
+/// How many bytes of REPORT are missing; none where what was taken is no front of it.
+fn missing(out: &MemSink) -> Option<usize> {
+    let taken = out.taken();
+    if REPORT.starts_with(taken) {
+        REPORT.len().checked_sub(taken.len())
+    } else {
+        None
+    }
 }
 
-/// Whether the last two bytes of a text are missing.
-fn is_cut_off(taken: &[u8], text: &[u8]) -> bool {
-    text.starts_with(taken) && taken.len().checked_add(2) == Some(text.len())
+/// Whether each of both reports is written whole, and what is missing of it.
+fn written_told(
+    alloc: Global,
+    case: &Case,
+    bounds: [Bound; 2],
+    first: &mut MemSink,
+    second: &mut MemSink,
+) -> Result<String, Untold> {
+    let (is_first, is_second) = are_written(alloc, case, bounds, first, second)?;
+    let (first, second) = (missing(first), missing(second));
+    Ok(format!(in alloc; "{is_first} {first:?}, {is_second} {second:?}")?)
 }
 
-fn serves_again_over(
+/// The same where a call of the first sink fails.
+fn case_told(
+    alloc: Global,
+    case: &Case,
+    bounds: [Bound; 2],
+    failing: u64,
+) -> Result<String, Untold> {
+    let mut first = sink(alloc, failing)?;
+    let mut second = sink(alloc, 0)?;
+    written_told(alloc, case, bounds, &mut first, &mut second)
+}
+
+/// The same of a model over a region, at depth 2.
+fn told_over(
     alloc: Global,
     model: &Model,
     region: &[u8],
-    report: &[u8],
-) -> Result<bool, Fail> {
+    bounds: [Bound; 2],
+    failing: u64,
+) -> Result<String, Untold> {
     let (grid, root) = root_of(alloc, region, model.names(), 2)?;
     let case = case_of(model, &root, grid)?;
-    serves_again(alloc, &case, report)
+    case_told(alloc, &case, bounds, failing)
+}
+
+/// The bound of a first report and which call of its sink fails, none where it is 0; and in turn of the first report and of
+/// that for the bound 1/2, which is written in the same room, whether it is written whole, and how many bytes of REPORT are
+/// missing. Rectangles that were accepted for the bound 1 say nothing for the bound 1/2.
+const ROOMS: &str = "\
+1/2 | 283 | false Some(2), true Some(0)
+1/1 | 0 | true None, true Some(0)";
+
+struct Rooms;
+
+impl Teller for Rooms {
+    type Told = String;
+
+    type Error = Untold;
+
+    fn tell(&self, alloc: Global, asked: &str) -> Result<String, Untold> {
+        let (bound, failing) = cut(asked);
+        let bounds = [bound_of(bound)?, bound_of("1/2")?];
+        let model = model_of(alloc, COIN)?;
+        told_over(alloc, &model, b"1/10<=p<=9/10", bounds, number(failing))
+    }
 }
 
 #[test]
-fn a_room_serves_again(rt: HostRuntime) -> Result<(), Fail> {
-    let alloc = rt.alloc();
-    let model = model_of(alloc, COIN)?;
-    assert!(rt; serves_again_over(alloc, &model, REGION, REPORT)?);
-    Ok(())
-}
-
-fn serves_other_bound_over(
-    alloc: Global,
-    model: &Model,
-    region: &[u8],
-    report: &[u8],
-) -> Result<bool, Fail> {
-    let (grid, root) = root_of(alloc, region, model.names(), 2)?;
-    let case = case_of(model, &root, grid)?;
-    serves_other_bound(alloc, &case, report)
-}
-
-#[test]
-fn a_room_serves_another_bound(rt: HostRuntime) -> Result<(), Fail> {
-    let alloc = rt.alloc();
-    let model = model_of(alloc, COIN)?;
-    assert!(rt; serves_other_bound_over(alloc, &model, REGION, REPORT)?);
-    Ok(())
+fn a_room_serves_twice(rt: HostRuntime) {
+    each_row(&rt, rt.alloc(), ROOMS, &Rooms);
 }

@@ -1,11 +1,18 @@
 //! Trees that are built.
 
-use crate::cases::{COIN, case_of, half, model_of, root_of};
+ghost use Rattle.std.specs.Prelude.{◌≤◌};
+ghost use Rattle.lift_grid.specs.Rectangle.{most_halvings};
+ghost use Rattle.lift_model.specs.Links.{AreLinks};
+
+use crate::cases::{COIN, bound_of, case_of, model_of, root_of};
+use crate::cells::{Teller, Untold, count, cut_two, each_row};
 use corner_lift::Case;
+use lift_cert::Bound;
 use lift_model::{Links, Model};
 use region_tree::{Branch, build};
-use std::alloc::Global;
-use std::test::Fail;
+use std::alloc::{AllocError, Global};
+use std::fmt::Write;
+use std::string::String;
 
 /// The coin with the bound 1/2, at precision 4: p's interval, the depth, the least precision, and the tree in preorder.
 /// A decided leaf has its precision before it. One that accepts has the numbers of the states, and one that rejects e
@@ -20,73 +27,33 @@ const TREES: &str = "\
 1/10<=p<=2/5 | 0 | 3 | at 3 accept 4 8 0 |
 1/10<=p<=9/10 | 3 | 1 | split 0 at 1 accept 1 2 0 split 0 split 0 unknown at 4 reject 1 1 9 16 0 0 4294967295 4294967295 1 0 4294967295 at 3 reject 1 1 5 8 0 0 4294967295 4294967295 1 0 4294967295 |";
 
-/// A row of the table.
-#[derive(Clone, Copy)]
-struct Row<'t> {
-    region: &'t str,
-    depth: u32,
-    from: u32,
-    tree: &'t str,
-}
-
-/// What stands before a bar, and what behind it.
-fn parted<'t>(text: &'t str) -> (&'t str, &'t str) {
-    text.split_once(" | ").unwrap_or(("", ""))
-}
-
-fn row_of<'t>(line: &'t str) -> Result<Row<'t>, Fail> {
-    let (region, rest) = parted(line);
-    let (depth, rest) = parted(rest);
-    let (from, tree) = parted(rest);
-    Ok(Row {
-        region,
-        depth: depth.parse()?,
-        from: from.parse()?,
-        tree,
-    })
-}
-
-/// What follows these numbers, where the text begins with them.
-fn after_values<'t>(text: &'t str, values: &[i64]) -> Option<&'t str> {
-    let mut rest = text;
-    for value in values {
-        let (word, behind) = rest.split_once(' ')?;
-        if word.parse().ok() != Some(*value) {
-            return None;
-        }
-        rest = behind;
+/// Tells numbers, each with a blank behind it.
+fn tell_numbers(told: &mut String, numbers: &[i64]) -> Result<(), AllocError> {
+    for number in numbers {
+        write!(told, "{number} ")?;
     }
-    Some(rest)
+    Ok(())
 }
 
-/// The same for counts, picks and ranks.
-fn after_marks<'t>(text: &'t str, marks: &[u32]) -> Option<&'t str> {
-    let mut rest = text;
+/// The same for picks and ranks.
+fn tell_marks(told: &mut String, marks: &[u32]) -> Result<(), AllocError> {
     for mark in marks {
-        let (word, behind) = rest.split_once(' ')?;
-        if word.parse().ok() != Some(*mark) {
-            return None;
-        }
-        rest = behind;
+        write!(told, "{mark} ")?;
     }
-    Some(rest)
+    Ok(())
 }
 
-/// What follows a leaf's precision, where the text begins with it.
-fn after_precision<'t>(text: &'t str, u: u32) -> Option<&'t str> {
-    after_marks(text.strip_prefix("at ")?, &[u])
-}
-
-/// What follows a tree's words, where the text begins with them.
-fn after_tree<'t>(text: &'t str, branch: &Branch) -> Option<&'t str> {
+/// Tells a tree, each word with a blank behind it.
+fn tell_tree(told: &mut String, branch: &Branch) -> Result<(), AllocError> {
     match branch {
         Branch::Split { axis, lower, upper } => {
-            let rest = after_marks(text.strip_prefix("split ")?, &[*axis])?;
-            after_tree(after_tree(rest, lower)?, upper)
+            write!(told, "split {axis} ")?;
+            tell_tree(told, lower)?;
+            tell_tree(told, upper)
         }
         Branch::Accept { u, x } => {
-            let rest = after_precision(text, *u)?;
-            after_values(rest.strip_prefix("accept ")?, x.as_slice())
+            write!(told, "at {u} accept ")?;
+            tell_numbers(told, x.as_slice())
         }
         Branch::Reject {
             u,
@@ -96,41 +63,82 @@ fn after_tree<'t>(text: &'t str, branch: &Branch) -> Option<&'t str> {
             picks,
             ranks,
         } => {
-            let rest = after_precision(text, *u)?;
-            let rest = after_marks(rest.strip_prefix("reject ")?, &[*e, *k])?;
-            let rest = after_values(rest, y.as_slice())?;
-            after_marks(after_marks(rest, picks.as_slice())?, ranks.as_slice())
+            write!(told, "at {u} reject {e} {k} ")?;
+            tell_numbers(told, y.as_slice())?;
+            tell_marks(told, picks.as_slice())?;
+            tell_marks(told, ranks.as_slice())
         }
-        Branch::Unknown => text.strip_prefix("unknown "),
+        Branch::Unknown => told.push_str("unknown "),
     }
 }
 
-/// Whether the tree of a case, for the precisions from that one on, is the one that the text tells.
-fn is_built(alloc: Global, case: &Case, from: u32, text: &str) -> Result<bool, Fail> {
+/// A tree with a bar behind it.
+fn shown(alloc: Global, branch: &Branch) -> Result<String, AllocError> {
+    let mut told = String::new(alloc);
+    tell_tree(&mut told, branch)?;
+    told.push('|')?;
+    Ok(told)
+}
+
+/// The tree of a case for a bound and the precisions from that one on.
+fn tree_told(
+    alloc: Global,
+    case: &Case,
+    links: &Links,
+    bound: Bound,
+    from: u32,
+) -> Result<String, Untold>
+    requires links { AreLinks case.now.model links.now }
+    requires from { (1 ≤ from) × (from ≤ case.now.w) }
+{
+    let tree = build(alloc, case, links, bound, from)?;
+    Ok(shown(alloc, tree.top())?)
+}
+
+/// The same for the bound 1/2.
+fn case_told(alloc: Global, case: &Case, from: u32) -> Result<String, Untold> {
     if from < 1 || from > case.w() {
-        return Ok(false);
+        return Err(Untold::Cell);
     }
+    let bound = bound_of("1/2")?;
     let links = Links::build(alloc, case.model())?;
-    let tree = build(alloc, case, &links, half(), from)?;
-    Ok(after_tree(text, tree.top()) == Some("|"))
+    tree_told(alloc, case, &links, bound, from)
 }
 
-/// The same for a model, as a row tells.
-fn is_built_over(alloc: Global, model: &Model, row: Row) -> Result<bool, Fail> {
-    if row.depth > 20 {
-        return Ok(false);
-    }
-    let (grid, root) = root_of(alloc, row.region.as_bytes(), model.names(), row.depth)?;
+/// The same of a model over a region, at a depth.
+fn told_over(
+    alloc: Global,
+    model: &Model,
+    region: &[u8],
+    depth: u32,
+    from: u32,
+) -> Result<String, Untold>
+    requires { depth ≤ most_halvings }
+{
+    let (grid, root) = root_of(alloc, region, model.names(), depth)?;
     let case = case_of(model, &root, grid)?;
-    is_built(alloc, &case, row.from, row.tree)
+    case_told(alloc, &case, from)
+}
+
+struct Trees;
+
+impl Teller for Trees {
+    type Told = String;
+
+    type Error = Untold;
+
+    fn tell(&self, alloc: Global, asked: &str) -> Result<String, Untold> {
+        let (region, depth, from) = cut_two(asked);
+        let depth = count(depth);
+        if depth > 20 {
+            return Err(Untold::Cell);
+        }
+        let model = model_of(alloc, COIN)?;
+        told_over(alloc, &model, region.as_bytes(), depth, count(from))
+    }
 }
 
 #[test]
-fn builds_the_tree(rt: HostRuntime) -> Result<(), Fail> {
-    let alloc = rt.alloc();
-    let model = model_of(alloc, COIN)?;
-    for line in TREES.split('\n') {
-        assert!(rt; is_built_over(alloc, &model, row_of(line)?)?, "{line}");
-    }
-    Ok(())
+fn builds_the_tree(rt: HostRuntime) {
+    each_row(&rt, rt.alloc(), TREES, &Trees);
 }
