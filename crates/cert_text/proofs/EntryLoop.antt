@@ -1,9 +1,10 @@
 -- Reading entries one after the other, with a mark for each target.
-use Rattle.std.proofs.Common.{◌≡◌, ℕ, suc, ◌+◌, ◌-◌, ◌<◌, ◌≤◌, Bool, true, false, List, [], ◌∷◌, ◌++◌, length, map, reverse, set, get_or, Result, Ok, Err, Option, Some, None, codes, refl, sym, ap, ◌∙◌, append_assoc, append-nil, arith}
+use Rattle.std.proofs.Common.{◌≡◌, ℕ, suc, ◌+◌, ◌-◌, ◌<◌, ◌≤◌, Bool, true, false, List, [], ◌∷◌, ◌++◌, length, map, replicate, reverse, set, get_or, Result, Ok, Err, Option, Some, None, codes, refl, sym, ap, ◌∙◌, append_assoc, append-nil, arith}
 use Rattle.std.specs.Prelude.{ℤ, pos, negsuc, not, nat_eq, nat_le, nat_lt, ◌&&◌, ◌==◌, ◌||◌}
 use Rattle.std.specs.Prelude.{All}
 use Rattle.std.specs.List.{list_any}
 use Rattle.std.proofs.lemmas.List.{get_or-set_same, get_or-set_other, length-set, map-append, reverse-append}
+use Rattle.std.proofs.lemmas.List.Elements.{All-replicate}
 use Rattle.std.proofs.lemmas.Bool.{ltb-true, eqb-true, eqb-false}
 use Rattle.lift_model.specs.declared.entry.Entry.{Entry}
 use Rattle.lift_poly.specs.Polynomial.{Term}
@@ -14,6 +15,7 @@ use Rattle.line_text.specs.Words.{words, number_of, pair_of}
 use Rattle.line_text.specs.Parts.{Words, Read, must, first, spelled, keyed, each, between, count_of}
 use Rattle.cert_text.specs.Lines.{entry_of, most_terms, terms_in}
 use Rattle.cert_text.specs.Head.{entries_at}
+use Rattle.cert_text.specs.Recent.{ReadsEntries}
 use Rattle.cert_text.specs.Shown.{entry_in, entry_by, terms_of, has_mark, AreMarked, targets_back}
 
 and_right : (a b : Bool) → (a && b) ≡ true → b ≡ true
@@ -95,7 +97,16 @@ line_is states parameters mark marks before c size marked = by_due (due c)
     by_due (Err e) = refl
     by_due (Ok l) = ap (λ r. at c.0 r >>= behind l.1) (entry_is states parameters mark marks before (words l.0) size marked)
 
+-- what the next entry's line reads, by the marks of what entries are read by
+pub marked_line : (r : ReadsEntries) (states parameters : ℕ) (before : List ℕ) (c : Cursor) → length r.marks ≡ states → r.parameters ≡ parameters → AreMarked r.mark r.marks before → line_at (entry_of states parameters before) c ≡ line_at (entry_by (length r.marks) r.parameters (has_mark r.mark r.marks)) c
+marked_line r states parameters before c size same marked =
+    ap (λ n. line_at (entry_of n parameters before) c) (sym size) ∙ ap (λ n. line_at (entry_of (length r.marks) n before) c) (sym same) ∙ sym (line_is (length r.marks) r.parameters r.mark r.marks before c refl marked)
+
 -- ---- marks
+
+-- at first no mark is above 0
+pub unmarked : (n : ℕ) → All (λ m. m ≤ 0) (replicate n 0)
+unmarked n = All-replicate (λ m. m ≤ 0) n 0 (omega arith)
 
 same_mark : (m : ℕ) → (m == m) ≡ true
 same_mark m = by_test (m == m) refl

@@ -1,34 +1,21 @@
 -- Reading the rows of a state one after the other, and those of all states.
-use Rattle.std.proofs.Common.{◌≡◌, ◌≢◌, ℕ, zero, suc, ◌-◌, ◌+◌, ◌≤◌, ◌<◌, ◌^◌, Bool, true, false, List, [], ◌∷◌, ◌++◌, length, replicate, Result, Ok, Err, refl, sym, ap, ◌∙◌, append-nil, arith}
-use Rattle.std.specs.Prelude.{All}
+use Rattle.std.proofs.Common.{◌≡◌, ◌≢◌, ℕ, zero, suc, ◌-◌, ◌+◌, ◌≤◌, ◌<◌, ◌^◌, Bool, true, false, List, [], ◌∷◌, ◌++◌, length, Result, Ok, Err, refl, sym, ap, ◌∙◌, append-nil, arith}
 use Rattle.std.specs.List.{sum_by}
 use Rattle.std.proofs.lemmas.List.{length-append}
 use Rattle.std.proofs.lemmas.List.Sums.{sum_by_push}
-use Rattle.std.proofs.lemmas.List.Elements.{All-weaker, All-replicate, All-same}
 use Rattle.lift_model.specs.declared.entry.Entry.{Entry}
 use Rattle.lift_model.specs.declared.kind.Kind.{Kind}
 use Rattle.lift_model.specs.declared.kind.Kind.TheVariants.{Dtmc, Mdp}
-use Rattle.lift_model.specs.Valid.{most_choices}
 use Rattle.line_text.specs.declared.error.TextError.{TextError}
 use Rattle.line_text.specs.Reading.{◌>>=◌, Cursor, line_at, at, due}
 use Rattle.line_text.specs.Words.{words}
 use Rattle.cert_text.specs.Lines.{row_of}
 use Rattle.cert_text.specs.Head.{entries_at, row_at, further_at, is_row_of, behind_first, state_at, states_at}
-use Rattle.cert_text.specs.Rows.{row_due, row_mark, Leaves}
+use Rattle.cert_text.specs.Rows.{row_due, Leaves}
 use Rattle.cert_text.specs.declared.rows.Left.{Left}
 use Rattle.cert_text.proofs.Inverting.{bind_is, at_is}
 use Rattle.cert_text.proofs.FirstLines.{reads_row}
 use Rattle.cert_text.proofs.EntryLoop.{with_front, regroup}
-
--- ---- marks
-
--- a row's mark is below that of the next row
-pub marks_below : (choices : ℕ) (marks : List ℕ) → choices ≤ most_choices → 0 < choices → All (λ m. m ≤ row_mark choices) marks → All (λ m. m < row_mark (choices - 1)) marks
-marks_below choices marks most some h = All-weaker (λ m. m ≤ row_mark choices) (λ m. m < row_mark (choices - 1)) (λ m low. omega (arith, low, most, some)) marks h
-
--- no mark is one of a row
-pub marks_none : (n : ℕ) (marks : List ℕ) → marks ≡ replicate n 0 → All (λ m. m < row_mark most_choices) marks
-marks_none n marks e = All-same (λ m. m < row_mark most_choices) marks (replicate n 0) e (All-replicate (λ m. m < row_mark most_choices) n 0 (omega arith))
 
 -- ---- the rows of a state
 

@@ -1,5 +1,6 @@
--- The polynomials that a reader keeps with their texts. No public clause rests on it.
-use Rattle.std.specs.Prelude.{◌≡◌, ℕ, List, All, Ok}
+-- What a reader of entries keeps: the polynomials of texts, and marks of states. No public clause rests on it.
+use Rattle.std.specs.Prelude.{◌≡◌, ◌≤◌, ℕ, List, All, Ok, length}
+use Rattle.lift_model.specs.Valid.{most_parameters, most_states}
 use Rattle.lift_poly.specs.Polynomial.{Term}
 use Rattle.line_text.specs.Words.{words}
 use Rattle.cert_text.specs.Shown.{terms_of}
@@ -16,3 +17,16 @@ IsKnown parameters k = terms_of parameters (words k.text.items) ≡ Ok (Ok k.pol
 -- reading each text gives its polynomial
 abbrev pub AreKnown : ℕ → List Known → Type 0
 AreKnown parameters texts = All (IsKnown parameters) texts
+
+-- what entries are read by: the number of parameters, each state's mark, and the mark of the row whose entries are read
+pub record ReadsEntries : Type 0 where
+  pub parameters : ℕ
+  pub marks : List ℕ
+  pub mark : ℕ
+
+-- the sizes are within limits, each text is kept with its polynomial, and no state has a later row's mark
+pub record IsEntryReader (texts : List Known) (r : ReadsEntries) : Type 0 where
+  pub parameters : r.parameters ≤ most_parameters
+  pub states : length r.marks ≤ most_states
+  pub known : AreKnown r.parameters texts
+  pub low : All (λ m. m ≤ r.mark) r.marks

@@ -1,13 +1,12 @@
 // The terms of an entry.
-ghost use Rattle.std.specs.Prelude.{◌≡◌, ◌≤◌, ◌<◌, ◌^◌, ◌++◌, ◌∷◌, [], Ok, None, Some, pos, length, not, All, IfOk, IfSome};
+ghost use Rattle.std.specs.Prelude.{◌≡◌, ◌≤◌, ◌<◌, ◌+◌, [], Ok, None, Some, pos, length, not, replicate, set, All, IfOk, IfSome};
 ghost use Rattle.line_text.specs.Reading.{line_at};
 ghost use Rattle.cert_text.specs.Head.{entries_at};
 ghost use Rattle.line_text.specs.Parts.{between};
 ghost use Rattle.line_text.specs.Shown.{Says};
 ghost use Rattle.line_text.specs.Follow.{Follows};
-ghost use Rattle.lift_model.specs.Valid.{most_parameters, most_states};
-ghost use Rattle.cert_text.specs.Recent.{AreKnown};
-ghost use Rattle.cert_text.specs.Shown.{AreMarked, coefficient_in, entry_by, entry_in, has_mark, targets_back, terms_of, set_in, term_first, term_in};
+ghost use Rattle.lift_model.specs.Valid.{most_choices, most_parameters, most_states};
+ghost use Rattle.cert_text.specs.Shown.{coefficient_in, entry_by, entry_in, has_mark, terms_of, set_in, term_first, term_in};
 
 use crate::head_lines::{counted, is_above, short_counted};
 use crate::known::KnownTerms;
@@ -17,7 +16,7 @@ use lift_poly::MultiAffine;
 use line_text::{
     Decimal, FileError, TextCause, Words, between, calls_add_up, due, fault, take_line,
 };
-use std::alloc::Global;
+use std::alloc::{AllocError, Global};
 
 /// How many parameters an entry has at most.
 const MOST_ROW_PARAMETERS: u32 = 4;
@@ -219,39 +218,6 @@ fn is_free(marks: &[u32], mark: u32, s: u64) -> bool
     marks[s as usize] != mark
 }
 
-/// The entry with that target and the terms that words write. A state with that mark is taken.
-#[inline(never)]
-fn entry_in(
-    alloc: Global,
-    known: &mut KnownTerms,
-    target: &Decimal,
-    words: Words,
-    marks: &[u32],
-    mark: u32,
-    parameters: u32,
-) -> Result<Entry, TextCause>
-    requires states { length marks.now ≤ most_states }
-    requires parameters { parameters ≤ most_parameters }
-    requires known { AreKnown parameters known.old.texts.items }
-    ensures value { Says (λ e. e) result
-        (entry_in (length marks.now) parameters (has_mark mark marks.now) target.now words.entry) }
-    ensures range { IfOk result (λ e. e.target < length marks.now) }
-    ensures known { AreKnown parameters known.new.texts.items }
-{
-    let poly = known.terms(alloc, words, parameters)?;
-    let target = between(target, 0, marks.len() as u64)?;
-    if !is_free(marks, mark, target) {
-        return Err(TextCause::Syntax);
-    }
-    match poly {
-        Ok(poly) => Ok(Entry {
-            target: target as u32,
-            poly,
-        }),
-        Err(cause) => Err(cause),
-    }
-}
-
 /// The number, if it is below that end.
 fn below(n: u64, end: u64) -> Result<u64, TextCause>
     ensures value { Says (λ n. n) result (between 0 end (pos n)) }
@@ -264,131 +230,181 @@ fn below(n: u64, end: u64) -> Result<u64, TextCause>
     }
 }
 
-/// The entry with a target of few digits, and the terms that words write.
-#[inline(always)]
-fn short_entry(
+/// Reads the entries of rows, one row after another. It keeps the terms that were read last, and for each state the
+/// mark of the last row that leads to it.
+#[derive(Drop)]
+pub(crate) struct EntryReader {
     alloc: Global,
-    known: &mut KnownTerms,
-    target: u64,
-    words: Words,
-    marks: &[u32],
-    mark: u32,
     parameters: u32,
-) -> Result<Entry, TextCause>
-    requires states { length marks.now ≤ most_states }
-    requires parameters { parameters ≤ most_parameters }
-    requires known { AreKnown parameters known.old.texts.items }
-    ensures value { Says (λ e. e) result
-        (entry_in (length marks.now) parameters (has_mark mark marks.now) (pos target) words.entry) }
-    ensures range { IfOk result (λ e. e.target < length marks.now) }
-    ensures known { AreKnown parameters known.new.texts.items }
-{
-    let poly = known.terms(alloc, words, parameters)?;
-    let target = below(target, marks.len() as u64)?;
-    if !is_free(marks, mark, target) {
-        return Err(TextCause::Syntax);
-    }
-    match poly {
-        Ok(poly) => Ok(Entry {
-            target: target as u32,
-            poly,
-        }),
-        Err(cause) => Err(cause),
-    }
+    known: KnownTerms,
+    marks: Vec<u32>,
+    mark: u32,
 }
 
-/// The entry that the words of its line tell.
-fn entry_by(
-    alloc: Global,
-    known: &mut KnownTerms,
-    words: &Words,
-    marks: &[u32],
-    mark: u32,
-    parameters: u32,
-) -> Result<Entry, TextCause>
-    requires states { length marks.now ≤ most_states }
-    requires parameters { parameters ≤ most_parameters }
-    requires known { AreKnown parameters known.old.texts.items }
-    ensures value { Says (λ e. e) result
-        (entry_by (length marks.now) parameters (has_mark mark marks.now) words.now) }
-    ensures range { IfOk result (λ e. e.target < length marks.now) }
-    ensures known { AreKnown parameters known.new.texts.items }
-{
-    if let Some((target, rest)) = short_counted(words, b"to") {
-        return short_entry(alloc, known, target, rest, marks, mark, parameters);
+impl std::marker::Model for EntryReader {
+    ghost use Rattle.cert_text.specs.Recent.{ReadsEntries, IsEntryReader};
+
+    ghost Value = { ReadsEntries };
+
+    ghost view = { λ r. record { parameters = r.parameters; marks = r.marks.items; mark = r.mark } };
+
+    ghost invariant = { λ r. IsEntryReader r.known.texts.items
+        (record { parameters = r.parameters; marks = r.marks.items; mark = r.mark }) };
+}
+
+impl EntryReader {
+    /// No row was read yet.
+    #[tactic(auto, using(crate::proofs::EntryLoop::unmarked))]
+    pub fn new(alloc: Global, states: u32, parameters: u32) -> Result<Self, AllocError>
+        requires states { states ≤ most_states }
+        requires parameters { parameters ≤ most_parameters }
+        ensures { IfOk result (λ r. r ≡ record { parameters = parameters; marks = replicate states 0; mark = 0 }) }
+    {
+        Ok(EntryReader {
+            alloc,
+            parameters,
+            known: KnownTerms::new(alloc),
+            marks: vec![in alloc; 0u32; states as usize]?,
+            mark: 0,
+        })
     }
-    let (target, rest) = counted(words, b"to")?;
-    entry_in(alloc, known, &target, rest, marks, mark, parameters)
-}
 
-/// The line that is due, as an entry.
-fn entry_line<S: Source>(
-    alloc: Global,
-    known: &mut KnownTerms,
-    lines: &mut Lines,
-    src: &mut S,
-    marks: &[u32],
-    mark: u32,
-    parameters: u32,
-) -> Result<Entry, FileError>
-    requires states { length marks.now ≤ most_states }
-    requires parameters { parameters ≤ most_parameters }
-    requires known { AreKnown parameters known.old.texts.items }
-    ensures value { Follows S.left S.faults (λ x. x)
-        (line_at (entry_by (length marks.now) parameters (has_mark mark marks.now)))
-        lines.old lines.new src.old src.new result }
-    ensures range { IfOk result (λ x. x.target < length marks.now) }
-    ensures known { AreKnown parameters known.new.texts.items }
-{
-    due(lines, src)?;
-    let read = entry_by(
-        alloc,
-        known,
-        &Words::of(lines.line()),
-        marks,
-        mark,
-        parameters,
-    );
-    take_line(lines, read)
-}
+    /// How many states there are.
+    pub fn states(&self) -> u32
+        ensures { result ≡ length self.now.marks }
+    {
+        self.marks.len() as u32
+    }
 
-/// So many entries, whose targets differ. Their marks are set, where no mark was so great.
-pub(crate) fn entries<S: Source>(
-    alloc: Global,
-    known: &mut KnownTerms,
-    lines: &mut Lines,
-    src: &mut S,
-    marks: &mut [u32],
-    mark: u32,
-    parameters: u32,
-    count: u32,
-) -> Result<Vec<Entry>, FileError>
-    requires ready { lines.old.failure ≡ None }
-    requires states { length marks.old ≤ most_states }
-    requires parameters { parameters ≤ most_parameters }
-    requires known { AreKnown parameters known.old.texts.items }
-    requires free { All (λ m. m < mark) marks.old }
-    ensures value { Follows S.left S.faults (λ x. x.items)
-        (entries_at (length marks.old) parameters [] count) lines.old lines.new src.old src.new result }
-    ensures size { length marks.new ≡ length marks.old }
-    ensures marks { All (λ m. m ≤ mark) marks.new }
-    ensures known { AreKnown parameters known.new.texts.items }
-{
-    calls_add_up::<S>();
-    let Ok(mut entries) = Vec::with_capacity(alloc, count as usize) else {
-        return Err(fault(lines, TextCause::Memory));
-    };
-    for _ in 0..count {
-        match entry_line(alloc, known, lines, src, marks, mark, parameters) {
-            Ok(entry) => {
-                marks[entry.target as usize] = mark;
-                match entries.push(entry) {
-                    Ok(()) => {}
-                    Err(_) => return Err(fault(lines, TextCause::Memory)),
-                }
-            }
-            Err(error) => return Err(error),
+    /// The entry with that target and the terms that words write. A state that the row leads to is taken.
+    #[inline(never)]
+    fn entry_in(&mut self, target: &Decimal, words: Words) -> Result<Entry, TextCause>
+        ensures value { Says (λ e. e) result
+            (entry_in (length self.old.marks) self.old.parameters (has_mark self.old.mark self.old.marks) target.now words.entry) }
+        ensures range { IfOk result (λ e. e.target < length self.old.marks) }
+        ensures same { self.new ≡ self.old }
+    {
+        let poly = self.known.terms(self.alloc, words, self.parameters)?;
+        let target = between(target, 0, self.marks.len() as u64)?;
+        if !is_free(&self.marks, self.mark, target) {
+            return Err(TextCause::Syntax);
+        }
+        match poly {
+            Ok(poly) => Ok(Entry {
+                target: target as u32,
+                poly,
+            }),
+            Err(cause) => Err(cause),
         }
     }
-    Ok(entries)
+
+    /// The entry with a target of few digits, and the terms that words write.
+    #[inline(always)]
+    fn short_entry(&mut self, target: u64, words: Words) -> Result<Entry, TextCause>
+        ensures value { Says (λ e. e) result
+            (entry_in (length self.old.marks) self.old.parameters (has_mark self.old.mark self.old.marks) (pos target) words.entry) }
+        ensures range { IfOk result (λ e. e.target < length self.old.marks) }
+        ensures same { self.new ≡ self.old }
+    {
+        let poly = self.known.terms(self.alloc, words, self.parameters)?;
+        let target = below(target, self.marks.len() as u64)?;
+        if !is_free(&self.marks, self.mark, target) {
+            return Err(TextCause::Syntax);
+        }
+        match poly {
+            Ok(poly) => Ok(Entry {
+                target: target as u32,
+                poly,
+            }),
+            Err(cause) => Err(cause),
+        }
+    }
+
+    /// The entry that the words of its line tell.
+    fn entry_by(&mut self, words: &Words) -> Result<Entry, TextCause>
+        ensures value { Says (λ e. e) result
+            (entry_by (length self.old.marks) self.old.parameters (has_mark self.old.mark self.old.marks) words.now) }
+        ensures range { IfOk result (λ e. e.target < length self.old.marks) }
+        ensures same { self.new ≡ self.old }
+    {
+        if let Some((target, rest)) = short_counted(words, b"to") {
+            return self.short_entry(target, rest);
+        }
+        let (target, rest) = counted(words, b"to")?;
+        self.entry_in(&target, rest)
+    }
+
+    /// The line that is due, as an entry.
+    fn entry_line<S: Source>(&mut self, lines: &mut Lines, src: &mut S) -> Result<Entry, FileError>
+        ensures value { Follows S.left S.faults (λ x. x)
+            (line_at (entry_by (length self.old.marks) self.old.parameters (has_mark self.old.mark self.old.marks)))
+            lines.old lines.new src.old src.new result }
+        ensures range { IfOk result (λ x. x.target < length self.old.marks) }
+        ensures same { self.new ≡ self.old }
+    {
+        due(lines, src)?;
+        let read = self.entry_by(&Words::of(lines.line()));
+        take_line(lines, read)
+    }
+
+    /// The row leads to that state.
+    fn mark_target(&mut self, target: u32)
+        requires { target < length self.old.marks }
+        ensures { self.new ≡ record self.old { marks = set self.old.marks target self.old.mark } }
+    {
+        self.marks[target as usize] = self.mark;
+    }
+
+    /// The next row begins, which leads to no state yet.
+    fn begin_row(&mut self)
+        requires { self.old.mark < most_choices }
+        ensures value { self.new ≡ record self.old { mark = self.old.mark + 1 } }
+        ensures free { All (λ m. m < self.new.mark) self.new.marks }
+    {
+        self.mark += 1;
+    }
+
+    /// Room for so many entries.
+    fn room(&self, count: u32) -> Result<Vec<Entry>, AllocError>
+        ensures { IfOk result (λ x. x.items ≡ []) }
+    {
+        Vec::with_capacity(self.alloc, count as usize)
+    }
+
+    /// The entries of the next row, so many, whose targets differ.
+    pub fn read<S: Source>(
+        &mut self,
+        lines: &mut Lines,
+        src: &mut S,
+        count: u32,
+    ) -> Result<Vec<Entry>, FileError>
+        requires ready { lines.old.failure ≡ None }
+        requires mark { self.old.mark < most_choices }
+        ensures value { Follows S.left S.faults (λ x. x.items)
+            (entries_at (length self.old.marks) self.old.parameters [] count)
+            lines.old lines.new src.old src.new result }
+        ensures count { IfOk result (λ x. length x.items ≡ count) }
+        ensures states { length self.new.marks ≡ length self.old.marks }
+        ensures parameters { self.new.parameters ≡ self.old.parameters }
+        ensures mark { self.new.mark ≡ self.old.mark + 1 }
+    {
+        calls_add_up::<S>();
+        self.begin_row();
+        let Ok(mut entries) = self.room(count) else {
+            return Err(fault(lines, TextCause::Memory));
+        };
+        for _ in 0..count {
+            match self.entry_line(lines, src) {
+                Ok(entry) => {
+                    self.mark_target(entry.target);
+                    match entries.push(entry) {
+                        Ok(()) => {}
+                        Err(_) => return Err(fault(lines, TextCause::Memory)),
+                    }
+                }
+                Err(error) => return Err(error),
+            }
+        }
+        Ok(entries)
+    }
 }

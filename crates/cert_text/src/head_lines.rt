@@ -8,6 +8,7 @@ ghost use Rattle.lift_frac.specs.Gcd.{gcd};
 ghost use Rattle.line_text.specs.Shown.{Says};
 ghost use Rattle.cert_text.specs.Shown.{comes_first};
 
+use crate::rows::Left;
 use lift_bytes::is_name;
 use lift_cert::Bound;
 use lift_frac::gcd;
@@ -168,16 +169,16 @@ pub(crate) fn goal_of(alloc: Global, states: u32, words: &Words) -> Result<Vec<b
     Ok(flags)
 }
 
-/// How many entries a row has, where so many transitions are left and a choice is.
-fn count_in(number: &Decimal, choices: u32, transitions: u32) -> Result<u32, TextCause>
-    ensures value { Says (λ n. n) result (count_in choices transitions number.now) }
-    ensures some { IfOk result (λ _. 0 < choices) }
+/// How many entries a row has, where so many choices and transitions are left.
+fn count_in(number: &Decimal, left: Left) -> Result<u32, TextCause>
+    ensures value { Says (λ n. n) result (count_in left.choices left.transitions number.now) }
+    ensures some { IfOk result (λ _. 0 < left.choices) }
 {
     if number.is_below_zero() {
         return Err(TextCause::Syntax);
     }
     match number.narrow() {
-        Some(n) if choices > 0 && n <= i128::from(transitions) => Ok(n as u32),
+        Some(n) if left.choices > 0 && n <= i128::from(left.transitions) => Ok(n as u32),
         _ => Err(TextCause::Limit),
     }
 }
@@ -202,41 +203,39 @@ fn short_numbers(words: &Words) -> Option<(u64, u64, u64)>
 /// How many entries the row of state s and choice a has, by numbers of few digits; none where its line
 /// doesn't tell it so.
 #[tactic(auto, using(crate::proofs::FirstNumbers::row_is))]
-fn short_row(words: &Words, s: u32, a: u32, choices: u32, transitions: u32) -> Option<u32>
-    ensures value { IfSome result (λ n. row_of s a choices transitions words.now ≡ Ok n) }
-    ensures some { IfSome result (λ _. 0 < choices) }
+fn short_row(words: &Words, s: u32, a: u32, left: Left) -> Option<u32>
+    ensures value { IfSome result (λ n. row_of s a left.choices left.transitions words.now ≡ Ok n) }
+    ensures some { IfSome result (λ _. 0 < left.choices) }
 {
     let (state, choice, count) = short_numbers(words)?;
     if state != u64::from(s) || choice != u64::from(a) {
         return None;
     }
-    if choices == 0 || count > u64::from(transitions) {
+    if left.choices == 0 || count > u64::from(left.transitions) {
         return None;
     }
     Some(count as u32)
 }
 
-/// How many entries the row of state s and choice a has, where so many choices and transitions are
-/// left.
+/// How many entries the row of state s and choice a has, where so many choices and transitions are left.
 pub(crate) fn row_of(
     alloc: Global,
     words: &Words,
     s: u32,
     a: u32,
-    choices: u32,
-    transitions: u32,
+    left: Left,
 ) -> Result<u32, TextCause>
-    ensures value { Says (λ n. n) result (row_of s a choices transitions words.now) }
-    ensures some { IfOk result (λ _. 0 < choices) }
+    ensures value { Says (λ n. n) result (row_of s a left.choices left.transitions words.now) }
+    ensures some { IfOk result (λ _. 0 < left.choices) }
 {
-    if let Some(count) = short_row(words, s, a, choices, transitions) {
+    if let Some(count) = short_row(words, s, a, left) {
         return Ok(count);
     }
     let numbers = numbers_of(alloc, words, b"row")?;
     match numbers.as_slice() {
         [state, choice, count] => {
             if is_number(state, u64::from(s)) && is_number(choice, u64::from(a)) {
-                count_in(count, choices, transitions)
+                count_in(count, left)
             } else {
                 Err(TextCause::Syntax)
             }

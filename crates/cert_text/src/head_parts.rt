@@ -16,7 +16,7 @@ use crate::head_reader::Head;
 use crate::number_line::number_line;
 use crate::parameters::parameters_of;
 use crate::precisions::Precisions;
-use crate::rows::states;
+use crate::rows::{Shape, states};
 use lift_base::{Lines, Source};
 use lift_cert::Bound;
 use lift_grid::{Grid, Rect};
@@ -151,7 +151,7 @@ fn from_line<S: Source>(
     if !second {
         return Ok(None);
     }
-    let v = number_line(alloc, lines, src, b"from", 1, u64::from(w) + 1)?;
+    let v = number_line(alloc, lines, src, b"from", 1..u64::from(w) + 1)?;
     Ok(Some(v as u32))
 }
 
@@ -193,16 +193,21 @@ pub(crate) fn parts_at<S: Source>(
     let kind = kind_line(lines, src)?;
     let names = parameters_line(alloc, lines, src)?;
     let parameters = names.len();
-    let common = number_line(alloc, lines, src, b"common", 1, NUMBER_LIMIT)?;
-    let count = number_line(alloc, lines, src, b"states", 1, MOST_STATES + 1)?;
-    let init = number_line(alloc, lines, src, b"init", 0, count)?;
+    let common = number_line(alloc, lines, src, b"common", 1..NUMBER_LIMIT)?;
+    let count = number_line(alloc, lines, src, b"states", 1..MOST_STATES + 1)?;
+    let init = number_line(alloc, lines, src, b"init", 0..count)?;
     let goal = goal_line(alloc, lines, src, count as u32)?;
-    let states = states(alloc, lines, src, kind, count as u32, parameters)?;
+    let shape = Shape {
+        kind,
+        states: count as u32,
+        parameters,
+    };
+    let states = states(alloc, lines, src, shape)?;
     let bound = bound_line(lines, src)?;
-    let w = number_line(alloc, lines, src, b"precision", 1, MOST_PRECISION + 1)?;
+    let w = number_line(alloc, lines, src, b"precision", 1..MOST_PRECISION + 1)?;
     let from = from_line(alloc, lines, src, second, w as u32)?;
-    let depth = number_line(alloc, lines, src, b"depth", 0, MOST_HALVINGS + 1)?;
-    let d = number_line(alloc, lines, src, b"grid", 1, NUMBER_LIMIT)?;
+    let depth = number_line(alloc, lines, src, b"depth", 0..MOST_HALVINGS + 1)?;
+    let d = number_line(alloc, lines, src, b"grid", 1..NUMBER_LIMIT)?;
     let root = box_line(alloc, lines, src, parameters, depth as u32)?;
     Ok(Parts {
         kind,

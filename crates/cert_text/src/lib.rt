@@ -2,7 +2,6 @@
 //! writers take no memory.
 #![tactic(auto)]
 
-mod at_precision;
 mod box_line;
 mod entry_line;
 mod head;
@@ -11,6 +10,7 @@ mod head_parts;
 mod head_reader;
 mod known;
 mod laws;
+mod leaf_reader;
 mod marks;
 mod migrate;
 mod model;
