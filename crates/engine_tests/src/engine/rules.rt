@@ -1,6 +1,6 @@
 //! Tests of least bounds by a rule.
 
-ghost use Rattle.std.specs.Prelude.{◌≤◌};
+ghost use Rattle.std.specs.Prelude.{◌≡◌, ◌≤◌, length};
 ghost use Rattle.lift_grid.specs.Rectangle.{spans_of, sides_of};
 ghost use Rattle.corner_lift.specs.Case.{most_precision};
 ghost use Rattle.rounded_iter.specs.Watching.{CanIterate};
@@ -66,6 +66,8 @@ fn tell_bound(
 ) -> Result<(), AllocError>
     requires { CanIterate rows.now.case rows.now.links (spans_of (sides_of rows.now.case.root)) rows.now.weights
         lanes.old.numbers.items lanes.old.work.items }
+    ensures numbers { length lanes.new.numbers.items ≡ length lanes.old.numbers.items }
+    ensures work { length lanes.new.work.items ≡ length lanes.old.work.items }
 {
     if least_bound(rows, rule, limit, &mut lanes.numbers, &mut lanes.work) {
         write!(told, "{:?}", lanes.numbers)
