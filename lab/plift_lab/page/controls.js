@@ -57,9 +57,9 @@ function redraw() {
   requestAnimationFrame(() => {
     due = false;
     const { seen, counts } = plot.draw(), whole = seen[0] + seen[1] + seen[2];
-    rows(byId('shares'), ['', 'leaves', 'of the region', 'seen', 'of the picture'], NAMES.map((name, kind) => [
+    rows(byId('shares'), ['', 'leaves', 'of the region', 'of the picture'], NAMES.map((name, kind) => [
       name, data.counts[kind].toLocaleString('en'), [data.shares[kind].percent, data.shares[kind].exact],
-      counts[kind].toLocaleString('en'), percent(whole ? seen[kind] / whole : 0)]));
+      [percent(whole ? seen[kind] / whole : 0), `${counts[kind].toLocaleString('en')} seen`]]));
     document.documentElement.dataset.drawn = Math.round(performance.now());
   });
 }
