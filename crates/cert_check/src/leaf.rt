@@ -14,7 +14,7 @@ ghost use Rattle.cert_check.specs.Shown.{IsSplitTold, Misses, reject_of};
 
 use crate::error::CheckError;
 use corner_lift::{Case, fill, live_parameters_have_spans};
-use lift_cert::{Bound, is_accepting, is_rejecting, meets_accept, meets_reject};
+use lift_cert::{Bound, Certificate, is_accepting, is_rejecting, meets_accept, meets_reject};
 use lift_grid::split_axis;
 use lift_model::Links;
 
@@ -90,10 +90,8 @@ impl Asked<'_> {
         ensures { IsTrue result ↔ IsRejecting self.now.case spans self.now.bound (reject_of leaf.now) }
     {
         fill(&self.case, self.links, sides, weights);
-        is_rejecting(
-            &self.case, self.links, weights, self.bound, leaf.y, leaf.picks, leaf.ranks, leaf.e,
-            leaf.k,
-        )
+        let certificate = Certificate::new(leaf.y, leaf.picks, leaf.ranks, leaf.e, leaf.k);
+        is_rejecting(&self.case, self.links, weights, self.bound, &certificate)
     }
 
     /// Tests the certificate of a rejecting leaf. What the weights were is lost.

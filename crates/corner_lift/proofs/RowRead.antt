@@ -1,14 +1,16 @@
 -- A row as it is read: all that its place and its targets tell of it.
-use Rattle.std.proofs.Common.{◌≡◌, ℕ, ◌<◌, List, ℤ, arith, ◌∙◌, length, refl}
+use Rattle.std.proofs.Common.{◌≡◌, ℕ, ◌<◌, List, [], ◌∷◌, ℤ, arith, ◌∙◌, length, refl, sym}
 use Rattle.std.proofs.lemmas.Nat.{pow_pos}
 use Rattle.lift_grid.specs.Rectangle.{Spans}
 use Rattle.lift_model.specs.declared.layout.RowPlace.{RowPlace}
 use Rattle.lift_model.specs.Model.{row_at}
 use Rattle.lift_model.specs.Links as links
-use Rattle.lift_model.specs.Links.{LinksData, targets_of}
+use Rattle.lift_model.specs.Links.{LinksData, ArePlaces, targets_of}
+use Rattle.lift_model.specs.declared.only_row.PairRow.{PairRow}
+use Rattle.lift_model.specs.OnlyRow.{IsPairRow}
 use Rattle.corner_lift.specs.Case.{CaseData, IsCase, row_parameters, row_whole}
 use Rattle.corner_lift.specs.Premises.{Premises}
-use Rattle.corner_lift.specs.Table.{CanRead}
+use Rattle.corner_lift.specs.Table.{CanRead, IsTable}
 use Rattle.corner_lift.specs.ReadRow.{IsReadRow}
 use Rattle.corner_lift.proofs.Reading as reading
 
@@ -33,3 +35,12 @@ row_read laws k l spans weights s a is can place place_is targets same =
       can_sum = λ n lt x range. rw same (reading.can_sum laws k l spans weights s a is can place placed n (omega (arith, lt, corners)) x 1 (pow_pos k.w) range);
       lane = λ x numbers small. rw same (reading.lane_at_corners laws k l spans weights s a is can place placed x numbers small);
     }
+
+-- the only row of a state, which has two entries
+pub pair_read : Premises → (k : CaseData) (l : LinksData) (spans : Spans) (weights : List ℤ) (s : ℕ) → IsCase k → ArePlaces k.model l
+    → IsTable k l spans weights → s < length k.model.states
+    → (p : PairRow) → IsPairRow k.model l s p → IsReadRow k spans weights s 0 (links.place l s 0) (p.first ∷ p.second ∷ [])
+pair_read laws k l spans weights s is places table state p pair =
+    let can : CanRead k l spans weights s 0 = record
+    { places = places; table = table; row = record { state = state; choice = omega (arith, pair.only) } } in
+    row_read laws k l spans weights s 0 is can (links.place l s 0) refl (p.first ∷ p.second ∷ []) (sym pair.targets)

@@ -2,6 +2,7 @@
 #![tactic(auto)]
 
 mod case;
+mod corner_table;
 mod ends;
 mod laws;
 mod lifted;
@@ -16,6 +17,7 @@ mod weighted;
 mod within;
 
 pub use case::Case;
+pub use corner_table::{AtCorner, CornerTable, Others, Weighed};
 pub use laws::{
     corners_bound_weights, halves_are_inside, live_parameters_have_spans,
     lower_precisions_are_cases, rows_at_corners, rows_inside,
@@ -29,7 +31,6 @@ pub use quotient::{
 pub use rate::is_enough;
 pub use row::{raw_weight, row_max, row_min, row_value, weight_into, whole};
 pub use table::{
-    AtCorner, Others, Weighed, fill, has_short_sums, table_corner, table_greatest, table_into,
-    table_least, table_loop, table_max, table_min, table_others, table_value, table_whole,
+    fill, has_short_sums, table_into, table_max, table_min, table_others, table_value, table_whole,
 };
-pub use within::{is_capped, is_held, least_into};
+pub use within::least_into;

@@ -13,13 +13,12 @@ ghost use Rattle.corner_lift.specs.Paired.{IsWholeOver};
 ghost use Rattle.corner_lift.specs.Lifted.{IsLiftedTo, StandsAt, lifted};
 
 use crate::case::Case;
+use crate::corner_table::{AtCorner, CornerTable, Weighed};
+use crate::laws::premises;
 use crate::paired::{LaneSum, PairTable};
 use crate::precision::one_at;
-use crate::table::{
-    AtCorner, Weighed, table_corner, table_greatest, table_into, table_least, table_value,
-    table_whole,
-};
-use crate::within::is_held;
+use crate::table::{table_into, table_value, table_whole};
+use crate::within::is_below;
 use lift_model::{Links, Model, OnlyRow, PairRow};
 
 /// A case lifted to a rectangle: the case, what is looked up of its model, and the weights of its rows at the corners of
@@ -94,6 +93,14 @@ impl<'a> Lifted<'a> {
         ensures { result.now ≡ self.now.case.model }
     {
         self.case.model()
+    }
+
+    /// The table of the rectangle, without what is quickly looked up.
+    #[inline(always)]
+    pub fn table(&self) -> CornerTable<'_>
+        ensures { result ≡ self.now }
+    {
+        CornerTable::new(self.case, self.links, self.pairs.weights())
     }
 
     /// The weights of all rows at the corners of the rectangle.
@@ -245,7 +252,18 @@ impl Lifted<'_> {
         ensures bound { IfSome result (λ row. BoundsAbove self.now.case spans s a vec.now (row.sum *ℤ row.scale)) }
         ensures whole { IfSome result (IsWholeOver self.now.case s a) }
     {
-        self.pairs.greatest(self.case, self.links, s, a, vec)
+        premises();
+        let row = self.table().row(s, a);
+        if row.targets.len() != 2 {
+            return None;
+        }
+        let pair = self
+            .pairs
+            .pair(row.place.weights, row.place.corners, row.w)?;
+        let first = vec[row.targets[0] as usize];
+        let second = vec[row.targets[1] as usize];
+        let sum = self.pairs.greatest_sum(pair, first, second);
+        Some(pair.summed(sum))
     }
 
     /// The same of the only row of a state, which has two entries.
@@ -261,7 +279,13 @@ impl Lifted<'_> {
         ensures bound { IfSome result (λ row. BoundsAbove self.now.case spans s 0 vec.now (row.sum *ℤ row.scale)) }
         ensures whole { IfSome result (IsWholeOver self.now.case s 0) }
     {
-        self.pairs.greatest_of(self.case, self.links, s, row, vec)
+        premises();
+        let w = self.case.w();
+        let pair = self.pairs.pair(row.weights, row.corners, w)?;
+        let first = vec[row.first as usize];
+        let second = vec[row.second as usize];
+        let sum = self.pairs.greatest_sum(pair, first, second);
+        Some(pair.summed(sum))
     }
 
     /// The least sum of a row over its corners, and its whole, if it has two entries and is quickly looked up.
@@ -276,7 +300,18 @@ impl Lifted<'_> {
         ensures bound { IfSome result (λ row. BoundsBelow self.now.case spans s a vec.now (row.sum *ℤ row.scale)) }
         ensures whole { IfSome result (IsWholeOver self.now.case s a) }
     {
-        self.pairs.least(self.case, self.links, s, a, vec)
+        premises();
+        let row = self.table().row(s, a);
+        if row.targets.len() != 2 {
+            return None;
+        }
+        let pair = self
+            .pairs
+            .pair(row.place.weights, row.place.corners, row.w)?;
+        let first = vec[row.targets[0] as usize];
+        let second = vec[row.targets[1] as usize];
+        let sum = self.pairs.least_sum(pair, first, second);
+        Some(pair.summed(sum))
     }
 
     /// The same of the only row of a state, which has two entries.
@@ -292,7 +327,13 @@ impl Lifted<'_> {
         ensures bound { IfSome result (λ row. BoundsBelow self.now.case spans s 0 vec.now (row.sum *ℤ row.scale)) }
         ensures whole { IfSome result (IsWholeOver self.now.case s 0) }
     {
-        self.pairs.least_of(self.case, self.links, s, row, vec)
+        premises();
+        let w = self.case.w();
+        let pair = self.pairs.pair(row.weights, row.corners, w)?;
+        let first = vec[row.first as usize];
+        let second = vec[row.second as usize];
+        let sum = self.pairs.least_sum(pair, first, second);
+        Some(pair.summed(sum))
     }
 
     /// The least weight of a row into states of rank below `below` over its corners, and its whole, if it has two entries
@@ -308,8 +349,17 @@ impl Lifted<'_> {
             (corner_count self.now.case s a) (row.sum *ℤ row.scale)) }
         ensures whole { IfSome result (IsWholeOver self.now.case s a) }
     {
-        self.pairs
-            .least_into(self.case, self.links, s, a, ranks, below)
+        let row = self.table().row(s, a);
+        if row.targets.len() != 2 {
+            return None;
+        }
+        let pair = self
+            .pairs
+            .pair(row.place.weights, row.place.corners, row.w)?;
+        let first = is_below(ranks, row.targets[0], below);
+        let second = is_below(ranks, row.targets[1], below);
+        let sum = self.pairs.counted_sum(pair, first, second);
+        Some(pair.summed(sum))
     }
 
     /// The same of the only row of a state, which has two entries.
@@ -341,7 +391,7 @@ impl Lifted<'_> {
         ensures bound { BoundsAbove self.now.case spans s a vec.now result.sum }
         ensures whole { IsWhole self.now.case s a result.whole }
     {
-        table_greatest(self.case, self.links, self.pairs.weights(), s, a, vec)
+        self.table().greatest(s, a, vec)
     }
 
     /// The whole of a row, and its least sum over the corners. One multiplication for each entry and corner.
@@ -355,7 +405,7 @@ impl Lifted<'_> {
         ensures bound { BoundsBelow self.now.case spans s a vec.now result.sum }
         ensures whole { IsWhole self.now.case s a result.whole }
     {
-        table_least(self.case, self.links, self.pairs.weights(), s, a, vec)
+        self.table().least(s, a, vec)
     }
 
     /// What a row weighs at a corner: a weighted sum, the whole, and the weight of its self loop. One multiplication for
@@ -371,15 +421,7 @@ impl Lifted<'_> {
         ensures whole { IsWhole self.now.case s a result.whole }
         ensures own { result.own ≡ loop_weight self.now.case spans s a corner }
     {
-        table_corner(
-            self.case,
-            self.links,
-            self.pairs.weights(),
-            s,
-            a,
-            corner,
-            vec,
-        )
+        self.table().corner(s, a, corner, vec)
     }
 
     /// The weighted sum of a row at a corner. One multiplication for each entry.
@@ -448,14 +490,6 @@ impl Lifted<'_> {
         ensures { IsTrue result ↔ ((c : ℕ) → c < corner_count self.now.case s a
             → (number *ℤ row_whole self.now.case s a) ≤ℤ row_value self.now.case spans s a vec.now c) }
     {
-        is_held(
-            self.case,
-            self.links,
-            self.pairs.weights(),
-            s,
-            a,
-            vec,
-            number,
-        )
+        self.table().is_held(s, a, vec, number)
     }
 }

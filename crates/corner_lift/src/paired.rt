@@ -7,8 +7,8 @@ ghost use Rattle.lift_model.specs.Model.{row_at};
 ghost use Rattle.lift_model.specs.Links.{ArePlaces};
 ghost use Rattle.lift_model.specs.OnlyRow.{IsPairRow};
 ghost use Rattle.corner_lift.specs.Corner.{corner_sum};
-ghost use Rattle.corner_lift.specs.Certificate.{AreNumbers, mark, ranked_below};
-ghost use Rattle.corner_lift.specs.Case.{IsGreatest, IsLeast, BoundsAbove, BoundsBelow, row_value, corner_count, most_precision};
+ghost use Rattle.corner_lift.specs.Certificate.{mark, ranked_below};
+ghost use Rattle.corner_lift.specs.Case.{IsLeast, corner_count, most_precision};
 ghost use Rattle.corner_lift.specs.Table.{CanRead};
 ghost use Rattle.corner_lift.specs.Dot.{lane_limit};
 ghost use Rattle.corner_lift.specs.Pairs.{AreCorners, HasLane, HasPair, IsGreatestPair, IsLeastPair, one_where, pair_whole};
@@ -17,7 +17,6 @@ ghost use Rattle.corner_lift.specs.Paired.{IsPairOf, IsNoneOrPair, IsLaneOf, IsW
 use crate::case::Case;
 use crate::laws::premises;
 use crate::pairs::{greatest_first, is_lower, least_first, rise_of};
-use crate::table::read_row;
 use crate::within::is_below;
 use lift_model::{Links, PairRow, RowPlace};
 
@@ -78,7 +77,7 @@ impl LaneSum {
 impl Pair {
     /// A sum of the row, with its whole.
     #[inline(always)]
-    fn summed(self, sum: i64) -> LaneSum
+    pub(crate) fn summed(self, sum: i64) -> LaneSum
         ensures sum { result.sum ≡ sum }
         ensures whole { (result.whole ≡ self.whole) × (result.scale ≡ self.scale) }
     {
@@ -258,7 +257,7 @@ impl<'a> PairTable<'a> {
 
     /// What is looked up of the row of two entries that stands at that place, if 64 bits hold its sums.
     #[inline(always)]
-    fn pair(&self, at: u32, corners: u32, w: u32) -> Option<Pair>
+    pub(crate) fn pair(&self, at: u32, corners: u32, w: u32) -> Option<Pair>
         requires some { 1 ≤ corners }
         requires precision { w ≤ most_precision }
         ensures place { IfSome result (λ p. (p.at ≡ at) × (p.corners ≡ corners)) }
@@ -275,7 +274,7 @@ impl<'a> PairTable<'a> {
     /// The greatest sum of a row that is looked up over its corners, by the least and the greatest weight of its first
     /// entry.
     #[inline(always)]
-    fn greatest_sum(&self, pair: Pair, first: i64, second: i64) -> i64
+    pub(crate) fn greatest_sum(&self, pair: Pair, first: i64, second: i64) -> i64
         requires pair { IsPairOf self.now pair }
         requires corners { AreCorners (pair_block self.now pair) (pair.whole *ℤ pair.scale) }
         requires first { HasLane pair.whole first }
@@ -290,7 +289,7 @@ impl<'a> PairTable<'a> {
 
     /// The least sum of such a row.
     #[inline(always)]
-    fn least_sum(&self, pair: Pair, first: i64, second: i64) -> i64
+    pub(crate) fn least_sum(&self, pair: Pair, first: i64, second: i64) -> i64
         requires pair { IsPairOf self.now pair }
         requires corners { AreCorners (pair_block self.now pair) (pair.whole *ℤ pair.scale) }
         requires first { HasLane pair.whole first }
@@ -305,7 +304,7 @@ impl<'a> PairTable<'a> {
 
     /// The least weight over the corners of those of the two entries of such a row that count.
     #[inline(always)]
-    fn counted_sum(&self, pair: Pair, first: bool, second: bool) -> i64
+    pub(crate) fn counted_sum(&self, pair: Pair, first: bool, second: bool) -> i64
         requires pair { IsPairOf self.now pair }
         requires corners { AreCorners (pair_block self.now pair) (pair.whole *ℤ pair.scale) }
         requires room { unsigned_abs pair.whole < lane_limit }
@@ -319,145 +318,8 @@ impl<'a> PairTable<'a> {
         }
     }
 
-    /// The greatest sum of a row over its corners, if it has two entries and is quickly looked up.
-    #[inline(always)]
-    pub fn greatest(
-        &self,
-        case: &Case,
-        links: &Links,
-        s: u32,
-        a: u32,
-        vec: &[i64],
-    ) -> Option<LaneSum>
-        ghost spans: { Spans }
-        requires { CanRead case.now links.now spans self.now s a × AreNumbers case.now vec.now }
-        ensures greatest { IfSome result (λ row.
-            IsGreatest (row_value case.now spans s a vec.now) (corner_count case.now s a) (row.sum *ℤ row.scale)) }
-        ensures bound { IfSome result (λ row. BoundsAbove case.now spans s a vec.now (row.sum *ℤ row.scale)) }
-        ensures whole { IfSome result (IsWholeOver case.now s a) }
-    {
-        premises();
-        let w = case.w();
-        let (place, targets) = read_row(case, links, self.weights, s, a);
-        if targets.len() != 2 {
-            return None;
-        }
-        let pair = self.pair(place.weights, place.corners, w)?;
-        let first = vec[targets[0] as usize];
-        let second = vec[targets[1] as usize];
-        let sum = self.greatest_sum(pair, first, second);
-        Some(pair.summed(sum))
-    }
-
-    /// The same of the only row of a state that has two entries.
-    #[inline(always)]
-    pub fn greatest_of(
-        &self,
-        case: &Case,
-        links: &Links,
-        s: u32,
-        row: PairRow,
-        vec: &[i64],
-    ) -> Option<LaneSum>
-        ghost spans: { Spans }
-        requires can { CanRead case.now links.now spans self.now s 0 × AreNumbers case.now vec.now }
-        requires row { IsPairRow case.now.model links.now s row }
-        ensures greatest { IfSome result (λ row.
-            IsGreatest (row_value case.now spans s 0 vec.now) (corner_count case.now s 0) (row.sum *ℤ row.scale)) }
-        ensures bound { IfSome result (λ row. BoundsAbove case.now spans s 0 vec.now (row.sum *ℤ row.scale)) }
-        ensures whole { IfSome result (IsWholeOver case.now s 0) }
-    {
-        premises();
-        let w = case.w();
-        let pair = self.pair(row.weights, row.corners, w)?;
-        let first = vec[row.first as usize];
-        let second = vec[row.second as usize];
-        let sum = self.greatest_sum(pair, first, second);
-        Some(pair.summed(sum))
-    }
-
-    /// The least sum of a row over its corners, if it has two entries and is quickly looked up.
-    #[inline(always)]
-    pub fn least(&self, case: &Case, links: &Links, s: u32, a: u32, vec: &[i64]) -> Option<LaneSum>
-        ghost spans: { Spans }
-        requires { CanRead case.now links.now spans self.now s a × AreNumbers case.now vec.now }
-        ensures least { IfSome result (λ row.
-            IsLeast (row_value case.now spans s a vec.now) (corner_count case.now s a) (row.sum *ℤ row.scale)) }
-        ensures bound { IfSome result (λ row. BoundsBelow case.now spans s a vec.now (row.sum *ℤ row.scale)) }
-        ensures whole { IfSome result (IsWholeOver case.now s a) }
-    {
-        premises();
-        let w = case.w();
-        let (place, targets) = read_row(case, links, self.weights, s, a);
-        if targets.len() != 2 {
-            return None;
-        }
-        let pair = self.pair(place.weights, place.corners, w)?;
-        let first = vec[targets[0] as usize];
-        let second = vec[targets[1] as usize];
-        let sum = self.least_sum(pair, first, second);
-        Some(pair.summed(sum))
-    }
-
-    /// The same of the only row of a state that has two entries.
-    #[inline(always)]
-    pub fn least_of(
-        &self,
-        case: &Case,
-        links: &Links,
-        s: u32,
-        row: PairRow,
-        vec: &[i64],
-    ) -> Option<LaneSum>
-        ghost spans: { Spans }
-        requires can { CanRead case.now links.now spans self.now s 0 × AreNumbers case.now vec.now }
-        requires row { IsPairRow case.now.model links.now s row }
-        ensures least { IfSome result (λ row.
-            IsLeast (row_value case.now spans s 0 vec.now) (corner_count case.now s 0) (row.sum *ℤ row.scale)) }
-        ensures bound { IfSome result (λ row. BoundsBelow case.now spans s 0 vec.now (row.sum *ℤ row.scale)) }
-        ensures whole { IfSome result (IsWholeOver case.now s 0) }
-    {
-        premises();
-        let w = case.w();
-        let pair = self.pair(row.weights, row.corners, w)?;
-        let first = vec[row.first as usize];
-        let second = vec[row.second as usize];
-        let sum = self.least_sum(pair, first, second);
-        Some(pair.summed(sum))
-    }
-
-    /// The least weight of a row into states of rank below `below` over its corners, if it has two entries and is
-    /// quickly looked up.
-    #[inline(always)]
-    pub fn least_into(
-        &self,
-        case: &Case,
-        links: &Links,
-        s: u32,
-        a: u32,
-        ranks: &[u32],
-        below: u32,
-    ) -> Option<LaneSum>
-        ghost spans: { Spans }
-        requires { CanRead case.now links.now spans self.now s a × (length ranks.now ≡ length case.now.model.states) }
-        ensures least { IfSome result (λ row.
-            IsLeast (λ c. corner_sum case.now.d spans (row_at case.now.model s a) c (ranked_below (mark ranks.now) below))
-            (corner_count case.now s a) (row.sum *ℤ row.scale)) }
-        ensures whole { IfSome result (IsWholeOver case.now s a) }
-    {
-        let w = case.w();
-        let (place, targets) = read_row(case, links, self.weights, s, a);
-        if targets.len() != 2 {
-            return None;
-        }
-        let pair = self.pair(place.weights, place.corners, w)?;
-        let first = is_below(ranks, targets[0], below);
-        let second = is_below(ranks, targets[1], below);
-        let sum = self.counted_sum(pair, first, second);
-        Some(pair.summed(sum))
-    }
-
-    /// The same of the only row of a state that has two entries.
+    /// The least weight of the only row of a state, which has two entries, into states of rank below `below` over its
+    /// corners, and its whole, if it is quickly looked up.
     #[inline(always)]
     pub fn least_into_of(
         &self,

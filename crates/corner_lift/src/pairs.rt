@@ -6,8 +6,9 @@ ghost use Rattle.corner_lift.specs.Case.{most_precision, engine_limit};
 ghost use Rattle.corner_lift.specs.Dot.{lane_limit};
 ghost use Rattle.corner_lift.specs.Pairs.{HasPair, pair_sum, pair_whole, AreCorners, ArePairs, ArePairsAtMost, IsLeastFirst, IsGreatestFirst, IsLeastPair, IsGreatestPair, IsPairNumber, HasRoom, one_where, FitsProducts, FitsPair, FitPairs};
 
+use crate::corner_table::Weighed;
 use crate::row::{greater, lesser};
-use crate::table::{Weighed, is_narrow, times};
+use crate::table::{is_narrow, times};
 use lift_model::RowPlace;
 
 /// The weights of a row at all its corners.

@@ -74,16 +74,25 @@ pub fn whole(case: &Case, s: u32, a: u32) -> i128
     times_power(model.common(), case.grid().d, support.count_ones())
 }
 
+/// The corners of a row over a rectangle.
+#[derive(Drop)]
+struct Corners<'a> {
+    /// The rectangle's sides.
+    sides: &'a [i64],
+    /// The row's parameters.
+    support: u16,
+}
+
 /// The weighted sum over a row at a corner.
-fn value_at(case: &Case, sides: &[i64], row: &Row, support: u16, corner: u32, vec: &[i64]) -> i128
+fn value_at(case: &Case, row: &Row, corners: &Corners, corner: u32, vec: &[i64]) -> i128
     requires case { IsCase case.now }
-    requires sides { AreSidesInside case.now.root sides.now }
+    requires sides { AreSidesInside case.now.root corners.now.sides.now }
     requires row { IsRowOf case.now row.now }
-    requires support { support ≡ support_of row.now }
+    requires support { corners.now.support ≡ support_of row.now }
     requires numbers { AreNumbers case.now vec.now }
-    ensures { result ≡ corner_sum case.now.d (spans_of sides.now) row.now corner (number vec.now) }
+    ensures { result ≡ corner_sum case.now.d (spans_of corners.now.sides.now) row.now corner (number vec.now) }
 {
-    let ends = Ends::at(sides, support, corner);
+    let ends = Ends::at(corners.sides, corners.support, corner);
     sum_of(case, row, &ends, vec)
 }
 
@@ -100,7 +109,8 @@ pub fn row_value(case: &Case, sides: &[i64], s: u32, a: u32, corner: u32, vec: &
     ensures { result ≡ row_value case.now (spans_of sides.now) s a vec.now corner }
 {
     let row = case.model().row(s, a);
-    value_at(case, sides, row, row.support(), corner, vec)
+    let support = row.support();
+    value_at(case, row, &Corners { sides, support }, corner, vec)
 }
 
 /// The greater of two numbers.
@@ -136,9 +146,10 @@ pub fn row_max(case: &Case, sides: &[i64], s: u32, a: u32, vec: &[i64]) -> i128
     weighted_sums_follow();
     let row = case.model().row(s, a);
     let support = row.support();
-    let mut greatest = value_at(case, sides, row, support, 0, vec);
+    let corners = Corners { sides, support };
+    let mut greatest = value_at(case, row, &corners, 0, vec);
     for corner in 1..1u32 << support.count_ones() {
-        let value = value_at(case, sides, row, support, corner, vec);
+        let value = value_at(case, row, &corners, corner, vec);
         greatest = greater(greatest, value);
     }
     greatest
@@ -157,9 +168,10 @@ pub fn row_min(case: &Case, sides: &[i64], s: u32, a: u32, vec: &[i64]) -> i128
     weights_follow();
     let row = case.model().row(s, a);
     let support = row.support();
-    let mut least = value_at(case, sides, row, support, 0, vec);
+    let corners = Corners { sides, support };
+    let mut least = value_at(case, row, &corners, 0, vec);
     for corner in 1..1u32 << support.count_ones() {
-        let value = value_at(case, sides, row, support, corner, vec);
+        let value = value_at(case, row, &corners, corner, vec);
         least = lesser(least, value);
     }
     least

@@ -8,44 +8,24 @@ ghost use Rattle.corner_lift.specs.Corner.{corner_sum};
 ghost use Rattle.corner_lift.specs.Certificate.{AreNumbers, mark, ranked_below};
 ghost use Rattle.corner_lift.specs.Case.{number, IsCase, IsRowOf, AreSidesInside, IsGreatest, IsLeast, BoundsAbove, BoundsBelow, row_value, row_whole, corner_count, abs_sum, engine_limit, most_precision, most_row_parameters};
 ghost use Rattle.corner_lift.specs.Ends.{weight_at, greatest_end, IsPair};
-ghost use Rattle.corner_lift.specs.Table.{block, IsTable, CanRead, IsWhole, HasShortSums, loop_weight};
+ghost use Rattle.corner_lift.specs.Table.{block, IsTable, CanRead, HasShortSums, loop_weight};
 ghost use Rattle.corner_lift.specs.Dot.{dot, total, corner_part, only_at, but_at, CanSum, CanCompare, FitsLane, FitsLaneAtCorners};
-ghost use Rattle.corner_lift.specs.ReadRow.{IsReadRow};
 
 use crate::case::Case;
+use crate::corner_table::{CornerTable, Others};
 use crate::ends::Ends;
 use crate::laws::premises;
-use crate::pairs::{block_of, greater_in_lane, greatest_pair, least_pair, lesser_in_lane};
+use crate::pairs::{greater_in_lane, lesser_in_lane};
 use crate::row::{greater, lesser};
 use lift_model::{Links, Row, RowPlace};
 
-/// A weighted sum of a row, and its whole: what the weights alone sum to, at each corner.
-#[derive(Clone, Copy)]
-pub struct Weighed {
-    /// The sum.
-    pub sum: i128,
-    /// The whole, at least 1.
-    pub whole: i128,
-}
-
-/// What a row weighs at one of its corners: a weighted sum, the whole, and the weight of its self loop.
-#[derive(Clone, Copy)]
-pub struct AtCorner {
-    /// The sum.
-    pub sum: i128,
-    /// The whole, at least 1.
-    pub whole: i128,
-    /// The weight into the state that has the row.
-    pub own: i128,
-}
-
-/// What a row weighs at one of its corners into other states than its own: a weighted sum, and the weights alone.
-#[derive(Clone, Copy)]
-pub struct Others {
-    /// The sum, at least 0.
-    pub sum: i64,
-    /// What the weights alone sum to, at least 0.
-    pub whole: i64,
+/// Two corners of a row that differ at most in the end of the row's first parameter.
+#[derive(Drop)]
+struct CornerPair {
+    /// The one with its low end.
+    low: Ends,
+    /// The one with its high end.
+    high: Ends,
 }
 
 /// Writes the weights of a row at a corner.
@@ -85,23 +65,22 @@ fn joined(present: i128, absent: i128, end: i64, d: i64) -> i128
 fn fill_pair(
     case: &Case,
     row: &Row,
-    low: &Ends,
-    high: &Ends,
+    pair: &CornerPair,
     low_weights: &mut [i128],
     high_weights: &mut [i128],
 )
-    requires pair { IsPair low.now high.now }
-    requires low_room { abs_sum row.now * (greatest_end case.now.d low.now ^ length low.now * 2 ^ case.now.w) < engine_limit }
-    requires high_room { abs_sum row.now * (greatest_end case.now.d high.now ^ length high.now * 2 ^ case.now.w) < engine_limit }
+    requires pair { IsPair pair.now.low pair.now.high }
+    requires low_room { abs_sum row.now * (greatest_end case.now.d pair.now.low ^ length pair.now.low * 2 ^ case.now.w) < engine_limit }
+    requires high_room { abs_sum row.now * (greatest_end case.now.d pair.now.high ^ length pair.now.high * 2 ^ case.now.w) < engine_limit }
     requires low_space { length low_weights.old ≡ length row.now }
     requires high_space { length high_weights.old ≡ length row.now }
-    ensures low { low_weights.new ≡ map (λ entry. weight_at case.now.d low.now entry.poly) row.now }
-    ensures high { high_weights.new ≡ map (λ entry. weight_at case.now.d high.now entry.poly) row.now }
+    ensures low { low_weights.new ≡ map (λ entry. weight_at case.now.d pair.now.low entry.poly) row.now }
+    ensures high { high_weights.new ≡ map (λ entry. weight_at case.now.d pair.now.high entry.poly) row.now }
 {
     let d = case.grid().d;
-    let (parameter, low_end) = low.first();
-    let (_, high_end) = high.first();
-    let rest = low.rest();
+    let (parameter, low_end) = pair.low.first();
+    let (_, high_end) = pair.high.first();
+    let rest = pair.low.rest();
     let mut at = 0;
     for entry in row.entries() {
         let (present, absent) = rest.parts(parameter, d, &entry.poly);
@@ -112,31 +91,31 @@ fn fill_pair(
 }
 
 /// Writes the weights of a row at two corners that differ in one parameter, the one behind the other.
-fn fill_both(case: &Case, row: &Row, low: &Ends, high: &Ends, weights: &mut [i128])
-    requires pair { IsPair low.now high.now }
-    requires low_room { abs_sum row.now * (greatest_end case.now.d low.now ^ length low.now * 2 ^ case.now.w) < engine_limit }
-    requires high_room { abs_sum row.now * (greatest_end case.now.d high.now ^ length high.now * 2 ^ case.now.w) < engine_limit }
+fn fill_both(case: &Case, row: &Row, pair: &CornerPair, weights: &mut [i128])
+    requires pair { IsPair pair.now.low pair.now.high }
+    requires low_room { abs_sum row.now * (greatest_end case.now.d pair.now.low ^ length pair.now.low * 2 ^ case.now.w) < engine_limit }
+    requires high_room { abs_sum row.now * (greatest_end case.now.d pair.now.high ^ length pair.now.high * 2 ^ case.now.w) < engine_limit }
     requires space { length weights.old ≡ 2 * length row.now }
-    ensures { weights.new ≡ map (λ entry. weight_at case.now.d low.now entry.poly) row.now
-        ++ map (λ entry. weight_at case.now.d high.now entry.poly) row.now }
+    ensures { weights.new ≡ map (λ entry. weight_at case.now.d pair.now.low entry.poly) row.now
+        ++ map (λ entry. weight_at case.now.d pair.now.high entry.poly) row.now }
 {
     let count = row.entries().len();
     let (low_weights, high_weights) = weights.split_at_mut(count);
-    fill_pair(case, row, low, high, low_weights, high_weights);
+    fill_pair(case, row, pair, low_weights, high_weights);
 }
 
 /// Writes them at a place.
-fn fill_pair_at(case: &Case, row: &Row, low: &Ends, high: &Ends, place: usize, weights: &mut [i128])
-    requires pair { IsPair low.now high.now }
-    requires low_room { abs_sum row.now * (greatest_end case.now.d low.now ^ length low.now * 2 ^ case.now.w) < engine_limit }
-    requires high_room { abs_sum row.now * (greatest_end case.now.d high.now ^ length high.now * 2 ^ case.now.w) < engine_limit }
+fn fill_pair_at(case: &Case, row: &Row, pair: &CornerPair, place: usize, weights: &mut [i128])
+    requires pair { IsPair pair.now.low pair.now.high }
+    requires low_room { abs_sum row.now * (greatest_end case.now.d pair.now.low ^ length pair.now.low * 2 ^ case.now.w) < engine_limit }
+    requires high_room { abs_sum row.now * (greatest_end case.now.d pair.now.high ^ length pair.now.high * 2 ^ case.now.w) < engine_limit }
     requires space { place + 2 * length row.now ≤ length weights.old }
     ensures { take (place + 2 * length row.now) weights.new
-        ≡ take place weights.old ++ (map (λ entry. weight_at case.now.d low.now entry.poly) row.now
-        ++ map (λ entry. weight_at case.now.d high.now entry.poly) row.now) }
+        ≡ take place weights.old ++ (map (λ entry. weight_at case.now.d pair.now.low entry.poly) row.now
+        ++ map (λ entry. weight_at case.now.d pair.now.high entry.poly) row.now) }
 {
     let end = place + 2 * row.entries().len();
-    fill_both(case, row, low, high, &mut weights[place..end]);
+    fill_both(case, row, pair, &mut weights[place..end]);
 }
 
 /// Writes the weights of a row with parameters at all its corners, and tells where they end.
@@ -156,7 +135,7 @@ fn fill_pairs(case: &Case, sides: &[i64], row: &Row, place: usize, weights: &mut
     for pair in 0..corners(support) / 2 {
         let low = Ends::at(sides, support, 2 * pair);
         let high = Ends::at(sides, support, 2 * pair + 1);
-        fill_pair_at(case, row, &low, &high, at, weights);
+        fill_pair_at(case, row, &CornerPair { low, high }, at, weights);
         at += 2 * count;
     }
     at
@@ -258,7 +237,7 @@ fn both_in_lane(low: &[i128], high: &[i128], targets: &[u32], vec: &[i64]) -> (i
 /// The sum of the weights into other states than `s`, each times its target's number, and of these weights alone; in
 /// numbers of 64 bits.
 #[inline]
-fn others_in_lane(weights: &[i128], targets: &[u32], s: u32, vec: &[i64]) -> Others
+pub(crate) fn others_in_lane(weights: &[i128], targets: &[u32], s: u32, vec: &[i64]) -> Others
     requires targets { All (λ t. t < length vec.now) targets.now }
     requires room { CanSum (number vec.now) weights.now targets.now }
     requires lane { FitsLane (number vec.now) weights.now targets.now }
@@ -293,7 +272,7 @@ fn wide_sum(weights: &[i128], targets: &[u32], vec: &[i64]) -> i128
 
 /// The sum of the weights, each times its target's number; in numbers of 64 bits where they hold it.
 #[inline]
-fn sum_of(weights: &[i128], targets: &[u32], vec: &[i64], narrow: bool) -> i128
+pub(crate) fn sum_of(weights: &[i128], targets: &[u32], vec: &[i64], narrow: bool) -> i128
     requires targets { All (λ t. t < length vec.now) targets.now }
     requires room { CanSum (number vec.now) weights.now targets.now }
     requires lane { IsTrue narrow → FitsLane (number vec.now) weights.now targets.now }
@@ -327,7 +306,7 @@ pub(crate) fn sum_below(weights: &[i128], targets: &[u32], ranks: &[u32], below:
 }
 
 /// The sum of the weights whose target is `s`.
-fn sum_at(weights: &[i128], targets: &[u32], s: u32) -> i128
+pub(crate) fn sum_at(weights: &[i128], targets: &[u32], s: u32) -> i128
     requires { CanSum (only_at s) weights.now targets.now }
     ensures { result ≡ dot (only_at s) weights.now targets.now }
 {
@@ -489,25 +468,6 @@ pub(crate) fn least_of(
     least
 }
 
-/// The place of a row, and its targets.
-#[inline]
-pub(crate) fn read_row<'l>(
-    case: &Case,
-    links: &'l Links,
-    weights: &[i128],
-    s: u32,
-    a: u32,
-) -> (RowPlace, &'l [u32])
-    ghost spans: { Spans }
-    requires { CanRead case.now links.now spans weights.now s a }
-    ensures { IsReadRow case.now spans weights.now s a result.0 result.1.now }
-{
-    premises();
-    let _ = case.w();
-    let place = links.place(s, a);
-    (place, links.targets(place))
-}
-
 /// `row_value` of the rectangle whose table `weights` is. One multiplication for each entry.
 pub fn table_value(
     case: &Case,
@@ -534,67 +494,6 @@ pub fn table_value(
     )
 }
 
-/// The whole of a row of the rectangle whose table `weights` is, and its greatest sum over the corners.
-/// One multiplication for each entry and corner.
-#[inline(always)]
-pub fn table_greatest(
-    case: &Case,
-    links: &Links,
-    weights: &[i128],
-    s: u32,
-    a: u32,
-    vec: &[i64],
-) -> Weighed
-    ghost spans: { Spans }
-    requires { CanRead case.now links.now spans weights.now s a × AreNumbers case.now vec.now }
-    ensures greatest { IsGreatest (row_value case.now spans s a vec.now) (corner_count case.now s a) result.sum }
-    ensures range { (pos 0 ≤ℤ result.sum) × (result.sum ≤ℤ (pos (2 ^ case.now.w) *ℤ row_whole case.now s a)) }
-    ensures bound { BoundsAbove case.now spans s a vec.now result.sum }
-    ensures whole { IsWhole case.now s a result.whole }
-{
-    premises();
-    let w = case.w();
-    let (place, targets) = read_row(case, links, weights, s, a);
-    if targets.len() == 2 {
-        let first = vec[targets[0] as usize];
-        let second = vec[targets[1] as usize];
-        return greatest_pair(block_of(weights, place), first, second, w);
-    }
-    let whole = total_of(corner_of(weights, place, 0));
-    let sum = greatest_of(weights, place, targets, vec, is_narrow(whole, w));
-    Weighed { sum, whole }
-}
-
-/// The whole of a row of the rectangle whose table `weights` is, and its least sum over the corners. One
-/// multiplication for each entry and corner.
-#[inline(always)]
-pub fn table_least(
-    case: &Case,
-    links: &Links,
-    weights: &[i128],
-    s: u32,
-    a: u32,
-    vec: &[i64],
-) -> Weighed
-    ghost spans: { Spans }
-    requires { CanRead case.now links.now spans weights.now s a × AreNumbers case.now vec.now }
-    ensures least { IsLeast (row_value case.now spans s a vec.now) (corner_count case.now s a) result.sum }
-    ensures bound { BoundsBelow case.now spans s a vec.now result.sum }
-    ensures whole { IsWhole case.now s a result.whole }
-{
-    premises();
-    let w = case.w();
-    let (place, targets) = read_row(case, links, weights, s, a);
-    if targets.len() == 2 {
-        let first = vec[targets[0] as usize];
-        let second = vec[targets[1] as usize];
-        return least_pair(block_of(weights, place), first, second, w);
-    }
-    let whole = total_of(corner_of(weights, place, 0));
-    let sum = least_of(weights, place, targets, vec, is_narrow(whole, w));
-    Weighed { sum, whole }
-}
-
 /// `row_max` of the rectangle whose table `weights` is. One multiplication for each entry and corner.
 #[inline]
 pub fn table_max(case: &Case, links: &Links, weights: &[i128], s: u32, a: u32, vec: &[i64]) -> i128
@@ -604,7 +503,9 @@ pub fn table_max(case: &Case, links: &Links, weights: &[i128], s: u32, a: u32, v
     ensures range { (pos 0 ≤ℤ result) × (result ≤ℤ (pos (2 ^ case.now.w) *ℤ row_whole case.now s a)) }
     ensures bound { BoundsAbove case.now spans s a vec.now result }
 {
-    table_greatest(case, links, weights, s, a, vec).sum
+    CornerTable::new(&*case, &*links, &*weights)
+        .greatest(s, a, vec)
+        .sum
 }
 
 /// `row_min` of the rectangle whose table `weights` is. One multiplication for each entry and corner.
@@ -615,7 +516,9 @@ pub fn table_min(case: &Case, links: &Links, weights: &[i128], s: u32, a: u32, v
     ensures least { IsLeast (row_value case.now spans s a vec.now) (corner_count case.now s a) result }
     ensures bound { BoundsBelow case.now spans s a vec.now result }
 {
-    table_least(case, links, weights, s, a, vec).sum
+    CornerTable::new(&*case, &*links, &*weights)
+        .least(s, a, vec)
+        .sum
 }
 
 /// `weight_into` of the rectangle whose table `weights` is. No multiplication.
@@ -660,47 +563,6 @@ pub fn table_whole(case: &Case, links: &Links, weights: &[i128], s: u32, a: u32)
     total_of(corner_of(weights, links.place(s, a), 0))
 }
 
-/// What a row weighs at a corner into the state that has it: the weight of its self loop. No
-/// multiplication.
-pub fn table_loop(case: &Case, links: &Links, weights: &[i128], s: u32, a: u32, corner: u32) -> i128
-    ghost spans: { Spans }
-    requires { CanRead case.now links.now spans weights.now s a × (corner < corner_count case.now s a) }
-    ensures { result ≡ corner_sum case.now.d spans (row_at case.now.model s a) corner (only_at s) }
-{
-    premises();
-    let _ = case.w();
-    let place = links.place(s, a);
-    sum_at(corner_of(weights, place, corner), links.targets(place), s)
-}
-
-/// `table_value`, `table_whole` and `table_loop` at once. One multiplication for each entry.
-#[inline]
-pub fn table_corner(
-    case: &Case,
-    links: &Links,
-    weights: &[i128],
-    s: u32,
-    a: u32,
-    corner: u32,
-    vec: &[i64],
-) -> AtCorner
-    ghost spans: { Spans }
-    requires { CanRead case.now links.now spans weights.now s a × AreNumbers case.now vec.now × (corner < corner_count case.now s a) }
-    ensures sum { result.sum ≡ row_value case.now spans s a vec.now corner }
-    ensures whole { IsWhole case.now s a result.whole }
-    ensures own { result.own ≡ corner_sum case.now.d spans (row_at case.now.model s a) corner (only_at s) }
-{
-    premises();
-    let w = case.w();
-    let place = links.place(s, a);
-    let whole = total_of(corner_of(weights, place, 0));
-    let part = corner_of(weights, place, corner);
-    let targets = links.targets(place);
-    let sum = sum_of(part, targets, vec, is_narrow(whole, w));
-    let own = sum_at(part, targets, s);
-    AtCorner { sum, whole, own }
-}
-
 /// Whether 64 bits hold each weighted sum of a row: its whole, times 2 to the `w`, is below 2 to the 63.
 #[inline]
 pub fn has_short_sums(case: &Case, links: &Links, weights: &[i128], s: u32, a: u32) -> bool
@@ -730,6 +592,5 @@ pub fn table_others(
     ensures whole { result.whole ≡ row_whole case.now s a -ℤ loop_weight case.now spans s a corner }
     ensures least { (pos 0 ≤ℤ result.sum) × (pos 0 ≤ℤ result.whole) }
 {
-    let (place, targets) = read_row(case, links, weights, s, a);
-    others_in_lane(corner_of(weights, place, corner), targets, s, vec)
+    CornerTable::new(&*case, &*links, &*weights).others(s, a, corner, vec)
 }

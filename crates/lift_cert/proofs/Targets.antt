@@ -1,26 +1,23 @@
 -- The targets of a row, one after another.
-use Rattle.std.proofs.Common.{◌≡◌, ◌<◌, ◌≤◌, ◌+◌, ◌^◌, ℕ, true, List, length, get_or, slice_range, pos, ◌≤ℤ◌, All, nat_lt, subst, ap, ◌∙◌, arith}
+use Rattle.std.proofs.Common.{◌≡◌, ◌<◌, ◌≤◌, ◌+◌, ◌^◌, ℕ, true, List, length, get_or, pos, ◌≤ℤ◌, All, nat_lt, subst, ap, arith}
 use Rattle.std.proofs.lemmas.List.{get_or_default}
 use Rattle.std.proofs.lemmas.Bool.{lt-ltb}
 use Rattle.std.proofs.lemmas.Nat.{pow_pos}
 use Rattle.lift_poly.proofs.Ring.{linear, mul-le, mul-comm, one-mul}
 use Rattle.lift_grid.specs.Rectangle.{Spans}
 use Rattle.lift_grid.specs.Tree.{RejectData}
-use Rattle.lift_model.specs.declared.layout.RowPlace.{RowPlace}
-use Rattle.lift_model.specs.Model.{ModelData, support, row_at}
-use Rattle.lift_model.specs.Links.{LinksData, ArePlaces, HasChoice, place, targets_of}
+use Rattle.lift_model.specs.Model.{support, row_at}
+use Rattle.lift_model.specs.Links.{HasChoice, targets_of}
 use Rattle.corner_lift.specs.Corner.{parameter_count}
 use Rattle.corner_lift.specs.Case.{CaseData, IsCase, IsInside, row_whole, corner_count}
 use Rattle.corner_lift.specs.Certificate.{mark, ranked_below}
 use Rattle.corner_lift.specs.Laws.{HasRow, ParametersAreTheRoots, SumsAreAtLeast}
 use Rattle.lift_cert.specs.RejectMiss.{IsFast, weight_below}
 
--- what holds of those that the links tell holds of the row's
-pub all_targets : (P : ℕ → Type 0) (m : ModelData) (l : LinksData) (s a count : ℕ) (at : RowPlace) (items : List ℕ) → ArePlaces m l → HasChoice m s a → at ≡ place l s a → items ≡ slice_range l.targets at.entries (at.entries + at.count) → length items ≤ count → ((i : ℕ) → i < count → P (get_or items i 0)) → All P (targets_of (row_at m s a))
-all_targets P m l s a count at items links choice at_is items_are end holds k d lt =
-    let same : items ≡ targets_of (row_at m s a) = items_are ∙ ap (λ (p : RowPlace). slice_range l.targets p.entries (p.entries + p.count)) at_is ∙ (links.places s a choice).entries in
-    let inside : k < count = omega (arith, lt, end, ap length same) in
-    subst P (ap (λ (list : List ℕ). get_or list k 0) same ∙ get_or_default (targets_of (row_at m s a)) k 0 d lt) (holds k inside)
+-- what holds of so many of them holds of each, if there are no more
+pub all_targets : (P : ℕ → Type 0) (targets : List ℕ) (count : ℕ) → length targets ≤ count → ((i : ℕ) → i < count → P (get_or targets i 0))
+    → All P targets
+all_targets P targets count end holds k d lt = subst P (get_or_default targets k 0 d lt) (holds k (omega (arith, lt, end)))
 
 -- ---- what they say of the row at its corners
 

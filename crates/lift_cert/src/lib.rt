@@ -11,6 +11,7 @@ mod reject;
 
 pub use accept::meets_accept;
 pub use bound::Bound;
+pub use certificate::Certificate;
 pub use laws::{
     certificates_are_of_one_kind, certificates_decide, first_miss_is_one,
     rejecting_certificates_reach,

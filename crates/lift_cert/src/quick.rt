@@ -2,11 +2,12 @@
 
 ghost use Rattle.std.specs.Prelude.{◌≡◌, ◌<◌, ◌≤ℤ◌, ◌↔◌, ℕ, false, length, All, IsTrue};
 ghost use Rattle.lift_grid.specs.Rectangle.{Spans};
-ghost use Rattle.lift_model.specs.Links.{ArePlaces, HasChoice, targets_of};
-ghost use Rattle.lift_model.specs.Model.{is_goal, row_at};
-ghost use Rattle.corner_lift.specs.Case.{IsCase, corner_count, number};
+ghost use Rattle.lift_model.specs.Links.{ArePlaces, HasChoice};
+ghost use Rattle.lift_model.specs.Model.{is_goal};
+ghost use Rattle.corner_lift.specs.Case.{corner_count};
 ghost use Rattle.corner_lift.specs.Certificate.{AreNumbers, mark};
-ghost use Rattle.corner_lift.specs.Table.{IsTable, CanRead};
+ghost use Rattle.corner_lift.specs.Table.{IsTable};
+ghost use Rattle.corner_lift.specs.Lifted.{IsLiftedTo};
 ghost use Rattle.lift_cert.specs.Certificate.{IsAccepting, IsRejecting};
 ghost use Rattle.lift_cert.specs.Miss.{IsAcceptedRow, IsAcceptedState};
 ghost use Rattle.lift_cert.specs.RejectMiss.{HasRejectForm, IsSupported, IsFast, IsHeldRow, IsHeldState};
@@ -14,19 +15,16 @@ ghost use Rattle.lift_cert.specs.RejectMiss.{HasRejectForm, IsSupported, IsFast,
 use crate::bound::Bound;
 use crate::certificate::Certificate;
 use corner_lift::{
-    Case, Weighed, corners_bound_weights, is_capped, is_enough, is_held, least_into, one_at,
-    rows_at_corners,
+    Case, CornerTable, Weighed, corners_bound_weights, is_enough, one_at, rows_at_corners,
 };
 use lift_model::Links;
 
-/// Whether each target of a row has a lower rank than this one.
+/// Whether each of these states has a lower rank than this one.
 #[inline]
-fn are_below(case: &Case, links: &Links, ranks: &[u32], state: u32, choice: u32, below: u32) -> bool
-    requires places { ArePlaces case.now.model links.now }
-    requires row { HasChoice case.now.model state choice }
-    ensures { IsTrue result → All (λ t. mark ranks.now t < below) (targets_of (row_at case.now.model state choice)) }
+fn are_below(targets: &[u32], ranks: &[u32], below: u32) -> bool
+    ensures { IsTrue result → All (λ t. mark ranks.now t < below) targets.now }
 {
-    for target in links.targets(links.place(state, choice)) {
+    for target in targets {
         let place = *target as usize;
         if place >= ranks.len() || ranks[place] >= below {
             return false;
@@ -36,36 +34,29 @@ fn are_below(case: &Case, links: &Links, ranks: &[u32], state: u32, choice: u32,
 }
 
 /// Whether the row of the state's choice passes at each of its corners.
-fn is_row_accepted(
-    case: &Case,
-    links: &Links,
-    weights: &[i128],
-    x: &[i64],
-    state: u32,
-    choice: u32,
-) -> bool
+fn is_row_accepted(table: &CornerTable, x: &[i64], state: u32, choice: u32) -> bool
     ghost spans: { Spans }
-    requires read { CanRead case.now links.now spans weights.now state choice }
-    requires numbers { AreNumbers case.now x.now }
-    ensures { IsTrue result ↔ IsAcceptedRow case.now spans x.now state choice }
+    requires lifted { IsLiftedTo table.now spans }
+    requires row { HasChoice table.now.case.model state choice }
+    requires numbers { AreNumbers table.now.case x.now }
+    ensures { IsTrue result ↔ IsAcceptedRow table.now.case spans x.now state choice }
 {
     rows_at_corners();
-    let _ = case.w();
-    is_capped(case, links, weights, state, choice, x, x[state as usize])
+    let _ = table.case();
+    table.is_capped(state, choice, x, x[state as usize])
 }
 
 /// Whether each row of an inner state passes.
-fn are_rows_accepted(case: &Case, links: &Links, weights: &[i128], x: &[i64], state: u32) -> bool
+fn are_rows_accepted(table: &CornerTable, x: &[i64], state: u32) -> bool
     ghost spans: { Spans }
-    requires places { ArePlaces case.now.model links.now }
-    requires table { IsTable case.now links.now spans weights.now }
-    requires numbers { AreNumbers case.now x.now }
-    requires state { state < length case.now.model.states }
-    requires inner { is_goal case.now.model state ≡ false }
-    ensures { IsTrue result ↔ IsAcceptedState case.now spans x.now state }
+    requires lifted { IsLiftedTo table.now spans }
+    requires numbers { AreNumbers table.now.case x.now }
+    requires state { state < length table.now.case.model.states }
+    requires inner { is_goal table.now.case.model state ≡ false }
+    ensures { IsTrue result ↔ IsAcceptedState table.now.case spans x.now state }
 {
-    for choice in 0..links.choices(state) {
-        if !is_row_accepted(case, links, weights, x, state, choice) {
+    for choice in 0..table.choice_count(state) {
+        if !is_row_accepted(table, x, state, choice) {
             return false;
         }
     }
@@ -73,19 +64,19 @@ fn are_rows_accepted(case: &Case, links: &Links, weights: &[i128], x: &[i64], st
 }
 
 /// Whether the state passes.
-fn is_state_accepted(case: &Case, links: &Links, weights: &[i128], x: &[i64], state: u32) -> bool
+fn is_state_accepted(table: &CornerTable, x: &[i64], state: u32) -> bool
     ghost spans: { Spans }
-    requires places { ArePlaces case.now.model links.now }
-    requires table { IsTable case.now links.now spans weights.now }
-    requires numbers { AreNumbers case.now x.now }
-    requires state { state < length case.now.model.states }
-    ensures { IsTrue result ↔ IsAcceptedState case.now spans x.now state }
+    requires lifted { IsLiftedTo table.now spans }
+    requires numbers { AreNumbers table.now.case x.now }
+    requires state { state < length table.now.case.model.states }
+    ensures { IsTrue result ↔ IsAcceptedState table.now.case spans x.now state }
 {
     rows_at_corners();
+    let case = table.case();
     if case.model().is_goal(state) {
         return x[state as usize] == one_at(case.w());
     }
-    are_rows_accepted(case, links, weights, x, state)
+    are_rows_accepted(table, x, state)
 }
 
 /// Whether `x` is an accepting certificate of the rectangle whose table `weights` is: what
@@ -102,8 +93,9 @@ pub fn is_accepting(case: &Case, links: &Links, weights: &[i128], bound: Bound, 
 {
     rows_at_corners();
     let model = case.model();
+    let table = CornerTable::new(&*case, &*links, &*weights);
     for state in 0..model.states() {
-        if !is_state_accepted(case, links, weights, x, state) {
+        if !is_state_accepted(&table, x, state) {
             return false;
         }
     }
@@ -111,84 +103,64 @@ pub fn is_accepting(case: &Case, links: &Links, weights: &[i128], bound: Bound, 
 }
 
 /// Whether a ranked state's number is at most the mean at each corner of the row that it picks.
-fn is_row_supported(
-    case: &Case,
-    links: &Links,
-    weights: &[i128],
-    r: &Certificate,
-    state: u32,
-    choice: u32,
-) -> bool
+fn is_row_supported(table: &CornerTable, r: &Certificate, state: u32, choice: u32) -> bool
     ghost spans: { Spans }
-    requires read { CanRead case.now links.now spans weights.now state choice }
-    requires form { HasRejectForm case.now r.now }
-    ensures { IsTrue result ↔ ((c : ℕ) → c < corner_count case.now state choice
-        → IsSupported case.now spans r.now state choice c) }
+    requires lifted { IsLiftedTo table.now spans }
+    requires row { HasChoice table.now.case.model state choice }
+    requires form { HasRejectForm table.now.case r.now }
+    ensures { IsTrue result ↔ ((c : ℕ) → c < corner_count table.now.case state choice
+        → IsSupported table.now.case spans r.now state choice c) }
 {
     rows_at_corners();
-    let _ = case.w();
-    let number = r.number(case, state);
-    is_held(case, links, weights, state, choice, r.numbers(), number)
+    let number = r.number(table.case(), state);
+    table.is_held(state, choice, r.numbers(), number)
 }
 
 /// Whether each corner of the row that a ranked state picks has enough weight into lower ranks. Where all
 /// targets have lower ranks, all of the weight leads there.
-fn is_row_fast(
-    case: &Case,
-    links: &Links,
-    weights: &[i128],
-    r: &Certificate,
-    state: u32,
-    choice: u32,
-) -> bool
+fn is_row_fast(table: &CornerTable, r: &Certificate, state: u32, choice: u32) -> bool
     ghost spans: { Spans }
-    requires read { CanRead case.now links.now spans weights.now state choice }
-    requires form { HasRejectForm case.now r.now }
-    ensures { IsTrue result ↔ ((c : ℕ) → c < corner_count case.now state choice
-        → IsFast case.now spans r.now state choice c) }
+    requires lifted { IsLiftedTo table.now spans }
+    requires row { HasChoice table.now.case.model state choice }
+    requires form { HasRejectForm table.now.case r.now }
+    ensures { IsTrue result ↔ ((c : ℕ) → c < corner_count table.now.case state choice
+        → IsFast table.now.case spans r.now state choice c) }
 {
     rows_at_corners();
     corners_bound_weights();
-    let _ = case.w();
-    let rank = r.rank(case, state);
+    let rank = r.rank(table.case(), state);
     let ranks = r.ranks();
-    if are_below(case, links, ranks, state, choice, rank) {
+    if are_below(table.targets(state, choice), ranks, rank) {
         return true;
     }
-    let Weighed { sum, whole } = least_into(case, links, weights, state, choice, ranks, rank);
+    let Weighed { sum, whole } = table.least_into(state, choice, ranks, rank);
     is_enough(sum, r.e(), whole)
 }
 
 /// Whether the row that a ranked state picks passes at each of its corners.
-fn is_row_held(
-    case: &Case,
-    links: &Links,
-    weights: &[i128],
-    r: &Certificate,
-    state: u32,
-    choice: u32,
-) -> bool
+fn is_row_held(table: &CornerTable, r: &Certificate, state: u32, choice: u32) -> bool
     ghost spans: { Spans }
-    requires read { CanRead case.now links.now spans weights.now state choice }
-    requires form { HasRejectForm case.now r.now }
-    ensures { IsTrue result ↔ IsHeldRow case.now spans r.now state choice }
+    requires lifted { IsLiftedTo table.now spans }
+    requires row { HasChoice table.now.case.model state choice }
+    requires form { HasRejectForm table.now.case r.now }
+    ensures { IsTrue result ↔ IsHeldRow table.now.case spans r.now state choice }
 {
-    if !is_row_supported(case, links, weights, r, state, choice) {
+    if !is_row_supported(table, r, state, choice) {
         return false;
     }
-    is_row_fast(case, links, weights, r, state, choice)
+    is_row_fast(table, r, state, choice)
 }
 
 /// Whether the state passes.
-fn is_state_held(case: &Case, links: &Links, weights: &[i128], r: &Certificate, state: u32) -> bool
+fn is_state_held(table: &CornerTable, r: &Certificate, state: u32) -> bool
     ghost spans: { Spans }
-    requires places { ArePlaces case.now.model links.now }
-    requires table { IsTable case.now links.now spans weights.now }
-    requires form { HasRejectForm case.now r.now }
-    requires state { state < length case.now.model.states }
-    ensures { IsTrue result ↔ IsHeldState case.now spans r.now state }
+    requires lifted { IsLiftedTo table.now spans }
+    requires form { HasRejectForm table.now.case r.now }
+    requires state { state < length table.now.case.model.states }
+    ensures { IsTrue result ↔ IsHeldState table.now.case spans r.now state }
 {
     rows_at_corners();
+    let case = table.case();
     if case.model().is_goal(state) {
         return r.number(case, state) == one_at(case.w());
     }
@@ -196,12 +168,11 @@ fn is_state_held(case: &Case, links: &Links, weights: &[i128], r: &Certificate, 
         return r.number(case, state) == 0;
     }
     let choice = r.pick(case, state);
-    is_row_held(case, links, weights, r, state, choice)
+    is_row_held(table, r, state, choice)
 }
 
-/// Whether the numbers `y` with these picks, ranks, `e` and `k` are a rejecting certificate of the
-/// rectangle whose table `weights` is: what `meets_reject` tests, with one multiplication for each
-/// entry of a picked row and corner.
+/// Whether that is a rejecting certificate of the rectangle whose table `weights` is: what `meets_reject`
+/// tests, with one multiplication for each entry of a picked row and corner.
 ///
 /// The rectangle lies inside the root, `links` are those of the case's model, and the certificate has
 /// the form that `meets_reject` asks for. Takes no memory. The rows of goal states, and those that
@@ -211,25 +182,19 @@ pub fn is_rejecting(
     links: &Links,
     weights: &[i128],
     bound: Bound,
-    y: &[i64],
-    picks: &[u32],
-    ranks: &[u32],
-    e: u32,
-    k: u32,
+    r: &Certificate,
 ) -> bool
     ghost spans: { Spans }
     requires places { ArePlaces case.now.model links.now }
     requires table { IsTable case.now links.now spans weights.now }
-    requires form { HasRejectForm case.now
-        (record { numbers = y.now; picks = picks.now; ranks = ranks.now; e = e; k = k }) }
-    ensures { IsTrue result ↔ IsRejecting case.now spans bound
-        (record { numbers = y.now; picks = picks.now; ranks = ranks.now; e = e; k = k }) }
+    requires form { HasRejectForm case.now r.now }
+    ensures { IsTrue result ↔ IsRejecting case.now spans bound r.now }
 {
     rows_at_corners();
     let model = case.model();
-    let r = Certificate::new(y, picks, ranks, e, k);
+    let table = CornerTable::new(&*case, &*links, &*weights);
     for state in 0..model.states() {
-        if !is_state_held(case, links, weights, &r, state) {
+        if !is_state_held(&table, r, state) {
             return false;
         }
     }

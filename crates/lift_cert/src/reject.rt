@@ -20,117 +20,120 @@ use corner_lift::{
     Case, corners_bound_weights, is_enough, one_at, row_value, rows_at_corners, weight_into, whole,
 };
 
-/// Tests the mean at a corner of the row that a ranked state picks.
-fn test_mean(
-    case: &Case,
-    sides: &[i64],
-    r: &Certificate,
+/// The row that a ranked state picks, over a rectangle.
+#[derive(Drop)]
+struct PickedRow<'a> {
+    case: &'a Case<'a>,
+    sides: &'a [i64],
+    r: &'a Certificate<'a>,
     state: u32,
     choice: u32,
-    corner: u32,
-) -> Result<(), Miss>
-    requires case { IsCase case.now }
-    requires sides { AreSidesInside case.now.root sides.now }
-    requires form { HasRejectForm case.now r.now }
-    requires at { IsAtCorner case.now (spans_of sides.now) r.now state choice corner }
-    ensures miss { let spans = spans_of sides.now in MatchResult result
-        (λ _. IsSupported case.now spans r.now state choice corner)
-        (IsHeldMiss case.now spans r.now state) }
-    ensures numbers { IfErr result HasSmallNumbers }
-{
-    rows_at_corners();
-    let left = times(r.number(case, state), whole(case, state, choice));
-    let right = row_value(case, sides, state, choice, corner, r.numbers());
-    if left > right {
-        return Err(Miss::Row {
-            state,
-            choice,
+}
+
+impl PickedRow<'_> {
+    /// Tests the mean at a corner.
+    fn test_mean(&self, corner: u32) -> Result<(), Miss>
+        requires case { IsCase self.now.case.now }
+        requires sides { AreSidesInside self.now.case.now.root self.now.sides.now }
+        requires form { HasRejectForm self.now.case.now self.now.r.now }
+        requires at { IsAtCorner self.now.case.now (spans_of self.now.sides.now) self.now.r.now self.now.state self.now.choice corner }
+        ensures miss { let spans = spans_of self.now.sides.now in MatchResult result
+            (λ _. IsSupported self.now.case.now spans self.now.r.now self.now.state self.now.choice corner)
+            (IsHeldMiss self.now.case.now spans self.now.r.now self.now.state) }
+        ensures numbers { IfErr result HasSmallNumbers }
+    {
+        rows_at_corners();
+        let left = times(
+            self.r.number(self.case, self.state),
+            whole(self.case, self.state, self.choice),
+        );
+        let right = row_value(
+            self.case,
+            self.sides,
+            self.state,
+            self.choice,
             corner,
-            left,
-            right,
-        });
+            self.r.numbers(),
+        );
+        if left > right {
+            return Err(Miss::Row {
+                state: self.state,
+                choice: self.choice,
+                corner,
+                left,
+                right,
+            });
+        }
+        Ok(())
     }
-    Ok(())
-}
 
-/// The weight of the row that a ranked state picks, at a corner of it, into states of lower rank.
-fn weight_below(
-    case: &Case,
-    sides: &[i64],
-    r: &Certificate,
-    state: u32,
-    choice: u32,
-    corner: u32,
-) -> i128
-    requires case { IsCase case.now }
-    requires sides { AreSidesInside case.now.root sides.now }
-    requires form { HasRejectForm case.now r.now }
-    requires at { IsAtCorner case.now (spans_of sides.now) r.now state choice corner }
-    ensures value { result ≡ weight_below case.now (spans_of sides.now) r.now state choice corner }
-    ensures least { pos 0 ≤ℤ result }
-    ensures most { result ≤ℤ row_whole case.now state choice }
-{
-    rows_at_corners();
-    corners_bound_weights();
-    let rank = r.rank(case, state);
-    weight_into(case, sides, state, choice, corner, r.ranks(), rank)
-}
-
-/// Tests the rate at a corner of the row that a ranked state picks, where the mean passed.
-fn test_rate(
-    case: &Case,
-    sides: &[i64],
-    r: &Certificate,
-    state: u32,
-    choice: u32,
-    corner: u32,
-) -> Result<(), Miss>
-    requires case { IsCase case.now }
-    requires sides { AreSidesInside case.now.root sides.now }
-    requires form { HasRejectForm case.now r.now }
-    requires at { IsAtCorner case.now (spans_of sides.now) r.now state choice corner }
-    requires mean { IsSupported case.now (spans_of sides.now) r.now state choice corner }
-    ensures miss { let spans = spans_of sides.now in MatchResult result
-        (λ _. IsFast case.now spans r.now state choice corner)
-        (IsHeldMiss case.now spans r.now state) }
-    ensures numbers { IfErr result HasSmallNumbers }
-{
-    let weight = weight_below(case, sides, r, state, choice, corner);
-    let whole = whole(case, state, choice);
-    let e = r.e();
-    if !is_enough(weight, e, whole) {
-        return Err(Miss::Rate {
-            state,
-            choice,
+    /// The weight at a corner into states of lower rank.
+    fn weight_below(&self, corner: u32) -> i128
+        requires case { IsCase self.now.case.now }
+        requires sides { AreSidesInside self.now.case.now.root self.now.sides.now }
+        requires form { HasRejectForm self.now.case.now self.now.r.now }
+        requires at { IsAtCorner self.now.case.now (spans_of self.now.sides.now) self.now.r.now self.now.state self.now.choice corner }
+        ensures value { result
+            ≡ weight_below self.now.case.now (spans_of self.now.sides.now) self.now.r.now self.now.state self.now.choice corner }
+        ensures least { pos 0 ≤ℤ result }
+        ensures most { result ≤ℤ row_whole self.now.case.now self.now.state self.now.choice }
+    {
+        rows_at_corners();
+        corners_bound_weights();
+        let rank = self.r.rank(self.case, self.state);
+        weight_into(
+            self.case,
+            self.sides,
+            self.state,
+            self.choice,
             corner,
-            weight,
-            e,
-            whole,
-        });
+            self.r.ranks(),
+            rank,
+        )
     }
-    Ok(())
-}
 
-/// Tests a corner of the row that a ranked state picks: first the mean, then the rate.
-fn test_corner(
-    case: &Case,
-    sides: &[i64],
-    r: &Certificate,
-    state: u32,
-    choice: u32,
-    corner: u32,
-) -> Result<(), Miss>
-    requires case { IsCase case.now }
-    requires sides { AreSidesInside case.now.root sides.now }
-    requires form { HasRejectForm case.now r.now }
-    requires at { IsAtCorner case.now (spans_of sides.now) r.now state choice corner }
-    ensures miss { let spans = spans_of sides.now in MatchResult result
-        (λ _. IsHeldCorner case.now spans r.now state choice corner)
-        (IsHeldMiss case.now spans r.now state) }
-    ensures numbers { IfErr result HasSmallNumbers }
-{
-    test_mean(case, sides, r, state, choice, corner)?;
-    test_rate(case, sides, r, state, choice, corner)
+    /// Tests the rate at a corner where the mean passed.
+    fn test_rate(&self, corner: u32) -> Result<(), Miss>
+        requires case { IsCase self.now.case.now }
+        requires sides { AreSidesInside self.now.case.now.root self.now.sides.now }
+        requires form { HasRejectForm self.now.case.now self.now.r.now }
+        requires at { IsAtCorner self.now.case.now (spans_of self.now.sides.now) self.now.r.now self.now.state self.now.choice corner }
+        requires mean { IsSupported self.now.case.now (spans_of self.now.sides.now) self.now.r.now self.now.state self.now.choice corner }
+        ensures miss { let spans = spans_of self.now.sides.now in MatchResult result
+            (λ _. IsFast self.now.case.now spans self.now.r.now self.now.state self.now.choice corner)
+            (IsHeldMiss self.now.case.now spans self.now.r.now self.now.state) }
+        ensures numbers { IfErr result HasSmallNumbers }
+    {
+        let weight = self.weight_below(corner);
+        let whole = whole(self.case, self.state, self.choice);
+        let e = self.r.e();
+        if !is_enough(weight, e, whole) {
+            return Err(Miss::Rate {
+                state: self.state,
+                choice: self.choice,
+                corner,
+                weight,
+                e,
+                whole,
+            });
+        }
+        Ok(())
+    }
+
+    /// Tests a corner: first the mean, then the rate.
+    fn test_corner(&self, corner: u32) -> Result<(), Miss>
+        requires case { IsCase self.now.case.now }
+        requires sides { AreSidesInside self.now.case.now.root self.now.sides.now }
+        requires form { HasRejectForm self.now.case.now self.now.r.now }
+        requires at { IsAtCorner self.now.case.now (spans_of self.now.sides.now) self.now.r.now self.now.state self.now.choice corner }
+        ensures miss { let spans = spans_of self.now.sides.now in MatchResult result
+            (λ _. IsHeldCorner self.now.case.now spans self.now.r.now self.now.state self.now.choice corner)
+            (IsHeldMiss self.now.case.now spans self.now.r.now self.now.state) }
+        ensures numbers { IfErr result HasSmallNumbers }
+    {
+        self.test_mean(corner)?;
+        self.test_rate(corner)
+    }
 }
 
 /// Tests a ranked state at each corner of the row that it picks.
@@ -146,8 +149,15 @@ fn test_ranked(case: &Case, sides: &[i64], r: &Certificate, state: u32) -> Resul
     ensures numbers { IfErr result HasSmallNumbers }
 {
     let choice = r.pick(case, state);
+    let row = PickedRow {
+        case: &*case,
+        sides: &*sides,
+        r: &*r,
+        state,
+        choice,
+    };
     for corner in 0..corners_of(case, state, choice) {
-        test_corner(case, sides, r, state, choice, corner)?;
+        row.test_corner(corner)?;
     }
     Ok(())
 }

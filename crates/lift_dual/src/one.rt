@@ -10,7 +10,7 @@ ghost use Rattle.rounded_iter.specs.Watching.{CanIterate};
 ghost use Rattle.lift_dual.specs.Picking.{IsMet, HasMet, IsLowestMet, IsLowestPick, AreLowestPicks, IsLeastUpperOne, IsLeastUpperOneWithin};
 
 use crate::laws::bounds_are_vectors;
-use corner_lift::{Case, Lifted, is_capped, one_at, rows_at_corners};
+use corner_lift::{Case, Lifted, one_at, rows_at_corners};
 use float_guess::{Ends, Extreme, Rule};
 use lift_model::Links;
 use rounded_iter::least_bound;
@@ -29,15 +29,7 @@ fn is_met(rows: &Lifted, lane: &[i64], s: u32, a: u32) -> bool
 {
     rows_at_corners();
     let _ = rows.w();
-    is_capped(
-        rows.case(),
-        rows.links(),
-        rows.weights(),
-        s,
-        a,
-        lane,
-        lane[s as usize],
-    )
+    rows.table().is_capped(s, a, lane, lane[s as usize])
 }
 
 /// The lowest choice of a state that meets its number, where one does. The last choice isn't looked at: where

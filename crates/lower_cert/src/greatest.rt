@@ -242,9 +242,7 @@ pub fn lower_unranked(
 
 /// As `greatest_reject_above`, but begins from the vector in `lane`, which lies at or above each lower vector.
 pub fn greatest_reject_from(
-    case: &Case,
-    links: &Links,
-    weights: &[i128],
+    rows: &Lifted,
     limit: i64,
     lane: &mut [i64],
     allowed: &mut [u32],
@@ -253,15 +251,17 @@ pub fn greatest_reject_from(
     work: &mut [u32],
 ) -> Option<Rate>
     ghost spans: { Spans }
-    requires read { IsRead case.now links.now spans weights.now lane.old }
-    requires high { IsHigh case.now spans lane.old }
-    requires places { HasPlaces case.now allowed.old ranks.old picks.old }
-    requires work { length work.old ≡ 2 * length case.now.model.states }
-    ensures some { IfSome result (λ rate. IsGreatestAbove case.now spans limit
+    requires read { IsRead rows.now.case rows.now.links spans rows.now.weights lane.old }
+    requires high { IsHigh rows.now.case spans lane.old }
+    requires places { HasPlaces rows.now.case allowed.old ranks.old picks.old }
+    requires work { length work.old ≡ 2 * length rows.now.case.model.states }
+    ensures some { IfSome result (λ rate. IsGreatestAbove rows.now.case spans limit
         (record { numbers = lane.new; picks = picks.new; ranks = ranks.new; e = rate.e; k = rate.k })) }
-    ensures none { IsNone result → NoneIsAbove case.now spans limit }
+    ensures none { IsNone result → NoneIsAbove rows.now.case spans limit }
 {
-    let rows = Lifted::new(&*case, &*links, &*weights);
-    let descent = Descent { rows: &rows, limit };
+    let descent = Descent {
+        rows: &*rows,
+        limit,
+    };
     descent.reject_from(lane, allowed, ranks, picks, work)
 }

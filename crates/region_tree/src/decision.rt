@@ -37,7 +37,7 @@ use crate::pools::Pools;
 use crate::room::Room;
 use crate::task::Task;
 use crate::verdict::Verdict;
-use corner_lift::{Case, fill};
+use corner_lift::{Case, Lifted, fill};
 use lift_cert::{Bound, certificates_are_of_one_kind};
 use lift_collapse::Collapse;
 use lift_model::Links;
@@ -184,10 +184,9 @@ impl Question<'_> {
     {
         lanes_stand_alone::<i64>();
         lanes_stand_alone::<u32>();
+        let rows = Lifted::new(self.task.case, self.task.links, self.weights);
         greatest_reject_from(
-            self.task.case,
-            self.task.links,
-            self.weights,
+            &rows,
             limit,
             pools.values.lane_mut(0),
             pools.allowed.lane_mut(0),

@@ -67,6 +67,15 @@ fn least_of_targets(targets: &[u32], ranks: &[u32], from: u32, least: u32) -> Op
     Some(to)
 }
 
+/// The ranks of two states.
+#[derive(Clone, Copy)]
+struct TwoRanks {
+    /// The lesser one.
+    low: u32,
+    /// The greater one.
+    high: u32,
+}
+
 /// Makes all states unseen.
 fn forget(ranks: &mut [u32])
     ensures { (s : ℕ) → s < length ranks.old → mark ranks.new s ≡ unseen }
@@ -77,21 +86,6 @@ fn forget(ranks: &mut [u32])
 }
 
 impl Rows<'_> {
-    /// The least of the ranks of the targets of a state's choice, as `least_of_targets` gives it.
-    #[inline(always)]
-    fn least_of_row(&self, s: u32, a: u32, ranks: &[u32], from: u32, least: u32) -> Option<u32>
-        requires links { AreLinks self.now.case.now.model self.now.links.now }
-        requires row { HasChoice self.now.case.now.model s a }
-        requires ranks { length ranks.now ≡ length self.now.case.now.model.states }
-        requires from { from ≤ least }
-        ensures range { IfSome result (λ to. (from ≤ to) × (to ≤ least)) }
-        ensures clear { IfSome result (λ to. AreClear (mark ranks.now) from to (targets_of (row_at self.now.case.now.model s a))) }
-    {
-        let _ = self.case.w();
-        let place = self.links.place(s, a);
-        least_of_targets(self.links.targets(place), ranks, from, least)
-    }
-
     /// The least rank from `from` on that a target of the state has, and none where there is no such rank.
     /// Nothing where a target is unseen.
     #[inline(always)]
@@ -102,9 +96,10 @@ impl Rows<'_> {
         ensures range { IfSome result (λ to. from ≤ to) }
         ensures clear { IfSome result (λ to. AreTargetsClear self.now.case.now.model (mark ranks.now) from to s) }
     {
+        let _ = self.case.w();
         let mut to = NONE;
         for a in 0..self.choice_count(s) {
-            to = self.least_of_row(s, a, ranks, from, to)?;
+            to = least_of_targets(self.targets(s, a), ranks, from, to)?;
         }
         Some(to)
     }
@@ -137,18 +132,20 @@ impl Choices<'_, '_> {
     /// The rank of a state whose only row, which is allowed, leads to two states of these ranks, if that is
     /// quickly told, and else by all its choices.
     #[inline(always)]
-    fn rank_between(&self, s: u32, row: PairRow, ranks: &[u32], low: u32, high: u32) -> Option<u32>
+    fn rank_between(&self, s: u32, row: PairRow, ranks: &[u32], two: TwoRanks) -> Option<u32>
         ghost spans: { Spans }
         requires rows { CanRankBy self.now spans }
         requires state { s < length self.now.rows.case.now.model.states }
         requires row { IsPairRow self.now.rows.case.now.model self.now.rows.links.now s row }
         requires ranks { length ranks.now ≡ length self.now.rows.case.now.model.states }
         requires is_allowed { Pass (allows self.now.rows.case.now.model self.now.allowed.now) s 0 }
-        requires have { (low ≤ high) × HaveRanks (mark ranks.now) low high (targets_of (row_at self.now.rows.case.now.model s 0)) }
+        requires have { (two.low ≤ two.high)
+            × HaveRanks (mark ranks.now) two.low two.high (targets_of (row_at self.now.rows.case.now.model s 0)) }
         ensures { IfSome result (IsFound self.now.rows.case.now spans self.now.allowed.now (mark ranks.now) s) }
     {
         rows_at_corners();
         let _ = self.rows.case.w();
+        let TwoRanks { low, high } = two;
         if low == NONE {
             return Some(NONE);
         }
@@ -182,7 +179,7 @@ impl Choices<'_, '_> {
         }
         let low = first.min(second);
         let high = first.max(second);
-        self.rank_between(s, row, ranks, low, high)
+        self.rank_between(s, row, ranks, TwoRanks { low, high })
     }
 
     /// The rank of a state whose only row leads to one other state. Nothing where that is unseen.

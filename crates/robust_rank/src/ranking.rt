@@ -124,7 +124,37 @@ fn start(case: &Case, ranks: &mut [u32], queue: &mut [u32]) -> usize
     found
 }
 
+/// A stage: the states of a rank, which stand in a part of the queue.
+#[derive(Clone, Copy)]
+struct Stage {
+    /// The rank.
+    rank: u32,
+    /// Where its part of the queue begins.
+    from: usize,
+    /// Where it ends.
+    to: usize,
+}
+
+/// The search for the stage after one, under way.
+#[derive(Clone, Copy)]
+struct Search {
+    /// The rank of the stage before.
+    rank: u32,
+    /// How many states the queue holds.
+    found: usize,
+}
+
 impl Rows<'_> {
+    /// The targets of the state's choice.
+    #[inline(always)]
+    pub(crate) fn targets(&self, s: u32, a: u32) -> &[u32]
+        requires links { AreLinks self.now.case.now.model self.now.links.now }
+        requires row { HasChoice self.now.case.now.model s a }
+        ensures { result.now ≡ targets_of (row_at self.now.case.now.model s a) }
+    {
+        self.links.targets(self.links.place(s, a))
+    }
+
     /// Whether all targets of the state's choice have a rank less than `below`, so that nothing need be weighed.
     #[inline(always)]
     pub(crate) fn leads_only_below(&self, s: u32, a: u32, ranks: &[u32], below: u32) -> bool
@@ -134,8 +164,7 @@ impl Rows<'_> {
         ensures { IsTrue result → All (λ t. mark ranks.now t < below) (targets_of (row_at self.now.case.now.model s a)) }
     {
         let _ = self.case.w();
-        let place = self.links.place(s, a);
-        are_below(self.links.targets(place), ranks, below)
+        are_below(self.targets(s, a), ranks, below)
     }
 
     /// Whether at each of its corners the state's choice has positive weight into states whose rank is less
@@ -283,81 +312,63 @@ impl Choices<'_, '_> {
         self.leading_of_choices(s, ranks, below)
     }
 
-    /// Gives a state the rank after `rank` if it has none and a choice that leads below that.
+    /// Gives a state the rank after the search's if it has none and a choice that leads below that.
     #[inline(always)]
-    fn try_state(
-        &self,
-        s: u32,
-        rank: u32,
-        found: usize,
-        ranks: &mut [u32],
-        queue: &mut [u32],
-    ) -> usize
+    fn try_state(&self, s: u32, search: Search, ranks: &mut [u32], queue: &mut [u32]) -> usize
         ghost start: { StageData }
         requires rows { CanRankBy self.now start.spans }
         requires state { s < length self.now.rows.case.now.model.states }
-        requires gathering { IsGathering self.now.rows.case.now self.now.allowed.now start rank found ranks.old queue.old }
-        ensures gathering { IsGathering self.now.rows.case.now self.now.allowed.now start rank result ranks.new queue.new }
+        requires gathering { IsGathering self.now.rows.case.now self.now.allowed.now start search.rank search.found ranks.old queue.old }
+        ensures gathering { IsGathering self.now.rows.case.now self.now.allowed.now start search.rank result ranks.new queue.new }
         ensures kept { AreKept ranks.old ranks.new }
-        ensures looked { IsLooked self.now.rows.case.now self.now.allowed.now start rank ranks.new s }
+        ensures looked { IsLooked self.now.rows.case.now self.now.allowed.now start search.rank ranks.new s }
     {
         if mark_of(ranks, s as usize) != NONE {
-            return found;
+            return search.found;
         }
-        match self.leading_choice(s, ranks, rank + 1) {
-            Some(_) => add(ranks, queue, s, rank + 1, found),
-            None => found,
+        match self.leading_choice(s, ranks, search.rank + 1) {
+            Some(_) => add(ranks, queue, s, search.rank + 1, search.found),
+            None => search.found,
         }
     }
 
     /// Tries the states before `t`.
-    fn try_before(
-        &self,
-        t: u32,
-        rank: u32,
-        found: usize,
-        ranks: &mut [u32],
-        queue: &mut [u32],
-    ) -> usize
+    fn try_before(&self, t: u32, search: Search, ranks: &mut [u32], queue: &mut [u32]) -> usize
         ghost start: { StageData }
         requires rows { CanRankBy self.now start.spans }
         requires state { t < length self.now.rows.case.now.model.states }
-        requires gathering { IsGathering self.now.rows.case.now self.now.allowed.now start rank found ranks.old queue.old }
-        ensures gathering { IsGathering self.now.rows.case.now self.now.allowed.now start rank result ranks.new queue.new }
+        requires gathering { IsGathering self.now.rows.case.now self.now.allowed.now start search.rank search.found ranks.old queue.old }
+        ensures gathering { IsGathering self.now.rows.case.now self.now.allowed.now start search.rank result ranks.new queue.new }
         ensures kept { AreKept ranks.old ranks.new }
-        ensures looked { All (IsLooked self.now.rows.case.now self.now.allowed.now start rank ranks.new)
+        ensures looked { All (IsLooked self.now.rows.case.now self.now.allowed.now start search.rank ranks.new)
             (states_before self.now.rows.links.now t) }
     {
-        let mut found = found;
+        let rank = search.rank;
+        let mut found = search.found;
         for s in self.rows.links.before(t) {
-            found = self.try_state(*s, rank, found, ranks, queue);
+            found = self.try_state(*s, Search { rank, found }, ranks, queue);
         }
         found
     }
 
-    /// Gives the rank after `rank` to each state that gets it, and puts these behind the queue's part from
-    /// `from` to `to`, which holds the states of that rank.
+    /// Gives the rank after the stage's to each state that gets it, and puts these behind the stage's part of the queue.
     #[inline(never)]
-    fn add_stage(
-        &self,
-        rank: u32,
-        from: usize,
-        to: usize,
-        ranks: &mut [u32],
-        queue: &mut [u32],
-    ) -> usize
+    fn add_stage(&self, stage: Stage, ranks: &mut [u32], queue: &mut [u32]) -> usize
         ghost start: { StageData }
         requires rows { CanRankBy self.now start.spans }
-        requires start { (start.ranks ≡ ranks.old) × ((start.queue ≡ queue.old) × (start.to ≡ to)) }
-        requires complete { IsComplete self.now.rows.case.now start.spans self.now.allowed.now start.ranks start.queue rank from start.to }
-        requires some { from < to }
-        ensures complete { IsComplete self.now.rows.case.now start.spans self.now.allowed.now ranks.new queue.new (suc rank) to result }
+        requires start { (start.ranks ≡ ranks.old) × ((start.queue ≡ queue.old) × (start.to ≡ stage.to)) }
+        requires complete { IsComplete self.now.rows.case.now start.spans self.now.allowed.now start.ranks start.queue
+            stage.rank stage.from start.to }
+        requires some { stage.from < stage.to }
+        ensures complete { IsComplete self.now.rows.case.now start.spans self.now.allowed.now ranks.new queue.new
+            (suc stage.rank) stage.to result }
     {
         let _ = self.rows.case.w();
-        let mut found = to;
-        for i in from..to {
+        let rank = stage.rank;
+        let mut found = stage.to;
+        for i in stage.from..stage.to {
             let t = mark_of(queue, i);
-            found = self.try_before(t, rank, found, ranks, queue);
+            found = self.try_before(t, Search { rank, found }, ranks, queue);
         }
         found
     }
@@ -431,7 +442,7 @@ impl Choices<'_, '_> {
         let mut to = start(self.rows.case, ranks, queue);
         let mut rank = 0;
         while from < to {
-            let end = self.add_stage(rank, from, to, ranks, queue);
+            let end = self.add_stage(Stage { rank, from, to }, ranks, queue);
             from = to;
             to = end;
             rank += 1;

@@ -2,18 +2,16 @@
 
 ghost use Rattle.std.specs.Prelude.{◌≡◌, length};
 ghost use Rattle.lift_grid.specs.Rectangle.{spans_of, sides_of};
+ghost use Rattle.lift_model.specs.Links.{HasChoice};
 ghost use Rattle.lift_model.specs.OnlyRow.{IsPairRow};
 ghost use Rattle.lift_model.specs.Model.{choices};
 ghost use Rattle.corner_lift.specs.Case.{corner_count};
 ghost use Rattle.corner_lift.specs.Certificate.{AreNumbers};
-ghost use Rattle.corner_lift.specs.Table.{CanRead};
+ghost use Rattle.corner_lift.specs.Lifted.{IsLiftedTo};
 
 use crate::cells::{Teller, Untold, cut, each_row};
 use crate::example::{case_of, chain_of, model_of, root_of, table_of};
-use corner_lift::{
-    Case, LaneSum, PairTable, has_short_sums, is_capped, is_held, least_into, rows_at_corners,
-    table_corner, table_greatest, table_into, table_least, table_others, table_value,
-};
+use corner_lift::{Case, LaneSum, Lifted, has_short_sums, rows_at_corners};
 use lift_model::{Links, Model, OnlyRow, PairRow};
 use std::alloc::{AllocError, Global};
 use std::fmt::Write;
@@ -28,72 +26,92 @@ use std::string::String;
 /// into the goal state; and of the only row of state 0, as far as it is short and leads elsewhere, the same. Last, what it
 /// weighs into other states at the last corner, where 64 bits hold its sums: state 0's own number, 5 there, doesn't count.
 const READ: &str = "\
-0 : p*q;1 : p-p*q;2 : 1-p | 1/5<=p<=2/5,3/5<=q<=4/5 | [13, 25, 32, 32, 16, 64, 2, 8, 1]; [true, true, false, false]; -, -, -; other; 32 of 17
-0 : p;1 : q-p;2 : 1-q | 1/5<=p<=2/5,3/5<=q<=4/5 | [13, 25, 160, 160, 80, 240, 10, 10, 5]; [false, true, false, false]; -, -, -; other; 160 of 15
-1 : 1/2*p+1/2*q;2 : 1-1/2*p-1/2*q | 1/5<=p<=2/5,3/5<=q<=4/5 | [9, 50, 320, 480, 320, 480, 30, 0, 20]; [false, true, true, false]; 320 of 50 by 1, 480 of 50 by 1, 20 of 50 by 1; pair 1 2: 320 of 50 by 1, 480 of 50 by 1, 20 of 50 by 1; 480 of 50
-0 : p*q;1 : p-p*q;2 : 1-p | 1/576460752303423488<=p<=2/576460752303423488,1/576460752303423488<=q<=2/576460752303423488 | [13, 332306998946228968225951765070086144, 9223372036854775792, 18446744073709551552, 9223372036854775776, 18446744073709551584, 1152921504606846972, 4, 576460752303423486]; [true, true, false, false]; -, -, -; other; -
-1 : 1/2*p+1/2*q;2 : 1-1/2*p-1/2*q | 1/536870912<=p<=3/536870912,1/536870912<=q<=3/536870912 | [9, 576460752303423488, 17179869184, 51539607552, 17179869184, 51539607552, 3221225472, 0, 1073741824]; [true, true, false, false]; 16 of 536870912 by 1073741824, 48 of 536870912 by 1073741824, 1 of 536870912 by 1073741824; pair 1 2: 16 of 536870912 by 1073741824, 48 of 536870912 by 1073741824, 1 of 536870912 by 1073741824; -
-0 : 1/2*p+1/2*q;1 : 1-1/2*p-1/2*q | 1/5<=p<=2/5,3/5<=q<=4/5 | [9, 50, 480, 320, 320, 480, 20, 30, 20]; [false, true, true, false]; 320 of 50 by 1, 480 of 50 by 1, 20 of 50 by 1; other; 320 of 20
-1 : p*q;2 : 1-p*q | 1/576460752303423488<=p<=2/576460752303423488,1/576460752303423488<=q<=2/576460752303423488 | [9, 332306998946228968225951765070086144, 16, 64, 16, 64, 4, 0, 1]; [true, true, false, false]; -, -, -; pair 1 2: -, -, -; -
-0 : p*q;1 : 1-p*q | 1/576460752303423488<=p<=2/576460752303423488,1/576460752303423488<=q<=2/576460752303423488 | [9, 332306998946228968225951765070086144, 5316911983139663491615228241121378288, 5316911983139663491615228241121378240, 5316911983139663491615228241121378240, 5316911983139663491615228241121378288, 332306998946228968225951765070086140, 4, 332306998946228968225951765070086140]; [false, false, true, true]; -, -, -; other; -";
+0 : p*q;1 : p-p*q;2 : 1-p | 1/5<=p<=2/5,3/5<=q<=4/5 | \
+    [13, 25, 32, 32, 16, 64, 2, 8, 1]; [true, true, false, false]; -, -, -; other; 32 of 17
+0 : p;1 : q-p;2 : 1-q | 1/5<=p<=2/5,3/5<=q<=4/5 | \
+    [13, 25, 160, 160, 80, 240, 10, 10, 5]; [false, true, false, false]; -, -, -; other; 160 of 15
+1 : 1/2*p+1/2*q;2 : 1-1/2*p-1/2*q | 1/5<=p<=2/5,3/5<=q<=4/5 | \
+    [9, 50, 320, 480, 320, 480, 30, 0, 20]; [false, true, true, false]; \
+    320 of 50 by 1, 480 of 50 by 1, 20 of 50 by 1; pair 1 2: 320 of 50 by 1, 480 of 50 by 1, 20 of 50 by 1; 480 of 50
+0 : p*q;1 : p-p*q;2 : 1-p | 1/576460752303423488<=p<=2/576460752303423488,1/576460752303423488<=q<=2/576460752303423488 | \
+    [13, 332306998946228968225951765070086144, 9223372036854775792, 18446744073709551552, 9223372036854775776, 18446744073709551584, \
+    1152921504606846972, 4, 576460752303423486]; [true, true, false, false]; -, -, -; other; -
+1 : 1/2*p+1/2*q;2 : 1-1/2*p-1/2*q | 1/536870912<=p<=3/536870912,1/536870912<=q<=3/536870912 | \
+    [9, 576460752303423488, 17179869184, 51539607552, 17179869184, 51539607552, 3221225472, 0, 1073741824]; [true, true, false, false]; \
+    16 of 536870912 by 1073741824, 48 of 536870912 by 1073741824, 1 of 536870912 by 1073741824; \
+    pair 1 2: 16 of 536870912 by 1073741824, 48 of 536870912 by 1073741824, 1 of 536870912 by 1073741824; -
+0 : 1/2*p+1/2*q;1 : 1-1/2*p-1/2*q | 1/5<=p<=2/5,3/5<=q<=4/5 | \
+    [9, 50, 480, 320, 320, 480, 20, 30, 20]; [false, true, true, false]; 320 of 50 by 1, 480 of 50 by 1, 20 of 50 by 1; other; 320 of 20
+1 : p*q;2 : 1-p*q | 1/576460752303423488<=p<=2/576460752303423488,1/576460752303423488<=q<=2/576460752303423488 | \
+    [9, 332306998946228968225951765070086144, 16, 64, 16, 64, 4, 0, 1]; [true, true, false, false]; -, -, -; pair 1 2: -, -, -; -
+0 : p*q;1 : 1-p*q | 1/576460752303423488<=p<=2/576460752303423488,1/576460752303423488<=q<=2/576460752303423488 | \
+    [9, 332306998946228968225951765070086144, 5316911983139663491615228241121378288, 5316911983139663491615228241121378240, \
+    5316911983139663491615228241121378240, 5316911983139663491615228241121378288, 332306998946228968225951765070086140, 4, \
+    332306998946228968225951765070086140]; [false, false, true, true]; -, -, -; other; -";
 
 /// What the row of state 0 sums to at its first and at its last corner, and there its weight into state 0.
-fn at_corners(case: &Case, links: &Links, weights: &[i128], vec: &[i64]) -> (i128, i128, i128)
-    requires read { CanRead case.now links.now (spans_of (sides_of case.now.root)) weights.now 0 0 }
-    requires numbers { AreNumbers case.now vec.now }
-    requires corners { corner_count case.now 0 0 ≡ 4 }
+fn at_corners(rows: &Lifted, vec: &[i64]) -> (i128, i128, i128)
+    requires lifted { IsLiftedTo rows.now (spans_of (sides_of rows.now.case.root)) }
+    requires row { HasChoice rows.now.case.model 0 0 }
+    requires numbers { AreNumbers rows.now.case vec.now }
+    requires corners { corner_count rows.now.case 0 0 ≡ 4 }
 {
-    let first = table_value(case, links, weights, 0, 0, 0, vec);
-    let last = table_corner(case, links, weights, 0, 0, 3, vec);
+    let first = rows.table_value(0, 0, 0, vec);
+    let last = rows.table_corner(0, 0, 3, vec);
     (first, last.sum, last.own)
 }
 
 /// The whole of the row of state 0, and its least and its greatest sum over the corners.
-fn over_corners(case: &Case, links: &Links, weights: &[i128], vec: &[i64]) -> (i128, i128, i128)
-    requires read { CanRead case.now links.now (spans_of (sides_of case.now.root)) weights.now 0 0 }
-    requires numbers { AreNumbers case.now vec.now }
+fn over_corners(rows: &Lifted, vec: &[i64]) -> (i128, i128, i128)
+    requires lifted { IsLiftedTo rows.now (spans_of (sides_of rows.now.case.root)) }
+    requires row { HasChoice rows.now.case.model 0 0 }
+    requires numbers { AreNumbers rows.now.case vec.now }
 {
-    let least = table_least(case, links, weights, 0, 0, vec).sum;
-    let greatest = table_greatest(case, links, weights, 0, 0, vec);
+    let least = rows.table_least(0, 0, vec).sum;
+    let greatest = rows.table_greatest(0, 0, vec);
     (greatest.whole, least, greatest.sum)
 }
 
 /// The weight of the row of state 0 into the goal state, at its last corner and the least over the corners.
-fn into_goal(case: &Case, links: &Links, weights: &[i128]) -> (i128, i128)
-    requires read { CanRead case.now links.now (spans_of (sides_of case.now.root)) weights.now 0 0 }
-    requires states { length case.now.model.states ≡ 3 }
-    requires corners { corner_count case.now 0 0 ≡ 4 }
+fn into_goal(rows: &Lifted) -> (i128, i128)
+    requires lifted { IsLiftedTo rows.now (spans_of (sides_of rows.now.case.root)) }
+    requires row { HasChoice rows.now.case.model 0 0 }
+    requires states { length rows.now.case.model.states ≡ 3 }
+    requires corners { corner_count rows.now.case 0 0 ≡ 4 }
 {
-    let last = table_into(case, links, weights, 0, 0, 3, &[1, 0, u32::MAX], 1);
-    let least = least_into(case, links, weights, 0, 0, &[1, 0, u32::MAX], 1).sum;
+    let last = rows.table_into(0, 0, 3, &[1, 0, u32::MAX], 1);
+    let least = rows.table().least_into(0, 0, &[1, 0, u32::MAX], 1).sum;
     (last, least)
 }
 
 /// The numbers that the table tells of the row of state 0.
-fn numbers_of(case: &Case, links: &Links, weights: &[i128], vec: &[i64]) -> [i128; 9]
-    requires read { CanRead case.now links.now (spans_of (sides_of case.now.root)) weights.now 0 0 }
-    requires numbers { AreNumbers case.now vec.now }
-    requires states { length case.now.model.states ≡ 3 }
-    requires corners { corner_count case.now 0 0 ≡ 4 }
+fn numbers_of(rows: &Lifted, vec: &[i64]) -> [i128; 9]
+    requires lifted { IsLiftedTo rows.now (spans_of (sides_of rows.now.case.root)) }
+    requires row { HasChoice rows.now.case.model 0 0 }
+    requires numbers { AreNumbers rows.now.case vec.now }
+    requires states { length rows.now.case.model.states ≡ 3 }
+    requires corners { corner_count rows.now.case 0 0 ≡ 4 }
 {
-    let (first, last, own) = at_corners(case, links, weights, vec);
-    let (whole, least, greatest) = over_corners(case, links, weights, vec);
-    let (goal, into) = into_goal(case, links, weights);
-    let size = weights.len() as i128;
+    let (first, last, own) = at_corners(rows, vec);
+    let (whole, least, greatest) = over_corners(rows, vec);
+    let (goal, into) = into_goal(rows);
+    let size = rows.weights().len() as i128;
     [size, whole, first, last, least, greatest, goal, own, into]
 }
 
 /// Whether the mean of the row of state 0 is at most 9, at most 10, at least 6 and at least 7.
-fn bounds_of(case: &Case, links: &Links, weights: &[i128], vec: &[i64]) -> [bool; 4]
-    requires read { CanRead case.now links.now (spans_of (sides_of case.now.root)) weights.now 0 0 }
-    requires numbers { AreNumbers case.now vec.now }
-    requires precision { case.now.w ≡ 4 }
+fn bounds_of(rows: &Lifted, vec: &[i64]) -> [bool; 4]
+    requires lifted { IsLiftedTo rows.now (spans_of (sides_of rows.now.case.root)) }
+    requires row { HasChoice rows.now.case.model 0 0 }
+    requires numbers { AreNumbers rows.now.case vec.now }
+    requires precision { rows.now.case.w ≡ 4 }
 {
+    let table = rows.table();
     [
-        is_capped(case, links, weights, 0, 0, vec, 9),
-        is_capped(case, links, weights, 0, 0, vec, 10),
-        is_held(case, links, weights, 0, 0, vec, 6),
-        is_held(case, links, weights, 0, 0, vec, 7),
+        table.is_capped(0, 0, vec, 9),
+        table.is_capped(0, 0, vec, 10),
+        table.is_held(0, 0, vec, 6),
+        table.is_held(0, 0, vec, 7),
     ]
 }
 
@@ -121,64 +139,61 @@ fn tell_sums(told: &mut String, sums: Sums) -> Result<(), AllocError> {
 }
 
 /// What is looked up of the row of state 0.
-fn row_told(case: &Case, links: &Links, weights: &[i128], vec: &[i64]) -> Sums
-    requires read { CanRead case.now links.now (spans_of (sides_of case.now.root)) weights.now 0 0 }
-    requires numbers { AreNumbers case.now vec.now }
-    requires states { length case.now.model.states ≡ 3 }
+fn row_told(rows: &Lifted, vec: &[i64]) -> Sums
+    requires lifted { IsLiftedTo rows.now (spans_of (sides_of rows.now.case.root)) }
+    requires row { HasChoice rows.now.case.model 0 0 }
+    requires numbers { AreNumbers rows.now.case vec.now }
+    requires states { length rows.now.case.model.states ≡ 3 }
 {
-    let table = PairTable::of(case, links, weights);
-    let least = table.least(case, links, 0, 0, vec);
-    let greatest = table.greatest(case, links, 0, 0, vec);
-    let into = table.least_into(case, links, 0, 0, &[1, 0, u32::MAX], 1);
+    let least = rows.least(0, 0, vec);
+    let greatest = rows.greatest(0, 0, vec);
+    let into = rows.least_into(0, 0, &[1, 0, u32::MAX], 1);
     (least, greatest, into)
 }
 
 /// What is looked up of the only row of state 0, which has two entries.
-fn pair_told(case: &Case, links: &Links, weights: &[i128], row: PairRow, vec: &[i64]) -> Sums
-    requires read { CanRead case.now links.now (spans_of (sides_of case.now.root)) weights.now 0 0 }
-    requires numbers { AreNumbers case.now vec.now }
-    requires states { length case.now.model.states ≡ 3 }
-    requires row { IsPairRow case.now.model links.now 0 row }
+fn pair_told(rows: &Lifted, row: PairRow, vec: &[i64]) -> Sums
+    requires lifted { IsLiftedTo rows.now (spans_of (sides_of rows.now.case.root)) }
+    requires row { HasChoice rows.now.case.model 0 0 }
+    requires numbers { AreNumbers rows.now.case vec.now }
+    requires states { length rows.now.case.model.states ≡ 3 }
+    requires pair { IsPairRow rows.now.case.model rows.now.links 0 row }
 {
-    let table = PairTable::of(case, links, weights);
-    let least = table.least_of(case, links, 0, row, vec);
-    let greatest = table.greatest_of(case, links, 0, row, vec);
-    let into = table.least_into_of(case, links, 0, row, &[1, 0, u32::MAX], 1);
+    let least = rows.least_of(0, row, vec);
+    let greatest = rows.greatest_of(0, row, vec);
+    let into = rows.least_into_of(0, row, &[1, 0, u32::MAX], 1);
     (least, greatest, into)
 }
 
 /// Tells what is looked up of the only row of state 0, as far as it is short and leads elsewhere.
-fn tell_only(
-    told: &mut String,
-    case: &Case,
-    links: &Links,
-    weights: &[i128],
-    vec: &[i64],
-) -> Result<(), AllocError>
-    requires read { CanRead case.now links.now (spans_of (sides_of case.now.root)) weights.now 0 0 }
-    requires numbers { AreNumbers case.now vec.now }
-    requires states { length case.now.model.states ≡ 3 }
+fn tell_only(told: &mut String, rows: &Lifted, vec: &[i64]) -> Result<(), AllocError>
+    requires lifted { IsLiftedTo rows.now (spans_of (sides_of rows.now.case.root)) }
+    requires row { HasChoice rows.now.case.model 0 0 }
+    requires numbers { AreNumbers rows.now.case vec.now }
+    requires states { length rows.now.case.model.states ≡ 3 }
 {
-    match links.only_row(0) {
+    match rows.only_row(0) {
         OnlyRow::Single(target) => write!(told, "single {target}; "),
         OnlyRow::Pair(row) => {
             write!(told, "pair {} {}: ", row.first, row.second)?;
-            tell_sums(told, pair_told(case, links, weights, row, vec))
+            tell_sums(told, pair_told(rows, row, vec))
         }
         OnlyRow::Other => write!(told, "other; "),
     }
 }
 
 /// What the row of state 0 weighs into other states at its last corner and their whole, if 64 bits hold its sums.
-fn leaving(case: &Case, links: &Links, weights: &[i128], vec: &[i64]) -> Option<(i64, i64)>
-    requires read { CanRead case.now links.now (spans_of (sides_of case.now.root)) weights.now 0 0 }
-    requires numbers { AreNumbers case.now vec.now }
-    requires corners { corner_count case.now 0 0 ≡ 4 }
+fn leaving(rows: &Lifted, vec: &[i64]) -> Option<(i64, i64)>
+    requires lifted { IsLiftedTo rows.now (spans_of (sides_of rows.now.case.root)) }
+    requires row { HasChoice rows.now.case.model 0 0 }
+    requires numbers { AreNumbers rows.now.case vec.now }
+    requires corners { corner_count rows.now.case 0 0 ≡ 4 }
 {
-    if !has_short_sums(case, links, weights, 0, 0) {
+    let _ = rows.w();
+    if !has_short_sums(rows.case(), rows.links(), rows.weights(), 0, 0) {
         return None;
     }
-    let others = table_others(case, links, weights, 0, 0, 3, vec);
+    let others = rows.table().others(0, 0, 3, vec);
     Some((others.sum, others.whole))
 }
 
@@ -191,40 +206,31 @@ fn tell_leaving(told: &mut String, leaving: Option<(i64, i64)>) -> Result<(), Al
 }
 
 /// Tells the numbers and the bounds of the row of state 0, and what is looked up of it.
-fn tell_row(
-    told: &mut String,
-    case: &Case,
-    links: &Links,
-    weights: &[i128],
-    vec: &[i64],
-) -> Result<(), AllocError>
-    requires read { CanRead case.now links.now (spans_of (sides_of case.now.root)) weights.now 0 0 }
-    requires numbers { AreNumbers case.now vec.now }
-    requires states { length case.now.model.states ≡ 3 }
-    requires corners { corner_count case.now 0 0 ≡ 4 }
-    requires precision { case.now.w ≡ 4 }
+fn tell_row(told: &mut String, rows: &Lifted, vec: &[i64]) -> Result<(), AllocError>
+    requires lifted { IsLiftedTo rows.now (spans_of (sides_of rows.now.case.root)) }
+    requires row { HasChoice rows.now.case.model 0 0 }
+    requires numbers { AreNumbers rows.now.case vec.now }
+    requires states { length rows.now.case.model.states ≡ 3 }
+    requires corners { corner_count rows.now.case 0 0 ≡ 4 }
+    requires precision { rows.now.case.w ≡ 4 }
 {
-    let numbers = numbers_of(case, links, weights, vec);
-    let bounds = bounds_of(case, links, weights, vec);
+    let numbers = numbers_of(rows, vec);
+    let bounds = bounds_of(rows, vec);
     write!(told, "{numbers:?}; {bounds:?}; ")?;
-    tell_sums(told, row_told(case, links, weights, vec))?;
-    tell_only(told, case, links, weights, vec)
+    tell_sums(told, row_told(rows, vec))?;
+    tell_only(told, rows, vec)
 }
 
 /// Tells the whole of the row of state 0, by the table of the case's root.
-fn tell_table(
-    told: &mut String,
-    case: &Case,
-    links: &Links,
-    weights: &[i128],
-) -> Result<(), AllocError>
-    requires read { CanRead case.now links.now (spans_of (sides_of case.now.root)) weights.now 0 0 }
-    requires states { length case.now.model.states ≡ 3 }
-    requires corners { corner_count case.now 0 0 ≡ 4 }
-    requires precision { case.now.w ≡ 4 }
+fn tell_table(told: &mut String, rows: &Lifted) -> Result<(), AllocError>
+    requires lifted { IsLiftedTo rows.now (spans_of (sides_of rows.now.case.root)) }
+    requires row { HasChoice rows.now.case.model 0 0 }
+    requires states { length rows.now.case.model.states ≡ 3 }
+    requires corners { corner_count rows.now.case 0 0 ≡ 4 }
+    requires precision { rows.now.case.w ≡ 4 }
 {
-    tell_row(told, case, links, weights, &[0, 16, 0])?;
-    tell_leaving(told, leaving(case, links, weights, &[5, 16, 0]))
+    tell_row(told, rows, &[0, 16, 0])?;
+    tell_leaving(told, leaving(rows, &[5, 16, 0]))
 }
 
 /// The same as a text, by a table that is made.
@@ -236,7 +242,7 @@ fn table_told(alloc: Global, case: &Case, told: &mut String) -> Result<(), Alloc
 {
     let links = Links::build(alloc, case.model())?;
     let weights = table_of(alloc, case, &links)?;
-    tell_table(told, case, &links, &weights)
+    tell_table(told, &Lifted::new(case, &links, &weights))
 }
 
 /// The same where the case has three states, and one row of both parameters at state 0.

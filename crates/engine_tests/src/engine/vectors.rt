@@ -65,7 +65,8 @@ fn shown(alloc: Global, upper: &[i64], value: &[i64]) -> Result<String, Untold> 
 /// where it is lost: a number below half of 2^20 is never enough, as what leaves adds a little, and half of it
 /// is. From 0 on that takes half a million rounds.
 const SLOW: &str = "\
-action a;3 : 1-1e-17;1 : 1e-17/2;2 : 1e-17/2 / action a;0 : 1-1e-17;1 : 1e-17/2;2 : 1e-17/2 | [524288, 1048576, 0, 524288]; [524288, 1048576, 0, 524288]
+action a;3 : 1-1e-17;1 : 1e-17/2;2 : 1e-17/2 / action a;0 : 1-1e-17;1 : 1e-17/2;2 : 1e-17/2 | \
+    [524288, 1048576, 0, 524288]; [524288, 1048576, 0, 524288]
 action a;3 : 4095/4096;2 : 1/4096 / action a;0 : 4095/4096;1 : 1/4096 | [524288, 1048576, 0, 524416]; [524288, 1048576, 0, 524416]";
 
 /// The least vectors of a model at that precision.

@@ -18,7 +18,8 @@ const FAULTS: &str = "\
 1 : 1;2 : 1 | 1/10<=p<=2/5,1/10<=q<=2/5 | Err(RowSum { state: 0, choice: 0, set: 0, sum: 2 })
 1 : p;2 : 1-p | 1/2<=p<=3/2,1/2<=q<=3/2 | Err(Negative { state: 0, choice: 0, target: 2, corner: 1, weight: -1 })
 0 : 1/10;1 : 1/2-p+q;2 : p-q+2/5 | 1/5<=p<=2/5,3/5<=q<=4/5 | Err(Negative { state: 0, choice: 0, target: 2, corner: 2, weight: -50 })
-1 : p*q;2 : 1-p*q | 1/2305843009213693952<=p<=2/2305843009213693952,1/2305843009213693952<=q<=2/2305843009213693952 | Err(TooWide { state: 0, choice: 0 })";
+1 : p*q;2 : 1-p*q | 1/2305843009213693952<=p<=2/2305843009213693952,1/2305843009213693952<=q<=2/2305843009213693952 | \
+    Err(TooWide { state: 0, choice: 0 })";
 
 /// The first fault over a root.
 fn first_fault(model: &Model, root: &Rect, grid: Grid) -> Result<(), RowError>

@@ -15,7 +15,9 @@ parts-present-requires-clause-room c =
     let d_is : to_z w64 (of_z w64 c.grid-d.result.d) ≡ c.args.case.now.d = to_z-of_z d_fits ∙ c.grid-d.ensures.d in
     let rest_is : c.rest-rest.result ≡ c.requires.pair.rest = c.rest-rest.ensures ∙ ap (drop 1) c.requires.pair.low_is in
     let one = entry_size c.entries-entry-items.result.now c.loop-entry.entry-index c.entry-item.result c.loop-entry-test.true c.entry-item.is in
-    let room : abs_sum c.entries-entry-items.result.now * (greatest_end c.args.case.now.d c.args.low.now ^ length c.args.low.now * 2 ^ c.args.case.now.w) < engine_limit = rw c.entries-entry-items.ensures c.requires.low_room in
+    let room : abs_sum c.entries-entry-items.result.now *
+    (greatest_end c.args.case.now.d c.args.pair.now.low ^ length c.args.pair.now.low * 2 ^ c.args.case.now.w) < engine_limit =
+    rw c.entries-entry-items.ensures c.requires.low_room in
     let narrow = rw c.requires.pair.low_is at (entry_room _ _ _ c.args.case.now.w one room) in
     rw (d_is, rest_is, c.deref.ensures) (rest_room c.args.case.now.d c.requires.pair.parameter c.requires.pair.ends.0 c.requires.pair.rest (polynomial.abs_sum c.entry-item.result.poly) c.grid-d.ensures.case.asked.grid.positive narrow)
 
@@ -25,7 +27,9 @@ joined-requires-clause-present c =
     let d_is : to_z w64 (of_z w64 c.grid-d.result.d) ≡ c.args.case.now.d = to_z-of_z d_fits ∙ c.grid-d.ensures.d in
     let rest_is : c.rest-rest.result ≡ c.requires.pair.rest = c.rest-rest.ensures ∙ ap (drop 1) c.requires.pair.low_is in
     let one = entry_size c.entries-entry-items.result.now c.loop-entry.entry-index c.entry-item.result c.loop-entry-test.true c.entry-item.is in
-    let room : abs_sum c.entries-entry-items.result.now * (greatest_end c.args.case.now.d c.args.low.now ^ length c.args.low.now * 2 ^ c.args.case.now.w) < engine_limit = rw c.entries-entry-items.ensures c.requires.low_room in
+    let room : abs_sum c.entries-entry-items.result.now *
+    (greatest_end c.args.case.now.d c.args.pair.now.low ^ length c.args.pair.now.low * 2 ^ c.args.case.now.w) < engine_limit =
+    rw c.entries-entry-items.ensures c.requires.low_room in
     let narrow = rw c.requires.pair.low_is at (entry_room _ _ _ c.args.case.now.w one room) in
     let end_fits : SFits w64 c.first-parameter.result.1 = search rules in
     let end_is : to_z w64 (of_z w64 c.first-parameter.result.1) ≡ c.requires.pair.ends.0 = to_z-of_z end_fits ∙ ap (λ (end : End). end.1) (c.first-parameter.ensures.value ∙ ap (λ (ends : List End). slice_index_or ends 0 (0, pos 0)) c.requires.pair.low_is) in
@@ -42,7 +46,9 @@ joined-requires-clause-absent c =
     let d_is : to_z w64 (of_z w64 c.grid-d.result.d) ≡ c.args.case.now.d = to_z-of_z d_fits ∙ c.grid-d.ensures.d in
     let rest_is : c.rest-rest.result ≡ c.requires.pair.rest = c.rest-rest.ensures ∙ ap (drop 1) c.requires.pair.low_is in
     let one = entry_size c.entries-entry-items.result.now c.loop-entry.entry-index c.entry-item.result c.loop-entry-test.true c.entry-item.is in
-    let room : abs_sum c.entries-entry-items.result.now * (greatest_end c.args.case.now.d c.args.low.now ^ length c.args.low.now * 2 ^ c.args.case.now.w) < engine_limit = rw c.entries-entry-items.ensures c.requires.low_room in
+    let room : abs_sum c.entries-entry-items.result.now *
+    (greatest_end c.args.case.now.d c.args.pair.now.low ^ length c.args.pair.now.low * 2 ^ c.args.case.now.w) < engine_limit =
+    rw c.entries-entry-items.ensures c.requires.low_room in
     let narrow = rw c.requires.pair.low_is at (entry_room _ _ _ c.args.case.now.w one room) in
     let end_fits : SFits w64 c.first-parameter.result.1 = search rules in
     let end_is : to_z w64 (of_z w64 c.first-parameter.result.1) ≡ c.requires.pair.ends.0 = to_z-of_z end_fits ∙ ap (λ (end : End). end.1) (c.first-parameter.ensures.value ∙ ap (λ (ends : List End). slice_index_or ends 0 (0, pos 0)) c.requires.pair.low_is) in
@@ -59,7 +65,9 @@ joined-requires-in-loop-entry-clause-present c =
     let d_is : to_z w64 (of_z w64 c.grid-d.result.d) ≡ c.args.case.now.d = to_z-of_z d_fits ∙ c.grid-d.ensures.d in
     let rest_is : c.rest-rest.result ≡ c.requires.pair.rest = c.rest-rest.ensures ∙ ap (drop 1) c.requires.pair.low_is in
     let one = entry_size c.entries-entry-items.result.now c.loop-entry.entry-index c.entry-item.result c.loop-entry-test.true c.entry-item.is in
-    let room : abs_sum c.entries-entry-items.result.now * (greatest_end c.args.case.now.d c.args.high.now ^ length c.args.high.now * 2 ^ c.args.case.now.w) < engine_limit = rw c.entries-entry-items.ensures c.requires.high_room in
+    let room : abs_sum c.entries-entry-items.result.now *
+    (greatest_end c.args.case.now.d c.args.pair.now.high ^ length c.args.pair.now.high * 2 ^ c.args.case.now.w) < engine_limit =
+    rw c.entries-entry-items.ensures c.requires.high_room in
     let narrow = rw c.requires.pair.high_is at (entry_room _ _ _ c.args.case.now.w one room) in
     let end_fits : SFits w64 c.first-high_end.result.1 = search rules in
     let end_is : to_z w64 (of_z w64 c.first-high_end.result.1) ≡ c.requires.pair.ends.1 = to_z-of_z end_fits ∙ ap (λ (end : End). end.1) (c.first-high_end.ensures.value ∙ ap (λ (ends : List End). slice_index_or ends 0 (0, pos 0)) c.requires.pair.high_is) in
@@ -76,7 +84,9 @@ joined-requires-in-loop-entry-clause-absent c =
     let d_is : to_z w64 (of_z w64 c.grid-d.result.d) ≡ c.args.case.now.d = to_z-of_z d_fits ∙ c.grid-d.ensures.d in
     let rest_is : c.rest-rest.result ≡ c.requires.pair.rest = c.rest-rest.ensures ∙ ap (drop 1) c.requires.pair.low_is in
     let one = entry_size c.entries-entry-items.result.now c.loop-entry.entry-index c.entry-item.result c.loop-entry-test.true c.entry-item.is in
-    let room : abs_sum c.entries-entry-items.result.now * (greatest_end c.args.case.now.d c.args.high.now ^ length c.args.high.now * 2 ^ c.args.case.now.w) < engine_limit = rw c.entries-entry-items.ensures c.requires.high_room in
+    let room : abs_sum c.entries-entry-items.result.now *
+    (greatest_end c.args.case.now.d c.args.pair.now.high ^ length c.args.pair.now.high * 2 ^ c.args.case.now.w) < engine_limit =
+    rw c.entries-entry-items.ensures c.requires.high_room in
     let narrow = rw c.requires.pair.high_is at (entry_room _ _ _ c.args.case.now.w one room) in
     let end_fits : SFits w64 c.first-high_end.result.1 = search rules in
     let end_is : to_z w64 (of_z w64 c.first-high_end.result.1) ≡ c.requires.pair.ends.1 = to_z-of_z end_fits ∙ ap (λ (end : End). end.1) (c.first-high_end.ensures.value ∙ ap (λ (ends : List End). slice_index_or ends 0 (0, pos 0)) c.requires.pair.high_is) in
@@ -106,6 +116,34 @@ loop-entry-preserved c =
     let size : length c.entries-entry-items.result.now ≡ length c.args.row.now = ap (length {A = Entry}) c.entries-entry-items.ensures in
     record {
       at = omega (arith, c.loop-entry.invariant.at);
-      low = written_more (λ (entry : Entry). weight_at c.args.case.now.d c.args.low.now entry.poly) c.loop-entry.low_weights c.entries-entry-items.result.now c.loop-entry.at c.loop-entry.entry-index _ c.entry-item.result c.loop-entry.invariant.at c.loop-entry-test.true (omega (arith, c.loop-entry-test.true, c.loop-entry.invariant.at, size, c.requires.low_space, c.loop-entry.auto.low_weights)) c.entry-item.is (to_z-of_z written_fits ∙ c.joined.ensures ∙ ap₂ ◌+ℤ◌ (ap₂ ◌*ℤ◌ (to_z-of_z present_fits ∙ present_is) low_is) (ap₂ ◌*ℤ◌ (to_z-of_z absent_fits ∙ absent_is) d_is) ∙ sym (parts_join c.args.case.now.d c.requires.pair.ends.0 c.requires.pair.parameter c.requires.pair.rest c.entry-item.result.poly) ∙ ap (λ (ends : List End). weight_at c.args.case.now.d ends c.entry-item.result.poly) (sym c.requires.pair.low_is)) c.loop-entry.invariant.low;
-      high = written_more (λ (entry : Entry). weight_at c.args.case.now.d c.args.high.now entry.poly) c.loop-entry.high_weights c.entries-entry-items.result.now c.loop-entry.at c.loop-entry.entry-index _ c.entry-item.result c.loop-entry.invariant.at c.loop-entry-test.true (omega (arith, c.loop-entry-test.true, c.loop-entry.invariant.at, size, c.requires.high_space, c.loop-entry.auto.high_weights)) c.entry-item.is (to_z-of_z other_fits ∙ c.joined-in-loop-entry.ensures ∙ ap₂ ◌+ℤ◌ (ap₂ ◌*ℤ◌ (to_z-of_z present_fits ∙ present_is) high_is) (ap₂ ◌*ℤ◌ (to_z-of_z absent_fits ∙ absent_is) d_is) ∙ sym (parts_join c.args.case.now.d c.requires.pair.ends.1 c.requires.pair.parameter c.requires.pair.rest c.entry-item.result.poly) ∙ ap (λ (ends : List End). weight_at c.args.case.now.d ends c.entry-item.result.poly) (sym c.requires.pair.high_is)) c.loop-entry.invariant.high;
+      low = written_more (λ (entry : Entry). weight_at c.args.case.now.d c.args.pair.now.low entry.poly) c.loop-entry.low_weights
+          c.entries-entry-items.result.now c.loop-entry.at c.loop-entry.entry-index _ c.entry-item.result c.loop-entry.invariant.at
+          c.loop-entry-test.true (omega (
+            arith,
+            c.loop-entry-test.true,
+            c.loop-entry.invariant.at,
+            size,
+            c.requires.low_space,
+            c.loop-entry.auto.low_weights,
+          )) c.entry-item.is
+          (to_z-of_z written_fits ∙ c.joined.ensures ∙ ap₂ ◌+ℤ◌ (ap₂ ◌*ℤ◌ (to_z-of_z present_fits ∙ present_is) low_is)
+          (ap₂ ◌*ℤ◌ (to_z-of_z absent_fits ∙ absent_is) d_is) ∙ sym
+          (parts_join c.args.case.now.d c.requires.pair.ends.0 c.requires.pair.parameter c.requires.pair.rest c.entry-item.result.poly)
+          ∙ ap (λ (ends : List End). weight_at c.args.case.now.d ends c.entry-item.result.poly) (sym c.requires.pair.low_is))
+          c.loop-entry.invariant.low;
+      high = written_more (λ (entry : Entry). weight_at c.args.case.now.d c.args.pair.now.high entry.poly) c.loop-entry.high_weights
+          c.entries-entry-items.result.now c.loop-entry.at c.loop-entry.entry-index _ c.entry-item.result c.loop-entry.invariant.at
+          c.loop-entry-test.true (omega (
+            arith,
+            c.loop-entry-test.true,
+            c.loop-entry.invariant.at,
+            size,
+            c.requires.high_space,
+            c.loop-entry.auto.high_weights,
+          )) c.entry-item.is
+          (to_z-of_z other_fits ∙ c.joined-in-loop-entry.ensures ∙ ap₂ ◌+ℤ◌ (ap₂ ◌*ℤ◌ (to_z-of_z present_fits ∙ present_is) high_is)
+          (ap₂ ◌*ℤ◌ (to_z-of_z absent_fits ∙ absent_is) d_is) ∙ sym
+          (parts_join c.args.case.now.d c.requires.pair.ends.1 c.requires.pair.parameter c.requires.pair.rest c.entry-item.result.poly)
+          ∙ ap (λ (ends : List End). weight_at c.args.case.now.d ends c.entry-item.result.poly) (sym c.requires.pair.high_is))
+          c.loop-entry.invariant.high;
     }

@@ -1,4 +1,4 @@
 use Rattle.corner_lift.proofs.table.table_min.Given as goal
 
-abbrev pub ghost-table_least : goal.ghost-table_least
-ghost-table_least g a = g.spans
+abbrev pub ghost-least : goal.ghost-least
+ghost-least g a = g.spans

@@ -1,4 +1,4 @@
 use Rattle.corner_lift.proofs.table.table_others.Given as goal
 
-abbrev pub ghost-read_row : goal.ghost-read_row
-ghost-read_row g a = g.spans
+abbrev pub ghost-others : goal.ghost-others
+ghost-others g a = g.spans

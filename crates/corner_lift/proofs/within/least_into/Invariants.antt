@@ -1,4 +1,4 @@
 use Rattle.corner_lift.proofs.within.least_into.Given as goal
 
-abbrev pub ghost-read_row : goal.ghost-read_row
-ghost-read_row g a = g.spans
+abbrev pub ghost-least_into : goal.ghost-least_into
+ghost-least_into g a = g.spans

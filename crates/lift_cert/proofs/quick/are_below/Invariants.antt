@@ -4,4 +4,4 @@ use Rattle.lift_cert.proofs.quick.are_below.Given as goal
 
 -- so it is with the targets so far
 abbrev pub invariant-loop-target : goal.invariant-loop-target
-invariant-loop-target l = (i : ℕ) → i < l.target-index → mark l.ranks (slice_index_or l.target-items i 0) < l.below
+invariant-loop-target l = (i : ℕ) → i < l.target-index → mark l.ranks (slice_index_or l.targets i 0) < l.below

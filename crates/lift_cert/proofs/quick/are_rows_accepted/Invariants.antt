@@ -7,4 +7,4 @@ ghost-is_row_accepted g a = g.spans
 
 -- the rows before this choice's pass
 abbrev pub invariant-loop-choice : goal.invariant-loop-choice
-invariant-loop-choice g l = (a : ℕ) → a < l.choice → IsAcceptedRow l.case g.spans l.x l.state a
+invariant-loop-choice g l = (a : ℕ) → a < l.choice → IsAcceptedRow l.table.case g.spans l.x l.state a

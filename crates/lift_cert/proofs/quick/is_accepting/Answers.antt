@@ -8,11 +8,12 @@ use Rattle.lift_cert.proofs.quick.is_accepting.Goals as goal
 
 pub returns-then-not-is_state_accepted : goal.returns-then-not-is_state_accepted
 returns-then-not-is_state_accepted g c =
-    refused c.is_state_accepted.result c.is_state_accepted.ensures c.if-not-is_state_accepted.true
+    refused c.is_state_accepted.result (rw c.new-table.ensures at c.is_state_accepted.ensures) c.if-not-is_state_accepted.true
     (λ accepting. state_from_upper c.rows_at_corners.ensures.parameters c.args.case.now g.spans c.requires.1.0.inside.within c.args.x.now accepting.upper c.loop-state.state)
 
 pub loop-state-preserved : goal.loop-state-preserved
-loop-state-preserved g c = one_more (IsAcceptedState c.args.case.now g.spans c.args.x.now) c.loop-state.state c.loop-state.invariant (c.is_state_accepted.ensures.0 c.if-not-is_state_accepted.false)
+loop-state-preserved g c = one_more (IsAcceptedState c.args.case.now g.spans c.args.x.now) c.loop-state.state c.loop-state.invariant
+    ((rw c.new-table.ensures at c.is_state_accepted.ensures).0 c.if-not-is_state_accepted.false)
 
 pub returns : goal.returns
 returns g c =

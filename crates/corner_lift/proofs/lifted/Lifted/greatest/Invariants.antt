@@ -1,4 +1,4 @@
 use Rattle.corner_lift.proofs.lifted.Lifted.greatest.Given as goal
 
-abbrev pub ghost-greatest : goal.ghost-greatest
-ghost-greatest g a = g.spans
+abbrev pub ghost-row : goal.ghost-row
+ghost-row g a = g.spans

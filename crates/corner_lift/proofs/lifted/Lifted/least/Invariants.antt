@@ -1,4 +1,4 @@
 use Rattle.corner_lift.proofs.lifted.Lifted.least.Given as goal
 
-abbrev pub ghost-least : goal.ghost-least
-ghost-least g a = g.spans
+abbrev pub ghost-row : goal.ghost-row
+ghost-row g a = g.spans

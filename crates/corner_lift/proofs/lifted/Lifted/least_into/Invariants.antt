@@ -1,4 +1,4 @@
 use Rattle.corner_lift.proofs.lifted.Lifted.least_into.Given as goal
 
-abbrev pub ghost-least_into : goal.ghost-least_into
-ghost-least_into g a = g.spans
+abbrev pub ghost-row : goal.ghost-row
+ghost-row g a = g.spans

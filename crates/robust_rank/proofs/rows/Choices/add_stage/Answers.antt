@@ -16,17 +16,28 @@ loop-i-preserved g c =
     record {
       gathering = made.gathering;
       looked = λ j from lt. one_more
-          (λ j. c.args.from ≤ j → All (IsLooked c.args.self.now.rows.case.now c.args.self.now.allowed.now g.start c.args.rank c.try_before-found.new.ranks) (states_before c.args.self.now.rows.links.now (mark g.start.queue j)))
+          (λ j. c.args.stage.from ≤ j → All
+          (IsLooked c.args.self.now.rows.case.now c.args.self.now.allowed.now g.start c.args.stage.rank c.try_before-found.new.ranks)
+          (states_before c.args.self.now.rows.links.now (mark g.start.queue j)))
           c.loop-i.i
-          (λ j l from n d at. still_looked c.args.self.now.rows.case.now c.args.self.now.allowed.now g.start c.args.rank c.loop-i.ranks c.try_before-found.new.ranks (get_or (states_before c.args.self.now.rows.links.now (mark g.start.queue j)) n d) made.kept (before.looked j from l n d at))
-          (λ from. subst (λ t. All (IsLooked c.args.self.now.rows.case.now c.args.self.now.allowed.now g.start c.args.rank c.try_before-found.new.ranks) (states_before c.args.self.now.rows.links.now t)) same made.looked)
+          (λ j l from n d at. still_looked c.args.self.now.rows.case.now c.args.self.now.allowed.now g.start c.args.stage.rank
+          c.loop-i.ranks c.try_before-found.new.ranks (get_or (states_before c.args.self.now.rows.links.now (mark g.start.queue j)) n d)
+          made.kept (before.looked j from l n d at))
+          (λ from. subst (λ t. All (IsLooked c.args.self.now.rows.case.now c.args.self.now.allowed.now g.start c.args.stage.rank
+          c.try_before-found.new.ranks) (states_before c.args.self.now.rows.links.now t)) same made.looked)
           j lt from;
     }
 
 pub returns : goal.returns
 returns g c =
     let ends = c.loop-i.invariant in
-    let some : c.args.from < g.start.to = omega (arith, c.requires.1.1.1, c.requires.1.0.1.1) in
-    let small = small_stage c.args.self.now.rows.case.now g.start.spans c.args.self.now.allowed.now g.start.ranks g.start.queue c.args.rank c.args.from g.start.to c.w.ensures.case some c.requires.1.1.0 in
-    let done = stage_done c.args.self.now.rows.case.now c.args.self.now.rows.links.now c.args.self.now.allowed.now g.start c.args.rank c.args.from c.requires.0.links c.requires.1.1.0 small c.loop-i.found c.loop-i.ranks c.loop-i.queue ends.gathering (λ j from lt. ends.looked j from (omega (arith, lt, c.loop-i-test.false, c.requires.1.0.1.1))) some in
-    record { complete = subst (λ n. IsComplete c.args.self.now.rows.case.now g.start.spans c.args.self.now.allowed.now c.loop-i.ranks c.loop-i.queue (suc c.args.rank) n c.loop-i.found) c.requires.1.0.1.1 done }
+    let some : c.args.stage.from < g.start.to = omega (arith, c.requires.1.1.1, c.requires.1.0.1.1) in
+    let small = small_stage c.args.self.now.rows.case.now g.start.spans c.args.self.now.allowed.now g.start.ranks g.start.queue
+    c.args.stage.rank c.args.stage.from g.start.to c.w.ensures.case some c.requires.1.1.0 in
+    let done = stage_done c.args.self.now.rows.case.now c.args.self.now.rows.links.now c.args.self.now.allowed.now g.start c.args.stage.rank
+    c.args.stage.from c.requires.0.links c.requires.1.1.0 small c.loop-i.found c.loop-i.ranks c.loop-i.queue ends.gathering
+    (λ j from lt. ends.looked j from (omega (arith, lt, c.loop-i-test.false, c.requires.1.0.1.1))) some in
+    record {
+      complete = subst (λ n. IsComplete c.args.self.now.rows.case.now g.start.spans c.args.self.now.allowed.now c.loop-i.ranks
+          c.loop-i.queue (suc c.args.stage.rank) n c.loop-i.found) c.requires.1.0.1.1 done;
+    }

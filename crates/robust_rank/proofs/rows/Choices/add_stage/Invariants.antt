@@ -11,5 +11,6 @@ ghost-try_before g a = g.start
 abbrev pub invariant-loop-i : goal.invariant-loop-i
 invariant-loop-i g l = record {
   gathering : IsGathering l.self.rows.case.now l.self.allowed.now g.start l.rank l.found l.ranks l.queue;
-  looked : (j : ℕ) → l.from ≤ j → j < l.i → All (IsLooked l.self.rows.case.now l.self.allowed.now g.start l.rank l.ranks) (states_before l.self.rows.links.now (mark g.start.queue j));
+  looked : (j : ℕ) → l.fn.stage.from ≤ j → j < l.i → All (IsLooked l.self.rows.case.now l.self.allowed.now g.start l.rank l.ranks)
+      (states_before l.self.rows.links.now (mark g.start.queue j));
 }

@@ -18,15 +18,19 @@ loop-s-preserved g c =
     let before = c.loop-s.invariant.looked in
     let kept = c.try_state-found.ensures.kept in
     let inside = rw c.before-s-items.ensures at c.loop-s-test.true in
-    let on : All (IsLooked c.args.self.now.rows.case.now c.args.self.now.allowed.now g.start c.args.rank c.try_state-found.new.ranks) (take c.loop-s.s-index list) = λ i d lt. still_looked c.args.self.now.rows.case.now c.args.self.now.allowed.now g.start c.args.rank c.loop-s.ranks c.try_state-found.new.ranks (get_or (take c.loop-s.s-index list) i d) kept (before i d lt) in
+    let on : All (IsLooked c.args.self.now.rows.case.now c.args.self.now.allowed.now g.start c.args.search.rank c.try_state-found.new.ranks)
+    (take c.loop-s.s-index list) = λ i d lt. still_looked c.args.self.now.rows.case.now c.args.self.now.allowed.now g.start
+    c.args.search.rank c.loop-s.ranks c.try_state-found.new.ranks (get_or (take c.loop-s.s-index list) i d) kept (before i d lt) in
     record {
       gathering = c.try_state-found.ensures.gathering;
       kept = kept_on c.args.ranks.now c.loop-s.ranks c.try_state-found.new.ranks c.loop-s.invariant.kept kept;
-      looked = All-more (IsLooked c.args.self.now.rows.case.now c.args.self.now.allowed.now g.start c.args.rank c.try_state-found.new.ranks) list c.loop-s.s-index 0 inside on (rw c.before-s-items.ensures at c.try_state-found.ensures.looked);
+      looked = All-more (IsLooked c.args.self.now.rows.case.now c.args.self.now.allowed.now g.start c.args.search.rank
+          c.try_state-found.new.ranks) list c.loop-s.s-index 0 inside on (rw c.before-s-items.ensures at c.try_state-found.ensures.looked);
     }
 
 pub returns-clause-looked : goal.returns-clause-looked
 returns-clause-looked g c =
     let list = states_before c.args.self.now.rows.links.now c.args.t in
     let all : take c.loop-s.s-index list ≡ list = take_all c.loop-s.s-index list (rw c.before-s-items.ensures at c.loop-s-test.false) in
-    subst (λ l. All (IsLooked c.args.self.now.rows.case.now c.args.self.now.allowed.now g.start c.args.rank c.loop-s.ranks) l) all c.loop-s.invariant.looked
+    subst (λ l. All (IsLooked c.args.self.now.rows.case.now c.args.self.now.allowed.now g.start c.args.search.rank c.loop-s.ranks) l) all
+    c.loop-s.invariant.looked

@@ -10,5 +10,6 @@ abbrev pub invariant-loop-s : goal.invariant-loop-s
 invariant-loop-s g l = record {
   gathering : IsGathering l.self.rows.case.now l.self.allowed.now g.start l.rank l.found l.ranks l.queue;
   kept : AreKept l.fn.ranks l.ranks;
-  looked : All (IsLooked l.self.rows.case.now l.self.allowed.now g.start l.rank l.ranks) (take l.s-index (states_before l.self.rows.links.now l.t));
+  looked : All (IsLooked l.self.rows.case.now l.self.allowed.now g.start l.rank l.ranks)
+      (take l.s-index (states_before l.self.rows.links.now l.t));
 }

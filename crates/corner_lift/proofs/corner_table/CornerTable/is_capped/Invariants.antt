@@ -1,0 +1,4 @@
+use Rattle.corner_lift.proofs.corner_table.CornerTable.is_capped.Given as goal
+
+abbrev pub ghost-row : goal.ghost-row
+ghost-row g a = g.spans

@@ -1,4 +1,0 @@
-use Rattle.corner_lift.proofs.paired.PairTable.greatest.Given as goal
-
-abbrev pub ghost-read_row : goal.ghost-read_row
-ghost-read_row g a = g.spans
