@@ -132,4 +132,5 @@ def write_profiled(out: str) -> None:
     libraries = [crate for crate in closure(["plift"]) if crate != "plift"]
     write_programs(out, ["main"], WHOLE + "debug = 1\n")
     write_part(out, "main", "native", ["rstd", *libraries])
-    write(f"{out}/main/src/report.rs", as_rust(read(os.path.join(ROOT, "crates/plift_top/src/report.rt"))))
+    for part in ("question", "report"):
+        write(f"{out}/main/src/{part}.rs", as_rust(read(os.path.join(ROOT, f"crates/plift_top/src/{part}.rt"))))

@@ -192,102 +192,88 @@ fn parameter(alloc: Global, text: &[u8], symbol: Symbol, names: &Names) -> Resul
     }
 }
 
-/// A literal, a name, a parenthesis, or a factor behind a unary minus.
-#[cycle(value)]
-fn factor(
-    alloc: Global,
-    text: &[u8],
-    line: Line,
-    at: usize,
-    names: &Names,
-    depth: u32,
-) -> Result<Part, ExprError>
-    requires line { LiesIn line text.now }
-    requires place { IsOn at line }
-    requires names { length names.now ≤ parameter_limit }
-    requires depth { depth ≤ most_nesting }
-    ensures further { IfOk result (λ part. IsFurther text.now line at part.to) }
-    ensures factor { IsFactor names.now depth text.now line at result }
-{
-    let Some(symbol) = next_symbol(text, line, at) else {
-        return Err(ExprError::Syntax);
-    };
-    match symbol.form {
-        SymbolForm::Minus => {
-            let depth = deeper(depth)?;
-            let inner = factor(alloc, text, line, symbol.to, names, depth)?;
-            Ok(Part {
-                value: negated(inner.value),
-                to: inner.to,
-            })
-        }
-        SymbolForm::Left => {
-            let depth = deeper(depth)?;
-            let inner = value(alloc, text, line, symbol.to, names, depth)?;
-            let to = closed(text, line, inner.to)?;
-            Ok(Part {
-                value: inner.value,
-                to,
-            })
-        }
-        SymbolForm::Literal => literal(alloc, text, symbol),
-        SymbolForm::Name => parameter(alloc, text, symbol, names),
-        _ => Err(ExprError::Syntax),
-    }
+/// Reads values in a line of a text, over the names of parameters.
+#[derive(Clone, Copy)]
+pub(crate) struct Parser<'a> {
+    pub alloc: Global,
+    pub text: &'a [u8],
+    pub line: Line,
+    pub names: &'a Names,
+    ghost lies: { LiesIn line text.now },
+    ghost few: { length names.now ≤ parameter_limit },
 }
 
-/// Factors that are multiplied and divided, from the left.
-#[cycle(value)]
-fn term(
-    alloc: Global,
-    text: &[u8],
-    line: Line,
-    at: usize,
-    names: &Names,
-    depth: u32,
-) -> Result<Part, ExprError>
-    requires line { LiesIn line text.now }
-    requires place { IsOn at line }
-    requires names { length names.now ≤ parameter_limit }
-    requires depth { depth ≤ most_nesting }
-    ensures further { IfOk result (λ part. IsFurther text.now line at part.to) }
-    ensures term { IsTerm names.now depth text.now line at result }
-{
-    let mut left = factor(alloc, text, line, at, names, depth)?;
-    while let Some((operation, to)) = factor_operator(text, line, left.to) {
-        let right = factor(alloc, text, line, to, names, depth)?;
-        left = Part {
-            value: calculated(alloc, operation, left.value, right.value),
-            to: right.to,
+impl Parser<'_> {
+    /// A literal, a name, a parenthesis, or a factor behind a unary minus.
+    #[cycle(value)]
+    fn factor(&self, at: usize, depth: u32) -> Result<Part, ExprError>
+        requires place { IsOn at self.now.line }
+        requires depth { depth ≤ most_nesting }
+        ensures further { IfOk result (λ part. IsFurther self.now.text.now self.now.line at part.to) }
+        ensures factor { IsFactor self.now.names.now depth self.now.text.now self.now.line at result }
+    {
+        let Some(symbol) = next_symbol(self.text, self.line, at) else {
+            return Err(ExprError::Syntax);
         };
+        match symbol.form {
+            SymbolForm::Minus => {
+                let depth = deeper(depth)?;
+                let inner = self.factor(symbol.to, depth)?;
+                Ok(Part {
+                    value: negated(inner.value),
+                    to: inner.to,
+                })
+            }
+            SymbolForm::Left => {
+                let depth = deeper(depth)?;
+                let inner = self.value(symbol.to, depth)?;
+                let to = closed(self.text, self.line, inner.to)?;
+                Ok(Part {
+                    value: inner.value,
+                    to,
+                })
+            }
+            SymbolForm::Literal => literal(self.alloc, self.text, symbol),
+            SymbolForm::Name => parameter(self.alloc, self.text, symbol, self.names),
+            _ => Err(ExprError::Syntax),
+        }
     }
-    Ok(left)
-}
 
-/// Terms that are added and subtracted, from the left.
-#[cycle(value)]
-pub(crate) fn value(
-    alloc: Global,
-    text: &[u8],
-    line: Line,
-    at: usize,
-    names: &Names,
-    depth: u32,
-) -> Result<Part, ExprError>
-    requires line { LiesIn line text.now }
-    requires place { IsOn at line }
-    requires names { length names.now ≤ parameter_limit }
-    requires depth { depth ≤ most_nesting }
-    ensures further { IfOk result (λ part. IsFurther text.now line at part.to) }
-    ensures value { IsValue names.now depth text.now line at result }
-{
-    let mut left = term(alloc, text, line, at, names, depth)?;
-    while let Some((operation, to)) = term_operator(text, line, left.to) {
-        let right = term(alloc, text, line, to, names, depth)?;
-        left = Part {
-            value: calculated(alloc, operation, left.value, right.value),
-            to: right.to,
-        };
+    /// Factors that are multiplied and divided, from the left.
+    #[cycle(value)]
+    fn term(&self, at: usize, depth: u32) -> Result<Part, ExprError>
+        requires place { IsOn at self.now.line }
+        requires depth { depth ≤ most_nesting }
+        ensures further { IfOk result (λ part. IsFurther self.now.text.now self.now.line at part.to) }
+        ensures term { IsTerm self.now.names.now depth self.now.text.now self.now.line at result }
+    {
+        let mut left = self.factor(at, depth)?;
+        while let Some((operation, to)) = factor_operator(self.text, self.line, left.to) {
+            let right = self.factor(to, depth)?;
+            left = Part {
+                value: calculated(self.alloc, operation, left.value, right.value),
+                to: right.to,
+            };
+        }
+        Ok(left)
     }
-    Ok(left)
+
+    /// Terms that are added and subtracted, from the left.
+    #[cycle(value)]
+    pub fn value(&self, at: usize, depth: u32) -> Result<Part, ExprError>
+        requires place { IsOn at self.now.line }
+        requires depth { depth ≤ most_nesting }
+        ensures further { IfOk result (λ part. IsFurther self.now.text.now self.now.line at part.to) }
+        ensures value { IsValue self.now.names.now depth self.now.text.now self.now.line at result }
+    {
+        let mut left = self.term(at, depth)?;
+        while let Some((operation, to)) = term_operator(self.text, self.line, left.to) {
+            let right = self.term(to, depth)?;
+            left = Part {
+                value: calculated(self.alloc, operation, left.value, right.value),
+                to: right.to,
+            };
+        }
+        Ok(left)
+    }
 }

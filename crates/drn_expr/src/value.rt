@@ -8,7 +8,7 @@ ghost use Rattle.drn_expr.specs.Parsing.{left};
 
 use crate::error::ExprError;
 use crate::laws::readings_follow;
-use crate::parse::{ended, value};
+use crate::parse::{Parser, ended};
 use crate::rat_poly::RatPoly;
 use drn_lexer::{Line, next_symbol};
 use lift_names::Names;
@@ -67,7 +67,13 @@ pub fn read_value(
     if is_long(text, line, from) {
         return Err(ExprError::Long);
     }
-    let whole = value(alloc, text, line, from, names, 0)?;
+    let parser = Parser {
+        alloc,
+        text,
+        line,
+        names,
+    };
+    let whole = parser.value(from, 0)?;
     ended(text, line, whole.to)?;
     let value = whole.value?;
     Ok(value.compact())

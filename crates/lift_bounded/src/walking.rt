@@ -30,46 +30,56 @@ fn is_decided(verdict: Verdict) -> bool
     !matches!(verdict, Verdict::Unknown)
 }
 
-/// Writes the nodes of the tree of the rectangle that the room's last lane of sides holds.
-fn write_at<K: Sink>(
-    case: &Case,
-    links: &Links,
+/// Walks over the tree of a case, for a bound.
+#[derive(Clone, Copy)]
+struct Walker<'a> {
+    case: &'a Case<'a>,
+    /// The links of the case's model.
+    links: &'a Links,
     bound: Bound,
+    /// The case's greatest depth.
     greatest: u32,
-    depth: u32,
-    room: &mut BoundedRoom,
-    out: &mut K,
-) -> Result<(), WriteFault>
-    requires case { IsCase case.now }
-    requires links { AreLinks case.now.model links.now }
-    requires greatest { greatest ≡ greatest_depth case.now }
-    requires depth { depth ≤ greatest }
-    requires lanes { HasStepLanes case.now.model links.now room.old }
-    requires placed { SidesStandAt case.now depth room.old.sides }
-    ensures wrote { WroteSome (IsTreeText case.now bound room.old.steps (last_spans room.old) depth)
-        K.taken K.faults out.old out.new result }
-    ensures sides { room.new.sides ≡ room.old.sides }
-    ensures shape { KeepsShape room.old room.new }
-{
-    certificates_by_steps_are_one();
-    split_axes_are_one();
-    sides_go_down();
-    lanes_have_shapes::<i64>();
-    lanes_have_shapes::<u32>();
-    let verdict = decide(case, links, bound, room);
-    if depth == greatest || is_decided(verdict) {
-        return write_leaf(out, case, room, verdict);
+}
+
+impl Walker<'_> {
+    /// Writes the nodes of the tree of the rectangle that the room's last lane of sides holds.
+    fn write_at<K: Sink>(
+        &self,
+        depth: u32,
+        room: &mut BoundedRoom,
+        out: &mut K,
+    ) -> Result<(), WriteFault>
+        requires case { IsCase self.now.case.now }
+        requires links { AreLinks self.now.case.now.model self.now.links.now }
+        requires greatest { self.now.greatest ≡ greatest_depth self.now.case.now }
+        requires depth { depth ≤ self.now.greatest }
+        requires lanes { HasStepLanes self.now.case.now.model self.now.links.now room.old }
+        requires placed { SidesStandAt self.now.case.now depth room.old.sides }
+        ensures wrote { WroteSome (IsTreeText self.now.case.now self.now.bound room.old.steps (last_spans room.old) depth)
+            K.taken K.faults out.old out.new result }
+        ensures sides { room.new.sides ≡ room.old.sides }
+        ensures shape { KeepsShape room.old room.new }
+    {
+        certificates_by_steps_are_one();
+        split_axes_are_one();
+        sides_go_down();
+        lanes_have_shapes::<i64>();
+        lanes_have_shapes::<u32>();
+        let verdict = decide(self.case, self.links, self.bound, room);
+        if depth == self.greatest || is_decided(verdict) {
+            return write_leaf(out, self.case, room, verdict);
+        }
+        let axis = axis_of(self.case, room.sides());
+        write_split(out, axis)?;
+        room.take_half(axis, true);
+        let first = self.write_at::<K>(depth + 1, room, out);
+        room.give_half();
+        first?;
+        room.take_half(axis, false);
+        let second = self.write_at::<K>(depth + 1, room, out);
+        room.give_half();
+        second
     }
-    let axis = axis_of(case, room.sides());
-    write_split(out, axis)?;
-    room.take_half(axis, true);
-    let first = write_at::<K>(case, links, bound, greatest, depth + 1, room, out);
-    room.give_half();
-    first?;
-    room.take_half(axis, false);
-    let second = write_at::<K>(case, links, bound, greatest, depth + 1, room, out);
-    room.give_half();
-    second
 }
 
 /// Writes the lines of the nodes of the case's right tree for as many steps as the room was made for, in preorder,
@@ -94,6 +104,11 @@ pub fn write_tree<K: Sink>(
     rows_are_rectangles();
     let _ = case.w();
     room.begin(case);
-    let greatest = case.greatest_depth();
-    write_at::<K>(case, links, bound, greatest, 0, room, out)
+    let walker = Walker {
+        case: &*case,
+        links: &*links,
+        bound,
+        greatest: case.greatest_depth(),
+    };
+    walker.write_at::<K>(0, room, out)
 }

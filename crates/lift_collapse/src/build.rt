@@ -8,7 +8,7 @@ ghost use Rattle.lift_collapse.specs.Building.{AreParts, HasTargets, built, goal
 ghost use Rattle.lift_collapse.specs.Collapse.{IsCollapse};
 
 use crate::collapsed::Collapsed;
-use crate::holds::{is_collapse, number_at};
+use crate::holds::{Candidate, number_at};
 use crate::search::{Found, find_places};
 use lift_model::{Entry, Links, Model, Row};
 use lift_names::Names;
@@ -211,7 +211,8 @@ fn has_few_choices(states: &[Vec<Row>]) -> bool
 fn can_be_built(alloc: Global, states: &[Vec<Row>]) -> Result<bool, AllocError>
     ensures rows { IfOk result (λ can. IsTrue can → All (All (HasTargets (length states.now))) (map (λ v. v.items) states.now)) }
     ensures choices { IfOk result (λ can. IsTrue can → sum_by length (map (λ v. v.items) states.now) ≤ most_choices) }
-    ensures transitions { IfOk result (λ can. IsTrue can → sum_by (sum_by length) (map (λ v. v.items) states.now) ≤ most_transitions) }
+    ensures transitions { IfOk result (λ can. IsTrue can
+        → sum_by (sum_by length) (map (λ v. v.items) states.now) ≤ most_transitions) }
 {
     let mut seen = vec![in alloc; 0u32; states.len()]?;
     if !all_have_targets(states, &mut seen) || !has_few_choices(states) {
@@ -270,7 +271,14 @@ pub(crate) fn collapse(
         model: collapsed,
         places,
     };
-    if is_collapse(model, links, &collapsed, &kept, &lost) {
+    let candidate = Candidate {
+        model,
+        links,
+        collapsed: &collapsed,
+        kept: &kept,
+        lost: &lost,
+    };
+    if candidate.is_collapse() {
         Ok(Some(collapsed))
     } else {
         Ok(None)

@@ -6,6 +6,7 @@ ghost use Rattle.lift_model.specs.Links.{AreLinks};
 ghost use Rattle.lift_bounded.specs.Rooms.{IsMadeFor};
 ghost use Rattle.plift_top.specs.Bounded.{within_lines, bounded_head, IsBoundedText};
 
+use crate::question::Question;
 use cert_text::{write_box, write_model};
 use corner_lift::Case;
 use lift_base::{
@@ -13,7 +14,6 @@ use lift_base::{
 };
 use lift_bounded::{BoundedRoom, write_tree};
 use lift_cert::Bound;
-use lift_model::Links;
 
 // Writes what is asked of a case.
 #[tactic(auto, unfolding(crate::specs::Bounded::within_lines))]
@@ -67,59 +67,48 @@ fn write_bounded_head<K: Sink>(
 // Writes the head, and then each node of the case's right tree for as many steps as the room was made for, as soon
 // as it is decided. Takes no memory.
 fn write_bounded<K: Sink>(
-    case: &Case,
-    links: &Links,
-    bound: Bound,
+    question: &Question,
     room: &mut BoundedRoom,
     out: &mut K,
 ) -> Result<(), WriteFault>
-    requires links { AreLinks case.now.model links.now }
-    requires made { IsMadeFor case.now links.now room.old }
-    ensures { WroteSome (IsBoundedText case.now bound room.old.steps)
+    requires links { AreLinks question.now.case.now.model question.now.links.now }
+    requires made { IsMadeFor question.now.case.now question.now.links.now room.old }
+    ensures { WroteSome (IsBoundedText question.now.case.now question.now.bound room.old.steps)
         K.taken K.faults out.old out.new result }
 {
-    write_bounded_head(out, case, bound, room.steps())?;
-    write_tree(case, links, bound, room, out)
+    write_bounded_head(out, question.case, question.bound, room.steps())?;
+    write_tree(question.case, question.links, question.bound, room, out)
 }
 
-// A case, with what a walk over its tree for a number of steps needs.
+// What is asked of a case, with what a walk over its tree for a number of steps needs.
 #[derive(Drop)]
-struct BoundedReport<'c, 'm, 'l, 'r> {
-    case: &'c Case<'m>,
-    links: &'l Links,
-    bound: Bound,
+struct BoundedReport<'q, 'c, 'm, 'r> {
+    question: &'q Question<'c, 'm>,
     room: &'r mut BoundedRoom,
 }
 
-impl<'c, 'm, 'l, 'r> Telling for BoundedReport<'c, 'm, 'l, 'r> {
-    ghost is_ready = { λ r. AreLinks r.case.now.model r.links.now
-        × IsMadeFor r.case.now r.links.now r.room.now };
+impl<'q, 'c, 'm, 'r> Telling for BoundedReport<'q, 'c, 'm, 'r> {
+    ghost is_ready = { λ r. AreLinks r.question.now.case.now.model r.question.now.links.now
+        × IsMadeFor r.question.now.case.now r.question.now.links.now r.room.now };
 
-    ghost is_text = { λ r bytes. IsBoundedText r.case.now r.bound r.room.now.steps bytes };
+    ghost is_text = { λ r bytes. IsBoundedText r.question.now.case.now r.question.now.bound r.room.now.steps bytes };
 
     fn tell_to<K: Sink>(&mut self, out: &mut K) -> Result<(), WriteFault> {
-        write_bounded(self.case, self.links, self.bound, self.room, out)
+        write_bounded(self.question, self.room, out)
     }
 }
 
 /// Writes the text of a case for as many steps as the room was made for, by way of a buffer. Takes no memory.
 pub(crate) fn write_bounded_buffered<K: Sink>(
-    case: &Case,
-    links: &Links,
-    bound: Bound,
+    question: &Question,
     room: &mut BoundedRoom,
     out: &mut K,
 ) -> Result<(), WriteFault>
-    requires links { AreLinks case.now.model links.now }
-    requires made { IsMadeFor case.now links.now room.old }
-    ensures { WroteSome (IsBoundedText case.now bound room.old.steps)
+    requires links { AreLinks question.now.case.now.model question.now.links.now }
+    requires made { IsMadeFor question.now.case.now question.now.links.now room.old }
+    ensures { WroteSome (IsBoundedText question.now.case.now question.now.bound room.old.steps)
         K.taken K.faults out.old out.new result }
 {
-    let mut report = BoundedReport {
-        case,
-        links,
-        bound,
-        room,
-    };
+    let mut report = BoundedReport { question, room };
     tell_buffered(out, &mut report)
 }

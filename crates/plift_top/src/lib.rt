@@ -10,6 +10,7 @@ mod lumped;
 mod migrate;
 mod notes;
 mod program;
+mod question;
 mod refusal;
 mod report;
 mod selftest;

@@ -5,6 +5,7 @@ ghost use Rattle.plift_words.specs.declared.way.Way.TheVariants as way;
 ghost use Rattle.plift_top.specs.Steps.{IsTestedCase, AnswersCase};
 ghost use Rattle.plift_top.specs.Lumped.{lumped_case};
 
+use crate::question::Question;
 use crate::refusal::Refusal;
 use crate::verify::write_whole;
 use corner_lift::Case;
@@ -29,7 +30,12 @@ fn write_quotient<K: Sink>(
 {
     let quotient = Case::new(lumped.model(), case.root(), case.grid(), case.w());
     let links = Links::build(alloc, lumped.model())?;
-    write_whole(alloc, &quotient, &links, bound, None, out)
+    let question = Question {
+        case: &quotient,
+        links: &links,
+        bound,
+    };
+    write_whole(alloc, &question, None, out)
 }
 
 /// Lumps the chain of a case whose rows were tested, takes all memory that its quotient needs, and writes the report

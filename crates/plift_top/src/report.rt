@@ -9,6 +9,7 @@ ghost use Rattle.region_tree.specs.declared.visitor.Seen.TheVariants.{Failed, Ke
 ghost use Rattle.cert_text.specs.Report.{at_lines};
 ghost use Rattle.plift_top.specs.RightReport.{IsRange, IsRightReport, least, node_text};
 
+use crate::question::Question;
 use cert_text::{write_accept, write_at, write_head, write_reject, write_split, write_unknown};
 use corner_lift::Case;
 use lift_base::{Sink, Telling, WriteFault, tell_buffered, writes_in_turn};
@@ -88,24 +89,40 @@ impl<'r, 'c, 'm, K: Sink> Visitor for Reporter<'r, 'c, 'm, K> {
 }
 
 // Walks over the tree of a case for its range of precisions and writes the lines of its nodes.
-fn write_tree<K: Sink>(
-    case: &Case,
-    links: &Links,
-    bound: Bound,
-    from: Option<u32>,
-    room: &mut Room,
-    out: &mut K,
-) -> Seen
-    requires links { AreLinks case.now.model links.now }
-    requires from { IsRange case.now from }
-    requires made { IsMadeFor case.now links.now room.old }
-    ensures walks { Walks case.now (least case.now from) case.now.root bound 0
-        K.taken K.faults (node_text case.now from) out.old out.new result }
+fn write_tree<K: Sink>(question: &Question, from: Option<u32>, room: &mut Room, out: &mut K) -> Seen
+    requires links { AreLinks question.now.case.now.model question.now.links.now }
+    requires from { IsRange question.now.case.now from }
+    requires made { IsMadeFor question.now.case.now question.now.links.now room.old }
+    ensures walks { Walks question.now.case.now (least question.now.case.now from) question.now.case.now.root
+        question.now.bound 0 K.taken K.faults (node_text question.now.case.now from) out.old out.new result }
     ensures room { IsAsMade room.old room.new }
 {
+    let (case, links, bound) = (question.case, question.links, question.bound);
     let least = from.unwrap_or(case.w());
     let mut reporter = Reporter { out, case, from };
     walk(case, links, bound, least, room, &mut reporter)
+}
+
+// Writes what `write_report` does.
+fn write_text<K: Sink>(
+    question: &Question,
+    from: Option<u32>,
+    room: &mut Room,
+    out: &mut K,
+) -> Result<(), WriteFault>
+    requires links { AreLinks question.now.case.now.model question.now.links.now }
+    requires from { IsRange question.now.case.now from }
+    requires made { IsMadeFor question.now.case.now question.now.links.now room.old }
+    ensures wrote { WroteSome (IsRightReport question.now.case.now from question.now.bound)
+        K.taken K.faults out.old out.new result }
+    ensures room { IsAsMade room.old room.new }
+{
+    writes_in_turn::<K>();
+    write_head(out, question.case, question.bound, from)?;
+    match write_tree(question, from, room, out) {
+        Seen::Kept => Ok(()),
+        Seen::Failed => Err(WriteFault),
+    }
 }
 
 /// Writes the report of a case: its head, and then each node of its right tree, in preorder, as soon
@@ -130,53 +147,49 @@ pub fn write_report<K: Sink>(
         K.taken K.faults out.old out.new result }
     ensures room { IsAsMade room.old room.new }
 {
-    writes_in_turn::<K>();
-    write_head(out, case, bound, from)?;
-    match write_tree(case, links, bound, from, room, out) {
-        Seen::Kept => Ok(()),
-        Seen::Failed => Err(WriteFault),
-    }
+    let question = Question {
+        case: &*case,
+        links: &*links,
+        bound,
+    };
+    write_text(&question, from, room, out)
 }
 
-// A case, with what a walk over its tree needs.
+// What is asked of a case, with what a walk over its tree needs.
 #[derive(Drop)]
-struct Report<'c, 'm, 'l, 'r> {
-    case: &'c Case<'m>,
-    links: &'l Links,
-    bound: Bound,
+struct Report<'q, 'c, 'm, 'r> {
+    question: &'q Question<'c, 'm>,
     from: Option<u32>,
     room: &'r mut Room,
 }
 
-impl<'c, 'm, 'l, 'r> Telling for Report<'c, 'm, 'l, 'r> {
-    ghost is_ready = { λ r. AreLinks r.case.now.model r.links.now
-        × IsRange r.case.now r.from × IsMadeFor r.case.now r.links.now r.room.now };
+impl<'q, 'c, 'm, 'r> Telling for Report<'q, 'c, 'm, 'r> {
+    ghost is_ready = { λ r. AreLinks r.question.now.case.now.model r.question.now.links.now
+        × IsRange r.question.now.case.now r.from
+        × IsMadeFor r.question.now.case.now r.question.now.links.now r.room.now };
 
-    ghost is_text = { λ r bytes. IsRightReport r.case.now r.from r.bound bytes };
+    ghost is_text = { λ r bytes. IsRightReport r.question.now.case.now r.from r.question.now.bound bytes };
 
     fn tell_to<K: Sink>(&mut self, out: &mut K) -> Result<(), WriteFault> {
-        write_report(self.case, self.links, self.bound, self.from, self.room, out)
+        write_text(self.question, self.from, self.room, out)
     }
 }
 
 /// Writes the report of a case by way of a buffer. Takes no memory.
 pub(crate) fn write_report_buffered<K: Sink>(
-    case: &Case,
-    links: &Links,
-    bound: Bound,
+    question: &Question,
     from: Option<u32>,
     room: &mut Room,
     out: &mut K,
 ) -> Result<(), WriteFault>
-    requires links { AreLinks case.now.model links.now }
-    requires from { IsRange case.now from }
-    requires made { IsMadeFor case.now links.now room.old }
-    ensures { WroteSome (IsRightReport case.now from bound) K.taken K.faults out.old out.new result }
+    requires links { AreLinks question.now.case.now.model question.now.links.now }
+    requires from { IsRange question.now.case.now from }
+    requires made { IsMadeFor question.now.case.now question.now.links.now room.old }
+    ensures { WroteSome (IsRightReport question.now.case.now from question.now.bound)
+        K.taken K.faults out.old out.new result }
 {
     let mut report = Report {
-        case,
-        links,
-        bound,
+        question,
         from,
         room,
     };

@@ -15,13 +15,14 @@ ghost use Rattle.plift_top.specs.Steps.{WritesCase, AnswersCase, WritesOver};
 
 use crate::bounded::write_bounded_buffered;
 use crate::lumped::write_lumped;
+use crate::question::Question;
 use crate::refusal::Refusal;
 use crate::report::write_report_buffered;
 use corner_lift::{Case, live_parameters_have_spans, lower_precisions_are_cases};
 use drn_read::read_model;
 use lift_base::{Sink, Source, WriteFault, read_all};
 use lift_bounded::{BoundedRoom, certificates_by_steps_decide};
-use lift_cert::{Bound, certificates_decide, rejecting_certificates_reach};
+use lift_cert::{certificates_decide, rejecting_certificates_reach};
 use lift_grid::{Grid, Rect, read_region, trees_tile};
 use lift_model::{Kind, Links, Model};
 use lift_names::Names;
@@ -87,82 +88,75 @@ fn linked_case_of<'m>(
 
 // Writes the report of a case whose rows were tested. From here on no memory is taken.
 fn write_case<K: Sink>(
-    case: &Case,
-    links: &Links,
-    bound: Bound,
+    question: &Question,
     from: Option<u32>,
     room: &mut Room,
     out: &mut K,
 ) -> Result<(), WriteFault>
-    requires case { IsTestedCase case.now }
-    requires links { AreLinks case.now.model links.now }
-    requires from { IsRange case.now from }
-    requires made { whole.IsMadeFor case.now links.now room.old }
-    ensures { WritesCase K.taken K.faults bound (Whole from) case.now out.old out.new result }
+    requires case { IsTestedCase question.now.case.now }
+    requires links { AreLinks question.now.case.now.model question.now.links.now }
+    requires from { IsRange question.now.case.now from }
+    requires made { whole.IsMadeFor question.now.case.now question.now.links.now room.old }
+    ensures { WritesCase K.taken K.faults question.now.bound (Whole from) question.now.case.now out.old out.new result }
 {
     certificates_decide();
     rejecting_certificates_reach();
     lower_precisions_are_cases();
     rectangles_at_depths();
     right_trees_tile();
-    write_report_buffered(case, links, bound, from, room, out)
+    write_report_buffered(question, from, room, out)
 }
 
 /// Makes the room of a case whose rows were tested, and writes its report.
 pub(crate) fn write_whole<K: Sink>(
     alloc: Global,
-    case: &Case,
-    links: &Links,
-    bound: Bound,
+    question: &Question,
     from: Option<u32>,
     out: &mut K,
 ) -> Result<(), Refusal>
-    requires case { IsTestedCase case.now }
-    requires links { AreLinks case.now.model links.now }
-    requires from { IsRange case.now from }
-    ensures { AnswersCase K.taken K.faults bound (Whole from) case.now out.old out.new result }
+    requires case { IsTestedCase question.now.case.now }
+    requires links { AreLinks question.now.case.now.model question.now.links.now }
+    requires from { IsRange question.now.case.now from }
+    ensures { AnswersCase K.taken K.faults question.now.bound (Whole from) question.now.case.now out.old out.new result }
 {
-    let mut room = Room::make(alloc, case, links)?;
-    write_case(case, links, bound, from, &mut room, out)?;
+    let mut room = Room::make(alloc, question.case, question.links)?;
+    write_case(question, from, &mut room, out)?;
     Ok(())
 }
 
 // Writes the text of such a case for as many steps as the room was made for. Takes no memory.
 fn write_case_within<K: Sink>(
-    case: &Case,
-    links: &Links,
-    bound: Bound,
+    question: &Question,
     room: &mut BoundedRoom,
     out: &mut K,
 ) -> Result<(), WriteFault>
-    requires case { IsTestedCase case.now }
-    requires links { AreLinks case.now.model links.now }
-    requires made { within.IsMadeFor case.now links.now room.old }
-    ensures { WritesCase K.taken K.faults bound (Within room.old.steps) case.now out.old out.new result }
+    requires case { IsTestedCase question.now.case.now }
+    requires links { AreLinks question.now.case.now.model question.now.links.now }
+    requires made { within.IsMadeFor question.now.case.now question.now.links.now room.old }
+    ensures { WritesCase K.taken K.faults question.now.bound (Within room.old.steps) question.now.case.now
+        out.old out.new result }
 {
     certificates_by_steps_decide();
     rectangles_at_depths();
     live_parameters_have_spans();
     trees_tile();
-    write_bounded_buffered(case, links, bound, room, out)
+    write_bounded_buffered(question, room, out)
 }
 
 // Makes the room of such a case for a number of steps, and writes its text for them.
 fn write_within<K: Sink>(
     alloc: Global,
-    case: &Case,
-    links: &Links,
-    bound: Bound,
+    question: &Question,
     steps: u32,
     out: &mut K,
 ) -> Result<(), Refusal>
-    requires case { IsTestedCase case.now }
-    requires links { AreLinks case.now.model links.now }
+    requires case { IsTestedCase question.now.case.now }
+    requires links { AreLinks question.now.case.now.model question.now.links.now }
     requires steps { (1 ≤ steps) × (steps ≤ most_steps) }
-    ensures { AnswersCase K.taken K.faults bound (Within steps) case.now out.old out.new result }
+    ensures { AnswersCase K.taken K.faults question.now.bound (Within steps) question.now.case.now out.old out.new result }
 {
-    let mut room = BoundedRoom::make(alloc, case, links, steps)?;
-    write_case_within(case, links, bound, &mut room, out)?;
+    let mut room = BoundedRoom::make(alloc, question.case, question.links, steps)?;
+    write_case_within(question, &mut room, out)?;
     Ok(())
 }
 
@@ -170,21 +164,20 @@ fn write_within<K: Sink>(
 fn write_answer<K: Sink>(
     alloc: Global,
     job: &VerifyJob,
-    case: &Case,
-    links: &Links,
+    question: &Question,
     out: &mut K,
 ) -> Result<(), Refusal>
-    requires case { IsTestedCase case.now }
-    requires links { AreLinks case.now.model links.now }
-    requires precision { case.now.w ≡ job.now.precision }
-    requires chain { lacks_chain job.now.way case.now.model.kind ≡ false }
-    ensures { AnswersCase K.taken K.faults job.now.bound job.now.way case.now
+    requires case { IsTestedCase question.now.case.now }
+    requires links { AreLinks question.now.case.now.model question.now.links.now }
+    requires precision { question.now.case.now.w ≡ job.now.precision }
+    requires chain { lacks_chain job.now.way question.now.case.now.model.kind ≡ false }
+    ensures { AnswersCase K.taken K.faults question.now.bound job.now.way question.now.case.now
         out.old out.new result }
 {
     match job.way {
-        Way::Whole(from) => write_whole(alloc, case, links, job.bound, from, out),
-        Way::Within(steps) => write_within(alloc, case, links, job.bound, steps, out),
-        Way::Lumped => write_lumped(alloc, case, job.bound, out),
+        Way::Whole(from) => write_whole(alloc, question, from, out),
+        Way::Within(steps) => write_within(alloc, question, steps, out),
+        Way::Lumped => write_lumped(alloc, question.case, question.bound, out),
     }
 }
 
@@ -193,23 +186,28 @@ fn write_over<K: Sink>(
     alloc: Global,
     job: &VerifyJob,
     model: &Model,
-    root: &Rect,
-    grid: Grid,
+    region: &(Grid, Rect),
     out: &mut K,
 ) -> Result<(), Refusal>
-    requires grid { IsOnGrid grid.d grid.depth (length model.now.names) root.now }
-    requires depth { grid.depth ≡ job.now.depth }
+    requires grid { IsOnGrid region.now.0.d region.now.0.depth (length model.now.names) region.now.1 }
+    requires depth { region.now.0.depth ≡ job.now.depth }
     requires chain { lacks_chain job.now.way model.now.kind ≡ false }
     ensures { WritesOver K.taken K.faults (verify_data job.now) model.now
-        (region_of (grid, root.now)) out.old out.new result }
+        (region_of region.now) out.old out.new result }
 {
+    let (grid, root) = (region.0, &region.1);
     let Ok(links) = Links::build(alloc, model) else {
         // A row that isn't admitted is told all the same.
         case_of(model, root, grid, job)?;
         return Err(Refusal::Memory);
     };
     let case = linked_case_of(model, root, grid, job, &links)?;
-    write_answer(alloc, job, &case, &links, out)
+    let question = Question {
+        case: &case,
+        links: &links,
+        bound: job.bound,
+    };
+    write_answer(alloc, job, &question, out)
 }
 
 // Whether a chain is to be lumped, and the model is a decision process.
@@ -241,6 +239,6 @@ pub fn verify<S: Source, K: Sink>(
     if lacks_chain(job.way, model.kind()) {
         return Err(Refusal::NotChain);
     }
-    let (grid, root) = root_of(alloc, job, model.names())?;
-    write_over(alloc, job, &model, &root, grid, out)
+    let region = root_of(alloc, job, model.names())?;
+    write_over(alloc, job, &model, &region, out)
 }

@@ -50,7 +50,6 @@ fn keep(
 /// only memory can be wanted. On the way down it keeps a rectangle for each level. The sides are free
 /// afterwards.
 fn add_parts(
-    alloc: Global,
     text: &mut TextLines,
     head: &Head,
     depth: u32,
@@ -67,15 +66,16 @@ fn add_parts(
     nodes_are_read();
     halves_stay_on_grid();
     let _ = head.w();
+    let alloc = text.alloc();
     let Ok(node) = text.node(head) else {
         return Err(CheckError::Memory);
     };
     match node {
         Node::Split { axis } => {
             let mut lower = lower_half(alloc, sides, axis)?;
-            add_parts(alloc, text, head, depth + 1, &mut lower, parts)?;
+            add_parts(text, head, depth + 1, &mut lower, parts)?;
             narrow(sides, axis, false);
-            add_parts(alloc, text, head, depth + 1, sides, parts)
+            add_parts(text, head, depth + 1, sides, parts)
         }
         Node::Accept { .. } => {
             keep(alloc, sides, depth, LeafKind::Accept, parts)?;
@@ -101,7 +101,7 @@ fn read_parts(alloc: Global, text: &mut TextLines, head: Head) -> Result<ReportM
     let _ = head.w();
     let mut sides = Vec::from_slice(alloc, head.root().sides())?;
     let mut parts = Vec::new(alloc);
-    add_parts(alloc, text, &head, 0, &mut sides, &mut parts)?;
+    add_parts(text, &head, 0, &mut sides, &mut parts)?;
     Ok(ReportMap::new(head, parts))
 }
 

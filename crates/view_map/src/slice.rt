@@ -53,10 +53,12 @@ fn is_same(a: i64, b: i64) -> bool
     a == b
 }
 
-// Whether a leaf's span of a parameter, in a root's that ends at `top`, has the value `num / den`.
-fn has_value(low: i64, high: i64, top: i64, num: i64, den: i64, d: i64) -> bool
-    ensures { result ≡ has_value d (low, high) top num den }
+// Whether a leaf's span of a parameter, in a root's that ends at `top`, has a value: a numerator and a denominator.
+fn has_value(span: (i64, i64), top: i64, value: (i64, i64), d: i64) -> bool
+    ensures { result ≡ has_value d span top value.0 value.1 }
 {
+    let (low, high) = span;
+    let (num, den) = value;
     let value = times(num, d);
     let from = times(low, den);
     let to = times(high, den);
@@ -98,9 +100,9 @@ impl Cut {
     fn meets(self, d: i64, root: &[i64], part: &Part) -> bool
         ensures { result ≡ meets d (spans_of root.now) part.now self }
     {
-        let (low, high) = part.span(self.parameter);
+        let span = part.span(self.parameter);
         let (_, top) = span_at(root, self.parameter);
-        has_value(low, high, top, self.num, self.den, d)
+        has_value(span, top, (self.num, self.den), d)
     }
 }
 

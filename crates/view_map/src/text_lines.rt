@@ -44,6 +44,11 @@ impl<'t> TextLines<'t> {
         })
     }
 
+    /// Where memory for what is read comes from.
+    pub fn alloc(&self) -> Global {
+        self.alloc
+    }
+
     /// Reads the head of a report, whose first line is due.
     pub fn head(&mut self) -> Result<Head, FileError>
         ensures { IfOk result (λ head. head_at self.old ≡ Ok (head, self.new)) }

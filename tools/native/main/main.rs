@@ -1,6 +1,7 @@
 //! Verifies and checks by a native copy of the code, and tells how long its steps take.
 #![allow(warnings)]
 
+mod question;
 mod report;
 
 use lift_base::StdSink;
@@ -85,8 +86,13 @@ fn main() {
     if command == "verify" {
         let bound = bound_of(option(&words, "--bound", "1/2"));
         let mut sink = StdSink::new(std::io::stdout().lock());
+        let question = question::Question {
+            case: &case,
+            links: &links,
+            bound,
+        };
         let (written, walk) =
-            timed(|| report::write_report_buffered(&case, &links, bound, None, &mut room, &mut sink));
+            timed(|| report::write_report_buffered(&question, None, &mut room, &mut sink));
         found(written, "output");
         eprintln!("read {read:.2} links {link:.2} admit {admit:.2} walk {walk:.2}");
         return;

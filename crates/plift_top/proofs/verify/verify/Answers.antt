@@ -6,12 +6,18 @@ use Rattle.plift_top.proofs.verify.verify.Goals as goal
 
 pub returns-in_err-model-clause-answer : goal.returns-in_err-model-clause-answer
 returns-in_err-model-clause-answer g c =
-    stopped g.S.Source.left g.S.Source.faults g.K.Sink.taken g.K.Sink.faults (verify_data c.args.job.now) _ _ c.args.out.now _ _ c.from_residual.ensures.1 (stops_reading g.S.Source.left g.S.Source.faults (verify_data c.args.job.now) _ _ _ c.in_err-model.ensures.answer)
+    stopped g.S.Source.left g.S.Source.faults g.K.Sink.taken g.K.Sink.faults (verify_data c.args.job.now) _ _ c.args.out.now _ _
+    c.from_residual.ensures.1 (stops_reading g.S.Source.left g.S.Source.faults (verify_data c.args.job.now) _ _ _
+    c.in_err-model.ensures.answer)
 
-pub returns-in_err-grid-clause-answer : goal.returns-in_err-grid-clause-answer
-returns-in_err-grid-clause-answer g c =
-    stopped g.S.Source.left g.S.Source.faults g.K.Sink.taken g.K.Sink.faults (verify_data c.args.job.now) _ _ c.args.out.now _ _ c.from_residual-in_err-grid.ensures.1
-    (stops_naming g.S.Source.left g.S.Source.faults (verify_data c.args.job.now) _ _ _ c.in_ok-model.ensures.answer (search rules) _ (subst (λ (names : List (List ℕ)). NamesRoot (verify_data c.args.job.now) names (Err c.in_err-grid.field-0.0)) c.names.ensures.value c.in_err-grid.ensures.answer))
+pub returns-in_err-region-clause-answer : goal.returns-in_err-region-clause-answer
+returns-in_err-region-clause-answer g c =
+    stopped g.S.Source.left g.S.Source.faults g.K.Sink.taken g.K.Sink.faults (verify_data c.args.job.now) _ _ c.args.out.now _ _
+    c.from_residual-in_err-region.ensures.1
+    (stops_naming g.S.Source.left g.S.Source.faults (verify_data c.args.job.now) _ _ _ c.in_ok-model.ensures.answer (search rules) _
+    (subst (λ (names : List (List ℕ)). NamesRoot (verify_data c.args.job.now) names (Err c.in_err-region.field-0.0))
+    c.names.ensures.value c.in_err-region.ensures.answer))
 
 pub returns-clause-answer : goal.returns-clause-answer
-returns-clause-answer g c = verified g.S.Source.left g.S.Source.faults (verify_data c.args.job.now) _ _ _ _ c.in_ok-model.ensures.answer (search rules) (rw c.names.ensures.value at c.in_ok-grid.ensures.answer) g.K.Sink.taken g.K.Sink.faults _ _ _ c.write_over.ensures
+returns-clause-answer g c = verified g.S.Source.left g.S.Source.faults (verify_data c.args.job.now) _ _ _ _ c.in_ok-model.ensures.answer
+    (search rules) (rw c.names.ensures.value at c.in_ok-region.ensures.answer) g.K.Sink.taken g.K.Sink.faults _ _ _ c.write_over.ensures

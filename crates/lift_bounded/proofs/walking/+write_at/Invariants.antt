@@ -1,5 +1,0 @@
-use Rattle.std.proofs.Common.{◌-◌}
-use Rattle.lift_bounded.proofs.walking.+write_at.Given as goal
-
-abbrev pub decreases-write_at : goal.decreases-write_at
-decreases-write_at g l = l.greatest - l.depth

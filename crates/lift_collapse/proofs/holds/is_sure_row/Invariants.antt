@@ -1,8 +1,0 @@
-use Rattle.std.proofs.Common.{◌≡◌, ◌<◌, ℕ, slice_index_or}
-use Rattle.lift_model.specs.Links.{position}
-use Rattle.lift_collapse.specs.Collapse.{place}
-use Rattle.lift_collapse.proofs.holds.is_sure_row.Given as goal
-
--- the targets so far have the state's place, and stand before it
-abbrev pub invariant-loop-target : goal.invariant-loop-target
-invariant-loop-target l = (i : ℕ) → i < l.target-index → let t = slice_index_or l.target-items i 0 in (place l.collapsed t ≡ place l.collapsed l.s) × (position l.links t < position l.links l.s)
