@@ -27,11 +27,22 @@ const SHORT_CUT: &[u8] =
     b"@type: MDP\n@parameters\np\n@model\nstate 0 init\naction toss\n3 : 1/2\n2 : 1/2\n\
 action go\n1 : 1\nstate 1\n3 : 1\nstate 2\n2 : 1\nstate 3 heads\n3 : 1\n";
 
+/// Two coins to choose from, that show heads with p and with 1 - p.
+const TWIN: &[u8] = b"@type: MDP\n@parameters\np\n@model\nstate 0 init\naction a\n1 : p\n2 : 1-p\n\
+action b\n1 : 1-p\n2 : p\nstate 1 heads\n1 : 1\nstate 2\n2 : 1\n";
+
+/// A coin that needn't be tossed.
+const WAIT: &[u8] =
+    b"@type: MDP\n@parameters\np\n@model\nstate 0 init\naction toss\n1 : p\n2 : 1-p\n\
+action wait\n0 : 1\nstate 1 heads\n1 : 1\nstate 2\n2 : 1\n";
+
 /// The text of that name.
 pub(crate) fn text_of(name: &str) -> &'static [u8] {
     match name {
         "LOOP" => LOOP,
         "SHORT_CUT" => SHORT_CUT,
+        "TWIN" => TWIN,
+        "WAIT" => WAIT,
         _ => COIN,
     }
 }

@@ -1,11 +1,13 @@
-//! Tests of bounded steps, the text of a tree, of lumping and of properties, for models and regions given as texts. Texts are handed on as
-//! parameters, so that no proof computes what a text stands for.
+//! Tests of bounded steps, the text of a tree, of lumping, of properties and of certificates for them, for models and
+//! regions given as texts. Texts are handed on as parameters, so that no proof computes what a text stands for.
 #![tactic(auto)]
 
 #[cfg(test)]
 mod cases;
 #[cfg(test)]
 mod cells;
+#[cfg(test)]
+mod duals;
 #[cfg(test)]
 mod lumping;
 #[cfg(test)]

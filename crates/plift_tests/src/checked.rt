@@ -1,9 +1,9 @@
 // Reports that are checked or migrated, and what comes of it.
-use crate::models::lines_of;
-use crate::runs::{ending, has_taken, sink};
+use crate::cells::{Claim, Untold, cut_two, each_row};
+use crate::models::{are_lines, lines_of};
+use crate::runs::{Sinks, wanted, words_of};
 use lift_base::SureSource;
-use std::alloc::Global;
-use std::test::Fail;
+use std::alloc::{AllocError, Global};
 
 // The heads of reports, each by its name. A semicolon stands for the end of a line.
 const HEADS: &str = "\
@@ -95,70 +95,45 @@ fn find_head(name: &str) -> Option<&'static str> {
     None
 }
 
-// A file, and what is told of it.
-#[derive(Clone, Copy)]
-struct Checked<'a> {
-    head: &'a str,
-    rest: &'a str,
-    status: &'a str,
-    written: &'a str,
-    told: &'a str,
-}
-
-// A row's cells; none where there are fewer than five, or no head of that name.
-fn checked_of(row: &str) -> Option<Checked<'_>> {
-    let mut cells = row.split(" | ");
-    Some(Checked {
-        head: find_head(cells.next()?)?,
-        rest: cells.next()?,
-        status: cells.next()?,
-        written: cells.next()?,
-        told: cells.next()?,
-    })
-}
-
-// Whether a command gives at a text what the row says.
-fn is_answered_on(
-    alloc: Global,
-    command: &str,
-    want: Checked<'_>,
-    text: Vec<u8>,
-) -> Result<bool, Fail> {
-    let mut source = SureSource::new(text);
-    let mut out = sink(alloc, 1000, 7)?;
-    let mut notes = sink(alloc, 100, 3)?;
-    let got = ending(alloc, command, &mut source, &mut out, &mut notes)?;
-    let has_written = has_taken(alloc, &out, want.written)?;
-    Ok(got == want.status && has_written && has_taken(alloc, &notes, want.told)?)
-}
-
 // The bytes of a head and what follows it.
-fn text_of(alloc: Global, want: Checked<'_>) -> Result<Vec<u8>, Fail> {
-    let mut text = lines_of(alloc, want.head)?;
-    text.extend_from_slice(&lines_of(alloc, want.rest)?)?;
+fn text_of(alloc: Global, head: &str, rest: &str) -> Result<Vec<u8>, AllocError> {
+    let mut text = lines_of(alloc, head)?;
+    text.extend_from_slice(&lines_of(alloc, rest)?)?;
     Ok(text)
 }
 
-fn is_answered(alloc: Global, command: &str, row: &str) -> Result<bool, Fail> {
-    let Some(want) = checked_of(row) else {
-        return Ok(false);
-    };
-    let text = text_of(alloc, want)?;
-    is_answered_on(alloc, command, want, text)
+// The bytes of a file, by the name of its head.
+fn file_of(alloc: Global, name: &str, rest: &str) -> Result<Vec<u8>, Untold> {
+    match find_head(name) {
+        Some(head) => Ok(text_of(alloc, head, rest)?),
+        None => Err(Untold::Cell),
+    }
+}
+
+// That a command gives at a row's file what stands beside it.
+#[derive(Clone, Copy)]
+struct Command {
+    name: &'static str,
+}
+
+impl Claim for Command {
+    fn holds(&self, alloc: Global, row: &str) -> Result<bool, Untold> {
+        let (head, rest, answer) = cut_two(row);
+        let (want, written) = wanted(answer);
+        let mut source = SureSource::new(file_of(alloc, head, rest)?);
+        let mut sinks = Sinks::make(alloc, 1000, 7)?;
+        let words = words_of(alloc, self.name, ' ')?;
+        let comes = want.comes(alloc, &words, &mut source, &mut sinks);
+        Ok(comes && are_lines(sinks.out.taken(), written))
+    }
 }
 
 #[test]
-fn files_are_checked(rt: HostRuntime) -> Result<(), Fail> {
-    for row in FILES.lines() {
-        assert!(rt; is_answered(rt.alloc(), "check", row)?, "{row}");
-    }
-    Ok(())
+fn files_are_checked(rt: HostRuntime) {
+    each_row(&rt, rt.alloc(), FILES, &Command { name: "check" });
 }
 
 #[test]
-fn reports_are_migrated(rt: HostRuntime) -> Result<(), Fail> {
-    for row in MIGRATED.lines() {
-        assert!(rt; is_answered(rt.alloc(), "migrate", row)?, "{row}");
-    }
-    Ok(())
+fn reports_are_migrated(rt: HostRuntime) {
+    each_row(&rt, rt.alloc(), MIGRATED, &Command { name: "migrate" });
 }

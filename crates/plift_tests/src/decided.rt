@@ -1,6 +1,6 @@
 // Models that are decided, without parameters and over a region.
-use crate::runs::{is_answered, is_checked};
-use std::test::Fail;
+use crate::cells::each_row;
+use crate::runs::{Answered, Checked};
 
 // Each row: the words, the model, the status, how the output ends, and no notes.
 const DECIDED: &str = "\
@@ -83,28 +83,17 @@ verify --goal heads --bound 0 --precision 4 --depth 0 | APART | Done | plift 1;k
 ";
 
 #[test]
-fn models_are_decided(rt: HostRuntime) -> Result<(), Fail> {
-    for row in DECIDED.lines() {
-        assert!(rt; is_answered(rt.alloc(), row)?, "{row}");
-    }
-    Ok(())
+fn models_are_decided(rt: HostRuntime) {
+    each_row(&rt, rt.alloc(), DECIDED, &Answered);
 }
 
 #[test]
-fn models_are_decided_over_regions(rt: HostRuntime) -> Result<(), Fail> {
-    for row in OVER_REGIONS.lines() {
-        assert!(rt; is_answered(rt.alloc(), row)?, "{row}");
-    }
-    Ok(())
+fn models_are_decided_over_regions(rt: HostRuntime) {
+    each_row(&rt, rt.alloc(), OVER_REGIONS, &Answered);
 }
 
 #[test]
-fn what_is_written_is_sound(rt: HostRuntime) -> Result<(), Fail> {
-    for row in DECIDED.lines() {
-        assert!(rt; is_checked(rt.alloc(), row)?, "{row}");
-    }
-    for row in OVER_REGIONS.lines() {
-        assert!(rt; is_checked(rt.alloc(), row)?, "{row}");
-    }
-    Ok(())
+fn what_is_written_is_sound(rt: HostRuntime) {
+    each_row(&rt, rt.alloc(), DECIDED, &Checked);
+    each_row(&rt, rt.alloc(), OVER_REGIONS, &Checked);
 }

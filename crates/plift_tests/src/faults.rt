@@ -1,9 +1,9 @@
 // Faults of the source, of the sink, and of the notes.
-use crate::models::model_text;
-use crate::runs::{ending, has_taken};
-use lift_base::{MemSink, MemSource};
-use std::alloc::Global;
-use std::test::Fail;
+use crate::cells::{Claim, Untold, cut_two, each_row, number};
+use crate::models::{are_lines, model_text};
+use crate::runs::{Sinks, sink, wanted, words_of};
+use lift_base::MemSource;
+use std::alloc::{AllocError, Global};
 
 // Each row: the words and the model; which call fails at the source, at the sink and at the notes,
 // none where it is 0; how many bytes the sink holds; the status, the output, and the note.
@@ -38,74 +38,37 @@ migrate | REPORT | 0 | 0 | 0 | 131 | WriteFault | plift 2;kind dtmc;parameters 1
     row 0 0 2;to 1 1:1;to 2 0:1 1:-1;row 1 0 1;to 1 0:1;row 2 0 1;to | write fault;
 ";
 
-#[derive(Clone, Copy)]
-struct Faults<'a> {
-    words: &'a str,
-    model: &'a str,
-    read: u64,
-    write: u64,
-    tell: u64,
-    room: usize,
-    status: &'a str,
-    taken: &'a str,
-    told: &'a str,
+// A text as a source, of which one call fails.
+fn source_of(alloc: Global, text: Vec<u8>, call: u64) -> Result<MemSource, AllocError> {
+    Ok(MemSource::new(text, 16, Vec::from_slice(alloc, &[call])?))
 }
 
-// A row's cells; none where there are fewer, or one isn't a number.
-fn faults_of(row: &str) -> Option<Faults<'_>> {
-    let mut cells = row.split(" | ");
-    Some(Faults {
-        words: cells.next()?,
-        model: cells.next()?,
-        read: cells.next()?.parse().ok()?,
-        write: cells.next()?.parse().ok()?,
-        tell: cells.next()?.parse().ok()?,
-        room: cells.next()?.parse().ok()?,
-        status: cells.next()?,
-        taken: cells.next()?,
-        told: cells.next()?,
+// Sinks of which one call fails each, by the cells of a row; a write takes one byte.
+fn sinks_of(alloc: Global, write: &str, tell: &str, room: &str) -> Result<Sinks, AllocError> {
+    Ok(Sinks {
+        out: sink(alloc, number(room) as usize, 1, number(write))?,
+        notes: sink(alloc, 100, 3, number(tell))?,
     })
 }
 
-// A sink with so much room, which takes so many bytes a call, and of which one call fails.
-fn failing_sink(alloc: Global, room: usize, step: usize, call: u64) -> Result<MemSink, Fail> {
-    let calls = Vec::from_slice(alloc, &[call])?;
-    Ok(MemSink::new(alloc, room, step.max(1), calls)?)
-}
+// That a run with a row's faults gives what the row says.
+struct Faults;
 
-// Whether the sinks took what the row says.
-fn has_written(
-    alloc: Global,
-    want: Faults<'_>,
-    out: &MemSink,
-    notes: &MemSink,
-) -> Result<bool, Fail> {
-    Ok(has_taken(alloc, out, want.taken)? && has_taken(alloc, notes, want.told)?)
-}
-
-// Whether a run with these faults on that text gives what the row says.
-fn is_answered_on(alloc: Global, want: Faults<'_>, text: Vec<u8>) -> Result<bool, Fail> {
-    let mut source = MemSource::new(text, 16, Vec::from_slice(alloc, &[want.read])?);
-    let mut out = failing_sink(alloc, want.room, 1, want.write)?;
-    let mut notes = failing_sink(alloc, 100, 3, want.tell)?;
-    let got = ending(alloc, want.words, &mut source, &mut out, &mut notes)?;
-    Ok(got == want.status && has_written(alloc, want, &out, &notes)?)
-}
-
-fn is_answered(alloc: Global, row: &str) -> Result<bool, Fail> {
-    let Some(want) = faults_of(row) else {
-        return Ok(false);
-    };
-    match model_text(alloc, want.model)? {
-        Some(text) => is_answered_on(alloc, want, text),
-        None => Ok(false),
+impl Claim for Faults {
+    fn holds(&self, alloc: Global, row: &str) -> Result<bool, Untold> {
+        let (words, model, rest) = cut_two(row);
+        let (read, write, rest) = cut_two(rest);
+        let (tell, room, rest) = cut_two(rest);
+        let (want, written) = wanted(rest);
+        let mut source = source_of(alloc, model_text(alloc, model)?, number(read))?;
+        let mut sinks = sinks_of(alloc, write, tell, room)?;
+        let words = words_of(alloc, words, ' ')?;
+        let comes = want.comes(alloc, &words, &mut source, &mut sinks);
+        Ok(comes && are_lines(sinks.out.taken(), written))
     }
 }
 
 #[test]
-fn faults_are_told(rt: HostRuntime) -> Result<(), Fail> {
-    for row in FAULTS.lines() {
-        assert!(rt; is_answered(rt.alloc(), row)?, "{row}");
-    }
-    Ok(())
+fn faults_are_told(rt: HostRuntime) {
+    each_row(&rt, rt.alloc(), FAULTS, &Faults);
 }

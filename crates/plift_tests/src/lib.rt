@@ -3,6 +3,8 @@
 #![tactic(auto)]
 
 #[cfg(test)]
+mod cells;
+#[cfg(test)]
 mod checked;
 #[cfg(test)]
 mod decided;

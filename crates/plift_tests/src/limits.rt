@@ -1,10 +1,10 @@
 // How many bytes a text may have that is read whole; a report is read line by line.
 ghost use Rattle.std.specs.Prelude.{None};
 
-use crate::runs::{ending, has_taken, sink};
+use crate::cells::{Claim, Untold, cut, cut_two, each_row, number};
+use crate::runs::{End, Sinks, words_of};
 use lift_base::{Got, Source};
 use std::alloc::Global;
-use std::test::Fail;
 
 // Each row: the words, how many line feeds the source gives, the status, and the note.
 const LIMITS: &str = "\
@@ -35,42 +35,23 @@ impl Source for LineFeeds {
     }
 }
 
-// Whether so many line feeds are answered by that status and that note, and nothing is written.
-fn is_answered(
-    alloc: Global,
-    words: &str,
-    left: usize,
-    status: &str,
-    told: &str,
-) -> Result<bool, Fail> {
-    let mut source = LineFeeds { left };
-    let mut out = sink(alloc, 10, 1)?;
-    let mut notes = sink(alloc, 100, 3)?;
-    let got = ending(alloc, words, &mut source, &mut out, &mut notes)?;
-    Ok(got == status && out.taken().is_empty() && has_taken(alloc, &notes, told)?)
-}
+// That a row's line feeds are answered by the status and the note that stand beside them, and nothing is written.
+struct Limits;
 
-// A row's cells; none where there are fewer, or the second isn't a number.
-fn limit_of(row: &str) -> Option<(&str, usize, &str, &str)> {
-    let mut cells = row.split(" | ");
-    Some((
-        cells.next()?,
-        cells.next()?.parse().ok()?,
-        cells.next()?,
-        cells.next()?,
-    ))
+impl Claim for Limits {
+    fn holds(&self, alloc: Global, row: &str) -> Result<bool, Untold> {
+        let (words, left, rest) = cut_two(row);
+        let (status, told) = cut(rest);
+        let left = number(left) as usize;
+        let mut sinks = Sinks::make(alloc, 10, 1)?;
+        let words = words_of(alloc, words, ' ')?;
+        let want = End { status, told };
+        let comes = want.comes(alloc, &words, &mut LineFeeds { left }, &mut sinks);
+        Ok(comes && sinks.out.taken().is_empty())
+    }
 }
 
 #[test]
-fn a_text_has_at_most_2_to_the_26_bytes(rt: HostRuntime) -> Result<(), Fail> {
-    for row in LIMITS.lines() {
-        let Some((words, left, status, told)) = limit_of(row) else {
-            return Err(Fail::new("a row has too few cells"));
-        };
-        assert!(rt;
-            is_answered(rt.alloc(), words, left, status, told)?,
-            "{row}"
-        );
-    }
-    Ok(())
+fn a_text_has_at_most_2_to_the_26_bytes(rt: HostRuntime) {
+    each_row(&rt, rt.alloc(), LIMITS, &Limits);
 }

@@ -1,7 +1,7 @@
 // Chains that are verified by their quotients. The quotients and the numbers of the leaves were worked out by hand. Where no
 // parameter is left in the quotient, nothing is halved.
-use crate::runs::{is_answered, is_checked};
-use std::test::Fail;
+use crate::cells::each_row;
+use crate::runs::{Answered, Checked};
 
 // Each row: the words, the model, the status, how the output ends, and the notes.
 const LUMPED: &str = "\
@@ -32,19 +32,11 @@ lumped | LESS | Usage | - | usage: words;
 ";
 
 #[test]
-fn chains_are_lumped(rt: HostRuntime) -> Result<(), Fail> {
-    for row in LUMPED.lines() {
-        assert!(rt; is_answered(rt.alloc(), row)?, "{row}");
-    }
-    Ok(())
+fn chains_are_lumped(rt: HostRuntime) {
+    each_row(&rt, rt.alloc(), LUMPED, &Answered);
 }
 
 #[test]
-fn reports_of_quotients_are_sound(rt: HostRuntime) -> Result<(), Fail> {
-    for row in LUMPED.lines() {
-        if row.contains(" | Done | ") {
-            assert!(rt; is_checked(rt.alloc(), row)?, "{row}");
-        }
-    }
-    Ok(())
+fn reports_of_quotients_are_sound(rt: HostRuntime) {
+    each_row(&rt, rt.alloc(), LUMPED, &Checked);
 }

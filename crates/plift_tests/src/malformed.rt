@@ -1,8 +1,9 @@
 // A model's text and a report, each with a few lines changed, and what is told of it.
-use crate::runs::{ending, has_taken, sink};
+use crate::cells::{Claim, Untold, cut, each_row};
+use crate::models::are_lines;
+use crate::runs::{Sinks, wanted, words_of};
 use lift_base::SureSource;
-use std::alloc::Global;
-use std::test::Fail;
+use std::alloc::{AllocError, Global};
 
 // The coin. A semicolon stands between two lines.
 const COIN: &str =
@@ -28,7 +29,8 @@ const MODELS: &str = "\
 6=1 : p/(1-1); | ModelRefused | - | model: line 6: DivisionByZero;
 6=1 : 4611686018427387904; | ModelRefused | - | model: line 6: Wide;
 6=1 : $r; | ModelRefused | - | model: line 6: UnknownPlace;
-6=1 : (((((((((((((((((((((((((((((((((((((((((((((((((((((((((((((((((p))))))))))))))))))))))))))))))))))))))))))))))))))))))))))))))))); | ModelRefused | - | model: line 6: Deep;
+6=1 : (((((((((((((((((((((((((((((((((((((((((((((((((((((((((((((((((\
+    p))))))))))))))))))))))))))))))))))))))))))))))))))))))))))))))))); | ModelRefused | - | model: line 6: Deep;
 6=1 : 1/4000000007*p; & 9=1 : 1/4000000009; | ModelRefused | - | model: line 11: CommonDenominator;
 4= | ModelRefused | - | model: line 4: Syntax;
 4= & 5= & 6= & 7= & 8= & 9= & 10= & 11= | ModelRefused | - | model: line 3: MissingSection;
@@ -71,7 +73,7 @@ fn change_of<'a>(changes: &'a str, number: usize) -> Option<&'a str> {
 }
 
 // Appends the bytes of a text, a line feed for each semicolon and the byte 200 for each `?`.
-fn push_text(bytes: &mut Vec<u8>, text: &str) -> Result<(), Fail> {
+fn push_text(bytes: &mut Vec<u8>, text: &str) -> Result<(), AllocError> {
     for byte in text.as_bytes() {
         bytes.push(match *byte {
             b';' => b'\n',
@@ -82,72 +84,61 @@ fn push_text(bytes: &mut Vec<u8>, text: &str) -> Result<(), Fail> {
     Ok(())
 }
 
+// Appends what stands in the place of a line, or else the line.
+fn push_line(bytes: &mut Vec<u8>, line: &str, change: Option<&str>) -> Result<(), AllocError> {
+    match change {
+        Some(lines) => push_text(bytes, lines),
+        None => {
+            push_text(bytes, line)?;
+            Ok(bytes.push(b'\n')?)
+        }
+    }
+}
+
 // The bytes of a text with changes.
-fn changed(alloc: Global, text: &str, changes: &str) -> Result<Vec<u8>, Fail> {
+fn changed(alloc: Global, text: &str, changes: &str) -> Result<Vec<u8>, AllocError> {
     let mut bytes = Vec::new(alloc);
     for (index, line) in text.split(';').enumerate() {
-        match change_of(changes, index + 1) {
-            Some(lines) => push_text(&mut bytes, lines)?,
-            None => {
-                push_text(&mut bytes, line)?;
-                bytes.push(b'\n')?;
-            }
-        }
+        push_line(&mut bytes, line, change_of(changes, index + 1))?;
     }
     Ok(bytes)
 }
 
-// What is told of a text.
+// That a text with a row's changes is answered as the row says.
 #[derive(Clone, Copy)]
-struct Answer<'a> {
-    status: &'a str,
-    written: &'a str,
-    told: &'a str,
+struct Malformed {
+    words: &'static str,
+    text: &'static str,
 }
 
-// Whether the words and the text are answered so.
-fn is_answer(alloc: Global, words: &str, text: Vec<u8>, want: Answer<'_>) -> Result<bool, Fail> {
-    let mut source = SureSource::new(text);
-    let mut out = sink(alloc, 1000, 100)?;
-    let mut notes = sink(alloc, 100, 3)?;
-    let got = ending(alloc, words, &mut source, &mut out, &mut notes)?;
-    let has_written = has_taken(alloc, &out, want.written)?;
-    Ok(got == want.status && has_written && has_taken(alloc, &notes, want.told)?)
+impl Claim for Malformed {
+    fn holds(&self, alloc: Global, row: &str) -> Result<bool, Untold> {
+        let (changes, rest) = cut(row);
+        let (want, written) = wanted(rest);
+        let mut source = SureSource::new(changed(alloc, self.text, changes)?);
+        let mut sinks = Sinks::make(alloc, 1000, 100)?;
+        let words = words_of(alloc, self.words, ' ')?;
+        let comes = want.comes(alloc, &words, &mut source, &mut sinks);
+        Ok(comes && are_lines(sinks.out.taken(), written))
+    }
 }
 
-// A row's changes and its answer; none where it has too few cells.
-fn answer_of(row: &str) -> Option<(&str, Answer<'_>)> {
-    let mut cells = row.split(" | ");
-    let changes = cells.next()?;
-    let answer = Answer {
-        status: cells.next()?,
-        written: cells.next()?,
-        told: cells.next()?,
-    };
-    Some((changes, answer))
-}
+const ON_COIN: Malformed = Malformed {
+    words: VERIFY,
+    text: COIN,
+};
 
-// Whether the text with a row's changes is answered as the row says.
-fn is_answered(alloc: Global, words: &str, text: &str, row: &str) -> Result<bool, Fail> {
-    let Some((changes, want)) = answer_of(row) else {
-        return Ok(false);
-    };
-    let text = changed(alloc, text, changes)?;
-    is_answer(alloc, words, text, want)
+const ON_REPORT: Malformed = Malformed {
+    words: "check",
+    text: REPORT,
+};
+
+#[test]
+fn malformed_models_are_told(rt: HostRuntime) {
+    each_row(&rt, rt.alloc(), MODELS, &ON_COIN);
 }
 
 #[test]
-fn malformed_models_are_told(rt: HostRuntime) -> Result<(), Fail> {
-    for row in MODELS.lines() {
-        assert!(rt; is_answered(rt.alloc(), VERIFY, COIN, row)?, "{row}");
-    }
-    Ok(())
-}
-
-#[test]
-fn malformed_reports_are_told(rt: HostRuntime) -> Result<(), Fail> {
-    for row in REPORTS.lines() {
-        assert!(rt; is_answered(rt.alloc(), "check", REPORT, row)?, "{row}");
-    }
-    Ok(())
+fn malformed_reports_are_told(rt: HostRuntime) {
+    each_row(&rt, rt.alloc(), REPORTS, &ON_REPORT);
 }

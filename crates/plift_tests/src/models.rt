@@ -1,13 +1,14 @@
 // The models of the tests, each by its name. A semicolon stands for the end of a line.
-use std::alloc::Global;
-use std::test::Fail;
+use crate::cells::Untold;
+use std::alloc::{AllocError, Global};
 
 // NOTED_COIN: the coin with a comment in front, a tab before each line, and a carriage return behind
 // it. LESS, DECIMALS: rows that sum to less than 1. APART_COIN: values of different parameters, which
 // sum to 1 where these are equal alone. BELOW: a value below 0, in a row that sums to 1. LADDER2: a
-// ladder of two blocks. SURE: two states of equal behaviour, which lead to the goal by different parameters. THIRD: two such states to which a parameter leads. UNUSED: the
-// coin with a parameter that no row depends on. REPORT: no model, but a report of the coin. LOOP, LADDER, DIE
-// and EXPORT stand in the folder examples too.
+// ladder of two blocks. SURE: two states of equal behaviour, which lead to the goal by different
+// parameters. THIRD: two such states to which a parameter leads. UNUSED: the coin with a parameter that
+// no row depends on. REPORT: no model, but a report of the coin. LOOP, LADDER, DIE and EXPORT stand in
+// the folder examples too.
 const MODELS: &str = "\
 COIN = @type: DTMC;@parameters;p;@model;state 0 init;1 : p;2 : 1-p;state 1 heads;1 : 1;state 2;2 : 1;
 NOTED_COIN = \t// a coin\r;\t@type: DTMC\r;\t@parameters\r;\tp\r;\t@model\r;\tstate 0 init\r;\t1 : p\r;\t2 : 1-p\r;\
@@ -67,22 +68,67 @@ fn find_model(name: &str) -> Option<&'static str> {
     None
 }
 
+// What a byte of a text stands for: a semicolon for the end of a line.
+fn stood_for(byte: u8) -> u8 {
+    match byte {
+        b';' => b'\n',
+        byte => byte,
+    }
+}
+
 /// The bytes of a text in which a semicolon stands for the end of a line. A dash alone is no text.
-pub fn lines_of(alloc: Global, text: &str) -> Result<Vec<u8>, Fail> {
+pub(crate) fn lines_of(alloc: Global, text: &str) -> Result<Vec<u8>, AllocError> {
     let mut bytes = Vec::new(alloc);
     if text == "-" {
         return Ok(bytes);
     }
     for byte in text.as_bytes() {
-        bytes.push(if *byte == b';' { b'\n' } else { *byte })?;
+        bytes.push(stood_for(*byte))?;
     }
     Ok(bytes)
 }
 
-/// The bytes of a model; none where no model has this name.
-pub fn model_text(alloc: Global, name: &str) -> Result<Option<Vec<u8>>, Fail> {
+// Whether these bytes are what those of a text stand for.
+fn are_all(bytes: &[u8], text: &[u8]) -> bool {
+    for (byte, want) in bytes.iter().zip(text) {
+        if *byte != stood_for(*want) {
+            return false;
+        }
+    }
+    bytes.len() == text.len()
+}
+
+/// Whether these are the bytes of a text.
+pub(crate) fn are_lines(bytes: &[u8], text: &str) -> bool {
+    match text {
+        "-" => bytes.is_empty(),
+        text => are_all(bytes, text.as_bytes()),
+    }
+}
+
+/// Whether these are so many bytes from the front of a text.
+pub(crate) fn are_front(bytes: &[u8], text: &str, count: usize) -> bool {
+    match text.as_bytes().get(..count) {
+        Some(front) => are_all(bytes, front),
+        None => false,
+    }
+}
+
+/// Whether bytes end with those of a text, and are none where those are none.
+pub(crate) fn end_with(bytes: &[u8], text: &str) -> bool {
+    if text == "-" || text.is_empty() {
+        return bytes.is_empty();
+    }
+    match bytes.len().checked_sub(text.len()) {
+        Some(start) => are_all(&bytes[start..], text.as_bytes()),
+        None => false,
+    }
+}
+
+/// The bytes of the model of that name.
+pub(crate) fn model_text(alloc: Global, name: &str) -> Result<Vec<u8>, Untold> {
     match find_model(name) {
-        Some(text) => Ok(Some(lines_of(alloc, text)?)),
-        None => Ok(None),
+        Some(text) => Ok(lines_of(alloc, text)?),
+        None => Err(Untold::Cell),
     }
 }

@@ -1,6 +1,6 @@
 // Ranges of precisions: each leaf at the least one that decides. The numbers of the leaves were worked out by hand.
-use crate::runs::{CoinJob, is_answered, is_checked, is_cut_off};
-use std::test::Fail;
+use crate::cells::each_row;
+use crate::runs::{Answered, Checked, CoinJob, each_front};
 
 // Each row: the words, the model, the status, how the output ends, and the notes.
 const RANGES: &str = "\
@@ -45,29 +45,16 @@ const JOB: CoinJob<'static> = CoinJob {
 };
 
 #[test]
-fn leaves_are_decided_within_ranges(rt: HostRuntime) -> Result<(), Fail> {
-    for row in RANGES.lines() {
-        assert!(rt; is_answered(rt.alloc(), row)?, "{row}");
-    }
-    Ok(())
+fn leaves_are_decided_within_ranges(rt: HostRuntime) {
+    each_row(&rt, rt.alloc(), RANGES, &Answered);
 }
 
 #[test]
-fn reports_with_ranges_are_sound(rt: HostRuntime) -> Result<(), Fail> {
-    for row in RANGES.lines() {
-        if row.contains(" | Done | ") {
-            assert!(rt; is_checked(rt.alloc(), row)?, "{row}");
-        }
-    }
-    Ok(())
+fn reports_with_ranges_are_sound(rt: HostRuntime) {
+    each_row(&rt, rt.alloc(), RANGES, &Checked);
 }
 
 #[test]
-fn reports_with_ranges_are_cut_off_anywhere(rt: HostRuntime) -> Result<(), Fail> {
-    let alloc = rt.alloc();
-    for room in 0..REPORT.len() {
-        assert!(rt; is_cut_off(alloc, JOB, room, "WriteFault")?, "{room}");
-    }
-    assert!(rt; is_cut_off(alloc, JOB, REPORT.len(), "Done")?);
-    Ok(())
+fn reports_with_ranges_are_cut_off_anywhere(rt: HostRuntime) {
+    each_front(&rt, rt.alloc(), JOB);
 }

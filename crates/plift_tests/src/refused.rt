@@ -1,6 +1,6 @@
 // Words and texts that are refused.
-use crate::runs::is_answered;
-use std::test::Fail;
+use crate::cells::each_row;
+use crate::runs::Answered;
 
 // Each row: the words, the model, the status, no output, and the note.
 const REFUSED: &str = "\
@@ -28,9 +28,6 @@ verify --goal heads --bound 1/2 --precision 41 | PLAIN | Usage | - | usage: --pr
 ";
 
 #[test]
-fn refusals_are_told(rt: HostRuntime) -> Result<(), Fail> {
-    for row in REFUSED.lines() {
-        assert!(rt; is_answered(rt.alloc(), row)?, "{row}");
-    }
-    Ok(())
+fn refusals_are_told(rt: HostRuntime) {
+    each_row(&rt, rt.alloc(), REFUSED, &Answered);
 }

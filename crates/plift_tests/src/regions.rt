@@ -1,6 +1,6 @@
 // Regions that name no rectangle.
-use crate::runs::is_answered;
-use std::test::Fail;
+use crate::cells::each_row;
+use crate::runs::Answered;
 
 // Each row: the words, the model, the status, no output, and the note. The last word of the last one
 // is empty.
@@ -18,9 +18,6 @@ verify --goal heads --bound 1/2 --precision 4 --region  | COIN | Usage | - | usa
 ";
 
 #[test]
-fn regions_at_fault_are_told(rt: HostRuntime) -> Result<(), Fail> {
-    for row in REGIONS.lines() {
-        assert!(rt; is_answered(rt.alloc(), row)?, "{row}");
-    }
-    Ok(())
+fn regions_at_fault_are_told(rt: HostRuntime) {
+    each_row(&rt, rt.alloc(), REGIONS, &Answered);
 }

@@ -1,6 +1,6 @@
 // Rows that are refused over a region.
-use crate::runs::is_answered;
-use std::test::Fail;
+use crate::cells::each_row;
+use crate::runs::Answered;
 
 // Each row: the words, the model, the status, no output, and the note.
 const REFUSED_ROWS: &str = "\
@@ -19,9 +19,6 @@ verify --goal heads --bound 1/2 --precision 4 --region 0<=a<=1,0<=b<=1,0<=c<=1,0
 ";
 
 #[test]
-fn rows_at_fault_are_told(rt: HostRuntime) -> Result<(), Fail> {
-    for row in REFUSED_ROWS.lines() {
-        assert!(rt; is_answered(rt.alloc(), row)?, "{row}");
-    }
-    Ok(())
+fn rows_at_fault_are_told(rt: HostRuntime) {
+    each_row(&rt, rt.alloc(), REFUSED_ROWS, &Answered);
 }

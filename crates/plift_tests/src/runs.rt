@@ -1,35 +1,14 @@
 // Runs of the program, and what they are compared with.
-use crate::models::{lines_of, model_text};
+use crate::cells::{Claim, Untold, cut_two};
+use crate::models::{are_front, are_lines, end_with, model_text};
 use lift_base::{MemSink, Source, SureSource};
 use plift_top::{Status, run};
-use std::alloc::Global;
-use std::test::Fail;
-
-/// A run: the words, the model, the status, how the output ends (nothing where it is empty), and the
-/// notes.
-#[derive(Clone, Copy)]
-pub struct Run<'a> {
-    words: &'a str,
-    model: &'a str,
-    status: &'a str,
-    end: &'a str,
-    told: &'a str,
-}
-
-/// A row's cells; none where there are fewer than five.
-pub fn run_of(row: &str) -> Option<Run<'_>> {
-    let mut cells = row.split(" | ");
-    Some(Run {
-        words: cells.next()?,
-        model: cells.next()?,
-        status: cells.next()?,
-        end: cells.next()?,
-        told: cells.next()?,
-    })
-}
+use std::alloc::{AllocError, Global};
+use std::process::Abort;
+use std::string::String;
 
 /// The words of a line; none where it is empty.
-pub fn words_of(alloc: Global, line: &str, separator: char) -> Result<Vec<String>, Fail> {
+pub fn words_of(alloc: Global, line: &str, separator: char) -> Result<Vec<String>, AllocError> {
     let mut words = Vec::new(alloc);
     if line.is_empty() {
         return Ok(words);
@@ -55,88 +34,123 @@ pub fn status_name(status: Status) -> &'static str {
     }
 }
 
-/// The name of the status with which the program ends on words that stand between blanks. Nothing is promised of it, so that no
-/// other proof carries what `run` promises.
-pub fn ending<S: Source>(
+/// Where a run writes, and where it writes notes.
+#[derive(Drop)]
+pub struct Sinks {
+    pub out: MemSink,
+    pub notes: MemSink,
+}
+
+/// A sink with so much room, which takes so many bytes a call, and of which one call fails: none where it is 0.
+pub fn sink(alloc: Global, room: usize, step: usize, call: u64) -> Result<MemSink, AllocError> {
+    MemSink::new(alloc, room, step.max(1), Vec::from_slice(alloc, &[call])?)
+}
+
+impl Sinks {
+    /// Sinks that never fail; that of the output has so much room, and takes so many bytes a call.
+    pub fn make(alloc: Global, room: usize, step: usize) -> Result<Sinks, AllocError> {
+        Ok(Sinks {
+            out: sink(alloc, room, step, 0)?,
+            notes: sink(alloc, 100, 3, 0)?,
+        })
+    }
+}
+
+/// The name of the status with which the program ends. Nothing is promised of it, so that no other proof carries what `run`
+/// promises.
+fn ending<S: Source>(
     alloc: Global,
-    line: &str,
+    words: &Vec<String>,
     source: &mut S,
-    out: &mut MemSink,
-    notes: &mut MemSink,
-) -> Result<&'static str, Fail> {
-    let words = words_of(alloc, line, ' ')?;
-    Ok(status_name(run(alloc, &words, source, out, notes)))
+    sinks: &mut Sinks,
+) -> &'static str {
+    status_name(run(alloc, words, source, &mut sinks.out, &mut sinks.notes))
 }
 
-/// A sink with so much room that takes so many bytes a call, and never fails.
-pub fn sink(alloc: Global, room: usize, step: usize) -> Result<MemSink, Fail> {
-    Ok(MemSink::new(alloc, room, step.max(1), Vec::new(alloc))?)
+/// How the program ends: the name of its status, and the notes.
+#[derive(Clone, Copy)]
+pub struct End<'a> {
+    pub status: &'a str,
+    pub told: &'a str,
 }
 
-/// Whether a sink took these lines, and nothing else.
-pub fn has_taken(alloc: Global, sink: &MemSink, lines: &str) -> Result<bool, Fail> {
-    Ok(sink.taken() == lines_of(alloc, lines)?.as_slice())
+impl End<'_> {
+    /// Whether the program ends so.
+    pub fn comes<S: Source>(
+        self,
+        alloc: Global,
+        words: &Vec<String>,
+        source: &mut S,
+        sinks: &mut Sinks,
+    ) -> bool {
+        let got = ending(alloc, words, source, sinks);
+        got == self.status && are_lines(sinks.notes.taken(), self.told)
+    }
 }
 
-// Whether what a sink took ends with these lines, and is nothing where they are nothing.
-fn ends_with(alloc: Global, sink: &MemSink, lines: &str) -> Result<bool, Fail> {
-    let end = lines_of(alloc, lines)?;
-    let taken = sink.taken();
-    Ok(taken.ends_with(&end) && end.is_empty() == taken.is_empty())
+/// The end without a note.
+pub const DONE: End<'static> = End {
+    status: "Done",
+    told: "-",
+};
+
+/// The end where the output isn't taken.
+pub const CUT_OFF: End<'static> = End {
+    status: "WriteFault",
+    told: "write fault;",
+};
+
+/// How a run ends, and what is written, by the last three cells of a row: the status, the output, and the notes.
+pub fn wanted(cells: &str) -> (End<'_>, &str) {
+    let (status, written, told) = cut_two(cells);
+    (End { status, told }, written)
 }
 
-// Whether the sinks took what the run says.
-fn has_written(alloc: Global, want: Run<'_>, out: &MemSink, notes: &MemSink) -> Result<bool, Fail> {
-    Ok(ends_with(alloc, out, want.end)? && has_taken(alloc, notes, want.told)?)
-}
+/// That the words and the model of a row give what stands beside them: the status, how the output ends, which is empty where that is
+/// nothing, and the notes.
+pub struct Answered;
 
-// Whether a run on that text gives what it says.
-fn is_answered_on(alloc: Global, want: Run<'_>, text: Vec<u8>) -> Result<bool, Fail> {
-    let mut source = SureSource::new(text);
-    let mut out = sink(alloc, 1000, 1000)?;
-    let mut notes = sink(alloc, 100, 3)?;
-    let got = ending(alloc, want.words, &mut source, &mut out, &mut notes)?;
-    Ok(got == want.status && has_written(alloc, want, &out, &notes)?)
-}
-
-/// Whether the words and the model of a row give what stands beside them.
-pub fn is_answered(alloc: Global, row: &str) -> Result<bool, Fail> {
-    let Some(want) = run_of(row) else {
-        return Ok(false);
-    };
-    match model_text(alloc, want.model)? {
-        Some(text) => is_answered_on(alloc, want, text),
-        None => Ok(false),
+impl Claim for Answered {
+    fn holds(&self, alloc: Global, row: &str) -> Result<bool, Untold> {
+        let (words, model, rest) = cut_two(row);
+        let (want, end) = wanted(rest);
+        let mut source = SureSource::new(model_text(alloc, model)?);
+        let mut sinks = Sinks::make(alloc, 1000, 1000)?;
+        let words = words_of(alloc, words, ' ')?;
+        let comes = want.comes(alloc, &words, &mut source, &mut sinks);
+        Ok(comes && end_with(sinks.out.taken(), end))
     }
 }
 
 // Whether a report is found sound, and nothing else is told.
-fn is_sound(alloc: Global, report: &[u8]) -> Result<bool, Fail> {
+fn is_sound(alloc: Global, report: &[u8]) -> Result<bool, AllocError> {
     let mut source = SureSource::new(Vec::from_slice(alloc, report)?);
-    let mut out = sink(alloc, 100, 100)?;
-    let mut notes = sink(alloc, 100, 3)?;
-    let got = ending(alloc, "check", &mut source, &mut out, &mut notes)?;
-    let is_told = out.taken().starts_with(b"sound accept ") && notes.taken().is_empty();
-    Ok(got == "Done" && is_told)
+    let mut sinks = Sinks::make(alloc, 100, 100)?;
+    let words = words_of(alloc, "check", ' ')?;
+    let comes = DONE.comes(alloc, &words, &mut source, &mut sinks);
+    Ok(comes && sinks.out.taken().starts_with(b"sound accept "))
 }
 
-// Whether the report of a run on that text is found sound.
-fn is_checked_on(alloc: Global, want: Run<'_>, text: Vec<u8>) -> Result<bool, Fail> {
-    let mut source = SureSource::new(text);
-    let mut out = sink(alloc, 1000, 1000)?;
-    let mut notes = sink(alloc, 100, 3)?;
-    let got = ending(alloc, want.words, &mut source, &mut out, &mut notes)?;
-    Ok(got == "Done" && is_sound(alloc, out.taken())?)
+// Whether a report is written, and is found sound.
+fn is_checked(alloc: Global, words: &str, model: &str) -> Result<bool, Untold> {
+    let mut source = SureSource::new(model_text(alloc, model)?);
+    let mut sinks = Sinks::make(alloc, 1000, 1000)?;
+    let words = words_of(alloc, words, ' ')?;
+    let comes = DONE.comes(alloc, &words, &mut source, &mut sinks);
+    Ok(comes && is_sound(alloc, sinks.out.taken())?)
 }
 
-/// Whether the report of a row's words and model is found sound.
-pub fn is_checked(alloc: Global, row: &str) -> Result<bool, Fail> {
-    let Some(want) = run_of(row) else {
-        return Ok(false);
-    };
-    match model_text(alloc, want.model)? {
-        Some(text) => is_checked_on(alloc, want, text),
-        None => Ok(false),
+/// That the report of a row's words and model is found sound, where the row's status is that of a report.
+pub struct Checked;
+
+impl Claim for Checked {
+    fn holds(&self, alloc: Global, row: &str) -> Result<bool, Untold> {
+        let (words, model, rest) = cut_two(row);
+        if rest.starts_with("Done | ") {
+            is_checked(alloc, words, model)
+        } else {
+            Ok(true)
+        }
     }
 }
 
@@ -147,25 +161,37 @@ pub struct CoinJob<'a> {
     pub text: &'a str,
 }
 
-// Whether these are so many bytes from the front of the lines.
-fn is_front(alloc: Global, taken: &[u8], lines: &str, count: usize) -> Result<bool, Fail> {
-    Ok(lines_of(alloc, lines)?.get(..count) == Some(taken))
+impl CoinJob<'_> {
+    /// Whether the job ends so, and that many bytes are taken from the front of what it writes.
+    pub fn ends(
+        self,
+        alloc: Global,
+        want: End<'_>,
+        sinks: &mut Sinks,
+        count: usize,
+    ) -> Result<bool, Untold> {
+        let mut source = SureSource::new(model_text(alloc, "COIN")?);
+        let words = words_of(alloc, self.words, ' ')?;
+        let comes = want.comes(alloc, &words, &mut source, sinks);
+        Ok(comes && are_front(sinks.out.taken(), self.text, count))
+    }
+
+    // Whether a sink that holds so many bytes takes as many, and the job is cut off unless that is all.
+    fn is_cut_off(self, alloc: Global, room: usize) -> Result<bool, Untold> {
+        let want = if room < self.text.len() {
+            CUT_OFF
+        } else {
+            DONE
+        };
+        let mut sinks = Sinks::make(alloc, room, 1)?;
+        self.ends(alloc, want, &mut sinks, room)
+    }
 }
 
-/// Whether the job, over a sink that holds so many bytes, ends so, and the sink takes as many from the front of what
-/// the job writes.
-pub fn is_cut_off(
-    alloc: Global,
-    job: CoinJob<'_>,
-    room: usize,
-    status: &str,
-) -> Result<bool, Fail> {
-    let Some(text) = model_text(alloc, "COIN")? else {
-        return Ok(false);
-    };
-    let mut source = SureSource::new(text);
-    let mut out = sink(alloc, room, 1)?;
-    let mut notes = sink(alloc, 100, 100)?;
-    let got = ending(alloc, job.words, &mut source, &mut out, &mut notes)?;
-    Ok(got == status && is_front(alloc, out.taken(), job.text, room)?)
+/// Asserts that a job is cut off wherever a sink's room ends, and is done where there is enough.
+pub fn each_front(rt: &impl Abort, alloc: Global, job: CoinJob<'_>) {
+    for room in 0..job.text.len() + 1 {
+        let holds = job.is_cut_off(alloc, room);
+        assert!(rt; matches!(holds, Ok(true)), "{room}: {holds:?}");
+    }
 }

@@ -1,9 +1,7 @@
 // Trees: regions that are halved, and reports that are cut off.
-use crate::models::{lines_of, model_text};
-use crate::runs::{ending, is_answered, sink};
-use lift_base::{MemSink, SureSource};
+use crate::cells::{Untold, each_row};
+use crate::runs::{Answered, CUT_OFF, CoinJob, DONE, Sinks, each_front, sink};
 use std::alloc::Global;
-use std::test::Fail;
 
 // Each row: the words, the model, the status, how the output ends, and no notes. A parameter that no
 // row depends on is never split.
@@ -44,57 +42,39 @@ const REPORT: &str =
     to 1 0:1;row 2 0 1;to 2 0:1;bound 1/2;precision 4;depth 2;grid 40;box 4 36;split 0;accept 8 16 0;split 0;unknown;\
     reject e 1 k 1 m 1 b 11/16;y 11 16 0;choice 0 - -;rank 1 0 -;";
 
+const JOB: CoinJob<'static> = CoinJob {
+    words: REGION,
+    text: REPORT,
+};
+
 #[test]
-fn regions_are_halved(rt: HostRuntime) -> Result<(), Fail> {
-    for row in TREES.lines() {
-        assert!(rt; is_answered(rt.alloc(), row)?, "{row}");
-    }
-    Ok(())
+fn regions_are_halved(rt: HostRuntime) {
+    each_row(&rt, rt.alloc(), TREES, &Answered);
 }
 
-// Whether that job, over a sink that holds so many bytes and takes one in each call, and whose calls
-// of these numbers fail, ends so and takes so many bytes from the front of the report.
-fn is_cut_off(
-    alloc: Global,
-    room: usize,
-    failing: Vec<u64>,
-    status: &str,
-    taken: usize,
-) -> Result<bool, Fail> {
-    let Some(text) = model_text(alloc, "COIN")? else {
-        return Ok(false);
+#[test]
+fn reports_are_cut_off_anywhere(rt: HostRuntime) {
+    each_front(&rt, rt.alloc(), JOB);
+}
+
+// Whether the report lacks its last two bytes, where the last call of the sink but one fails.
+fn lacks_what_failed(alloc: Global) -> Result<bool, Untold> {
+    let len = REPORT.len();
+    let mut sinks = Sinks {
+        out: sink(alloc, 1000, 1, len as u64 - 1)?,
+        notes: sink(alloc, 100, 3, 0)?,
     };
-    let mut source = SureSource::new(text);
-    let mut out = MemSink::new(alloc, room, 1, failing)?;
-    let mut notes = sink(alloc, 100, 100)?;
-    let got = ending(alloc, REGION, &mut source, &mut out, &mut notes)?;
-    Ok(got == status && is_front(alloc, out.taken(), taken)?)
+    JOB.ends(alloc, CUT_OFF, &mut sinks, len - 2)
 }
 
-// Whether these are so many bytes from the front of the report.
-fn is_front(alloc: Global, taken: &[u8], count: usize) -> Result<bool, Fail> {
-    Ok(lines_of(alloc, REPORT)?.get(..count) == Some(taken))
+// Whether the same job is done whole.
+fn is_whole(alloc: Global) -> Result<bool, Untold> {
+    let mut sinks = Sinks::make(alloc, 1000, 1)?;
+    JOB.ends(alloc, DONE, &mut sinks, REPORT.len())
 }
 
 #[test]
-fn reports_are_cut_off_anywhere(rt: HostRuntime) -> Result<(), Fail> {
-    let alloc = rt.alloc();
-    for room in 0..REPORT.len() {
-        assert!(rt;
-            is_cut_off(alloc, room, Vec::new(alloc), "WriteFault", room)?,
-            "{room}"
-        );
-    }
-    assert!(rt; is_cut_off(alloc, REPORT.len(), Vec::new(alloc), "Done", REPORT.len())?);
-    Ok(())
-}
-
-// The last call of the sink but one fails. Afterwards the same job is done whole.
-#[test]
-fn reports_lack_what_failed(rt: HostRuntime) -> Result<(), Fail> {
-    let alloc = rt.alloc();
-    let failing = Vec::from_slice(alloc, &[REPORT.len() as u64 - 1])?;
-    assert!(rt; is_cut_off(alloc, 1000, failing, "WriteFault", REPORT.len() - 2)?);
-    assert!(rt; is_cut_off(alloc, 1000, Vec::new(alloc), "Done", REPORT.len())?);
-    Ok(())
+fn reports_lack_what_failed(rt: HostRuntime) {
+    assert!(rt; matches!(lacks_what_failed(rt.alloc()), Ok(true)));
+    assert!(rt; matches!(is_whole(rt.alloc()), Ok(true)));
 }

@@ -1,6 +1,6 @@
 // Models that are decided for a number of steps. The numbers of the leaves were worked out by hand.
-use crate::runs::{CoinJob, is_answered, is_cut_off};
-use std::test::Fail;
+use crate::cells::each_row;
+use crate::runs::{Answered, CoinJob, each_front};
 
 // Each row: the words, the model, the status, how the output ends, and the notes.
 const WITHIN: &str = "\
@@ -57,19 +57,11 @@ const JOB: CoinJob<'static> = CoinJob {
 };
 
 #[test]
-fn steps_are_bounded(rt: HostRuntime) -> Result<(), Fail> {
-    for row in WITHIN.lines() {
-        assert!(rt; is_answered(rt.alloc(), row)?, "{row}");
-    }
-    Ok(())
+fn steps_are_bounded(rt: HostRuntime) {
+    each_row(&rt, rt.alloc(), WITHIN, &Answered);
 }
 
 #[test]
-fn texts_for_steps_are_cut_off_anywhere(rt: HostRuntime) -> Result<(), Fail> {
-    let alloc = rt.alloc();
-    for room in 0..REPORT.len() {
-        assert!(rt; is_cut_off(alloc, JOB, room, "WriteFault")?, "{room}");
-    }
-    assert!(rt; is_cut_off(alloc, JOB, REPORT.len(), "Done")?);
-    Ok(())
+fn texts_for_steps_are_cut_off_anywhere(rt: HostRuntime) {
+    each_front(&rt, rt.alloc(), JOB);
 }

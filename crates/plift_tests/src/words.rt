@@ -1,9 +1,9 @@
 // Lines of words, where reading fails at once: whether they ask for a job, and else what is at fault.
-use crate::runs::{has_taken, sink, status_name, words_of};
-use lift_base::{MemSink, MemSource};
-use plift_top::run;
-use std::alloc::Global;
-use std::test::Fail;
+use crate::cells::{Claim, Untold, cut, each_row};
+use crate::models::are_lines;
+use crate::runs::{DONE, End, Sinks, words_of};
+use lift_base::MemSource;
+use std::alloc::{AllocError, Global};
 
 // Each row: the words between bars, and what is told.
 const LINES: &str = "\
@@ -108,41 +108,37 @@ verify|--precision|0|--depth|21|--bound|2|--goal|x | usage: --bound;
 verify|--precision|0|--depth|21|--bound|1|--goal|x | usage: --depth;
 ";
 
-// The name of the status with which the program ends on a line's words, where the source fails at once.
-fn ending(
-    alloc: Global,
-    line: &str,
-    out: &mut MemSink,
-    notes: &mut MemSink,
-) -> Result<&'static str, Fail> {
-    let words = words_of(alloc, line, '|')?;
-    let failing = Vec::from_slice(alloc, &[1])?;
-    let mut source = MemSource::new(Vec::new(alloc), 16, failing);
-    Ok(status_name(run(alloc, &words, &mut source, out, notes)))
+// A source that fails at once.
+fn failing(alloc: Global) -> Result<MemSource, AllocError> {
+    Ok(MemSource::new(Vec::new(alloc), 16, Vec::from_slice(alloc, &[1])?))
 }
 
-// Whether a line is told so, and nothing is written.
-fn is_told(alloc: Global, line: &str, told: &str) -> Result<bool, Fail> {
-    let status = if told == "read fault;" {
-        "ReadFault"
-    } else {
-        "Usage"
-    };
-    let mut out = sink(alloc, 10, 1)?;
-    let mut notes = sink(alloc, 100, 3)?;
-    let got = ending(alloc, line, &mut out, &mut notes)?;
-    Ok(got == status && out.taken().is_empty() && has_taken(alloc, &notes, told)?)
+// Whether words end so, where the source fails at once.
+fn comes(alloc: Global, want: End<'_>, line: &str, sinks: &mut Sinks) -> Result<bool, AllocError> {
+    let mut source = failing(alloc)?;
+    let words = words_of(alloc, line, '|')?;
+    Ok(want.comes(alloc, &words, &mut source, sinks))
+}
+
+// That a line is told so, and nothing is written.
+struct Lines;
+
+impl Claim for Lines {
+    fn holds(&self, alloc: Global, row: &str) -> Result<bool, Untold> {
+        let (line, told) = cut(row);
+        let status = match told {
+            "read fault;" => "ReadFault",
+            _ => "Usage",
+        };
+        let mut sinks = Sinks::make(alloc, 10, 1)?;
+        let comes = comes(alloc, End { status, told }, line, &mut sinks)?;
+        Ok(comes && sinks.out.taken().is_empty())
+    }
 }
 
 #[test]
-fn words_are_read(rt: HostRuntime) -> Result<(), Fail> {
-    for row in LINES.lines() {
-        let Some((line, told)) = row.split_once(" | ") else {
-            return Err(Fail::new("a row has too few cells"));
-        };
-        assert!(rt; is_told(rt.alloc(), line, told)?, "{row}");
-    }
-    Ok(())
+fn words_are_read(rt: HostRuntime) {
+    each_row(&rt, rt.alloc(), LINES, &Lines);
 }
 
 // The ladder of one block.
@@ -172,36 +168,33 @@ const TESTED: &str = "\
 32767 | selftest 32767 states 65536 accept 1 reject 0 unknown 0;
 ";
 
-// Whether the ladder of so many blocks is tested, with that line, and nothing is told.
-fn is_tested(alloc: Global, blocks: &str, line: &str) -> Result<bool, Fail> {
-    let words = format!(in alloc; "selftest|{blocks}")?;
-    let mut out = sink(alloc, 100, 7)?;
-    let mut notes = sink(alloc, 100, 3)?;
-    let got = ending(alloc, words.as_str(), &mut out, &mut notes)?;
-    Ok(got == "Done" && notes.taken().is_empty() && has_taken(alloc, &out, line)?)
-}
+// That the ladder of so many blocks is tested, with that line, and nothing is told.
+struct Tested;
 
-#[test]
-fn ladders_are_tested_and_nothing_read(rt: HostRuntime) -> Result<(), Fail> {
-    for row in TESTED.lines() {
-        let Some((blocks, line)) = row.split_once(" | ") else {
-            return Err(Fail::new("a row has too few cells"));
-        };
-        assert!(rt; is_tested(rt.alloc(), blocks, line)?, "{row}");
+impl Claim for Tested {
+    fn holds(&self, alloc: Global, row: &str) -> Result<bool, Untold> {
+        let (blocks, line) = cut(row);
+        let words = format!(in alloc; "selftest|{blocks}")?;
+        let mut sinks = Sinks::make(alloc, 100, 7)?;
+        let comes = comes(alloc, DONE, &words, &mut sinks)?;
+        Ok(comes && are_lines(sinks.out.taken(), line))
     }
-    Ok(())
-}
-
-// Whether these words write that ladder, and nothing is told.
-fn is_written(alloc: Global, line: &str, ladder: &[u8]) -> Result<bool, Fail> {
-    let mut out = sink(alloc, 1000, 7)?;
-    let mut notes = sink(alloc, 100, 3)?;
-    let got = ending(alloc, line, &mut out, &mut notes)?;
-    Ok(got == "Done" && out.taken() == ladder && notes.taken().is_empty())
 }
 
 #[test]
-fn a_ladder_is_written_and_nothing_read(rt: HostRuntime) -> Result<(), Fail> {
-    assert!(rt; is_written(rt.alloc(), "generate|1", LADDER.as_bytes())?);
-    Ok(())
+fn ladders_are_tested_and_nothing_read(rt: HostRuntime) {
+    each_row(&rt, rt.alloc(), TESTED, &Tested);
+}
+
+// Whether words write that ladder, and nothing is told.
+fn is_written(alloc: Global, line: &str, ladder: &[u8]) -> Result<bool, AllocError> {
+    let mut sinks = Sinks::make(alloc, 1000, 7)?;
+    let comes = comes(alloc, DONE, line, &mut sinks)?;
+    Ok(comes && sinks.out.taken() == ladder)
+}
+
+#[test]
+fn a_ladder_is_written_and_nothing_read(rt: HostRuntime) {
+    let is_written = is_written(rt.alloc(), "generate|1", LADDER.as_bytes());
+    assert!(rt; matches!(is_written, Ok(true)));
 }

@@ -17,7 +17,7 @@ pub(crate) trait Teller {
 
 /// Asserts that the last cell of each row says what is told of those before it.
 pub(crate) fn each_row<T: Teller>(rt: &impl Abort, alloc: Global, rows: &str, teller: &T) {
-    for row in rows.split('\n') {
+    for row in rows.lines() {
         let (asked, want) = row.rsplit_once(" | ").unwrap_or(("", row));
         let told = teller.tell(alloc, asked);
         assert!(rt; is_shown(alloc, &told, want), "{row}: {told:?}");

@@ -1,8 +1,8 @@
 // Reports with changes, and what is answered.
-use crate::changes::changed;
-use crate::check::reports::{answer_of, find_report};
+use crate::cells::{Teller, Untold, cut, each_row};
+use crate::check::reports::{answer_of, changed_report};
 use std::alloc::Global;
-use std::test::Fail;
+use std::string::String;
 
 // Each row: the report, the changes of its lines, and the answer.
 const ANSWERS: &str = "\
@@ -41,29 +41,26 @@ SPLIT | 23=unknown;unknown | Rest
 SPLIT | 23=split 0 | Depth { node: 3 }
 SPLIT | 21=accept 7 16 0 | Missed { node: 1, miss: Row { state: 0, choice: 0, corner: 1, left: 320, right: 280 } }
 SPLIT | 21=unknown / 23=split 0 | Depth { node: 1 }
-SPLIT | 24=reject e 1 k 1 m 1 b 12/16 / 25=y 12 16 0 | Missed { node: 4, miss: Row { state: 0, choice: 0, corner: 0, left: 480, right: 448 } }
+SPLIT | 24=reject e 1 k 1 m 1 b 12/16 / 25=y 12 16 0 | \
+    Missed { node: 4, miss: Row { state: 0, choice: 0, corner: 0, left: 480, right: 448 } }
 ";
 
-/// Whether a row's report with its changes is answered by what stands beside them.
-pub fn is_answered(alloc: Global, row: &str) -> Result<bool, Fail> {
-    let Some((name, rest)) = row.split_once(" | ") else {
-        return Ok(false);
-    };
-    let Some((changes, answer)) = rest.split_once(" | ") else {
-        return Ok(false);
-    };
-    let Some(report) = find_report(name) else {
-        return Ok(false);
-    };
-    let text = changed(alloc, report, changes)?;
-    let got = answer_of(alloc, text, 0)?;
-    Ok(got.as_str() == answer)
+/// What is answered to reports with changes.
+pub struct Answered;
+
+impl Teller for Answered {
+    type Told = String;
+
+    type Error = Untold;
+
+    fn tell(&self, alloc: Global, asked: &str) -> Result<String, Untold> {
+        let (name, changes) = cut(asked);
+        let text = changed_report(alloc, name, changes)?;
+        answer_of(alloc, text, 0)
+    }
 }
 
 #[test]
-fn files_are_answered(rt: HostRuntime) -> Result<(), Fail> {
-    for row in ANSWERS.lines() {
-        assert!(rt; is_answered(rt.alloc(), row)?, "{row}");
-    }
-    Ok(())
+fn files_are_answered(rt: HostRuntime) {
+    each_row(&rt, rt.alloc(), ANSWERS, &Answered);
 }

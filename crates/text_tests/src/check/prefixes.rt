@@ -1,38 +1,59 @@
 // Texts that are cut off, and sources that fail.
-use crate::changes::changed;
-use crate::check::reports::{answer_of, find_report};
-use std::alloc::Global;
-use std::test::Fail;
+use crate::cells::Untold;
+use crate::check::reports::{answer_of, changed_report};
+use std::alloc::{AllocError, Global};
+use std::string::String;
 
-// The bytes of the coin's report.
-fn coin(alloc: Global) -> Result<Vec<u8>, Fail> {
-    changed(alloc, find_report("COIN").unwrap_or(""), "-")
+// The answer to a text that ends too early: it is refused at the line that is due.
+fn truncated(alloc: Global, text: &[u8]) -> Result<String, AllocError> {
+    let line = text.iter().filter(|byte| **byte == b'\n').count() + 1;
+    format!(in alloc; "Text(TextError {{ line: {line}, cause: Truncated }})")
 }
 
-// Whether the first bytes of the report are refused as truncated, at the line that is due.
-fn is_truncated(alloc: Global, text: &[u8], len: usize) -> Result<bool, Fail> {
-    let front = &text[..len.min(text.len())];
-    let line = front.iter().filter(|byte| **byte == b'\n').count() + 1;
-    let want = format!(in alloc; "Text(TextError {{ line: {line}, cause: Truncated }})")?;
-    let got = answer_of(alloc, Vec::from_slice(alloc, front)?, 0)?;
-    Ok(got == want)
+// The answer to a text.
+fn answer_to(alloc: Global, text: &[u8]) -> Result<String, Untold> {
+    answer_of(alloc, Vec::from_slice(alloc, text)?, 0)
 }
 
-#[test]
-fn texts_that_are_cut_off_are_truncated(rt: HostRuntime) -> Result<(), Fail> {
-    let text = coin(rt.alloc())?;
-    assert_eq!(rt; text.len(), 198);
-    for len in 0..198 {
-        assert!(rt; is_truncated(rt.alloc(), &text, len)?, "{len}");
+// Whether a text is refused as truncated.
+fn is_truncated(alloc: Global, text: &[u8]) -> bool {
+    match (answer_to(alloc, text), truncated(alloc, text)) {
+        (Ok(got), Ok(want)) => got == want,
+        _ => false,
     }
-    Ok(())
+}
+
+// How many of a text's fronts are refused as truncated, from the shortest on.
+fn truncated_fronts(alloc: Global, text: &[u8]) -> usize {
+    for len in 0..text.len() {
+        if !is_truncated(alloc, &text[..len]) {
+            return len;
+        }
+    }
+    text.len()
+}
+
+// How many bytes the coin's report has, and the same of it.
+fn fronts_of_coin(alloc: Global) -> Result<(usize, usize), Untold> {
+    let text = changed_report(alloc, "COIN", "-")?;
+    Ok((text.len(), truncated_fronts(alloc, &text)))
 }
 
 #[test]
-fn a_fault_of_each_read_is_told(rt: HostRuntime) -> Result<(), Fail> {
+fn texts_that_are_cut_off_are_truncated(rt: HostRuntime) {
+    assert!(rt; matches!(fronts_of_coin(rt.alloc()), Ok((198, 198))));
+}
+
+// Whether a fault is told where that call of the coin's source fails.
+fn is_fault(alloc: Global, call: u64) -> Result<bool, Untold> {
+    let text = changed_report(alloc, "COIN", "-")?;
+    let got = answer_of(alloc, text, call)?;
+    Ok(got.as_str() == "Fault")
+}
+
+#[test]
+fn a_fault_of_each_read_is_told(rt: HostRuntime) {
     for call in 1..31 {
-        let got = answer_of(rt.alloc(), coin(rt.alloc())?, call)?;
-        assert!(rt; got.as_str() == "Fault", "{call}");
+        assert!(rt; matches!(is_fault(rt.alloc(), call), Ok(true)), "{call}");
     }
-    Ok(())
 }

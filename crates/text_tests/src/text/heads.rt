@@ -1,17 +1,20 @@
 // Heads with changes, and what is read of them.
+use crate::cells::{Teller, cut, each_row, number};
 use crate::text::reports::{changed_report, fresh_lines, line_due, shown_fault};
 use cert_text::{Head, read_head};
+use lift_model::Row;
 use line_text::TextSource;
-use std::alloc::Global;
+use std::alloc::{AllocError, Global};
 use std::fmt::Write;
-use std::test::Fail;
+use std::string::String;
 
 // Each row: the report and the changes of its lines, and what the head tells. That is the parameters,
 // the states, the initial state, the bound, the precision, the depth, the grid, the root's sides, and
 // the line behind it.
 const READ: &str = "\
 COIN - | p 3 0 1/2 4 0 10 box 1 4 line 20
-COIN 3=parameters 1 aaaaaaaaaaaaaaaaaaaaaaaaaaaaaaaaaaaaaaaaaaaaaaaaaaaaaaaaaaaaaaaa | aaaaaaaaaaaaaaaaaaaaaaaaaaaaaaaaaaaaaaaaaaaaaaaaaaaaaaaaaaaaaaaa 3 0 1/2 4 0 10 box 1 4 line 20
+COIN 3=parameters 1 aaaaaaaaaaaaaaaaaaaaaaaaaaaaaaaaaaaaaaaaaaaaaaaaaaaaaaaaaaaaaaaa | \
+    aaaaaaaaaaaaaaaaaaaaaaaaaaaaaaaaaaaaaaaaaaaaaaaaaaaaaaaaaaaaaaaa 3 0 1/2 4 0 10 box 1 4 line 20
 COIN 4=common 4611686018427387903 | p 3 0 1/2 4 0 10 box 1 4 line 20
 COIN 6=init 2 / 7=goal 3 0 1 2 | p 3 2 1/2 4 0 10 box 1 4 line 20
 COIN 9=to 1 / 10=to 2 1:1267650600228229401496703205375 | p 3 0 1/2 4 0 10 box 1 4 line 20
@@ -21,7 +24,8 @@ COIN 15=bound 4294967294/4294967295 | p 3 0 4294967294/4294967295 4 0 10 box 1 4
 COIN 17=depth 20 / 19=box 0 1048576 | p 3 0 1/2 4 20 10 box 0 1048576 line 20
 COIN 18=grid 4611686018427387903 / 19=box -4611686018427387903 0 | p 3 0 1/2 4 0 4611686018427387903 box -4611686018427387903 0 line 20
 COIN 3=parameters 5 a b c d e / 9=to 1 1:1 2:1 12:1 / 19=box 1 4 1 4 1 4 1 4 1 4 | a b c d e 3 0 1/2 4 0 10 box 1 4 1 4 1 4 1 4 1 4 line 20
-COIN 3=parameters 4 a b c d / 9=to 1 0:1 1:1 2:1 3:1 4:1 5:1 6:1 7:1 8:1 9:1 10:1 11:1 12:1 13:1 14:1 15:1 / 19=box 1 4 1 4 1 4 1 4 | a b c d 3 0 1/2 4 0 10 box 1 4 1 4 1 4 1 4 line 20
+COIN 3=parameters 4 a b c d / 9=to 1 0:1 1:1 2:1 3:1 4:1 5:1 6:1 7:1 8:1 9:1 10:1 11:1 12:1 13:1 14:1 15:1 / 19=box 1 4 1 4 1 4 1 4 | \
+    a b c d 3 0 1/2 4 0 10 box 1 4 1 4 1 4 1 4 line 20
 PAIR - | p q 2 0 1/1 10 2 40 box 4 36 -8 40 line 20
 ";
 
@@ -191,53 +195,79 @@ PAIR - | row 0 0 to 1 1:2 to 0 0:2 1:-2 row 0 1 to 0 0:2 row 1 0 to 1 0:2
 PAIR 8=row 0 0 0;row 0 1 2 / 11=row 0 2 1 | row 0 0 row 0 1 to 1 1:2 to 0 0:2 1:-2 row 0 2 to 0 0:2 row 1 0 to 1 0:2
 ";
 
-// What a head tells beside its rows.
-fn shown(alloc: Global, head: &Head, line: u64) -> Result<String, Fail> {
-    let mut text = String::new(alloc);
-    let model = head.model();
-    for name in 0..model.names().len() {
-        for byte in model.names().get(name) {
-            text.push(char::from(*byte))?;
+// Tells the names of a head's parameters, each with a blank behind it.
+fn tell_names(told: &mut String, head: &Head) -> Result<(), AllocError> {
+    let names = head.model().names();
+    for index in 0..names.len() {
+        for byte in names.get(index) {
+            told.push(char::from(*byte))?;
         }
-        text.push(' ')?;
+        told.push(' ')?;
     }
-    write!(text, "{} {} ", model.states(), model.init())?;
-    write!(text, "{}/{} ", head.bound().num, head.bound().den)?;
-    write!(
-        text,
-        "{} {} {} box",
-        head.w(),
-        head.grid().depth,
-        head.grid().d
-    )?;
-    for end in head.root().sides() {
-        write!(text, " {end}")?;
-    }
-    write!(text, " line {line}")?;
-    Ok(text)
+    Ok(())
 }
 
-// The rows of a head's model.
-fn shown_rows(alloc: Global, head: &Head) -> Result<String, Fail> {
-    let mut text = String::new(alloc);
+// Tells the root of a head, by its grid.
+fn tell_root(told: &mut String, head: &Head) -> Result<(), AllocError> {
+    let (depth, d) = (head.grid().depth, head.grid().d);
+    write!(told, "{depth} {d} box")?;
+    for end in head.root().sides() {
+        write!(told, " {end}")?;
+    }
+    Ok(())
+}
+
+// Tells what a head says beside its rows.
+fn tell_head(told: &mut String, head: &Head) -> Result<(), AllocError> {
+    tell_names(told, head)?;
+    let (states, init) = (head.model().states(), head.model().init());
+    let (num, den) = (head.bound().num, head.bound().den);
+    write!(told, "{states} {init} {num}/{den} {} ", head.w())?;
+    tell_root(told, head)
+}
+
+// Tells a row.
+fn tell_row(told: &mut String, row: &Row) -> Result<(), AllocError> {
+    for entry in row.entries() {
+        write!(told, " to {}", entry.target)?;
+        for index in 0..entry.poly.len() {
+            let (set, number) = entry.poly.term(index);
+            write!(told, " {set}:{number}")?;
+        }
+    }
+    Ok(())
+}
+
+// Tells the rows of a head's model.
+fn tell_rows(told: &mut String, head: &Head) -> Result<(), AllocError> {
     let model = head.model();
     for s in 0..model.states() {
         for a in 0..model.choices(s) {
-            write!(text, " row {s} {a}")?;
-            for entry in model.row(s, a).entries() {
-                write!(text, " to {}", entry.target)?;
-                for index in 0..entry.poly.len() {
-                    let (set, number) = entry.poly.term(index);
-                    write!(text, " {set}:{number}")?;
-                }
-            }
+            let blank = if told.is_empty() { "" } else { " " };
+            write!(told, "{blank}row {s} {a}")?;
+            tell_row(told, model.row(s, a))?;
         }
     }
-    Ok(text)
+    Ok(())
+}
+
+// What a head tells beside its rows.
+fn shown(alloc: Global, head: &Head, line: u64) -> Result<String, AllocError> {
+    let mut told = String::new(alloc);
+    tell_head(&mut told, head)?;
+    write!(told, " line {line}")?;
+    Ok(told)
+}
+
+// The rows of a head's model.
+fn shown_rows(alloc: Global, head: &Head) -> Result<String, AllocError> {
+    let mut told = String::new(alloc);
+    tell_rows(&mut told, head)?;
+    Ok(told)
 }
 
 // What is read of a text's head, or its rows alone.
-fn answer_of(alloc: Global, text: &[u8], rows: bool) -> Result<String, Fail> {
+fn answer_of(alloc: Global, text: &[u8], rows: bool) -> Result<String, AllocError> {
     let mut lines = fresh_lines(alloc)?;
     match read_head(alloc, &mut lines, &mut TextSource::new(text)) {
         Ok(head) if rows => shown_rows(alloc, &head),
@@ -246,65 +276,72 @@ fn answer_of(alloc: Global, text: &[u8], rows: bool) -> Result<String, Fail> {
     }
 }
 
-// Whether what is read is what stands in the row.
-fn is_read(alloc: Global, row: &str, rows: bool) -> Result<bool, Fail> {
-    let Some((changes, want)) = row.split_once(" | ") else {
-        return Ok(false);
-    };
-    let text = changed_report(alloc, changes)?;
-    let got = answer_of(alloc, &text, rows)?;
-    Ok(got.trim_start() == want)
+// What is read of heads: their rows alone, or all but them.
+#[derive(Clone, Copy)]
+struct Heads {
+    rows: bool,
+}
+
+impl Teller for Heads {
+    type Told = String;
+
+    type Error = AllocError;
+
+    fn tell(&self, alloc: Global, asked: &str) -> Result<String, AllocError> {
+        let text = changed_report(alloc, asked)?;
+        answer_of(alloc, &text, self.rows)
+    }
 }
 
 #[test]
-fn heads_are_read(rt: HostRuntime) -> Result<(), Fail> {
-    for row in READ.lines() {
-        assert!(rt; is_read(rt.alloc(), row, false)?, "{row}");
-    }
-    Ok(())
+fn heads_are_read(rt: HostRuntime) {
+    each_row(&rt, rt.alloc(), READ, &Heads { rows: false });
 }
 
 #[test]
-fn rows_are_read(rt: HostRuntime) -> Result<(), Fail> {
-    for row in ROWS.lines() {
-        assert!(rt; is_read(rt.alloc(), row, true)?, "{row}");
-    }
-    Ok(())
+fn rows_are_read(rt: HostRuntime) {
+    each_row(&rt, rt.alloc(), ROWS, &Heads { rows: true });
 }
 
 #[test]
-fn heads_are_refused(rt: HostRuntime) -> Result<(), Fail> {
-    for row in REFUSED.lines() {
-        assert!(rt; is_read(rt.alloc(), row, false)?, "{row}");
-    }
-    Ok(())
+fn heads_are_refused(rt: HostRuntime) {
+    each_row(&rt, rt.alloc(), REFUSED, &Heads { rows: false });
 }
 
-// What is read of a line of so many bytes, and an end behind it.
-fn answer_to_line(alloc: Global, len: usize, end: &str) -> Result<String, Fail> {
+// Each row: of how many bytes the first line is, what stands behind it, where a semicolon stands for a line feed, and the line
+// and the cause.
+const LONG: &str = "\
+0 |  | 1 Truncated
+1048576 |  | 1 Truncated
+1048576 | ; | 1 Syntax
+1048577 |  | 1 Limit
+1048577 | ; | 1 Limit
+";
+
+// A line of so many bytes, and a line feed behind it where the line ends.
+fn long_line(alloc: Global, len: usize, ends: bool) -> Result<Vec<u8>, AllocError> {
     let mut text = vec![in alloc; b'a'; len]?;
-    text.extend_from_slice(end.as_bytes())?;
-    answer_of(alloc, &text, false)
+    if ends {
+        text.push(b'\n')?;
+    }
+    Ok(text)
+}
+
+struct LongLines;
+
+impl Teller for LongLines {
+    type Told = String;
+
+    type Error = AllocError;
+
+    fn tell(&self, alloc: Global, asked: &str) -> Result<String, AllocError> {
+        let (len, end) = cut(asked);
+        let text = long_line(alloc, number(len) as usize, end == ";")?;
+        answer_of(alloc, &text, false)
+    }
 }
 
 #[test]
-fn long_lines_are_refused(rt: HostRuntime) -> Result<(), Fail> {
-    assert_eq!(rt; answer_to_line(rt.alloc(), 0, "")?.as_str(), "1 Truncated");
-    assert_eq!(rt;
-        answer_to_line(rt.alloc(), 1048576, "")?.as_str(),
-        "1 Truncated"
-    );
-    assert_eq!(rt;
-        answer_to_line(rt.alloc(), 1048576, "\n")?.as_str(),
-        "1 Syntax"
-    );
-    assert_eq!(rt;
-        answer_to_line(rt.alloc(), 1048577, "")?.as_str(),
-        "1 Limit"
-    );
-    assert_eq!(rt;
-        answer_to_line(rt.alloc(), 1048577, "\n")?.as_str(),
-        "1 Limit"
-    );
-    Ok(())
+fn long_lines_are_refused(rt: HostRuntime) {
+    each_row(&rt, rt.alloc(), LONG, &LongLines);
 }

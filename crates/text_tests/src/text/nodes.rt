@@ -1,11 +1,12 @@
 // Nodes with changes, and what is read of them.
+use crate::cells::{Teller, each_row};
 use crate::text::reports::{changed_report, fresh_lines, line_due, shown_fault};
-use cert_text::{FileError, Node, read_head, read_node};
+use cert_text::{Head, Node, read_head, read_node};
 use lift_base::Lines;
 use line_text::TextSource;
-use std::alloc::Global;
+use std::alloc::{AllocError, Global};
 use std::fmt::Write;
-use std::test::Fail;
+use std::string::String;
 
 // Each row: the report and the changes of its lines, and its first node, with the line behind it.
 const READ: &str = "\
@@ -15,7 +16,8 @@ COIN 20=accept 16 16 16;accept | accept 16 16 16 line 21
 COIN 20=split 0 | split 0 line 21
 COIN 20=unknown | unknown line 21
 COIN 20=reject e 1 k 1 m 1 b 9/16;y 9 16 0;choice 0 - -;rank 1 0 - | reject 1 1 y 9 16 0 choice 0 - - rank 1 0 - line 24
-COIN 20=reject e 126 k 65536 m 8257536 b 9/16;y 9 16 0;choice 0 - 0;rank 65536 0 1 | reject 126 65536 y 9 16 0 choice 0 - 0 rank 65536 0 1 line 24
+COIN 20=reject e 126 k 65536 m 8257536 b 9/16;y 9 16 0;choice 0 - 0;rank 65536 0 1 | \
+    reject 126 65536 y 9 16 0 choice 0 - 0 rank 65536 0 1 line 24
 COIN 20=reject e 0 k 1 m 0 b 0/16;y 0 16 0;choice - - -;rank - 0 - | reject 0 1 y 0 16 0 choice - - - rank - 0 - line 24
 PAIR - | unknown line 21
 PAIR 20=split 1;unknown;unknown | split 1 line 21
@@ -89,41 +91,32 @@ PAIR 20=accept 1024 0 0 | 20 Syntax
 PAIR 20=reject e 0 k 2 m 0 b 1024/1024;y 1024 1024;choice 2 -;rank 2 0 | 22 Limit
 ";
 
-// The first node of a text.
-fn first_node(alloc: Global, lines: &mut Lines, text: &[u8]) -> Result<Node, FileError> {
-    let mut source = TextSource::new(text);
-    let head = read_head(alloc, lines, &mut source)?;
-    read_node(alloc, lines, &mut source, &head)
-}
-
-// Adds a word and the numbers of the states.
-fn push_numbers(text: &mut String, word: &str, numbers: &[i64]) -> Result<(), Fail> {
-    text.push_str(word)?;
+// Tells a word and the numbers of the states.
+fn tell_numbers(told: &mut String, word: &str, numbers: &[i64]) -> Result<(), AllocError> {
+    told.push_str(word)?;
     for number in numbers {
-        write!(text, " {number}")?;
+        write!(told, " {number}")?;
     }
     Ok(())
 }
 
-// Adds a word and the marks of the states.
-fn push_marks(text: &mut String, word: &str, marks: &[u32]) -> Result<(), Fail> {
-    text.push_str(word)?;
+// Tells a word and the marks of the states.
+fn tell_marks(told: &mut String, word: &str, marks: &[u32]) -> Result<(), AllocError> {
+    told.push_str(word)?;
     for mark in marks {
-        if *mark == u32::MAX {
-            text.push_str(" -")?;
-        } else {
-            write!(text, " {mark}")?;
+        match *mark {
+            u32::MAX => told.push_str(" -")?,
+            mark => write!(told, " {mark}")?,
         }
     }
     Ok(())
 }
 
-/// What a node tells.
-pub fn shown(alloc: Global, node: &Node) -> Result<String, Fail> {
-    let mut text = String::new(alloc);
+// Tells a node.
+fn tell_node(told: &mut String, node: &Node) -> Result<(), AllocError> {
     match node {
-        Node::Split { axis } => write!(text, "split {axis}")?,
-        Node::Accept { x, .. } => push_numbers(&mut text, "accept", x.as_slice())?,
+        Node::Split { axis } => write!(told, "split {axis}"),
+        Node::Accept { x, .. } => tell_numbers(told, "accept", x.as_slice()),
         Node::Reject {
             e,
             k,
@@ -132,51 +125,108 @@ pub fn shown(alloc: Global, node: &Node) -> Result<String, Fail> {
             ranks,
             ..
         } => {
-            write!(text, "reject {e} {k}")?;
-            push_numbers(&mut text, " y", y.as_slice())?;
-            push_marks(&mut text, " choice", picks.as_slice())?;
-            push_marks(&mut text, " rank", ranks.as_slice())?;
+            write!(told, "reject {e} {k}")?;
+            tell_numbers(told, " y", y.as_slice())?;
+            tell_marks(told, " choice", picks.as_slice())?;
+            tell_marks(told, " rank", ranks.as_slice())
         }
-        Node::Unknown => text.push_str("unknown")?,
-    }
-    Ok(text)
-}
-
-// What is read of a text's first node.
-fn answer_of(alloc: Global, text: &[u8]) -> Result<String, Fail> {
-    let mut lines = fresh_lines(alloc)?;
-    match first_node(alloc, &mut lines, text) {
-        Ok(node) => {
-            let mut told = shown(alloc, &node)?;
-            write!(told, " line {}", line_due(&lines))?;
-            Ok(told)
-        }
-        Err(error) => shown_fault(alloc, error),
+        Node::Unknown => told.push_str("unknown"),
     }
 }
 
-// Whether what is read is what stands in the row.
-fn is_read(alloc: Global, row: &str) -> Result<bool, Fail> {
-    let Some((changes, want)) = row.split_once(" | ") else {
-        return Ok(false);
-    };
-    let text = changed_report(alloc, changes)?;
-    let got = answer_of(alloc, &text)?;
-    Ok(got.as_str() == want)
+// The precision of a decided leaf.
+fn precision(node: &Node) -> Option<u32> {
+    match node {
+        Node::Accept { u, .. } => Some(*u),
+        Node::Reject { u, .. } => Some(*u),
+        Node::Split { .. } => None,
+        Node::Unknown => None,
+    }
+}
+
+// Tells a head's version and precisions, and the precision of the node behind it.
+fn tell_precisions(told: &mut String, head: &Head, node: &Node) -> Result<(), AllocError> {
+    let (version, from, w) = (head.version(), head.from(), head.w());
+    write!(told, "{version} {from} {w} ")?;
+    match precision(node) {
+        Some(u) => write!(told, "at {u} "),
+        None => Ok(()),
+    }
+}
+
+/// What is told of a report's first node.
+#[derive(Clone, Copy)]
+pub enum FirstNode {
+    /// What it is.
+    Alone,
+    /// The head's version and precisions and its own precision, and what it is.
+    WithPrecisions,
+}
+
+impl FirstNode {
+    fn tell_of(self, told: &mut String, head: &Head, node: &Node) -> Result<(), AllocError> {
+        if let FirstNode::WithPrecisions = self {
+            tell_precisions(told, head, node)?;
+        }
+        tell_node(told, node)
+    }
+
+    // The same, and the line behind it.
+    fn shown(
+        self,
+        alloc: Global,
+        head: &Head,
+        node: &Node,
+        line: u64,
+    ) -> Result<String, AllocError> {
+        let mut told = String::new(alloc);
+        self.tell_of(&mut told, head, node)?;
+        write!(told, " line {line}")?;
+        Ok(told)
+    }
+
+    // What is read of the first node behind a head.
+    fn behind(
+        self,
+        alloc: Global,
+        lines: &mut Lines,
+        source: &mut TextSource,
+        head: &Head,
+    ) -> Result<String, AllocError> {
+        match read_node(alloc, lines, source, head) {
+            Ok(node) => self.shown(alloc, head, &node, line_due(lines)),
+            Err(error) => shown_fault(alloc, error),
+        }
+    }
+
+    // What is read of a text's first node.
+    fn of_text(self, alloc: Global, text: &[u8]) -> Result<String, AllocError> {
+        let mut lines = fresh_lines(alloc)?;
+        let mut source = TextSource::new(text);
+        match read_head(alloc, &mut lines, &mut source) {
+            Ok(head) => self.behind(alloc, &mut lines, &mut source, &head),
+            Err(error) => shown_fault(alloc, error),
+        }
+    }
+}
+
+impl Teller for FirstNode {
+    type Told = String;
+
+    type Error = AllocError;
+
+    fn tell(&self, alloc: Global, asked: &str) -> Result<String, AllocError> {
+        let text = changed_report(alloc, asked)?;
+        self.of_text(alloc, &text)
+    }
 }
 
 #[test]
-fn nodes_are_read(rt: HostRuntime) -> Result<(), Fail> {
-    for row in READ.lines() {
-        assert!(rt; is_read(rt.alloc(), row)?, "{row}");
-    }
-    Ok(())
+fn nodes_are_read(rt: HostRuntime) {
+    each_row(&rt, rt.alloc(), READ, &FirstNode::Alone);
 }
 
 #[test]
-fn nodes_are_refused(rt: HostRuntime) -> Result<(), Fail> {
-    for row in REFUSED.lines() {
-        assert!(rt; is_read(rt.alloc(), row)?, "{row}");
-    }
-    Ok(())
+fn nodes_are_refused(rt: HostRuntime) {
+    each_row(&rt, rt.alloc(), REFUSED, &FirstNode::Alone);
 }
