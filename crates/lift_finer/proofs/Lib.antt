@@ -5,3 +5,4 @@ pub mod Scaled
 pub mod Admitted
 pub mod Regions
 pub mod Refining
+pub mod Rectangles

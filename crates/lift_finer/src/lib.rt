@@ -2,8 +2,10 @@
 //! by the same number.
 #![tactic(auto)]
 
+mod finer;
 mod laws;
 
+pub use finer::finer_region;
 pub use laws::{
     admitted_rows_stay, certificates_stay, halves_stay, refined_bases_are_certified,
     regions_are_finer, vectors_stay, weights_are_homogeneous,
