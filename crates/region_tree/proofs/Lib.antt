@@ -19,3 +19,4 @@ pub mod Staged
 pub mod Lowers
 pub mod Axes
 pub mod Trees
+pub mod Onward

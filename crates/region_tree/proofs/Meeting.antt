@@ -5,15 +5,16 @@ use Rattle.std.proofs.lemmas.List.{drop_more, length-drop}
 use Rattle.lift_poly.specs.Polynomial.{Valuation}
 use Rattle.lift_poly.proofs.Ring.{linear, mul-comm, mul-le}
 use Rattle.lift_grid.specs.Rectangle.{Spans, Inside, AreSpans, spans_of}
-use Rattle.lift_cert.specs.Certificate.{NoneAccepts}
+use Rattle.lift_grid.specs.Tree.{RejectData}
+use Rattle.lift_cert.specs.Certificate.{IsAccepting, IsRejecting, NoneAccepts}
 use Rattle.lift_cert.specs.Laws.{NotBothKindsAtAValuation}
 use Rattle.lift_cert.specs.declared.bound.Bound.{Bound}
-use Rattle.corner_lift.specs.Case.{CaseData, IsCase, IsInside, AreSidesInside}
+use Rattle.corner_lift.specs.Case.{CaseData, IsCase, IsInside, AreSidesInside, at}
 use Rattle.lower_cert.specs.AnyRanks.{RanksFit}
 use Rattle.region_tree.specs.Decided.{IsDecidedBy}
 use Rattle.lift_range.specs.Laws.{AcceptingDoubles, RejectingDoubles}
 use Rattle.region_tree.proofs.Ranges.{accepting_at_last, rejecting_at_last}
-use Rattle.region_tree.specs.Recent.{RecentData, DecidedData, Meet, MeetsOne, sides_at, IsNoted, Notes, IsForetold, HasAccepting, HasRejecting, AreCertified, IsSound, forgotten}
+use Rattle.region_tree.specs.Recent.{RecentData, DecidedData, Meet, MeetsOne, sides_at, IsNoted, Notes, NotesAccepted, NotesRejected, IsForetold, HasAccepting, HasRejecting, AreCertified, IsSound, forgotten}
 use Rattle.region_tree.specs.Right.{NoneRejects}
 use Rattle.region_tree.specs.declared.decided.Outlook.{Outlook}
 use Rattle.region_tree.specs.declared.verdict.Verdict.{Verdict}
@@ -102,16 +103,26 @@ noted_too P sides old new noted here all i lt =
     (λ same. subst P (sym (ap (λ n. sides_at new n) same ∙ noted.1.noted)) here)
     (λ other. let at = noted.1.others i lt other in subst P (sym at.1) (all i at.0))
 
+-- a rectangle was accepted, or rejected, at a precision of at most the case's
+module _ (k : CaseData) (bound : Bound) (sides : List ℤ) (old new : DecidedData) (inside : AreSidesInside k.root sides) (u : ℕ) (most : u ≤ k.w) (certified : AreCertified k bound old) where
+  pub accepted_too : AcceptingDoubles → (x : List ℤ) → IsAccepting (at k u) (spans_of sides) bound x → NotesAccepted sides old new → AreCertified k bound new
+  accepted_too doubles x accepting notes = record {
+    accepted = noted_too (HasAccepting k bound) sides old.accepted new.accepted notes.0 (record { inside = inside; certificate = accepting_at_last doubles k (spans_of sides) bound u most x accepting }) certified.accepted;
+    rejected = rw notes.1 certified.rejected;
+  }
+
+  pub rejected_too : RejectingDoubles → (r : RejectData) → IsRejecting (at k u) (spans_of sides) bound r → NotesRejected sides old new → AreCertified k bound new
+  rejected_too doubles r rejecting notes = record {
+    accepted = rw notes.1 certified.accepted;
+    rejected = noted_too (HasRejecting k bound) sides old.rejected new.rejected notes.0 (record { inside = inside; certificate = rejecting_at_last doubles k (spans_of sides) bound u most r rejecting }) certified.rejected;
+  }
+
 pub certified_too : AcceptingDoubles → RejectingDoubles → (k : CaseData) (v : ℕ) (bound : Bound) (sides : List ℤ) (verdict : Verdict) (old new : DecidedData) (numbers : List ℤ) (picks ranks : List ℕ) → AreSidesInside k.root sides → IsDecidedBy k v (spans_of sides) bound numbers picks ranks verdict
     → AreCertified k bound old → Notes sides verdict old new → AreCertified k bound new
-certified_too accepting rejecting k v bound sides (Accept u) old new numbers picks ranks inside decided certified notes = record {
-  accepted = noted_too (HasAccepting k bound) sides old.accepted new.accepted notes.0 (record { inside = inside; certificate = accepting_at_last accepting k (spans_of sides) bound u decided.first.between.1 numbers decided.accepting }) certified.accepted;
-  rejected = rw notes.1 certified.rejected;
-}
-certified_too accepting rejecting k v bound sides (Reject u e h) old new numbers picks ranks inside decided certified notes = record {
-  accepted = rw notes.1 certified.accepted;
-  rejected = noted_too (HasRejecting k bound) sides old.rejected new.rejected notes.0 (record { inside = inside; certificate = rejecting_at_last rejecting k (spans_of sides) bound u decided.0.first.between.1 _ decided.0.rejecting }) certified.rejected;
-}
+certified_too accepting rejecting k v bound sides (Accept u) old new numbers picks ranks inside decided certified notes =
+    accepted_too k bound sides old new inside u decided.first.between.1 certified accepting numbers decided.accepting notes
+certified_too accepting rejecting k v bound sides (Reject u e h) old new numbers picks ranks inside decided certified notes =
+    rejected_too k bound sides old new inside u decided.0.first.between.1 certified rejecting _ decided.0.rejecting notes
 certified_too accepting rejecting k v bound sides Unknown old new numbers picks ranks inside decided certified notes = rw notes certified
 
 -- where none is noted, nothing is said

@@ -20,11 +20,11 @@ use Rattle.region_tree.specs.Laws.{LeastUppersAreOne, GreatestLowersAreOne, Spli
 use Rattle.region_tree.specs.Nodes.{Node, nodes}
 use Rattle.region_tree.specs.Nodes.Node.{split as split-node, accept as accept-node, reject as reject-node, unknown as unknown-node}
 use Rattle.region_tree.specs.Right.{IsRight, IsAccepted, IsRejected, IsOpen, IsFirst, IsHalved}
-use Rattle.region_tree.specs.Visits.{AreShown, IsShown, Takes, Visits, Walks, entries}
+use Rattle.region_tree.specs.Visits.{AreShown, IsShown, Shows, Takes, Visits, Walks, entries}
 use Rattle.region_tree.specs.declared.visitor.Seen.{Seen}
 use Rattle.region_tree.specs.declared.visitor.Seen.TheVariants.{Kept, Failed}
 
-kept_not_failed : Failed ≡ Kept → ⊥
+pub kept_not_failed : Failed ≡ Kept → ⊥
 kept_not_failed e = cc
 
 -- ---- bytes taken
@@ -43,7 +43,7 @@ takes_front a b xs ys h = (h.0, h.1 ++ ys, ap (λ r. r ++ ys) h.2 ∙ append_ass
 entries_split : (entry : Node → List ℕ) (axis : ℕ) (a b : Tree) → entries entry (split axis a b) ≡ entry (split-node axis) ++ (entries entry a ++ entries entry b)
 entries_split entry axis a b = ap (λ r. entry (split-node axis) ++ r) (flat_map-append entry (nodes a) (nodes b))
 
-entries_leaf : (entry : Node → List ℕ) (n : Node) → flat_map entry (n ∷ []) ≡ entry n
+pub entries_leaf : (entry : Node → List ℕ) (n : Node) → flat_map entry (n ∷ []) ≡ entry n
 entries_leaf entry n = append-nil (entry n)
 
 -- ---- leaves
@@ -116,22 +116,23 @@ split_is one k v ss bound depth axis h (split i a b) right =
     (a, (b, (ap (λ n. split n a b) same, (subst (λ n. IsRight k v (lower_half n ss) bound (depth + 1) a) same right.1, subst (λ n. IsRight k v (upper_half n ss) bound (depth + 1) b) same right.2))))
 split_is one k v ss bound depth axis h unknown right = absurd (omega (arith, right.1, h.left))
 
-module _ {V : Type 0} (one : SplitAxesAreOne) (k : CaseData) (v : ℕ) (ss : Spans) (bound : Bound) (depth axis : ℕ) (taken : V → Option (List ℕ)) (faults : V → ℕ) (entry : Node → List ℕ) (halved : IsHalved k v ss bound depth axis) where
+-- a walk over a rectangle whose trees, of which Is holds, are splits on an axis: what it shows of the lower half and of the upper one
+module _ {V : Type 0} (Is Low Up : Tree → Type 0) (axis : ℕ) (parts : (t : Tree) → Is t → (a : Tree) × ((b : Tree) × ((t ≡ split axis a b) × (Low a × Up b)))) (taken : V → Option (List ℕ)) (faults : V → ℕ) (entry : Node → List ℕ) where
   -- the split's own entry failed
-  pub split_failed : (old new : V) → Visits taken faults old new Failed (entry (split-node axis)) → Walks k v ss bound depth taken faults entry old new Failed
-  split_failed old new saw = record {
+  pub split_fails : (old new : V) → Visits taken faults old new Failed (entry (split-node axis)) → Shows Is taken faults entry old new Failed
+  split_fails old new saw = record {
     tree = λ e. absurd (kept_not_failed e);
-    took = λ t right. (let s = split_is one k v ss bound depth axis halved t right in
+    took = λ t is. (let s = parts t is in
         subst (λ r. Takes (taken old) (taken new) Failed r) (sym (ap (λ u. entries entry u) s.1.1.0 ∙ entries_split entry axis s.0 s.1.0)) (takes_front (taken old) (taken new) (entry (split-node axis)) (entries entry s.0 ++ entries entry s.1.0) saw.took));
     cause = saw.cause;
     later = saw.later;
   }
 
   -- the walk over the lower half failed
-  pub first_failed : (old mid new : V) → Visits taken faults old mid Kept (entry (split-node axis)) → Walks k v (lower_half axis ss) bound (depth + 1) taken faults entry mid new Failed → Walks k v ss bound depth taken faults entry old new Failed
-  first_failed old mid new saw first = record {
+  pub first_fails : (old mid new : V) → Visits taken faults old mid Kept (entry (split-node axis)) → Shows Low taken faults entry mid new Failed → Shows Is taken faults entry old new Failed
+  first_fails old mid new saw first = record {
     tree = λ e. absurd (kept_not_failed e);
-    took = λ t right. (let s = split_is one k v ss bound depth axis halved t right in
+    took = λ t is. (let s = parts t is in
         subst (λ r. Takes (taken old) (taken new) Failed r) (sym (ap (λ u. entries entry u) s.1.1.0 ∙ entries_split entry axis s.0 s.1.0))
         (takes_then (taken old) (taken mid) (taken new) Failed (entry (split-node axis)) (entries entry s.0 ++ entries entry s.1.0) saw.took
         (takes_front (taken mid) (taken new) (entries entry s.0) (entries entry s.1.0) (first.took s.0 s.1.1.1.0))));
@@ -140,16 +141,36 @@ module _ {V : Type 0} (one : SplitAxesAreOne) (k : CaseData) (v : ℕ) (ss : Spa
   }
 
   -- both halves were walked over
-  pub both_walked : (old mid next new : V) (seen : Seen) → Visits taken faults old mid Kept (entry (split-node axis)) → Walks k v (lower_half axis ss) bound (depth + 1) taken faults entry mid next Kept → Walks k v (upper_half axis ss) bound (depth + 1) taken faults entry next new seen → Walks k v ss bound depth taken faults entry old new seen
-  both_walked old mid next new seen saw first second = record {
-    tree = λ e. (let a = first.tree refl in let b = second.tree e in (split axis a.0 b.0, (halved, a.1, b.1)));
-    took = λ t right. (let s = split_is one k v ss bound depth axis halved t right in
+  pub both_shown : ((a b : Tree) → Low a → Up b → Is (split axis a b)) → (old mid next new : V) (seen : Seen) → Visits taken faults old mid Kept (entry (split-node axis)) → Shows Low taken faults entry mid next Kept → Shows Up taken faults entry next new seen → Shows Is taken faults entry old new seen
+  both_shown joined old mid next new seen saw first second = record {
+    tree = λ e. (let a = first.tree refl in let b = second.tree e in (split axis a.0 b.0, joined a.0 b.0 a.1 b.1));
+    took = λ t is. (let s = parts t is in
         subst (λ r. Takes (taken old) (taken new) seen r) (sym (ap (λ u. entries entry u) s.1.1.0 ∙ entries_split entry axis s.0 s.1.0))
         (takes_then (taken old) (taken mid) (taken new) seen (entry (split-node axis)) (entries entry s.0 ++ entries entry s.1.0) saw.took
         (takes_then (taken mid) (taken next) (taken new) seen (entries entry s.0) (entries entry s.1.0) (first.took s.0 s.1.1.1.0) (second.took s.1.0 s.1.1.1.1))));
     cause = λ e. (let rose = second.cause e in omega (arith, rose, saw.later, first.later));
     later = omega (arith, saw.later, first.later, second.later);
   }
+
+-- a rectangle that is halved
+module _ {V : Type 0} (one : SplitAxesAreOne) (k : CaseData) (v : ℕ) (ss : Spans) (bound : Bound) (depth axis : ℕ) (taken : V → Option (List ℕ)) (faults : V → ℕ) (entry : Node → List ℕ) (halved : IsHalved k v ss bound depth axis) where
+  abbrev Right : Tree → Type 0
+  Right t = IsRight k v ss bound depth t
+
+  abbrev Low : Tree → Type 0
+  Low t = IsRight k v (lower_half axis ss) bound (depth + 1) t
+
+  abbrev Up : Tree → Type 0
+  Up t = IsRight k v (upper_half axis ss) bound (depth + 1) t
+
+  pub split_failed : (old new : V) → Visits taken faults old new Failed (entry (split-node axis)) → Walks k v ss bound depth taken faults entry old new Failed
+  split_failed old new saw = split_fails Right Low Up axis (split_is one k v ss bound depth axis halved) taken faults entry old new saw
+
+  pub first_failed : (old mid new : V) → Visits taken faults old mid Kept (entry (split-node axis)) → Walks k v (lower_half axis ss) bound (depth + 1) taken faults entry mid new Failed → Walks k v ss bound depth taken faults entry old new Failed
+  first_failed old mid new saw first = first_fails Right Low Up axis (split_is one k v ss bound depth axis halved) taken faults entry old mid new saw first
+
+  pub both_walked : (old mid next new : V) (seen : Seen) → Visits taken faults old mid Kept (entry (split-node axis)) → Walks k v (lower_half axis ss) bound (depth + 1) taken faults entry mid next Kept → Walks k v (upper_half axis ss) bound (depth + 1) taken faults entry next new seen → Walks k v ss bound depth taken faults entry old new seen
+  both_walked old mid next new seen saw first second = both_shown Right Low Up axis (split_is one k v ss bound depth axis halved) taken faults entry (λ a b low up. (halved, low, up)) old mid next new seen saw first second
 
 -- ---- what can be shown
 

@@ -5,4 +5,5 @@ pub mod Visits
 pub mod Rooms
 pub mod Decided
 pub mod Built
+pub mod Bases
 pub mod Recent

@@ -74,10 +74,18 @@ pub record KeepsPlaces (old new : DecidedData) : Type 0 where
 abbrev pub forgotten : DecidedData → DecidedData
 forgotten d = record { accepted = record d.accepted { count = 0 }; rejected = record d.rejected { count = 0 } }
 
--- the rectangle with these sides is noted with its kind, if it is decided
+-- the rectangle with these sides is noted with those that were accepted
+abbrev pub NotesAccepted : List ℤ → DecidedData → DecidedData → Type 0
+NotesAccepted sides old new = IsNoted sides old.accepted new.accepted × (new.rejected ≡ old.rejected)
+
+-- it is noted with those that were rejected
+abbrev pub NotesRejected : List ℤ → DecidedData → DecidedData → Type 0
+NotesRejected sides old new = IsNoted sides old.rejected new.rejected × (new.accepted ≡ old.accepted)
+
+-- it is noted with its kind, if it is decided
 abbrev pub Notes : List ℤ → Verdict → DecidedData → DecidedData → Type 0
-Notes sides (Accept u) old new = IsNoted sides old.accepted new.accepted × (new.rejected ≡ old.rejected)
-Notes sides (Reject u e k) old new = IsNoted sides old.rejected new.rejected × (new.accepted ≡ old.accepted)
+Notes sides (Accept u) old new = NotesAccepted sides old new
+Notes sides (Reject u e k) old new = NotesRejected sides old new
 Notes sides Unknown old new = new ≡ old
 
 -- what rectangles that are noted tell of another one: it isn't to be accepted exactly where it shares a valuation with one that was rejected, and not to be rejected exactly where with one that was accepted

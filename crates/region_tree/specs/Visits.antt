@@ -43,9 +43,13 @@ pub record Visits {V : Type 0} (taken : V → Option (List ℕ)) (faults : V →
 abbrev pub entries : (Node → List ℕ) → Tree → List ℕ
 entries entry tree = flat_map entry (nodes tree)
 
--- What a walk over a rectangle at a depth did, for the precisions from v to the case's. Where it kept all, there is a right tree. Whichever tree is right, the entries of all its nodes were taken, or after a failure a part of them, from the front. A failure comes only with a fault, and no count falls.
-pub record Walks {V : Type 0} (k : CaseData) (v : ℕ) (spans : Spans) (bound : Bound) (depth : ℕ) (taken : V → Option (List ℕ)) (faults : V → ℕ) (entry : Node → List ℕ) (old new : V) (seen : Seen) : Type 0 where
-  pub tree : seen ≡ Kept → (t : Tree) × IsRight k v spans bound depth t
-  pub took : (t : Tree) → IsRight k v spans bound depth t → Takes (taken old) (taken new) seen (entries entry t)
+-- What a walk did that shows a tree of which Is holds. Where it kept all, there is such a tree. Whichever tree is such a one, the entries of all its nodes were taken, or after a failure a part of them, from the front. A failure comes only with a fault, and no count falls.
+pub record Shows {V : Type 0} (Is : Tree → Type 0) (taken : V → Option (List ℕ)) (faults : V → ℕ) (entry : Node → List ℕ) (old new : V) (seen : Seen) : Type 0 where
+  pub tree : seen ≡ Kept → (t : Tree) × Is t
+  pub took : (t : Tree) → Is t → Takes (taken old) (taken new) seen (entries entry t)
   pub cause : seen ≡ Failed → Rose (faults old) (faults new)
   pub later : faults old ≤ faults new
+
+-- a walk over a rectangle at a depth, for the precisions from v to the case's, shows the right tree
+abbrev pub Walks : {V : Type 0} → CaseData → ℕ → Spans → Bound → ℕ → (V → Option (List ℕ)) → (V → ℕ) → (Node → List ℕ) → V → V → Seen → Type 0
+Walks k v spans bound depth taken faults entry old new seen = Shows (λ t. IsRight k v spans bound depth t) taken faults entry old new seen

@@ -2,7 +2,7 @@
 
 ghost use Rattle.std.specs.Prelude.{◌≡◌, ◌≤◌, length, IfOk};
 ghost use Rattle.lift_grid.specs.Rectangle.{spans_of};
-ghost use Rattle.region_tree.specs.Recent.{HasAllPlaces, IsForetold, KeepsPlaces, Notes, forgotten, most_ends};
+ghost use Rattle.region_tree.specs.Recent.{HasAllPlaces, IsForetold, KeepsPlaces, Notes, NotesAccepted, NotesRejected, forgotten, most_ends};
 
 use crate::recent::Recent;
 use crate::verdict::Verdict;
@@ -82,21 +82,35 @@ impl Decided {
         }
     }
 
-    /// Notes what was decided of the rectangle with these sides.
+    /// Notes that the rectangle with these sides was accepted.
+    pub(crate) fn note_accepted(&mut self, sides: &[i64])
+        requires { HasAllPlaces (length sides.now) self.old }
+        ensures places { KeepsPlaces self.old self.new }
+        ensures notes { NotesAccepted sides.now self.old self.new }
+    {
+        self.accepted.note(sides);
+        self.rejects_first = false;
+    }
+
+    /// Notes that it was rejected.
+    pub(crate) fn note_rejected(&mut self, sides: &[i64])
+        requires { HasAllPlaces (length sides.now) self.old }
+        ensures places { KeepsPlaces self.old self.new }
+        ensures notes { NotesRejected sides.now self.old self.new }
+    {
+        self.rejected.note(sides);
+        self.rejects_first = true;
+    }
+
+    /// Notes what was decided of it.
     pub(crate) fn note(&mut self, sides: &[i64], verdict: Verdict)
         requires { HasAllPlaces (length sides.now) self.old }
         ensures places { KeepsPlaces self.old self.new }
         ensures notes { Notes sides.now verdict self.old self.new }
     {
         match verdict {
-            Verdict::Accept { .. } => {
-                self.accepted.note(sides);
-                self.rejects_first = false;
-            }
-            Verdict::Reject { .. } => {
-                self.rejected.note(sides);
-                self.rejects_first = true;
-            }
+            Verdict::Accept { .. } => self.note_accepted(sides),
+            Verdict::Reject { .. } => self.note_rejected(sides),
             Verdict::Unknown => {}
         }
     }

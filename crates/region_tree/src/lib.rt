@@ -3,6 +3,7 @@
 #![tactic(auto)]
 
 mod aim;
+mod base;
 mod decided;
 mod decision;
 mod halves;
@@ -11,6 +12,7 @@ mod leaf;
 mod pools;
 mod precisions;
 mod recent;
+mod refining;
 mod room;
 mod task;
 mod tree;
@@ -18,12 +20,14 @@ mod verdict;
 mod visitor;
 mod walking;
 
+pub use base::{Base, Copier, Given};
 pub use decision::decide;
 pub use laws::{
     calm_walks_show_all, certificates_are_one, certificates_exist, right_trees_are_one,
     right_trees_exist, right_trees_tile, walks_are_placed,
 };
 pub use lift_walk::rectangles_at_depths;
+pub use refining::refine;
 pub use room::Room;
 pub use tree::{Branch, Tree, build};
 pub use verdict::Verdict;

@@ -31,7 +31,7 @@ use lift_model::Links;
 use lift_walk::sides_go_down;
 
 /// Whether the visitor failed.
-fn is_failed(seen: Seen) -> bool
+pub(crate) fn is_failed(seen: Seen) -> bool
     ensures failed { IsTrue result → seen ≡ Failed }
     ensures kept { IsFalse result → seen ≡ Kept }
 {
@@ -58,7 +58,7 @@ pub(crate) struct Walker<'a> {
 
 impl Walker<'_> {
     /// Walks over the tree of the rectangle that the room's last lane of sides holds.
-    fn walk_at<V: Visitor>(&self, depth: u32, room: &mut Room, visitor: &mut V) -> Seen
+    pub(crate) fn walk_at<V: Visitor>(&self, depth: u32, room: &mut Room, visitor: &mut V) -> Seen
         requires case { IsCase self.now.task.case.now }
         requires from { Between 1 self.now.task.case.now.w self.now.task.from }
         requires links { AreLinks self.now.task.case.now.model self.now.task.links.now }
