@@ -1,30 +1,20 @@
 -- Sound files: texts of reports whose rows are admitted and whose certificates hold.
-use Rattle.std.specs.Prelude.{◌≡◌, ℕ, ◌+◌, ◌<◌, List}
+use Rattle.std.specs.Prelude.{◌≡◌, ℕ, ◌+◌, List}
 use Rattle.lift_grid.specs.Rectangle.{Spans}
-use Rattle.lift_grid.specs.Splitting.{IsSplitAxis}
-use Rattle.lift_grid.specs.Tree.{Tree, lower_half, upper_half}
+use Rattle.lift_grid.specs.Tree.{Tree}
 use Rattle.lift_grid.specs.Tree.Tree.{split, accept, reject, unknown}
-use Rattle.lift_model.specs.Model.{live}
-use Rattle.corner_lift.specs.Case.{CaseData, IsAdmitted, greatest_depth}
-use Rattle.lift_cert.specs.Certificate.{IsAccepting, IsRejecting}
+use Rattle.corner_lift.specs.Case.{CaseData, IsAdmitted}
 use Rattle.lift_cert.specs.declared.bound.Bound.{Bound}
-use Rattle.cert_text.specs.Head.{HeadData, case_at, version}
+pub use Rattle.lift_finer.specs.Refined.{MayBeHalved}
+use Rattle.lift_finer.specs.Refined.{IsCertified}
+use Rattle.cert_text.specs.Head.{HeadData, version}
 use Rattle.cert_text.specs.Forms.{IsReport}
 use Rattle.cert_text.specs.Laws.{text_of}
 use Rattle.cert_check.specs.declared.summary.Summary.{Summary}
 
--- a rectangle at this depth may be halved on that axis: a halving is left, and the split rule chooses the axis
-pub record IsSoundSplit (k : CaseData) (spans : Spans) (depth axis : ℕ) : Type 0 where
-  pub left : depth < greatest_depth k
-  pub axis_is : IsSplitAxis (live k.model) spans axis
-
--- A sound tree over a rectangle at a depth: an accepting or a rejecting leaf holds such a certificate of its rectangle for the bound, at its own precision; a split stands where one may; and an unknown leaf stands at the greatest depth.
+-- A sound tree over a rectangle at a depth is certified: an accepting or a rejecting leaf holds such a certificate of its rectangle for the bound, at its own precision; a split stands where one may; and an unknown leaf stands at the greatest depth.
 abbrev pub IsSoundTree : CaseData → Bound → Spans → ℕ → Tree → Type 0
-IsSoundTree k bound spans depth (accept u x) = IsAccepting (case_at u k) spans bound x
-IsSoundTree k bound spans depth (reject u r) = IsRejecting (case_at u k) spans bound r
-IsSoundTree k bound spans depth (split axis lower upper) =
-    IsSoundSplit k spans depth axis × IsSoundTree k bound (lower_half axis spans) (depth + 1) lower × IsSoundTree k bound (upper_half axis spans) (depth + 1) upper
-IsSoundTree k bound spans depth unknown = depth ≡ greatest_depth k
+IsSoundTree k bound spans depth t = IsCertified k bound spans depth t
 
 -- a sound report: its head's case is admitted, and its tree is sound over the root
 pub record IsSound (h : HeadData) (t : Tree) : Type 0 where

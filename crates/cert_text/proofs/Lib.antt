@@ -38,3 +38,4 @@ mod HeadRests
 mod NodeSteps
 mod TextLines
 mod SecondLines
+mod NodeTexts

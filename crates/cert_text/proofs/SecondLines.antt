@@ -41,7 +41,7 @@ record IsShared (l : List ℕ) : Type 0 where
 abbrev AreShared : Lines → Type 0
 AreShared ls = AllByRecursion IsShared ls
 
-line_ended : (ws : Lines) → IsEnded (line ws)
+pub line_ended : (ws : Lines) → IsEnded (line ws)
 line_ended [] = ([], refl)
 line_ended (w ∷ ws) = (join_with_byte 32 (w ∷ ws), line_join (w ∷ ws) (omega arith))
 
@@ -175,6 +175,19 @@ second_head k bound =
     let scale = scale_lines k ++ box_line k.root ∷ [] in
     let asked = regrouped p (asked_lines k bound ++ scale) (asked_lines k bound) (from_lines (Some k.w)) scale (both p _ _ _ _ (second_asked k bound) last) in
     both p _ _ _ _ (second_version p) (both p _ _ _ _ (stay p (model_lines k.model) (shared_model k.model)) asked)
+
+all_ended : (ls : Lines) → AreShared ls → AllByRecursion IsEnded ls
+all_ended ls all = (stay [] ls all).ended
+
+-- each line of a head is ended, in either version
+pub head_ended : (k : CaseData) (from : Option ℕ) (bound : Bound) → AllByRecursion IsEnded (head_lines k from bound)
+head_ended k None bound = (second_head k bound).ended
+head_ended k (Some v) bound =
+    let box = line (numbers_words (codes "box") (sides_of k.root)) ∷ [] in
+    let scale = every_append IsEnded (scale_lines k) box (all_ended (scale_lines k) (shared_scale k)) (line_ended (numbers_words (codes "box") (sides_of k.root)), tt) in
+    let from = line (number_words (codes "from") v) ∷ [] in
+    let asked = every_append IsEnded (asked_lines k bound) (from ++ (scale_lines k ++ box)) (second_asked k bound).ended (line_ended (number_words (codes "from") v), scale) in
+    (line_ended (version_words true), every_append IsEnded (model_lines k.model) (asked_lines k bound ++ (from ++ (scale_lines k ++ box))) (all_ended (model_lines k.model) (shared_model k.model)) asked)
 
 -- ---- the precision
 

@@ -60,6 +60,28 @@ lines_told (l ∷ ls) ((t, clean, is), all) =
     ∙ cut_told t (concat ls) clean
     ∙ ap₂ (λ (x : List ℕ) (xs : List (List ℕ)). x ∷ xs) (sym is) (lines_told ls all)
 
+-- where told lines begin a text, they are its first lines
+pub lines_ahead_told : (ls : List (List ℕ)) (rest : List ℕ) → AllByRecursion IsTextLine ls → lines_of (concat ls ++ rest) ≡ ls ++ lines_of rest
+lines_ahead_told [] rest all = refl
+lines_ahead_told (l ∷ ls) rest ((t, clean, is), all) =
+    ap (λ (x : List ℕ). lines_of ((x ++ concat ls) ++ rest)) is
+    ∙ ap lines_of (append_assoc (t ++ 10 ∷ []) (concat ls) rest ∙ append_assoc t (10 ∷ []) (concat ls ++ rest))
+    ∙ cut_told t (concat ls ++ rest) clean
+    ∙ ap₂ (λ (x : List ℕ) (xs : List (List ℕ)). x ∷ xs) (sym is) (lines_ahead_told ls rest all)
+
+concat_onto : (b : ℕ) (ls : List (List ℕ)) → concat (onto_first b ls) ≡ b ∷ concat ls
+concat_onto b [] = refl
+concat_onto b (l ∷ ls) = refl
+
+-- a text is its lines, one after another
+pub concat_lines : (text : List ℕ) → concat (lines_of text) ≡ text
+concat_lines [] = refl
+concat_lines (b ∷ text) = by_test (is_feed b) (concat_lines text)
+  where
+    by_test : (t : Bool) → concat (lines_of text) ≡ text → concat (cond t ((b ∷ []) ∷ lines_of text) (onto_first b (lines_of text))) ≡ b ∷ text
+    by_test true e = ap (λ (x : List ℕ). b ∷ x) e
+    by_test false e = concat_onto b (lines_of text) ∙ ap (λ (x : List ℕ). b ∷ x) e
+
 none_counted : (t : List ℕ) → feed_count t ≡ 0 → NoFeed t
 none_counted [] e = tt
 none_counted (b ∷ t) e = by_test (is_feed b) refl (none_counted t)
@@ -76,7 +98,7 @@ all_counted [] all = omega arith
 all_counted (l ∷ ls) ((t, is), all) = let more = all_counted ls all in omega (arith, more, feed_count-append l (concat ls), ended_count l t is)
 
 -- ended lines with no more line feeds than lines are the lines of their text
-one_each : (ls : List (List ℕ)) → AllByRecursion IsEnded ls → feed_count (concat ls) ≡ length ls → AllByRecursion IsTextLine ls
+pub one_each : (ls : List (List ℕ)) → AllByRecursion IsEnded ls → feed_count (concat ls) ≡ length ls → AllByRecursion IsTextLine ls
 one_each [] all e = tt
 one_each (l ∷ ls) ((t, is), all) e =
     let whole = feed_count-append l (concat ls) in

@@ -12,3 +12,4 @@ pub mod HeadParts
 pub mod Left
 pub mod Recent
 pub mod Migrated
+pub mod Cut

@@ -11,7 +11,7 @@ use lift_bytes::len_before;
 const PRECISION: &[u8] = b"precision ";
 
 /// The first line of a text, with its line feed, and what stands behind it.
-fn cut_line(text: &[u8]) -> (&[u8], &[u8])
+pub(crate) fn cut_line(text: &[u8]) -> (&[u8], &[u8])
     requires { 0 < length text.now }
     ensures lines { lines_of text.now ≡ result.0.now ∷ lines_of result.1.now }
     ensures shorter { length result.1.now < length text.now }

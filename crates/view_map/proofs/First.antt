@@ -13,7 +13,7 @@ use Rattle.cert_text.specs.Nodes.{Node, split, accept, reject, unknown, node_at,
 use Rattle.cert_text.specs.Report.{tree_lines}
 use Rattle.cert_text.specs.Forms.{IsHead, IsNode, IsTree}
 use Rattle.cert_text.specs.Laws.{NodesAreReadBack}
-use Rattle.cert_check.specs.Sound.{IsSoundSplit}
+use Rattle.cert_check.specs.Sound.{MayBeHalved}
 use Rattle.view_map.specs.Parts.{PartData, part_with, parts_over}
 use Rattle.view_map.specs.Mapping.{Adds, BeginsWithTree}
 use Rattle.view_map.specs.declared.part.LeafKind.TheVariants.{Accept, Reject, Unknown}
@@ -76,7 +76,7 @@ pub record Halves (h : HeadData) (ss : Spans) (depth axis : ℕ) (left : List �
   pub between : List ℕ
   pub is : t ≡ splits axis lower upper
   pub some : axis < length h.asked.model.names
-  pub may : IsSoundSplit h.asked ss depth axis
+  pub may : MayBeHalved h.asked ss depth axis
   pub low : BeginsWithTree h (lower_half axis ss) (depth + 1) left lower between
   pub high : (text : List ℕ) → text ≡ between → BeginsWithTree h (upper_half axis ss) (depth + 1) text upper rest
 

@@ -6,7 +6,7 @@ use Rattle.lift_grid.specs.Splitting.{HasHalvings, IsHalvable}
 use Rattle.lift_grid.specs.Tree.{lower_half, upper_half}
 use Rattle.lift_model.specs.Model.{live}
 use Rattle.corner_lift.specs.Case.{CaseData, IsAsked}
-use Rattle.cert_check.specs.Sound.{IsSoundSplit}
+use Rattle.cert_check.specs.Sound.{MayBeHalved}
 use Rattle.lift_grid.specs.Tree.{Tree}
 use Rattle.cert_text.specs.Head.{HeadData}
 use Rattle.cert_text.specs.Nodes.{split, node_at}
@@ -23,7 +23,7 @@ not_above true n depth h = absurd (omega (arith, h))
 not_above false n depth h = h
 
 -- a split stands above the depth that was asked for
-pub above : (k : CaseData) (ss : Spans) (depth axis : ℕ) → IsSoundSplit k ss depth axis → depth < k.depth
+pub above : (k : CaseData) (ss : Spans) (depth axis : ℕ) → MayBeHalved k ss depth axis → depth < k.depth
 above k ss depth axis s = not_above (live k.model == 0) k.depth depth s.left
 
 -- the root stands at depth 0
