@@ -20,12 +20,12 @@ _plift() {
     [[ ${COMP_WORDS[1]} == --quick && COMP_CWORD -gt 1 ]] && at=2
     COMPREPLY=()
     if ((COMP_CWORD == at)); then
-        _plift_offer "verify bounded lumped check migrate generate selftest --help --version $( ((at == 1)) && echo --quick)"
+        _plift_offer "verify bounded lumped check migrate refine generate selftest --help --version $( ((at == 1)) && echo --quick)"
         return
     fi
     case ${COMP_WORDS[at]} in
     --help | -h | help)
-        ((COMP_CWORD == at + 1)) && _plift_offer 'verify bounded lumped check migrate generate selftest'
+        ((COMP_CWORD == at + 1)) && _plift_offer 'verify bounded lumped check migrate refine generate selftest'
         ;;
     verify | bounded | lumped)
         local options='--goal --bound --region --depth --precision --help'
@@ -35,6 +35,9 @@ _plift() {
         --goal | --bound | --steps | --region | --depth | --precision | --from | =) ;;
         *) _plift_offer "$(_plift_unused $options)" ;;
         esac
+        ;;
+    refine)
+        [[ ${COMP_WORDS[COMP_CWORD - 1]} == --depth || ${COMP_WORDS[COMP_CWORD - 1]} == = ]] || _plift_offer "$(_plift_unused --depth --help)"
         ;;
     check | migrate | generate | selftest)
         ((COMP_CWORD == at + 1)) && _plift_offer --help

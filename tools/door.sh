@@ -46,7 +46,7 @@ answer() {
 is_command() {
     [ "$name" = plift ] || return 1
     case $1 in
-    verify | bounded | lumped | check | migrate | generate | selftest) ;;
+    verify | bounded | lumped | check | migrate | refine | generate | selftest) ;;
     *) return 1 ;;
     esac
 }
@@ -69,7 +69,7 @@ announce_input() {
         'plift lumped '*--goal*--bound* | 'plift lumped '*--bound*--goal*)
         say 'reading the model from standard input; give a file by < model.drn'
         ;;
-    'plift check' | 'plift migrate' | plift-view*)
+    'plift check' | 'plift migrate' | 'plift refine --depth'* | plift-view*)
         say 'reading the report from standard input; give a file by < report'
         ;;
     esac

@@ -40,13 +40,16 @@ class Grammar(NamedTuple):
 VERIFY = Grammar(RANGED, needed=("--goal", "--bound"))
 BOUNDED = Grammar(STEPPED, needed=("--goal", "--bound", "--steps"))
 LUMPED = Grammar(VALUED, needed=("--goal", "--bound"))
-ASKING = {"verify": VERIFY, "bounded": BOUNDED, "lumped": LUMPED}
+REFINE = Grammar(("--depth",), needed=("--depth",))
+GRAMMARS = {"verify": VERIFY, "bounded": BOUNDED, "lumped": LUMPED, "refine": REFINE}
 VIEW = Grammar(VIEWED, flags=FLAGS, often=("--at",), takes_empty=True)
 # How many words stand behind a command that has no options.
 COUNTS = {"check": 0, "migrate": 0, "generate": 1, "selftest": 1}
 # Numbers in the order of their tests: the most digits, and the range. That of `--from` also ends at the precision.
 RANGES = {"--depth": (3, 0, 20), "--precision": (3, 1, 40), "--from": (3, 1, 40), "--steps": (2, 1, 64)}
 RANGES["N"] = (5, 1, 32767)
+# The depth that a report is gone on to.
+RANGES["H"] = (3, 1, 20)
 USUAL_PRECISION = 24
 
 
@@ -112,11 +115,14 @@ def plift_note(words: Sequence[str]) -> Optional[str]:
         if len(behind) != COUNTS[command] or any(word.startswith("-") for word in behind):
             return "usage: words"
         return "usage: N" if behind and not is_number(behind[0], "N") else None
-    grammar = ASKING.get(command)
+    grammar = GRAMMARS.get(command)
     settings = settings_of(grammar, behind) if grammar else None
     if grammar is None or settings is None or not are_counts_right(grammar, settings):
         return "usage: words"
-    bad = first_bad_value(dict(settings))
+    values = dict(settings)
+    if command == "refine":
+        return None if is_number(values["--depth"], "H") else "usage: --depth"
+    bad = first_bad_value(values)
     return f"usage: {bad}" if bad else None
 
 

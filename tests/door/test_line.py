@@ -10,7 +10,7 @@ from common import TOP, quick_program, tool
 line = tool("line")
 
 WORDS = [
-    "verify", "bounded", "lumped", "check", "migrate", "generate", "selftest", "--goal", "--bound", "--region", "--depth",
+    "verify", "bounded", "lumped", "check", "migrate", "refine", "generate", "selftest", "--goal", "--bound", "--region", "--depth",
     "--precision", "--from", "--from=1", "--from=024", "--from=25", "--from=0", "--precision=40", "--steps", "--steps=64", "--steps=65", "--steps=064", "--steps=0", "--goal=a",
     "--bound=1/2", "--bound=", "--depth=3", "--depth=21", "--precision=0", "--precision=040", "-1", "", " ", "a", "1/2",
     "3%", "1e-3", "0.5", "2", "1/4294967295", "1/4294967296", "9223372036854775808/9223372036854775809", "1e-19", "20",
@@ -55,6 +55,18 @@ PLIFT = {
     "check report": "usage: words",
     "migrate report": "usage: words",
     "migrate --from 1": "usage: words",
+    "refine": "usage: words",
+    "refine 3": "usage: words",
+    "refine --depth": "usage: words",
+    "refine --depth=": "usage: words",
+    "refine --depth -3": "usage: words",
+    "refine --depth 3 --depth 4": "usage: words",
+    "refine --depth 3 x": "usage: words",
+    "refine --precision 3": "usage: words",
+    "refine --depth 0": "usage: --depth",
+    "refine --depth 21": "usage: --depth",
+    "refine --depth 0004": "usage: --depth",
+    "refine --depth x": "usage: --depth",
     "generate": "usage: words",
     "generate 0": "usage: N",
     "generate -1": "usage: words",
@@ -63,7 +75,7 @@ PLIFT = {
     "selftest 1 2": "usage: words",
 }
 PLAIN = [
-    "check", "migrate", "generate 1", "selftest 32767", "verify --bound=1/2 --goal=a",
+    "check", "migrate", "refine --depth 1", "refine --depth=020", "generate 1", "selftest 32767", "verify --bound=1/2 --goal=a",
     "verify --goal a --bound 1/2 --region x --depth 020 --precision 1", "bounded --steps=64 --bound=1/2 --goal=a",
     "lumped --depth 20 --bound=1/2 --goal=a", "verify --from 24 --bound=1/2 --goal=a",
     "verify --from=004 --bound=1/2 --goal=a --precision 4",

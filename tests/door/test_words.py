@@ -14,7 +14,7 @@ line = tool("line")
 OPTION = re.compile(r"(?<![\w-])--[a-z]+")
 # What the launchers answer themselves.
 DOOR = {"--help", "--version", "--quick"}
-COMMANDS = ["verify", "bounded", "lumped", "check", "migrate", "generate", "selftest"]
+COMMANDS = ["verify", "bounded", "lumped", "check", "migrate", "refine", "generate", "selftest"]
 # The options of all commands.
 ASKED = {*line.VERIFY.valued, *line.BOUNDED.valued, *line.LUMPED.valued}
 
@@ -134,6 +134,9 @@ class Completed(unittest.TestCase):
         self.assertEqual(self.offered("plift", "verify", "--goal", "-"), set())
         self.assertEqual(self.offered("plift", "verify", "--from", "1", "--f"), set())
         self.assertEqual(self.offered("plift", "verify", "--from", "-"), set())
+        self.assertEqual(self.offered("plift", "refine", ""), {*line.REFINE.valued, "--help"})
+        self.assertEqual(self.offered("plift", "refine", "--depth", ""), set())
+        self.assertEqual(self.offered("plift", "refine", "--depth=3", "--"), {"--help"})
         for command in ("check", "migrate"):
             self.assertEqual(self.offered("plift", command, ""), {"--help"})
 

@@ -25,7 +25,7 @@ WORDS = [
     words("help verify", "plift --help verify"),
     words("--goal lost --bound 3/100", "the command stands first: plift verify --goal"),
     words("retry.drn", "the file behind <", "< retry.drn"),
-    words("model verify", "is no command", "verify, bounded, lumped, check, migrate, generate, selftest"),
+    words("model verify", "is no command", "verify, bounded, lumped, check, migrate, refine, generate, selftest"),
     words("verify", "--goal LABEL is missing", "--bound B is missing"),
     words("verify --help", "help stands alone"),
     words(PLAIN + " --help", "help stands alone", "plift --help verify"),
@@ -106,6 +106,14 @@ WORDS = [
     words("migrate --help", "plift --help migrate"),
     words("migrat", "is migrate meant?", "plift migrate < report > new.report"),
     words("'migrate old.report'", "is one word", "quotes"),
+    words("refine", "--depth H is missing", "plift refine --depth H < report > deeper.report"),
+    words("refine retry.report", "< retry.report", "--depth H is missing"),
+    words("refine --depth 3 --depth 4", "--depth stands 2 times"),
+    words("refine --depth 3 --precision 4", "refine takes --depth alone"),
+    words("refine --depth", "and one number, from 1 to 20"),
+    words("refine --help", "plift --help refine"),
+    words("refin --depth 3", "is refine meant?"),
+    words("'refine --depth 3'", "is one word", "quotes"),
 ]
 
 VALUES = [
@@ -136,6 +144,8 @@ VALUES = [
     number("--depth", "1000", "from 0 to 20"),
     number("--depth", "ten", "digits alone", "from 0 to 20"),
     number("--depth", "0004", "more than 3 digits"),
+    Mistake("refine --depth 21", RETRY, 2, "usage: --depth", ("from 1 to 20",)),
+    Mistake("refine --depth ten", RETRY, 2, "usage: --depth", ("digits alone", "from 1 to 20")),
     number("--precision", "53", "from 1 to 40"),
     number("--precision", "0", "from 1 to 40"),
     number("--precision", "0.001", "counts bits", "--precision 10"),

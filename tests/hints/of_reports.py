@@ -22,6 +22,10 @@ def migrate(text: bytes, fault: str, *told: str) -> Mistake:
     return Mistake("migrate", text, 1, f"not sound: {fault}", told)
 
 
+def refine(text: bytes, fault: str, *told: str) -> Mistake:
+    return Mistake("refine --depth 20", text, 1, f"not sound: {fault}", told)
+
+
 def retry(old: str, new: str, fault: str, *told: str) -> Mistake:
     """A change of the example retry.report."""
     return check(changed(REPORT, old, new), fault, *told)
@@ -126,6 +130,10 @@ MIGRATED = [
     migrate(RETRY, "line 1: Syntax", "that is a model text"),
     migrate(b"", "line 1: Truncated", "there is no text"),
     migrate(changed(REPORT, "accept 28", "accept 27"), "node 0 state 0 choice 0 corner 1: 558 > 540", "node 0 begins at line 35"),
+    refine(RETRY, "line 1: Syntax", "that is a model text"),
+    refine(STEPS, "line 1: Syntax", "a report of plift bounded", "recheck/recheck.py"),
+    refine(REPORT + REPORT, "rest", "a second report begins at line 36"),
+    Mistake("refine --depth 4", TREE, 2, "usage: --depth", ("goes to depth", "a greater one")),
     migrate(REPORT + REPORT, "rest", "a second report begins at line 36"),
 ]
 

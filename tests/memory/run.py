@@ -78,13 +78,14 @@ LUMPED = Case("lumped " + COIN_JOB, COIN, last=room(0, **COIN_ROOM))
 GENERATE = Case("generate 1")
 CHECK = Case("check", report_of=ACCEPT)
 MIGRATE = Case("migrate", report_of=ACCEPT)
+REFINE = Case("refine --depth 12", report_of=Case("verify " + DEEP_JOB[:-2] + "2", COIN), last=room(12, **COIN_ROOM))
 LADDER_VERIFY = Case("verify " + LADDER_JOB, LADDER, last=room(2, **LADDER_ROOM))
 LADDER_CHECK = Case("check", report_of=LADDER_VERIFY)
 
 SELFTEST = Case("selftest 1")
 
 # Each of these runs is tried with each of its requests refused in turn.
-CASES = [ACCEPT, DEEP, RANGED, LUMPED, BOUNDED, FAR, CHECK, MIGRATE, GENERATE, LADDER_VERIFY, LADDER_CHECK, SELFTEST]
+CASES = [ACCEPT, DEEP, RANGED, LUMPED, BOUNDED, FAR, CHECK, MIGRATE, REFINE, GENERATE, LADDER_VERIFY, LADDER_CHECK, SELFTEST]
 
 # What selftest does in one run: it asks for memory at least as often as these do behind their words.
 SELFTEST_PARTS = [LADDER_VERIFY, LADDER_CHECK]

@@ -106,13 +106,13 @@ def lines() -> Iterator[Case]:
 
 
 def checked() -> Iterator[Case]:
-    """Reports that are checked, and those that are migrated."""
+    """Reports that are checked, those that are migrated, and those that are gone on from."""
     found = constants("plift_tests", "checked")
     heads = named(found["HEADS"])
-    for command, table in (("check", "FILES"), ("migrate", "MIGRATED")):
+    for command, table in (("check", "FILES"), ("migrate", "MIGRATED"), ("refine --depth 2", "REFINED")):
         for row in rows(found[table]):
             head, rest, *cells = row.split(" | ")
-            yield Case(f"{command}: {row}", "plift", [command], heads[head] + lines_of(rest), answer(*cells))
+            yield Case(f"{command}: {row}", "plift", command.split(), heads[head] + lines_of(rest), answer(*cells))
 
 
 def changed(text: str, changes: str) -> bytes:

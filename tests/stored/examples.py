@@ -33,8 +33,8 @@ def models() -> Iterator[Case]:
 
 def reports() -> Iterator[Case]:
     for path in sorted((TOP / "examples").glob("*.report")):
-        for command in ("check", "migrate"):
-            yield Case(f"{path.name}: {command}", "plift", [command], path.read_bytes())
+        for command in (["check"], ["migrate"], ["refine", "--depth", "3"], ["refine", "--depth=7"]):
+            yield Case(f"{path.name}: {' '.join(command)}", "plift", command, path.read_bytes())
         for words in VIEWS:
             yield Case(f"{path.name}: {' '.join(words)}", "plift-view", words, path.read_bytes())
 

@@ -86,6 +86,13 @@ check | not sound: line 1: Syntax
 migrate|examples/retry.report | usage: words
 migrate|--from|1 | usage: words
 migrate | not sound: line 1: Syntax
+refine|examples/retry.report | usage: words
+refine | usage: words
+refine|--depth|3|--depth|4 | usage: words
+refine|--depth|3|--precision|4 | usage: words
+refine|--depth|0 | usage: --depth
+refine|--depth|21 | usage: --depth
+refine|--depth|3 | not sound: line 1: Syntax
 """
 
 # Each row: a part of the model's text, what stands in its place (`;` ends a line), and what is told.

@@ -19,6 +19,11 @@ migrate | </ | 5 | read fault
 migrate | <examples/coin.report >&- | 6 | write fault
 migrate | <examples/coin.report >/dev/full | 6 | write fault
 migrate | </dev/null 2>&- | 1 |
+refine --depth 9 | <&- | 5 | read fault
+refine --depth 9 | </ | 5 | read fault
+refine --depth 9 | <examples/coin.report >&- | 6 | write fault
+refine --depth 9 | <examples/coin.report >/dev/full | 6 | write fault
+refine --depth 9 | </dev/null 2>&- | 1 |
 verify | </dev/null 2>/dev/full | 2 |
 """
 

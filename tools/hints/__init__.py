@@ -69,6 +69,8 @@ def model_hints(refusal: Refusal, note: str) -> List[str]:
 
 def rows_hints(refusal: Refusal, note: str) -> List[str]:
     """What is wrong with a row."""
+    if refusal.command() == "refine":
+        return ["a row of the report is too wide over the grid of that depth: go on to a smaller one"]
     match = re.fullmatch(r"state ([0-9]{1,6}) choice ([0-9]{1,6}): (.*)", note)
     return rows.rows_hints(refusal, int(match[1]), int(match[2]), match[3]) if match else []
 

@@ -90,7 +90,19 @@ def whole_hint(name: str, word: str, low: int, high: int, digits: int) -> str:
 def depth_hints(refusal: Refusal) -> List[str]:
     """Why a depth isn't one."""
     word = refusal.option("--depth")
+    if word is not None and refusal.command() == "refine":
+        return deeper_hints(word, refusal.text)
     return [whole_hint("--depth", word, 0, 20, 3)] if word is not None else []
+
+
+def deeper_hints(word: str, text: Optional[bytes]) -> List[str]:
+    """Why a report can't be gone on from to a depth."""
+    if not (re.fullmatch("[0-9]{1,3}", word) and 1 <= int(word) <= 20):
+        return [whole_hint("--depth", word, 1, 20, 3)]
+    told = re.search(rb"^depth ([0-9]{1,2})$", text or b"", re.M)
+    if told and int(word) <= int(told[1]):
+        return [f"--depth {word}: the report goes to depth {int(told[1])} already, and refine goes on to a greater one"]
+    return [f"--depth {word}: the report's grid, made that much finer, has a number of 2^62 or more: take a smaller depth"]
 
 
 def bits_for(word: str) -> Optional[str]:

@@ -12,7 +12,7 @@ from hints.told import listed, near, shown
 from hints.words import HELP, LONG_DASHES, PROPERTY, VERSION
 from hints.words import about_help, about_odd, asks_for_help, is_dashed, is_file
 
-COMMANDS = ["verify", "bounded", "lumped", "check", "migrate", "generate", "selftest"]
+COMMANDS = ["verify", "bounded", "lumped", "check", "migrate", "refine", "generate", "selftest"]
 ASKING = {"verify": RANGED, "bounded": STEPPED, "lumped": VALUED}
 FORMS = {
     "verify": "plift verify --goal LABEL --bound B [--region R] [--depth H] [--precision W] [--from V] < model.drn",
@@ -20,6 +20,7 @@ FORMS = {
     "lumped": "plift lumped --goal LABEL --bound B [--region R] [--depth H] [--precision W] < model.drn",
     "check": "plift check < report",
     "migrate": "plift migrate < report > new.report",
+    "refine": "plift refine --depth H < report > deeper.report",
     "generate": "plift generate N > model.drn",
     "selftest": "plift selftest N",
 }
@@ -245,6 +246,22 @@ def about_reading(command: str, words: Sequence[str]) -> List[str]:
     return [f"{shown(word)}: {command} reads a report from standard input: plift {command} < {shlex.quote(word)}"]
 
 
+def about_refining(words: Sequence[str]) -> List[str]:
+    """What is wrong with a line of `refine`."""
+    asks = [word for word in words if asks_for_help(word)]
+    if asks:
+        return [about_help(asks[0], "plift", "refine")]
+    names = [word.split("=")[0] for word in words if is_dashed(word)]
+    files = [word for word in words if is_file(word)]
+    faults = [f"{shown(name)}: refine takes --depth alone; a report holds its model, region and bound" for name in names if name != "--depth"]
+    faults += [f"{shown(word)}: refine reads a report from standard input, by < {shlex.quote(word)}" for word in files]
+    if names.count("--depth") > 1:
+        faults.append(f"--depth stands {names.count('--depth')} times: keep one")
+    if "--depth" not in names:
+        faults.append("--depth H is missing: how often the region may be halved in all, from 1 to 20")
+    return faults or ["refine takes --depth and one number, from 1 to 20, and nothing else"]
+
+
 def about_blocks(command: str, words: Sequence[str]) -> List[str]:
     """What is wrong with a line of `generate` or `selftest`."""
     if not words:
@@ -292,6 +309,8 @@ def words_hints(refusal: Refusal) -> List[str]:
         faults = about_asking(command, behind)
     elif command in ("check", "migrate"):
         faults = about_reading(command, behind) if behind else []
+    elif command == "refine":
+        faults = about_refining(behind)
     else:
         faults = about_blocks(command, behind)
     return faults[:MOST_FAULTS] + [FORMS[command]]

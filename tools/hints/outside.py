@@ -53,7 +53,7 @@ def size_hints(refusal: Refusal) -> List[str]:
     """How long what was read is."""
     if refusal.command() == "selftest":
         return [f"the report would have more than {MOST_BYTES:,} bytes: selftest with fewer blocks"]
-    if refusal.command() in ("check", "migrate") or refusal.program != "plift":
+    if refusal.command() in ("check", "migrate", "refine") or refusal.program != "plift":
         most = MOST_CHECKED_BYTES if refusal.command() == "check" else MOST_BYTES
         told = f"the report has more than {most:,} bytes ({most >> 20:,} MiB)"
         return [f"{told}: verify with a lower --depth, or the region in parts"]
@@ -63,7 +63,7 @@ def size_hints(refusal: Refusal) -> List[str]:
 def memory_hints(refusal: Refusal) -> List[str]:
     """What takes less memory."""
     told = ["no memory was found: look at ulimit -v, and at what else runs"]
-    if refusal.command() in ("verify", "bounded", "lumped"):
+    if refusal.command() in ("verify", "bounded", "lumped", "refine"):
         told.append("a lower --depth or a smaller model takes less")
     return told
 

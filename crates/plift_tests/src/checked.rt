@@ -1,4 +1,4 @@
-// Reports that are checked or migrated, and what comes of it.
+// Reports that are checked, migrated or gone on from, and what comes of it.
 use crate::cells::{Claim, Untold, cut_two, each_row};
 use crate::models::{are_lines, lines_of};
 use crate::runs::{Sinks, wanted, words_of};
@@ -15,6 +15,8 @@ ABOVE = plift 1;kind dtmc;parameters 1 p;common 1;states 3;init 0;goal 1 1;row 0
     to 1 0:1;row 2 0 1;to 2 0:1;bound 3/4;precision 4;depth 0;grid 10;box 6 9;
 WIDE = plift 1;kind dtmc;parameters 1 p;common 1;states 3;init 0;goal 1 1;row 0 0 2;to 1 1:1;to 2 0:1 1:-1;row 1 0 1;\
     to 1 0:1;row 2 0 1;to 2 0:1;bound 1/2;precision 4;depth 2;grid 40;box 4 36;
+HALF = plift 1;kind dtmc;parameters 1 p;common 1;states 3;init 0;goal 1 1;row 0 0 2;to 1 1:1;to 2 0:1 1:-1;row 1 0 1;\
+    to 1 0:1;row 2 0 1;to 2 0:1;bound 1/2;precision 4;depth 1;grid 20;box 2 18;
 IDLE = plift 1;kind dtmc;parameters 2 p q;common 1;states 3;init 0;goal 1 1;row 0 0 2;to 1 1:1;to 2 0:1 1:-1;\
     row 1 0 1;to 1 0:1;row 2 0 1;to 2 0:1;bound 1/2;precision 4;depth 1;grid 10;box 4 6 0 10;
 UNEVEN = plift 1;kind dtmc;parameters 1 p;common 1;states 3;init 0;goal 1 1;row 0 0 2;to 1 1:1;to 2 0:1 1:-2;\
@@ -83,6 +85,24 @@ UNEVEN | accept 7 16 0; | NotSound | - | not sound: state 0 choice 0: set 1 sums
 IDLE | split 1; | NotSound | - | not sound: node 0 axis;
 ";
 
+// Each row: the head, what follows it, the status, what is written when that is gone on from to depth 2, and the note.
+const REFINED: &str = "\
+HALF | split 0;accept 8 16 0;unknown; | Done | plift 1;kind dtmc;parameters 1 p;common 1;states 3;init 0;goal 1 1;\
+    row 0 0 2;to 1 1:1;to 2 0:1 1:-1;row 1 0 1;to 1 0:1;row 2 0 1;to 2 0:1;bound 1/2;precision 4;depth 2;grid 40;box 4 36;\
+    split 0;accept 8 16 0;split 0;unknown;reject e 1 k 1 m 1 b 11/16;y 11 16 0;choice 0 - -;rank 1 0 -; | -
+LOW | accept 7 16 0; | Done | plift 1;kind dtmc;parameters 1 p;common 1;states 3;init 0;goal 1 1;row 0 0 2;to 1 1:1;\
+    to 2 0:1 1:-1;row 1 0 1;to 1 0:1;row 2 0 1;to 2 0:1;bound 1/2;precision 4;depth 2;grid 40;box 4 16;accept 7 16 0; | -
+RANGE | at 1;accept 1 2 0; | Done | plift 2;kind dtmc;parameters 1 p;common 1;states 3;init 0;goal 1 1;row 0 0 2;\
+    to 1 1:1;to 2 0:1 1:-1;row 1 0 1;to 1 0:1;row 2 0 1;to 2 0:1;bound 1/2;precision 4;from 1;depth 2;grid 40;box 4 16;\
+    at 1;accept 1 2 0; | -
+WIDE | split 0;accept 8 16 0;split 0;unknown;reject e 1 k 1 m 1 b 11/16;y 11 16 0;choice 0 - -;rank 1 0 -; | Usage | - | usage: --depth;
+WIDE | split 0;accept 8 16 0;split 0;unknown;reject e 1 k 1 m 1 b 11/16;y 11 16 0;choice 0 - -;rank 1 0 -;x; | NotSound | - | not sound: rest;
+HALF | unknown; | NotSound | - | not sound: node 0 depth;
+LOW | accept 6 16 0; | NotSound | - | not sound: node 0 state 0 choice 0 corner 1: 64 > 60;
+LOW | - | NotSound | - | not sound: line 20: Truncated;
+NOTHING | - | NotSound | - | not sound: line 1: Truncated;
+";
+
 // The head of that name; none where there is none.
 fn find_head(name: &str) -> Option<&'static str> {
     for row in HEADS.lines() {
@@ -136,4 +156,16 @@ fn files_are_checked(rt: HostRuntime) {
 #[test]
 fn reports_are_migrated(rt: HostRuntime) {
     each_row(&rt, rt.alloc(), MIGRATED, &Command { name: "migrate" });
+}
+
+#[test]
+fn reports_are_gone_on_from(rt: HostRuntime) {
+    each_row(
+        &rt,
+        rt.alloc(),
+        REFINED,
+        &Command {
+            name: "refine --depth 2",
+        },
+    );
 }

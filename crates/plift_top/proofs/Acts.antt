@@ -16,7 +16,7 @@ use Rattle.plift_words.specs.Job.{JobData, VerifyData}
 use Rattle.plift_words.specs.Given.{asked, Asks}
 use Rattle.std.specs.declared.alloc.Global.{Global}
 use Rattle.std.specs.Prelude.{String}
-use Rattle.plift_words.specs.Job.JobData.{verify, check, migrate, generate, selftest}
+use Rattle.plift_words.specs.Job.JobData.{verify, check, migrate, refine, generate, selftest}
 use Rattle.model_gen.specs.Ladder.{ladder_text, ladder_case, ladder_precision}
 use Rattle.plift_words.specs.declared.job.Field.{Field}
 use Rattle.plift_words.specs.declared.job.Field.TheVariants as field
@@ -39,8 +39,12 @@ use Rattle.cert_check.specs.declared.error.CheckError.{CheckError}
 use Rattle.plift_top.specs.Laws.{RightReportsAreSound, LumpedReportsAreSound}
 use Rattle.plift_top.specs.Check.{IsFoundSound, IsFoundInPart, IsUnsound}
 use Rattle.plift_top.specs.Migrate.{IsMigrated, IsRefusedFirst, IsSoundFirst, IsUnsoundFirst}
+use Rattle.cert_text.specs.Head.{HeadData}
+use Rattle.cert_text.specs.Laws.{TextsTellOneReport}
+use Rattle.plift_top.specs.Refine.{IsSoundText, LacksDepth, IsRefusedDeeper, deeper_head, IsFitting, IsRefinedTo, IsRefinedInPart, RefinesRight}
+use Rattle.plift_top.proofs.Refused.{unsound_text, unsound_status, refines_right, fitting_refused, lacking_done, lacking_status, wide_done, wide_status}
 use Rattle.plift_top.specs.Selftest.{one_half, IsLadderTree, ladder_report, tested_line, IsTestedTree, HasLongReport, TellsTested, Selftests}
-use Rattle.plift_top.specs.Answers.{Acts, Generates, wanted, AsksToVerify, AsksToCheck, AsksToMigrate, AsksToGenerate, AsksToSelftest, IsTooLong, limit_of, WroteNote, IsNoted, HasNote, status_of, answered, note_of}
+use Rattle.plift_top.specs.Answers.{Acts, Generates, wanted, AsksToVerify, AsksToCheck, AsksToMigrate, AsksToRefine, AsksToGenerate, AsksToSelftest, IsTooLong, limit_of, WroteNote, IsNoted, HasNote, status_of, answered, note_of}
 use Rattle.check_notes.specs.declared.status.Status.{Status}
 use Rattle.check_notes.specs.declared.status.Status.TheVariants as status
 use Rattle.plift_top.specs.declared.refusal.Refusal.{Refusal}
@@ -106,6 +110,7 @@ module _ {S K : Type 0} (left : S → Option (List ℕ)) (faults : S → ℕ) (t
   done (Ok (generate n)) (Ok x) a e j is = absurd (cc)
   done (Ok check) (Ok x) a e j is = absurd (cc)
   done (Ok migrate) (Ok x) a e j is = absurd (cc)
+  done (Ok (refine depth)) (Ok x) a e j is = absurd (cc)
   done (Ok (selftest n)) (Ok x) a e j is = absurd (cc)
   done (Err f) (Ok x) a e j is = absurd a.0
   done asked (Err r) a e j is = absurd (never_done r e)
@@ -116,6 +121,7 @@ module _ {S K : Type 0} (left : S → Option (List ℕ)) (faults : S → ℕ) (t
   generated (Ok (verify k)) (Ok x) a e n is = absurd (cc)
   generated (Ok check) (Ok x) a e n is = absurd (cc)
   generated (Ok migrate) (Ok x) a e n is = absurd (cc)
+  generated (Ok (refine depth)) (Ok x) a e n is = absurd (cc)
   generated (Ok (selftest m)) (Ok x) a e n is = absurd (cc)
   generated (Err f) (Ok x) a e n is = absurd a.0
   generated asked (Err r) a e n is = absurd (never_done r e)
@@ -128,6 +134,7 @@ module _ {S K : Type 0} (left : S → Option (List ℕ)) (faults : S → ℕ) (t
   generates (Ok (verify k)) answer a n is = absurd (cc)
   generates (Ok check) answer a n is = absurd (cc)
   generates (Ok migrate) answer a n is = absurd (cc)
+  generates (Ok (refine depth)) answer a n is = absurd (cc)
   generates (Ok (selftest m)) answer a n is = absurd (cc)
   generates (Err f) answer a n is = absurd (cc)
 
@@ -136,6 +143,7 @@ module _ {S K : Type 0} (left : S → Option (List ℕ)) (faults : S → ℕ) (t
   reads_nothing (Ok (verify k)) answer a n is = absurd (cc)
   reads_nothing (Ok check) answer a n is = absurd (cc)
   reads_nothing (Ok migrate) answer a n is = absurd (cc)
+  reads_nothing (Ok (refine depth)) answer a n is = absurd (cc)
   reads_nothing (Ok (selftest m)) answer a n is = absurd (cc)
   reads_nothing (Err f) answer a n is = absurd (cc)
 
@@ -152,6 +160,7 @@ module _ {S K : Type 0} (left : S → Option (List ℕ)) (faults : S → ℕ) (t
   sound law lumped (Ok (generate n)) (Ok x) a told e j is none = absurd (cc)
   sound law lumped (Ok check) (Ok x) a told e j is none = absurd (cc)
   sound law lumped (Ok migrate) (Ok x) a told e j is none = absurd (cc)
+  sound law lumped (Ok (refine depth)) (Ok x) a told e j is none = absurd (cc)
   sound law lumped (Ok (selftest n)) (Ok x) a told e j is none = absurd (cc)
   sound law lumped (Err f) (Ok x) a told e j is none = absurd a.0
   sound law lumped asked (Err r) a told e j is none = absurd (never_done r e)
@@ -165,7 +174,7 @@ module _ {S K : Type 0} (left : S → Option (List ℕ)) (faults : S → ℕ) (t
   noted (Ok (verify j)) (refusal.Region error) a = (refusal.Region error, refl, refl, (j, refl, a.0))
   noted (Ok (verify j)) (refusal.Model error) a = (refusal.Model error, refl, refl, (j, refl, a.0))
   noted (Ok (verify j)) (refusal.Unsound error) a = absurd a.0
-  noted (Ok (verify j)) (refusal.Rows error) a = (refusal.Rows error, refl, refl, (j, refl, a.0))
+  noted (Ok (verify j)) (refusal.Rows error) a = (refusal.Rows error, refl, refl, inl (j, refl, a.0))
   noted (Ok (verify j)) refusal.NotChain a = (refusal.NotChain, refl, refl, (j, refl, a.0))
   noted (Ok (verify j)) refusal.TooWide a = (refusal.TooWide, refl, refl, (j, refl, a.0))
   noted (Ok (generate n)) refusal.WriteFault a = (refusal.WriteFault, refl, refl, tt)
@@ -177,16 +186,24 @@ module _ {S K : Type 0} (left : S → Option (List ℕ)) (faults : S → ℕ) (t
   noted (Ok check) (refusal.Unsound error) a = (refusal.Unsound error, refl, refl, inl (refl, a.0))
   noted (Ok check) _ a = absurd a.0
   noted (Ok migrate) refusal.ReadFault a = (refusal.ReadFault, refl, refl, tt)
+  noted (Ok (refine depth)) refusal.ReadFault a = (refusal.ReadFault, refl, refl, tt)
   noted (Ok migrate) refusal.WriteFault a = (refusal.WriteFault, refl, refl, tt)
+  noted (Ok (refine depth)) refusal.WriteFault a = (refusal.WriteFault, refl, refl, tt)
   noted (Ok migrate) refusal.TooLong a = (refusal.TooLong, refl, refl, tt)
+  noted (Ok (refine depth)) refusal.TooLong a = (refusal.TooLong, refl, refl, tt)
   noted (Ok migrate) refusal.Memory a = (refusal.Memory, refl, refl, tt)
-  noted (Ok migrate) (refusal.Unsound error) a = (refusal.Unsound error, refl, refl, inr (refl, a.0))
+  noted (Ok (refine depth)) refusal.Memory a = (refusal.Memory, refl, refl, tt)
+  noted (Ok migrate) (refusal.Unsound error) a = (refusal.Unsound error, refl, refl, inr (inl (refl, a.0)))
+  noted (Ok (refine depth)) (refusal.Unsound error) a = (refusal.Unsound error, refl, refl, inr (inr (depth, refl, a.0)))
+  noted (Ok (refine depth)) (refusal.Usage f) a = (refusal.Usage f, refl, refl, inr (depth, refl, a.0))
+  noted (Ok (refine depth)) (refusal.Rows error) a = (refusal.Rows error, refl, refl, inr (depth, refl, a.0))
   noted (Ok migrate) _ a = absurd a.0
+  noted (Ok (refine depth)) _ a = absurd a.0
   noted (Ok (selftest n)) refusal.WriteFault a = (refusal.WriteFault, refl, refl, tt)
   noted (Ok (selftest n)) refusal.TooLong a = (refusal.TooLong, refl, refl, tt)
   noted (Ok (selftest n)) refusal.Memory a = (refusal.Memory, refl, refl, tt)
   noted (Ok (selftest n)) _ a = absurd a.0
-  noted (Err f) (refusal.Usage g) a = (refusal.Usage g, refl, refl, ap (λ f. Err f) (sym a.0))
+  noted (Err f) (refusal.Usage g) a = (refusal.Usage g, refl, refl, inl (ap (λ f. Err f) (sym a.0)))
   noted (Err f) refusal.Memory a = (refusal.Memory, refl, refl, tt)
   noted (Err f) _ a = absurd a.0
 
@@ -222,7 +239,9 @@ module _ {S K : Type 0} (left : S → Option (List ℕ)) (faults : S → ℕ) (t
   read_fault (Ok check) (Err refusal.ReadFault) a e = a.0
   read_fault (Ok check) (Err _) a e = absurd (cc)
   read_fault (Ok migrate) (Err refusal.ReadFault) a e = a.0
+  read_fault (Ok (refine depth)) (Err refusal.ReadFault) a e = a.0
   read_fault (Ok migrate) (Err _) a e = absurd (cc)
+  read_fault (Ok (refine depth)) (Err _) a e = absurd (cc)
   read_fault (Ok (selftest n)) (Err refusal.ReadFault) a e = absurd a.0
   read_fault (Ok (selftest n)) (Err _) a e = absurd (cc)
   read_fault (Err f) (Err refusal.ReadFault) a e = absurd a.0
@@ -238,7 +257,9 @@ module _ {S K : Type 0} (left : S → Option (List ℕ)) (faults : S → ℕ) (t
   write_fault (Ok check) (Err refusal.WriteFault) a e = a.1
   write_fault (Ok check) (Err _) a e = absurd (cc)
   write_fault (Ok migrate) (Err refusal.WriteFault) a e = a.1
+  write_fault (Ok (refine depth)) (Err refusal.WriteFault) a e = a.1
   write_fault (Ok migrate) (Err _) a e = absurd (cc)
+  write_fault (Ok (refine depth)) (Err _) a e = absurd (cc)
   write_fault (Ok (selftest n)) (Err refusal.WriteFault) a e = a.0.1
   write_fault (Ok (selftest n)) (Err _) a e = absurd (cc)
   write_fault (Err f) (Err refusal.WriteFault) a e = absurd a.0
@@ -252,6 +273,7 @@ module _ {S K : Type 0} (left : S → Option (List ℕ)) (faults : S → ℕ) (t
   part (Ok (generate n)) (Err _) a e j is = absurd (cc)
   part (Ok check) (Err _) a e j is = absurd (cc)
   part (Ok migrate) (Err _) a e j is = absurd (cc)
+  part (Ok (refine depth)) (Err _) a e j is = absurd (cc)
   part (Ok (selftest n)) (Err _) a e j is = absurd (cc)
   part (Err f) (Err _) a e j is = absurd (cc)
 
@@ -263,6 +285,7 @@ module _ {S K : Type 0} (left : S → Option (List ℕ)) (faults : S → ℕ) (t
   ladder_part (Ok (verify k)) (Err _) a e n is = absurd (cc)
   ladder_part (Ok check) (Err _) a e n is = absurd (cc)
   ladder_part (Ok migrate) (Err _) a e n is = absurd (cc)
+  ladder_part (Ok (refine depth)) (Err _) a e n is = absurd (cc)
   ladder_part (Ok (selftest m)) (Err _) a e n is = absurd (cc)
   ladder_part (Err f) (Err _) a e n is = absurd (cc)
 
@@ -276,7 +299,9 @@ module _ {S K : Type 0} (left : S → Option (List ℕ)) (faults : S → ℕ) (t
   kept (Ok check) (Err refusal.WriteFault) a d e = absurd (e refl)
   kept (Ok check) (Err _) a d e = a.1
   kept (Ok migrate) (Err refusal.WriteFault) a d e = absurd (e refl)
+  kept (Ok (refine depth)) (Err refusal.WriteFault) a d e = absurd (e refl)
   kept (Ok migrate) (Err _) a d e = a.1
+  kept (Ok (refine depth)) (Err _) a d e = a.1
   kept (Ok (selftest n)) (Err refusal.WriteFault) a d e = absurd (e refl)
   kept (Ok (selftest n)) (Err refusal.TooLong) a d e = a.0.1
   kept (Ok (selftest n)) (Err refusal.Memory) a d e = a.0
@@ -287,6 +312,7 @@ module _ {S K : Type 0} (left : S → Option (List ℕ)) (faults : S → ℕ) (t
       → AsksToCheck asked → WasRead (IsFoundSound (taken out) (taken out')) (left source) (left source')
   checked (Ok check) (Ok x) a e is = a
   checked (Ok migrate) (Ok x) a e is = absurd (cc)
+  checked (Ok (refine depth)) (Ok x) a e is = absurd (cc)
   checked (Ok (verify j)) (Ok x) a e is = absurd (cc)
   checked (Ok (generate n)) (Ok x) a e is = absurd (cc)
   checked (Ok (selftest n)) (Ok x) a e is = absurd (cc)
@@ -299,6 +325,7 @@ module _ {S K : Type 0} (left : S → Option (List ℕ)) (faults : S → ℕ) (t
   line_part (Ok check) (Err refusal.WriteFault) a e is = a.0
   line_part (Ok check) (Err _) a e is = absurd (cc)
   line_part (Ok migrate) (Err _) a e is = absurd (cc)
+  line_part (Ok (refine depth)) (Err _) a e is = absurd (cc)
   line_part (Ok (verify j)) (Err _) a e is = absurd (cc)
   line_part (Ok (generate n)) (Err _) a e is = absurd (cc)
   line_part (Ok (selftest n)) (Err _) a e is = absurd (cc)
@@ -307,6 +334,7 @@ module _ {S K : Type 0} (left : S → Option (List ℕ)) (faults : S → ℕ) (t
   pub migrated : (asked : Result JobData Field) (answer : Result (Unit {0}) Refusal) → Acts left faults taken counts asked source source' out out' answer → answered answer ≡ status.Done
       → AsksToMigrate asked → WasRead (IsMigrated (Appends (taken out) (taken out'))) (left source) (left source')
   migrated (Ok migrate) (Ok x) a e is = a
+  migrated (Ok (refine depth)) (Ok x) a e is = absurd (cc)
   migrated (Ok check) (Ok x) a e is = absurd (cc)
   migrated (Ok (verify j)) (Ok x) a e is = absurd (cc)
   migrated (Ok (generate n)) (Ok x) a e is = absurd (cc)
@@ -319,6 +347,7 @@ module _ {S K : Type 0} (left : S → Option (List ℕ)) (faults : S → ℕ) (t
   migrated_part asked (Ok x) a e is = absurd (cc)
   migrated_part (Ok migrate) (Err refusal.WriteFault) a e is = a.0
   migrated_part (Ok migrate) (Err _) a e is = absurd (cc)
+  migrated_part (Ok (refine depth)) (Err _) a e is = absurd (cc)
   migrated_part (Ok check) (Err _) a e is = absurd (cc)
   migrated_part (Ok (verify j)) (Err _) a e is = absurd (cc)
   migrated_part (Ok (generate n)) (Err _) a e is = absurd (cc)
@@ -326,12 +355,14 @@ module _ {S K : Type 0} (left : S → Option (List ℕ)) (faults : S → ℕ) (t
   migrated_part (Err f) (Err _) a e is = absurd (cc)
 
   pub not_sound : SoundFilesPass → AnswersAreOne → (asked : Result JobData Field) (answer : Result (Unit {0}) Refusal) → Acts left faults taken counts asked source source' out out' answer → answered answer ≡ status.NotSound
-      → (AsksToCheck asked × WasMet report_limit IsUnsound (left source) (left source')) ⊎ (AsksToMigrate asked × WasRead IsUnsoundFirst (left source) (left source'))
+      → (AsksToCheck asked × WasMet report_limit IsUnsound (left source) (left source')) ⊎ ((AsksToMigrate asked × WasRead IsUnsoundFirst (left source) (left source')) ⊎ ((depth : ℕ) × AsksToRefine asked depth × WasRead IsUnsound (left source) (left source')))
   not_sound pass one asked (Ok x) a e = absurd (cc)
   not_sound pass one (Ok check) (Err (refusal.Unsound error)) a e = inl (refl, met_as (λ bytes is leaves file. faulty pass one bytes leaves error file is) a.0)
   not_sound pass one (Ok check) (Err _) a e = absurd (cc)
-  not_sound pass one (Ok migrate) (Err (refusal.Unsound error)) a e = inr (refl, read_as (λ bytes is leaves file. never_migrated pass one bytes leaves error file is) a.0)
+  not_sound pass one (Ok migrate) (Err (refusal.Unsound error)) a e = inr (inl (refl, read_as (λ bytes is leaves file. never_migrated pass one bytes leaves error file is) a.0))
+  not_sound pass one (Ok (refine depth)) (Err (refusal.Unsound error)) a e = inr (inr (depth, refl, read_as (λ bytes is leaves file. faulty pass one bytes leaves error file is) a.0))
   not_sound pass one (Ok migrate) (Err _) a e = absurd (cc)
+  not_sound pass one (Ok (refine depth)) (Err _) a e = absurd (cc)
   not_sound pass one (Ok (verify j)) (Err (refusal.Unsound error)) a e = absurd a.0
   not_sound pass one (Ok (verify j)) (Err _) a e = absurd (cc)
   not_sound pass one (Ok (generate n)) (Err (refusal.Unsound error)) a e = absurd a.0
@@ -350,6 +381,7 @@ module _ {S K : Type 0} (left : S → Option (List ℕ)) (faults : S → ℕ) (t
   selftested (Ok (generate m)) (Ok x) a e n is = absurd (cc)
   selftested (Ok check) (Ok x) a e n is = absurd (cc)
   selftested (Ok migrate) (Ok x) a e n is = absurd (cc)
+  selftested (Ok (refine depth)) (Ok x) a e n is = absurd (cc)
   selftested (Err f) (Ok x) a e n is = absurd a.0
   selftested asked (Err r) a e n is = absurd (never_done r e)
 
@@ -365,6 +397,7 @@ module _ {S K : Type 0} (left : S → Option (List ℕ)) (faults : S → ℕ) (t
   tested_part (Ok (generate m)) (Err _) a e n is = absurd (cc)
   tested_part (Ok check) (Err _) a e n is = absurd (cc)
   tested_part (Ok migrate) (Err _) a e n is = absurd (cc)
+  tested_part (Ok (refine depth)) (Err _) a e n is = absurd (cc)
   tested_part (Err f) (Err _) a e n is = absurd (cc)
 
   pub tests_unread : (asked : Result JobData Field) (answer : Result (Unit {0}) Refusal) → Acts left faults taken counts asked source source' out out' answer → (n : ℕ) → AsksToSelftest asked n → source' ≡ source
@@ -373,6 +406,7 @@ module _ {S K : Type 0} (left : S → Option (List ℕ)) (faults : S → ℕ) (t
   tests_unread (Ok (generate m)) answer a n is = absurd (cc)
   tests_unread (Ok check) answer a n is = absurd (cc)
   tests_unread (Ok migrate) answer a n is = absurd (cc)
+  tests_unread (Ok (refine depth)) answer a n is = absurd (cc)
   tests_unread (Err f) answer a n is = absurd (cc)
 
   -- an answer to `selftest`, by its kind
@@ -391,6 +425,7 @@ module _ {S K : Type 0} (left : S → Option (List ℕ)) (faults : S → ℕ) (t
   by_test Q done part long memory (Ok (generate m)) answer a n is = absurd (cc)
   by_test Q done part long memory (Ok check) answer a n is = absurd (cc)
   by_test Q done part long memory (Ok migrate) answer a n is = absurd (cc)
+  by_test Q done part long memory (Ok (refine depth)) answer a n is = absurd (cc)
   by_test Q done part long memory (Err f) answer a n is = absurd (cc)
 
   pub tests : (asked : Result JobData Field) (answer : Result (Unit {0}) Refusal) → Acts left faults taken counts asked source source' out out' answer → (n : ℕ) → AsksToSelftest asked n
@@ -454,6 +489,7 @@ module _ {S K : Type 0} (left : S → Option (List ℕ)) (faults : S → ℕ) (t
   too_long (Ok (generate n)) answer a limit e = took_more file_limit answer (left source) (left source') (limit (λ n is. absurd (cc))) e
   too_long (Ok check) answer a limit e = took_more report_limit answer (left source) (left source') (limit (λ n is. absurd (cc))) e
   too_long (Ok migrate) answer a limit e = took_more file_limit answer (left source) (left source') (limit (λ n is. absurd (cc))) e
+  too_long (Ok (refine depth)) answer a limit e = took_more file_limit answer (left source) (left source') (limit (λ n is. absurd (cc))) e
   too_long (Err f) answer a limit e = took_more file_limit answer (left source) (left source') (limit (λ n is. absurd (cc))) e
 
   pub within : (asked : Result JobData Field) (answer : Result (Unit {0}) Refusal) → Acts left faults taken counts asked source source' out out' answer → (((n : ℕ) → AsksToSelftest asked n → ⊥) → KeepsWithin (limit_of asked) answer (left source) (left source'))
@@ -463,6 +499,7 @@ module _ {S K : Type 0} (left : S → Option (List ℕ)) (faults : S → ℕ) (t
   within (Ok (generate n)) answer a limit e = took_few file_limit answer (left source) (left source') (limit (λ n is. absurd (cc))) e
   within (Ok check) answer a limit e = took_few report_limit answer (left source) (left source') (limit (λ n is. absurd (cc))) e
   within (Ok migrate) answer a limit e = took_few file_limit answer (left source) (left source') (limit (λ n is. absurd (cc))) e
+  within (Ok (refine depth)) answer a limit e = took_few file_limit answer (left source) (left source') (limit (λ n is. absurd (cc))) e
   within (Err f) answer a limit e = took_few file_limit answer (left source) (left source') (limit (λ n is. absurd (cc))) e
 
 -- where a text was given and nothing failed
@@ -485,6 +522,7 @@ module _ {S K : Type 0} (left : S → Option (List ℕ)) (faults : S → ℕ) (t
   by_answer Q done refused memory (Ok (generate n)) answer a is = absurd (cc)
   by_answer Q done refused memory (Ok check) answer a is = absurd (cc)
   by_answer Q done refused memory (Ok migrate) answer a is = absurd (cc)
+  by_answer Q done refused memory (Ok (refine depth)) answer a is = absurd (cc)
   by_answer Q done refused memory (Ok (selftest n)) answer a is = absurd (cc)
   by_answer Q done refused memory (Err e) answer a is = absurd (cc)
 
@@ -536,6 +574,7 @@ module _ {S K : Type 0} (left : S → Option (List ℕ)) (faults : S → ℕ) (t
   by_check Q sound faulty memory (Ok check) (Err (refusal.Unsound error)) a is = faulty error (met_of (λ bytes. Answers bytes (Err error)) report_limit bytes (left source') (rw told at a.0))
   by_check Q sound faulty memory (Ok check) (Err _) a is = absurd a.0
   by_check Q sound faulty memory (Ok migrate) answer a is = absurd (cc)
+  by_check Q sound faulty memory (Ok (refine depth)) answer a is = absurd (cc)
   by_check Q sound faulty memory (Ok (verify j)) answer a is = absurd (cc)
   by_check Q sound faulty memory (Ok (generate n)) answer a is = absurd (cc)
   by_check Q sound faulty memory (Ok (selftest n)) answer a is = absurd (cc)
@@ -567,6 +606,7 @@ module _ {S K : Type 0} (left : S → Option (List ℕ)) (faults : S → ℕ) (t
   by_migrate Q sound refused memory (Ok migrate) (Err (refusal.Unsound error)) a is = refused error (given (IsRefusedFirst error) bytes (left source') (rw told at a.0))
   by_migrate Q sound refused memory (Ok migrate) (Err _) a is = absurd a.0
   by_migrate Q sound refused memory (Ok check) answer a is = absurd (cc)
+  by_migrate Q sound refused memory (Ok (refine depth)) answer a is = absurd (cc)
   by_migrate Q sound refused memory (Ok (verify j)) answer a is = absurd (cc)
   by_migrate Q sound refused memory (Ok (generate n)) answer a is = absurd (cc)
   by_migrate Q sound refused memory (Ok (selftest n)) answer a is = absurd (cc)
@@ -583,6 +623,85 @@ module _ {S K : Type 0} (left : S → Option (List ℕ)) (faults : S → ℕ) (t
       → IsUnsoundFirst bytes → (answered answer ≡ status.NotSound) ⊎ (answered answer ≡ status.Memory)
   migrate_refused asked answer a is bad =
       by_migrate (λ (s : Status). (s ≡ status.NotSound) ⊎ (s ≡ status.Memory)) (λ h. absurd (bad h.leaves h.sound)) (λ error h. inl refl) (inr refl) asked answer a is
+
+-- ---- going on from a report
+
+module _ {S K : Type 0} (left : S → Option (List ℕ)) (faults : S → ℕ) (taken : K → Option (List ℕ)) (counts : K → ℕ) (source source' : S) (out out' : K) where
+  pub refined : (asked : Result JobData Field) (answer : Result (Unit {0}) Refusal) → Acts left faults taken counts asked source source' out out' answer → answered answer ≡ status.Done
+      → (depth : ℕ) → AsksToRefine asked depth → WasRead (IsRefinedTo (taken out) (taken out') depth) (left source) (left source')
+  refined (Ok (refine d)) (Ok x) a e depth is = let same : d ≡ depth = cc in subst (λ (i : ℕ). WasRead (IsRefinedTo (taken out) (taken out') i) (left source) (left source')) same a
+  refined (Ok migrate) (Ok x) a e depth is = absurd (cc)
+  refined (Ok check) (Ok x) a e depth is = absurd (cc)
+  refined (Ok (verify j)) (Ok x) a e depth is = absurd (cc)
+  refined (Ok (generate n)) (Ok x) a e depth is = absurd (cc)
+  refined (Ok (selftest n)) (Ok x) a e depth is = absurd (cc)
+  refined (Err f) (Ok x) a e depth is = absurd a.0
+  refined asked (Err r) a e depth is = absurd (never_done r e)
+
+  pub refined_part : (asked : Result JobData Field) (answer : Result (Unit {0}) Refusal) → Acts left faults taken counts asked source source' out out' answer → answered answer ≡ status.WriteFault
+      → (depth : ℕ) → AsksToRefine asked depth → WasRead (IsRefinedInPart (taken out) (taken out') depth) (left source) (left source')
+  refined_part asked (Ok x) a e depth is = absurd (cc)
+  refined_part (Ok (refine d)) (Err refusal.WriteFault) a e depth is = let same : d ≡ depth = cc in subst (λ (i : ℕ). WasRead (IsRefinedInPart (taken out) (taken out') i) (left source) (left source')) same a.0
+  refined_part (Ok (refine d)) (Err _) a e depth is = absurd (cc)
+  refined_part (Ok migrate) (Err _) a e depth is = absurd (cc)
+  refined_part (Ok check) (Err _) a e depth is = absurd (cc)
+  refined_part (Ok (verify j)) (Err _) a e depth is = absurd (cc)
+  refined_part (Ok (generate n)) (Err _) a e depth is = absurd (cc)
+  refined_part (Ok (selftest n)) (Err _) a e depth is = absurd (cc)
+  refined_part (Err f) (Err _) a e depth is = absurd (cc)
+
+  -- where the report that was read is that of the right tree, so is the one that was written
+  pub refined_right : TextsTellOneReport → (asked : Result JobData Field) (answer : Result (Unit {0}) Refusal) → Acts left faults taken counts asked source source' out out' answer → answered answer ≡ status.Done
+      → (depth : ℕ) → AsksToRefine asked depth → WasRead (RefinesRight (taken out) (taken out') depth) (left source) (left source')
+  refined_right one asked answer a e depth is = read_as (λ bytes h. refines_right one (taken out) (taken out') depth bytes h) (refined asked answer a e depth is)
+
+  module _ (depth : ℕ) (bytes : List ℕ) (told : left source ≡ Some bytes) (len : length bytes ≤ file_limit) (sure1 : NoFault (faults source) (faults source')) (sure2 : NoFault (counts out) (counts out')) where
+    -- an answer is one to the report that goes on, or to what refuses it, or for want of memory
+    by_refine : (Q : Status → Type 0) → (IsRefinedTo (taken out) (taken out') depth bytes → Q status.Done) → ((why : Refusal) → IsRefusedDeeper depth why bytes → Q (status_of why)) → Q status.Memory
+        → (asked : Result JobData Field) (answer : Result (Unit {0}) Refusal) → Acts left faults taken counts asked source source' out out' answer → AsksToRefine asked depth → Q (answered answer)
+    by_refine Q done refused memory (Ok (refine d)) answer a is = by answer (subst (λ (i : ℕ). Acts left faults taken counts (Ok (refine i)) source source' out out' answer) (cc) a)
+      where
+        by : (answer : Result (Unit {0}) Refusal) → Acts left faults taken counts (Ok (refine depth)) source source' out out' answer → Q (answered answer)
+        by (Ok x) a = done (given (IsRefinedTo (taken out) (taken out') depth) bytes (left source') (rw told at a))
+        by (Err refusal.ReadFault) a = absurd (sure1 a.0)
+        by (Err refusal.WriteFault) a = absurd (sure2 a.1)
+        by (Err refusal.TooLong) a = absurd (short bytes (left source') len (rw told at a.0))
+        by (Err refusal.Memory) a = memory
+        by (Err (refusal.Unsound error)) a = refused (refusal.Unsound error) (given (IsRefusedDeeper depth (refusal.Unsound error)) bytes (left source') (rw told at a.0))
+        by (Err (refusal.Usage f)) a = refused (refusal.Usage f) (given (IsRefusedDeeper depth (refusal.Usage f)) bytes (left source') (rw told at a.0))
+        by (Err (refusal.Rows error)) a = refused (refusal.Rows error) (given (IsRefusedDeeper depth (refusal.Rows error)) bytes (left source') (rw told at a.0))
+        by (Err _) a = absurd a.0
+    by_refine Q done refused memory (Ok migrate) answer a is = absurd (cc)
+    by_refine Q done refused memory (Ok check) answer a is = absurd (cc)
+    by_refine Q done refused memory (Ok (verify j)) answer a is = absurd (cc)
+    by_refine Q done refused memory (Ok (generate n)) answer a is = absurd (cc)
+    by_refine Q done refused memory (Ok (selftest n)) answer a is = absurd (cc)
+    by_refine Q done refused memory (Err f) answer a is = absurd (cc)
+
+    -- a report that isn't sound is refused as such
+    pub refine_unsound : (asked : Result JobData Field) (answer : Result (Unit {0}) Refusal) → Acts left faults taken counts asked source source' out out' answer → AsksToRefine asked depth
+        → IsUnsound bytes → (answered answer ≡ status.NotSound) ⊎ (answered answer ≡ status.Memory)
+    refine_unsound asked answer a is bad =
+        by_refine (λ (s : Status). (s ≡ status.NotSound) ⊎ (s ≡ status.Memory)) (λ h. absurd (unsound_text bytes h.head h.tree bad h.old)) (λ why h. inl (unsound_status depth bytes bad why h)) (inr refl) asked answer a is
+
+    module _ (pass : SoundFilesPass) (one : AnswersAreOne) (same : TextsTellOneReport) (h : HeadData) (t : Tree) (old : IsSoundText bytes h t) where
+      -- one that can be gone on from is, but for want of memory
+      pub refine_complete : AdmittedHasNoFault → (asked : Result JobData Field) (answer : Result (Unit {0}) Refusal) → Acts left faults taken counts asked source source' out out' answer → AsksToRefine asked depth
+          → IsFitting depth h → (answered answer ≡ status.Done) ⊎ (answered answer ≡ status.Memory)
+      refine_complete none asked answer a is fit =
+          by_refine (λ (s : Status). (s ≡ status.Done) ⊎ (s ≡ status.Memory)) (λ h. inl refl) (λ why r. absurd (fitting_refused pass one same none depth bytes h t old fit why r)) (inr refl) asked answer a is
+
+      -- one whose depth can't be gone on to is refused for that
+      pub refine_too_deep : (asked : Result JobData Field) (answer : Result (Unit {0}) Refusal) → Acts left faults taken counts asked source source' out out' answer → AsksToRefine asked depth
+          → LacksDepth depth h → (answered answer ≡ status.Usage) ⊎ (answered answer ≡ status.Memory)
+      refine_too_deep asked answer a is lacks =
+          by_refine (λ (s : Status). (s ≡ status.Usage) ⊎ (s ≡ status.Memory)) (λ r. absurd (lacking_done same depth bytes h t old _ _ lacks r)) (λ why r. inl (lacking_status pass one same depth bytes h t old lacks why r)) (inr refl) asked answer a is
+
+      -- and one with a row that is too wide for that
+      pub refine_unadmitted : (asked : Result JobData Field) (answer : Result (Unit {0}) Refusal) → Acts left faults taken counts asked source source' out out' answer → AsksToRefine asked depth
+          → (LacksDepth depth h → ⊥) → (IsAdmitted (deeper_head depth h).asked → ⊥) → (answered answer ≡ status.RowsRefused) ⊎ (answered answer ≡ status.Memory)
+      refine_unadmitted asked answer a is fits bad =
+          by_refine (λ (s : Status). (s ≡ status.RowsRefused) ⊎ (s ≡ status.Memory)) (λ r. absurd (wide_done same depth bytes h t old _ _ bad r)) (λ why r. inl (wide_status pass one same depth bytes h t old fits why r)) (inr refl) asked answer a is
 
 -- ---- notes
 
@@ -622,6 +741,7 @@ module _ {S K : Type 0} (left : S → Option (List ℕ)) (faults : S → ℕ) (t
   refused_by (Ok (generate n)) words.Memory is = absurd is
   refused_by (Ok check) words.Memory is = absurd is
   refused_by (Ok migrate) words.Memory is = absurd is
+  refused_by (Ok (refine depth)) words.Memory is = absurd is
   refused_by (Ok (selftest n)) words.Memory is = absurd is
   refused_by (Err field.Goal) words.Memory is = (λ e. absurd (cc), refl, refl)
   refused_by (Err field.Bound) words.Memory is = (λ e. absurd (cc), refl, refl)

@@ -10,3 +10,6 @@ pub mod BoundedTexts
 pub mod Lumping
 mod Samples
 mod Migrating
+mod Refused
+mod Refining
+mod RefineSteps

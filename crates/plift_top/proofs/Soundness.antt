@@ -63,7 +63,7 @@ module _ (fits : HeightFits) (lowers : LowerPrecisionIsCase) (k : CaseData) (fro
       (record { left = h.0.left; axis_is = h.0.axis_is }, sound_tree (lower_half axis spans) (depth + 1) lower h.1, sound_tree (upper_half axis spans) (depth + 1) upper h.2)
 
   -- and can be told: no rank is above the number of states
-  can_be_told : (spans : Spans) (depth : ℕ) (tree : Tree) → IsRight k (least k from) spans bound depth tree → CanBeTold (record { asked = k; from = from; bound = bound }) tree
+  pub can_be_told : (spans : Spans) (depth : ℕ) (tree : Tree) → IsRight k (least k from) spans bound depth tree → CanBeTold (record { asked = k; from = from; bound = bound }) tree
   can_be_told spans depth (accept u x) h = h.first.between
   can_be_told spans depth (reject u r) h =
       let between = h.first.between in

@@ -12,7 +12,7 @@ use Rattle.lift_rows.specs.declared.error.RowError.{RowError}
 use Rattle.drn_read.specs.Faults.{cause_name}
 use Rattle.drn_read.specs.declared.error.DrnError.{DrnError}
 use Rattle.plift_words.specs.Job.{JobData, VerifyData}
-use Rattle.plift_words.specs.Job.JobData.{verify, check, migrate, generate, selftest}
+use Rattle.plift_words.specs.Job.JobData.{verify, check, migrate, refine, generate, selftest}
 use Rattle.plift_words.specs.Given.{asked}
 use Rattle.model_gen.specs.Ladder.{ladder_text}
 use Rattle.plift_words.specs.declared.job.Field.{Field}
@@ -22,6 +22,7 @@ use Rattle.check_notes.specs.Unsound.{unsound_note}
 use Rattle.plift_top.specs.Verify.{Verifies, WasRead, IsRefused}
 use Rattle.plift_top.specs.Check.{Checks}
 use Rattle.plift_top.specs.Migrate.{IsRefusedFirst, Migrates}
+use Rattle.plift_top.specs.Refine.{IsRefusedDeeper, RefinesReport}
 use Rattle.plift_top.specs.Selftest.{HasLongReport, Selftests}
 use Rattle.cert_check.specs.Answer.{Answers}
 use Rattle.cert_check.specs.Source.{NoFault, file_limit, report_limit}
@@ -103,6 +104,10 @@ AsksToCheck asked = asked ≡ Ok check
 abbrev pub AsksToMigrate : Result JobData Field → Type 0
 AsksToMigrate asked = asked ≡ Ok migrate
 
+-- the words ask to go on from a report to that depth
+abbrev pub AsksToRefine : Result JobData Field → ℕ → Type 0
+AsksToRefine asked depth = asked ≡ Ok (refine depth)
+
 -- the words ask to write the ladder of so many blocks
 abbrev pub AsksToGenerate : Result JobData Field → ℕ → Type 0
 AsksToGenerate asked blocks = asked ≡ Ok (generate blocks)
@@ -121,15 +126,21 @@ abbrev pub IsTooLong : Result JobData Field → Option (List ℕ) → Option (Li
 IsTooLong (Ok (selftest blocks)) old new = HasLongReport blocks
 IsTooLong asked old new = TakenHas (λ bytes. limit_of asked < length bytes) old new
 
--- The words, and what was read of a source, give cause for a refusal: the words are at fault in this part, or they ask to verify and the job is refused at the text that was read, or they ask to check and this is the first fault that was met, whatever may follow the bytes that were taken, or they ask to migrate and the bytes that were read are refused by it. Of a fault, a text that is too long and want of memory nothing is asked here.
+-- the words ask to go on from a report, and it is refused so
+abbrev pub HasRefineCause : Refusal → Result JobData Field → Option (List ℕ) → Option (List ℕ) → Type 0
+HasRefineCause why asked old new = (depth : ℕ) × AsksToRefine asked depth × WasRead (IsRefusedDeeper depth why) old new
+
+-- The words, and what was read of a source, give cause for a refusal: the words are at fault in this part, or they ask to verify and the job is refused at the text that was read, or they ask to check and this is the first fault that was met, whatever may follow the bytes that were taken, or they ask to migrate or to go on from a report and the bytes that were read are refused by it. Of a fault, a text that is too long and want of memory nothing is asked here.
 abbrev pub HasCause : Refusal → Result JobData Field → Option (List ℕ) → Option (List ℕ) → Type 0
-HasCause (refusal.Usage f) asked old new = asked ≡ Err f
+HasCause (refusal.Usage f) asked old new = (asked ≡ Err f) ⊎ HasRefineCause (refusal.Usage f) asked old new
 HasCause refusal.ReadFault asked old new = ⊤
 HasCause refusal.WriteFault asked old new = ⊤
 HasCause refusal.TooLong asked old new = ⊤
 HasCause refusal.Memory asked old new = ⊤
 HasCause (refusal.Unsound error) asked old new =
-    (AsksToCheck asked × WasMet report_limit (λ bytes. Answers bytes (Err error)) old new) ⊎ (AsksToMigrate asked × WasRead (IsRefusedFirst error) old new)
+    (AsksToCheck asked × WasMet report_limit (λ bytes. Answers bytes (Err error)) old new)
+    ⊎ ((AsksToMigrate asked × WasRead (IsRefusedFirst error) old new) ⊎ HasRefineCause (refusal.Unsound error) asked old new)
+HasCause (refusal.Rows error) asked old new = ((j : VerifyData) × AsksToVerify asked j × WasRead (IsRefused j (refusal.Rows error)) old new) ⊎ HasRefineCause (refusal.Rows error) asked old new
 HasCause why asked old new = (j : VerifyData) × AsksToVerify asked j × WasRead (IsRefused j why) old new
 
 -- An answer to these words, and to what was read of a source, has this note: that of a refusal with its status, for which they give cause. A job that is done has none.
@@ -165,5 +176,6 @@ Acts left faults taken counts (Ok (verify job)) source source' out out' result =
 Acts left faults taken counts (Ok (generate blocks)) source source' out out' result = Generates taken counts blocks out out' result × (source' ≡ source)
 Acts left faults taken counts (Ok check) source source' out out' result = Checks left faults taken counts source source' out out' result
 Acts left faults taken counts (Ok migrate) source source' out out' result = Migrates left faults taken counts source source' out out' result
+Acts left faults taken counts (Ok (refine depth)) source source' out out' result = RefinesReport left faults taken counts depth source source' out out' result
 Acts left faults taken counts (Ok (selftest blocks)) source source' out out' result = Selftests taken counts blocks out out' result × (source' ≡ source)
 Acts left faults taken counts (Err f) source source' out out' result = RefusesLine f result × (source' ≡ source) × (out' ≡ out)

@@ -11,11 +11,13 @@ use Rattle.drn_read.specs.Reading.{drn}
 use Rattle.model_gen.specs.Ladder.{most_blocks}
 use Rattle.cert_text.specs.Report.{report_text}
 use Rattle.cert_text.specs.Forms.{IsToldBound}
-use Rattle.cert_check.specs.Sound.{IsSoundFile, leaf_counts}
+use Rattle.cert_text.specs.Head.{HeadData}
+use Rattle.cert_check.specs.Sound.{IsSound, IsSoundFile, leaf_counts}
 use Rattle.lift_lump.specs.LumpedData.{LumpedData}
 use Rattle.lift_lump.specs.Lumped.{IsLumped}
 use Rattle.plift_top.specs.RightReport.{IsRange, least, version_of}
 use Rattle.plift_top.specs.Lumped.{lumped_case}
+use Rattle.plift_top.specs.Refine.{IsRefinedTree, RefinesTree, deeper_head}
 use Rattle.plift_top.specs.Selftest.{IsLadderTree}
 
 -- where a case is of a model that a text stands for, the report of its right tree is a sound file with that tree's leaves, of the second version where a range of precisions is told
@@ -27,6 +29,10 @@ RightReportsAreSound = (text label : List ℕ) (m : ModelData) (root : Region) (
 abbrev pub LumpedReportsAreSound : Type 0
 LumpedReportsAreSound = (text label : List ℕ) (k : CaseData) (l : LumpedData) (bound : Bound) (tree : Tree) → drn text label ≡ Ok k.model → IsLumped k.model l → IsCase (lumped_case k l) → IsToldBound bound
     → IsRightTree (lumped_case k l) k.w bound tree → IsSoundFile (report_text (lumped_case k l) None bound tree) (leaf_counts 1 tree)
+
+-- where a report is sound, and its case is one at a greater depth, a tree that refines its tree there makes a sound report, which is the right one where the old one is
+abbrev pub RefinedReportsAreSound : Type 0
+RefinedReportsAreSound = (depth : ℕ) (h : HeadData) (t refined : Tree) → IsSound h t → h.asked.depth ≤ depth → IsCase (deeper_head depth h).asked → RefinesTree depth h t refined → IsRefinedTree depth h t refined
 
 -- each ladder that can be asked for has a right tree
 abbrev pub LaddersHaveTrees : Type 0

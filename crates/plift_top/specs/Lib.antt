@@ -6,6 +6,7 @@ pub mod Verify
 pub mod Check
 pub mod Migrate
 pub mod Steps
+pub mod Refine
 pub mod Refused
 pub mod Selftest
 pub mod Answers

@@ -11,6 +11,7 @@ mod migrate;
 mod notes;
 mod program;
 mod question;
+mod refine;
 mod refusal;
 mod report;
 mod selftest;
@@ -18,6 +19,6 @@ mod verify;
 
 pub use check_notes::{Status, exit_code};
 pub use edge::launch;
-pub use laws::{lumped_reports_are_sound, right_reports_are_sound};
+pub use laws::{lumped_reports_are_sound, refined_reports_are_sound, right_reports_are_sound};
 pub use program::run;
 pub use report::write_report;

@@ -19,7 +19,7 @@ ghost use Rattle.plift_top.specs.RightReport.{version_of};
 ghost use Rattle.plift_top.specs.Verify.{WasRead, Reports, ReportsFront, IsAnswerable, lacks_chain};
 ghost use Rattle.plift_top.specs.Verify.{IsRefused, KeepsWithin};
 ghost use Rattle.model_gen.specs.Ladder.{ladder_text, ladder_case, ladder_precision};
-ghost use Rattle.plift_top.specs.Answers.{status_of, wanted, AsksToVerify, AsksToCheck, AsksToMigrate};
+ghost use Rattle.plift_top.specs.Answers.{status_of, wanted, AsksToVerify, AsksToCheck, AsksToMigrate, AsksToRefine};
 ghost use Rattle.plift_top.specs.Answers.{AsksToGenerate, AsksToSelftest, IsTooLong, limit_of};
 ghost use Rattle.plift_top.specs.Selftest.{one_half, tested_line};
 ghost use Rattle.plift_top.specs.Laws.{LaddersHaveTrees};
@@ -29,16 +29,21 @@ ghost use Rattle.line_text.specs.Met.{WasMet};
 ghost use Rattle.cert_check.specs.declared.summary.Summary.{Summary};
 ghost use Rattle.plift_top.specs.Check.{IsFoundSound, IsFoundInPart, IsUnsound};
 ghost use Rattle.plift_top.specs.Migrate.{IsMigrated, IsSoundFirst, IsUnsoundFirst};
+ghost use Rattle.plift_top.specs.Refine.{IsFitting, IsRefinedTo, IsRefinedInPart, IsSoundText, LacksDepth, RefinesRight};
+ghost use Rattle.plift_top.specs.Refine.{deeper_head};
+ghost use Rattle.cert_text.specs.Head.{HeadData};
 ghost use Rattle.plift_top.specs.Answers.{HasNote, WroteNote, Acts, Generates};
 
 use crate::checking::check_report;
 use crate::laws::{lumped_reports_are_sound, right_reports_are_sound};
 use crate::migrate::migrate;
 use crate::notes::end;
+use crate::refine::refine;
 use crate::refusal::Refusal;
 use crate::selftest::selftest;
 use crate::verify::verify;
 use cert_check::{answers_are_one, sound_files_pass};
+use cert_text::texts_tell_one_report;
 use check_notes::Status;
 use lift_base::{Sink, Source, write_buffered};
 use lift_rows::first_fault_is_one;
@@ -75,6 +80,7 @@ fn act<S: Source, K: Sink>(
         Ok(Job::Generate(ladder)) => write_ladder(&ladder, out),
         Ok(Job::Check) => check_report(alloc, source, out),
         Ok(Job::Migrate) => migrate(alloc, source, out),
+        Ok(Job::Refine(job)) => refine(alloc, job, source, out),
         Ok(Job::Selftest(ladder)) => selftest(alloc, &ladder, out),
         Err(cause) => Err(Refusal::from(cause)),
     }
@@ -117,6 +123,19 @@ pub fn run<S: Source, K: Sink, E: Sink>(
         → WasRead (IsMigrated (Appends (K.taken out.old) (K.taken out.new)))
         (S.left source.old) (S.left source.new) }
 
+    // Done of `refine`: the source gave a sound file whose case is one at the depth that is asked for, which is
+    // greater, and out took the report of that case, and nothing else: its tree keeps the decided leaves of the old
+    // one, and has right trees in the place of its unknown leaves. It is a sound file of the same version.
+    ensures refined { result ≡ Status.Done → (depth : ℕ) → AsksToRefine (wanted words.now.items) depth
+        → WasRead (IsRefinedTo (K.taken out.old) (K.taken out.new) depth)
+        (S.left source.old) (S.left source.new) }
+
+    // Where the source gave the report of a right tree, out took that of the right tree at that depth: the bytes
+    // that `verify` writes there.
+    ensures refined_right { result ≡ Status.Done → (depth : ℕ) → AsksToRefine (wanted words.now.items) depth
+        → WasRead (RefinesRight (K.taken out.old) (K.taken out.new) depth)
+        (S.left source.old) (S.left source.new) }
+
     // Done of `generate`: out took the text of the ladder that is asked for, and nothing else.
     ensures generated { result ≡ Status.Done
         → (n : ℕ) → AsksToGenerate (wanted words.now.items) n
@@ -143,12 +162,15 @@ pub fn run<S: Source, K: Sink, E: Sink>(
 
     // `check` answers NotSound only to bytes that are no front of a sound file, whatever may follow
     // those that were taken; nothing may where the end was seen. `migrate` does only to bytes that were
-    // read to their end and are no sound file of the first version. No other command does.
+    // read to their end and are no sound file of the first version, and `refine` to such as are no sound file.
+    // No other command does.
     ensures not_sound { result ≡ Status.NotSound
         → (AsksToCheck (wanted words.now.items)
         × WasMet report_limit IsUnsound (S.left source.old) (S.left source.new))
-        ⊎ (AsksToMigrate (wanted words.now.items)
-        × WasRead IsUnsoundFirst (S.left source.old) (S.left source.new)) }
+        ⊎ ((AsksToMigrate (wanted words.now.items)
+        × WasRead IsUnsoundFirst (S.left source.old) (S.left source.new))
+        ⊎ ((depth : ℕ) × AsksToRefine (wanted words.now.items) depth
+        × WasRead IsUnsound (S.left source.old) (S.left source.new))) }
 
     // `check` answers Done or Memory to a sound file, and NotSound or Memory to any other, where no
     // fault is counted.
@@ -176,6 +198,35 @@ pub fn run<S: Source, K: Sink, E: Sink>(
     ensures migrate_refused { (bytes : List ℕ)
         → AsksToMigrate (wanted words.now.items) → S.left source.old ≡ Some bytes
         → IsUnsoundFirst bytes → length bytes ≤ file_limit
+        → NoFault (S.faults source.old) (S.faults source.new)
+        → NoFault (K.faults out.old) (K.faults out.new)
+        → (result ≡ Status.NotSound) ⊎ (result ≡ Status.Memory) }
+
+    // `refine` answers Done or Memory to a sound file whose depth is below the one that is asked for, and whose
+    // case is one there; Usage or Memory where that depth isn't greater, or calls for too large a grid; RowsRefused or
+    // Memory where a row is too wide for it; and NotSound or Memory to any other text, where no fault is counted.
+    ensures refine_complete { (depth : ℕ) (bytes : List ℕ) (head : HeadData) (tree : Tree)
+        → AsksToRefine (wanted words.now.items) depth → S.left source.old ≡ Some bytes
+        → IsSoundText bytes head tree → IsFitting depth head → length bytes ≤ file_limit
+        → NoFault (S.faults source.old) (S.faults source.new)
+        → NoFault (K.faults out.old) (K.faults out.new)
+        → (result ≡ Status.Done) ⊎ (result ≡ Status.Memory) }
+    ensures refine_too_deep { (depth : ℕ) (bytes : List ℕ) (head : HeadData) (tree : Tree)
+        → AsksToRefine (wanted words.now.items) depth → S.left source.old ≡ Some bytes
+        → IsSoundText bytes head tree → LacksDepth depth head → length bytes ≤ file_limit
+        → NoFault (S.faults source.old) (S.faults source.new)
+        → NoFault (K.faults out.old) (K.faults out.new)
+        → (result ≡ Status.Usage) ⊎ (result ≡ Status.Memory) }
+    ensures refine_unadmitted { (depth : ℕ) (bytes : List ℕ) (head : HeadData) (tree : Tree)
+        → AsksToRefine (wanted words.now.items) depth → S.left source.old ≡ Some bytes
+        → IsSoundText bytes head tree → (LacksDepth depth head → ⊥)
+        → (IsAdmitted (deeper_head depth head).asked → ⊥) → length bytes ≤ file_limit
+        → NoFault (S.faults source.old) (S.faults source.new)
+        → NoFault (K.faults out.old) (K.faults out.new)
+        → (result ≡ Status.RowsRefused) ⊎ (result ≡ Status.Memory) }
+    ensures refine_refused { (depth : ℕ) (bytes : List ℕ)
+        → AsksToRefine (wanted words.now.items) depth → S.left source.old ≡ Some bytes
+        → IsUnsound bytes → length bytes ≤ file_limit
         → NoFault (S.faults source.old) (S.faults source.new)
         → NoFault (K.faults out.old) (K.faults out.new)
         → (result ≡ Status.NotSound) ⊎ (result ≡ Status.Memory) }
@@ -243,6 +294,10 @@ pub fn run<S: Source, K: Sink, E: Sink>(
     ensures migrated_part { result ≡ Status.WriteFault → AsksToMigrate (wanted words.now.items)
         → WasRead (IsMigrated (AppendsFront (K.taken out.old) (K.taken out.new)))
         (S.left source.old) (S.left source.new) }
+    ensures refined_part { result ≡ Status.WriteFault
+        → (depth : ℕ) → AsksToRefine (wanted words.now.items) depth
+        → WasRead (IsRefinedInPart (K.taken out.old) (K.taken out.new) depth)
+        (S.left source.old) (S.left source.new) }
     ensures ladder_part { result ≡ Status.WriteFault
         → (n : ℕ) → AsksToGenerate (wanted words.now.items) n
         → AppendsFront (K.taken out.old) (K.taken out.new) (ladder_text n) }
@@ -268,6 +323,7 @@ pub fn run<S: Source, K: Sink, E: Sink>(
     first_fault_is_one();
     sound_files_pass();
     answers_are_one();
+    texts_tell_one_report();
     right_reports_are_sound();
     lumped_reports_are_sound();
     right_trees_are_one();

@@ -12,18 +12,18 @@ ghost use Rattle.plift_top.specs.RightReport.{IsRange, IsRightReport, least, nod
 use crate::question::Question;
 use cert_text::{write_accept, write_at, write_head, write_reject, write_split, write_unknown};
 use corner_lift::Case;
-use lift_base::{Sink, Telling, WriteFault, tell_buffered, writes_in_turn};
+use lift_base::{Sink, Telling, WriteFault, tell_buffered, write_all, writes_in_turn};
 use lift_cert::Bound;
 use lift_model::Links;
-use region_tree::{Room, Seen, Visitor, walk};
+use region_tree::{Copier, Room, Seen, Visitor, walk};
 
 /// Writes the lines of each node of a case's tree.
 #[derive(Drop)]
-struct Reporter<'r, 'c, 'm, K: Sink> {
-    out: &'r mut K,
-    case: &'c Case<'m>,
+pub(crate) struct Reporter<'r, 'c, 'm, K: Sink> {
+    pub out: &'r mut K,
+    pub case: &'c Case<'m>,
     /// The least precision of the range, where the report tells one.
-    from: Option<u32>,
+    pub from: Option<u32>,
 }
 
 // Writes the precision of a decided leaf, where the report tells a range.
@@ -85,6 +85,12 @@ impl<'r, 'c, 'm, K: Sink> Visitor for Reporter<'r, 'c, 'm, K> {
 
     fn unknown(&mut self) -> Seen {
         seen(write_unknown(self.out))
+    }
+}
+
+impl<'r, 'c, 'm, K: Sink> Copier for Reporter<'r, 'c, 'm, K> {
+    fn copy(&mut self, bytes: &[u8]) -> Seen {
+        seen(write_all(self.out, bytes))
     }
 }
 

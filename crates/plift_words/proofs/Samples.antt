@@ -3,7 +3,7 @@ use Rattle.std.proofs.Common.{◌≡◌, [], ◌∷◌, codes, Ok, Err, Some, No
 use Rattle.lift_frac.specs.Gcd.{gcd}
 use Rattle.plift_words.specs.Line.{options}
 use Rattle.plift_words.specs.Job.{VerifyData, job}
-use Rattle.plift_words.specs.Job.JobData.{verify, check, migrate, generate, selftest}
+use Rattle.plift_words.specs.Job.JobData.{verify, check, migrate, refine, generate, selftest}
 use Rattle.plift_words.specs.declared.job.Field.TheVariants as field
 use Rattle.plift_words.specs.declared.way.Way.TheVariants as way
 
@@ -136,6 +136,31 @@ migrates = refl
 
 migrates_nothing_more : job (codes "migrate" ∷ codes "x" ∷ []) ≡ Err field.Words
 migrates_nothing_more = refl
+
+refines : job (codes "refine" ∷ codes "--depth=7" ∷ []) ≡ Ok (refine 7)
+refines = refl
+
+refines_by_two_words : job (codes "refine" ∷ codes "--depth" ∷ codes "020" ∷ []) ≡ Ok (refine 20)
+refines_by_two_words = refl
+
+-- no depth, a depth of 0, one that is too great, two, another option, and a word behind it
+refines_nothing : job (codes "refine" ∷ []) ≡ Err field.Words
+refines_nothing = refl
+
+refines_to_0 : job (codes "refine" ∷ codes "--depth=0" ∷ []) ≡ Err field.Depth
+refines_to_0 = refl
+
+refines_too_deep : job (codes "refine" ∷ codes "--depth=21" ∷ []) ≡ Err field.Depth
+refines_too_deep = refl
+
+refines_twice : job (codes "refine" ∷ codes "--depth=7" ∷ codes "--depth=7" ∷ []) ≡ Err field.Words
+refines_twice = refl
+
+refines_by_another : job (codes "refine" ∷ codes "--precision=7" ∷ []) ≡ Err field.Words
+refines_by_another = refl
+
+refines_nothing_more : job (codes "refine" ∷ codes "--depth" ∷ codes "7" ∷ codes "x" ∷ []) ≡ Err field.Words
+refines_nothing_more = refl
 
 generates : job (codes "generate" ∷ codes "00005" ∷ []) ≡ Ok (generate 5)
 generates = refl

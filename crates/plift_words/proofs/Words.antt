@@ -9,9 +9,9 @@ use Rattle.lift_grid.specs.Rectangle.{most_halvings}
 use Rattle.lift_grid.specs.Region.{◌>>=◌}
 use Rattle.corner_lift.specs.Case.{most_precision}
 use Rattle.lift_cert.specs.declared.bound.Bound.{Bound}
-use Rattle.plift_words.specs.Line.{is_lumped, is_asking, is_check, is_migrate, word_behind, is_plain, options, value_of}
+use Rattle.plift_words.specs.Line.{is_lumped, is_asking, is_check, is_migrate, depth_behind, word_behind, is_plain, options, value_of}
 use Rattle.plift_words.specs.Values.{goal_of, bound_of, option_number, steps_of, blocks_of}
-use Rattle.plift_words.specs.Job.{JobData, way_in, verify_job, blocks_job, other_job, job}
+use Rattle.plift_words.specs.Job.{JobData, way_in, verify_job, blocks_job, refine_job, other_job, job}
 use Rattle.plift_words.specs.Given.{IsOfVerify}
 use Rattle.plift_words.specs.Parser.{HasValues}
 use Rattle.plift_words.specs.declared.job.Field.{Field}
@@ -76,10 +76,13 @@ found_job (command ∷ words) found lumps is e h = rw (is, e, h.goal, h.bound, h
 -- ---- lines of the other commands
 
 -- the job of a line, by its tests
-abbrev job_of : Result JobData Field → Bool → Bool → Bool → Option (List ℕ) → Option (List ℕ) → Result JobData Field
-job_of verified verifies checks migrates generates tests = if verifies then verified else if checks then Ok JobData.check else if migrates then Ok JobData.migrate else (elim generates [
-  | Some word ↦ blocks_job JobData.generate word
-  | None ↦ elim tests [ Some word ↦ blocks_job JobData.selftest word | None ↦ Err field.Words ]
+abbrev job_of : Result JobData Field → Bool → Bool → Bool → Option (List ℕ) → Option (List ℕ) → Option (List ℕ) → Result JobData Field
+job_of verified verifies checks migrates refines generates tests = if verifies then verified else if checks then Ok JobData.check else if migrates then Ok JobData.migrate else (elim refines [
+  | Some word ↦ refine_job word
+  | None ↦ elim generates [
+    | Some word ↦ blocks_job JobData.generate word
+    | None ↦ elim tests [ Some word ↦ blocks_job JobData.selftest word | None ↦ Err field.Words ]
+  ]
 ])
 
 -- a number of blocks is never at fault as a whole line
@@ -87,28 +90,36 @@ blocks_never : (make : ℕ → JobData) (blocks : Option ℕ) → (ok_or blocks 
 blocks_never make None e = absurd (cc)
 blocks_never make (Some n) e = absurd (cc)
 
-others_by : (verified : Result JobData Field) (verifies checks migrates : Bool) (generates tests : Option (List ℕ))
-    → (verifies || checks || migrates || is_some generates || is_some tests) ≡ false → job_of verified verifies checks migrates generates tests ≡ Err field.Words
-others_by v true c m g t e = absurd (cc)
-others_by v false true m g t e = absurd (cc)
-others_by v false false true g t e = absurd (cc)
-others_by v false false false (Some w) t e = absurd (cc)
-others_by v false false false None (Some w) e = absurd (cc)
-others_by v false false false None None e = refl
+-- nor is a depth
+depth_never : (depth : Option ℕ) → (ok_or depth field.Depth >>= λ n. Ok (JobData.refine n)) ≡ Err field.Words → ⊥
+depth_never None e = absurd (cc)
+depth_never (Some n) e = absurd (cc)
 
-plain_by : (verified : Result JobData Field) (verifies checks migrates : Bool) (generates tests : Option (List ℕ))
-    → (verified ≡ Err field.Words → ⊥) → job_of verified verifies checks migrates generates tests ≡ Err field.Words → (verifies || checks || migrates || is_some generates || is_some tests) ≡ false
-plain_by v true c m g t never e = absurd (never e)
-plain_by v false true m g t never e = absurd (cc)
-plain_by v false false true g t never e = absurd (cc)
-plain_by v false false false (Some w) t never e = absurd (blocks_never JobData.generate (blocks_of w) e)
-plain_by v false false false None (Some w) never e = absurd (blocks_never JobData.selftest (blocks_of w) e)
-plain_by v false false false None None never e = refl
+others_by : (verified : Result JobData Field) (verifies checks migrates : Bool) (refines generates tests : Option (List ℕ))
+    → (verifies || checks || migrates || is_some refines || is_some generates || is_some tests) ≡ false → job_of verified verifies checks migrates refines generates tests ≡ Err field.Words
+others_by v true c m r g t e = absurd (cc)
+others_by v false true m r g t e = absurd (cc)
+others_by v false false true r g t e = absurd (cc)
+others_by v false false false (Some w) g t e = absurd (cc)
+others_by v false false false None (Some w) t e = absurd (cc)
+others_by v false false false None None (Some w) e = absurd (cc)
+others_by v false false false None None None e = refl
+
+plain_by : (verified : Result JobData Field) (verifies checks migrates : Bool) (refines generates tests : Option (List ℕ))
+    → (verified ≡ Err field.Words → ⊥) → job_of verified verifies checks migrates refines generates tests ≡ Err field.Words → (verifies || checks || migrates || is_some refines || is_some generates || is_some tests) ≡ false
+plain_by v true c m r g t never e = absurd (never e)
+plain_by v false true m r g t never e = absurd (cc)
+plain_by v false false true r g t never e = absurd (cc)
+plain_by v false false false (Some w) g t never e = absurd (depth_never (option_number 1 most_halvings w) e)
+plain_by v false false false None (Some w) t never e = absurd (blocks_never JobData.generate (blocks_of w) e)
+plain_by v false false false None None (Some w) never e = absurd (blocks_never JobData.selftest (blocks_of w) e)
+plain_by v false false false None None None never e = refl
 
 pub others_at_fault : (words : List (List ℕ)) → is_plain words ≡ false → job words ≡ Err field.Words
-others_at_fault words e = others_by (verified words) (is_asking words) (is_check words) (is_migrate words) (word_behind (codes "generate") words) (word_behind (codes "selftest") words) e
+others_at_fault words e =
+    others_by (verified words) (is_asking words) (is_check words) (is_migrate words) (depth_behind (codes "refine") words) (word_behind (codes "generate") words) (word_behind (codes "selftest") words) e
 
 pub plain_never : (words : List (List ℕ)) → job words ≡ Err field.Words → is_plain words ≡ false
 plain_never words e =
-    plain_by (verified words) (is_asking words) (is_check words) (is_migrate words) (word_behind (codes "generate") words) (word_behind (codes "selftest") words)
+    plain_by (verified words) (is_asking words) (is_check words) (is_migrate words) (depth_behind (codes "refine") words) (word_behind (codes "generate") words) (word_behind (codes "selftest") words)
     (λ is. subst IsOfVerify is (of_verified words)) e

@@ -29,6 +29,7 @@ abbrev pub job_data : Job → JobData
 job_data (code.Verify j) = JobData.verify (verify_data j)
 job_data code.Check = JobData.check
 job_data code.Migrate = JobData.migrate
+job_data (code.Refine j) = JobData.refine j.depth
 job_data (code.Generate ladder) = JobData.generate ladder.blocks
 job_data (code.Selftest ladder) = JobData.selftest ladder.blocks
 

@@ -5,7 +5,7 @@ use Rattle.lift_grid.specs.Rectangle.{most_halvings}
 use Rattle.lift_grid.specs.Region.{◌>>=◌}
 use Rattle.corner_lift.specs.Case.{most_precision}
 use Rattle.lift_cert.specs.declared.bound.Bound.{Bound}
-use Rattle.plift_words.specs.Line.{is_lumped, is_asking, is_check, is_migrate, word_behind, options, value_of}
+use Rattle.plift_words.specs.Line.{is_lumped, is_asking, is_check, is_migrate, depth_behind, word_behind, options, value_of}
 use Rattle.plift_words.specs.Values.{goal_of, bound_of, option_number, steps_of, blocks_of}
 use Rattle.plift_words.specs.declared.job.Field.{Field}
 use Rattle.plift_words.specs.declared.job.Field.TheVariants as field
@@ -29,6 +29,8 @@ pub data JobData : Type 0 where
   check : JobData
   -- the text of a report is to be written as one with a range of precisions
   migrate : JobData
+  -- a report is to be gone on from to that depth
+  refine : ℕ → JobData
   -- the ladder of so many blocks is to be written
   generate : ℕ → JobData
   -- the ladder of so many blocks is to be verified, and its report checked
@@ -58,11 +60,18 @@ verify_job lumps given = do
 abbrev pub blocks_job : (ℕ → JobData) → List ℕ → Result JobData Field
 blocks_job make word = ok_or (blocks_of word) field.Blocks >>= λ blocks. Ok (make blocks)
 
+-- the job of a depth, or that it is at fault
+abbrev pub refine_job : List ℕ → Result JobData Field
+refine_job word = ok_or (option_number 1 most_halvings word) field.Depth >>= λ depth. Ok (JobData.refine depth)
+
 -- the job of a line of another command
 abbrev pub other_job : List (List ℕ) → Result JobData Field
-other_job words = if is_check words then Ok JobData.check else if is_migrate words then Ok JobData.migrate else (elim (word_behind (codes "generate") words) [
-  | Some word ↦ blocks_job JobData.generate word
-  | None ↦ elim (word_behind (codes "selftest") words) [ Some word ↦ blocks_job JobData.selftest word | None ↦ Err field.Words ]
+other_job words = if is_check words then Ok JobData.check else if is_migrate words then Ok JobData.migrate else (elim (depth_behind (codes "refine") words) [
+  | Some word ↦ refine_job word
+  | None ↦ elim (word_behind (codes "generate") words) [
+    | Some word ↦ blocks_job JobData.generate word
+    | None ↦ elim (word_behind (codes "selftest") words) [ Some word ↦ blocks_job JobData.selftest word | None ↦ Err field.Words ]
+  ]
 ])
 
 -- the job that a line asks for, or the part of the line at fault: the whole of it exactly where it isn't plain

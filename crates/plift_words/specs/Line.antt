@@ -99,6 +99,20 @@ abbrev pub word_behind : List ℕ → List (List ℕ) → Option (List ℕ)
 word_behind name (command ∷ word ∷ []) = if bytes_eq command name && is_value (Some word) then Some word else None
 word_behind name _ = None
 
--- a plain line: one of the seven commands, and what stands behind it
+-- the option that stands there alone
+abbrev pub only : List Setting → Option Setting
+only (s ∷ []) = Some s
+only _ = None
+
+-- the value of an option, where that is `--depth` and its value doesn't begin with `-`
+abbrev pub depth_in : Setting → Option (List ℕ)
+depth_in s = if bytes_eq s.name (codes "--depth") && is_value s.value then s.value else None
+
+-- the value of the one option behind this command, where that is `--depth`
+abbrev pub depth_behind : List ℕ → List (List ℕ) → Option (List ℕ)
+depth_behind name [] = None
+depth_behind name (command ∷ words) = if bytes_eq command name then option_and_then depth_in (only (options words)) else None
+
+-- a plain line: one of the eight commands, and what stands behind it
 abbrev pub is_plain : List (List ℕ) → Bool
-is_plain words = is_asking words || is_check words || is_migrate words || is_some (word_behind (codes "generate") words) || is_some (word_behind (codes "selftest") words)
+is_plain words = is_asking words || is_check words || is_migrate words || is_some (depth_behind (codes "refine") words) || is_some (word_behind (codes "generate") words) || is_some (word_behind (codes "selftest") words)

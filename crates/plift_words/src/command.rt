@@ -5,13 +5,13 @@ ghost use Rattle.std.specs.Option.{option_map, unwrap_or};
 ghost use Rattle.clap.specs.Words.{found_of, first_value};
 ghost use Rattle.plift_words.specs.Line.{is_lumped, is_asking};
 ghost use Rattle.plift_words.specs.Values.{goal_of, bound_of, option_number, most_steps, blocks_of};
-ghost use Rattle.plift_words.specs.Job.{from_in, way_in, verify_job, other_job};
+ghost use Rattle.plift_words.specs.Job.{from_in, way_in, verify_job, refine_job, other_job};
 ghost use Rattle.plift_words.specs.Way.{steps_told, from_told};
 ghost use Rattle.plift_words.specs.Given.{answer_data, asked, Asks};
 
 use crate::error::WordsError;
-use crate::job::{Field, Job, VerifyJob};
-use crate::line::{is_asking, is_check, is_lumped, is_migrate, word_behind};
+use crate::job::{Field, Job, RefineJob, VerifyJob};
+use crate::line::{depth_behind, is_asking, is_check, is_lumped, is_migrate, word_behind};
 use crate::parser::parse;
 use crate::values::{bound_of, goal_of, ladder_of, option_number, steps_of};
 use crate::way::Way;
@@ -125,6 +125,14 @@ fn verify_job(alloc: Global, words: &[String]) -> Result<Job<'_>, WordsError>
     }
 }
 
+// The depth to which a report is refined.
+fn refine_job(word: &str) -> Result<Job<'static>, Field>
+    ensures { answer_data result ≡ refine_job word.now }
+{
+    let depth = option_number(word, 1, MOST_HALVINGS).ok_or(Field::Depth)?;
+    Ok(Job::Refine(RefineJob { depth }))
+}
+
 // What a line of another command asks for.
 fn other_job(words: &[String]) -> Result<Job<'static>, Field>
     ensures { answer_data result ≡ other_job (map string_bytes words.now) }
@@ -134,6 +142,9 @@ fn other_job(words: &[String]) -> Result<Job<'static>, Field>
     }
     if is_migrate(words) {
         return Ok(Job::Migrate);
+    }
+    if let Some(word) = depth_behind("refine", words) {
+        return refine_job(word);
     }
     if let Some(word) = word_behind("generate", words) {
         return Ok(Job::Generate(ladder_of(word).ok_or(Field::Blocks)?));

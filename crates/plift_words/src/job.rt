@@ -45,6 +45,14 @@ pub struct VerifyJob<'a> {
     ghost from_in_range: { ForSome (from_told way) (λ from. (1 ≤ from) × (from ≤ precision)) },
 }
 
+/// To which depth a report is refined.
+#[derive(Clone, Copy)]
+pub struct RefineJob {
+    /// From 1 to 20.
+    pub depth: u32,
+    ghost in_range: { (1 ≤ depth) × (depth ≤ most_halvings) },
+}
+
 /// What the words ask for: a command, with what it is asked.
 #[derive(Clone, Copy)]
 pub enum Job<'a> {
@@ -54,6 +62,8 @@ pub enum Job<'a> {
     Check,
     /// Writes a report with a range of precisions.
     Migrate,
+    /// Goes on from a report to a greater depth.
+    Refine(RefineJob),
     /// Writes a ladder.
     Generate(Ladder),
     /// Verifies a ladder and checks the report.

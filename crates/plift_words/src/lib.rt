@@ -13,6 +13,6 @@ mod way;
 
 pub use command::job_of;
 pub use error::WordsError;
-pub use job::{Field, Job, VerifyJob};
+pub use job::{Field, Job, RefineJob, VerifyJob};
 pub use laws::plain_lines_ask;
 pub use way::Way;

@@ -8,6 +8,7 @@ ghost use Rattle.plift_words.specs.Line.{attached, options, stands};
 ghost use Rattle.plift_words.specs.Line.{is_option, is_value, are_options, are_asked};
 ghost use Rattle.plift_words.specs.Line.{is_command, has, is_verify, is_bounded, is_lumped, is_asking};
 ghost use Rattle.plift_words.specs.Line.{is_alone, is_check, is_migrate, word_behind};
+ghost use Rattle.plift_words.specs.Line.{only, depth_in, depth_behind};
 ghost use Rattle.plift_words.specs.Given.{setting_of};
 
 use lift_frac::cut_at;
@@ -212,6 +213,43 @@ pub fn word_behind<'a>(name: &str, words: &'a [String]) -> Option<&'a str>
     };
     if command.as_str() == name && is_value(Some(word.as_str())) {
         Some(word.as_str())
+    } else {
+        None
+    }
+}
+
+// The option that stands there alone.
+fn only_option(words: &[String]) -> Option<Setting<'_>>
+    ensures { option_map setting_of result ≡ only (options (map string_bytes words.entry.now)) }
+{
+    let (setting, more) = first_option(words)?;
+    match first_option(more) {
+        None => Some(setting),
+        Some(_) => None,
+    }
+}
+
+// The value of an option, where that is `--depth`.
+fn depth_in(setting: Setting<'_>) -> Option<&str>
+    ensures { option_map (λ word. word.now) result ≡ depth_in (setting_of setting.entry) }
+{
+    if setting.name == "--depth" && is_value(setting.value) {
+        setting.value
+    } else {
+        None
+    }
+}
+
+/// The value of the one option behind this command, where that is `--depth` and its value doesn't begin with `-`.
+pub fn depth_behind<'a>(name: &str, words: &'a [String]) -> Option<&'a str>
+    ensures { option_map (λ word. word.now) result
+        ≡ depth_behind name.now (map string_bytes words.entry.now) }
+{
+    let [command, options @ ..] = words else {
+        return None;
+    };
+    if command.as_str() == name {
+        depth_in(only_option(options)?)
     } else {
         None
     }

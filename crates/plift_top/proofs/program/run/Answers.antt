@@ -124,3 +124,28 @@ returns-clause-no_other_tree g c = c.right_trees_are_one.ensures
 
 pub returns-clause-ladder_tree : goal.returns-clause-ladder_tree
 returns-clause-ladder_tree g c n some few = c.right_trees_exist.ensures (ladder_case n) ladder_precision one_half (c.ladders_are_cases.ensures.case n some few) (omega arith)
+
+pub returns-clause-refined : goal.returns-clause-refined
+returns-clause-refined g c e = acts.refined g.S.Source.left g.S.Source.faults g.K.Sink.taken g.K.Sink.faults _ _ _ _ _ _ (rw c.deref.ensures.value at c.act-answer.ensures.answer) (sym c.end.ensures.status ∙ e)
+
+pub returns-clause-refined_right : goal.returns-clause-refined_right
+returns-clause-refined_right g c e = acts.refined_right g.S.Source.left g.S.Source.faults g.K.Sink.taken g.K.Sink.faults _ _ _ _ c.texts_tell_one_report.ensures _ _ (rw c.deref.ensures.value at c.act-answer.ensures.answer) (sym c.end.ensures.status ∙ e)
+
+pub returns-clause-refined_part : goal.returns-clause-refined_part
+returns-clause-refined_part g c e = acts.refined_part g.S.Source.left g.S.Source.faults g.K.Sink.taken g.K.Sink.faults _ _ _ _ _ _ (rw c.deref.ensures.value at c.act-answer.ensures.answer) (sym c.end.ensures.status ∙ e)
+
+pub returns-clause-refine_complete : goal.returns-clause-refine_complete
+returns-clause-refine_complete g c depth bytes h t is told old fit len sure1 sure2 =
+    rw c.end.ensures.status (acts.refine_complete g.S.Source.left g.S.Source.faults g.K.Sink.taken g.K.Sink.faults _ _ _ _ depth bytes told len sure1 sure2 c.sound_files_pass.ensures.pass c.answers_are_one.ensures c.texts_tell_one_report.ensures h t old c.first_fault_is_one.ensures.none _ _ (rw c.deref.ensures.value at c.act-answer.ensures.answer) is fit)
+
+pub returns-clause-refine_too_deep : goal.returns-clause-refine_too_deep
+returns-clause-refine_too_deep g c depth bytes h t is told old lacks len sure1 sure2 =
+    rw c.end.ensures.status (acts.refine_too_deep g.S.Source.left g.S.Source.faults g.K.Sink.taken g.K.Sink.faults _ _ _ _ depth bytes told len sure1 sure2 c.sound_files_pass.ensures.pass c.answers_are_one.ensures c.texts_tell_one_report.ensures h t old _ _ (rw c.deref.ensures.value at c.act-answer.ensures.answer) is lacks)
+
+pub returns-clause-refine_unadmitted : goal.returns-clause-refine_unadmitted
+returns-clause-refine_unadmitted g c depth bytes h t is told old fits bad len sure1 sure2 =
+    rw c.end.ensures.status (acts.refine_unadmitted g.S.Source.left g.S.Source.faults g.K.Sink.taken g.K.Sink.faults _ _ _ _ depth bytes told len sure1 sure2 c.sound_files_pass.ensures.pass c.answers_are_one.ensures c.texts_tell_one_report.ensures h t old _ _ (rw c.deref.ensures.value at c.act-answer.ensures.answer) is fits bad)
+
+pub returns-clause-refine_refused : goal.returns-clause-refine_refused
+returns-clause-refine_refused g c depth bytes is told bad len sure1 sure2 =
+    rw c.end.ensures.status (acts.refine_unsound g.S.Source.left g.S.Source.faults g.K.Sink.taken g.K.Sink.faults _ _ _ _ depth bytes told len sure1 sure2 _ _ (rw c.deref.ensures.value at c.act-answer.ensures.answer) is bad)
