@@ -2,13 +2,16 @@
 
 from __future__ import annotations
 
+import contextlib
 import os
 import resource
 import shutil
+import signal
 import subprocess
 import tempfile
+import threading
 from pathlib import Path
-from typing import Callable, List, Optional
+from typing import Callable, Iterator, List, Optional
 
 from .faults import LOST, Fault, Refused
 
@@ -54,18 +57,14 @@ class Program:
         """Writes the report of a model to a file, and returns how many seconds of the processor that took. While it runs,
         `watch` is called with that file now and then."""
         before = _spent()
-        with open(model, 'rb') as source, open(report, 'wb') as sink:
-            process = self._start(words, source, sink)
-            try:
-                while watch is not None:
-                    try:
-                        process.wait(0.2)
-                        break
-                    except subprocess.TimeoutExpired:
-                        watch(report)
-                note = process.communicate()[1]
-            finally:
-                _end(process)
+        with open(model, 'rb') as source, open(report, 'wb') as sink, self._running(words, source, sink) as process:
+            while watch is not None:
+                try:
+                    process.wait(0.2)
+                    break
+                except subprocess.TimeoutExpired:
+                    watch(report)
+            note = process.communicate()[1]
         if process.returncode:
             raise Refused(process.returncode, _line(note), words, model.read_bytes())
         return _spent() - before
@@ -75,20 +74,49 @@ class Program:
         with tempfile.TemporaryFile() as source:  # a pipe is fed half a kilobyte at a time
             source.write(report)
             source.seek(0)
-            process = self._start(['check'], source, subprocess.PIPE)
-            try:
+            with self._running(['check'], source, subprocess.PIPE) as process:
                 line, note = process.communicate()
-            finally:
-                _end(process)
         if process.returncode:
             raise Refused(process.returncode, _line(note), ['check'], report)
         return _line(line)
+
+    @contextlib.contextmanager
+    def _running(self, words: List[str], source, sink) -> Iterator[subprocess.Popen]:
+        """The program at work, which is ended behind it, whatever happened."""
+        process = None
+        try:
+            with _signals_held():
+                process = self._start(words, source, sink)
+            yield process
+        finally:
+            if process is not None:
+                _end(process)
 
     def _start(self, words: List[str], source, sink) -> subprocess.Popen:
         try:
             return subprocess.Popen([str(self.path)] + words, stdin=source, stdout=sink, stderr=subprocess.PIPE)
         except (OSError, ValueError) as fault:
             raise Fault('%s can\'t be started: %s' % (self.path, fault), LOST) from None
+
+
+@contextlib.contextmanager
+def _signals_held() -> Iterator[None]:
+    """Holds back what would end this call, until a program that is started has a name by which it can be ended."""
+    if threading.current_thread() is not threading.main_thread():
+        yield  # only the main thread is told of signals
+        return
+    came: List[int] = []
+    handlers = {each: signal.getsignal(each) for each in (signal.SIGHUP, signal.SIGINT, signal.SIGTERM)}
+    held = {each: handler for each, handler in handlers.items() if handler not in (None, signal.SIG_IGN)}
+    for each in held:
+        signal.signal(each, lambda number, _: came.append(number))
+    try:
+        yield
+    finally:
+        for each, handler in held.items():
+            signal.signal(each, handler)
+        for number in came:
+            signal.raise_signal(number)
 
 
 def _end(process: subprocess.Popen) -> None:
