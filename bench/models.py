@@ -6,8 +6,11 @@
     models.py walk LENGTH           a walk to and fro, forth with p; the goal is at one end
     models.py dice COUNT            dice that are thrown with a coin of p, one after another; the goal is that all show one
     models.py mixed STATES          rows over four parameters, to three states above, one below and a sink
+    models.py deep LAYERS WIDTH     layers of states with four choices each, on to the next layer or some layers back
+    models.py component STATES      a chain in which nearly all states reach each other, from anywhere to anywhere
 """
 
+import random
 import sys
 
 
@@ -24,6 +27,14 @@ def text(kind, parameters, states):
                 lines.append("action %d" % choice)
             lines += ["%d : %s" % entry for entry in row]
     return "\n".join(lines) + "\n"
+
+
+def row_of(ends):
+    """A row of (target, value), in order; values with the same target are added."""
+    sums = {}
+    for end, value in ends:
+        sums[end] = sums[end] + "+" + value if end in sums else value
+    return sorted(sums.items())
 
 
 def relay(hops, tries):
@@ -98,16 +109,48 @@ def mixed(count):
         back = "(1-p)*(1-r*s)"
         ends = list(zip(after, ["p*q", "p*(1-q)", "(1-p)*r*s"]))
         ends += [(max(here - 4, 0), "%s*%d/%d" % (back, share - 1, share)), (sink, "%s/%d" % (back, share))]
-        sums = {}
-        for end, value in ends:
-            sums[end] = sums[end] + "+" + value if end in sums else value
-        states.append((["init"] if here == 0 else [], [sorted(sums.items())]))
+        states.append((["init"] if here == 0 else [], [row_of(ends)]))
     states.append((["done"], [[(goal, "1")]]))
     states.append(([], [[(sink, "1")]]))
     return text("DTMC", ["p", "q", "r", "s"], states)
 
 
-FAMILIES = {family.__name__: family for family in (relay, robot, walk, dice, mixed)}
+def deep(layers, width):
+    """Each choice leads to a state of the next layer with p or q, and else up to five layers back, a few to the loss."""
+    draw = random.Random(1).randrange
+    goal, lost = layers * width, layers * width + 1
+    states = []
+    for here in range(layers * width):
+        layer = here // width
+        choices = []
+        for choice in range(4):
+            on = goal if layer + 1 == layers else (layer + 1) * width + draw(width)
+            fails = choice == 0 and here % 50 == 0
+            back = lost if fails else max(0, layer - 1 - draw(5)) * width + draw(width)
+            coin = "pq"[draw(2)]
+            choices.append(row_of([(on, coin), (back, "1-" + coin)]))
+        states.append((["init"] if here == 0 else [], choices))
+    states.append((["done"], [[(goal, "1")]]))
+    states.append(([], [[(lost, "1")]]))
+    return text("MDP", ["p", "q"], states)
+
+
+def component(count):
+    """Each state leads to three others by chance, and with 3/100 of 1-p to an end, which is the goal for a third of them."""
+    draw = random.Random(1).randrange
+    goal, lost = count, count + 1
+    states = []
+    for here in range(count):
+        others = [draw(count) for _ in range(3)]
+        end = (goal, lost, lost)[draw(3)]
+        values = ("p*q", "p*(1-q)", "(1-p)*97/100", "(1-p)*3/100")
+        states.append((["init"] if here == 0 else [], [row_of(zip([*others, end], values))]))
+    states.append((["done"], [[(goal, "1")]]))
+    states.append(([], [[(lost, "1")]]))
+    return text("DTMC", ["p", "q"], states)
+
+
+FAMILIES = {family.__name__: family for family in (relay, robot, walk, dice, mixed, deep, component)}
 
 if __name__ == "__main__":
     if len(sys.argv) < 3 or sys.argv[1] not in FAMILIES:
