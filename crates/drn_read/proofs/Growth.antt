@@ -351,15 +351,15 @@ more_of label _ l f (ending front p) h =
 
 -- ---- lines
 
-abbrev plain : List TextLine → List TextLine
+abbrev pub plain : List TextLine → List TextLine
 plain lines = filter (λ line. not (is_comment line)) lines
 
-plain_more : (before : List TextLine) (l : TextLine) → is_comment l ≡ false → plain (before ++ l ∷ []) ≡ plain before ++ l ∷ []
+pub plain_more : (before : List TextLine) (l : TextLine) → is_comment l ≡ false → plain (before ++ l ∷ []) ≡ plain before ++ l ∷ []
 plain_more before l e =
     let one : plain (l ∷ []) ≡ l ∷ [] = rw e refl in
     filter-append (λ line. not (is_comment line)) before (l ∷ []) ∙ ap (λ (ls : List TextLine). plain before ++ ls) one
 
-plain_same : (before : List TextLine) (l : TextLine) → is_comment l ≡ true → plain (before ++ l ∷ []) ≡ plain before
+pub plain_same : (before : List TextLine) (l : TextLine) → is_comment l ≡ true → plain (before ++ l ∷ []) ≡ plain before
 plain_same before l e =
     let none : plain (l ∷ []) ≡ [] = rw e refl in
     filter-append (λ line. not (is_comment line)) before (l ∷ []) ∙ ap (λ (ls : List TextLine). plain before ++ ls) none ∙ append-nil (plain before)

@@ -21,7 +21,7 @@ use Rattle.drn_read.proofs.Cuts.{last-append}
 pub flat_map-push : {A B : Type 0} (f : A → List B) (xs : List A) (x : A) → flat_map f (xs ++ x ∷ []) ≡ flat_map f xs ++ f x
 flat_map-push {A} {B} f xs x = flat_map-append f xs (x ∷ []) ∙ ap (λ (ys : List B). flat_map f xs ++ ys) (append-nil (f x))
 
-gather-push : {A : Type 0} (give : List (Part TextLine) → Part TextLine → List A) (before ps : List (Part TextLine)) (p : Part TextLine)
+pub gather-push : {A : Type 0} (give : List (Part TextLine) → Part TextLine → List A) (before ps : List (Part TextLine)) (p : Part TextLine)
     → gather give before (ps ++ p ∷ []) ≡ gather give before ps ++ give (before ++ ps) p
 gather-push {A} give before [] p = append-nil (give before p) ∙ ap (λ (qs : List (Part TextLine)). give qs p) (sym (append-nil before))
 gather-push {A} give before (q ∷ ps) p =
@@ -58,7 +58,7 @@ pub same_header : (h k : Header) → h.phase ≡ k.phase → h.seen ≡ k.seen �
     → h.state_count ≡ k.state_count → h.choice_count ≡ k.choice_count → h ≡ k
 same_header h k a b c d e f g = same_fields h.phase k.phase h.seen k.seen h.kind k.kind h.names k.names h.placeholders k.placeholders h.state_count k.state_count h.choice_count k.choice_count a b c d e f g
 
-phase-ends : (front : List (Part TextLine)) (p : Part TextLine) → phase_behind (front ++ p ∷ []) ≡ phase_of p
+pub phase-ends : (front : List (Part TextLine)) (p : Part TextLine) → phase_behind (front ++ p ∷ []) ≡ phase_of p
 phase-ends front p = rw (phase_behind, last-append front p) refl
 
 unfoldable pub count_of : Option TextLine → Option ℕ

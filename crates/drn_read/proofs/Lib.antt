@@ -1,11 +1,18 @@
 pub mod Bodies
 pub mod Building
 pub mod Choices
+pub mod CostEnds
+pub mod CostGrowth
+pub mod CostLines
+pub mod CostLoop
+pub mod CostRunning
+pub mod CostSame
 pub mod Counts
 pub mod Cuts
 pub mod Declared
 pub mod Ends
 pub mod Entries
+pub mod FirstWords
 pub mod Growth
 pub mod Headers
 pub mod Kept
@@ -14,12 +21,18 @@ pub mod Lists
 pub mod Loop
 pub mod ModelTests
 pub mod Naming
+pub mod NoGroups
 pub mod Numbers
 pub mod Pairing
 pub mod Phases
 pub mod Pieces
 pub mod PlaceholderLines
+pub mod Places
 pub mod Ranges
+pub mod RewardNames
+pub mod RewardSigns
+pub mod RewardTexts
+pub mod RewardValues
 pub mod Running
 mod Samples
 pub mod Sets

@@ -34,10 +34,10 @@ at_start label text place kept e n s = record {
   number = n;
 }
 
-is_source : (text : List ℕ) (old new : Place) (line : Line) (cursor : Cursor) (l : IsNextLine text old new line) → rest cursor ≡ slice_range text line.from line.to → cursor.line ≡ line → IsSource cursor l.source
+pub is_source : (text : List ℕ) (old new : Place) (line : Line) (cursor : Cursor) (l : IsNextLine text old new line) → rest cursor ≡ slice_range text line.from line.to → cursor.line ≡ line → IsSource cursor l.source
 is_source text old new line cursor l e f = record { says = e ∙ l.content; number = ap (λ (k : Line). k.number) (f ∙ l.span) }
 
-place_by : (text : List ℕ) (old : Place) (ls rest : List TextLine) (source : TextLine) → ls ≡ source ∷ rest → own_fault source ≡ None → place_after text old ls ≡ place_behind text source
+pub place_by : (text : List ℕ) (old : Place) (ls rest : List TextLine) (source : TextLine) → ls ≡ source ∷ rest → own_fault source ≡ None → place_after text old ls ≡ place_behind text source
 place_by text old ls rest source e f = rw e (rw (place_after, f) refl)
 
 -- a line without fault was read
@@ -64,7 +64,7 @@ drn_fault : (label text : List ℕ) (fault : DrnError) → first_fault label [] 
 unfolding drn
 drn_fault label text fault e = rw (drn, e) refl
 
-drn_end : (label text : List ℕ) → first_fault label [] (lines text) ≡ None → drn text label ≡ ended (last_number (lines text)) (said label (lines text))
+pub drn_end : (label text : List ℕ) → first_fault label [] (lines text) ≡ None → drn text label ≡ ended (last_number (lines text)) (said label (lines text))
 unfolding drn end_fault
 drn_end label text e = rw (drn, e) refl
 
@@ -77,14 +77,14 @@ refused label text old new kept line cursor error h l e f wrong =
     drn_fault label text error (h.fault ∙ stops label h.before (lines_at text old) (lines_at text new) s error l.first l.sound some)
 
 -- the first of these lines has a fault of its own
-record Faulty (text : List ℕ) (old : Place) (ls : List TextLine) (fault : LexError) : Type 0 where
+pub record Faulty (text : List ℕ) (old : Place) (ls : List TextLine) (fault : LexError) : Type 0 where
   pub source : TextLine
   pub rest : List TextLine
   pub are : ls ≡ source ∷ rest
   pub own : own_fault source ≡ Some fault
   pub place : (place_after text old ls).number ≡ source.number
 
-faulty : (text : List ℕ) (old : Place) (ls : List TextLine) (fault : LexError) → Err fault ≡ answer_of ls → Faulty text old ls fault
+pub faulty : (text : List ℕ) (old : Place) (ls : List TextLine) (fault : LexError) → Err fault ≡ answer_of ls → Faulty text old ls fault
 faulty text old [] fault e = cc
 faulty text old (l ∷ ls) fault e = by_own (own_fault l) refl e
   where
@@ -101,7 +101,7 @@ lexer_refused label text old new kept fault h e p =
     drn_fault label text (record { line = new.number; cause = lexed fault })
     (h.fault ∙ lexer_stops label h.before (lines_at text old) r.rest r.source fault r.are r.own ∙ ap (λ n. Some (record { line = n; cause = lexed fault })) n)
 
-none_left : (ls : List TextLine) → Ok None ≡ answer_of ls → ls ≡ []
+pub none_left : (ls : List TextLine) → Ok None ≡ answer_of ls → ls ≡ []
 none_left [] e = refl
 none_left (l ∷ ls) e = by_own (own_fault l) e
   where
@@ -109,7 +109,7 @@ none_left (l ∷ ls) e = by_own (own_fault l) e
     by_own (Some other) g = cc
     by_own None g = cc
 
-end_place : (text : List ℕ) (old : Place) (ls : List TextLine) → ls ≡ [] → (place_after text old ls).number ≡ old.number + length (lines_at text old)
+pub end_place : (text : List ℕ) (old : Place) (ls : List TextLine) → ls ≡ [] → (place_after text old ls).number ≡ old.number + length (lines_at text old)
 end_place text old ls e = rw e refl
 
 pub at_end : (label text : List ℕ) (old new : Place) (kept : Said) → AtPlace label text old kept → Ok None ≡ answer_of (behind_comments (lines_at text old))

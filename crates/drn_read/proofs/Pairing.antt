@@ -49,7 +49,7 @@ some_place : {A : Type 0} (p : A → Bool) (x : A) (xs : List A) (b : Bool) → 
 some_place p x xs true e more = rw e (grind (arith, nat_tests))
 some_place p x xs false e more = rw (e, one-add) (lt_suc (position_or_len p xs) (length xs) (list_any p xs) more)
 
-below : {A : Type 0} (p : A → Bool) (xs : List A) → nat_lt (position_or_len p xs) (length xs) ≡ list_any p xs
+pub below : {A : Type 0} (p : A → Bool) (xs : List A) → nat_lt (position_or_len p xs) (length xs) ≡ list_any p xs
 below p [] = grind (arith, nat_tests)
 below p (x ∷ xs) = some_place p x xs (p x) refl (below p xs)
 

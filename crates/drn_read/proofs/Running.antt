@@ -95,15 +95,15 @@ record Comes (label : List ℕ) (before lines rest : List TextLine) : Type 0 whe
   pub said_is : said label front ≡ said label before
   pub kept : (source : TextLine) (tail : List TextLine) → rest ≡ source ∷ tail → is_passed_over source ≡ false
 
-behind_none : behind_comments [] ≡ []
+pub behind_none : behind_comments [] ≡ []
 unfolding behind_comments
 behind_none = refl
 
-behind_passed : (l : TextLine) (ls : List TextLine) → is_passed_over l ≡ true → behind_comments (l ∷ ls) ≡ behind_comments ls
+pub behind_passed : (l : TextLine) (ls : List TextLine) → is_passed_over l ≡ true → behind_comments (l ∷ ls) ≡ behind_comments ls
 unfolding behind_comments
 behind_passed l ls e = rw (behind_comments, e) refl
 
-behind_kept : (l : TextLine) (ls : List TextLine) → is_passed_over l ≡ false → behind_comments (l ∷ ls) ≡ l ∷ ls
+pub behind_kept : (l : TextLine) (ls : List TextLine) → is_passed_over l ≡ false → behind_comments (l ∷ ls) ≡ l ∷ ls
 unfolding behind_comments
 behind_kept l ls e = rw (behind_comments, e) refl
 

@@ -9,7 +9,7 @@ use Rattle.drn_lexer.specs.declared.word.WordForm.{WordForm}
 use Rattle.drn_expr.specs.declared.error.ExprError.{ExprError}
 use Rattle.drn_expr.specs.declared.error.ExprError.TheVariants as expr
 use Rattle.drn_read.specs.declared.error.DrnCause.{DrnCause}
-use Rattle.drn_read.specs.declared.error.DrnCause.TheVariants.{NotText, LongLine, OpenQuote, Syntax, UnknownName, Power, SharedParameter, ParametricDivisor, DivisionByZero, Wide, Deep, Long, UnsupportedType, MissingSection, RepeatedSection, UnknownSection, RepeatedName, UnknownPlace, StateOrder, ExitRate, Observation, ExtraChoice, NoChoice, RepeatedTarget, LimitStates, LimitChoices, LimitTransitions, LimitPlaces, LimitParameters, LimitName, LimitValueParameters, NoState, CountMismatch, TargetRange, InitCount, UnknownLabel, CommonDenominator, Memory}
+use Rattle.drn_read.specs.declared.error.DrnCause.TheVariants.{NotText, LongLine, OpenQuote, Syntax, UnknownName, Power, SharedParameter, ParametricDivisor, DivisionByZero, Wide, Deep, Long, UnsupportedType, MissingSection, RepeatedSection, UnknownSection, RepeatedName, UnknownPlace, StateOrder, ExitRate, Observation, ExtraChoice, NoChoice, RepeatedTarget, LimitStates, LimitChoices, LimitTransitions, LimitPlaces, LimitParameters, LimitName, LimitValueParameters, NoState, CountMismatch, TargetRange, InitCount, UnknownLabel, CommonDenominator, Memory, UnknownReward, RewardSyntax, RewardWide, ActionReward}
 use Rattle.drn_read.specs.declared.error.DrnError.{DrnError}
 
 -- how a fault of a line or a word is told
@@ -93,6 +93,10 @@ cause_name InitCount = codes "InitCount"
 cause_name UnknownLabel = codes "UnknownLabel"
 cause_name CommonDenominator = codes "CommonDenominator"
 cause_name Memory = codes "Memory"
+cause_name UnknownReward = codes "UnknownReward"
+cause_name RewardSyntax = codes "RewardSyntax"
+cause_name RewardWide = codes "RewardWide"
+cause_name ActionReward = codes "ActionReward"
 
 -- The number of a cause in the order of the tests. Causes of one place share theirs: 1 for the bytes and words of a line, 2 for a value, 3 for syntax wherever it fails, 11 for what belongs to other kinds of models, and 15 for the limits.
 abbrev pub cause_number : DrnCause → ℕ
@@ -134,3 +138,7 @@ cause_number InitCount = 19
 cause_number UnknownLabel = 20
 cause_number CommonDenominator = 21
 cause_number Memory = 22
+cause_number UnknownReward = 23
+cause_number RewardSyntax = 24
+cause_number RewardWide = 25
+cause_number ActionReward = 26

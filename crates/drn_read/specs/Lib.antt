@@ -11,3 +11,9 @@ pub mod Shown
 pub mod ModelSteps
 pub mod Recent
 pub mod Scaling
+pub mod Rewards
+pub mod RewardLines
+pub mod Costs
+pub mod CostKeeping
+pub mod CostLaws
+pub mod CostShown

@@ -85,6 +85,14 @@ pub enum DrnCause {
     CommonDenominator,
     /// No memory is left.
     Memory,
+    /// No reward has the name that was asked for.
+    UnknownReward,
+    /// A group that doesn't hold a value for each reward, or a divisor of 0 in it.
+    RewardSyntax,
+    /// A number in a group of rewards that is too large.
+    RewardWide,
+    /// An action's reward that isn't 0.
+    ActionReward,
 }
 
 impl DrnCause {
@@ -131,10 +139,14 @@ impl DrnCause {
             DrnCause::UnknownLabel => "UnknownLabel",
             DrnCause::CommonDenominator => "CommonDenominator",
             DrnCause::Memory => "Memory",
+            DrnCause::UnknownReward => "UnknownReward",
+            DrnCause::RewardSyntax => "RewardSyntax",
+            DrnCause::RewardWide => "RewardWide",
+            DrnCause::ActionReward => "ActionReward",
         }
     }
 
-    /// The number of the cause, from 1 to 22. Causes of one kind share theirs.
+    /// The number of the cause, from 1 to 26. Causes of one kind share theirs.
     pub fn number(self) -> u32
         ensures { result ≡ cause_number self }
     {
@@ -174,6 +186,10 @@ impl DrnCause {
             DrnCause::UnknownLabel => 20,
             DrnCause::CommonDenominator => 21,
             DrnCause::Memory => 22,
+            DrnCause::UnknownReward => 23,
+            DrnCause::RewardSyntax => 24,
+            DrnCause::RewardWide => 25,
+            DrnCause::ActionReward => 26,
         }
     }
 }

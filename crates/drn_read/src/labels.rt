@@ -24,7 +24,7 @@ pub(crate) struct Labels {
 }
 
 /// Whether a group has its end.
-fn is_closed(group: LineWord<'_>) -> bool
+pub(crate) fn is_closed(group: LineWord<'_>) -> bool
     ensures { result ≡ is_closed (piece group.entry) }
 {
     group.bytes.contains(&b']')
@@ -86,7 +86,7 @@ fn read_labels(words: Cursor<'_>, goal: &[u8]) -> Result<Labels, DrnCause>
 }
 
 /// Tests a state's number, where so many states stand before it.
-fn test_number(before: usize, word: LineWord<'_>) -> Result<(), DrnCause>
+pub(crate) fn test_number(before: usize, word: LineWord<'_>) -> Result<(), DrnCause>
     requires { before ≤ most_states }
     ensures { fault_of result ≡ number_fault before (piece word.entry) }
 {

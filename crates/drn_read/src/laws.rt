@@ -1,4 +1,5 @@
 ghost use Rattle.drn_read.specs.Laws.{SaysMore, TextsAreValid};
+ghost use Rattle.drn_read.specs.CostLaws.{CostsAreReadWithTheModel};
 
 use drn_expr::readings_follow;
 use lift_frac::divisors_and_multiples;
@@ -19,3 +20,9 @@ pub fn texts_are_valid()
     coefficients_determine();
     divisors_and_multiples();
 }
+
+/// Holds the law that a text which stands for a model with costs stands for the same model without
+/// its rewards, and that each state has a cost. It does nothing.
+pub fn costs_are_read_with_the_model()
+    ensures { CostsAreReadWithTheModel }
+{}

@@ -1,5 +1,5 @@
 //! The reading of a model text: its definition, and the call that gives the model or the refusal
-//! that the definition says.
+//! that the definition says; and the same with what each state costs.
 #![tactic(auto)]
 
 ghost use Rattle.std.specs.Prelude.{◌≡◌, ◌+◌, ◌<◌, ◌≤◌, [], length};
@@ -9,6 +9,8 @@ ghost use Rattle.drn_read.specs.Shown.{IsNext, ReadsLines};
 
 mod advance;
 mod common;
+mod cost_reader;
+mod costed;
 mod cursor;
 mod digits;
 mod end;
@@ -22,10 +24,15 @@ mod labels;
 mod last;
 mod laws;
 mod model_lines;
+mod owner;
 mod parameters;
 mod placeholder_line;
 mod placeholders;
 mod reader;
+mod reward_group;
+mod reward_reader;
+mod reward_value;
+mod reward_words;
 mod rows;
 mod scaled;
 mod section;
@@ -36,12 +43,15 @@ mod text;
 mod type_line;
 mod value;
 
+pub use costed::read_costs;
 use cursor::Cursor;
 use drn_lexer::{Line, Place, next_line};
 use end::finish;
 pub use error::{DrnCause, DrnError};
-pub use laws::{lines_say_more, texts_are_valid};
+pub use laws::{costs_are_read_with_the_model, lines_say_more, texts_are_valid};
+pub use lift_costs::Costs;
 use lift_model::Model;
+pub use owner::Owner;
 use reader::Reader;
 pub use section::{Phase, Section};
 pub use shared::SharedValue;

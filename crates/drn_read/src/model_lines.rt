@@ -1,7 +1,7 @@
 // Reads the lines of the model.
 ghost use Rattle.std.specs.Prelude.{◌≤◌, ◌≡◌, ◌==◌, ◌<◌, ◌++◌, ◌∷◌, [], None, drop, false, is_some};
 ghost use Rattle.std.specs.Prelude.{length, OnOk, OnErr};
-ghost use Rattle.std.specs.Option.{option_copied};
+ghost use Rattle.std.specs.Option.{option_copied, option_map};
 ghost use Rattle.drn_lexer.specs.Lines.{TextLine};
 ghost use Rattle.lift_model.specs.Valid.{most_states, most_choices};
 ghost use Rattle.drn_read.specs.Faults.{first_of, fault_of, told};
@@ -11,6 +11,7 @@ ghost use Rattle.drn_read.specs.Judging.{model_fault, words_fault, transition_fa
 ghost use Rattle.drn_read.specs.Judging.{action_fault, state_fault, choiceless, open_choice};
 ghost use Rattle.drn_read.specs.Judging.{choice_count, is_chain, choice_fault, room_fault};
 ghost use Rattle.drn_read.specs.Keeping.{states_with, on_last, with_choice, with_transitions};
+ghost use Rattle.drn_read.specs.RewardLines.{reached_in_action, reached_in_state};
 ghost use Rattle.drn_read.specs.Shown.{Tells, TellsLine, IsSource, rest, left, piece};
 ghost use Rattle.drn_read.specs.Recent.{AreKnown};
 ghost use Rattle.drn_read.specs.ModelSteps.{on_line, transition_at, new_state, words_with};
@@ -20,8 +21,9 @@ use crate::entry::transition_front;
 use crate::error::{DrnCause, DrnError};
 use crate::header::HeaderReader;
 use crate::known::KnownValues;
-use crate::labels::{Labels, read_action, read_state};
+use crate::labels::{Labels, read_action, read_state, test_number};
 use crate::last::test_last_state;
+use crate::reward_words::{action_rewards, rewards_at};
 use crate::state::{State, Transition};
 use crate::targets::Targets;
 use crate::text::is_head;
@@ -67,7 +69,7 @@ fn is_chain(kind: Option<Kind>) -> bool
 }
 
 /// Whether a line that says this is a transition.
-fn is_transition(content: &[u8]) -> bool
+pub(crate) fn is_transition(content: &[u8]) -> bool
     ensures { result ≡ is_transition content.now }
 {
     match content {
@@ -221,6 +223,34 @@ impl ModelReader {
             return Err(DrnCause::LimitChoices);
         }
         Ok(())
+    }
+
+    /// The rewards of an action that the reading reaches, by the words behind `action`.
+    pub fn reached_in_action<'t>(&self, kind: Option<Kind>, words: Cursor<'t>) -> Option<&'t [u8]>
+        ensures { option_map (λ group. group.now) result
+            ≡ reached_in_action kind self.now (left words.entry) }
+    {
+        if self.test_choice(kind).is_err() {
+            return None;
+        }
+        action_rewards(words)
+    }
+
+    /// The rewards of a state that the reading reaches, by the words behind `state`.
+    pub fn reached_in_state<'t>(&self, words: Cursor<'t>) -> Option<&'t [u8]>
+        ensures { option_map (λ group. group.now) result
+            ≡ reached_in_state self.now (left words.entry) }
+    {
+        let mut words = words;
+        let Ok(Some(number)) = words.next_word() else {
+            return None;
+        };
+        if test_last_state(&self.states).is_err()
+            || test_number(self.states.len(), number).is_err()
+        {
+            return None;
+        }
+        rewards_at(words)
     }
 
     /// One more state, of this line and without choice.

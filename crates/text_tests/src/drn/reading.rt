@@ -1,6 +1,6 @@
 // Tests of the reading of model texts.
 use crate::cells::{Teller, Untold, cut, cut_two, each_row, number};
-use crate::drn::text_of;
+use crate::drn::{changed, text_of};
 use drn_read::read_model;
 use lift_base::{MemSink, Word, WriteFault, write_words};
 use lift_model::{Entry, Kind, Model};
@@ -145,22 +145,6 @@ const WHOLE: &str = "\
     | tails | 11 UnknownLabel\n\
     @type: DTMC;@parameters;a b c d e;@model;state 0 init;1 : 1/8*a+1/8*b+1/8*c+1/8*d+1/8*e; | \
     heads | 6 LimitValueParameters";
-
-// The coin, of which `count` lines from line `from` on give way to others.
-fn changed(alloc: Global, from: usize, count: usize, new: &[u8]) -> Result<Vec<u8>, AllocError> {
-    let mut text = Vec::new(alloc);
-    let mut number = 1;
-    for line in COIN.split_inclusive(|b| *b == b'\n') {
-        if number == from {
-            text.extend_from_slice(new)?;
-        }
-        if number < from || number >= from.saturating_add(count) {
-            text.extend_from_slice(line)?;
-        }
-        number = number.saturating_add(1);
-    }
-    Ok(text)
-}
 
 // Writes the terms of an entry behind its target.
 fn write_entry(out: &mut MemSink, entry: &Entry) -> Result<(), WriteFault> {
@@ -310,7 +294,13 @@ impl Teller for Changes {
     fn tell(&self, alloc: Global, asked: &str) -> Result<String, Untold> {
         let (from, count, new) = cut_two(asked);
         let new = text_of(alloc, new)?;
-        let text = changed(alloc, number(from) as usize, number(count) as usize, &new)?;
+        let text = changed(
+            alloc,
+            COIN,
+            number(from) as usize,
+            number(count) as usize,
+            &new,
+        )?;
         refusal_told(alloc, &text, "heads")
     }
 }
