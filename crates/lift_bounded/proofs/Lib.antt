@@ -6,4 +6,4 @@ pub mod Stepping
 pub mod Filling
 pub mod Single
 pub mod Texts
-pub mod Going
+pub mod Shapes

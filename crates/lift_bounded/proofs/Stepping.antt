@@ -3,7 +3,7 @@ use Rattle.std.proofs.Common.{◌≡◌, ◌≢◌, ℕ, zero, suc, ◌+◌, ◌
 use Rattle.std.proofs.lemmas.Int.{by_lt_z}
 use Rattle.std.proofs.lemmas.List.{get_or_past, get_or_default}
 use Rattle.std.proofs.lemmas.List.Elements.{All-from_get_or}
-use Rattle.lift_poly.proofs.Ring.{linear, mul-comm, mul-le, mul-zero, zero-mul, one-mul, add-mul, mul-le_cancel, mul-lt, mul-assoc}
+use Rattle.lift_poly.proofs.Ring.{linear, mul-comm, mul-le, mul-zero, zero-mul, one-mul, add-mul, mul-le_cancel}
 use Rattle.lift_grid.specs.Rectangle.{Spans}
 use Rattle.lift_model.specs.declared.entry.Entry.{Entry}
 use Rattle.lift_model.specs.Process.{power}

@@ -9,8 +9,6 @@ use Rattle.lift_walk.specs.Halved.{Halved, preorder_text}
 use Rattle.cert_text.specs.Report.{line, mark_word, split_line, unknown_line}
 use Rattle.lift_bounded.specs.Steps.{nth, LowersData}
 use Rattle.lift_bounded.specs.Decided.{BoundedLeaf, IsRightWithin}
-use Rattle.lift_bounded.specs.declared.decision.Verdict.{Verdict}
-use Rattle.lift_bounded.specs.declared.decision.Verdict.TheVariants.{Accept, Reject, Unknown}
 
 -- the texts of so many numbers of steps from n on, one after another
 abbrev pub for_steps : (ℕ → List ℕ) → ℕ → ℕ → List ℕ
@@ -53,12 +51,6 @@ leaf_text k h (BoundedLeaf.reject r) = reject_text k h r
 -- the nodes of a tree
 abbrev pub tree_text : CaseData → ℕ → Halved BoundedLeaf → List ℕ
 tree_text k h tree = preorder_text split_line (leaf_text k h) unknown_line tree
-
--- what is written at a verdict, with the vectors and picks that stand in the lanes
-abbrev pub verdict_text : CaseData → ℕ → List (List ℤ) → List (List ℕ) → Verdict → List ℕ
-verdict_text k h lanes picks Accept = accept_text h lanes
-verdict_text k h lanes picks Reject = reject_text k h (record { numbers = lanes; picks = picks })
-verdict_text k h lanes picks Unknown = unknown_line
 
 -- the bytes are the text of a right tree over the rectangle at that depth, for h steps
 abbrev pub IsTreeText : CaseData → Bound → ℕ → Spans → ℕ → List ℕ → Type 0

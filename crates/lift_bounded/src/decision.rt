@@ -2,21 +2,21 @@
 
 ghost use Rattle.std.specs.Prelude.{◌≡◌, length, IsFalse, IsTrue};
 ghost use Rattle.lift_pool.specs.Shapes.{IsSameShape};
-ghost use Rattle.lift_grid.specs.Rectangle.{Spans};
+ghost use Rattle.lift_grid.specs.Rectangle.{Spans, spans_of};
 ghost use Rattle.lift_model.specs.Links.{AreLinks};
-ghost use Rattle.corner_lift.specs.Case.{number};
+ghost use Rattle.corner_lift.specs.Case.{AreSidesInside, number};
 ghost use Rattle.corner_lift.specs.Lifted.{IsLiftedTo};
 ghost use Rattle.lift_cert.specs.Certificate.{IsBeyond, IsWithin};
 ghost use Rattle.lift_bounded.specs.Decided.{IsDecidedWithin};
 ghost use Rattle.lift_bounded.specs.Lanes.{HasPicks, HasVectors};
-ghost use Rattle.lift_bounded.specs.Rooms.{HasRectangle, HasStepLanes, KeepsShape, last_spans};
+ghost use Rattle.lift_bounded.specs.Rooms.{HasStepLanes, KeepsShape};
 
+use crate::decider::StepDecider;
 use crate::laws::steps_make_certificates;
-use crate::room::BoundedRoom;
+use crate::room::StepLanes;
 use crate::vectors::{greatest_lowers, least_uppers};
 use corner_lift::{Case, Lifted, fill};
 use lift_cert::Bound;
-use lift_model::Links;
 use lift_pool::{Pool, lanes_have_shapes};
 
 /// How a rectangle is decided.
@@ -24,7 +24,6 @@ use lift_pool::{Pool, lanes_have_shapes};
 pub(crate) enum Verdict {
     Accept,
     Reject,
-    Unknown,
 }
 
 /// Whether the initial state's number is within the bound.
@@ -45,7 +44,7 @@ fn decide_in(
     picks: &mut Pool<u32>,
     work: &mut [i64],
     marks: &mut [u32],
-) -> Verdict
+) -> Option<Verdict>
     ghost spans: { Spans }
     requires lifted { IsLiftedTo rows.now spans }
     requires numbers { HasVectors rows.now.case h numbers.old.lanes }
@@ -60,53 +59,42 @@ fn decide_in(
     lanes_have_shapes::<i64>();
     least_uppers(rows, h, numbers, work);
     if is_within(rows.case(), bound, numbers.lane(h as usize)) {
-        return Verdict::Accept;
+        return Some(Verdict::Accept);
     }
     greatest_lowers(rows, h, numbers, picks, work, marks);
     if is_within(rows.case(), bound, numbers.lane(h as usize)) {
-        return Verdict::Unknown;
+        return None;
     }
-    Verdict::Reject
+    Some(Verdict::Reject)
 }
 
-/// Fills the table of the rectangle that the room's last lane of sides holds, and decides it.
-fn decide_over(case: &Case, links: &Links, bound: Bound, room: &mut BoundedRoom) -> Verdict
+/// Decides the rectangle that has these sides. Accept leaves the least upper vectors in the lanes, Reject the greatest
+/// lower ones and their picks; None comes exactly where there is no certificate of either kind. Takes no memory.
+pub(crate) fn decide_over(
+    decider: &StepDecider,
+    lanes: &mut StepLanes,
+    sides: &[i64],
+) -> Option<Verdict>
     ghost spans: { Spans }
-    requires spans { last_spans room.old ≡ spans }
-    requires links { AreLinks case.now.model links.now }
-    requires lanes { HasStepLanes case.now.model links.now room.old }
-    requires rectangle { HasRectangle case.now room.old }
-    ensures decided { IsDecidedWithin case.now spans bound room.old.steps room.new.numbers.lanes room.new.picks.lanes result }
-    ensures sides { room.new.sides ≡ room.old.sides }
-    ensures shape { KeepsShape room.old room.new }
+    requires spans { spans_of sides.now ≡ spans }
+    requires links { AreLinks decider.now.case.now.model decider.now.links.now }
+    requires lanes { HasStepLanes decider.now.case.now.model decider.now.links.now decider.now.steps lanes.old }
+    requires sides { AreSidesInside decider.now.case.now.root sides.now }
+    ensures decided { IsDecidedWithin decider.now.case.now spans decider.now.bound
+        decider.now.steps lanes.new.numbers.lanes lanes.new.picks.lanes result }
+    ensures shape { KeepsShape lanes.old lanes.new }
 {
     lanes_have_shapes::<i64>();
     lanes_have_shapes::<u32>();
-    let sides = room.sides.lane(room.sides.lanes() - 1);
-    fill(case, links, sides, &mut room.weights);
-    let rows = Lifted::new(&*case, &*links, &room.weights);
+    fill(decider.case, decider.links, sides, &mut lanes.weights);
+    let rows = Lifted::new(decider.case, decider.links, &lanes.weights);
     decide_in(
         &rows,
-        bound,
-        room.steps,
-        &mut room.numbers,
-        &mut room.picks,
-        &mut room.work,
-        &mut room.marks,
+        decider.bound,
+        decider.steps,
+        &mut lanes.numbers,
+        &mut lanes.picks,
+        &mut lanes.work,
+        &mut lanes.marks,
     )
-}
-
-/// Decides the rectangle that the room's last lane of sides holds. Accept leaves the least upper vectors in the
-/// lanes, Reject the greatest lower ones and their picks; Unknown comes exactly where there is no certificate of
-/// either kind. Takes no memory.
-pub(crate) fn decide(case: &Case, links: &Links, bound: Bound, room: &mut BoundedRoom) -> Verdict
-    requires links { AreLinks case.now.model links.now }
-    requires lanes { HasStepLanes case.now.model links.now room.old }
-    requires rectangle { HasRectangle case.now room.old }
-    ensures decided { IsDecidedWithin case.now (last_spans room.old) bound
-        room.old.steps room.new.numbers.lanes room.new.picks.lanes result }
-    ensures sides { room.new.sides ≡ room.old.sides }
-    ensures shape { KeepsShape room.old room.new }
-{
-    decide_over(case, links, bound, room)
 }

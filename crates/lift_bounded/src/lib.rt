@@ -2,13 +2,13 @@
 //! text.
 #![tactic(auto)]
 
+mod decider;
 mod decision;
-mod halves;
 mod laws;
 mod room;
 mod steps;
+mod tree;
 mod vectors;
-mod walking;
 mod writers;
 
 pub use laws::{
@@ -16,4 +16,4 @@ pub use laws::{
     steps_make_certificates,
 };
 pub use room::BoundedRoom;
-pub use walking::write_tree;
+pub use tree::write_tree;

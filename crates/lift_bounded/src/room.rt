@@ -10,13 +10,9 @@ use lift_pool::Pool;
 use lift_walk::sides_of_case;
 use std::alloc::{AllocError, Global};
 
-/// All memory that a walk over the tree of a case for a number of steps needs.
-///
-/// A room is seen as its parts. What its lanes hold between two walks is free.
+/// What the decision of a rectangle for a number of steps works in.
 #[derive(Drop)]
-pub struct BoundedRoom {
-    /// The sides of the rectangles on the way from the root.
-    pub(crate) sides: Pool<i64>,
+pub(crate) struct StepLanes {
     /// The table of corner weights.
     pub(crate) weights: Vec<i128>,
     /// The vector of each number of steps, from 0 on.
@@ -27,6 +23,31 @@ pub struct BoundedRoom {
     pub(crate) work: Vec<i64>,
     /// The picks that are made.
     pub(crate) marks: Vec<u32>,
+}
+
+impl std::marker::Model for StepLanes {
+    ghost use Rattle.lift_bounded.specs.Rooms.{StepLanesData};
+
+    ghost Value = { StepLanesData };
+
+    ghost view = { λ r. record {
+      weights = r.weights.items;
+      numbers = r.numbers;
+      picks = r.picks;
+      work = r.work.items;
+      marks = r.marks.items;
+    } };
+}
+
+/// All memory that a walk over the tree of a case for a number of steps needs.
+///
+/// A room is seen as its parts. What its lanes hold between two walks is free.
+#[derive(Drop)]
+pub struct BoundedRoom {
+    /// The sides of the rectangles on the way from the root.
+    pub(crate) sides: Pool<i64>,
+    /// What the decision of each of them works in.
+    pub(crate) lanes: StepLanes,
     /// How many steps.
     pub(crate) steps: u32,
 }
@@ -38,11 +59,7 @@ impl std::marker::Model for BoundedRoom {
 
     ghost view = { λ r. record {
       sides = r.sides;
-      weights = r.weights.items;
-      numbers = r.numbers;
-      picks = r.picks;
-      work = r.work.items;
-      marks = r.marks.items;
+      lanes = r.lanes;
       steps = r.steps;
     } };
 }
@@ -60,11 +77,13 @@ impl BoundedRoom {
         let count = steps as usize;
         Ok(BoundedRoom {
             sides: sides_of_case(alloc, case)?,
-            weights: vec![in alloc; 0i128; links.weights_len()]?,
-            numbers: Pool::filled(alloc, count + 1, states, 0)?,
-            picks: Pool::filled(alloc, count, states, 0)?,
-            work: vec![in alloc; 0i64; states]?,
-            marks: vec![in alloc; 0u32; states]?,
+            lanes: StepLanes {
+                weights: vec![in alloc; 0i128; links.weights_len()]?,
+                numbers: Pool::filled(alloc, count + 1, states, 0)?,
+                picks: Pool::filled(alloc, count, states, 0)?,
+                work: vec![in alloc; 0i64; states]?,
+                marks: vec![in alloc; 0u32; states]?,
+            },
             steps,
         })
     }

@@ -13,12 +13,8 @@ ghost use Rattle.lift_bounded.specs.Text.{
   reject_line,
   reject_text,
   upper_text,
-  verdict_text,
 };
 
-use crate::decision::Verdict;
-use crate::room::BoundedRoom;
-use cert_text::write_unknown;
 use corner_lift::{Case, one_at};
 use lift_base::{Sink, Word, WriteFault, write_all, write_marks, write_words, writes_in_turn};
 use lift_pool::Pool;
@@ -67,7 +63,11 @@ fn write_uppers<K: Sink>(out: &mut K, h: u32, numbers: &Pool<i64>) -> Result<(),
 }
 
 /// Writes an accepting leaf.
-fn write_accept<K: Sink>(out: &mut K, h: u32, numbers: &Pool<i64>) -> Result<(), WriteFault>
+pub(crate) fn write_accept<K: Sink>(
+    out: &mut K,
+    h: u32,
+    numbers: &Pool<i64>,
+) -> Result<(), WriteFault>
     requires { length numbers.now.lanes ≡ h + 1 }
     ensures { Wrote K.taken K.faults out.old out.new result (accept_text h numbers.now.lanes) }
 {
@@ -145,7 +145,7 @@ fn write_reached<K: Sink>(out: &mut K, case: &Case, lane: &[i64]) -> Result<(), 
 }
 
 /// Writes a rejecting leaf.
-fn write_reject<K: Sink>(
+pub(crate) fn write_reject<K: Sink>(
     out: &mut K,
     case: &Case,
     h: u32,
@@ -160,23 +160,4 @@ fn write_reject<K: Sink>(
     writes_in_turn::<K>();
     write_reached(out, case, numbers.lane(h as usize))?;
     write_lowers(out, h, numbers, picks)
-}
-
-/// Writes a leaf by its verdict, with the vectors and picks that stand in the room.
-pub(crate) fn write_leaf<K: Sink>(
-    out: &mut K,
-    case: &Case,
-    room: &BoundedRoom,
-    verdict: Verdict,
-) -> Result<(), WriteFault>
-    requires numbers { HasVectors case.now room.now.steps room.now.numbers.lanes }
-    requires picks { HasPicks case.now room.now.steps room.now.picks.lanes }
-    ensures { Wrote K.taken K.faults out.old out.new result
-        (verdict_text case.now room.now.steps room.now.numbers.lanes room.now.picks.lanes verdict) }
-{
-    match verdict {
-        Verdict::Accept => write_accept(out, room.steps, &room.numbers),
-        Verdict::Reject => write_reject(out, case, room.steps, &room.numbers, &room.picks),
-        Verdict::Unknown => write_unknown(out),
-    }
 }

@@ -1,6 +1,6 @@
 use Rattle.std.proofs.Common.{rules, arith}
 use Rattle.lift_bounded.specs.Steps.{LowersData}
-use Rattle.lift_bounded.proofs.Going.{vectors_kept}
+use Rattle.lift_bounded.proofs.Shapes.{vectors_kept}
 use Rattle.lift_bounded.proofs.Single.{upper_numbers, lower_numbers}
 use Rattle.lift_bounded.proofs.decision.decide_in.Goals as goal
 

@@ -1,5 +1,5 @@
 use Rattle.std.proofs.Common.{◌≡◌, ◌+◌, length, replicate, ◌∙◌, ap, pos, arith}
-use Rattle.lift_bounded.proofs.Going.{filled_lanes}
+use Rattle.lift_bounded.proofs.Shapes.{filled_lanes}
 use Rattle.lift_bounded.proofs.room.BoundedRoom.make.Goals as goal
 
 pub returns-clause-made : goal.returns-clause-made

@@ -1,18 +1,15 @@
--- How a walk goes on: what stays of a room, and how it goes down to the halves.
-use Rattle.std.proofs.Common.{◌≡◌, ℕ, zero, suc, ◌+◌, Bool, List, [], ◌∷◌, ℤ, length, map, replicate, refl, sym, ap, ◌∙◌, arith}
+-- The lanes of a room: what their shape says of them, and that decisions keep it.
+use Rattle.std.proofs.Common.{◌≡◌, ℕ, zero, suc, ◌+◌, List, [], ◌∷◌, ℤ, length, map, replicate, refl, sym, ap, ◌∙◌, arith}
 use Rattle.std.proofs.lemmas.List.{length-replicate}
-use Rattle.lift_pool.specs.Lanes.{PoolData, pool_without_last}
+use Rattle.lift_pool.specs.Lanes.{PoolData}
 use Rattle.lift_pool.specs.Shapes.{HasLanes, IsSameShape}
 use Rattle.lift_pool.specs.Laws.{LanesHaveLengths, SameShapesHaveLengths}
 use Rattle.lift_model.specs.Model.{ModelData}
 use Rattle.lift_model.specs.Links.{LinksData}
 use Rattle.corner_lift.specs.Case.{CaseData}
-use Rattle.lift_walk.specs.Sides.{SidesStandAt, GoesDown, sides_with_half}
 use Rattle.lift_bounded.specs.Lanes.{HasVectors, HasPicks}
-use Rattle.lift_bounded.specs.Rooms.{BoundedRoomData, HasStepLanes, HasRectangle, KeepsShape}
-use Rattle.lift_bounded.proofs.Filling.{same_shape, shape_then}
-
--- ---- lanes by their shape
+use Rattle.lift_bounded.specs.Rooms.{StepLanesData, AreReadyFor, HasStepLanes, KeepsShape}
+use Rattle.lift_bounded.proofs.Filling.{shape_then}
 
 map_count : {A B : Type 0} (f : A → B) (xs : List A) → length (map f xs) ≡ length xs
 map_count f [] = refl
@@ -44,38 +41,26 @@ vectors_of lengths k h p has = record { count = lanes_count p (h + 1) (length k.
 pub picks_of : LanesHaveLengths ℕ → (k : CaseData) (h : ℕ) (p : PoolData ℕ) → HasLanes p h (length k.model.states) → HasPicks k h p.lanes
 picks_of lengths k h p has = record { count = lanes_count p h (length k.model.states) has; sizes = λ n lt. (lengths p h (length k.model.states) n has lt).1 }
 
--- ---- rooms
+-- ---- lanes as made
 
-pub room_then : (a b c : BoundedRoomData) → KeepsShape a b → KeepsShape b c → KeepsShape a c
-room_then a b c h g = record {
+pub shape_after : (a b c : StepLanesData) → KeepsShape a b → KeepsShape b c → KeepsShape a c
+shape_after a b c h g = record {
   weights = g.weights ∙ h.weights;
   numbers = shape_then a.numbers b.numbers c.numbers h.numbers g.numbers;
   picks = shape_then a.picks b.picks c.picks h.picks g.picks;
   work = g.work ∙ h.work;
   marks = g.marks ∙ h.marks;
-  steps = g.steps ∙ h.steps;
 }
 
--- only the sides are others
-pub room_with : (a b : BoundedRoomData) (p : PoolData ℤ) → b ≡ record a { sides = p } → KeepsShape a b
-room_with a b p e = rw e (record { weights = refl; numbers = same_shape a.numbers; picks = same_shape a.picks; work = refl; marks = refl; steps = refl })
-
-pub lanes_kept : (m : ModelData) (l : LinksData) (a b : BoundedRoomData) → KeepsShape a b → HasStepLanes m l a → HasStepLanes m l b
-lanes_kept m l a b h g = record {
+pub lanes_kept : (m : ModelData) (l : LinksData) (steps : ℕ) (a b : StepLanesData) → KeepsShape a b → HasStepLanes m l steps a → HasStepLanes m l steps b
+lanes_kept m l steps a b h g = record {
   weights = h.weights ∙ g.weights;
-  numbers = h.numbers.lanes ∙ g.numbers ∙ ap (λ s. replicate (s + 1) (length m.states)) (sym h.steps);
-  picks = h.picks.lanes ∙ g.picks ∙ ap (λ s. replicate s (length m.states)) (sym h.steps);
+  numbers = h.numbers.lanes ∙ g.numbers;
+  picks = h.picks.lanes ∙ g.picks;
   work = h.work ∙ g.work;
   marks = h.marks ∙ g.marks;
 }
 
--- where a walk stands hangs on the sides alone
-pub placed_as : (k : CaseData) (depth : ℕ) (a b : BoundedRoomData) → b.sides ≡ a.sides → SidesStandAt k depth a.sides → SidesStandAt k depth b.sides
-placed_as k depth a b same h = rw same h
-
-pub rectangle_of : (k : CaseData) (depth : ℕ) (room : BoundedRoomData) → SidesStandAt k depth room.sides → HasRectangle k room
-rectangle_of k depth room h = record { some = h.some; sides = record { rectangle = h.sides; within = h.at_depth.inside.within } }
-
--- giving back the half that a walk went down to
-pub gone_back : (k : CaseData) (depth axis : ℕ) (lower : Bool) (room down up : BoundedRoomData) → GoesDown k depth axis lower room.sides → down.sides ≡ sides_with_half lower axis room.sides → up.sides ≡ pool_without_last down.sides → up.sides ≡ room.sides
-gone_back k depth axis lower room down up h same e = e ∙ ap (λ p. pool_without_last p) same ∙ h.back
+-- a decision that keeps the shape of the lanes leaves them ready
+pub still_ready : (k : CaseData) (l : LinksData) (steps : ℕ) (made a b : StepLanesData) → KeepsShape a b → AreReadyFor k l steps made a → AreReadyFor k l steps made b
+still_ready k l steps made a b h ready = (ready.0, lanes_kept k.model l steps a b h ready.1, shape_after made a b ready.2 h)
