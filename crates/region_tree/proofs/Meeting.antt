@@ -15,6 +15,7 @@ use Rattle.region_tree.specs.Decided.{IsDecidedBy}
 use Rattle.lift_range.specs.Laws.{AcceptingDoubles, RejectingDoubles}
 use Rattle.region_tree.proofs.Ranges.{accepting_at_last, rejecting_at_last}
 use Rattle.region_tree.specs.Recent.{RecentData, DecidedData, Meet, MeetsOne, sides_at, IsNoted, Notes, NotesAccepted, NotesRejected, IsForetold, HasAccepting, HasRejecting, AreCertified, IsSound, forgotten}
+use Rattle.region_tree.specs.Laws.{MeetingRectanglesShare}
 use Rattle.region_tree.specs.Right.{NoneRejects}
 use Rattle.region_tree.specs.declared.decided.Outlook.{Outlook}
 use Rattle.region_tree.specs.declared.verdict.Verdict.{Verdict}
@@ -63,6 +64,9 @@ shared_valuation d (s ∷ ss) (t ∷ ts) positive are others meet =
     )
 shared_valuation d [] (t ∷ ts) positive are others meet = absurd meet
 shared_valuation d (s ∷ ss) [] positive are others meet = absurd meet
+
+pub meeting_rectangles_share : MeetingRectanglesShare
+meeting_rectangles_share k spans others is inside there meet = shared_valuation k.d spans others is.asked.grid.positive inside.rectangle there.rectangle meet
 
 -- ---- what is foretold holds
 

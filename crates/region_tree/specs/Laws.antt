@@ -3,7 +3,8 @@ use Rattle.std.specs.Prelude.{◌≡◌, ℕ, ◌<◌, ◌≤◌, Bool, List, �
 use Rattle.std.specs.declared.option.Option.{Option}
 use Rattle.std.specs.Io.KnownBytes.{Appends}
 use Rattle.lift_base.specs.Outside.{Rose}
-use Rattle.lift_grid.specs.Rectangle.{Spans, spans_of}
+use Rattle.lift_poly.specs.Polynomial.{Valuation}
+use Rattle.lift_grid.specs.Rectangle.{Spans, Inside, spans_of}
 use Rattle.lift_grid.specs.Splitting.{IsSplitAxis}
 use Rattle.lift_grid.specs.Tree.{Tree, RejectData, Tiles, leaves}
 use Rattle.lift_model.specs.Model.{live}
@@ -14,6 +15,7 @@ use Rattle.lift_cert.specs.declared.bound.Bound.{Bound}
 use Rattle.lift_model.specs.Links.{LinksData}
 use Rattle.region_tree.specs.Nodes.{Node}
 pub use Rattle.lift_walk.specs.Laws.{RootIsAtDepth, HalvesAreDeeper, SplitAxesAreOne}
+use Rattle.region_tree.specs.Recent.{Meet}
 use Rattle.region_tree.specs.Right.{IsRightTree}
 use Rattle.region_tree.specs.Rooms.{RoomData, IsMadeFor, StandsAtDepth, StepsDown, last_sides, room_at_root}
 use Rattle.region_tree.specs.Visits.{Walks, entries}
@@ -61,6 +63,10 @@ WalksBeginAtRoot = (k : CaseData) (l : LinksData) (room : RoomData) → IsCase k
 abbrev pub WalksStepDown : Type 0
 WalksStepDown = (k : CaseData) (room : RoomData) (depth axis : ℕ) (lower : Bool) → IsCase k → StandsAtDepth k depth room → depth < greatest_depth k → IsSplitAxis (live k.model) (spans_of (last_sides room)) axis
     → StepsDown k depth axis lower room
+
+-- two rectangles inside the root that meet share a valuation
+abbrev pub MeetingRectanglesShare : Type 0
+MeetingRectanglesShare = (k : CaseData) (spans others : Spans) → IsCase k → IsInside k.root spans → IsInside k.root others → Meet spans others → (v : Valuation) × (Inside k.d spans v × Inside k.d others v)
 
 -- ---- walks
 

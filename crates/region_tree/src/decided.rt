@@ -10,13 +10,13 @@ use std::alloc::{AllocError, Global};
 
 /// What is known of a rectangle before it is decided.
 #[derive(Clone, Copy)]
-pub(crate) struct Outlook {
+pub struct Outlook {
     /// Whether it may have an accepting certificate.
-    pub(crate) may_accept: bool,
+    pub may_accept: bool,
     /// Whether it may have a rejecting certificate.
-    pub(crate) may_reject: bool,
+    pub may_reject: bool,
     /// Whether a rejecting certificate is to be looked for first.
-    pub(crate) rejects_first: bool,
+    pub rejects_first: bool,
 }
 
 impl Outlook {
@@ -30,7 +30,7 @@ impl Outlook {
 
 /// The rectangles of a walk that were decided last. It is seen as those of each kind.
 #[derive(Drop)]
-pub(crate) struct Decided {
+pub struct Decided {
     accepted: Recent,
     rejected: Recent,
     /// Whether the last one was rejected.
@@ -49,8 +49,8 @@ impl std::marker::Model for Decided {
 }
 
 impl Decided {
-    /// None, with places for rectangles with so many ends.
-    pub(crate) fn none(alloc: Global, ends: usize) -> Result<Decided, AllocError>
+    /// None, with places for rectangles with so many ends. The one error is that memory runs out.
+    pub fn none(alloc: Global, ends: usize) -> Result<Decided, AllocError>
         requires { ends ≤ most_ends }
         ensures { IfOk result (HasAllPlaces ends) }
     {
@@ -62,7 +62,7 @@ impl Decided {
     }
 
     /// Forgets all.
-    pub(crate) fn forget(&mut self)
+    pub fn forget(&mut self)
         ensures { self.new ≡ forgotten self.old }
     {
         self.accepted.forget();
@@ -71,7 +71,7 @@ impl Decided {
 
     /// What they tell of the rectangle with these sides. Where the last one was rejected, a rejecting certificate is to
     /// be expected.
-    pub(crate) fn outlook(&self, sides: &[i64]) -> Outlook
+    pub fn outlook(&self, sides: &[i64]) -> Outlook
         requires { HasAllPlaces (length sides.now) self.now }
         ensures { IsForetold self.now (spans_of sides.now) result }
     {
@@ -83,7 +83,7 @@ impl Decided {
     }
 
     /// Notes that the rectangle with these sides was accepted.
-    pub(crate) fn note_accepted(&mut self, sides: &[i64])
+    pub fn note_accepted(&mut self, sides: &[i64])
         requires { HasAllPlaces (length sides.now) self.old }
         ensures places { KeepsPlaces self.old self.new }
         ensures notes { NotesAccepted sides.now self.old self.new }
@@ -93,7 +93,7 @@ impl Decided {
     }
 
     /// Notes that it was rejected.
-    pub(crate) fn note_rejected(&mut self, sides: &[i64])
+    pub fn note_rejected(&mut self, sides: &[i64])
         requires { HasAllPlaces (length sides.now) self.old }
         ensures places { KeepsPlaces self.old self.new }
         ensures notes { NotesRejected sides.now self.old self.new }

@@ -6,9 +6,6 @@ ghost use Rattle.lift_cert.specs.Certificate.{IsBeyond, IsWithin, NoneAccepts};
 ghost use Rattle.corner_lift.specs.Case.{AreSidesInside, IsInside, most_precision};
 ghost use Rattle.corner_lift.specs.Table.{IsTable};
 ghost use Rattle.lift_range.specs.Range.{Between};
-ghost use Rattle.lower_cert.specs.Limit.{IsGreatestAbove, NoneIsAbove};
-ghost use Rattle.lower_cert.specs.Lowering.{IsHigh};
-ghost use Rattle.rounded_iter.specs.Watching.{CanIterate, IsLeastWithin};
 ghost use Rattle.lift_collapse.specs.Collapse.{IsCollapse};
 ghost use Rattle.lift_collapse.specs.Filled.{IsFilled};
 ghost use Rattle.region_tree.specs.Decided.{
@@ -33,21 +30,21 @@ ghost use Rattle.region_tree.specs.Rooms.{
 };
 
 use crate::decided::Outlook;
+use crate::finder::Finder;
 use crate::pools::Pools;
 use crate::room::Room;
 use crate::task::Task;
 use crate::verdict::Verdict;
-use corner_lift::{Case, Lifted, fill};
+use corner_lift::{Case, fill};
 use lift_cert::{Bound, certificates_are_of_one_kind};
 use lift_collapse::Collapse;
 use lift_model::Links;
 use lift_pool::{Pool, lanes_stand_alone};
 use lift_range::certificates_double;
-use lower_cert::{Rate, greatest_reject_above, greatest_reject_from, ranks_fit};
-use rounded_iter::least_upper_within;
+use lower_cert::{Rate, ranks_fit};
 
-/// Makes the table of a rectangle in the pool's one lane.
-fn make_table(case: &Case, links: &Links, sides: &[i64], weights: &mut Pool<i128>)
+/// Makes the table of a rectangle in the pool's one lane. Takes no memory.
+pub fn make_table(case: &Case, links: &Links, sides: &[i64], weights: &mut Pool<i128>)
     requires links { AreLinks case.now.model links.now }
     requires sides { AreSidesInside case.now.root sides.now }
     requires weights { HasLane weights.old links.now.weights }
@@ -58,8 +55,8 @@ fn make_table(case: &Case, links: &Links, sides: &[i64], weights: &mut Pool<i128
     fill(case, links, sides, weights.lane_mut(0));
 }
 
-/// Makes the table of a rectangle in the collapsed model, where there is one.
-fn fill_collapse(case: &Case, sides: &[i64], collapse: &mut Option<Collapse>)
+/// Makes the table of a rectangle in the collapsed model, where there is one. Takes no memory.
+pub fn fill_collapse(case: &Case, sides: &[i64], collapse: &mut Option<Collapse>)
     requires collapse { IfSome (collapse_of collapse.old) (IsCollapse case.now.model) }
     requires sides { AreSidesInside case.now.root sides.now }
     ensures collapse { collapse_of collapse.new ≡ collapse_of collapse.old }
@@ -88,33 +85,14 @@ pub(crate) struct Question<'a> {
 }
 
 impl Question<'_> {
-    /// The least upper vector in `lane`, if its number of the initial state is within the limit. It is found on
-    /// the collapsed model where there is one.
-    fn least_upper(
-        &self,
-        limit: i64,
-        collapse: &mut Option<Collapse>,
-        lane: &mut [i64],
-        work: &mut [u32],
-    ) -> bool
-        ghost spans: { Spans }
-        requires can { CanIterate self.now.task.case.now self.now.task.links.now spans self.now.weights.now lane.old work.old }
-        requires filled { IfSome collapse.old (IsFilled self.now.task.case.now spans) }
-        ensures same { collapse.new ≡ collapse.old }
-        ensures least { IsLeastWithin self.now.task.case.now spans limit lane.new result }
+    /// What the vectors of the rectangle are found by.
+    fn finder(&self) -> Finder<'_>
+        ensures { result ≡ record { case = self.now.task.case; links = self.now.task.links; weights = self.now.weights } }
     {
-        match collapse {
-            Some(collapse) => collapse.least_upper_within(self.task.case, limit, lane),
-            None => {
-                least_upper_within(
-                    self.task.case,
-                    self.task.links,
-                    self.weights,
-                    limit,
-                    lane,
-                    work,
-                )
-            }
+        Finder {
+            case: self.task.case,
+            links: self.task.links,
+            weights: self.weights,
         }
     }
 
@@ -134,94 +112,8 @@ impl Question<'_> {
         if !may {
             return false;
         }
-        lanes_stand_alone::<i64>();
-        lanes_stand_alone::<u32>();
         let limit = greatest_within(self.task.bound, self.task.case.w());
-        self.least_upper(
-            limit,
-            collapse,
-            pools.values.lane_mut(0),
-            pools.work.lane_mut(0),
-        )
-    }
-
-    /// The greatest lower vector in the lanes, with its ranks and picks, if its number of the initial state is
-    /// above the limit. It is lowered from the vector of ones.
-    fn lower_from_ones(&self, limit: i64, pools: &mut Pools) -> Option<Rate>
-        ghost spans: { Spans }
-        requires asked { CanAsk self.now.task.case.now self.now.task.links.now spans self.now.weights.now }
-        requires pools { HasPools self.now.task.case.now.model pools.old }
-        ensures pools { KeepsPools pools.old pools.new }
-        ensures some { IfSome result (λ rate.
-            IsGreatestAbove self.now.task.case.now spans limit (reject_in pools.new rate.e rate.k)) }
-        ensures none { IsNone result → NoneIsAbove self.now.task.case.now spans limit }
-    {
-        lanes_stand_alone::<i64>();
-        lanes_stand_alone::<u32>();
-        greatest_reject_above(
-            self.task.case,
-            self.task.links,
-            self.weights,
-            limit,
-            pools.values.lane_mut(0),
-            pools.allowed.lane_mut(0),
-            pools.ranks.lane_mut(0),
-            pools.picks.lane_mut(0),
-            pools.work.lane_mut(0),
-        )
-    }
-
-    /// The same, lowered from the vector in the lanes, which lies at or above each lower vector.
-    fn lower_from_values(&self, limit: i64, pools: &mut Pools) -> Option<Rate>
-        ghost spans: { Spans }
-        requires asked { CanAsk self.now.task.case.now self.now.task.links.now spans self.now.weights.now }
-        requires pools { HasPools self.now.task.case.now.model pools.old }
-        requires high { IsHigh self.now.task.case.now spans (lane pools.old.values) }
-        ensures pools { KeepsPools pools.old pools.new }
-        ensures some { IfSome result (λ rate.
-            IsGreatestAbove self.now.task.case.now spans limit (reject_in pools.new rate.e rate.k)) }
-        ensures none { IsNone result → NoneIsAbove self.now.task.case.now spans limit }
-    {
-        lanes_stand_alone::<i64>();
-        lanes_stand_alone::<u32>();
-        let rows = Lifted::new(self.task.case, self.task.links, self.weights);
-        greatest_reject_from(
-            &rows,
-            limit,
-            pools.values.lane_mut(0),
-            pools.allowed.lane_mut(0),
-            pools.ranks.lane_mut(0),
-            pools.picks.lane_mut(0),
-            pools.work.lane_mut(0),
-        )
-    }
-
-    /// The greatest lower vector in the lanes, with its ranks and picks, if its number of the initial state is
-    /// above the limit. Where there is a collapsed model, a vector at or above it is found on that.
-    fn greatest_lower(
-        &self,
-        limit: i64,
-        collapse: &mut Option<Collapse>,
-        pools: &mut Pools,
-    ) -> Option<Rate>
-        ghost spans: { Spans }
-        requires asked { CanAsk self.now.task.case.now self.now.task.links.now spans self.now.weights.now }
-        requires filled { IfSome collapse.old (IsFilled self.now.task.case.now spans) }
-        requires pools { HasPools self.now.task.case.now.model pools.old }
-        ensures collapse { collapse.new ≡ collapse.old }
-        ensures pools { KeepsPools pools.old pools.new }
-        ensures some { IfSome result (λ rate.
-            IsGreatestAbove self.now.task.case.now spans limit (reject_in pools.new rate.e rate.k)) }
-        ensures none { IsNone result → NoneIsAbove self.now.task.case.now spans limit }
-    {
-        lanes_stand_alone::<i64>();
-        let Some(collapse) = collapse else {
-            return self.lower_from_ones(limit, pools);
-        };
-        if !collapse.lower_above(self.task.case, limit, pools.values.lane_mut(0)) {
-            return None;
-        }
-        self.lower_from_values(limit, pools)
+        self.finder().least_upper_within(limit, collapse, pools)
     }
 
     /// Whether a rejecting certificate exists, if one may. Then the greatest lower vector, its ranks and its picks
@@ -248,7 +140,7 @@ impl Question<'_> {
         }
         ranks_fit();
         let limit = greatest_within(self.task.bound, self.task.case.w());
-        self.greatest_lower(limit, collapse, pools)
+        self.finder().greatest_lower_above(limit, collapse, pools)
     }
 
     /// Decides the rectangle at the case's precision alone, in the lanes. Where a rejecting certificate is to be

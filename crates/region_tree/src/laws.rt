@@ -6,6 +6,7 @@ ghost use Rattle.region_tree.specs.Laws.{
   GreatestLowersExist,
   LeastUppersAreOne,
   LeastUppersExist,
+  MeetingRectanglesShare,
   RightTreesAreOne,
   RightTreesExist,
   RightTreesTile,
@@ -84,6 +85,11 @@ pub fn walks_are_placed()
 {
     sides_go_down();
 }
+
+/// Two rectangles that meet share a valuation.
+pub fn meeting_rectangles_share()
+    ensures { MeetingRectanglesShare }
+{}
 
 /// A walk over a visitor that counts no fault offers the nodes of the right tree, which `build` gives,
 /// whole and in preorder.

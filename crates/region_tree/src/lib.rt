@@ -6,6 +6,7 @@ mod aim;
 mod base;
 mod decided;
 mod decision;
+mod finder;
 mod halves;
 mod laws;
 mod leaf;
@@ -21,12 +22,15 @@ mod visitor;
 mod walking;
 
 pub use base::{Base, Copier, Given};
-pub use decision::decide;
+pub use decided::{Decided, Outlook};
+pub use decision::{decide, fill_collapse, make_table};
+pub use finder::Finder;
 pub use laws::{
-    calm_walks_show_all, certificates_are_one, certificates_exist, right_trees_are_one,
-    right_trees_exist, right_trees_tile, walks_are_placed,
+    calm_walks_show_all, certificates_are_one, certificates_exist, meeting_rectangles_share,
+    right_trees_are_one, right_trees_exist, right_trees_tile, walks_are_placed,
 };
 pub use lift_walk::rectangles_at_depths;
+pub use pools::Pools;
 pub use refining::refine;
 pub use room::Room;
 pub use tree::{Branch, Tree, build};

@@ -11,17 +11,17 @@ use std::alloc::{AllocError, Global};
 
 /// The lanes in which the vectors of a rectangle are found: one of each kind.
 #[derive(Drop)]
-pub(crate) struct Pools {
+pub struct Pools {
     /// The numbers of the states.
-    pub(crate) values: Pool<i64>,
+    pub values: Pool<i64>,
     /// Which rows are allowed.
-    pub(crate) allowed: Pool<u32>,
+    pub allowed: Pool<u32>,
     /// The ranks of the states.
-    pub(crate) ranks: Pool<u32>,
+    pub ranks: Pool<u32>,
     /// The picks of the states.
-    pub(crate) picks: Pool<u32>,
+    pub picks: Pool<u32>,
     /// Work space.
-    pub(crate) work: Pool<u32>,
+    pub work: Pool<u32>,
 }
 
 /// How many rows the model has: as many as the number of its last row, and one.
@@ -34,8 +34,8 @@ fn row_count(model: &Model, links: &Links) -> usize
 }
 
 impl Pools {
-    /// Takes the lanes of a model.
-    pub(crate) fn of_model(alloc: Global, model: &Model, links: &Links) -> Result<Pools, AllocError>
+    /// Takes the lanes of a model. The one error is that memory runs out.
+    pub fn of_model(alloc: Global, model: &Model, links: &Links) -> Result<Pools, AllocError>
         requires { AreLinks model.now links.now }
         ensures { IfOk result (HasPools model.now) }
     {

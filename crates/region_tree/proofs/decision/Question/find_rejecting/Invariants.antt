@@ -1,4 +1,4 @@
 use Rattle.region_tree.proofs.decision.Question.find_rejecting.Given as goal
 
-abbrev pub ghost-greatest_lower : goal.ghost-greatest_lower
-ghost-greatest_lower g a = g.spans
+abbrev pub ghost-greatest_lower_above : goal.ghost-greatest_lower_above
+ghost-greatest_lower_above g a = g.spans

@@ -1,4 +1,4 @@
-use Rattle.region_tree.proofs.decision.Question.least_upper.Given as goal
+use Rattle.region_tree.proofs.finder.Finder.least_upper.Given as goal
 
 abbrev pub ghost-least_upper_within : goal.ghost-least_upper_within
 ghost-least_upper_within g a = g.spans

@@ -1,4 +1,4 @@
-use Rattle.region_tree.proofs.decision.Question.greatest_lower.Given as goal
+use Rattle.region_tree.proofs.finder.Finder.greatest_lower_above.Given as goal
 
 abbrev pub ghost-lower_from_ones : goal.ghost-lower_from_ones
 ghost-lower_from_ones g a = g.spans
