@@ -5,3 +5,4 @@ mod Literals
 pub mod Matching
 mod Names
 mod Sound
+mod Whole

@@ -1,11 +1,14 @@
 -- What a formula says.
-use Rattle.std.specs.Prelude.{◌≡◌, ◌&&◌, ℕ, pos, unsigned_abs, int_le, int_lt, List, Option, Some, None, option_and_then, if◌then◌else◌}
+use Rattle.std.specs.Prelude.{◌≡◌, ◌&&◌, ℕ, pos, unsigned_abs, int_le, int_lt, List, Option, Some, None, Result, Ok, Err, option_and_then, if◌then◌else◌}
 use Rattle.lift_frac.specs.Ratio.{Ratio}
 use Rattle.lift_frac.specs.Written.{written_ratio}
 use Rattle.lift_cert.specs.Bound.{part_limit}
 use Rattle.lift_cert.specs.declared.bound.Bound.{Bound}
 use Rattle.property_text.specs.declared.op.Op.{Op}
+use Rattle.property_text.specs.declared.error.FormulaError.{FormulaError}
+use Rattle.property_text.specs.declared.error.FormulaError.TheVariants.{Syntax, Bound as NoBound}
 use Rattle.property_text.specs.Grammar.{Written, Writes}
+use Rattle.property_text.specs.Reading.{writing}
 
 -- A formula: how the probability is compared with the bound, the bound, the label of the safe states, if it has one, and that of the goal states.
 pub record FormulaData : Type 0 where
@@ -41,3 +44,13 @@ pub record HasNoBound (text : List ℕ) : Type 0 where
   pub written : Written
   pub writes : Writes text written
   pub none : bound_of written.bound ≡ None
+
+-- ---- the same by reading
+
+-- the formula that says what is written; none where its bound isn't given
+abbrev pub said : Written → Result FormulaData FormulaError
+said w = elim (bound_of w.bound) [ Some bound ↦ Ok (record { op = w.op; bound = bound; safe = w.safe; goal = w.goal }) | None ↦ Err NoBound ]
+
+-- the formula that a text writes
+abbrev pub formula_of : List ℕ → Result FormulaData FormulaError
+formula_of text = elim (writing text) [ Some w ↦ said w | None ↦ Err Syntax ]

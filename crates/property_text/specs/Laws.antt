@@ -7,7 +7,7 @@ use Rattle.lift_model.specs.Reach.{reach}
 use Rattle.lift_model.specs.Memoryless.{memoryless_reach}
 use Rattle.lift_model.specs.Model.{ModelData, choices, process_at}
 use Rattle.property_text.specs.Until.{until, memoryless_until}
-use Rattle.property_text.specs.Restricted.{is_safe, restricted}
+use Rattle.property_text.specs.Restricted.{is_safe, restricted, all_safe}
 use Rattle.property_text.specs.Grammar.{Written, Writes}
 
 -- a plan that fits the model after the cut, and reaches what another plan's until is in the model
@@ -31,6 +31,10 @@ CutKeepsChoices = (m : ModelData) (safe : List Bool) (s : ℕ) → length (choic
 -- where every state is safe, until is reach
 abbrev pub ReachIsUntil : Type 0
 ReachIsUntil = (process : Process) (q n s : ℕ) (p : Plan) → until process (λ t. true) q n s p ≡ reach process q n s p
+
+-- and the cut changes nothing
+abbrev pub CutOfNoneIsSame : Type 0
+CutOfNoneIsSame = (m : ModelData) → restricted m (all_safe m) ≡ m
 
 -- a text writes one formula at most
 abbrev pub FormulaIsOne : Type 0

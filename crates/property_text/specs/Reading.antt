@@ -5,6 +5,7 @@ use Rattle.std.specs.List.{list_all}
 use Rattle.std.specs.Option.{option_map, option_or}
 use Rattle.std.specs.Str.{bytes_eq}
 use Rattle.lift_bytes.specs.Bytes.{is_blank, behind}
+use Rattle.lift_frac.specs.Literal.{is_literal}
 use Rattle.lift_frac.specs.Written.{cut_at}
 use Rattle.lift_grid.specs.Region.{behind_mark}
 use Rattle.property_text.specs.declared.op.Op.{Op}
@@ -61,6 +62,14 @@ from_bound op text = option_and_then (closed op (take_while is_bound_byte text))
 abbrev pub from_op : Op × List ℕ → Option Written
 from_op op = from_bound op.0 (behind is_blank op.1)
 
--- what the text of a formula writes
+-- what the text of a formula writes, but for whether its bound is one
 abbrev pub written_at : List ℕ → Option Written
 written_at text = option_and_then from_op (option_and_then op_at (if bytes_eq (take 1 text) (codes "P") then Some (drop 1 text) else None))
+
+-- a text is a literal, or one over another
+abbrev pub is_ratio : List ℕ → Bool
+is_ratio text = elim (cut_at (code "/") text) [ Some parts ↦ is_literal parts.0 && is_literal parts.1 | None ↦ is_literal text ]
+
+-- what the text of a formula writes
+abbrev pub writing : List ℕ → Option Written
+writing text = option_and_then (λ w. if is_ratio w.bound then Some w else None) (written_at text)

@@ -1,5 +1,5 @@
 -- A model after the cut: in a state that is neither safe nor a goal state each choice stays in the state. So until, for which a run ends there, is reach.
-use Rattle.std.specs.Prelude.{ℕ, suc, Bool, false, ◌||◌, List, [], ◌∷◌, ℤ, map, slice_index_or, if◌then◌else◌}
+use Rattle.std.specs.Prelude.{ℕ, suc, Bool, true, false, ◌||◌, List, [], ◌∷◌, ℤ, map, slice_index_or, if◌then◌else◌}
 use Rattle.lift_poly.specs.Polynomial.{Term}
 use Rattle.lift_model.specs.declared.entry.Entry.{Entry}
 use Rattle.lift_model.specs.Model.{ModelData, is_goal}
@@ -36,3 +36,7 @@ restricted m safe = record {
   init = m.init;
   states = cut_from (certain m.common) (is_kept m safe) 0 m.states;
 }
+
+-- every state of a model is safe
+abbrev pub all_safe : ModelData → List Bool
+all_safe m = map (λ rows. true) m.states

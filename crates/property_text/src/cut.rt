@@ -3,7 +3,7 @@
 ghost use Rattle.std.specs.Prelude.{◌≡◌, ◌<◌, length, map, IfOk, if◌then◌else◌};
 ghost use Rattle.lift_model.specs.Model.{choices};
 ghost use Rattle.lift_model.specs.Valid.{IsModel};
-ghost use Rattle.property_text.specs.Restricted.{is_kept, certain, staying, cut_from, restricted};
+ghost use Rattle.property_text.specs.Restricted.{is_safe, is_kept, certain, staying, cut_from, restricted};
 
 use lift_model::{Entry, Model, Row, SharedPoly};
 use lift_names::Names;
@@ -80,6 +80,16 @@ fn staying_rows(
     Ok(rows)
 }
 
+/// Whether a state is safe.
+fn is_safe(safe: &[bool], s: u32) -> bool
+    ensures { result ≡ is_safe safe.now s }
+{
+    match safe.get(s as usize) {
+        Some(safe) => *safe,
+        None => false,
+    }
+}
+
 /// The choices of a state after the cut.
 fn rows_after(
     alloc: Global,
@@ -88,12 +98,11 @@ fn rows_after(
     poly: &SharedPoly,
     s: u32,
 ) -> Result<Vec<Row>, AllocError>
-    requires state { s < length model.now.states }
-    requires safe { length safe.now ≡ length model.now.states }
+    requires { s < length model.now.states }
     ensures { IfOk result (λ rows. rows.items ≡ (if is_kept model.now safe.now s then choices model.now s
         else map (staying poly.now s) (choices model.now s))) }
 {
-    if model.is_goal(s) || safe[s as usize] {
+    if model.is_goal(s) || is_safe(safe, s) {
         kept_rows(alloc, model, s)
     } else {
         staying_rows(alloc, model, poly, s)
@@ -107,7 +116,6 @@ fn states_after(
     safe: &[bool],
     poly: &SharedPoly,
 ) -> Result<Vec<Vec<Row>>, AllocError>
-    requires { length safe.now ≡ length model.now.states }
     ensures { IfOk result (λ states. map (λ v. v.items) states.items
         ≡ cut_from poly.now (is_kept model.now safe.now) 0 model.now.states) }
 {
@@ -119,8 +127,8 @@ fn states_after(
     Ok(states)
 }
 
-/// Whether each state is a goal state.
-fn goals_of(alloc: Global, model: &Model) -> Result<Vec<bool>, AllocError>
+/// Whether each state is a goal state. Linear in the number of states.
+pub fn goals_of(alloc: Global, model: &Model) -> Result<Vec<bool>, AllocError>
     ensures { IfOk result (λ goals. goals.items ≡ model.now.goal) }
 {
     let count = model.states();
@@ -141,9 +149,9 @@ fn certain(alloc: Global, model: &Model) -> Result<SharedPoly, AllocError>
 
 /// The model in which until is reach: each row that has an entry, of a state that is neither safe nor a
 /// goal state, is one entry to that state itself, with probability 1. All else is as it was. `safe` has one
-/// truth value per state. Linear in the model's size, and polynomials are shared.
+/// truth value per state; a state beyond its end isn't safe. Linear in the model's size, and polynomials are
+/// shared.
 pub fn restrict(alloc: Global, model: &Model, safe: &[bool]) -> Result<Model, AllocError>
-    requires { length safe.now ≡ length model.now.states }
     ensures model { IfOk result (λ cut. cut ≡ restricted model.now safe.now) }
     ensures valid { IfOk result IsModel }
 {

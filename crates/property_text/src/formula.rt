@@ -1,7 +1,8 @@
 ghost use Rattle.std.specs.Prelude.{◌≡◌, ◌↔◌, IfOk, IfNone, IfSome};
 ghost use Rattle.std.specs.Option.{option_map, option_copied};
 ghost use Rattle.property_text.specs.Grammar.{Written, Writes};
-ghost use Rattle.property_text.specs.Formula.{IsFormula, HasNoBound};
+ghost use Rattle.property_text.specs.Reading.{writing};
+ghost use Rattle.property_text.specs.Formula.{IsFormula, HasNoBound, formula_of};
 
 use crate::bound::bound_of;
 use crate::error::FormulaError;
@@ -62,8 +63,30 @@ impl Formula {
     }
 }
 
+/// What a formula says, with its labels as they lie in its text.
+#[derive(Drop)]
+pub struct FormulaIn<'a> {
+    /// How the probability is compared with the bound.
+    pub op: Op,
+    pub bound: Bound,
+    /// The label of the safe states, if there is one: else every state is safe.
+    pub safe: Option<&'a [u8]>,
+    /// The label of the goal states.
+    pub goal: &'a [u8],
+}
+
+impl<'a> std::marker::Model for FormulaIn<'a> {
+    ghost use Rattle.std.specs.Option.{option_copied};
+    ghost use Rattle.property_text.specs.Formula.{FormulaData};
+
+    ghost Value = { FormulaData };
+
+    ghost view = { λ f. record { op = f.op; bound = f.bound; safe = option_copied f.safe; goal = f.goal.now } };
+}
+
 /// The parts of a formula's text.
 fn parts_of(text: &[u8]) -> Option<Parts<'_>>
+    ensures is { result ≡ writing text.now }
     ensures none { IfNone result ((w : Written) → ¬ Writes text.now w) }
     ensures some { IfSome result (Writes text.now) }
 {
@@ -77,21 +100,12 @@ fn parts_of(text: &[u8]) -> Option<Parts<'_>>
     }
 }
 
-/// A label of one's own, if there is one.
-fn copied(alloc: Global, label: Option<&[u8]>) -> Result<Option<Vec<u8>>, AllocError>
-    ensures { IfOk result (λ copy. option_map (λ v. v.items) copy ≡ option_copied label.entry) }
-{
-    match label {
-        Some(label) => Ok(Some(Vec::from_slice(alloc, label)?)),
-        None => Ok(None),
-    }
-}
-
-/// Reads a formula, as `P<=1/2 [ "up" U "done" ]` or `P>0.9 [ F "done" ]`.
+/// Reads a formula, as `P<=1/2 [ "up" U "done" ]` or `P>0.9 [ F "done" ]`. Takes no memory.
 ///
 /// `Syntax` exactly where the text isn't in the grammar, and else `Bound` exactly where the bound isn't from
 /// 0 to 1, its divisor is 0, or a part of it is too wide. Linear in the text's length.
-pub fn read_formula(alloc: Global, text: &[u8]) -> Result<Formula, FormulaError>
+pub fn formula_in(text: &[u8]) -> Result<FormulaIn<'_>, FormulaError>
+    ensures is { result ≡ formula_of text.now }
     ensures syntax { (result ≡ Err FormulaError.Syntax) ↔ ((w : Written) → ¬ Writes text.now w) }
     ensures bound { (result ≡ Err FormulaError.Bound) ↔ HasNoBound text.now }
     ensures formula { IfOk result (IsFormula text.now) }
@@ -102,10 +116,35 @@ pub fn read_formula(alloc: Global, text: &[u8]) -> Result<Formula, FormulaError>
     let Some(bound) = bound_of(parts.bound) else {
         return Err(FormulaError::Bound);
     };
-    Ok(Formula {
+    Ok(FormulaIn {
         op: parts.op,
         bound,
-        safe: copied(alloc, parts.safe)?,
-        goal: Vec::from_slice(alloc, parts.goal)?,
+        safe: parts.safe,
+        goal: parts.goal,
+    })
+}
+
+/// A label of one's own, if there is one.
+fn copied(alloc: Global, label: Option<&[u8]>) -> Result<Option<Vec<u8>>, AllocError>
+    ensures { IfOk result (λ copy. option_map (λ v. v.items) copy ≡ option_copied label.entry) }
+{
+    match label {
+        Some(label) => Ok(Some(Vec::from_slice(alloc, label)?)),
+        None => Ok(None),
+    }
+}
+
+/// The same with labels of its own.
+pub fn read_formula(alloc: Global, text: &[u8]) -> Result<Formula, FormulaError>
+    ensures syntax { (result ≡ Err FormulaError.Syntax) ↔ ((w : Written) → ¬ Writes text.now w) }
+    ensures bound { (result ≡ Err FormulaError.Bound) ↔ HasNoBound text.now }
+    ensures formula { IfOk result (IsFormula text.now) }
+{
+    let formula = formula_in(text)?;
+    Ok(Formula {
+        op: formula.op,
+        bound: formula.bound,
+        safe: copied(alloc, formula.safe)?,
+        goal: Vec::from_slice(alloc, formula.goal)?,
     })
 }

@@ -9,8 +9,8 @@ mod laws;
 mod op;
 mod parts;
 
-pub use cut::restrict;
+pub use cut::{goals_of, restrict};
 pub use error::FormulaError;
-pub use formula::{Formula, read_formula};
+pub use formula::{Formula, FormulaIn, formula_in, read_formula};
 pub use laws::{formulas_are_one, until_is_reach};
 pub use op::Op;

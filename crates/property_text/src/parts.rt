@@ -3,13 +3,13 @@
 ghost use Rattle.std.specs.Prelude.{◌≡◌, ◌≤◌, length, true, false};
 ghost use Rattle.std.specs.List.{list_all, prefix_len};
 ghost use Rattle.std.specs.Option.{option_map, option_copied};
-ghost use Rattle.lift_frac.specs.Literal.{Literal};
+ghost use Rattle.lift_frac.specs.Literal.{Literal, is_literal};
 ghost use Rattle.lift_frac.specs.Grammar.{Writes as WritesLiteral};
 ghost use Rattle.lift_frac.specs.Written.{cut_at as cut_of};
 ghost use Rattle.lift_grid.specs.Region.{behind_mark};
 ghost use Rattle.property_text.specs.Grammar.{IsRatio, is_label_byte};
 ghost use Rattle.property_text.specs.Reading.{op_at, label_at, path_to, path_at};
-ghost use Rattle.property_text.specs.Reading.{is_bound_byte, from_bound, written_at};
+ghost use Rattle.property_text.specs.Reading.{is_bound_byte, from_bound, written_at, is_ratio};
 
 use crate::op::Op;
 use lift_bytes::{digits_len, is_blank, len_before, trimmed_front};
@@ -179,6 +179,7 @@ pub(crate) fn written_at(text: &[u8]) -> Option<Parts<'_>>
 
 /// Whether a text is a literal.
 fn is_literal(text: &[u8]) -> bool
+    ensures is { result ≡ is_literal text.now }
     ensures yes { result ≡ true → (l : Literal) × WritesLiteral text.now l }
     ensures no { result ≡ false → (l : Literal) → WritesLiteral text.now l → ⊥ }
 {
@@ -187,6 +188,7 @@ fn is_literal(text: &[u8]) -> bool
 
 /// Whether a text is a literal, or one over another.
 pub(crate) fn is_ratio(text: &[u8]) -> bool
+    ensures is { result ≡ is_ratio text.now }
     ensures yes { result ≡ true → IsRatio text.now }
     ensures no { result ≡ false → IsRatio text.now → ⊥ }
 {
