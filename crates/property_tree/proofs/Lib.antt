@@ -1,0 +1,7 @@
+pub mod Lanes
+pub mod Beside
+pub mod Deciding
+pub mod Single
+pub mod Texts
+pub mod Ready
+pub mod Meeting

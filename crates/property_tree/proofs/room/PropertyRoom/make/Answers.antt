@@ -1,0 +1,16 @@
+use Rattle.std.proofs.Common.{◌∷◌, [], ◌∙◌, ap, pos}
+use Rattle.property_tree.proofs.Ready.{found_of, lane_filled}
+use Rattle.property_tree.proofs.room.PropertyRoom.make.Goals as goal
+
+pub returns : goal.returns
+returns c =
+    let k = c.args.case.now in
+    record {
+      lanes = record {
+        collapse = found_of k.model c.in_ok-build.field-0 (rw c.model.ensures.value at c.in_ok-build.ensures);
+        weights = lane_filled c.in_ok-filled.field-0 _ (pos 0) c.in_ok-filled.ensures ∙ ap (λ n. n ∷ []) c.weights_len.ensures;
+        pools = rw c.model-2.ensures.value at c.in_ok-of_model.ensures;
+        decided = c.in_ok-decided_of_case.ensures;
+      };
+      sides = c.in_ok-sides_of_case.ensures.made;
+    }

@@ -1,0 +1,6 @@
+pub mod Leaves
+pub mod Decided
+pub mod Recent
+pub mod Rooms
+pub mod Text
+pub mod Laws

@@ -1,0 +1,18 @@
+//! The tree of a region for a property that compares a probability with a bound: what is reached at least, for
+//! every scheduler, or at most.
+#![tactic(auto)]
+
+mod decider;
+mod decision;
+mod laws;
+mod question;
+mod room;
+mod sides;
+mod tree;
+mod vectors;
+mod writers;
+
+pub use laws::{leaves_are_one, property_trees_are_one};
+pub use question::Question;
+pub use room::PropertyRoom;
+pub use tree::write_tree;

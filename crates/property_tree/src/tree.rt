@@ -1,0 +1,43 @@
+//! The tree of a case for a property.
+
+ghost use Rattle.lift_base.specs.Outside.{WroteSome};
+ghost use Rattle.lift_model.specs.Links.{AreLinks};
+ghost use Rattle.property_tree.specs.Rooms.{IsAsMade, IsMadeFor};
+ghost use Rattle.property_tree.specs.Text.{IsTreeText};
+
+use crate::decider::PropertyDecider;
+use crate::laws::leaves_are_one;
+use crate::question::Question;
+use crate::room::PropertyRoom;
+use lift_base::{Sink, WriteFault};
+
+/// Writes the lines of the nodes of the case's right tree for what is asked, in preorder, and ends at the first
+/// failure. The room was made for the case, and after it is as made. Takes no memory.
+///
+/// At Ok there is a right tree. Whichever tree is right, all its lines were written, or after an error a part of
+/// them, from the front. An error comes only where the sink's count of faults rose or stands at its last value.
+pub fn write_tree<K: Sink>(
+    question: &Question,
+    room: &mut PropertyRoom,
+    out: &mut K,
+) -> Result<(), WriteFault>
+    requires links { AreLinks question.now.case.now.model question.now.links.now }
+    requires made { IsMadeFor question.now.case.now question.now.links.now room.old }
+    ensures wrote { WroteSome (IsTreeText question.now.case.now question.now.op question.now.bound question.now.case.now.root 0)
+        K.taken K.faults out.old out.new result }
+    ensures room { IsAsMade room.old room.new }
+{
+    leaves_are_one();
+    let _ = question.case.w();
+    room.lanes.forget();
+    let decider = PropertyDecider {
+        question: &*question,
+    };
+    tree_writer::write_tree(
+        question.case,
+        &decider,
+        &mut room.sides,
+        &mut room.lanes,
+        out,
+    )
+}
