@@ -84,7 +84,7 @@ def words_of(line: str, separator: str = " ") -> list[str]:
 def runs() -> Iterator[Case]:
     """Models with the words that they are verified by."""
     models = named(constants("plift_tests", "models")["MODELS"])
-    for module in ("decided", "lumped", "ranges", "refused", "regions", "rows", "trees", "within"):
+    for module in ("decided", "lumped", "properties", "ranges", "refused", "regions", "rows", "trees", "within"):
         for name, table in constants("plift_tests", module).items():
             for row in rows(table) if name not in ("REGION", "REPORT") else []:
                 words, model, status, end, notes = row.split(" | ")
@@ -179,4 +179,5 @@ def left_out() -> Iterator[str]:
     yield "reports_are_cut_off_anywhere and reports_lack_what_failed in plift_tests/src/trees.rt: an output that holds only so many bytes"
     yield "reports_with_ranges_are_cut_off_anywhere in plift_tests/src/ranges.rt: an output that holds only so many bytes"
     yield "texts_for_steps_are_cut_off_anywhere in plift_tests/src/within.rt: an output that holds only so many bytes"
+    yield "texts_for_properties_are_cut_off_anywhere in plift_tests/src/properties.rt: an output that holds only so many bytes"
     yield "unsound_reports_have_no_map in view_tests/src/pictures.rt, and the other crates of tests: they call parts of the programs"

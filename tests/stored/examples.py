@@ -7,6 +7,7 @@ from cases import Case
 from tables import TOP
 
 SHAPES = [("1/2", "0", "24"), ("1/4", "3", "10"), ("1/50", "5", "7"), ("0", "1", "40")]
+OPS = ["<=", "<", ">=", ">"]
 VIEWS = [[], ["--summary"], ["--follow"], ["--x", "p"], ["--at", "q=1/8"]]
 
 
@@ -27,6 +28,11 @@ def models() -> Iterator[Case]:
             for bound, depth, precision in SHAPES:
                 for command in (["verify"], ["verify", "--from", "1"], ["lumped"], ["bounded", "--steps", "3"]):
                     words = [*command, "--goal", goal, "--bound", bound, "--depth", depth, "--precision", precision]
+                    words += ["--region", region] if region else []
+                    yield Case(f"{path.name}: {' '.join(words)}", "plift", words, path.read_bytes())
+            for op, (bound, depth, precision) in zip(OPS, SHAPES):
+                for route in (f'F "{goal}"', f'"init" U "{goal}"'):
+                    words = ["property", "--formula", f"P{op}{bound} [{route}]", "--depth", depth, "--precision", precision]
                     words += ["--region", region] if region else []
                     yield Case(f"{path.name}: {' '.join(words)}", "plift", words, path.read_bytes())
 

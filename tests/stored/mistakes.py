@@ -78,6 +78,18 @@ bounded|--goal|{GOAL}|--bound|{BOUND}|--region|{REGION}|--steps|three | usage: -
 bounded|--goal|{GOAL}|--bound|{BOUND}|--steps|3 | usage: --region Missing
 bounded|--goal|{GOAL}|--bound|{BOUND}|--region|{REGION}|--steps|3|--from|1 | usage: words
 bounded|--goal|lots|--bound|{BOUND}|--region|{REGION}|--steps|3 | model: line 31: UnknownLabel
+property|--region|{REGION} | usage: words
+property|--goal|{GOAL}|--bound|{BOUND}|--region|{REGION} | usage: words
+property|--formula|P<=1/2 [F "lost"]|--goal|{GOAL}|--region|{REGION} | usage: words
+property|--formula|P<=1/2 [F "lost"]|--region|{REGION}|--from|1 | usage: words
+property|--formula|P|[F|lost]|--region|{REGION} | usage: words
+property|--formula|P<=1/2 [F lost]|--region|{REGION} | usage: --formula Syntax
+property|--formula|P<=1/2 F "lost"|--region|{REGION} | usage: --formula Syntax
+property|--formula|Pmax<=1/2 [F "lost"]|--region|{REGION} | usage: --formula Syntax
+property|--formula|P<=50 [F "lost"]|--region|{REGION} | usage: --formula Bound
+property|--formula|P<=1/2 [F "lost"] | usage: --region Missing
+property|--formula|P<=1/2 [F "lots"]|--region|{REGION} | model: line 31: UnknownLabel
+property|--formula|P<=1/2 ["lots" U "lost"]|--region|{REGION} | model: line 31: UnknownLabel
 verify|--goal|{GOAL}|--bound|{BOUND}|--region|{REGION}|--from|25 | usage: --from
 verify|--goal|{GOAL}|--bound|{BOUND}|--region|{REGION}|--from|1|--from|2 | usage: words
 verify|--goal|lots|--bound|{BOUND}|--region|{REGION}|--from|1 | model: line 31: UnknownLabel
@@ -123,6 +135,7 @@ REPORTS = """
 1024; | 1024;plift 1; | not sound: rest
 plift 1 | plift 3 | not sound: line 1: Version
 plift 1 | plift-bounded 1 | not sound: line 1: Syntax
+plift 1 | plift-property 1 | not sound: line 1: Syntax
 precision 10; | precision 10;from 10; | not sound: line 32: Syntax
 accept 28 | at 10;accept 28 | not sound: line 35: Syntax
 """

@@ -21,6 +21,8 @@ mod malformed;
 #[cfg(test)]
 mod models;
 #[cfg(test)]
+mod properties;
+#[cfg(test)]
 mod ranges;
 #[cfg(test)]
 mod refused;

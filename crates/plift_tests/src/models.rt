@@ -7,8 +7,8 @@ use std::alloc::{AllocError, Global};
 // sum to 1 where these are equal alone. BELOW: a value below 0, in a row that sums to 1. LADDER2: a
 // ladder of two blocks. SURE: two states of equal behaviour, which lead to the goal by different
 // parameters. THIRD: two such states to which a parameter leads. UNUSED: the coin with a parameter that
-// no row depends on. REPORT: no model, but a report of the coin. LOOP, LADDER, DIE and EXPORT stand in
-// the folder examples too.
+// no row depends on. DETOUR: two ways to the goal, of which one is safe. REPORT: no model, but a report
+// of the coin. LOOP, LADDER, DIE and EXPORT stand in the folder examples too.
 const MODELS: &str = "\
 COIN = @type: DTMC;@parameters;p;@model;state 0 init;1 : p;2 : 1-p;state 1 heads;1 : 1;state 2;2 : 1;
 NOTED_COIN = \t// a coin\r;\t@type: DTMC\r;\t@parameters\r;\tp\r;\t@model\r;\tstate 0 init\r;\t1 : p\r;\t2 : 1-p\r;\
@@ -44,6 +44,8 @@ SHORT_CUT = @type: MDP;@parameters;p;@model;state 0 init;action toss;3 : p;2 : 1
     state 3 heads;3 : 1;
 LADDER2 = @type: DTMC;@parameters;p q;@model;state 0 init;2 : p;1 : 1-p;state 1;0 : q;5 : 1-q;state 2;4 : p;3 : 1-p;\
     state 3;2 : q;5 : 1-q;state 4 done;4 : 1;state 5;5 : 1;
+DETOUR = @type: DTMC;@parameters;p;@model;state 0 init safe;1 : p;2 : 1-p;state 1;3 : 1;state 2 safe;3 : p;4 : 1-p;\
+    state 3 heads;3 : 1;state 4;4 : 1;
 SURE = @type: DTMC;@parameters;p q r;@model;state 0 init;1 : p;2 : 1-p;state 1;3 : q;4 : 1-q;state 2;3 : r;4 : 1-r;\
     state 3 heads;3 : 1;state 4 heads;0 : 1;
 THIRD = @type: DTMC;@parameters;p;@model;state 0 init;1 : 1/3*p;2 : 1/3-1/3*p;3 : 2/3;state 1;4 : 1;state 2;4 : 1;state 3;\

@@ -1,11 +1,12 @@
 -- What an answer says, by the refusal that it comes from.
-use Rattle.std.proofs.Common.{IsOk, ◌≡◌, ◌≢◌, ◌≤◌, ◌<◌, ◌⊎◌, inl, inr, ℕ, List, [], ◌++◌, length, length-append, append-nil, false, None, Some, Ok, Err, refl, sym, ap, ◌∙◌, subst, arith, Result, IsErr, IsErrAnd}
+use Rattle.std.proofs.Common.{IsOk, ◌≡◌, ◌≢◌, ◌≤◌, ◌<◌, ◌⊎◌, inl, inr, ℕ, List, [], ◌++◌, length, length-append, append-nil, true, false, None, Some, Ok, Err, refl, sym, ap, ◌∙◌, subst, arith, Result, IsErr, IsErrAnd}
 use Rattle.std.specs.declared.option.Option.{Option}
 use Rattle.std.specs.Io.KnownBytes.{Appends}
 use Rattle.lift_base.specs.Outside.{Rose, AppendsFront, TakenHas, Wrote}
 use Rattle.lift_grid.specs.Region.{Region, region}
 use Rattle.lift_grid.specs.Tree.{Tree}
 use Rattle.lift_model.specs.Model.{ModelData}
+use Rattle.plift_top.specs.Asked.{AskedModel, uncut, cut, asked_model, verified_model}
 use Rattle.corner_lift.specs.Case.{CaseData, IsCase, IsAdmitted, case_of}
 use Rattle.lift_cert.specs.declared.bound.Bound.{Bound}
 use Rattle.lift_rows.specs.Laws.{AdmittedHasNoFault}
@@ -23,11 +24,11 @@ use Rattle.plift_words.specs.declared.job.Field.TheVariants as field
 use Rattle.plift_words.specs.declared.error.WordsError.{WordsError}
 use Rattle.plift_words.specs.declared.error.WordsError.TheVariants as words
 use Rattle.plift_top.specs.Refused.{words_refusal}
-use Rattle.plift_words.specs.Way.{steps_told, from_told}
+use Rattle.plift_words.specs.Way.{from_told, is_reported}
 use Rattle.plift_top.specs.RightReport.{version_of}
 use Rattle.plift_words.specs.declared.way.Way.{Way}
 use Rattle.plift_words.specs.declared.way.Way.TheVariants as way
-use Rattle.plift_top.specs.Verify.{WasRead, Makes, IsAnswered, IsAnswerable, Reports, ReportsFront, IsRefused, KeepsWithin, lacks_chain}
+use Rattle.plift_top.specs.Verify.{WasRead, IsAnswered, IsAnswerable, Reports, ReportsFront, IsRefused, KeepsWithin, lacks_chain}
 use Rattle.cert_text.specs.Forms.{IsToldBound}
 use Rattle.cert_check.specs.Sound.{IsSoundFile, leaf_counts}
 use Rattle.cert_check.specs.Answer.{Answers}
@@ -49,6 +50,7 @@ use Rattle.check_notes.specs.declared.status.Status.{Status}
 use Rattle.check_notes.specs.declared.status.Status.TheVariants as status
 use Rattle.plift_top.specs.declared.refusal.Refusal.{Refusal}
 use Rattle.plift_top.specs.declared.refusal.Refusal.TheVariants as refusal
+use Rattle.plift_top.proofs.Asked.{ok_same, verified_of, as_read}
 use Rattle.plift_top.proofs.Reading.{read_as, short, given}
 use Rattle.plift_top.specs.Lumped.{lumped_case}
 use Rattle.plift_top.proofs.Refusals.{never_refused, one_status, rows_status}
@@ -80,28 +82,45 @@ not_long_report bytes None h long = absurd long.1
 not_long_report bytes (Some ys) h (taken, is, more) = omega (arith, ap length is, length-append taken ys)
 
 -- what is answered is a case
-answered_case : (old new : Option (List ℕ)) (bound : Bound) (asked : Way) (k : CaseData) → IsAnswered old new bound asked k → IsCase k
-answered_case old new bound (way.Whole from) k h = h.case
-answered_case old new bound (way.Within n) k h = h.case
-answered_case old new bound way.Lumped k h = h.is.case
+answered_case : (old new : Option (List ℕ)) (bound : Bound) (asked : Way) (a : AskedModel) (k : CaseData) → IsAnswered old new bound asked a k → IsCase k
+answered_case old new bound (way.Whole from) a k h = h.case
+answered_case old new bound (way.Within n) a k h = h.case
+answered_case old new bound way.Lumped a k h = h.is.case
+answered_case old new bound (way.Property op) a k h = h.case
 
 -- and can be
-answerable : (old new : Option (List ℕ)) (bound : Bound) (asked : Way) (k : CaseData) → IsAnswered old new bound asked k → IsAnswerable asked k.model
-answerable old new bound (way.Whole from) k h = (refl, λ e. absurd (cc))
-answerable old new bound (way.Within n) k h = (refl, λ e. absurd (cc))
-answerable old new bound way.Lumped k h = (ap (lacks_chain way.Lumped) h.is.chain, λ e wide. not_wide h.is.lumped h.reported.case.asked.model wide)
+answerable : (old new : Option (List ℕ)) (bound : Bound) (asked : Way) (a : AskedModel) (k : CaseData) → IsAnswered old new bound asked a k → IsAnswerable asked k.model
+answerable old new bound (way.Whole from) a k h = (refl, λ e. absurd (cc))
+answerable old new bound (way.Within n) a k h = (refl, λ e. absurd (cc))
+answerable old new bound way.Lumped a k h = (ap (lacks_chain way.Lumped) h.is.chain, λ e wide. not_wide h.is.lumped h.reported.case.asked.model wide)
+answerable old new bound (way.Property op) a k h = (refl, λ e. absurd (cc))
 
--- what answers a case that a text stands for, without a number of steps, is a sound file
-answered_soundly : RightReportsAreSound → LumpedReportsAreSound → (old new : Option (List ℕ)) (bound : Bound) (asked : Way) (text label : List ℕ) (m : ModelData) (root : Region) (w : ℕ) → drn text label ≡ Ok m → IsToldBound bound → steps_told asked ≡ None
-    → IsAnswered old new bound asked (case_of m root w) → (report : List ℕ) × (leaves : Summary) × IsSoundFile report leaves × (leaves.version ≡ version_of (from_told asked)) × Appends old new report
-answered_soundly law lumped old new bound (way.Whole from) text label m root w read told none h =
+-- what answers a case that a text stands for, by a report, is a sound file
+answered_soundly : RightReportsAreSound → LumpedReportsAreSound → (old new : Option (List ℕ)) (bound : Bound) (asked : Way) (text label : List ℕ) (m : ModelData) (root : Region) (w : ℕ) → drn text label ≡ Ok m → IsToldBound bound → is_reported asked ≡ true
+    → IsAnswered old new bound asked (uncut m) (case_of m root w) → (report : List ℕ) × (leaves : Summary) × IsSoundFile report leaves × (leaves.version ≡ version_of (from_told asked)) × Appends old new report
+answered_soundly law lumped old new bound (way.Whole from) text label m root w read told shown h =
     let k = case_of m root w in
     (report_text k from bound h.tree, leaf_counts (version_of from) h.tree, law text label m root w from bound h.tree read h.case h.range told h.right, refl, h.report)
-answered_soundly law lumped old new bound (way.Within n) text label m root w read told none h = absurd (cc)
-answered_soundly law lumped old new bound way.Lumped text label m root w read told none h =
+answered_soundly law lumped old new bound (way.Within n) text label m root w read told shown h = absurd (cc)
+answered_soundly law lumped old new bound (way.Property op) text label m root w read told shown h = absurd (cc)
+answered_soundly law lumped old new bound way.Lumped text label m root w read told shown h =
     let k = lumped_case (case_of m root w) h.l in
     let r = h.reported in
     (report_text k None bound r.tree, leaf_counts 1 r.tree, lumped text label (case_of m root w) h.l bound r.tree read h.is.lumped r.case told r.right, refl, r.report)
+
+-- what is a report of a job to a text, is a sound file
+reported_soundly : RightReportsAreSound → LumpedReportsAreSound → (old new : Option (List ℕ)) (j : VerifyData) (text : List ℕ) → IsToldBound j.bound → j.safe ≡ None → is_reported j.way ≡ true → Reports old new j text
+    → (report : List ℕ) × (leaves : Summary) × IsSoundFile report leaves × (leaves.version ≡ version_of (from_told j.way)) × Appends old new report
+reported_soundly law lumped old new j text told none shown m = by (as_read j text none m.model m.read)
+  where
+    by : ((n : ModelData) × (drn text j.goal ≡ Ok n) × (m.model ≡ uncut n)) → (report : List ℕ) × (leaves : Summary) × IsSoundFile report leaves × (leaves.version ≡ version_of (from_told j.way)) × Appends old new report
+    by (n, read, same) =
+        answered_soundly law lumped old new j.bound j.way text j.goal n m.root j.precision read told shown
+        (subst (λ (b : AskedModel). IsAnswered old new j.bound j.way b (case_of (cut b) m.root j.precision)) same m.has)
+
+read_soundly : RightReportsAreSound → LumpedReportsAreSound → (old new : Option (List ℕ)) (j : VerifyData) (before after : Option (List ℕ)) → IsToldBound j.bound → j.safe ≡ None → is_reported j.way ≡ true → WasRead (Reports old new j) before after
+    → (report : List ℕ) × (leaves : Summary) × IsSoundFile report leaves × (leaves.version ≡ version_of (from_told j.way)) × Appends old new report
+read_soundly law lumped old new j before after told none shown w = reported_soundly law lumped old new j w.text told none shown w.has
 
 module _ {S K : Type 0} (left : S → Option (List ℕ)) (faults : S → ℕ) (taken : K → Option (List ℕ)) (counts : K → ℕ) (source source' : S) (out out' : K) where
   pub done : (asked : Result JobData Field) (answer : Result (Unit {0}) Refusal) → Acts left faults taken counts asked source source' out out' answer → answered answer ≡ status.Done
@@ -149,21 +168,20 @@ module _ {S K : Type 0} (left : S → Option (List ℕ)) (faults : S → ℕ) (t
 
   -- what was written for a job is a sound file
   pub sound : RightReportsAreSound → LumpedReportsAreSound → (asked : Result JobData Field) (answer : Result (Unit {0}) Refusal) → Acts left faults taken counts asked source source' out out' answer
-      → (IsOk answer → (j : VerifyData) → AsksToVerify asked j → IsToldBound j.bound) → answered answer ≡ status.Done → (j : VerifyData) → AsksToVerify asked j → steps_told j.way ≡ None
+      → (IsOk answer → (j : VerifyData) → AsksToVerify asked j → IsToldBound j.bound) → (IsOk answer → (j : VerifyData) → AsksToVerify asked j → is_reported j.way ≡ true → j.safe ≡ None)
+      → answered answer ≡ status.Done → (j : VerifyData) → AsksToVerify asked j → is_reported j.way ≡ true
       → (report : List ℕ) × (leaves : Summary) × IsSoundFile report leaves × (leaves.version ≡ version_of (from_told j.way)) × Appends (taken out) (taken out') report
-  sound law lumped (Ok (verify i)) (Ok x) a told e j is none =
+  sound law lumped (Ok (verify i)) (Ok x) a told whole e j is shown =
       let same : i ≡ j = cc in
-      let m = a.has in
-      let asked_on : Way → Type 0 = λ way. (report : List ℕ) × (leaves : Summary) × IsSoundFile report leaves × (leaves.version ≡ version_of (from_told way)) × Appends (taken out) (taken out') report in
-      subst (λ (k : VerifyData). asked_on k.way) same
-      (answered_soundly law lumped (taken out) (taken out') i.bound i.way a.text i.goal m.model m.root i.precision m.read (told refl i refl) (ap (λ (k : VerifyData). steps_told k.way) same ∙ none) m.has)
-  sound law lumped (Ok (generate n)) (Ok x) a told e j is none = absurd (cc)
-  sound law lumped (Ok check) (Ok x) a told e j is none = absurd (cc)
-  sound law lumped (Ok migrate) (Ok x) a told e j is none = absurd (cc)
-  sound law lumped (Ok (refine depth)) (Ok x) a told e j is none = absurd (cc)
-  sound law lumped (Ok (selftest n)) (Ok x) a told e j is none = absurd (cc)
-  sound law lumped (Err f) (Ok x) a told e j is none = absurd a.0
-  sound law lumped asked (Err r) a told e j is none = absurd (never_done r e)
+      read_soundly law lumped (taken out) (taken out') j (left source) (left source') (told refl j is) (whole refl j is shown) shown
+      (subst (λ (k : VerifyData). WasRead (Reports (taken out) (taken out') k) (left source) (left source')) same a)
+  sound law lumped (Ok (generate n)) (Ok x) a told whole e j is shown = absurd (cc)
+  sound law lumped (Ok check) (Ok x) a told whole e j is shown = absurd (cc)
+  sound law lumped (Ok migrate) (Ok x) a told whole e j is shown = absurd (cc)
+  sound law lumped (Ok (refine depth)) (Ok x) a told whole e j is shown = absurd (cc)
+  sound law lumped (Ok (selftest n)) (Ok x) a told whole e j is shown = absurd (cc)
+  sound law lumped (Err f) (Ok x) a told whole e j is shown = absurd a.0
+  sound law lumped asked (Err r) a told whole e j is shown = absurd (never_done r e)
 
   noted : (asked : Result JobData Field) (r : Refusal) → Acts {T = Unit {0}} left faults taken counts asked source source' out out' (Err r) → HasNote (status_of r) asked (left source) (left source') (note_of r)
   noted (Ok (verify j)) (refusal.Usage f) a = absurd a.0
@@ -528,37 +546,38 @@ module _ {S K : Type 0} (left : S → Option (List ℕ)) (faults : S → ℕ) (t
 
   module _ (none : AdmittedHasNoFault) where
     -- a job whose model is admitted over its region is done, but for want of memory
-    pub complete : (asked : Result JobData Field) (answer : Result (Unit {0}) Refusal) → Acts left faults taken counts asked source source' out out' answer → AsksToVerify asked j → (m : ModelData) (root : Region)
-        → drn text j.goal ≡ Ok m → region m.names j.depth j.region ≡ Ok root → IsAdmitted (case_of m root j.precision) → IsAnswerable j.way m
+    pub complete : (asked : Result JobData Field) (answer : Result (Unit {0}) Refusal) → Acts left faults taken counts asked source source' out out' answer → AsksToVerify asked j → (a : AskedModel) (root : Region)
+        → asked_model j text ≡ Ok a → region (cut a).names j.depth j.region ≡ Ok root → IsAdmitted (case_of (cut a) root j.precision) → IsAnswerable j.way (cut a)
         → (answered answer ≡ status.Done) ⊎ (answered answer ≡ status.Memory)
-    complete asked answer a is m root read named admitted can =
-        by_answer (λ (s : Status). (s ≡ status.Done) ⊎ (s ≡ status.Memory)) (λ h. inl refl) (λ why h. absurd (never_refused none j (drn text j.goal) m root read named admitted can why h)) (inr refl) asked answer a is
+    complete asked answer acts is a root read named admitted can =
+        by_answer (λ (s : Status). (s ≡ status.Done) ⊎ (s ≡ status.Memory)) (λ h. inl refl)
+        (λ why h. absurd (never_refused none j (verified_model j text) (cut a) root (verified_of j text a read) named admitted can why h)) (inr refl) asked answer acts is
 
     -- a job that is refused at its text is refused so, but for want of memory
     pub refused : (asked : Result JobData Field) (answer : Result (Unit {0}) Refusal) → Acts left faults taken counts asked source source' out out' answer → AsksToVerify asked j → (why : Refusal) → IsRefused j why text
         → (answered answer ≡ status_of why) ⊎ (answered answer ≡ status.Memory)
     refused asked answer a is why bad =
         by_answer (λ (s : Status). (s ≡ status_of why) ⊎ (s ≡ status.Memory))
-        (λ h. absurd (never_refused none j (drn text j.goal) h.model h.root h.read h.named (answered_case _ _ _ j.way _ h.has).admitted (answerable _ _ _ j.way _ h.has) why bad))
-        (λ other h. inl (one_status j (drn text j.goal) other why h bad)) (inr refl) asked answer a is
+        (λ h. absurd (never_refused none j (verified_model j text) (cut h.model) h.root (verified_of j text h.model h.read) h.named (answered_case _ _ _ j.way _ _ h.has).admitted (answerable _ _ _ j.way _ _ h.has) why bad))
+        (λ other h. inl (one_status j (verified_model j text) other why h bad)) (inr refl) asked answer a is
 
   -- a job whose rows aren't admitted is refused by them, but for want of memory
-  pub unadmitted : (asked : Result JobData Field) (answer : Result (Unit {0}) Refusal) → Acts left faults taken counts asked source source' out out' answer → AsksToVerify asked j → (m : ModelData) (root : Region)
-      → drn text j.goal ≡ Ok m → region m.names j.depth j.region ≡ Ok root → (IsAdmitted (case_of m root j.precision) → ⊥) → lacks_chain j.way m.kind ≡ false
+  pub unadmitted : (asked : Result JobData Field) (answer : Result (Unit {0}) Refusal) → Acts left faults taken counts asked source source' out out' answer → AsksToVerify asked j → (a : AskedModel) (root : Region)
+      → asked_model j text ≡ Ok a → region (cut a).names j.depth j.region ≡ Ok root → (IsAdmitted (case_of (cut a) root j.precision) → ⊥) → lacks_chain j.way (cut a).kind ≡ false
       → (answered answer ≡ status.RowsRefused) ⊎ (answered answer ≡ status.Memory)
-  unadmitted asked answer a is m root read named bad chain =
+  unadmitted asked answer acts is a root read named bad chain =
       by_answer (λ (s : Status). (s ≡ status.RowsRefused) ⊎ (s ≡ status.Memory))
-      (λ h. absurd (bad (same_case h))) (λ why h. inl (rows_status j (drn text j.goal) m root read named chain why h)) (inr refl) asked answer a is
+      (λ h. absurd (bad (same_case h))) (λ why h. inl (rows_status j (verified_model j text) (cut a) root (verified_of j text a read) named chain why h)) (inr refl) asked answer acts is
     where
-      same_case : Reports (taken out) (taken out') j text → IsAdmitted (case_of m root j.precision)
-      same_case h = admitted_by h.model h.root h.read h.named (answered_case _ _ _ j.way _ h.has).admitted
+      same_case : Reports (taken out) (taken out') j text → IsAdmitted (case_of (cut a) root j.precision)
+      same_case h = admitted_by h.model h.root h.read h.named (answered_case _ _ _ j.way _ _ h.has).admitted
         where
-          admitted_by : (n : ModelData) (r : Region) → drn text j.goal ≡ Ok n → region n.names j.depth j.region ≡ Ok r → IsAdmitted (case_of n r j.precision) → IsAdmitted (case_of m root j.precision)
-          admitted_by n r e f h =
-              let first : n ≡ m = cc in
-              let there : region m.names j.depth j.region ≡ Ok r = subst (λ (n : ModelData). region n.names j.depth j.region ≡ Ok r) first f in
-              let second : r ≡ root = cc in
-              subst (λ (n : ModelData). IsAdmitted (case_of n root j.precision)) first (subst (λ (r : Region). IsAdmitted (case_of n r j.precision)) second h)
+          admitted_by : (b : AskedModel) (r : Region) → asked_model j text ≡ Ok b → region (cut b).names j.depth j.region ≡ Ok r → IsAdmitted (case_of (cut b) r j.precision) → IsAdmitted (case_of (cut a) root j.precision)
+          admitted_by b r e f h =
+              let first : b ≡ a = ok_same (asked_model j text) b a e read in
+              let there : region (cut a).names j.depth j.region ≡ Ok r = subst (λ (c : AskedModel). region (cut c).names j.depth j.region ≡ Ok r) first f in
+              let second : r ≡ root = ok_same (region (cut a).names j.depth j.region) r root there named in
+              subst (λ (r : Region). IsAdmitted (case_of (cut a) r j.precision)) second (subst (λ (c : AskedModel). IsAdmitted (case_of (cut c) r j.precision)) first h)
 
 -- where a check was asked for, bytes were given and nothing failed
 module _ {S K : Type 0} (left : S → Option (List ℕ)) (faults : S → ℕ) (taken : K → Option (List ℕ)) (counts : K → ℕ) (source source' : S) (out out' : K) (bytes : List ℕ) (told : left source ≡ Some bytes)
@@ -749,6 +768,8 @@ module _ {S K : Type 0} (left : S → Option (List ℕ)) (faults : S → ℕ) (t
   refused_by (Err field.Precision) words.Memory is = (λ e. absurd (cc), refl, refl)
   refused_by (Err field.Steps) words.Memory is = (λ e. absurd (cc), refl, refl)
   refused_by (Err field.From) words.Memory is = (λ e. absurd (cc), refl, refl)
+  refused_by (Err field.Formula) words.Memory is = (λ e. absurd (cc), refl, refl)
+  refused_by (Err field.FormulaBound) words.Memory is = (λ e. absurd (cc), refl, refl)
   refused_by (Err field.Words) words.Memory is = absurd is
   refused_by (Err field.Blocks) words.Memory is = absurd is
 

@@ -1,3 +1,4 @@
+pub mod Asked
 pub mod Reading
 pub mod Refusals
 pub mod Checks
@@ -6,7 +7,10 @@ pub mod Testing
 pub mod Acts
 pub mod Leaves
 pub mod Telling
+pub mod HeadedTexts
+pub mod Parts
 pub mod BoundedTexts
+pub mod PropertyTexts
 pub mod Lumping
 mod Samples
 mod Migrating

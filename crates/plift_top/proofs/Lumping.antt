@@ -32,6 +32,7 @@ use Rattle.cert_check.specs.Trust.{HoldsInside, LeafHolds}
 use Rattle.plift_words.specs.declared.way.Way.TheVariants as way
 use Rattle.plift_top.specs.Lumped.{lumped_case, IsHeldAt, HoldsOfChain, ChainLeafHolds, BlocksHold, IsLumpedCase}
 use Rattle.plift_top.specs.Verify.{lacks_chain}
+use Rattle.plift_top.specs.Asked.{uncut}
 use Rattle.plift_top.specs.Refused.{lump_refusal}
 use Rattle.plift_top.specs.Steps.{IsTestedCase, AnswersCase}
 use Rattle.plift_top.specs.declared.refusal.Refusal.{Refusal}
@@ -144,7 +145,7 @@ module _ (plans : ChainsHaveOnePlan) (some : ChainsHaveAPlan) (k : CaseData) (l 
 
   -- what comes of the quotient answers the chain's case
   pub of_quotient : {K T : Type 0} (taken : K → Option (List ℕ)) (counts : K → ℕ) (bound : Bound) (out out' : K) (result : Result T Refusal)
-      → AnswersCase taken counts bound (way.Whole None) (lumped_case k l) out out' result → AnswersCase taken counts bound way.Lumped k out out' result
+      → AnswersCase taken counts bound (way.Whole None) (uncut (lumped_case k l).model) (lumped_case k l) out out' result → AnswersCase taken counts bound way.Lumped (uncut k.model) k out out' result
   of_quotient taken counts bound out out' (Ok x) h = record { l = l; is = is; reported = h; schedulers = leaves_say bound _ h.schedulers }
   of_quotient taken counts bound out out' (Err refusal.WriteFault) h = (record { l = l; is = is; cut_off = h.0 }, h.1)
   of_quotient taken counts bound out out' (Err refusal.Memory) h = h
@@ -153,11 +154,11 @@ module _ (plans : ChainsHaveOnePlan) (some : ChainsHaveAPlan) (k : CaseData) (l 
 
 -- the chain wasn't lumped
 pub not_lumped : {K T : Type 0} (taken : K → Option (List ℕ)) (counts : K → ℕ) (bound : Bound) (k : CaseData) → IsCase k → (out : K) (error : LumpError) (result : Result T Refusal) → IsErrAnd result (λ e. e ≡ lump_refusal error)
-    → (error ≡ lump.NotChain → ⊥) → (error ≡ lump.Wide → IsWide k.model) → AnswersCase taken counts bound way.Lumped k out out result
+    → (error ≡ lump.NotChain → ⊥) → (error ≡ lump.Wide → IsWide k.model) → AnswersCase taken counts bound way.Lumped (uncut k.model) k out out result
 not_lumped taken counts bound k case out error (Ok x) e never wide = absurd e
-not_lumped {T = T} taken counts bound k case out error (Err why) e never wide = subst (λ (f : Refusal). AnswersCase {T = T} taken counts bound way.Lumped k out out (Err f)) (sym e) (by error never wide)
+not_lumped {T = T} taken counts bound k case out error (Err why) e never wide = subst (λ (f : Refusal). AnswersCase {T = T} taken counts bound way.Lumped (uncut k.model) k out out (Err f)) (sym e) (by error never wide)
   where
-    by : (error : LumpError) → (error ≡ lump.NotChain → ⊥) → (error ≡ lump.Wide → IsWide k.model) → AnswersCase {T = T} taken counts bound way.Lumped k out out (Err (lump_refusal error))
+    by : (error : LumpError) → (error ≡ lump.NotChain → ⊥) → (error ≡ lump.Wide → IsWide k.model) → AnswersCase {T = T} taken counts bound way.Lumped (uncut k.model) k out out (Err (lump_refusal error))
     by lump.NotChain never wide = absurd (never refl)
     by lump.Wide never wide = ((refl, case.admitted, wide refl), refl)
     by lump.Memory never wide = refl

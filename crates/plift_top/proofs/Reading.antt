@@ -1,5 +1,5 @@
 -- What the steps of a job say of the whole.
-use Rattle.std.proofs.Common.{◌≡◌, ◌≢◌, ◌≤◌, ◌<◌, ℕ, Bool, true, false, List, ◌++◌, length, length-append, append-nil, None, Some, Ok, Err, refl, sym, ap, ◌∙◌, subst, arith, Result, IsErrAnd}
+use Rattle.std.proofs.Common.{◌≡◌, ◌≤◌, ◌<◌, ℕ, Bool, true, false, List, ◌++◌, length, length-append, append-nil, None, Some, Ok, Err, refl, sym, ap, ◌∙◌, subst, arith, Result, IsErrAnd, IfOk, IfErr}
 use Rattle.std.specs.declared.option.Option.{Option}
 use Rattle.std.specs.Io.KnownBytes.{Consumes, IsAtEnd}
 use Rattle.lift_base.specs.Outside.{Rose, TakenHas}
@@ -11,18 +11,17 @@ use Rattle.lift_grid.specs.declared.error.RegionError.TheVariants as fault
 use Rattle.lift_cert.specs.declared.bound.Bound.{Bound}
 use Rattle.lift_model.specs.Model.{ModelData}
 use Rattle.corner_lift.specs.Case.{CaseData, case_of}
-use Rattle.drn_read.specs.Reading.{drn}
-use Rattle.drn_read.specs.declared.error.DrnCause.{DrnCause}
-use Rattle.drn_read.specs.declared.error.DrnCause.TheVariants as cause
 use Rattle.drn_read.specs.declared.error.DrnError.{DrnError}
 use Rattle.cert_check.specs.Source.{file_limit}
 use Rattle.plift_words.specs.Job.{VerifyData}
 use Rattle.plift_words.specs.declared.way.Way.{Way}
-use Rattle.plift_top.specs.Refused.{model_refusal, region_refusal}
-use Rattle.plift_top.specs.Verify.{WasRead, Makes, IsAnswered, IsAnsweredInPart, IsRefused, IsRefusedAt, IsRefusedOf, IsRefusedOver, IsTooWide, Stops, Verifies, lacks_chain}
-use Rattle.plift_top.specs.Steps.{ReadsModel, NamesRoot, AdmitsCase, AnswersCase, WritesOver}
+use Rattle.plift_top.specs.Asked.{AskedModel, cut, verified_model}
+use Rattle.plift_top.specs.Refused.{region_refusal}
+use Rattle.plift_top.specs.Verify.{WasRead, Makes, IsAnswered, IsAnsweredInPart, IsRefused, IsRefusedAt, IsRefusedOf, IsRefusedOver, IsTooWide, Stops, Verifies, KeepsLimit, lacks_chain}
+use Rattle.plift_top.specs.Steps.{IsTextFault, IsModelOf, ReadsModel, NamesRoot, AdmitsCase, AnswersCase, WritesOver}
 use Rattle.plift_top.specs.declared.refusal.Refusal.{Refusal}
 use Rattle.plift_top.specs.declared.refusal.Refusal.TheVariants as refusal
+use Rattle.plift_top.proofs.Asked.{verified_is}
 
 -- what holds of a text that was read follows from what is known of it
 pub read_as : {P Q : List ℕ → Type 0} {old new : Option (List ℕ)} → ((text : List ℕ) → P text → Q text) → WasRead P old new → WasRead Q old new
@@ -38,15 +37,19 @@ pub given : (P : List ℕ → Type 0) (text : List ℕ) (rest : Option (List ℕ
 given P text None h = absurd h.consumed
 given P text (Some ys) h = subst P (sym (h.consumed ∙ ap (λ (r : List ℕ). h.text ++ r) h.ended ∙ append-nil h.text)) h.has
 
--- a text that was read to its end is refused
-module _ {S : Type 0} (left : S → Option (List ℕ)) (faults : S → ℕ) (source source' : S) (goal bytes : List ℕ) (consumed : Consumes (left source) (left source') bytes) (ended : IsAtEnd (left source')) where
-  by_cause : (line : ℕ) (c : DrnCause) (result : Result ModelData Refusal) → IsErrAnd result (λ e. e ≡ model_refusal (record { line = line; cause = c })) → (c ≢ cause.Memory → drn bytes goal ≡ Err (record { line = line; cause = c })) → ReadsModel left faults goal source source' result
-  by_cause line c (Ok m) is h = absurd is
-  by_cause line cause.Memory (Err e) is h = subst (λ (r : Refusal). ReadsModel left faults goal source source' (Err r)) (sym is) tt
-  by_cause line _ (Err e) is h = subst (λ (r : Refusal). ReadsModel left faults goal source source' (Err r)) (sym is) (record { text = bytes; consumed = consumed; ended = ended; has = h (λ k. absurd (cc)) })
+-- reading, by what the text that was read stands for
+pub reads_text : {S : Type 0} (left : S → Option (List ℕ)) (faults : S → ℕ) (job : VerifyData) (source source' : S) (bytes : List ℕ) → Consumes (left source) (left source') bytes → IsAtEnd (left source')
+    → (result : Result ModelData Refusal) → IfOk result (λ m. IsModelOf job m bytes) → IfErr result (IsTextFault (verified_model job bytes)) → ReadsModel left faults job source source' result
+reads_text left faults job source source' bytes consumed ended (Ok m) is h = record { text = bytes; consumed = consumed; ended = ended; has = is }
+reads_text left faults job source source' bytes consumed ended (Err (refusal.Model error)) is h = record { text = bytes; consumed = consumed; ended = ended; has = h }
+reads_text left faults job source source' bytes consumed ended (Err refusal.Memory) is h = tt
+reads_text left faults job source source' bytes consumed ended (Err _) is h = absurd h
 
-  pub refused_text : (text : List ℕ) → text ≡ bytes → (error : DrnError) (result : Result ModelData Refusal) → IsErrAnd result (λ e. e ≡ model_refusal error) → (error.cause ≢ cause.Memory → drn text goal ≡ Err error) → ReadsModel left faults goal source source' result
-  refused_text text same error result is h = by_cause error.line error.cause result is (subst (λ (t : List ℕ). error.cause ≢ cause.Memory → drn t goal ≡ Err error) same h)
+-- no more was taken than a text may have
+pub keeps_reading : {A T : Type 0} (right : Result A DrnError) (result : Result T Refusal) (old new : Option (List ℕ)) → TakenHas (λ bytes. length bytes ≤ file_limit) old new → IfErr result (IsTextFault right) → KeepsLimit result old new
+keeps_reading right (Ok x) old new h k = h
+keeps_reading right (Err refusal.TooLong) old new h k = absurd k
+keeps_reading right (Err _) old new h k = h
 
 -- a region that is refused
 pub refused_region : (job : VerifyData) (names : List (List ℕ)) (error : RegionError) (result : Result (Grid × Spans) Refusal) → IsErrAnd result (λ e. e ≡ region_refusal error) → Fails error (region names job.depth job.region) → NamesRoot job names result
@@ -64,16 +67,16 @@ refused_region job names error (Err e) is h = subst (λ (r : Refusal). NamesRoot
 
 -- why a job stops, by the step that stops it
 module _ {S : Type 0} (left : S → Option (List ℕ)) (faults : S → ℕ) (job : VerifyData) (source source' : S) where
-  pub stops_reading : (why : Refusal) → ReadsModel left faults job.goal source source' (Err why) → Stops left faults job source source' why
+  pub stops_reading : (why : Refusal) → ReadsModel left faults job source source' (Err why) → Stops left faults job source source' why
   stops_reading (refusal.Model error) h = read_as (λ text is. subst (λ (a : Result ModelData DrnError). IsRefusedAt job a (refusal.Model error)) (sym is) refl) h
   stops_reading refusal.ReadFault h = h
   stops_reading refusal.TooLong h = h
   stops_reading refusal.Memory h = tt
   stops_reading _ h = absurd h
 
-  module _ (m : ModelData) (read : ReadsModel left faults job.goal source source' (Ok m)) where
+  module _ (m : ModelData) (read : ReadsModel left faults job source source' (Ok m)) where
     refused_of : (why : Refusal) (lacks : Bool) → lacks_chain job.way m.kind ≡ lacks → IsRefusedOf lacks job m why → WasRead (IsRefused job why) (left source) (left source')
-    refused_of why lacks by h = read_as (λ text is. subst (λ (a : Result ModelData DrnError). IsRefusedAt job a why) (sym is) (subst (λ b. IsRefusedOf b job m why) (sym by) h)) read
+    refused_of why lacks by h = read_as (λ text is. subst (λ (a : Result ModelData DrnError). IsRefusedAt job a why) (sym (verified_is job text m is)) (subst (λ b. IsRefusedOf b job m why) (sym by) h)) read
 
     -- a decision process where a chain is to be lumped
     pub stops_process : lacks_chain job.way m.kind ≡ true → Stops left faults job source source' refusal.NotChain
@@ -98,49 +101,78 @@ stopped {T = T} left faults taken counts job source source' out why (Err e) is h
     by _ h = (h, refl)
 
 -- the answer to a case was cut off
-pub answer_cut_off : {K T : Type 0} (taken : K → Option (List ℕ)) (counts : K → ℕ) (bound : Bound) (asked : Way) (k : CaseData) (out out' : K) (result : Result T Refusal) → IsErrAnd result (λ e. e ≡ refusal.WriteFault)
-    → IsAnsweredInPart (taken out) (taken out') bound asked k × Rose (counts out) (counts out') → AnswersCase taken counts bound asked k out out' result
-answer_cut_off taken counts bound asked k out out' (Ok x) is h = absurd is
-answer_cut_off {T = T} taken counts bound asked k out out' (Err e) is h = subst (λ (f : Refusal). AnswersCase {T = T} taken counts bound asked k out out' (Err f)) (sym is) h
-
--- the case of a model over a region was answered
-pub over_answered : {K T : Type 0} (taken : K → Option (List ℕ)) (counts : K → ℕ) (job : VerifyData) (m : ModelData) (r : Region) (k : CaseData) (out out' : K) (result : Result T Refusal) → AdmitsCase job m r (Ok k)
-    → AnswersCase taken counts job.bound job.way k out out' result → WritesOver taken counts job m r out out' result
-over_answered taken counts job m r k out out' (Ok x) admits h = subst (λ (c : CaseData). IsAnswered (taken out) (taken out') job.bound job.way c) admits.0 h
-over_answered taken counts job m r k out out' (Err refusal.WriteFault) admits h =
-    (subst (λ (c : CaseData). IsAnsweredInPart (taken out) (taken out') job.bound job.way c) admits.0 h.0, h.1)
-over_answered taken counts job m r k out out' (Err refusal.Memory) admits h = h
-over_answered taken counts job m r k out out' (Err refusal.TooWide) admits h = (subst (IsTooWide job.way) admits.0 h.0, h.1)
-over_answered taken counts job m r k out out' (Err _) admits h = absurd h
+pub answer_cut_off : {K T : Type 0} (taken : K → Option (List ℕ)) (counts : K → ℕ) (bound : Bound) (asked : Way) (a : AskedModel) (k : CaseData) (out out' : K) (result : Result T Refusal) → IsErrAnd result (λ e. e ≡ refusal.WriteFault)
+    → IsAnsweredInPart (taken out) (taken out') bound asked k × Rose (counts out) (counts out') → AnswersCase taken counts bound asked a k out out' result
+answer_cut_off taken counts bound asked a k out out' (Ok x) is h = absurd is
+answer_cut_off {T = T} taken counts bound asked a k out out' (Err e) is h = subst (λ (f : Refusal). AnswersCase {T = T} taken counts bound asked a k out out' (Err f)) (sym is) h
 
 -- memory ran out before anything was written
-pub over_short : {K T : Type 0} (taken : K → Option (List ℕ)) (counts : K → ℕ) (job : VerifyData) (m : ModelData) (r : Region) (out : K) (result : Result T Refusal) → IsErrAnd result (λ e. e ≡ refusal.Memory) → WritesOver taken counts job m r out out result
-over_short taken counts job m r out (Ok x) is = absurd is
-over_short {T = T} taken counts job m r out (Err e) is = subst (λ (f : Refusal). WritesOver {T = T} taken counts job m r out out (Err f)) (sym is) refl
+pub answer_short : {K T : Type 0} (taken : K → Option (List ℕ)) (counts : K → ℕ) (bound : Bound) (asked : Way) (a : AskedModel) (k : CaseData) (out : K) (result : Result T Refusal) → IsErrAnd result (λ e. e ≡ refusal.Memory) → AnswersCase taken counts bound asked a k out out result
+answer_short taken counts bound asked a k out (Ok x) is = absurd is
+answer_short {T = T} taken counts bound asked a k out (Err e) is = subst (λ (f : Refusal). AnswersCase {T = T} taken counts bound asked a k out out (Err f)) (sym is) refl
 
--- the rows weren't admitted
-pub over_refused : {K T : Type 0} (taken : K → Option (List ℕ)) (counts : K → ℕ) (job : VerifyData) (m : ModelData) (r : Region) (out : K) (why : Refusal) (result : Result T Refusal) → IsErrAnd result (λ e. e ≡ why)
-    → AdmitsCase job m r (Err why) → WritesOver taken counts job m r out out result
-over_refused taken counts job m r out why (Ok x) is h = absurd is
-over_refused {T = T} taken counts job m r out why (Err e) is h = subst (λ (f : Refusal). WritesOver {T = T} taken counts job m r out out (Err f)) (sym is) (by why h)
-  where
-    by : (why : Refusal) → IsRefusedOver job m (Ok r) why → WritesOver {T = T} taken counts job m r out out (Err why)
-    by (refusal.Rows error) h = (h, refl)
-    by refusal.TooWide h = (h, refl)
-    by _ h = absurd h
+-- an answer to a case is one for another model, where what it says then is the same
+pub answers_as : {K T : Type 0} (taken : K → Option (List ℕ)) (counts : K → ℕ) (bound : Bound) (asked : Way) (a b : AskedModel) (k : CaseData) (out out' : K) (result : Result T Refusal)
+    → (IsAnswered (taken out) (taken out') bound asked a k → IsAnswered (taken out) (taken out') bound asked b k) → AnswersCase taken counts bound asked a k out out' result → AnswersCase taken counts bound asked b k out out' result
+answers_as taken counts bound asked a b k out out' (Ok x) same h = same h
+answers_as taken counts bound asked a b k out out' (Err refusal.WriteFault) same h = h
+answers_as taken counts bound asked a b k out out' (Err refusal.Memory) same h = h
+answers_as taken counts bound asked a b k out out' (Err refusal.TooWide) same h = h
+answers_as taken counts bound asked a b k out out' (Err _) same h = absurd h
+
+module _ {K T : Type 0} (taken : K → Option (List ℕ)) (counts : K → ℕ) (job : VerifyData) (m : ModelData) (a : AskedModel) (is : m ≡ cut a) (r : Region) where
+  -- the case of a model over a region was answered
+  pub over_answered : (k : CaseData) (out out' : K) (result : Result T Refusal) → AdmitsCase job m r (Ok k) → AnswersCase taken counts job.bound job.way a k out out' result → WritesOver taken counts job a r out out' result
+  over_answered k out out' result admits h = by result h
+    where
+      same : k ≡ case_of (cut a) r job.precision
+      same = admits.0 ∙ ap (λ (n : ModelData). case_of n r job.precision) is
+
+      by : (result : Result T Refusal) → AnswersCase taken counts job.bound job.way a k out out' result → WritesOver taken counts job a r out out' result
+      by (Ok x) h = subst (λ (c : CaseData). IsAnswered (taken out) (taken out') job.bound job.way a c) same h
+      by (Err refusal.WriteFault) h = (subst (λ (c : CaseData). IsAnsweredInPart (taken out) (taken out') job.bound job.way c) same h.0, h.1)
+      by (Err refusal.Memory) h = h
+      by (Err refusal.TooWide) h = (subst (IsTooWide job.way) same h.0, h.1)
+      by (Err _) h = absurd h
+
+  -- memory ran out before anything was written
+  pub over_short : (out : K) (result : Result T Refusal) → IsErrAnd result (λ e. e ≡ refusal.Memory) → WritesOver taken counts job a r out out result
+  over_short out (Ok x) is = absurd is
+  over_short out (Err e) is = subst (λ (f : Refusal). WritesOver {T = T} taken counts job a r out out (Err f)) (sym is) refl
+
+  -- the rows weren't admitted
+  pub over_refused : (out : K) (why : Refusal) (result : Result T Refusal) → IsErrAnd result (λ e. e ≡ why) → AdmitsCase job m r (Err why) → WritesOver taken counts job a r out out result
+  over_refused out why (Ok x) was h = absurd was
+  over_refused out why (Err e) was h =
+      subst (λ (f : Refusal). WritesOver {T = T} taken counts job a r out out (Err f)) (sym was) (by why (subst (λ (n : ModelData). IsRefusedOver job n (Ok r) why) is h))
+    where
+      by : (why : Refusal) → IsRefusedOver job (cut a) (Ok r) why → WritesOver {T = T} taken counts job a r out out (Err why)
+      by (refusal.Rows error) h = (h, refl)
+      by refusal.TooWide h = (h, refl)
+      by _ h = absurd h
 
 -- a whole job, by what was written over the root
-module _ {S : Type 0} (left : S → Option (List ℕ)) (faults : S → ℕ) (job : VerifyData) (source source' : S) (m : ModelData) (r : Region) (read : ReadsModel left faults job.goal source source' (Ok m)) (chain : lacks_chain job.way m.kind ≡ false) (named : region m.names job.depth job.region ≡ Ok r) where
-  makes : (P : CaseData → Type 0) → P (case_of m r job.precision) → WasRead (Makes P job) (left source) (left source')
-  makes P h = read_as (λ text is. record { model = m; root = r; read = is; named = named; has = h }) read
+module _ {S : Type 0} (left : S → Option (List ℕ)) (faults : S → ℕ) (job : VerifyData) (source source' : S) (m : ModelData) (r : Region) (read : ReadsModel left faults job source source' (Ok m)) (chain : lacks_chain job.way m.kind ≡ false) (named : region m.names job.depth job.region ≡ Ok r) where
+  makes : (P : AskedModel → CaseData → Type 0) → ((a : AskedModel) → m ≡ cut a → P a (case_of (cut a) r job.precision)) → WasRead (Makes P job) (left source) (left source')
+  makes P h =
+      read_as (λ text is. record {
+        model = is.asked;
+        root = r;
+        read = is.read;
+        named = subst (λ (n : ModelData). region n.names job.depth job.region ≡ Ok r) is.after named;
+        has = h is.asked is.after;
+      }) read
 
   over : (why : Refusal) → IsRefusedOver job m (Ok r) why → WasRead (IsRefused job why) (left source) (left source')
   over why h = refused_over left faults job source source' m read chain why (subst (λ (q : Result Region RegionError). IsRefusedOver job m q why) (sym named) h)
 
-  pub verified : {K T : Type 0} (taken : K → Option (List ℕ)) (counts : K → ℕ) (out out' : K) (result : Result T Refusal) → WritesOver taken counts job m r out out' result → Verifies left faults taken counts job source source' out out' result
+  over_cut : (why : Refusal) → IsRefusedOver job (cut read.has.asked) (Ok r) why → WasRead (IsRefused job why) (left source) (left source')
+  over_cut why h = over why (subst (λ (n : ModelData). IsRefusedOver job n (Ok r) why) (sym read.has.after) h)
+
+  pub verified : {K T : Type 0} (taken : K → Option (List ℕ)) (counts : K → ℕ) (out out' : K) (result : Result T Refusal) → ((a : AskedModel) → m ≡ cut a → WritesOver taken counts job a r out out' result) → Verifies left faults taken counts job source source' out out' result
   verified taken counts out out' (Ok x) h = makes (IsAnswered (taken out) (taken out') job.bound job.way) h
-  verified taken counts out out' (Err refusal.WriteFault) h = (makes (IsAnsweredInPart (taken out) (taken out') job.bound job.way) h.0, h.1)
-  verified taken counts out out' (Err refusal.Memory) h = (tt, h)
-  verified taken counts out out' (Err (refusal.Rows error)) h = (over (refusal.Rows error) h.0, h.1)
-  verified taken counts out out' (Err refusal.TooWide) h = (over refusal.TooWide h.0, h.1)
-  verified taken counts out out' (Err _) h = absurd h.0
+  verified taken counts out out' (Err refusal.WriteFault) h = (makes (λ a. IsAnsweredInPart (taken out) (taken out') job.bound job.way) (λ a is. (h a is).0), (h read.has.asked read.has.after).1)
+  verified taken counts out out' (Err refusal.Memory) h = (tt, h read.has.asked read.has.after)
+  verified taken counts out out' (Err (refusal.Rows error)) h = (let there = h read.has.asked read.has.after in (over_cut (refusal.Rows error) there.0, there.1))
+  verified taken counts out out' (Err refusal.TooWide) h = (let there = h read.has.asked read.has.after in (over_cut refusal.TooWide there.0, there.1))
+  verified taken counts out out' (Err _) h = absurd (h read.has.asked read.has.after).0

@@ -1,5 +1,5 @@
 -- The definitions tried on samples that were worked out by hand.
-use Rattle.std.proofs.Common.{◌≡◌, ℕ, List, codes, pos, negsuc, refl, Result}
+use Rattle.std.proofs.Common.{◌≡◌, ℕ, List, [], ◌∷◌, codes, pos, negsuc, refl, Result}
 use Rattle.std.specs.Fmt.{digits}
 use Rattle.std.specs.declared.option.Option.{Option}
 use Rattle.lift_grid.specs.declared.error.RegionError.TheVariants.{Missing}
@@ -10,6 +10,9 @@ use Rattle.line_text.specs.declared.error.TextCause.TheVariants.{Truncated}
 use Rattle.cert_check.specs.declared.error.CheckError.TheVariants.{Text, Missed, Depth}
 use Rattle.plift_words.specs.Job.{JobData}
 use Rattle.plift_words.specs.declared.job.Field.{Field}
+use Rattle.plift_words.specs.declared.job.Field.TheVariants.{Formula, FormulaBound}
+use Rattle.property_text.specs.declared.op.Op.TheVariants.{AtLeast}
+use Rattle.plift_top.specs.Property.{property_lines}
 use Rattle.plift_top.specs.Answers.{note_of, HasNote}
 use Rattle.check_notes.specs.declared.status.Status.TheVariants as status
 use Rattle.plift_top.specs.declared.refusal.Refusal.TheVariants as refusal
@@ -63,6 +66,17 @@ cut_off = refl
 too_deep : note_of (refusal.Unsound (Depth 3)) ≡ codes "not sound: node 3 depth\n"
 unfolding digits
 too_deep = refl
+
+-- the notes of a formula, and the line that tells one
+no_formula : note_of (refusal.Usage Formula) ≡ codes "usage: --formula Syntax\n"
+no_formula = refl
+
+no_bound : note_of (refusal.Usage FormulaBound) ≡ codes "usage: --formula Bound\n"
+no_bound = refl
+
+asks : property_lines AtLeast (record { num = 1; den = 2 }) ≡ codes "property >= 1/2\n" ∷ []
+unfolding property_lines digits
+asks = refl
 
 -- the note of a text that is too long, whatever the words and the text are, and none of a job that is done
 too_long : (asked : Result JobData Field) (old new : Option (List ℕ)) → HasNote status.TooLong asked old new (codes "too long\n")

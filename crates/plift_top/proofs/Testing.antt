@@ -6,14 +6,13 @@ use Rattle.std.specs.declared.option.Option.{Option}
 use Rattle.std.specs.Io.KnownBytes.{Appends}
 use Rattle.lift_base.specs.Outside.{Rose, AppendsFront, Wrote}
 use Rattle.lift_frac.specs.Gcd.{gcd}
-use Rattle.lift_grid.specs.Region.{Region, region}
+use Rattle.lift_grid.specs.Region.{Region, region, ◌>>=◌}
 use Rattle.lift_grid.specs.Tree.{Tree}
-use Rattle.lift_model.specs.Model.{ModelData}
 use Rattle.corner_lift.specs.Case.{CaseData, case_of}
 use Rattle.lift_cert.specs.Bound.{IsBound}
 use Rattle.lift_rows.specs.Laws.{AdmittedHasNoFault}
 use Rattle.region_tree.specs.Laws.{RightTreesAreOne}
-use Rattle.drn_read.specs.Reading.{drn}
+use Rattle.drn_read.specs.declared.error.DrnError.{DrnError}
 use Rattle.model_gen.specs.Ladder.{most_blocks, ladder_text, ladder, ladder_region, ladder_region_text, ladder_depth, ladder_precision, ladder_case}
 use Rattle.model_gen.specs.Laws.{TextIsShort, TextIsLadder, LadderIsCase, TextNamesRegion}
 use Rattle.cert_text.specs.Forms.{IsToldBound}
@@ -25,6 +24,7 @@ use Rattle.cert_check.specs.declared.error.CheckError.{CheckError}
 use Rattle.cert_check.specs.declared.error.CheckError.TheVariants as check
 use Rattle.plift_words.specs.Job.{VerifyData}
 use Rattle.plift_top.specs.Refused.{check_refusal}
+use Rattle.plift_top.specs.Asked.{AskedModel, uncut, cut, asked_model, verified_model}
 use Rattle.plift_top.specs.Reported.{IsReported, IsCutOff}
 use Rattle.plift_top.specs.Verify.{Makes, IsRefused, Verifies}
 use Rattle.plift_top.specs.Laws.{RightReportsAreSound}
@@ -32,6 +32,7 @@ use Rattle.plift_top.specs.Selftest.{one_half, ladder_job, IsLadderTree, ladder_
 use Rattle.plift_top.specs.declared.refusal.Refusal.{Refusal}
 use Rattle.plift_top.specs.declared.refusal.Refusal.TheVariants as refusal
 use Rattle.plift_top.proofs.Reading.{given, short}
+use Rattle.plift_top.proofs.Asked.{ok_same, read_uncut}
 use Rattle.plift_top.proofs.Refusals.{never_refused}
 
 -- the bound 1/2 is one, and can be told
@@ -58,22 +59,23 @@ text_fits few n h bytes part full = (let most = few n h in let least = front_is_
 
 module _ (n : ℕ) (some : 1 ≤ n) (few : n ≤ most_blocks) (texts : TextIsShort) (reads : TextIsLadder) (cases : LadderIsCase) (names : TextNamesRegion) where
   -- a text and the job make the ladder's case
-  ladder_case_is : (P : CaseData → Type 0) → Makes P ladder_job (ladder_text n) → P (ladder_case n)
+  ladder_case_is : (P : CaseData → Type 0) → Makes (λ a. P) ladder_job (ladder_text n) → P (ladder_case n)
   ladder_case_is P m = by m.model m.root m.read m.named m.has
     where
-      by : (model : ModelData) (root : Region) → drn (ladder_text n) (codes "done") ≡ Ok model → region model.names ladder_depth ladder_region_text ≡ Ok root → P (case_of model root ladder_precision) → P (ladder_case n)
-      by model root read named h =
-          let first : model ≡ ladder n = (let is = reads n some few in cc) in
-          let there : region (ladder n).names ladder_depth ladder_region_text ≡ Ok root = subst (λ (m : ModelData). region m.names ladder_depth ladder_region_text ≡ Ok root) first named in
+      by : (a : AskedModel) (root : Region) → asked_model ladder_job (ladder_text n) ≡ Ok a → region (cut a).names ladder_depth ladder_region_text ≡ Ok root → P (case_of (cut a) root ladder_precision) → P (ladder_case n)
+      by a root read named h =
+          let is : asked_model ladder_job (ladder_text n) ≡ Ok (uncut (ladder n)) = read_uncut ladder_job (ladder_text n) (ladder n) refl (reads n some few) in
+          let first : a ≡ uncut (ladder n) = ok_same (asked_model ladder_job (ladder_text n)) a (uncut (ladder n)) read is in
+          let there : region (ladder n).names ladder_depth ladder_region_text ≡ Ok root = subst (λ (b : AskedModel). region (cut b).names ladder_depth ladder_region_text ≡ Ok root) first named in
           let second : root ≡ ladder_region = (let is = names n in cc) in
-          subst (λ (r : Region). P (case_of (ladder n) r ladder_precision)) second (subst (λ (m : ModelData). P (case_of m root ladder_precision)) first h)
+          subst (λ (r : Region). P (case_of (ladder n) r ladder_precision)) second (subst (λ (b : AskedModel). P (case_of (cut b) root ladder_precision)) first h)
 
   -- the report of its right tree is a sound file
   is_sound : RightReportsAreSound → (tree : Tree) → IsLadderTree n tree → IsSoundFile (ladder_report n tree) (leaf_counts 1 tree)
   is_sound law tree right = law (ladder_text n) (codes "done") (ladder n) ladder_region ladder_precision None one_half tree (reads n some few) (cases n some few) (λ v e. absurd (cc)) half_is_told right
 
   -- what was written, whole: a report that fits
-  pub whole_report : RightReportsAreSound → (bytes : List ℕ) → Makes (IsReported (Some []) (Some bytes) None one_half) ladder_job (ladder_text n) → length bytes ≤ file_limit → IsLadderReport n bytes
+  pub whole_report : RightReportsAreSound → (bytes : List ℕ) → Makes (λ a. IsReported (Some []) (Some bytes) None one_half) ladder_job (ladder_text n) → length bytes ≤ file_limit → IsLadderReport n bytes
   whole_report law bytes m fits =
       let h = ladder_case_is (IsReported (Some []) (Some bytes) None one_half) m in
       let is : bytes ≡ ladder_report n h.tree = h.report in
@@ -85,7 +87,7 @@ module _ (n : ℕ) (some : 1 ≤ n) (few : n ≤ most_blocks) (texts : TextIsSho
       }
 
   -- or one that doesn't
-  pub long_report : RightTreesAreOne → (bytes : List ℕ) → Makes (IsReported (Some []) (Some bytes) None one_half) ladder_job (ladder_text n) → file_limit < length bytes → HasLongReport n
+  pub long_report : RightTreesAreOne → (bytes : List ℕ) → Makes (λ a. IsReported (Some []) (Some bytes) None one_half) ladder_job (ladder_text n) → file_limit < length bytes → HasLongReport n
   long_report one bytes m long tree right =
       let h = ladder_case_is (IsReported (Some []) (Some bytes) None one_half) m in
       let is : bytes ≡ ladder_report n h.tree = h.report in
@@ -93,31 +95,31 @@ module _ (n : ℕ) (some : 1 ≤ n) (few : n ≤ most_blocks) (texts : TextIsSho
       omega (arith, ap length is, ap (λ (t : Tree). length (ladder_report n t)) same)
 
   -- where the room was filled, the report is longer than a text may be
-  pub cut_report : (bytes : List ℕ) → Makes (IsCutOff (Some []) (Some bytes) None one_half) ladder_job (ladder_text n) → length bytes ≡ file_limit + 1 → HasLongReport n
+  pub cut_report : (bytes : List ℕ) → Makes (λ a. IsCutOff (Some []) (Some bytes) None one_half) ladder_job (ladder_text n) → length bytes ≡ file_limit + 1 → HasLongReport n
   cut_report bytes m full tree right =
       let h = ladder_case_is (IsCutOff (Some []) (Some bytes) None one_half) m in
       let least = front_is_short bytes (ladder_report n tree) (h.front tree right) in
       omega arith
 
   -- so what is given back of it is the report, or that it is too long
-  pub within_report : RightReportsAreSound → RightTreesAreOne → (bytes : Vec ℕ Global) (result : Result (Vec ℕ Global) Refusal) → Makes (IsReported (Some []) (Some bytes.items) None one_half) ladder_job (ladder_text n) → GivesWithin file_limit bytes result → ReportsLadder n result
+  pub within_report : RightReportsAreSound → RightTreesAreOne → (bytes : Vec ℕ Global) (result : Result (Vec ℕ Global) Refusal) → Makes (λ a. IsReported (Some []) (Some bytes.items) None one_half) ladder_job (ladder_text n) → GivesWithin file_limit bytes result → ReportsLadder n result
   within_report law one bytes (Ok same) m h = subst (λ (b : Vec ℕ Global). IsLadderReport n b.items) (sym h.0) (whole_report law bytes.items m h.1)
   within_report law one bytes (Err refusal.TooLong) m h = long_report one bytes.items m h
   within_report law one bytes (Err _) m h = absurd h
 
   -- a ladder isn't refused
   never : AdmittedHasNoFault → (why : Refusal) → IsRefused ladder_job why (ladder_text n) → ⊥
-  never none why h = never_refused none ladder_job (drn (ladder_text n) (codes "done")) (ladder n) ladder_region (reads n some few) (names n) (cases n some few).admitted (refl, λ e. absurd (cc)) why h
+  never none why h = never_refused none ladder_job (verified_model ladder_job (ladder_text n)) (ladder n) ladder_region (ap (λ (r : Result AskedModel DrnError). r >>= λ a. Ok (cut a)) (read_uncut ladder_job (ladder_text n) (ladder n) refl (reads n some few))) (names n) (cases n some few).admitted (refl, λ e. absurd (cc)) why h
 
   module _ {S K : Type 0} (source source' : S) (out out' : K) (left : S → Option (List ℕ)) (faults : S → ℕ) (taken : K → Option (List ℕ)) (counts : K → ℕ) (bytes : List ℕ)
       (told : left source ≡ Some (ladder_text n)) (calm : faults source' ≡ 0) (empty : taken out ≡ Some []) (took : taken out' ≡ Some bytes) (none : counts out ≡ 0) where
     -- what verifying the ladder came to, where its report was written
-    pub verified_ladder : Verifies {T = Unit {0}} left faults taken counts ladder_job source source' out out' (Ok tt) → Makes (IsReported (Some []) (Some bytes) None one_half) ladder_job (ladder_text n)
-    verified_ladder v = given (Makes (IsReported (Some []) (Some bytes) None one_half) ladder_job) (ladder_text n) (left source') (rw (told, empty, took) at v)
+    pub verified_ladder : Verifies {T = Unit {0}} left faults taken counts ladder_job source source' out out' (Ok tt) → Makes (λ a. IsReported (Some []) (Some bytes) None one_half) ladder_job (ladder_text n)
+    verified_ladder v = given (Makes (λ a. IsReported (Some []) (Some bytes) None one_half) ladder_job) (ladder_text n) (left source') (rw (told, empty, took) at v)
 
     -- where there was no room for it
-    pub overflowed : Verifies {T = Unit {0}} left faults taken counts ladder_job source source' out out' (Err refusal.WriteFault) → Makes (IsCutOff (Some []) (Some bytes) None one_half) ladder_job (ladder_text n) × (0 < counts out')
-    overflowed v = (given (Makes (IsCutOff (Some []) (Some bytes) None one_half) ladder_job) (ladder_text n) (left source') (rw (told, empty, took) at v.0), counted (counts out') (rw none at v.1))
+    pub overflowed : Verifies {T = Unit {0}} left faults taken counts ladder_job source source' out out' (Err refusal.WriteFault) → Makes (λ a. IsCutOff (Some []) (Some bytes) None one_half) ladder_job (ladder_text n) × (0 < counts out')
+    overflowed v = (given (Makes (λ a. IsCutOff (Some []) (Some bytes) None one_half) ladder_job) (ladder_text n) (left source') (rw (told, empty, took) at v.0), counted (counts out') (rw none at v.1))
 
     -- else memory ran out
     pub stopped_short : AdmittedHasNoFault → (faults source ≡ 0) → (why : Refusal) → (why ≡ refusal.WriteFault → ⊥) → Verifies {T = Unit {0}} left faults taken counts ladder_job source source' out out' (Err why) → why ≡ refusal.Memory
@@ -149,7 +151,7 @@ module _ (n : ℕ) (some : 1 ≤ n) (few : n ≤ most_blocks) (texts : TextIsSho
         → (kept : Vec ℕ Global) → kept.items ≡ bytes → (result : Result (Vec ℕ Global) Refusal) → GivesWithin file_limit kept result → ReportsLadder n result
     given_report law one job same v kept is result h =
         let m = verified_ladder (subst (λ (j : VerifyData). Verifies {T = Unit {0}} left faults taken counts j source source' out out' (Ok tt)) same v) in
-        within_report law one kept result (subst (λ (b : List ℕ). Makes (IsReported (Some []) (Some b) None one_half) ladder_job (ladder_text n)) (sym is) m) h
+        within_report law one kept result (subst (λ (b : List ℕ). Makes (λ a. IsReported (Some []) (Some b) None one_half) ladder_job (ladder_text n)) (sym is) m) h
 
 -- ---- its check
 

@@ -56,6 +56,8 @@ usage_note field.Precision = codes "usage: --precision\n"
 usage_note field.Steps = codes "usage: --steps\n"
 usage_note field.From = codes "usage: --from\n"
 usage_note field.Blocks = codes "usage: N\n"
+usage_note field.Formula = codes "usage: --formula Syntax\n"
+usage_note field.FormulaBound = codes "usage: --formula Bound\n"
 
 -- the note of a region at fault: the cause
 abbrev pub region_note : RegionError → List ℕ
@@ -92,7 +94,7 @@ answered (Err why) = status_of why
 unfoldable pub wanted : List (String Global) → Result JobData Field
 wanted words = asked words
 
--- the words ask to verify that: by `verify`, `bounded` or `lumped`
+-- the words ask to verify that: by `verify`, `bounded`, `lumped` or `property`
 abbrev pub AsksToVerify : Result JobData Field → VerifyData → Type 0
 AsksToVerify asked j = asked ≡ Ok (verify j)
 

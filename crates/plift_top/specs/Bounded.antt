@@ -5,16 +5,18 @@ use Rattle.std.specs.declared.option.Option.{Option}
 use Rattle.std.specs.Io.KnownBytes.{Appends}
 use Rattle.lift_base.specs.Outside.{AppendsFront}
 use Rattle.lift_poly.specs.Polynomial.{Valuation}
-use Rattle.lift_grid.specs.Rectangle.{Spans, Inside}
-use Rattle.lift_grid.specs.Tree.{Tiles, lower_half, upper_half}
+use Rattle.lift_grid.specs.Rectangle.{Inside}
+use Rattle.lift_grid.specs.Tree.{Tiles}
 use Rattle.corner_lift.specs.Case.{CaseData, IsCase}
 use Rattle.lift_walk.specs.Halved.{Halved}
 use Rattle.lift_cert.specs.declared.bound.Bound.{Bound}
 use Rattle.lift_rows.specs.Admitted.{HasWeightsFromZero, HasSumsOfTotal}
-use Rattle.cert_text.specs.Report.{line, number_words, numbers_words, bound_words, model_lines, box_line}
+use Rattle.cert_text.specs.Report.{line, number_words, bound_words}
 use Rattle.lift_bounded.specs.Within.{IsBoundedWithin, IsReachedWithin}
 use Rattle.lift_bounded.specs.Decided.{BoundedLeaf, IsRightWithin}
 use Rattle.lift_bounded.specs.Text.{tree_text, IsTreeText}
+use Rattle.plift_top.specs.Heads.{head_of}
+use Rattle.plift_top.specs.Parts.{Part, parts}
 
 -- ---- the text
 
@@ -22,19 +24,13 @@ use Rattle.lift_bounded.specs.Text.{tree_text, IsTreeText}
 abbrev pub bounded_line : List ℕ
 bounded_line = line (codes "plift-bounded" ∷ codes "1" ∷ [])
 
--- what is asked: the bound, the number of steps, the precision, the depth and the grid's number
-unfoldable pub within_lines : CaseData → Bound → ℕ → List (List ℕ)
-within_lines k bound h =
-    line (bound_words bound)
-    ∷ line (number_words (codes "steps") h)
-    ∷ line (number_words (codes "precision") k.w)
-    ∷ line (number_words (codes "depth") k.depth)
-    ∷ line (numbers_words (codes "grid") (k.d ∷ []))
-    ∷ []
+-- what is asked: the bound and the number of steps
+unfoldable pub within_lines : Bound → ℕ → List (List ℕ)
+within_lines bound h = line (bound_words bound) ∷ line (number_words (codes "steps") h) ∷ []
 
 -- the head: the version, the model, and what is asked of it
 abbrev pub bounded_head : CaseData → Bound → ℕ → List (List ℕ)
-bounded_head k bound h = bounded_line ∷ (model_lines k.model ++ (within_lines k bound h ++ box_line k.root ∷ []))
+bounded_head k bound h = head_of bounded_line k (within_lines bound h)
 
 -- the bytes of a text: those of its head, and of its tree's nodes in preorder
 abbrev pub bounded_text : CaseData → Bound → ℕ → Halved BoundedLeaf → List ℕ
@@ -46,17 +42,6 @@ IsBoundedText k bound h bytes = (nodes : List ℕ) × IsTreeText k bound h k.roo
 
 -- ---- what its leaves say
 
--- a leaf with its rectangle; an unknown one decides nothing
-pub record BoundedPart : Type 0 where
-  pub spans : Spans
-  pub leaf : Option BoundedLeaf
-
--- the leaves of a tree over a rectangle, the lower half's first
-abbrev pub bounded_parts : Spans → Halved BoundedLeaf → List BoundedPart
-bounded_parts spans (Halved.split axis lower upper) = bounded_parts (lower_half axis spans) lower ++ bounded_parts (upper_half axis spans) upper
-bounded_parts spans (Halved.leaf l) = record { spans = spans; leaf = Some l } ∷ []
-bounded_parts spans Halved.unknown = record { spans = spans; leaf = None } ∷ []
-
 -- What a leaf says at a valuation: where it accepts, every scheduler, also one that tosses, reaches the goal within so many steps with probability at most the bound; where it rejects, those that make the printed choices, each at its number of steps left, reach it with more. An unknown one says nothing.
 abbrev pub SaysWithin : CaseData → Bound → ℕ → Valuation → Option BoundedLeaf → Type 0
 SaysWithin k bound h v (Some (BoundedLeaf.accept xs)) = IsBoundedWithin k.model v bound h
@@ -64,7 +49,7 @@ SaysWithin k bound h v (Some (BoundedLeaf.reject r)) = IsReachedWithin k.model v
 SaysWithin k bound h v None = ⊤
 
 -- what a leaf says holds everywhere inside its rectangle
-abbrev pub PartHolds : CaseData → Bound → ℕ → BoundedPart → Type 0
+abbrev pub PartHolds : CaseData → Bound → ℕ → Part BoundedLeaf → Type 0
 PartHolds k bound h part = (v : Valuation) → Inside k.d part.spans v → SaysWithin k bound h v part.leaf
 
 -- ---- what is written
@@ -76,8 +61,8 @@ pub record IsReportedWithin (old new : Option (List ℕ)) (bound : Bound) (h : �
   pub weights : HasWeightsFromZero k
   pub sums : HasSumsOfTotal k
   pub right : IsRightWithin k bound h k.root 0 tree
-  pub tiles : Tiles k.d k.root (map (λ part. part.spans) (bounded_parts k.root tree))
-  pub schedulers : All (PartHolds k bound h) (bounded_parts k.root tree)
+  pub tiles : Tiles k.d k.root (map (λ part. part.spans) (parts k.root tree))
+  pub schedulers : All (PartHolds k bound h) (parts k.root tree)
   pub text : Appends old new (bounded_text k bound h tree)
 
 -- A front of that text was appended: whichever tree is right, a front of its text.

@@ -1,7 +1,11 @@
 pub mod RightReport
+pub mod Asked
+pub mod Parts
+pub mod Heads
 pub mod Reported
 pub mod Bounded
 pub mod Lumped
+pub mod Property
 pub mod Verify
 pub mod Check
 pub mod Migrate

@@ -11,22 +11,35 @@ use Rattle.lift_model.specs.Model.{ModelData}
 use Rattle.corner_lift.specs.Case.{CaseData, IsCase, case_of}
 use Rattle.lift_cert.specs.declared.bound.Bound.{Bound}
 use Rattle.lift_rows.specs.Admitted.{HasWeightsFromZero, HasSumsOfTotal}
-use Rattle.drn_read.specs.Reading.{drn}
+use Rattle.drn_read.specs.declared.error.DrnError.{DrnError}
 use Rattle.cert_check.specs.Source.{file_limit}
 use Rattle.plift_words.specs.Job.{VerifyData}
 use Rattle.plift_words.specs.declared.way.Way.{Way}
+use Rattle.plift_top.specs.Asked.{AskedModel, cut, asked_model, verified_model}
 use Rattle.plift_top.specs.Verify.{WasRead, IsTooWide, IsRefusedOver, IsAnswered, IsAnsweredInPart}
 use Rattle.plift_top.specs.declared.refusal.Refusal.{Refusal}
 use Rattle.plift_top.specs.declared.refusal.Refusal.TheVariants as refusal
 
--- reading a model for a goal label: the source was read to its end and its text stands for the model, or there is a cause
-abbrev pub ReadsModel : {S : Type 0} → (S → Option (List ℕ)) → (S → ℕ) → List ℕ → S → S → Result ModelData Refusal → Type 0
-ReadsModel left faults goal source source' (Ok m) = WasRead (λ text. drn text goal ≡ Ok m) (left source) (left source')
-ReadsModel left faults goal source source' (Err (refusal.Model error)) = WasRead (λ text. drn text goal ≡ Err error) (left source) (left source')
-ReadsModel left faults goal source source' (Err refusal.ReadFault) = Rose (faults source) (faults source')
-ReadsModel left faults goal source source' (Err refusal.TooLong) = TakenHas (λ bytes. file_limit < length bytes) (left source) (left source')
-ReadsModel left faults goal source source' (Err refusal.Memory) = ⊤
-ReadsModel left faults goal source source' (Err _) = ⊥
+-- the text stands for a model as the job asks of it, and this is that model after the cut
+pub record IsModelOf (job : VerifyData) (m : ModelData) (text : List ℕ) : Type 0 where
+  pub asked : AskedModel
+  pub read : asked_model job text ≡ Ok asked
+  pub after : m ≡ cut asked
+
+-- a text stands for no model, and that is the cause; or memory was wanting
+abbrev pub IsTextFault : {T : Type 0} → Result T DrnError → Refusal → Type 0
+IsTextFault right (refusal.Model error) = right ≡ Err error
+IsTextFault right refusal.Memory = ⊤
+IsTextFault right _ = ⊥
+
+-- reading the model that is verified for a job: the source was read to its end and its text stands for the model, or there is a cause
+abbrev pub ReadsModel : {S : Type 0} → (S → Option (List ℕ)) → (S → ℕ) → VerifyData → S → S → Result ModelData Refusal → Type 0
+ReadsModel left faults job source source' (Ok m) = WasRead (IsModelOf job m) (left source) (left source')
+ReadsModel left faults job source source' (Err (refusal.Model error)) = WasRead (λ text. verified_model job text ≡ Err error) (left source) (left source')
+ReadsModel left faults job source source' (Err refusal.ReadFault) = Rose (faults source) (faults source')
+ReadsModel left faults job source source' (Err refusal.TooLong) = TakenHas (λ bytes. file_limit < length bytes) (left source) (left source')
+ReadsModel left faults job source source' (Err refusal.Memory) = ⊤
+ReadsModel left faults job source source' (Err _) = ⊥
 
 -- the job's region over these parameters: a rectangle over its grid, or the cause
 abbrev pub NamesRoot : VerifyData → List (List ℕ) → Result (Grid × Spans) Refusal → Type 0
@@ -46,23 +59,23 @@ abbrev pub AdmitsCase : VerifyData → ModelData → Region → Result CaseData 
 AdmitsCase job m r (Ok k) = (k ≡ case_of m r job.precision) × IsTestedCase k
 AdmitsCase job m r (Err why) = IsRefusedOver job m (Ok r) why
 
--- the answer to a case was written, or a fault came and a front of it was
-abbrev pub WritesCase : {K : Type 0} → (K → Option (List ℕ)) → (K → ℕ) → Bound → Way → CaseData → K → K → Written → Type 0
-WritesCase taken counts bound asked k out out' (Ok _) = IsAnswered (taken out) (taken out') bound asked k
-WritesCase taken counts bound asked k out out' (Err _) = IsAnsweredInPart (taken out) (taken out') bound asked k × Rose (counts out) (counts out')
+-- the answer to a case of a model was written, or a fault came and a front of it was
+abbrev pub WritesCase : {K : Type 0} → (K → Option (List ℕ)) → (K → ℕ) → Bound → Way → AskedModel → CaseData → K → K → Written → Type 0
+WritesCase taken counts bound asked a k out out' (Ok _) = IsAnswered (taken out) (taken out') bound asked a k
+WritesCase taken counts bound asked a k out out' (Err _) = IsAnsweredInPart (taken out) (taken out') bound asked k × Rose (counts out) (counts out')
 
--- the answer to a case was written, or there was no memory to begin, or its quotient is too wide, or a fault came and a front of it was
-abbrev pub AnswersCase : {K T : Type 0} → (K → Option (List ℕ)) → (K → ℕ) → Bound → Way → CaseData → K → K → Result T Refusal → Type 0
-AnswersCase taken counts bound asked k out out' (Ok _) = IsAnswered (taken out) (taken out') bound asked k
-AnswersCase taken counts bound asked k out out' (Err refusal.WriteFault) = IsAnsweredInPart (taken out) (taken out') bound asked k × Rose (counts out) (counts out')
-AnswersCase taken counts bound asked k out out' (Err refusal.Memory) = out' ≡ out
-AnswersCase taken counts bound asked k out out' (Err refusal.TooWide) = IsTooWide asked k × (out' ≡ out)
-AnswersCase taken counts bound asked k out out' (Err _) = ⊥
+-- the answer to a case of a model was written, or there was no memory to begin, or its quotient is too wide, or a fault came and a front of it was
+abbrev pub AnswersCase : {K T : Type 0} → (K → Option (List ℕ)) → (K → ℕ) → Bound → Way → AskedModel → CaseData → K → K → Result T Refusal → Type 0
+AnswersCase taken counts bound asked a k out out' (Ok _) = IsAnswered (taken out) (taken out') bound asked a k
+AnswersCase taken counts bound asked a k out out' (Err refusal.WriteFault) = IsAnsweredInPart (taken out) (taken out') bound asked k × Rose (counts out) (counts out')
+AnswersCase taken counts bound asked a k out out' (Err refusal.Memory) = out' ≡ out
+AnswersCase taken counts bound asked a k out out' (Err refusal.TooWide) = IsTooWide asked k × (out' ≡ out)
+AnswersCase taken counts bound asked a k out out' (Err _) = ⊥
 
--- the rows of a model over a region are tested, and the answer to that case is written, or there is a cause
-abbrev pub WritesOver : {K T : Type 0} → (K → Option (List ℕ)) → (K → ℕ) → VerifyData → ModelData → Region → K → K → Result T Refusal → Type 0
-WritesOver taken counts job m r out out' (Ok _) = IsAnswered (taken out) (taken out') job.bound job.way (case_of m r job.precision)
-WritesOver taken counts job m r out out' (Err refusal.WriteFault) =
-    IsAnsweredInPart (taken out) (taken out') job.bound job.way (case_of m r job.precision) × Rose (counts out) (counts out')
-WritesOver taken counts job m r out out' (Err refusal.Memory) = out' ≡ out
-WritesOver taken counts job m r out out' (Err why) = IsRefusedOver job m (Ok r) why × (out' ≡ out)
+-- the rows of a model over a region are tested after the cut, and the answer to that case is written, or there is a cause
+abbrev pub WritesOver : {K T : Type 0} → (K → Option (List ℕ)) → (K → ℕ) → VerifyData → AskedModel → Region → K → K → Result T Refusal → Type 0
+WritesOver taken counts job a r out out' (Ok _) = IsAnswered (taken out) (taken out') job.bound job.way a (case_of (cut a) r job.precision)
+WritesOver taken counts job a r out out' (Err refusal.WriteFault) =
+    IsAnsweredInPart (taken out) (taken out') job.bound job.way (case_of (cut a) r job.precision) × Rose (counts out) (counts out')
+WritesOver taken counts job a r out out' (Err refusal.Memory) = out' ≡ out
+WritesOver taken counts job a r out out' (Err why) = IsRefusedOver job (cut a) (Ok r) why × (out' ≡ out)

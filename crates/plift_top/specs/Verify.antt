@@ -1,4 +1,4 @@
--- What `verify`, `bounded` and `lumped` answer, and what stands after them.
+-- What `verify`, `bounded`, `lumped` and `property` answer, and what stands after them.
 use Rattle.std.specs.Prelude.{◌≡◌, ◌<◌, ◌≤◌, ℕ, Bool, true, false, List, length, Ok, Err, Result, ⊤}
 use Rattle.std.specs.declared.option.Option.{Option}
 use Rattle.std.specs.Io.KnownBytes.{Consumes, IsAtEnd}
@@ -12,15 +12,16 @@ use Rattle.corner_lift.specs.Case.{CaseData, IsAdmitted, case_of}
 use Rattle.lift_cert.specs.declared.bound.Bound.{Bound}
 use Rattle.lift_rows.specs.Fault.{IsFirstFault}
 use Rattle.lift_lump.specs.Lumped.{IsWide}
-use Rattle.drn_read.specs.Reading.{drn}
 use Rattle.drn_read.specs.declared.error.DrnError.{DrnError}
 use Rattle.cert_check.specs.Source.{file_limit}
 use Rattle.plift_words.specs.Job.{VerifyData}
 use Rattle.plift_words.specs.declared.way.Way.{Way}
 use Rattle.plift_words.specs.declared.way.Way.TheVariants as way
+use Rattle.plift_top.specs.Asked.{AskedModel, cut, asked_model, verified_model}
 use Rattle.plift_top.specs.Reported.{IsReported, IsCutOff}
 use Rattle.plift_top.specs.Bounded.{IsReportedWithin, IsCutOffWithin}
 use Rattle.plift_top.specs.Lumped.{IsReportedLumped, IsCutOffLumped}
+use Rattle.plift_top.specs.Property.{IsReportedFor, IsCutOffFor}
 use Rattle.plift_top.specs.declared.refusal.Refusal.{Refusal}
 use Rattle.plift_top.specs.declared.refusal.Refusal.TheVariants as refusal
 
@@ -64,27 +65,29 @@ IsRefusedAt job (Ok m) why = IsRefusedOf (lacks_chain job.way m.kind) job m why
 
 -- why a job is refused at a text
 abbrev pub IsRefused : VerifyData → Refusal → List ℕ → Type 0
-IsRefused job why text = IsRefusedAt job (drn text job.goal) why
+IsRefused job why text = IsRefusedAt job (verified_model job text) why
 
--- The answer to a case was appended, whole: its report for a bound on any number of steps, with a range of precisions where one is told, its text for a bound on as many as are told, and the report of its quotient where it is lumped.
-abbrev pub IsAnswered : Option (List ℕ) → Option (List ℕ) → Bound → Way → CaseData → Type 0
-IsAnswered old new bound (way.Whole from) = IsReported old new from bound
-IsAnswered old new bound (way.Within h) = IsReportedWithin old new bound h
-IsAnswered old new bound way.Lumped = IsReportedLumped old new bound
+-- The answer to a case of a model was appended, whole: its report for a bound on any number of steps, with a range of precisions where one is told, its text for a bound on as many as are told, the report of its quotient where it is lumped, and its text for a property.
+abbrev pub IsAnswered : Option (List ℕ) → Option (List ℕ) → Bound → Way → AskedModel → CaseData → Type 0
+IsAnswered old new bound (way.Whole from) a = IsReported old new from bound
+IsAnswered old new bound (way.Within h) a = IsReportedWithin old new bound h
+IsAnswered old new bound way.Lumped a = IsReportedLumped old new bound
+IsAnswered old new bound (way.Property op) a = IsReportedFor old new op bound a
 
 -- A front of it was appended.
 abbrev pub IsAnsweredInPart : Option (List ℕ) → Option (List ℕ) → Bound → Way → CaseData → Type 0
 IsAnsweredInPart old new bound (way.Whole from) = IsCutOff old new from bound
 IsAnsweredInPart old new bound (way.Within h) = IsCutOffWithin old new bound h
 IsAnsweredInPart old new bound way.Lumped = IsCutOffLumped old new bound
+IsAnsweredInPart old new bound (way.Property op) = IsCutOffFor old new op bound
 
--- The text stands for a model, the job's region names a rectangle of its parameters, and P holds of the case that the two make at the job's precision.
-pub record Makes (P : CaseData → Type 0) (job : VerifyData) (text : List ℕ) : Type 0 where
-  pub model : ModelData
+-- The text stands for a model, the job's region names a rectangle of its parameters, and P holds of it and of the case that the two make at the job's precision, after the cut.
+pub record Makes (P : AskedModel → CaseData → Type 0) (job : VerifyData) (text : List ℕ) : Type 0 where
+  pub model : AskedModel
   pub root : Region
-  pub read : drn text job.goal ≡ Ok model
-  pub named : region model.names job.depth job.region ≡ Ok root
-  pub has : P (case_of model root job.precision)
+  pub read : asked_model job text ≡ Ok model
+  pub named : region (cut model).names job.depth job.region ≡ Ok root
+  pub has : P model (case_of (cut model) root job.precision)
 
 -- what was appended is the answer to the case that the text and the job make
 abbrev pub Reports : Option (List ℕ) → Option (List ℕ) → VerifyData → List ℕ → Type 0
@@ -92,7 +95,7 @@ Reports old new job text = Makes (IsAnswered old new job.bound job.way) job text
 
 -- what was appended is a front of that answer
 abbrev pub ReportsFront : Option (List ℕ) → Option (List ℕ) → VerifyData → List ℕ → Type 0
-ReportsFront old new job text = Makes (IsAnsweredInPart old new job.bound job.way) job text
+ReportsFront old new job text = Makes (λ a. IsAnsweredInPart old new job.bound job.way) job text
 
 -- why a job stopped before anything was written
 abbrev pub Stops : {S : Type 0} → (S → Option (List ℕ)) → (S → ℕ) → VerifyData → S → S → Refusal → Type 0

@@ -6,8 +6,9 @@ ghost use Rattle.lift_model.specs.Links.{AreLinks};
 ghost use Rattle.lift_bounded.specs.Rooms.{IsMadeFor};
 ghost use Rattle.plift_top.specs.Bounded.{within_lines, bounded_head, IsBoundedText};
 
+use crate::heads::write_scale;
 use crate::question::Question;
-use cert_text::{write_box, write_model};
+use cert_text::write_model;
 use corner_lift::Case;
 use lift_base::{
     Sink, Telling, Word, WriteFault, tell_buffered, write_all, write_words, writes_in_turn,
@@ -15,18 +16,11 @@ use lift_base::{
 use lift_bounded::{BoundedRoom, write_tree};
 use lift_cert::Bound;
 
-// Writes what is asked of a case.
+// Writes the bound and the number of steps.
 #[tactic(auto, unfolding(crate::specs::Bounded::within_lines))]
-fn write_within<K: Sink>(
-    out: &mut K,
-    case: &Case,
-    bound: Bound,
-    steps: u32,
-) -> Result<(), WriteFault>
-    ensures { Wrote K.taken K.faults out.old out.new result
-        (concat (within_lines case.now bound steps)) }
+fn write_within<K: Sink>(out: &mut K, bound: Bound, steps: u32) -> Result<(), WriteFault>
+    ensures { Wrote K.taken K.faults out.old out.new result (concat (within_lines bound steps)) }
 {
-    let grid = case.grid();
     write_words(
         out,
         &[
@@ -36,12 +30,6 @@ fn write_within<K: Sink>(
             Word::Count(u64::from(bound.den)),
             Word::Text(b"\nsteps "),
             Word::Count(u64::from(steps)),
-            Word::Text(b"\nprecision "),
-            Word::Count(u64::from(case.w())),
-            Word::Text(b"\ndepth "),
-            Word::Count(u64::from(grid.depth)),
-            Word::Text(b"\ngrid "),
-            Word::Number(i128::from(grid.d)),
             Word::Text(b"\n"),
         ],
     )
@@ -60,8 +48,8 @@ fn write_bounded_head<K: Sink>(
     writes_in_turn::<K>();
     write_all(out, b"plift-bounded 1\n")?;
     write_model(out, case.model())?;
-    write_within(out, case, bound, steps)?;
-    write_box(out, case.root())
+    write_within(out, bound, steps)?;
+    write_scale(out, case)
 }
 
 // Writes the head, and then each node of the case's right tree for as many steps as the room was made for, as soon

@@ -4,12 +4,14 @@
 mod bounded;
 mod checking;
 mod edge;
+mod heads;
 mod laws;
 mod limited;
 mod lumped;
 mod migrate;
 mod notes;
 mod program;
+mod property;
 mod question;
 mod refine;
 mod refusal;

@@ -2,6 +2,7 @@
 ghost use Rattle.std.specs.Prelude.{◌≡◌, None};
 ghost use Rattle.lift_model.specs.declared.kind.Kind.TheVariants.{Dtmc};
 ghost use Rattle.plift_words.specs.declared.way.Way.TheVariants as way;
+ghost use Rattle.plift_top.specs.Asked.{uncut};
 ghost use Rattle.plift_top.specs.Steps.{IsTestedCase, AnswersCase};
 ghost use Rattle.plift_top.specs.Lumped.{lumped_case};
 
@@ -25,8 +26,8 @@ fn write_quotient<K: Sink>(
     out: &mut K,
 ) -> Result<(), Refusal>
     requires { IsTestedCase (lumped_case case.now lumped.now) }
-    ensures { AnswersCase K.taken K.faults bound (way.Whole None) (lumped_case case.now lumped.now)
-        out.old out.new result }
+    ensures { let k = lumped_case case.now lumped.now in
+        AnswersCase K.taken K.faults bound (way.Whole None) (uncut k.model) k out.old out.new result }
 {
     let quotient = Case::new(lumped.model(), case.root(), case.grid(), case.w());
     let links = Links::build(alloc, lumped.model())?;
@@ -48,7 +49,8 @@ pub(crate) fn write_lumped<K: Sink>(
 ) -> Result<(), Refusal>
     requires case { IsTestedCase case.now }
     requires chain { case.now.model.kind ≡ Dtmc }
-    ensures { AnswersCase K.taken K.faults bound way.Lumped case.now out.old out.new result }
+    ensures { AnswersCase K.taken K.faults bound way.Lumped (uncut case.now.model) case.now
+        out.old out.new result }
 {
     quotients_hold();
     quotients_are_cases();

@@ -39,6 +39,8 @@ fn usage_note(field: Field) -> &'static [u8]
         Field::Steps => b"usage: --steps\n",
         Field::From => b"usage: --from\n",
         Field::Blocks => b"usage: N\n",
+        Field::Formula => b"usage: --formula Syntax\n",
+        Field::FormulaBound => b"usage: --formula Bound\n",
     }
 }
 

@@ -1,20 +1,19 @@
 // The whole program, over any source and sinks.
 ghost use Rattle.std.specs.Prelude.{◌≡◌, ◌≢◌, ◌≤◌, ◌<◌, ◌⊎◌, length, List, ℕ};
-ghost use Rattle.std.specs.Prelude.{Some, None, Ok, Err, IsErr, IsOk, false};
+ghost use Rattle.std.specs.Prelude.{Some, None, Ok, Err, IsErr, IsOk, true, false};
 ghost use Rattle.std.specs.Io.KnownBytes.{Appends};
 ghost use Rattle.lift_base.specs.Outside.{Rose, AppendsFront, TakenHas};
 ghost use Rattle.lift_grid.specs.Region.{Region, region};
 ghost use Rattle.lift_grid.specs.Tree.{Tree};
-ghost use Rattle.lift_model.specs.Model.{ModelData};
 ghost use Rattle.corner_lift.specs.Case.{IsCase, IsAdmitted, case_of};
 ghost use Rattle.region_tree.specs.Right.{IsRightTree};
 ghost use Rattle.region_tree.specs.Laws.{RightTreesExist, RightTreesAreOne};
 ghost use Rattle.cert_text.specs.Report.{report_text};
 ghost use Rattle.cert_text.specs.Forms.{IsToldBound};
-ghost use Rattle.drn_read.specs.Reading.{drn};
 ghost use Rattle.plift_words.specs.Job.{VerifyData};
 ghost use Rattle.plift_words.specs.declared.job.Field.TheVariants.{Words};
-ghost use Rattle.plift_words.specs.Way.{steps_told, from_told};
+ghost use Rattle.plift_words.specs.Way.{from_told, is_reported};
+ghost use Rattle.plift_top.specs.Asked.{AskedModel, cut, asked_model};
 ghost use Rattle.plift_top.specs.RightReport.{version_of};
 ghost use Rattle.plift_top.specs.Verify.{WasRead, Reports, ReportsFront, IsAnswerable, lacks_chain};
 ghost use Rattle.plift_top.specs.Verify.{IsRefused, KeepsWithin};
@@ -74,6 +73,8 @@ fn act<S: Source, K: Sink>(
         → KeepsWithin (limit_of (wanted words.now)) result (S.left source.old) (S.left source.new) }
     ensures bound { IsOk result → (j : VerifyData) → AsksToVerify (wanted words.now) j
         → IsToldBound j.bound }
+    ensures whole { IsOk result → (j : VerifyData) → AsksToVerify (wanted words.now) j
+        → is_reported j.way ≡ true → j.safe ≡ None }
 {
     match job_of(alloc, words) {
         Ok(Job::Verify(job)) => verify(alloc, &job, source, out),
@@ -95,11 +96,12 @@ pub fn run<S: Source, K: Sink, E: Sink>(
     out: &mut K,
     notes: &mut E,
 ) -> Status
-    // Done of `verify`, `bounded` or `lumped`: the source gave a text that stands for a model, which with
-    // the job's region makes a case, and out took the report of this case, with a range of precisions
-    // where the job tells one, its text for the number of steps, or the report of its quotient, whole, and
-    // that of its right tree. The tree's leaves tile the root, and each bounds the schedulers inside its
-    // rectangle: those of the model that was read.
+    // Done of `verify`, `bounded`, `lumped` or `property`: the source gave a text that stands for a model,
+    // which with the job's region makes a case, of `property` after the cut, and out took the report of this
+    // case, with a range of precisions where the job tells one, its text for the number of steps, the report of
+    // its quotient, or its text for the property, whole, and that of its right tree. The tree's leaves tile the
+    // root, and each bounds the schedulers inside its rectangle: those of the model that was read, of `property`
+    // by way of its safe states.
     ensures done { result ≡ Status.Done
         → (j : VerifyData) → AsksToVerify (wanted words.now.items) j
         → WasRead (Reports (K.taken out.old) (K.taken out.new) j)
@@ -107,7 +109,7 @@ pub fn run<S: Source, K: Sink, E: Sink>(
 
     // What out took of `verify` or `lumped` is a sound file: of the second version where a range is told.
     ensures sound { result ≡ Status.Done
-        → (j : VerifyData) → AsksToVerify (wanted words.now.items) j → steps_told j.way ≡ None
+        → (j : VerifyData) → AsksToVerify (wanted words.now.items) j → is_reported j.way ≡ true
         → (report : List ℕ) × (leaves : Summary) × IsSoundFile report leaves
         × (leaves.version ≡ version_of (from_told j.way)) × Appends (K.taken out.old) (K.taken out.new) report }
 
@@ -231,12 +233,12 @@ pub fn run<S: Source, K: Sink, E: Sink>(
         → NoFault (K.faults out.old) (K.faults out.new)
         → (result ≡ Status.NotSound) ⊎ (result ≡ Status.Memory) }
 
-    // A job, a text that stands for a model, and a region over which its rows are admitted give
+    // A job, a text that stands for a model, and a region over which its rows are admitted after the cut give
     // Done or Memory, where no fault is counted. `lumped` wants a chain whose quotient isn't too wide.
-    ensures complete { (j : VerifyData) (text : List ℕ) (m : ModelData) (root : Region)
+    ensures complete { (j : VerifyData) (text : List ℕ) (a : AskedModel) (root : Region)
         → AsksToVerify (wanted words.now.items) j → S.left source.old ≡ Some text
-        → drn text j.goal ≡ Ok m → region m.names j.depth j.region ≡ Ok root
-        → IsAdmitted (case_of m root j.precision) → IsAnswerable j.way m → length text ≤ file_limit
+        → asked_model j text ≡ Ok a → region (cut a).names j.depth j.region ≡ Ok root
+        → IsAdmitted (case_of (cut a) root j.precision) → IsAnswerable j.way (cut a) → length text ≤ file_limit
         → NoFault (S.faults source.old) (S.faults source.new)
         → NoFault (K.faults out.old) (K.faults out.new)
         → (result ≡ Status.Done) ⊎ (result ≡ Status.Memory) }
@@ -250,12 +252,13 @@ pub fn run<S: Source, K: Sink, E: Sink>(
         → NoFault (K.faults out.old) (K.faults out.new)
         → (result ≡ status_of why) ⊎ (result ≡ Status.Memory) }
 
-    // Rows that aren't admitted over the job's region give RowsRefused or Memory, where no fault is
-    // counted, of a chain where one is to be lumped.
-    ensures unadmitted { (j : VerifyData) (text : List ℕ) (m : ModelData) (root : Region)
+    // Rows that aren't admitted over the job's region after the cut give RowsRefused or Memory, where no fault
+    // is counted, of a chain where one is to be lumped.
+    ensures unadmitted { (j : VerifyData) (text : List ℕ) (a : AskedModel) (root : Region)
         → AsksToVerify (wanted words.now.items) j → S.left source.old ≡ Some text
-        → drn text j.goal ≡ Ok m → region m.names j.depth j.region ≡ Ok root
-        → (IsAdmitted (case_of m root j.precision) → ⊥) → lacks_chain j.way m.kind ≡ false → length text ≤ file_limit
+        → asked_model j text ≡ Ok a → region (cut a).names j.depth j.region ≡ Ok root
+        → (IsAdmitted (case_of (cut a) root j.precision) → ⊥) → lacks_chain j.way (cut a).kind ≡ false
+        → length text ≤ file_limit
         → NoFault (S.faults source.old) (S.faults source.new)
         → NoFault (K.faults out.old) (K.faults out.new)
         → (result ≡ Status.RowsRefused) ⊎ (result ≡ Status.Memory) }

@@ -1,11 +1,11 @@
 // Tests the program on a ladder: verifies it, and checks the report.
-ghost use Rattle.std.specs.Prelude.{◌≡◌, ◌≤◌, ◌⊎◌, Ok, Err, IfOk, vec_len};
+ghost use Rattle.std.specs.Prelude.{◌≡◌, ◌≤◌, ◌⊎◌, Some, Ok, Err, IfOk, vec_len};
 ghost use Rattle.lift_base.specs.Outside.{Wrote};
 ghost use Rattle.model_gen.specs.Ladder.{ladder_text};
 ghost use Rattle.cert_check.specs.Sound.{IsSoundFile};
 ghost use Rattle.cert_check.specs.declared.summary.Summary.{Summary};
 ghost use Rattle.cert_check.specs.Source.{file_limit};
-ghost use Rattle.plift_words.specs.Given.{verify_data};
+ghost use Rattle.plift_top.specs.Verify.{Verifies};
 ghost use Rattle.plift_top.specs.Selftest.{ladder_job, tested_line, GivesWithin};
 ghost use Rattle.plift_top.specs.Selftest.{ReportsLadder, Selftests};
 ghost use Rattle.plift_top.specs.declared.refusal.Refusal.TheVariants.{Memory};
@@ -41,20 +41,6 @@ fn text_of(alloc: Global, ladder: &Ladder) -> Result<Vec<u8>, AllocError>
     }
 }
 
-// What a ladder is verified for.
-fn job() -> VerifyJob<'static>
-    ensures { verify_data result ≡ ladder_job }
-{
-    VerifyJob {
-        goal: b"done",
-        bound: Bound { num: 1, den: 2 },
-        region: b"1/2<=p<=3/5,1/2<=q<=3/5",
-        depth: 2,
-        precision: 24,
-        way: Way::Whole(None),
-    }
-}
-
 // Gives the bytes back, where they aren't more than a text may have.
 fn within_limit(bytes: Vec<u8>) -> Result<Vec<u8>, Refusal>
     ensures { GivesWithin file_limit bytes result }
@@ -63,6 +49,27 @@ fn within_limit(bytes: Vec<u8>) -> Result<Vec<u8>, Refusal>
         return Err(Refusal::TooLong);
     }
     Ok(bytes)
+}
+
+// Verifies the ladder that a source gives.
+fn verify_ladder(
+    alloc: Global,
+    source: &mut SureSource,
+    report: &mut LimitedText<REPORT_ROOM>,
+) -> Result<(), Refusal>
+    ensures { Verifies (λ s. Some s) (λ s. 0) (λ t. Some t.bytes.items) (λ t. t.faults) ladder_job
+        source.old source.new report.old report.new result }
+{
+    let job = VerifyJob {
+        goal: b"done",
+        safe: None,
+        bound: Bound { num: 1, den: 2 },
+        region: b"1/2<=p<=3/5,1/2<=q<=3/5",
+        depth: 2,
+        precision: 24,
+        way: Way::Whole(None),
+    };
+    verify(alloc, &job, source, report)
 }
 
 // Verifies a ladder, and gives its report.
@@ -76,7 +83,7 @@ fn report_of(alloc: Global, ladder: &Ladder) -> Result<Vec<u8>, Refusal>
     let text = text_of(alloc, ladder)?;
     let mut source = SureSource::new(text);
     let mut report = LimitedText::<REPORT_ROOM>::make(alloc)?;
-    match verify(alloc, &job(), &mut source, &mut report) {
+    match verify_ladder(alloc, &mut source, &mut report) {
         Ok(()) => within_limit(report.into_bytes()),
         Err(Refusal::WriteFault) => Err(Refusal::TooLong),
         Err(refusal) => Err(refusal),

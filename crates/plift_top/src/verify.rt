@@ -1,20 +1,25 @@
-// Verifies a model against a bound: on any number of steps, on as many as are told, or by its quotient.
-ghost use Rattle.std.specs.Prelude.{◌≡◌, ◌≤◌, false, IfOk, length};
+// Verifies a model against a bound: on any number of steps, on as many as are told, by its quotient, or for a
+// property.
+ghost use Rattle.std.specs.Prelude.{◌≡◌, ◌≤◌, false, Ok, Some, IfOk, IfErr, length};
 ghost use Rattle.lift_grid.specs.Rectangle.{IsOnGrid};
 ghost use Rattle.lift_grid.specs.Parts.{region_of};
 ghost use Rattle.lift_model.specs.Links.{AreLinks};
 ghost use Rattle.region_tree.specs.Rooms as whole;
 ghost use Rattle.lift_bounded.specs.Rooms as within;
+ghost use Rattle.property_tree.specs.Rooms as property;
 ghost use Rattle.plift_words.specs.Given.{verify_data};
-ghost use Rattle.plift_words.specs.declared.way.Way.TheVariants.{Whole, Within};
+ghost use Rattle.plift_words.specs.declared.way.Way.TheVariants.{Whole, Within, Property};
 ghost use Rattle.plift_words.specs.Values.{most_steps};
 ghost use Rattle.plift_top.specs.RightReport.{IsRange};
+ghost use Rattle.cert_check.specs.Source.{file_limit};
+ghost use Rattle.plift_top.specs.Asked.{AskedModel, uncut, cut, safe_in, verified_model};
 ghost use Rattle.plift_top.specs.Verify.{Verifies, KeepsLimit, lacks_chain};
-ghost use Rattle.plift_top.specs.Steps.{IsTestedCase, ReadsModel, NamesRoot, AdmitsCase};
+ghost use Rattle.plift_top.specs.Steps.{IsTestedCase, IsTextFault, IsModelOf, ReadsModel, NamesRoot, AdmitsCase};
 ghost use Rattle.plift_top.specs.Steps.{WritesCase, AnswersCase, WritesOver};
 
 use crate::bounded::write_bounded_buffered;
 use crate::lumped::write_lumped;
+use crate::property::write_property_buffered;
 use crate::question::Question;
 use crate::refusal::Refusal;
 use crate::report::write_report_buffered;
@@ -23,25 +28,53 @@ use drn_read::read_model;
 use lift_base::{Sink, Source, WriteFault, read_all};
 use lift_bounded::{BoundedRoom, certificates_by_steps_decide};
 use lift_cert::{certificates_decide, rejecting_certificates_reach};
+use lift_dual::until_is_bounded;
 use lift_grid::{Grid, Rect, read_region, trees_tile};
 use lift_model::{Kind, Links, Model};
 use lift_names::Names;
 use lift_rows::{admit, admit_linked};
 use plift_words::{VerifyJob, Way};
+use property_text::{Op, goals_of, restrict, until_is_reach};
+use property_tree::PropertyRoom;
 use region_tree::{Room, rectangles_at_depths, right_trees_tile};
 use std::alloc::Global;
 
 /// How many bytes a text may have.
 pub(crate) const TEXT_LIMIT: usize = 1 << 26;
 
-// Reads the text, and the model that it stands for.
-fn model_of<S: Source>(alloc: Global, goal: &[u8], source: &mut S) -> Result<Model, Refusal>
-    ensures answer { ReadsModel S.left S.faults goal.now source.old source.new result }
+// Which states of a text have a label.
+fn states_with(alloc: Global, text: &[u8], label: &[u8]) -> Result<Vec<bool>, Refusal>
+    requires { length text.now ≤ file_limit }
+    ensures states { IfOk result (λ states. safe_in text.now (Some label.now) ≡ Ok (Some states.items)) }
+    ensures cause { IfErr result (IsTextFault (safe_in text.now (Some label.now))) }
+{
+    let model = read_model(alloc, text, label)?;
+    let states = goals_of(alloc, &model)?;
+    Ok(states)
+}
+
+// The model that a text stands for, after the cut where the job has a label of safe states.
+fn model_in(alloc: Global, job: &VerifyJob, text: &[u8]) -> Result<Model, Refusal>
+    requires { length text.now ≤ file_limit }
+    ensures model { IfOk result (λ m. IsModelOf (verify_data job.now) m text.now) }
+    ensures cause { IfErr result (IsTextFault (verified_model (verify_data job.now) text.now)) }
+{
+    let model = read_model(alloc, text, job.goal)?;
+    let Some(label) = job.safe else {
+        return Ok(model);
+    };
+    let safe = states_with(alloc, text, label)?;
+    let after = restrict(alloc, &model, &safe)?;
+    Ok(after)
+}
+
+// Reads the text, and the model that it stands for, after the cut.
+fn model_of<S: Source>(alloc: Global, job: &VerifyJob, source: &mut S) -> Result<Model, Refusal>
+    ensures answer { ReadsModel S.left S.faults (verify_data job.now) source.old source.new result }
     ensures limit { KeepsLimit result (S.left source.old) (S.left source.new) }
 {
     let text = read_all(alloc, source, TEXT_LIMIT)?;
-    let model = read_model(alloc, &text, goal)?;
-    Ok(model)
+    model_in(alloc, job, &text)
 }
 
 // The rectangle that the job's region names, over its grid.
@@ -97,7 +130,8 @@ fn write_case<K: Sink>(
     requires links { AreLinks question.now.case.now.model question.now.links.now }
     requires from { IsRange question.now.case.now from }
     requires made { whole.IsMadeFor question.now.case.now question.now.links.now room.old }
-    ensures { WritesCase K.taken K.faults question.now.bound (Whole from) question.now.case.now out.old out.new result }
+    ensures { WritesCase K.taken K.faults question.now.bound (Whole from) (uncut question.now.case.now.model)
+        question.now.case.now out.old out.new result }
 {
     certificates_decide();
     rejecting_certificates_reach();
@@ -117,7 +151,8 @@ pub(crate) fn write_whole<K: Sink>(
     requires case { IsTestedCase question.now.case.now }
     requires links { AreLinks question.now.case.now.model question.now.links.now }
     requires from { IsRange question.now.case.now from }
-    ensures { AnswersCase K.taken K.faults question.now.bound (Whole from) question.now.case.now out.old out.new result }
+    ensures { AnswersCase K.taken K.faults question.now.bound (Whole from) (uncut question.now.case.now.model)
+        question.now.case.now out.old out.new result }
 {
     let mut room = Room::make(alloc, question.case, question.links)?;
     write_case(question, from, &mut room, out)?;
@@ -133,8 +168,8 @@ fn write_case_within<K: Sink>(
     requires case { IsTestedCase question.now.case.now }
     requires links { AreLinks question.now.case.now.model question.now.links.now }
     requires made { within.IsMadeFor question.now.case.now question.now.links.now room.old }
-    ensures { WritesCase K.taken K.faults question.now.bound (Within room.old.steps) question.now.case.now
-        out.old out.new result }
+    ensures { WritesCase K.taken K.faults question.now.bound (Within room.old.steps) (uncut question.now.case.now.model)
+        question.now.case.now out.old out.new result }
 {
     certificates_by_steps_decide();
     rectangles_at_depths();
@@ -153,10 +188,55 @@ fn write_within<K: Sink>(
     requires case { IsTestedCase question.now.case.now }
     requires links { AreLinks question.now.case.now.model question.now.links.now }
     requires steps { (1 ≤ steps) × (steps ≤ most_steps) }
-    ensures { AnswersCase K.taken K.faults question.now.bound (Within steps) question.now.case.now out.old out.new result }
+    ensures { AnswersCase K.taken K.faults question.now.bound (Within steps) (uncut question.now.case.now.model)
+        question.now.case.now out.old out.new result }
 {
     let mut room = BoundedRoom::make(alloc, question.case, question.links, steps)?;
     write_case_within(question, &mut room, out)?;
+    Ok(())
+}
+
+// Writes the text of such a case for a property. Takes no memory.
+fn write_case_for<K: Sink>(
+    question: &property_tree::Question,
+    room: &mut PropertyRoom,
+    out: &mut K,
+) -> Result<(), WriteFault>
+    requires case { IsTestedCase question.now.case.now }
+    requires links { AreLinks question.now.case.now.model question.now.links.now }
+    requires made { property.IsMadeFor question.now.case.now question.now.links.now room.old }
+    ensures { (a : AskedModel) → question.now.case.now.model ≡ cut a
+        → WritesCase K.taken K.faults question.now.bound (Property question.now.op) a question.now.case.now
+        out.old out.new result }
+{
+    until_is_bounded();
+    until_is_reach();
+    rectangles_at_depths();
+    live_parameters_have_spans();
+    trees_tile();
+    write_property_buffered(question, room, out)
+}
+
+// Makes the room of such a case, and writes its text for a property that compares in this way.
+fn write_for<K: Sink>(
+    alloc: Global,
+    question: &Question,
+    op: Op,
+    out: &mut K,
+) -> Result<(), Refusal>
+    requires case { IsTestedCase question.now.case.now }
+    requires links { AreLinks question.now.case.now.model question.now.links.now }
+    ensures { (a : AskedModel) → question.now.case.now.model ≡ cut a
+        → AnswersCase K.taken K.faults question.now.bound (Property op) a question.now.case.now out.old out.new result }
+{
+    let mut room = PropertyRoom::make(alloc, question.case, question.links)?;
+    let asked = property_tree::Question {
+        case: question.case,
+        links: question.links,
+        op,
+        bound: question.bound,
+    };
+    write_case_for(&asked, &mut room, out)?;
     Ok(())
 }
 
@@ -171,13 +251,14 @@ fn write_answer<K: Sink>(
     requires links { AreLinks question.now.case.now.model question.now.links.now }
     requires precision { question.now.case.now.w ≡ job.now.precision }
     requires chain { lacks_chain job.now.way question.now.case.now.model.kind ≡ false }
-    ensures { AnswersCase K.taken K.faults question.now.bound job.now.way question.now.case.now
-        out.old out.new result }
+    ensures { (a : AskedModel) → question.now.case.now.model ≡ cut a
+        → AnswersCase K.taken K.faults question.now.bound job.now.way a question.now.case.now out.old out.new result }
 {
     match job.way {
         Way::Whole(from) => write_whole(alloc, question, from, out),
         Way::Within(steps) => write_within(alloc, question, steps, out),
         Way::Lumped => write_lumped(alloc, question.case, question.bound, out),
+        Way::Property(op) => write_for(alloc, question, op, out),
     }
 }
 
@@ -192,8 +273,8 @@ fn write_over<K: Sink>(
     requires grid { IsOnGrid region.now.0.d region.now.0.depth (length model.now.names) region.now.1 }
     requires depth { region.now.0.depth ≡ job.now.depth }
     requires chain { lacks_chain job.now.way model.now.kind ≡ false }
-    ensures { WritesOver K.taken K.faults (verify_data job.now) model.now
-        (region_of region.now) out.old out.new result }
+    ensures { (a : AskedModel) → model.now ≡ cut a
+        → WritesOver K.taken K.faults (verify_data job.now) a (region_of region.now) out.old out.new result }
 {
     let (grid, root) = (region.0, &region.1);
     let Ok(links) = Links::build(alloc, model) else {
@@ -219,12 +300,13 @@ fn lacks_chain(way: Way, kind: Kind) -> bool
             Kind::Mdp => true,
             Kind::Dtmc => false,
         },
-        Way::Whole(_) | Way::Within(_) => false,
+        Way::Whole(_) | Way::Within(_) | Way::Property(_) => false,
     }
 }
 
-/// Reads a model from the source, tests its rows over the job's region, and writes its report, its text for the job's
-/// number of steps, or the report of its quotient.
+/// Reads a model from the source, cuts it where the job has a label of safe states, tests its rows over the job's
+/// region, and writes its report, its text for the job's number of steps or for its property, or the report of its
+/// quotient.
 pub fn verify<S: Source, K: Sink>(
     alloc: Global,
     job: &VerifyJob,
@@ -235,7 +317,7 @@ pub fn verify<S: Source, K: Sink>(
         source.old source.new out.old out.new result }
     ensures limit { KeepsLimit result (S.left source.old) (S.left source.new) }
 {
-    let model = model_of(alloc, job.goal, source)?;
+    let model = model_of(alloc, job, source)?;
     if lacks_chain(job.way, model.kind()) {
         return Err(Refusal::NotChain);
     }

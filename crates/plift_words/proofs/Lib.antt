@@ -1,5 +1,6 @@
 mod Cuts
 mod Numbers
+mod Rules
 mod Walk
 mod Words
 mod Samples

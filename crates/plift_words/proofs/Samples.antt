@@ -6,9 +6,10 @@ use Rattle.plift_words.specs.Job.{VerifyData, job}
 use Rattle.plift_words.specs.Job.JobData.{verify, check, migrate, refine, generate, selftest}
 use Rattle.plift_words.specs.declared.job.Field.TheVariants as field
 use Rattle.plift_words.specs.declared.way.Way.TheVariants as way
+use Rattle.property_text.specs.declared.op.Op.TheVariants.{AtLeast, Below}
 
 at_most_half : VerifyData
-at_most_half = record { goal = codes "heads"; bound = record { num = 1; den = 2 }; region = []; depth = 5; precision = 4; way = way.Whole None }
+at_most_half = record { goal = codes "heads"; safe = None; bound = record { num = 1; den = 2 }; region = []; depth = 5; precision = 4; way = way.Whole None }
 
 -- the words in another order and in both spellings, with a bound that isn't in lowest terms
 asks : job (codes "verify" ∷ codes "--depth=5" ∷ codes "--bound" ∷ codes "2/4" ∷ codes "--goal=heads" ∷ codes "--precision" ∷ codes "04" ∷ []) ≡ Ok (verify at_most_half)
@@ -43,6 +44,41 @@ asks_lumped = refl
 
 lumped_within : job (codes "lumped" ∷ codes "--goal=heads" ∷ codes "--bound=1/2" ∷ codes "--steps=4" ∷ []) ≡ Err field.Words
 lumped_within = refl
+
+-- by a formula, with a label of safe states and without one
+asks_until : job (codes "property" ∷ codes "--depth=5" ∷ codes "--formula" ∷ codes "P>=2/4 [ \"up\" U \"heads\" ]" ∷ codes "--precision=4" ∷ []) ≡ Ok (verify (record at_most_half { safe = Some (codes "up"); way = way.Property AtLeast }))
+unfolding at_most_half gcd
+asks_until = refl
+
+asks_eventually : job (codes "property" ∷ codes "--formula=P<0.5[F\"heads\"]" ∷ codes "--region" ∷ codes "p<=2/5" ∷ codes "--depth=5" ∷ codes "--precision=4" ∷ [])
+    ≡ Ok (verify (record at_most_half { region = codes "p<=2/5"; way = way.Property Below }))
+unfolding at_most_half gcd
+asks_eventually = refl
+
+-- no formula, a bound out of its range, and a formula before a depth
+no_formula : job (codes "property" ∷ codes "--formula" ∷ codes "P<=1/2 F \"heads\"" ∷ []) ≡ Err field.Formula
+no_formula = refl
+
+formula_bound : job (codes "property" ∷ codes "--formula" ∷ codes "P<=3/2 [ F \"heads\" ]" ∷ []) ≡ Err field.FormulaBound
+unfolding gcd
+formula_bound = refl
+
+formula_first : job (codes "property" ∷ codes "--depth=21" ∷ codes "--formula" ∷ codes "P<=3/2 [ F \"heads\" ]" ∷ []) ≡ Err field.FormulaBound
+unfolding gcd
+formula_first = refl
+
+-- none, one beside a goal or for another command, and a range
+property_of_none : job (codes "property" ∷ codes "--depth=5" ∷ []) ≡ Err field.Words
+property_of_none = refl
+
+property_of_goal : job (codes "property" ∷ codes "--goal=heads" ∷ codes "--formula" ∷ codes "P<=1/2 [ F \"heads\" ]" ∷ []) ≡ Err field.Words
+property_of_goal = refl
+
+verify_formula : job (codes "verify" ∷ codes "--goal=heads" ∷ codes "--bound=1/2" ∷ codes "--formula" ∷ codes "P<=1/2 [ F \"heads\" ]" ∷ []) ≡ Err field.Words
+verify_formula = refl
+
+property_from : job (codes "property" ∷ codes "--from=1" ∷ codes "--formula" ∷ codes "P<=1/2 [ F \"heads\" ]" ∷ []) ≡ Err field.Words
+property_from = refl
 
 -- with the least precision of a range, from 1 to the precision
 asks_from : job (codes "verify" ∷ codes "--from" ∷ codes "001" ∷ codes "--goal=heads" ∷ codes "--bound=1/2" ∷ codes "--depth=5" ∷ codes "--precision=4" ∷ []) ≡ Ok (verify (record at_most_half { way = way.Whole (Some 1) }))

@@ -14,14 +14,14 @@ use Rattle.clap.specs.declared.error.ErrorKind.TheVariants as kind
 use Rattle.clap.specs.declared.parser.matches.ArgMatches.{ArgMatches}
 use Rattle.clap.specs.Lexer.{long_of, short_of}
 use Rattle.clap.specs.Walk.{Held, Walk, is_empty, more_values, walk_from, walked, option, settled, used_by_id, arg_by_id, at_row, has_row, with_values, without, nothing_held, with_default, finished, walk, first_of}
-use Rattle.clap.specs.Takes.{default_passes, turn_passes, walk_passes, settle_passes, level_passes, is_given, is_valid}
+use Rattle.clap.specs.Takes.{default_passes, turn_passes, walk_passes, settle_passes, level_passes, is_valid}
 use Rattle.clap.specs.declared.parser.matches.ValueSource.TheVariants.{CommandLine}
 use Rattle.clap.specs.declared.builder.value_parser.Reading.TheVariants.{AsWritten}
 use Rattle.clap.proofs.TakesLemmas.{leaf_takes}
 use Rattle.clap.proofs.WalkLemmas.{both, first_value-rows}
 use Rattle.clap.proofs.SimpleLemmas.{is_false, is_nil}
 use Rattle.lift_frac.specs.Written.{cut_at}
-use Rattle.plift_words.specs.Line.{Setting, attached, options, stands, value_of, is_option, is_value, are_options, are_asked, is_command, has, is_verify, is_bounded, is_lumped, is_asking}
+use Rattle.plift_words.specs.Line.{Setting, attached, options, stands, value_of, is_option, is_value, are_options, is_command, has, tells_goal, tells_formula, is_verify, is_bounded, is_lumped, is_property, is_asking}
 use Rattle.plift_words.proofs.Cuts.{neither, cut_parts, options_one, options_two, options_lone}
 use Rattle.plift_words.specs.Parser.{HasValues, verify_app}
 
@@ -42,6 +42,7 @@ data Known : Text → Text → Type 0 where
   precision : Known (codes "--precision") (codes "precision")
   steps : Known (codes "--steps") (codes "steps")
   from : Known (codes "--from") (codes "from")
+  formula : Known (codes "--formula") (codes "formula")
 
 -- waits for the value of an option
 abbrev waits : List Row → Text → Walk
@@ -66,6 +67,7 @@ name_walked name id depth h = refl
 name_walked name id precision h = refl
 name_walked name id steps h = refl
 name_walked name id from h = refl
+name_walked name id formula h = refl
 
 name_passes : (name id : Text) → Known name id → (h : Held) → settle_passes rules false h ≡ true → turn_passes shape [] (walk_from h) name ≡ true
 unfolding shape verify_app
@@ -76,6 +78,7 @@ name_passes name id depth h e = rw e refl
 name_passes name id precision h e = rw e refl
 name_passes name id steps h e = rw e refl
 name_passes name id from h e = rw e refl
+name_passes name id formula h e = rw e refl
 
 -- what doesn't begin with `-` is no option
 record IsNoFlag (v : Text) : Type 0 where
@@ -102,6 +105,7 @@ value_walked id v rows name depth n = rw (n.long, n.short, n.marker) refl
 value_walked id v rows name precision n = rw (n.long, n.short, n.marker) refl
 value_walked id v rows name steps n = rw (n.long, n.short, n.marker) refl
 value_walked id v rows name from n = rw (n.long, n.short, n.marker) refl
+value_walked id v rows name formula n = rw (n.long, n.short, n.marker) refl
 
 value_passes : (id v : Text) (rows : List Row) (name : Text) → Known name id → IsNoFlag v → turn_passes shape [] (waits rows id) v ≡ true
 unfolding shape verify_app
@@ -112,6 +116,7 @@ value_passes id v rows name depth n = rw (n.long, n.short, n.marker) refl
 value_passes id v rows name precision n = rw (n.long, n.short, n.marker) refl
 value_passes id v rows name steps n = rw (n.long, n.short, n.marker) refl
 value_passes id v rows name from n = rw (n.long, n.short, n.marker) refl
+value_passes id v rows name formula n = rw (n.long, n.short, n.marker) refl
 
 -- the rows after an option was used with a value
 abbrev used_with : Text → Text → List Row → List Row
@@ -126,6 +131,7 @@ one_walked name id v depth h = refl
 one_walked name id v precision h = refl
 one_walked name id v steps h = refl
 one_walked name id v from h = refl
+one_walked name id v formula h = refl
 
 one_passes : (name id v : Text) → Known name id → (h : Held) → settle_passes rules false h ≡ true → has_row id (settled rules h).rows ≡ false
     → turn_passes shape [] (walk_from h) (name ++ code "=" ∷ v) ≡ true
@@ -137,6 +143,7 @@ one_passes name id v depth h e fresh = rw (e, fresh) refl
 one_passes name id v precision h e fresh = rw (e, fresh) refl
 one_passes name id v steps h e fresh = rw (e, fresh) refl
 one_passes name id v from h e fresh = rw (e, fresh) refl
+one_passes name id v formula h e fresh = rw (e, fresh) refl
 
 -- ---- rows
 
@@ -167,6 +174,7 @@ used_new name id v depth rows fresh = set_new id v rows fresh
 used_new name id v precision rows fresh = set_new id v rows fresh
 used_new name id v steps rows fresh = set_new id v rows fresh
 used_new name id v from rows fresh = set_new id v rows fresh
+used_new name id v formula rows fresh = set_new id v rows fresh
 
 -- what is held comes to these rows
 record Ready (h : Held) (rows : List Row) : Type 0 where
@@ -185,6 +193,7 @@ holds_passes name id v depth rows fresh = rw fresh refl
 holds_passes name id v precision rows fresh = rw fresh refl
 holds_passes name id v steps rows fresh = rw fresh refl
 holds_passes name id v from rows fresh = rw fresh refl
+holds_passes name id v formula rows fresh = rw fresh refl
 
 holds_ready : (name id v : Text) → Known name id → (rows : List Row) → has_row id rows ≡ false → Ready (holds rows id v) (rows ++ row id v ∷ [])
 holds_ready name id v k rows fresh = record { settles = ap clean (used_new name id v k rows fresh); passes = holds_passes name id v k rows fresh }
@@ -201,19 +210,22 @@ named name word k e = subst (λ (w : Text). Known w (drop 2 w)) (sym ((bytes_eq-
 known : (name : Text) → is_option name ≡ true → Known name (drop 2 name)
 known name e =
     let is : Text → Bool = bytes_eq name in
-    elim (either (is (codes "--goal")) (list_any is (codes "--bound" ∷ codes "--region" ∷ codes "--depth" ∷ codes "--precision" ∷ codes "--steps" ∷ codes "--from" ∷ [])) e) [
+    elim (either (is (codes "--goal")) (list_any is (codes "--bound" ∷ codes "--region" ∷ codes "--depth" ∷ codes "--precision" ∷ codes "--steps" ∷ codes "--from" ∷ codes "--formula" ∷ [])) e) [
       | inl g ↦ named name (codes "--goal") goal g
-      | inr e ↦ elim (either (is (codes "--bound")) (list_any is (codes "--region" ∷ codes "--depth" ∷ codes "--precision" ∷ codes "--steps" ∷ codes "--from" ∷ [])) e) [
+      | inr e ↦ elim (either (is (codes "--bound")) (list_any is (codes "--region" ∷ codes "--depth" ∷ codes "--precision" ∷ codes "--steps" ∷ codes "--from" ∷ codes "--formula" ∷ [])) e) [
         | inl b ↦ named name (codes "--bound") bound b
-        | inr e ↦ elim (either (is (codes "--region")) (list_any is (codes "--depth" ∷ codes "--precision" ∷ codes "--steps" ∷ codes "--from" ∷ [])) e) [
+        | inr e ↦ elim (either (is (codes "--region")) (list_any is (codes "--depth" ∷ codes "--precision" ∷ codes "--steps" ∷ codes "--from" ∷ codes "--formula" ∷ [])) e) [
           | inl r ↦ named name (codes "--region") region r
-          | inr e ↦ elim (either (is (codes "--depth")) (list_any is (codes "--precision" ∷ codes "--steps" ∷ codes "--from" ∷ [])) e) [
+          | inr e ↦ elim (either (is (codes "--depth")) (list_any is (codes "--precision" ∷ codes "--steps" ∷ codes "--from" ∷ codes "--formula" ∷ [])) e) [
             | inl d ↦ named name (codes "--depth") depth d
-            | inr e ↦ elim (either (is (codes "--precision")) (list_any is (codes "--steps" ∷ codes "--from" ∷ [])) e) [
+            | inr e ↦ elim (either (is (codes "--precision")) (list_any is (codes "--steps" ∷ codes "--from" ∷ codes "--formula" ∷ [])) e) [
               | inl p ↦ named name (codes "--precision") precision p
-              | inr e ↦ elim (either (is (codes "--steps")) (list_any is (codes "--from" ∷ [])) e) [
+              | inr e ↦ elim (either (is (codes "--steps")) (list_any is (codes "--from" ∷ codes "--formula" ∷ [])) e) [
                 | inl h ↦ named name (codes "--steps") steps h
-                | inr e ↦ elim (either (is (codes "--from")) false e) [ inl v ↦ named name (codes "--from") from v | inr none ↦ absurd (cc) ]
+                | inr e ↦ elim (either (is (codes "--from")) (list_any is (codes "--formula" ∷ [])) e) [
+                  | inl v ↦ named name (codes "--from") from v
+                  | inr e ↦ elim (either (is (codes "--formula")) false e) [ inl f ↦ named name (codes "--formula") formula f | inr none ↦ absurd (cc) ]
+                ]
               ]
             ]
           ]
@@ -230,6 +242,7 @@ dashed name id depth = refl
 dashed name id precision = refl
 dashed name id steps = refl
 dashed name id from = refl
+dashed name id formula = refl
 
 same_name : (n i m j : Text) → Known n i → Known m j → bytes_eq i j ≡ bytes_eq n m
 same_name n i m j a b = rw (dashed n i a, dashed m j b) refl
@@ -420,21 +433,6 @@ first_is name id k (g ∷ more) e = go (first_is name id k more f.rest) (bytes_e
     go rest true is = let id_is : bytes_eq (drop 2 g.name) id ≡ true = same ∙ is in rw (id_is, is) (there g.value f.value)
     go rest false is = let id_is : bytes_eq (drop 2 g.name) id ≡ false = same ∙ is in rw (id_is, is) rest
 
--- an id was given where its option stands
-given_is : (name id : Text) → Known name id → (given : List Setting) → are_options given ≡ true → is_given id (map row_of given) ≡ stands name given
-given_is name id k [] e = refl
-given_is name id k (g ∷ more) e = go (given_is name id k more f.rest) (bytes_eq g.name name) refl
-  where
-    f : Front g more
-    f = front g more e
-
-    same : bytes_eq (drop 2 g.name) id ≡ bytes_eq g.name name
-    same = same_name g.name (drop 2 g.name) name id f.name k
-
-    go : is_given id (map row_of more) ≡ stands name more → (t : Bool) → bytes_eq g.name name ≡ t → is_given id (map row_of (g ∷ more)) ≡ stands name (g ∷ more)
-    go rest true is = let id_is : bytes_eq (drop 2 g.name) id ≡ true = same ∙ is in rw (id_is, is) refl
-    go rest false is = let id_is : bytes_eq (drop 2 g.name) id ≡ false = same ∙ is in rw (id_is, is) rest
-
 -- what the parser makes of the words behind a command is what a plain line says
 rows_are : (words : List Text) → are_options (options words) ≡ true → finished rules (walk rules [] nothing_held words).held ≡ map row_of (options words)
 unfolding shape verify_app
@@ -443,9 +441,9 @@ rows_are words e =
     ap (λ (q : Walk). fold with_default (settled rules q.held).rows rules) w.walks ∙ ap (λ (h : Held). fold with_default h.rows rules) w.ready.settles
     ∙ no_defaults (map row_of (options words)) rules refl
 
-valid : (rows : List Row) → is_given (codes "goal") rows ≡ true → is_given (codes "bound") rows ≡ true → is_valid shape rows false ≡ true
+valid : (rows : List Row) → is_valid shape rows false ≡ true
 unfolding shape verify_app
-valid rows has_goal has_bound = rw (has_goal, has_bound) refl
+valid rows = refl
 
 free_of_defaults : list_all default_passes rules ≡ true
 unfolding shape verify_app
@@ -459,41 +457,37 @@ all_pass : {a b c d : Bool} → a ≡ true → b ≡ true → c ≡ true → d �
 all_pass p q r t = rw (p, q, r, t) refl
 
 -- the parser takes the words behind a command
-level : (words : List Text) → are_options (options words) ≡ true → stands (codes "--goal") (options words) ≡ true → stands (codes "--bound") (options words) ≡ true
-    → level_passes shape [] nothing_held words false ≡ true
-level words e g b =
+level : (words : List Text) → are_options (options words) ≡ true → level_passes shape [] nothing_held words false ≡ true
+level words e =
     let w = line_walks words e in
     let ends : settle_passes rules false (walk rules [] nothing_held words).held ≡ true = ap (λ (q : Walk). settle_passes rules false q.held) w.walks ∙ w.ready.passes in
     let ok : is_valid shape (finished rules (walk rules [] nothing_held words).held) false ≡ true =
-    ap (λ (rs : List Row). is_valid shape rs false) (rows_are words e)
-    ∙ valid (map row_of (options words)) (given_is (codes "--goal") (codes "goal") goal (options words) e ∙ g) (given_is (codes "--bound") (codes "bound") bound (options words) e ∙ b) in
+    ap (λ (rs : List Row). is_valid shape rs false) (rows_are words e) ∙ valid (map row_of (options words)) in
     all_pass w.passes (ap (λ (t : Bool). settle_passes rules t (walk rules [] nothing_held words).held) settles_once ∙ ends) free_of_defaults ok
 
 -- ---- what the parser promises
 
--- the parts of the test of a line
-record PlainLine (words : List Text) : Type 0 where
-  all : are_options (options words) ≡ true
-  has_goal : stands (codes "--goal") (options words) ≡ true
-  has_bound : stands (codes "--bound") (options words) ≡ true
+-- behind a command stand options
+of_command : (name command : Text) (words : List Text) → is_command name (command ∷ words) ≡ true → are_options (options words) ≡ true
+of_command name command words e = (both (bytes_eq command name) _ e).1
 
-asked_line : (words : List Text) → are_asked (options words) ≡ true → PlainLine words
-asked_line words e =
-    let a = both (are_options (options words) && stands (codes "--goal") (options words)) _ e in
-    let b = both (are_options (options words)) _ a.0 in
-    record { all = b.0; has_goal = b.1; has_bound = a.1 }
+-- a line of a command, by the tests that follow
+of_two : (name command : Text) (words : List Text) (a b : Bool) → (is_command name (command ∷ words) && a && b) ≡ true → are_options (options words) ≡ true
+of_two name command words a b e = of_command name command words (both _ a (both _ b e).0).0
 
--- a line of this command
-of_command : (name command : Text) (words : List Text) → is_command name (command ∷ words) ≡ true → PlainLine words
-of_command name command words e = asked_line words (both (bytes_eq command name) _ e).1
+of_three : (name command : Text) (words : List Text) (a b c : Bool) → (is_command name (command ∷ words) && a && b && c) ≡ true → are_options (options words) ≡ true
+of_three name command words a b c e = of_two name command words a b (both _ c e).0
 
-plain_line : (command : Text) (words : List Text) → is_asking (command ∷ words) ≡ true → PlainLine words
-plain_line command words e = elim (either (is_verify (command ∷ words) || is_bounded (command ∷ words)) (is_lumped (command ∷ words)) e) [
-  | inl o ↦ elim (either (is_verify (command ∷ words)) (is_bounded (command ∷ words)) o) [
-    | inl v ↦ of_command (codes "verify") command words (both (is_command (codes "verify") (command ∷ words)) _ v).0
-    | inr b ↦ of_command (codes "bounded") command words (both (is_command (codes "bounded") (command ∷ words)) _ (both (is_command (codes "bounded") (command ∷ words) && has (codes "--steps") (command ∷ words)) _ b).0).0
+plain_line : (command : Text) (words : List Text) → is_asking (command ∷ words) ≡ true → are_options (options words) ≡ true
+plain_line command words e = let line = command ∷ words in elim (either (is_verify line || is_bounded line || is_lumped line) (is_property line) e) [
+  | inl o ↦ elim (either (is_verify line || is_bounded line) (is_lumped line) o) [
+    | inl o ↦ elim (either (is_verify line) (is_bounded line) o) [
+      | inl v ↦ of_two (codes "verify") command words (tells_goal line) (not (has (codes "--steps") line)) v
+      | inr b ↦ of_three (codes "bounded") command words (tells_goal line) (has (codes "--steps") line) (not (has (codes "--from") line)) b
+    ]
+    | inr l ↦ of_three (codes "lumped") command words (tells_goal line) (not (has (codes "--steps") line)) (not (has (codes "--from") line)) l
   ]
-  | inr l ↦ of_command (codes "lumped") command words (both (is_command (codes "lumped") (command ∷ words)) _ (both (is_command (codes "lumped") (command ∷ words) && not (has (codes "--steps") (command ∷ words))) _ l).0).0
+  | inr p ↦ of_three (codes "property") command words (tells_formula line) (not (has (codes "--steps") line)) (not (has (codes "--from") line)) p
 ]
 
 -- the parser takes the words, and what it finds in them
@@ -507,7 +501,7 @@ line_rows words = matches_of verify_app words
 taken : (words : List Text) → is_asking words ≡ true → takes_line words ≡ true
 unfolding takes_line verify_app shape
 taken [] e = absurd (cc)
-taken (command ∷ words) e = let p = plain_line command words e in leaf_takes (built verify_app) nothing_held words refl (level words p.all p.has_goal p.has_bound)
+taken (command ∷ words) e = leaf_takes (built verify_app) nothing_held words refl (level words (plain_line command words e))
 
 -- and finds the values that stand there
 found : (words : List Text) → is_asking words ≡ true → (name id : Text) → Known name id → first_of id (line_rows words) ≡ value_of name (options (drop 1 words))
@@ -515,7 +509,7 @@ unfolding line_rows verify_app shape
 found [] e name id k = absurd (cc)
 found (command ∷ words) e name id k =
     let p = plain_line command words e in
-    ap (first_of id) (rows_are words p.all) ∙ first_is name id k (options words) p.all
+    ap (first_of id) (rows_are words p) ∙ first_is name id k (options words) p
 
 -- what the parser promises of its rules, said of these options
 pub passes_line : {T : Type 0} (a : App) (words : List Text) (r : Result T Error) → a ≡ verify_app → is_asking words ≡ true
@@ -545,4 +539,5 @@ values_found a words (Ok m) is plain h = record {
   precision = value_found a words m is plain h (codes "--precision") (codes "precision") precision;
   steps = value_found a words m is plain h (codes "--steps") (codes "steps") steps;
   from = value_found a words m is plain h (codes "--from") (codes "from") from;
+  formula = value_found a words m is plain h (codes "--formula") (codes "formula") formula;
 }

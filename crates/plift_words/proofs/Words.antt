@@ -9,10 +9,14 @@ use Rattle.lift_grid.specs.Rectangle.{most_halvings}
 use Rattle.lift_grid.specs.Region.{◌>>=◌}
 use Rattle.corner_lift.specs.Case.{most_precision}
 use Rattle.lift_cert.specs.declared.bound.Bound.{Bound}
-use Rattle.plift_words.specs.Line.{is_lumped, is_asking, is_check, is_migrate, depth_behind, word_behind, is_plain, options, value_of}
+use Rattle.plift_words.specs.Line.{is_lumped, is_property, is_asking, is_check, is_migrate, depth_behind, word_behind, is_plain, options, value_of}
 use Rattle.plift_words.specs.Values.{goal_of, bound_of, option_number, steps_of, blocks_of}
-use Rattle.plift_words.specs.Job.{JobData, way_in, verify_job, blocks_job, refine_job, other_job, job}
+use Rattle.plift_words.specs.Job.{JobData, way_in, depth_of, precision_of, verify_job, formula_field, formula_in, property_job, asking_job, blocks_job, refine_job, other_job, job}
 use Rattle.plift_words.specs.Given.{IsOfVerify}
+use Rattle.plift_words.specs.declared.way.Way.TheVariants as way
+use Rattle.property_text.specs.Formula.{FormulaData, formula_of}
+use Rattle.property_text.specs.declared.error.FormulaError.{FormulaError}
+use Rattle.property_text.specs.declared.error.FormulaError.TheVariants as error
 use Rattle.plift_words.specs.Parser.{HasValues}
 use Rattle.plift_words.specs.declared.job.Field.{Field}
 use Rattle.plift_words.specs.declared.job.Field.TheVariants as field
@@ -25,7 +29,7 @@ job_by lumps goal bound region depth precision steps from = do
   depth ← ok_or depth field.Depth
   precision ← ok_or precision field.Precision
   asked_on ← way_in lumps precision steps from
-  Ok (JobData.verify (record { goal = goal; bound = bound; region = region; depth = depth; precision = precision; way = asked_on }))
+  Ok (JobData.verify (record { goal = goal; safe = None; bound = bound; region = region; depth = depth; precision = precision; way = asked_on }))
 
 of_steps : (lumps : Bool) (goal : List ℕ) (bound : Bound) (region : List ℕ) (depth precision : ℕ) (word : List ℕ) (from : Option (List ℕ)) (steps : Option ℕ) → steps_of word ≡ steps
     → IsOfVerify (job_by lumps (Some goal) (Some bound) region (Some depth) (Some precision) (Some word) from)
@@ -37,7 +41,7 @@ of_from : (goal : List ℕ) (bound : Bound) (region : List ℕ) (depth precision
 of_from g b r d p word (Some v) is = rw is tt
 of_from g b r d p word None is = rw is tt
 
--- it is that of a line of `verify`, `bounded` or `lumped`
+-- it is that of such a line
 of_verify : (lumps : Bool) (goal : Option (List ℕ)) (bound : Option Bound) (region : List ℕ) (depth precision : Option ℕ) (steps from : Option (List ℕ))
     → IsOfVerify (job_by lumps goal bound region depth precision steps from)
 of_verify true (Some g) (Some b) r (Some d) (Some p) None v = tt
@@ -49,29 +53,56 @@ of_verify l (Some g) None r d p h v = tt
 of_verify l (Some g) (Some b) r None p h v = tt
 of_verify l (Some g) (Some b) r (Some d) None h v = tt
 
--- the job of the words as a line of `verify`, `bounded` or `lumped`
+-- the job of the values of a line of `property`
+abbrev property_by : Result FormulaData Field → List ℕ → Option ℕ → Option ℕ → Result JobData Field
+property_by formula region depth precision = do
+  formula ← formula
+  depth ← ok_or depth field.Depth
+  precision ← ok_or precision field.Precision
+  Ok (JobData.verify (record { goal = formula.goal; safe = formula.safe; bound = formula.bound; region = region; depth = depth; precision = precision; way = way.Property formula.op }))
+
+of_formula : (f : Result FormulaData FormulaError) (region : List ℕ) (depth precision : Option ℕ) → IsOfVerify (property_by (formula_field f) region depth precision)
+of_formula (Ok f) r (Some d) (Some p) = tt
+of_formula (Ok f) r None p = tt
+of_formula (Ok f) r (Some d) None = tt
+of_formula (Err error.Syntax) r d p = tt
+of_formula (Err error.Bound) r d p = tt
+of_formula (Err error.Memory) r d p = tt
+
+of_property : (word : Option (List ℕ)) (region : List ℕ) (depth precision : Option ℕ) → IsOfVerify (property_by (formula_in word) region depth precision)
+of_property None r d p = tt
+of_property (Some word) r d p = of_formula (formula_of word) r d p
+
+-- the job of the words as a line of one of the four
 abbrev verified : List (List ℕ) → Result JobData Field
-verified words = verify_job (is_lumped words) (λ name. value_of name (options (drop 1 words)))
+verified words = asking_job words (λ name. value_of name (options (drop 1 words)))
+
+either_of : (b : Bool) (x y : Result JobData Field) → IsOfVerify x → IsOfVerify y → IsOfVerify (if b then x else y)
+either_of true x y h k = h
+either_of false x y h k = k
 
 of_verified : (words : List (List ℕ)) → IsOfVerify (verified words)
 of_verified words =
     let value = λ (name : List ℕ). value_of name (options (drop 1 words)) in
-    of_verify (is_lumped words) (option_and_then goal_of (value (codes "--goal"))) (option_and_then bound_of (value (codes "--bound"))) (unwrap_or (value (codes "--region")) [])
-    (option_number 0 most_halvings (unwrap_or (value (codes "--depth")) (codes "0"))) (option_number 1 most_precision (unwrap_or (value (codes "--precision")) (codes "24")))
-    (value (codes "--steps")) (value (codes "--from"))
+    let region = unwrap_or (value (codes "--region")) [] in
+    let depth = option_number 0 most_halvings (unwrap_or (value (codes "--depth")) (codes "0")) in
+    let precision = option_number 1 most_precision (unwrap_or (value (codes "--precision")) (codes "24")) in
+    either_of (is_property words) (property_job value) (verify_job (is_lumped words) value)
+    (of_property (value (codes "--formula")) region depth precision)
+    (of_verify (is_lumped words) (option_and_then goal_of (value (codes "--goal"))) (option_and_then bound_of (value (codes "--bound"))) region depth precision (value (codes "--steps")) (value (codes "--from")))
 
 of_first : (b : Bool) (x y : Result JobData Field) → b ≡ true → IsOfVerify x → IsOfVerify (if b then x else y)
 of_first true x y e h = h
 of_first false x y e h = absurd (cc)
 
--- the job of a plain line of `verify`, `bounded` or `lumped`
+-- the job of a plain line of `verify`, `bounded`, `lumped` or `property`
 pub verify_lines : (words : List (List ℕ)) → is_asking words ≡ true → IsOfVerify (job words)
 verify_lines words e = of_first (is_asking words) (verified words) (other_job words) e (of_verified words)
 
 -- the values that the parser found on a plain line make its job
-pub found_job : (words : List (List ℕ)) (found : Found) (lumps : Bool) → lumps ≡ is_lumped words → is_asking words ≡ true → HasValues found (options (drop 1 words)) → job words ≡ verify_job lumps (λ name. first_value found (drop 2 name))
-found_job [] found lumps is e h = absurd (cc)
-found_job (command ∷ words) found lumps is e h = rw (is, e, h.goal, h.bound, h.region, h.depth, h.precision, h.steps, h.from) refl
+pub found_job : (words : List (List ℕ)) (found : Found) → is_asking words ≡ true → HasValues found (options (drop 1 words)) → job words ≡ asking_job words (λ name. first_value found (drop 2 name))
+found_job [] found e h = absurd (cc)
+found_job (command ∷ words) found e h = rw (e, h.goal, h.bound, h.region, h.depth, h.precision, h.steps, h.from, h.formula) refl
 
 -- ---- lines of the other commands
 

@@ -5,16 +5,21 @@ use Rattle.lift_grid.specs.Rectangle.{most_halvings}
 use Rattle.lift_grid.specs.Region.{◌>>=◌}
 use Rattle.corner_lift.specs.Case.{most_precision}
 use Rattle.lift_cert.specs.declared.bound.Bound.{Bound}
-use Rattle.plift_words.specs.Line.{is_lumped, is_asking, is_check, is_migrate, depth_behind, word_behind, options, value_of}
+use Rattle.plift_words.specs.Line.{is_lumped, is_property, is_asking, is_check, is_migrate, depth_behind, word_behind, options, value_of}
 use Rattle.plift_words.specs.Values.{goal_of, bound_of, option_number, steps_of, blocks_of}
 use Rattle.plift_words.specs.declared.job.Field.{Field}
 use Rattle.plift_words.specs.declared.job.Field.TheVariants as field
 use Rattle.plift_words.specs.declared.way.Way.{Way}
 use Rattle.plift_words.specs.declared.way.Way.TheVariants as way
+use Rattle.property_text.specs.Formula.{FormulaData, formula_of}
+use Rattle.property_text.specs.declared.error.FormulaError.{FormulaError}
+use Rattle.property_text.specs.declared.error.FormulaError.TheVariants as error
 
 -- What is to be verified: a goal label and a bound on reaching it, over a region, to a depth of splits and with numbers over 2 ^ precision; and what the bound is asked on.
 pub record VerifyData : Type 0 where
   pub goal : List ℕ
+  -- the label of the states that a path may pass through; all where there is none
+  pub safe : Option (List ℕ)
   pub bound : Bound
   -- the text that names the region
   pub region : List ℕ
@@ -46,15 +51,46 @@ abbrev pub way_in : Bool → ℕ → Option (List ℕ) → Option (List ℕ) →
 way_in lumps precision (Some word) from = ok_or (steps_of word) field.Steps >>= λ steps. Ok (way.Within steps)
 way_in lumps precision None from = if lumps then Ok way.Lumped else (from_in precision from >>= λ least. Ok (way.Whole least))
 
+-- the depth, where its word is a number in its range; 0 where there is none
+abbrev pub depth_of : Option (List ℕ) → Result ℕ Field
+depth_of word = ok_or (option_number 0 most_halvings (unwrap_or word (codes "0"))) field.Depth
+
+-- the precision; 24 where there is none
+abbrev pub precision_of : Option (List ℕ) → Result ℕ Field
+precision_of word = ok_or (option_number 1 most_precision (unwrap_or word (codes "24"))) field.Precision
+
 -- The job of a line of `verify`, `bounded` or `lumped`, by whether it asks to lump and the words behind its options, or the first of goal, bound, depth, precision, and steps or the least precision that is out of its grammar or range. Without its option the region's text is empty, the depth is 0, and the precision is 24. No text of a region is at fault here.
 abbrev pub verify_job : Bool → (List ℕ → Option (List ℕ)) → Result JobData Field
 verify_job lumps given = do
   goal ← ok_or (option_and_then goal_of (given (codes "--goal"))) field.Goal
   bound ← ok_or (option_and_then bound_of (given (codes "--bound"))) field.Bound
-  depth ← ok_or (option_number 0 most_halvings (unwrap_or (given (codes "--depth")) (codes "0"))) field.Depth
-  precision ← ok_or (option_number 1 most_precision (unwrap_or (given (codes "--precision")) (codes "24"))) field.Precision
+  depth ← depth_of (given (codes "--depth"))
+  precision ← precision_of (given (codes "--precision"))
   asked_on ← way_in lumps precision (given (codes "--steps")) (given (codes "--from"))
-  Ok (JobData.verify (record { goal = goal; bound = bound; region = unwrap_or (given (codes "--region")) []; depth = depth; precision = precision; way = asked_on }))
+  Ok (JobData.verify (record { goal = goal; safe = None; bound = bound; region = unwrap_or (given (codes "--region")) []; depth = depth; precision = precision; way = asked_on }))
+
+-- the formula that is told, or that it is none, or has no bound
+abbrev pub formula_field : Result FormulaData FormulaError → Result FormulaData Field
+formula_field (Ok f) = Ok f
+formula_field (Err error.Bound) = Err field.FormulaBound
+formula_field (Err _) = Err field.Formula
+
+-- the formula of the word of its option
+abbrev pub formula_in : Option (List ℕ) → Result FormulaData Field
+formula_in None = Err field.Formula
+formula_in (Some word) = formula_field (formula_of word)
+
+-- The job of a line of `property`, by the words behind its options, or the first of formula, its bound, depth and precision that is out of its grammar or range.
+abbrev pub property_job : (List ℕ → Option (List ℕ)) → Result JobData Field
+property_job given = do
+  formula ← formula_in (given (codes "--formula"))
+  depth ← depth_of (given (codes "--depth"))
+  precision ← precision_of (given (codes "--precision"))
+  Ok (JobData.verify (record { goal = formula.goal; safe = formula.safe; bound = formula.bound; region = unwrap_or (given (codes "--region")) []; depth = depth; precision = precision; way = way.Property formula.op }))
+
+-- the job of a line of one of these four commands
+abbrev pub asking_job : List (List ℕ) → (List ℕ → Option (List ℕ)) → Result JobData Field
+asking_job words given = if is_property words then property_job given else verify_job (is_lumped words) given
 
 -- the job of a number of blocks, or that it is at fault
 abbrev pub blocks_job : (ℕ → JobData) → List ℕ → Result JobData Field
@@ -76,4 +112,4 @@ other_job words = if is_check words then Ok JobData.check else if is_migrate wor
 
 -- the job that a line asks for, or the part of the line at fault: the whole of it exactly where it isn't plain
 abbrev pub job : List (List ℕ) → Result JobData Field
-job words = if is_asking words then verify_job (is_lumped words) (λ name. value_of name (options (drop 1 words))) else other_job words
+job words = if is_asking words then asking_job words (λ name. value_of name (options (drop 1 words))) else other_job words

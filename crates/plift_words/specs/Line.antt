@@ -36,9 +36,9 @@ stands name settings = list_any (λ s. bytes_eq s.name name) settings
 abbrev pub value_of : List ℕ → List Setting → Option (List ℕ)
 value_of name settings = option_and_then (λ s. s.value) (find (λ s. bytes_eq s.name name) settings)
 
--- the names of the options of `verify`, `bounded` and `lumped`
+-- the names of the options of `verify`, `bounded`, `lumped` and `property`
 abbrev pub is_option : List ℕ → Bool
-is_option name = list_any (bytes_eq name) (codes "--goal" ∷ codes "--bound" ∷ codes "--region" ∷ codes "--depth" ∷ codes "--precision" ∷ codes "--steps" ∷ codes "--from" ∷ [])
+is_option name = list_any (bytes_eq name) (codes "--goal" ∷ codes "--bound" ∷ codes "--region" ∷ codes "--depth" ∷ codes "--precision" ∷ codes "--steps" ∷ codes "--from" ∷ codes "--formula" ∷ [])
 
 -- a value is there, and doesn't begin with `-`
 abbrev pub is_value : Option (List ℕ) → Bool
@@ -50,36 +50,44 @@ abbrev pub are_options : List Setting → Bool
 are_options [] = true
 are_options (s ∷ more) = is_option s.name && is_value s.value && not (stands s.name more) && are_options more
 
--- options with the goal and the bound among them
-abbrev pub are_asked : List Setting → Bool
-are_asked settings = are_options settings && stands (codes "--goal") settings && stands (codes "--bound") settings
-
 -- ---- plain lines, by their commands
 
--- this command, and behind it options in any order, the goal and the bound among them
+-- this command, and behind it options in any order
 abbrev pub is_command : List ℕ → List (List ℕ) → Bool
 is_command name [] = false
-is_command name (command ∷ words) = bytes_eq command name && are_asked (options words)
+is_command name (command ∷ words) = bytes_eq command name && are_options (options words)
 
 -- an option of this name stands behind the command
 abbrev pub has : List ℕ → List (List ℕ) → Bool
 has name words = stands name (options (drop 1 words))
 
--- the command `verify` and its options, without a number of steps
+-- behind it stand the goal and the bound, and no formula
+abbrev pub tells_goal : List (List ℕ) → Bool
+tells_goal words = has (codes "--goal") words && has (codes "--bound") words && not (has (codes "--formula") words)
+
+-- behind it stands a formula, and neither the goal nor the bound
+abbrev pub tells_formula : List (List ℕ) → Bool
+tells_formula words = has (codes "--formula") words && not (has (codes "--goal") words) && not (has (codes "--bound") words)
+
+-- the command `verify`, and behind it the goal, the bound and other options, without a number of steps
 abbrev pub is_verify : List (List ℕ) → Bool
-is_verify words = is_command (codes "verify") words && not (has (codes "--steps") words)
+is_verify words = is_command (codes "verify") words && tells_goal words && not (has (codes "--steps") words)
 
 -- the command `bounded`, and behind it a number of steps and the options of `verify`, without a range of precisions
 abbrev pub is_bounded : List (List ℕ) → Bool
-is_bounded words = is_command (codes "bounded") words && has (codes "--steps") words && not (has (codes "--from") words)
+is_bounded words = is_command (codes "bounded") words && tells_goal words && has (codes "--steps") words && not (has (codes "--from") words)
 
 -- the command `lumped`, and behind it the options of `verify`, without a range of precisions
 abbrev pub is_lumped : List (List ℕ) → Bool
-is_lumped words = is_command (codes "lumped") words && not (has (codes "--steps") words) && not (has (codes "--from") words)
+is_lumped words = is_command (codes "lumped") words && tells_goal words && not (has (codes "--steps") words) && not (has (codes "--from") words)
 
--- one of these three
+-- the command `property`, and behind it a formula and of the options of `verify` the region, the depth and the precision
+abbrev pub is_property : List (List ℕ) → Bool
+is_property words = is_command (codes "property") words && tells_formula words && not (has (codes "--steps") words) && not (has (codes "--from") words)
+
+-- one of these four
 abbrev pub is_asking : List (List ℕ) → Bool
-is_asking words = is_verify words || is_bounded words || is_lumped words
+is_asking words = is_verify words || is_bounded words || is_lumped words || is_property words
 
 -- this command, and nothing behind it
 abbrev pub is_alone : List ℕ → List (List ℕ) → Bool
@@ -113,6 +121,6 @@ abbrev pub depth_behind : List ℕ → List (List ℕ) → Option (List ℕ)
 depth_behind name [] = None
 depth_behind name (command ∷ words) = if bytes_eq command name then option_and_then depth_in (only (options words)) else None
 
--- a plain line: one of the eight commands, and what stands behind it
+-- a plain line: one of the nine commands, and what stands behind it
 abbrev pub is_plain : List (List ℕ) → Bool
 is_plain words = is_asking words || is_check words || is_migrate words || is_some (depth_behind (codes "refine") words) || is_some (word_behind (codes "generate") words) || is_some (word_behind (codes "selftest") words)

@@ -1,24 +1,25 @@
 -- What the parser of command lines is told of the options, and what it gives.
-use Rattle.std.specs.Prelude.{◌≡◌, List, Some, Bool, true, false, codes}
+use Rattle.std.specs.Prelude.{◌≡◌, List, Some, codes}
 use Rattle.clap.specs.Words.{App, Rule, Text, new_app, new_rule, with_rule, first_value}
 use Rattle.clap.specs.declared.builder.action.ArgAction.TheVariants.{Set}
 use Rattle.clap.specs.declared.parser.matches.Found.{Found}
 use Rattle.plift_words.specs.Line.{Setting, value_of}
 
 -- an option that takes a value
-abbrev pub option : Text → Bool → Rule
-option name required = record (new_rule name) { long = Some name; action = Some Set; required = required }
+abbrev pub option : Text → Rule
+option name = record (new_rule name) { long = Some name; action = Some Set }
 
--- the options of `verify`, `bounded` and `lumped`
+-- the options of `verify`, `bounded`, `lumped` and `property`; which of them have to stand there is told by the plain lines
 unfoldable pub verify_app : App
 verify_app =
-    let goal = with_rule (new_app (codes "verify")) (option (codes "goal") true) in
-    let bound = with_rule goal (option (codes "bound") true) in
-    let region = with_rule bound (option (codes "region") false) in
-    let depth = with_rule region (option (codes "depth") false) in
-    let precision = with_rule depth (option (codes "precision") false) in
-    let steps = with_rule precision (option (codes "steps") false) in
-    with_rule steps (option (codes "from") false)
+    let goal = with_rule (new_app (codes "verify")) (option (codes "goal")) in
+    let bound = with_rule goal (option (codes "bound")) in
+    let region = with_rule bound (option (codes "region")) in
+    let depth = with_rule region (option (codes "depth")) in
+    let precision = with_rule depth (option (codes "precision")) in
+    let steps = with_rule precision (option (codes "steps")) in
+    let from = with_rule steps (option (codes "from")) in
+    with_rule from (option (codes "formula"))
 
 -- the values that the parser found are those of the options
 pub record HasValues (found : Found) (settings : List Setting) : Type 0 where
@@ -29,3 +30,4 @@ pub record HasValues (found : Found) (settings : List Setting) : Type 0 where
   pub precision : first_value found (codes "precision") ≡ value_of (codes "--precision") settings
   pub steps : first_value found (codes "steps") ≡ value_of (codes "--steps") settings
   pub from : first_value found (codes "from") ≡ value_of (codes "--from") settings
+  pub formula : first_value found (codes "formula") ≡ value_of (codes "--formula") settings

@@ -1,22 +1,28 @@
 // Reads the command line.
-ghost use Rattle.std.specs.Prelude.{◌≡◌, ◌≤◌, codes, drop, [], map, true, option_and_then};
+ghost use Rattle.std.specs.Prelude.{◌≡◌, ◌≤◌, Some, codes, drop, [], map, true, option_and_then};
 ghost use Rattle.std.specs.Prelude.{string_bytes, IfOk, IfSome, if◌then◌else◌};
 ghost use Rattle.std.specs.Option.{option_map, unwrap_or};
 ghost use Rattle.clap.specs.Words.{found_of, first_value};
 ghost use Rattle.plift_words.specs.Line.{is_lumped, is_asking};
+ghost use Rattle.lift_grid.specs.Rectangle.{most_halvings};
+ghost use Rattle.corner_lift.specs.Case.{most_precision};
 ghost use Rattle.plift_words.specs.Values.{goal_of, bound_of, option_number, most_steps, blocks_of};
-ghost use Rattle.plift_words.specs.Job.{from_in, way_in, verify_job, refine_job, other_job};
+ghost use Rattle.plift_words.specs.Job.{from_in, way_in, depth_of, precision_of, formula_in};
+ghost use Rattle.plift_words.specs.Job.{verify_job, property_job, asking_job, refine_job, other_job};
 ghost use Rattle.plift_words.specs.Way.{steps_told, from_told};
 ghost use Rattle.plift_words.specs.Given.{answer_data, asked, Asks};
 
 use crate::error::WordsError;
 use crate::job::{Field, Job, RefineJob, VerifyJob};
-use crate::line::{depth_behind, is_asking, is_check, is_lumped, is_migrate, word_behind};
+use crate::line::{
+    depth_behind, is_asking, is_check, is_lumped, is_migrate, is_property, word_behind,
+};
 use crate::parser::parse;
 use crate::values::{bound_of, goal_of, ladder_of, option_number, steps_of};
 use crate::way::Way;
 use clap::ArgMatches;
 use lift_cert::Bound;
+use property_text::{FormulaError, FormulaIn, formula_in};
 use std::alloc::Global;
 
 /// How often a rectangle may be halved at most.
@@ -63,6 +69,20 @@ fn number_in(matches: &ArgMatches<'_>, id: &str, default: &str, low: u32, high: 
     option_number(matches.get_str(id).unwrap_or(default), low, high)
 }
 
+fn depth_in(matches: &ArgMatches<'_>) -> Result<u32, Field>
+    ensures value { result ≡ depth_of (first_value (found_of matches.now) (codes "depth")) }
+    ensures range { IfOk result (λ depth. depth ≤ most_halvings) }
+{
+    number_in(matches, "depth", DEFAULT_DEPTH, 0, MOST_HALVINGS).ok_or(Field::Depth)
+}
+
+fn precision_in(matches: &ArgMatches<'_>) -> Result<u32, Field>
+    ensures value { result ≡ precision_of (first_value (found_of matches.now) (codes "precision")) }
+    ensures range { IfOk result (λ precision. (1 ≤ precision) × (precision ≤ most_precision)) }
+{
+    number_in(matches, "precision", DEFAULT_PRECISION, 1, MOST_PRECISION).ok_or(Field::Precision)
+}
+
 // The least precision of a range up to this one, where one is told.
 fn from_in(matches: &ArgMatches<'_>, precision: u32) -> Result<Option<u32>, Field>
     ensures value { result ≡ from_in precision (first_value (found_of matches.now) (codes "from")) }
@@ -95,13 +115,12 @@ fn job_in<'a>(matches: &ArgMatches<'a>, lumps: bool) -> Result<Job<'a>, Field>
     let goal = goal_in(matches).ok_or(Field::Goal)?;
     let bound = bound_in(matches).ok_or(Field::Bound)?;
     let region = region_in(matches);
-    let depth = number_in(matches, "depth", DEFAULT_DEPTH, 0, MOST_HALVINGS).ok_or(Field::Depth)?;
-    let precision = number_in(matches, "precision", DEFAULT_PRECISION, 1, MOST_PRECISION).ok_or(
-        Field::Precision,
-    )?;
+    let depth = depth_in(matches)?;
+    let precision = precision_in(matches)?;
     let way = way_in(matches, lumps, precision)?;
     Ok(Job::Verify(VerifyJob {
         goal,
+        safe: None,
         bound,
         region,
         depth,
@@ -110,7 +129,47 @@ fn job_in<'a>(matches: &ArgMatches<'a>, lumps: bool) -> Result<Job<'a>, Field>
     }))
 }
 
-// What a plain line of `verify`, `bounded` or `lumped` asks for.
+// The formula that a word is.
+fn formula_of(word: &str) -> Result<FormulaIn<'_>, Field>
+    ensures { result ≡ formula_in (Some word.now) }
+{
+    match formula_in(word.as_bytes()) {
+        Ok(formula) => Ok(formula),
+        Err(FormulaError::Bound) => Err(Field::FormulaBound),
+        Err(_) => Err(Field::Formula),
+    }
+}
+
+fn property_in<'a>(matches: &ArgMatches<'a>) -> Result<Job<'a>, Field>
+    ensures { answer_data result ≡ property_job (λ name. first_value (found_of matches.now) (drop 2 name)) }
+{
+    let formula = formula_of(matches.get_str("formula").ok_or(Field::Formula)?)?;
+    let depth = depth_in(matches)?;
+    let precision = precision_in(matches)?;
+    Ok(Job::Verify(VerifyJob {
+        goal: formula.goal,
+        safe: formula.safe,
+        bound: formula.bound,
+        region: region_in(matches),
+        depth,
+        precision,
+        way: Way::Property(formula.op),
+    }))
+}
+
+// What the values of a line of `verify`, `bounded`, `lumped` or `property` ask for.
+fn asking_job<'a>(matches: &ArgMatches<'a>, words: &[String]) -> Result<Job<'a>, Field>
+    ensures { answer_data result
+        ≡ asking_job (map string_bytes words.now) (λ name. first_value (found_of matches.now) (drop 2 name)) }
+{
+    if is_property(words) {
+        property_in(matches)
+    } else {
+        job_in(matches, is_lumped(words))
+    }
+}
+
+// What a plain line of `verify`, `bounded`, `lumped` or `property` asks for.
 fn verify_job(alloc: Global, words: &[String]) -> Result<Job<'_>, WordsError>
     requires { is_asking (map string_bytes words.now) ≡ true }
     ensures { Asks (asked words.entry.now) result }
@@ -119,7 +178,7 @@ fn verify_job(alloc: Global, words: &[String]) -> Result<Job<'_>, WordsError>
     let Ok(matches) = parse(alloc, words) else {
         return Err(WordsError::Memory);
     };
-    match job_in(&matches, is_lumped(words)) {
+    match asking_job(&matches, words) {
         Ok(job) => Ok(job),
         Err(field) => Err(WordsError::Usage(field)),
     }
@@ -156,7 +215,7 @@ fn other_job(words: &[String]) -> Result<Job<'static>, Field>
 }
 
 /// What the words after the program's name ask for. `Usage` with the part of them that is at fault,
-/// or `Memory`, which comes only where the line is a plain one of `verify`, `bounded` or `lumped`.
+/// or `Memory`, which comes only where the line is a plain one of `verify`, `bounded`, `lumped` or `property`.
 pub fn job_of(alloc: Global, words: &[String]) -> Result<Job<'_>, WordsError>
     ensures { Asks (asked words.entry.now) result }
 {

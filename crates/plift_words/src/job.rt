@@ -1,10 +1,10 @@
 // A job, and the parts of the command line that ask for it.
-ghost use Rattle.std.specs.Prelude.{◌≤◌};
+ghost use Rattle.std.specs.Prelude.{◌≡◌, ◌≤◌, true, None};
 ghost use Rattle.std.specs.Option.{ForSome};
 ghost use Rattle.lift_grid.specs.Rectangle.{most_halvings};
 ghost use Rattle.corner_lift.specs.Case.{most_precision};
 ghost use Rattle.plift_words.specs.Values.{most_steps};
-ghost use Rattle.plift_words.specs.Way.{steps_told, from_told};
+ghost use Rattle.plift_words.specs.Way.{steps_told, from_told, is_reported};
 
 use crate::way::Way;
 use lift_cert::Bound;
@@ -24,12 +24,18 @@ pub enum Field {
     From,
     /// The number of blocks.
     Blocks,
+    /// The formula isn't one.
+    Formula,
+    /// The bound of the formula.
+    FormulaBound,
 }
 
 /// What is to be verified.
 #[derive(Clone, Copy)]
 pub struct VerifyJob<'a> {
     pub goal: &'a [u8],
+    /// The label of the states that a path may pass through; all where there is none, as where a report is written.
+    pub safe: Option<&'a [u8]>,
     pub bound: Bound,
     /// The text that names the region; it is read against the model's parameters.
     pub region: &'a [u8],
@@ -41,6 +47,7 @@ pub struct VerifyJob<'a> {
     /// greatest.
     pub way: Way,
     ghost in_range: { (depth ≤ most_halvings) × (1 ≤ precision) × (precision ≤ most_precision) },
+    ghost all_are_safe: { is_reported way ≡ true → safe ≡ None },
     ghost steps_in_range: { ForSome (steps_told way) (λ h. (1 ≤ h) × (h ≤ most_steps)) },
     ghost from_in_range: { ForSome (from_told way) (λ from. (1 ≤ from) × (from ≤ precision)) },
 }
@@ -56,7 +63,7 @@ pub struct RefineJob {
 /// What the words ask for: a command, with what it is asked.
 #[derive(Clone, Copy)]
 pub enum Job<'a> {
-    /// `verify`, `bounded` or `lumped`.
+    /// `verify`, `bounded`, `lumped` or `property`.
     Verify(VerifyJob<'a>),
     /// Checks a report.
     Check,

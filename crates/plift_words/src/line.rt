@@ -5,8 +5,9 @@ ghost use Rattle.std.specs.Option.{option_map};
 ghost use Rattle.lift_bytes.specs.Bytes.{code};
 ghost use Rattle.lift_frac.specs.Written.{cut_at};
 ghost use Rattle.plift_words.specs.Line.{attached, options, stands};
-ghost use Rattle.plift_words.specs.Line.{is_option, is_value, are_options, are_asked};
-ghost use Rattle.plift_words.specs.Line.{is_command, has, is_verify, is_bounded, is_lumped, is_asking};
+ghost use Rattle.plift_words.specs.Line.{is_option, is_value, are_options, is_command, has};
+ghost use Rattle.plift_words.specs.Line.{tells_goal, tells_formula};
+ghost use Rattle.plift_words.specs.Line.{is_verify, is_bounded, is_lumped, is_property, is_asking};
 ghost use Rattle.plift_words.specs.Line.{is_alone, is_check, is_migrate, word_behind};
 ghost use Rattle.plift_words.specs.Line.{only, depth_in, depth_behind};
 ghost use Rattle.plift_words.specs.Given.{setting_of};
@@ -92,6 +93,7 @@ fn is_option(name: &str) -> bool
         || name == "--precision"
         || name == "--steps"
         || name == "--from"
+        || name == "--formula"
 }
 
 fn is_value(value: Option<&str>) -> bool
@@ -125,21 +127,14 @@ fn are_options(words: &[String]) -> bool
     true
 }
 
-// Whether these are options with their values, each at most once, the goal and the bound among them.
-fn are_asked(words: &[String]) -> bool
-    ensures { result ≡ are_asked (options (map string_bytes words.now)) }
-{
-    are_options(words) && stands("--goal", words) && stands("--bound", words)
-}
-
-// Whether the line is this command, and behind it options, the goal and the bound among them.
+// Whether the line is this command, and behind it options with their values, each at most once.
 fn is_command(name: &str, words: &[String]) -> bool
     ensures { result ≡ is_command name.now (map string_bytes words.now) }
 {
     let [command, options @ ..] = words else {
         return false;
     };
-    command.as_str() == name && are_asked(options)
+    command.as_str() == name && are_options(options)
 }
 
 // Whether an option of this name stands behind the command.
@@ -152,31 +147,62 @@ fn has(name: &str, words: &[String]) -> bool
     }
 }
 
+// Whether the goal and the bound stand behind the command, and no formula.
+fn tells_goal(words: &[String]) -> bool
+    ensures { result ≡ tells_goal (map string_bytes words.now) }
+{
+    has("--goal", words) && has("--bound", words) && !has("--formula", words)
+}
+
+// Whether a formula stands behind the command, and neither the goal nor the bound.
+fn tells_formula(words: &[String]) -> bool
+    ensures { result ≡ tells_formula (map string_bytes words.now) }
+{
+    has("--formula", words) && !has("--goal", words) && !has("--bound", words)
+}
+
 fn is_verify(words: &[String]) -> bool
     ensures { result ≡ is_verify (map string_bytes words.now) }
 {
-    is_command("verify", words) && !has("--steps", words)
+    is_command("verify", words) && tells_goal(words) && !has("--steps", words)
 }
 
 fn is_bounded(words: &[String]) -> bool
     ensures { result ≡ is_bounded (map string_bytes words.now) }
 {
-    is_command("bounded", words) && has("--steps", words) && !has("--from", words)
+    is_command("bounded", words)
+        && tells_goal(words)
+        && has("--steps", words)
+        && !has("--from", words)
 }
 
 /// Whether the line is the command `lumped`, and behind it the options of `verify`, without a range of precisions.
 pub fn is_lumped(words: &[String]) -> bool
     ensures { result ≡ is_lumped (map string_bytes words.now) }
 {
-    is_command("lumped", words) && !has("--steps", words) && !has("--from", words)
+    is_command("lumped", words)
+        && tells_goal(words)
+        && !has("--steps", words)
+        && !has("--from", words)
 }
 
-/// Whether the line is the command `verify`, `bounded` or `lumped`, and behind it its options with their values, in
-/// any order and each at most once. Takes no memory.
+/// Whether the line is the command `property`, and behind it a formula and of the options of `verify` the region, the
+/// depth and the precision.
+pub fn is_property(words: &[String]) -> bool
+    ensures { result ≡ is_property (map string_bytes words.now) }
+{
+    is_command("property", words)
+        && tells_formula(words)
+        && !has("--steps", words)
+        && !has("--from", words)
+}
+
+/// Whether the line is the command `verify`, `bounded`, `lumped` or `property`, and behind it its options with their
+/// values, in any order and each at most once. Takes no memory.
 pub fn is_asking(words: &[String]) -> bool
     ensures { result ≡ is_asking (map string_bytes words.now) }
 {
-    is_verify(words) || is_bounded(words) || is_lumped(words)
+    is_verify(words) || is_bounded(words) || is_lumped(words) || is_property(words)
 }
 
 // Whether the line is this command, and nothing behind it.

@@ -1,4 +1,4 @@
-// Reads the options of a line of `verify`, `bounded` or `lumped` by the parser of command lines.
+// Reads the options of a line of `verify`, `bounded`, `lumped` or `property` by the parser of command lines.
 ghost use Rattle.std.specs.Prelude.{◌≡◌, IfOk, IfErr, true, map, drop, string_bytes};
 ghost use Rattle.clap.specs.Words.{app_of, with_rule, found_of, kind_of};
 ghost use Rattle.plift_words.specs.Line.{is_asking, options};
@@ -12,34 +12,30 @@ fn with_option<'a>(
     alloc: Global,
     command: Command<'a>,
     name: &'a str,
-    required: bool,
 ) -> Result<Command<'a>, AllocError>
     ensures { IfOk result (λ c.
-        app_of c ≡ with_rule (app_of command.entry) (option name.entry.now required)) }
+        app_of c ≡ with_rule (app_of command.entry) (option name.entry.now)) }
 {
-    let option = Arg::new(alloc, name)
-        .long(name)
-        .action(ArgAction::Set)
-        .required(required);
+    let option = Arg::new(alloc, name).long(name).action(ArgAction::Set);
     command.arg(option)
 }
 
-#[tactic(auto, unfolding(crate::specs::Parser::verify_app))]
 fn verify_command<'a>(alloc: Global) -> Result<Command<'a>, AllocError>
     ensures { IfOk result (λ c. app_of c ≡ verify_app) }
 {
     let command = Command::new(alloc, "verify");
-    let command = with_option(alloc, command, "goal", true)?;
-    let command = with_option(alloc, command, "bound", true)?;
-    let command = with_option(alloc, command, "region", false)?;
-    let command = with_option(alloc, command, "depth", false)?;
-    let command = with_option(alloc, command, "precision", false)?;
-    let command = with_option(alloc, command, "steps", false)?;
-    with_option(alloc, command, "from", false)
+    let command = with_option(alloc, command, "goal")?;
+    let command = with_option(alloc, command, "bound")?;
+    let command = with_option(alloc, command, "region")?;
+    let command = with_option(alloc, command, "depth")?;
+    let command = with_option(alloc, command, "precision")?;
+    let command = with_option(alloc, command, "steps")?;
+    let command = with_option(alloc, command, "from")?;
+    with_option(alloc, command, "formula")
 }
 
-/// The values of the options of a plain line of `verify`, `bounded` or `lumped`. Fails for want of memory alone: such a
-/// line is one that the parser takes.
+/// The values of the options of a plain line of `verify`, `bounded`, `lumped` or `property`. Fails for want of memory
+/// alone: such a line is one that the parser takes.
 pub fn parse<'a>(alloc: Global, words: &'a [String]) -> Result<ArgMatches<'a>, Error>
     requires { is_asking (map string_bytes words.now) ≡ true }
     ensures values { IfOk result (λ m.

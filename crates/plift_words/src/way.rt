@@ -1,3 +1,5 @@
+use property_text::Op;
+
 /// What a bound is asked on.
 #[derive(Clone, Copy)]
 pub enum Way {
@@ -7,4 +9,6 @@ pub enum Way {
     Within(u32),
     /// A chain, by its quotient, on any number of steps.
     Lumped,
+    /// The model, on any number of steps, for a property that compares in this way.
+    Property(Op),
 }

@@ -1,6 +1,7 @@
 use Rattle.std.proofs.Common.{None, sym, subst, ◌∙◌}
 use Rattle.corner_lift.specs.Case.{CaseData, IsCase}
 use Rattle.plift_words.specs.declared.way.Way.TheVariants.{Whole}
+use Rattle.plift_top.specs.Asked.{uncut}
 use Rattle.plift_top.specs.Steps.{IsTestedCase, AnswersCase}
 use Rattle.plift_top.proofs.Lumping.{same_case}
 use Rattle.plift_top.proofs.lumped.write_quotient.Goals as goal
@@ -18,6 +19,6 @@ write_whole-requires-clause-from g c v e = absurd (cc)
 
 pub returns : goal.returns
 returns g c =
-    subst (λ (k : CaseData). AnswersCase g.K.Sink.taken g.K.Sink.faults c.args.bound (Whole None) k c.args.out.now c.write_whole.new.out c.write_whole.result)
+    subst (λ (k : CaseData). AnswersCase g.K.Sink.taken g.K.Sink.faults c.args.bound (Whole None) (uncut k.model) k c.args.out.now c.write_whole.new.out c.write_whole.result)
     (c.new-quotient.ensures ∙ same_case c.args.case.now c.args.lumped.now c.model.result.now c.grid.result c.root.result.now c.w.result c.model.ensures c.root.ensures.value c.grid.ensures.d c.grid.ensures.depth c.w.ensures.value)
     c.write_whole.ensures

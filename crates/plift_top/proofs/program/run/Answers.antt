@@ -5,7 +5,7 @@ use Rattle.plift_top.proofs.Acts as acts
 use Rattle.plift_top.proofs.program.run.Goals as goal
 
 pub returns-clause-sound : goal.returns-clause-sound
-returns-clause-sound g c e j is none = acts.sound g.S.Source.left g.S.Source.faults g.K.Sink.taken g.K.Sink.faults _ _ _ _ c.right_reports_are_sound.ensures c.lumped_reports_are_sound.ensures _ _ (rw c.deref.ensures.value at c.act-answer.ensures.answer) (rw c.deref.ensures.value at c.act-answer.ensures.bound) (sym c.end.ensures.status ∙ e) j is none
+returns-clause-sound g c e j is shown = acts.sound g.S.Source.left g.S.Source.faults g.K.Sink.taken g.K.Sink.faults _ _ _ _ c.right_reports_are_sound.ensures c.lumped_reports_are_sound.ensures _ _ (rw c.deref.ensures.value at c.act-answer.ensures.answer) (rw c.deref.ensures.value at c.act-answer.ensures.bound) (rw c.deref.ensures.value at c.act-answer.ensures.whole) (sym c.end.ensures.status ∙ e) j is shown
 
 pub returns-clause-done : goal.returns-clause-done
 returns-clause-done g c e = acts.done g.S.Source.left g.S.Source.faults g.K.Sink.taken g.K.Sink.faults _ _ _ _ _ _ (rw c.deref.ensures.value at c.act-answer.ensures.answer) (sym c.end.ensures.status ∙ e)
@@ -29,16 +29,16 @@ pub returns-clause-within : goal.returns-clause-within
 returns-clause-within g c e = acts.within g.S.Source.left g.S.Source.faults g.K.Sink.taken g.K.Sink.faults _ _ _ _ _ _ (rw c.deref.ensures.value at c.act-answer.ensures.answer) (rw c.deref.ensures.value at c.act-answer.ensures.limit) (λ f. e (c.end.ensures.status ∙ f))
 
 pub returns-clause-complete : goal.returns-clause-complete
-returns-clause-complete g c j text m root is told read named admitted can len sure1 sure2 =
-    rw c.end.ensures.status (acts.complete g.S.Source.left g.S.Source.faults g.K.Sink.taken g.K.Sink.faults _ _ _ _ j text told len sure1 sure2 c.first_fault_is_one.ensures.none _ _ (rw c.deref.ensures.value at c.act-answer.ensures.answer) is m root read named admitted can)
+returns-clause-complete g c j text a root is told read named admitted can len sure1 sure2 =
+    rw c.end.ensures.status (acts.complete g.S.Source.left g.S.Source.faults g.K.Sink.taken g.K.Sink.faults _ _ _ _ j text told len sure1 sure2 c.first_fault_is_one.ensures.none _ _ (rw c.deref.ensures.value at c.act-answer.ensures.answer) is a root read named admitted can)
 
 pub returns-clause-refused : goal.returns-clause-refused
 returns-clause-refused g c j text why is told bad len sure1 sure2 =
     rw c.end.ensures.status (acts.refused g.S.Source.left g.S.Source.faults g.K.Sink.taken g.K.Sink.faults _ _ _ _ j text told len sure1 sure2 c.first_fault_is_one.ensures.none _ _ (rw c.deref.ensures.value at c.act-answer.ensures.answer) is why bad)
 
 pub returns-clause-unadmitted : goal.returns-clause-unadmitted
-returns-clause-unadmitted g c j text m root is told read named bad chain len sure1 sure2 =
-    rw c.end.ensures.status (acts.unadmitted g.S.Source.left g.S.Source.faults g.K.Sink.taken g.K.Sink.faults _ _ _ _ j text told len sure1 sure2 _ _ (rw c.deref.ensures.value at c.act-answer.ensures.answer) is m root read named bad chain)
+returns-clause-unadmitted g c j text a root is told read named bad chain len sure1 sure2 =
+    rw c.end.ensures.status (acts.unadmitted g.S.Source.left g.S.Source.faults g.K.Sink.taken g.K.Sink.faults _ _ _ _ j text told len sure1 sure2 _ _ (rw c.deref.ensures.value at c.act-answer.ensures.answer) is a root read named bad chain)
 
 pub returns-clause-part : goal.returns-clause-part
 returns-clause-part g c e = acts.part g.S.Source.left g.S.Source.faults g.K.Sink.taken g.K.Sink.faults _ _ _ _ _ _ (rw c.deref.ensures.value at c.act-answer.ensures.answer) (sym c.end.ensures.status ∙ e)

@@ -1,7 +1,16 @@
-use Rattle.plift_top.proofs.Reading.{refused_text}
+use Rattle.std.proofs.Common.{arith}
+use Rattle.plift_words.specs.Given.{verify_data}
+use Rattle.plift_top.specs.Asked.{verified_model}
+use Rattle.plift_top.proofs.Reading.{reads_text, keeps_reading}
 use Rattle.plift_top.proofs.verify.model_of.Goals as goal
 
-pub returns-in_err-model-clause-answer : goal.returns-in_err-model-clause-answer
-returns-in_err-model-clause-answer g c =
+pub returns-clause-answer : goal.returns-clause-answer
+returns-clause-answer g c =
     let bytes = c.in_ok-text.ensures.bytes in
-    refused_text g.S.Source.left g.S.Source.faults _ _ c.args.goal.now c.in_ok-text.text.items bytes.0 bytes.1 c.deref.result.now c.deref.ensures.value c.in_err-model.field-0.0 _ c.from_residual-in_err-model.ensures.1 c.in_err-model.ensures
+    reads_text g.S.Source.left g.S.Source.faults (verify_data c.args.job.now) _ _ c.in_ok-text.text.items bytes.0 bytes.1 c.model_in.result
+    (rw c.deref.ensures.value at c.model_in.ensures.model) (rw c.deref.ensures.value at c.model_in.ensures.cause)
+
+pub returns-clause-limit : goal.returns-clause-limit
+returns-clause-limit g c =
+    let bytes = c.in_ok-text.ensures.bytes in
+    keeps_reading (verified_model (verify_data c.args.job.now) c.deref.result.now) c.model_in.result _ _ (c.in_ok-text.text.items, bytes.0, omega (arith, bytes.2, c.in_ok-text.text.ok.0)) c.model_in.ensures.cause

@@ -6,8 +6,8 @@ use Rattle.plift_words.proofs.command.verify_job.Goals as goal
 pub returns-in_default : goal.returns-in_default
 returns-in_default c = verify_lines (map string_bytes c.args.words.now) (search rules)
 
-pub returns-in-Ok-job_in : goal.returns-in-Ok-job_in
-returns-in-Ok-job_in c = found_job (map string_bytes c.args.words.now) (found_of c.in-Ok.matches) c.is_lumped.result c.is_lumped.ensures (search rules) c.in-Ok.ensures.values ∙ sym c.in-Ok-job_in.ensures
+pub returns-in-Ok-asking_job : goal.returns-in-Ok-asking_job
+returns-in-Ok-asking_job c = found_job (map string_bytes c.args.words.now) (found_of c.in-Ok.matches) (search rules) c.in-Ok.ensures.values ∙ sym c.in-Ok-asking_job.ensures
 
 pub returns : goal.returns
-returns c = found_job (map string_bytes c.args.words.now) (found_of c.in-Ok.matches) c.is_lumped.result c.is_lumped.ensures (search rules) c.in-Ok.ensures.values ∙ sym c.in-Err.ensures
+returns c = found_job (map string_bytes c.args.words.now) (found_of c.in-Ok.matches) (search rules) c.in-Ok.ensures.values ∙ sym c.in-Err.ensures

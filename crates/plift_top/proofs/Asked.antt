@@ -1,0 +1,109 @@
+-- The model that a job asks of a text, by the models that the text stands for.
+use Rattle.std.proofs.Common.{◌≡◌, ◌≢◌, ℕ, Bool, List, None, Some, Ok, Err, refl, sym, ap, ap₂, ◌∙◌, subst, Result, IsErrAnd, IfErr}
+use Rattle.std.specs.declared.option.Option.{Option}
+use Rattle.lift_grid.specs.Region.{◌>>=◌}
+use Rattle.lift_model.specs.Model.{ModelData}
+use Rattle.drn_read.specs.Reading.{drn}
+use Rattle.drn_read.specs.declared.error.DrnCause.{DrnCause}
+use Rattle.drn_read.specs.declared.error.DrnCause.TheVariants as cause
+use Rattle.drn_read.specs.declared.error.DrnError.{DrnError}
+use Rattle.property_text.specs.Restricted.{restricted}
+use Rattle.plift_words.specs.Job.{VerifyData}
+use Rattle.plift_top.specs.Asked.{AskedModel, uncut, cut, safe_in, asked_model, verified_model}
+use Rattle.plift_top.specs.Refused.{model_refusal}
+use Rattle.plift_top.specs.Steps.{IsModelOf, IsTextFault}
+use Rattle.plift_top.specs.declared.refusal.Refusal.{Refusal}
+use Rattle.plift_top.specs.declared.refusal.Refusal.TheVariants as refusal
+
+-- what comes to two values comes to one
+pub ok_same : {A E : Type 0} (r : Result A E) (a b : A) → r ≡ Ok a → r ≡ Ok b → a ≡ b
+ok_same (Ok x) a b p q = (let first : x ≡ a = cc in let second : x ≡ b = cc in sym first ∙ second)
+ok_same (Err e) a b p q = absurd (cc)
+
+-- a model with these states as the safe ones
+abbrev with_safe : ModelData → Option (List Bool) → AskedModel
+with_safe m safe = record { read = m; safe = safe }
+
+-- the same, or why the states aren't given
+abbrev by_safe : ModelData → Result (Option (List Bool)) DrnError → Result AskedModel DrnError
+by_safe m safe = safe >>= λ s. Ok (with_safe m s)
+
+-- ---- faults
+
+-- a text that is refused, where it isn't for want of memory
+text_fault : {A : Type 0} (right : Result A DrnError) (line : ℕ) (c : DrnCause) → (c ≢ cause.Memory → right ≡ Err (record { line = line; cause = c })) → IsTextFault right (model_refusal (record { line = line; cause = c }))
+text_fault right line cause.Memory h = tt
+text_fault right line _ h = h (λ e. absurd (cc))
+
+pub faulty : {A T : Type 0} (right : Result A DrnError) (error : DrnError) (result : Result T Refusal) → IsErrAnd result (λ e. e ≡ model_refusal error) → (error.cause ≢ cause.Memory → right ≡ Err error) → IfErr result (IsTextFault right)
+faulty right error (Ok x) is h = absurd is
+faulty right error (Err e) is h = subst (IsTextFault right) (sym is) (text_fault right error.line error.cause h)
+
+-- a fault stays one in what follows
+fault_after : {A B : Type 0} (right : Result A DrnError) (f : A → Result B DrnError) (why : Refusal) → IsTextFault right why → IsTextFault (right >>= f) why
+fault_after right f (refusal.Model error) h = ap (λ (r : Result _ DrnError). r >>= f) h
+fault_after right f refusal.Memory h = tt
+fault_after right f _ h = absurd h
+
+-- ---- a label of states
+
+module _ (text label : List ℕ) where
+  pub no_states : (error : DrnError) → drn text label ≡ Err error → safe_in text (Some label) ≡ Err error
+  no_states error h = ap (λ (r : Result ModelData DrnError). r >>= λ m. Ok (Some m.goal)) h
+
+  pub states_of : (m : ModelData) (states : List Bool) → drn text label ≡ Ok m → states ≡ m.goal → safe_in text (Some label) ≡ Ok (Some states)
+  states_of m states h e = ap (λ (r : Result ModelData DrnError). r >>= λ n. Ok (Some n.goal)) h ∙ ap (λ s. Ok (Some s)) (sym e)
+
+-- ---- the whole
+
+module _ (job : VerifyData) (text : List ℕ) where
+  -- by what each label gives
+  asked_by : (read : Result ModelData DrnError) (safe : Result (Option (List Bool)) DrnError) → drn text job.goal ≡ read → safe_in text job.safe ≡ safe → asked_model job text ≡ (read >>= λ m. by_safe m safe)
+  asked_by read safe p q = ap₂ (λ (r : Result ModelData DrnError) (s : Result (Option (List Bool)) DrnError). r >>= λ m. by_safe m s) p q
+
+  -- the text is refused with the label of the goal states
+  pub no_model : (error : DrnError) → drn text job.goal ≡ Err error → verified_model job text ≡ Err error
+  no_model error h = ap (λ (r : Result AskedModel DrnError). r >>= λ a. Ok (cut a)) (asked_by (Err error) (safe_in text job.safe) h refl)
+
+  module _ (m : ModelData) (read : drn text job.goal ≡ Ok m) where
+    -- without a label of safe states
+    pub read_uncut_by : job.safe ≡ None → asked_model job text ≡ Ok (uncut m)
+    read_uncut_by none = asked_by (Ok m) (Ok None) read (ap (safe_in text) none)
+
+    pub model_as_read : job.safe ≡ None → IsModelOf job m text
+    model_as_read none = record { asked = uncut m; read = read_uncut_by none; after = refl }
+
+    -- with one
+    module _ (label : List ℕ) (is : job.safe ≡ Some label) where
+      pub model_cut : (safe : List Bool) → safe_in text (Some label) ≡ Ok (Some safe) → (after : ModelData) → after ≡ restricted m safe → IsModelOf job after text
+      model_cut safe h after e = record { asked = with_safe m (Some safe); read = asked_by (Ok m) (Ok (Some safe)) read (ap (safe_in text) is ∙ h); after = e }
+
+      pub no_safe_states : (why : Refusal) → IsTextFault (safe_in text (Some label)) why → IsTextFault (verified_model job text) why
+      no_safe_states why h =
+          let safe = safe_in text (Some label) in
+          subst (λ (r : Result AskedModel DrnError). IsTextFault (r >>= λ a. Ok (cut a)) why) (sym (asked_by (Ok m) safe read (ap (safe_in text) is)))
+          (fault_after (by_safe m safe) (λ a. Ok (cut a)) why (fault_after safe (λ s. Ok (with_safe m s)) why h))
+
+  -- the model that is verified is the one that was read, after the cut
+  pub verified_is : (m : ModelData) → IsModelOf job m text → verified_model job text ≡ Ok m
+  verified_is m is = ap (λ (r : Result AskedModel DrnError). r >>= λ a. Ok (cut a)) is.read ∙ ap (λ (n : ModelData). Ok n) (sym is.after)
+
+  pub verified_of : (a : AskedModel) → asked_model job text ≡ Ok a → verified_model job text ≡ Ok (cut a)
+  verified_of a read = ap (λ (r : Result AskedModel DrnError). r >>= λ b. Ok (cut b)) read
+
+  -- where no label of safe states is told, a model is asked as it was read
+  pub as_read : job.safe ≡ None → (a : AskedModel) → asked_model job text ≡ Ok a → (m : ModelData) × (drn text job.goal ≡ Ok m) × (a ≡ uncut m)
+  as_read none a h = by (drn text job.goal) refl
+    where
+      by : (read : Result ModelData DrnError) → drn text job.goal ≡ read → (m : ModelData) × (drn text job.goal ≡ Ok m) × (a ≡ uncut m)
+      by (Ok m) is = (m, is, ok_same (asked_model job text) a (uncut m) h (read_uncut_by m is none))
+      by (Err e) is = (let never : Ok a ≡ Err e = sym h ∙ asked_by (Err e) (Ok None) is (ap (safe_in text) none) in absurd (cc))
+
+pub read_uncut : (job : VerifyData) (text : List ℕ) (m : ModelData) → job.safe ≡ None → drn text job.goal ≡ Ok m → asked_model job text ≡ Ok (uncut m)
+read_uncut job text m none read = read_uncut_by job text m read none
+
+-- ---- the refusal of a failed call
+
+pub same_fault : {A T : Type 0} (right : Result A DrnError) (why : Refusal) (result : Result T Refusal) → IsErrAnd result (λ e. e ≡ why) → IsTextFault right why → IfErr result (IsTextFault right)
+same_fault right why (Ok x) is h = absurd is
+same_fault right why (Err e) is h = subst (IsTextFault right) (sym is) h

@@ -1,0 +1,67 @@
+-- What a text for a property is, and what its leaves say of until in the model that was read.
+use Rattle.std.proofs.Common.{◌≡◌, ℕ, Bool, List, Some, None, refl, sym, ◌∙◌, Option, Ok, Err}
+use Rattle.std.specs.Option.{unwrap_or}
+use Rattle.lift_base.specs.Outside.{WroteSome}
+use Rattle.lift_base.specs.Laws.{Written}
+use Rattle.lift_poly.specs.Polynomial.{Valuation}
+use Rattle.lift_grid.specs.Rectangle.{Spans, Inside}
+use Rattle.lift_grid.specs.Laws.{TreesTile}
+use Rattle.lift_model.specs.Model.{ModelData}
+use Rattle.corner_lift.specs.Case.{CaseData, IsCase, IsInside}
+use Rattle.corner_lift.specs.Laws.{LiveHasSpan}
+use Rattle.lift_cert.specs.declared.bound.Bound.{Bound}
+use Rattle.lift_walk.specs.Laws.{RootIsAtDepth, HalvesAreDeeper}
+use Rattle.lift_walk.specs.Sides.{IsAtDepth}
+use Rattle.lift_dual.specs.Laws.{UntilIsReachedByAll, UntilIsBoundedForOne, UntilIsBoundedForAll, UntilIsReachedByOne}
+use Rattle.property_text.specs.Laws.{CutOfNoneIsSame}
+use Rattle.property_text.specs.Restricted.{restricted, all_safe}
+use Rattle.property_text.specs.declared.op.Op.{Op}
+use Rattle.property_tree.specs.Leaves.{PropertyLeaf, IsBest, DecidesFor, IsOpenFor}
+use Rattle.property_tree.specs.Text.{tree_text}
+use Rattle.plift_words.specs.declared.way.Way.TheVariants as way
+use Rattle.plift_top.specs.Asked.{AskedModel, cut, safe_states}
+use Rattle.plift_top.specs.Property.{property_text, IsPropertyText, SaysOfUntil, HoldsFor}
+use Rattle.plift_top.specs.Steps.{IsTestedCase, WritesCase}
+use Rattle.plift_top.proofs.Parts.{parts_tile, parts_hold}
+
+-- the model that is verified is the cut one by the safe states, also where all are
+cut_by : CutOfNoneIsSame → (m : ModelData) (safe : Option (List Bool)) → elim safe [ Some s ↦ restricted m s | None ↦ m ] ≡ restricted m (unwrap_or safe (all_safe m))
+cut_by same m None = sym (same m)
+cut_by same m (Some s) = refl
+
+module _ (all_at_least : UntilIsReachedByAll) (one_at_most : UntilIsBoundedForOne) (all_at_most : UntilIsBoundedForAll) (one_at_least : UntilIsReachedByOne) (same : CutOfNoneIsSame) (a : AskedModel) (k : CaseData) (is : k.model ≡ cut a) (case : IsCase k) where
+  after : k.model ≡ restricted a.read (safe_states a)
+  after = is ∙ cut_by same a.read a.safe
+
+  -- what a certificate says holds
+  says : (spans : Spans) (l : PropertyLeaf) → IsInside k.root spans → IsBest k spans l → (v : Valuation) → Inside k.d spans v → SaysOfUntil a.read (safe_states a) k.w v (Some l)
+  says spans (PropertyLeaf.upper x) inside best = all_at_most a.read (safe_states a) k spans x after case inside best.upper
+  says spans (PropertyLeaf.upper_one x picks) inside best = one_at_most a.read (safe_states a) k spans x picks after case inside best.upper
+  says spans (PropertyLeaf.lower r) inside best = one_at_least a.read (safe_states a) k spans r after case inside best.holds
+  says spans (PropertyLeaf.lower_all r) inside best = all_at_least a.read (safe_states a) k spans r after case inside best.holds
+
+  leaf_holds : (op : Op) (bound : Bound) (spans : Spans) (depth : ℕ) (l : PropertyLeaf) → IsAtDepth k depth spans → DecidesFor k op bound spans l → HoldsFor a k op bound (record { spans = spans; leaf = Some l })
+  leaf_holds op bound spans depth l at r = record { says = says spans l at.inside r.0; settles = r.1 }
+
+-- what is said of a case's text holds
+pub reported_for : UntilIsReachedByAll → UntilIsBoundedForOne → UntilIsBoundedForAll → UntilIsReachedByOne → CutOfNoneIsSame → RootIsAtDepth → HalvesAreDeeper → TreesTile → LiveHasSpan
+    → {K : Type 0} (taken : K → Option (List ℕ)) (faults : K → ℕ) (k : CaseData) (op : Op) (bound : Bound) (old new : K) (result : Written) → IsTestedCase k → WroteSome (IsPropertyText k op bound) taken faults old new result
+    → (a : AskedModel) → k.model ≡ cut a → WritesCase taken faults bound (way.Property op) a k old new result
+reported_for all_at_least one_at_most all_at_most one_at_least same root deeper tile live taken faults k op bound old new (Ok x) case w a is =
+    let tree = w.some.1.1.0 in
+    let right = w.some.1.1.1.0 in
+    let decides = DecidesFor k op bound in
+    let opens = IsOpenFor k op bound in
+    record {
+      tree = tree;
+      case = case.case;
+      weights = case.weights;
+      sums = case.sums;
+      right = right;
+      tiles = parts_tile deeper decides opens k case.case tile live k.root 0 tree (root k case.case) right;
+      schedulers = parts_hold deeper decides opens k case.case (HoldsFor a k op bound) (leaf_holds all_at_least one_at_most all_at_most one_at_least same a k is case.case op bound)
+          (λ spans. record { says = λ v inside. tt; settles = tt }) k.root 0 tree (root k case.case) right;
+      text = w.whole (property_text k op bound tree) (tree_text k op tree, (tree, (right, refl)), refl);
+    }
+reported_for all_at_least one_at_most all_at_most one_at_least same root deeper tile live taken faults k op bound old new (Err e) case w a is =
+    (record { case = case.case; weights = case.weights; sums = case.sums; front = λ tree right. w.part (property_text k op bound tree) (tree_text k op tree, (tree, (right, refl)), refl) }, w.cause)
