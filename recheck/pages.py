@@ -194,6 +194,17 @@ def second_version(folder: Path) -> Iterator[Tried]:
     yield Tried('docs/FORMATS.md: a report of version 2', '' if told and said == shown else said)
 
 
+def property_nodes(folder: Path) -> Iterator[Tried]:
+    """The nodes of properties that docs/FORMATS.md shows: whether the words that it names give them."""
+    page = page_text('docs/FORMATS.md')
+    told = re.findall(r'^With (?:`(--formula [^`]+)`|the same words) .*? `(examples/\S+)`.*?:\n\n```text\n(.*?)^```', page, re.S | re.M)
+    options = told[0][0] if told else ''
+    for _, model, shown in told:
+        said = bash(f"./plift property {options} < {model} | sed '1,/^box/d'", folder)
+        yield Tried(f'docs/FORMATS.md: a property of {model}', '' if said == shown else said)
+    yield Tried('docs/FORMATS.md: properties', '' if len(told) == 2 else f'{len(told)} are told of')
+
+
 def lengths() -> Iterator[Tried]:
     """What pages say of the lengths of recheck.py and lumped.py."""
     count, other = (len((TOP / 'recheck' / name).read_text().splitlines()) for name in ('recheck.py', 'lumped.py'))
@@ -258,6 +269,7 @@ def tried(place: Path, programs: dict[str, Path]) -> Iterator[Tried]:
     yield from pictures(folders)
     yield from examples(folders[0])
     yield from second_version(folders[0])
+    yield from property_nodes(folders[0])
     yield from lengths()
     yield from references()
     storm = prepared(place / 'STORM', programs)

@@ -1,7 +1,8 @@
-"""Checks a report of plift by itself, of `verify` or of `bounded`:  python3 recheck.py < report
+"""Checks a report of plift by itself, of `verify`, `bounded` or `property`:  python3 recheck.py < report
 
-Writes `sound accept A reject B unknown C`, or tells the first fault on standard error and ends with 1. It is written
-from docs/FORMATS.md and shares nothing with plift's code; docs/CHECKING.md tells why its tests show what they show.
+Writes `sound accept A reject B unknown C`, of `property` `sound holds A fails B unknown C`, or tells the first fault on
+standard error and ends with 1. Written from docs/FORMATS.md, it shares nothing with plift's code; docs/CHECKING.md
+tells why its tests show what they show.
 """
 import re, sys
 from collections import Counter
@@ -10,6 +11,7 @@ from operator import mul
 
 NONE = 2 ** 32  # for a choice or a rank that is `-`
 MOST_BYTES, MOST_LINE = 2 ** 32, 2 ** 20  # of a report, and of one of its lines
+REPORT, BOUNDED, PROPERTY = FORMS = b'plift', b'plift-bounded', b'plift-property'  # by the first word
 NUMBER, NAME = re.compile(rb'0|-?[1-9][0-9]*'), re.compile(rb'[A-Za-z_][A-Za-z0-9_]*')
 getattr(sys, 'set_int_max_str_digits', int)(0)  # a line may hold a number of any length
 
@@ -79,9 +81,9 @@ class Shape:
 class Report:
     def __init__(self, text):
         """Reads the head."""
-        self.text, is_bounded = text, text.due()[0] == b'plift-bounded'
-        version = numbers(text.take(b'plift-bounded' if is_bounded else b'plift'), 1)
-        need(version == [1] or version == [2] and not is_bounded, 'Version')
+        self.text, form = text, text.due()[0]
+        self.form, version = form, numbers(text.take(form if form in FORMS else REPORT), 1)
+        need(version == [1] or version == [2] and form == REPORT, 'Version')
         kind = self.kind = text.take(b'kind')
         need(kind in ([b'dtmc'], [b'mdp']))
         names = text.counted(b'parameters')
@@ -100,11 +102,14 @@ class Report:
             within(s, 0, self.size - 1)
         self.goals, self.shapes, self.states = set(goals), {}, []
         self.read_states(kind == [b'mdp'])
-        n, d = self.bound = pair(b' '.join(text.take(b'bound')), b'/')
+        words = text.take(b'property' if form == PROPERTY else b'bound')
+        self.op = words.pop(0) if form == PROPERTY and words else b'<='  # how probabilities have to compare with it
+        need(self.op in (b'<=', b'<', b'>=', b'>'))
+        n, d = self.bound = pair(b' '.join(words), b'/')
         need(0 <= n < 2 ** 32 and d > 0, 'Limit')
         need(gcd(n, d) == 1)
         need(n <= d < 2 ** 32, 'Limit')
-        self.steps = range(1, text.single(b'steps', 1, 64) + 1) if is_bounded else None  # None: any number
+        self.steps = range(1, text.single(b'steps', 1, 64) + 1) if form == BOUNDED else None  # None: any number
         self.most = text.single(b'precision', 1, 40)
         self.least = text.single(b'from', 1, self.most) if version == [2] else None  # of the leaves' precisions
         self.one, self.depth = 2 ** self.most, text.single(b'depth', 0, 20)  # one: probability 1
@@ -162,56 +167,87 @@ class Report:
                 for corner, weight in enumerate(weights):
                     need(weight >= 0, f'target {target} at corner {corner} has weight {weight}')
 
+    def tests(self):
+        """The test of each kind of decided leaf."""
+        if self.form == PROPERTY:
+            return {b'holds': self.test_holds, b'fails': self.test_fails}
+        if self.form == BOUNDED:
+            return {b'accept': self.test_accept_within, b'reject': self.test_reject_within}
+        return {b'accept': self.test_above, b'reject': self.test_below}
+
     def corners_in(self, box):
         """For each shape its corners in a rectangle."""
         return {shape: list(shape.corners(box, self.grid)) for shape in self.shapes.values()}
 
-    def test_accept(self, box, place):
-        x, corners, self.text.place = self.read_values(b'accept'), self.corners_in(box), place
-        self.test_upper(x, x, corners)
+    def rows_of(self, s, picks):
+        """The rows of a state that count: that of its pick, where there are picks, else each."""
+        rows = self.states[s]
+        return list(enumerate(rows)) if picks is None else [] if picks[s] == NONE else [(picks[s], rows[picks[s]])]
+
+    def test_above(self, box, place, key=b'accept', has_picks=False):
+        x, picks = self.read_values(key), self.read_picks() if has_picks else None
+        corners, self.text.place = self.corners_in(box), place
+        self.test_upper(x, x, picks, corners)
         self.test_bound(x, True)
 
-    def test_upper(self, x, z, corners):
-        """No state's number in z is below the mean of its targets' numbers in x, for any choice, at any corner."""
-        for s, rows in enumerate(self.states):
+    def test_upper(self, x, z, picks, corners):
+        """No state's number in z is below the mean of its targets' numbers in x, for each choice that counts."""
+        for s in range(self.size):
             need(s not in self.goals or z[s] == self.one, f'goal state {s} value {z[s]}')
-            for a, (targets, shape) in enumerate([] if s in self.goals else rows):
+            for a, (targets, shape) in [] if s in self.goals else self.rows_of(s, picks):
                 values, whole = [x[target] for target in targets], self.common * self.grid ** len(shape.parameters)
                 for corner, weights in enumerate(corners[shape]):
                     mean = sum(map(mul, weights, values))
                     if mean > z[s] * whole:
                         raise Fault(f'state {s} choice {a} corner {corner}: {mean} > {z[s] * whole}')
 
-    def test_bound(self, x, accepts):
+    def test_bound(self, x, is_low):
+        """The initial state's number lies on its side of the bound, which itself is low for `<=` and `>`, else high."""
         left, right = x[self.init] * self.bound[1], self.bound[0] * self.one
-        need((left <= right) == accepts, f'bound: {left} {"> " if accepts else "<= "}{right}')
+        low, high, found = ('<=', '>', left <= right) if self.op in (b'<=', b'>') else ('<', '>=', left < right)
+        need(found == is_low, f'bound: {left} {high if is_low else low} {right}')
 
-    def test_reject(self, box, place):
-        """No number is above the mean for the printed choice, and enough weight leads to lower ranks."""
-        (e, y, picks, ranks), corners, self.text.place = self.read_reject(), self.corners_in(box), place
-        for s, (pick, rank) in enumerate(zip(picks, ranks)):
+    def test_below(self, box, place, key=b'reject', has_picks=True):
+        """No number is above the mean for a choice that counts, and enough weight of each leads to lower ranks."""
+        (e, y, picks, ranks), corners, self.text.place = self.read_lower(key, has_picks), self.corners_in(box), place
+        for s, rank in enumerate(ranks):
             need(rank > 0 or y[s] == self.one, f'goal state {s} value {y[s]}')
             need(rank < NONE or y[s] == 0, f'unranked state {s} value {y[s]}')
-            if pick < NONE:
-                targets, shape = self.states[s][pick]
+            for a, (targets, shape) in self.rows_of(s, picks) if 0 < rank < NONE else []:
                 values, whole = [y[target] for target in targets], self.common * self.grid ** len(shape.parameters)
                 lower = [ranks[target] < rank for target in targets]
                 for corner, weights in enumerate(corners[shape]):
                     mean, down = sum(map(mul, weights, values)), sum(map(mul, weights, lower))
                     if y[s] * whole > mean:
-                        raise Fault(f'state {s} choice {pick} corner {corner}: {y[s] * whole} > {mean}')
+                        raise Fault(f'state {s} choice {a} corner {corner}: {y[s] * whole} > {mean}')
                     if down * 2 ** e < whole:
-                        raise Fault(f'state {s} choice {pick} corner {corner}: weight {down} times 2^{e} < {whole}')
+                        raise Fault(f'state {s} choice {a} corner {corner}: weight {down} times 2^{e} < {whole}')
         self.test_bound(y, False)
 
-    # of `bounded`: a vector for each number of steps, from that of no step on, which is 1 on goal states and 0 elsewhere
+    # of `property`: `<=` and `<` ask about the scheduler that reaches the most, `>=` and `>` about that of the least
+
+    def test_holds(self, box, place):
+        need(self.text.take(b'holds') == [])
+        if self.op in (b'<=', b'<'):
+            self.test_above(box, place, b'x')
+        else:
+            self.test_below(box, place, b'lower', has_picks=False)
+
+    def test_fails(self, box, place):
+        need(self.text.take(b'fails') == [])
+        if self.op in (b'<=', b'<'):
+            self.test_below(box, place, b'lower')
+        else:
+            self.test_above(box, place, b'x', has_picks=True)
+
+    # of `bounded`: a vector for each number of steps, from that of no step, which is 1 on goal states and 0 elsewhere
 
     def test_accept_within(self, box, place):
         need(self.text.take(b'accept') == [])
         upper, corners = [self.start(), *(self.read_values(b'x', n) for n in self.steps)], self.corners_in(box)
         for n in self.steps:
             self.text.place = f'{place}step {n} '
-            self.test_upper(upper[n - 1], upper[n], corners)
+            self.test_upper(upper[n - 1], upper[n], None, corners)
         self.text.place = place
         self.test_bound(upper[-1], True)
 
@@ -225,15 +261,14 @@ class Report:
 
     def test_lower(self, y, z, picks, corners):
         """No state's number in z is above the mean of its targets' numbers in y, for the printed choice."""
-        for s, pick in enumerate(picks):
-            need(pick < NONE or z[s] == self.one, f'goal state {s} value {z[s]}')
-            if pick < NONE:
-                targets, shape = self.states[s][pick]
+        for s in range(self.size):
+            need(s not in self.goals or z[s] == self.one, f'goal state {s} value {z[s]}')
+            for a, (targets, shape) in self.rows_of(s, picks):
                 values, whole = [y[target] for target in targets], self.common * self.grid ** len(shape.parameters)
                 for corner, weights in enumerate(corners[shape]):
                     mean = sum(map(mul, weights, values))
                     if z[s] * whole > mean:
-                        raise Fault(f'state {s} choice {pick} corner {corner}: {z[s] * whole} > {mean}')
+                        raise Fault(f'state {s} choice {a} corner {corner}: {z[s] * whole} > {mean}')
 
     def start(self):
         return [self.one if s in self.goals else 0 for s in range(self.size)]
@@ -268,32 +303,37 @@ class Report:
         need(all(0 <= mark < end or word == b'-' for mark, end, word in zip(marks, ends, words)), 'Limit')
         return marks
 
-    def read_reject(self):
-        line, words = self.text.line, self.text.take(b'reject')
+    def read_picks(self):
+        """A choice of each state that is no goal state."""
+        picks = self.read_marks(b'choice', [len(rows) for rows in self.states])
+        need(all((pick == NONE) == (s in self.goals) for s, pick in enumerate(picks)))
+        return picks
+
+    def read_lower(self, key, has_picks):
+        line, words = self.text.line, self.text.take(key)
         need(len(words) == 8 and words[::2] == [b'e', b'k', b'm', b'b'])
         (e, k, m), (b, z) = numbers(words[1:6:2], 3), pair(words[7], b'/')
         within(e, 0, 126), within(k, 1, 65536)
-        y, picks = self.read_values(b'y'), self.read_marks(b'choice', [len(rows) for rows in self.states])
+        y, ends = self.read_values(b'y'), [len(rows) for rows in self.states]
+        picks = self.read_marks(b'choice', ends) if has_picks else None
         ranks, self.text.place = self.read_marks(b'rank', [k + 1] * self.size), f'line {line}: '
         need(m == e * k and b == y[self.init] and z == self.one)
-        for s, (pick, rank) in enumerate(zip(picks, ranks)):
-            need((rank == 0) == (s in self.goals) and (pick == NONE) == (rank in (0, NONE)))
+        for s, rank in enumerate(ranks):
+            need((rank == 0) == (s in self.goals) and (picks is None or (picks[s] == NONE) == (rank in (0, NONE))))
         return e, y, picks, ranks
 
 def leaves(report):
     """Tests the nodes, and gives of each leaf its kind, its rectangle and how many splits lie above it."""
-    text, node, most = report.text, 0, report.depth if report.live else 0
+    text, node, most, tests = report.text, 0, report.depth if report.live else 0, report.tests()
     due = [(report.box, most)]  # rectangles whose nodes follow, the next one last, and how often they may be halved
     while due:
         (box, levels), word, place = due.pop(), text.due()[0], f'node {node} '
-        if report.least and word in (b'at', b'accept', b'reject'):
+        if report.least and (word == b'at' or word in tests):
             report.one, word = 2 ** text.single(b'at', report.least, report.most), text.due()[0]
-            need(word in (b'accept', b'reject'))
+            need(word in tests)
         node += 1
-        if word == b'accept':
-            (report.test_accept_within if report.steps else report.test_accept)(box, place)
-        elif word == b'reject':
-            (report.test_reject_within if report.steps else report.test_reject)(box, place)
+        if word in tests:
+            tests[word](box, place)
         elif word == b'split':
             axis, text.place = text.single(word, 0, report.parameters - 1), place
             need(levels > 0, 'depth')
@@ -311,16 +351,16 @@ def leaves(report):
     need(not text.ahead(), 'rest')
 
 def check(text):
-    """How many leaves accept, reject and are unknown."""
+    """What is said of a sound report: how many leaves of each kind it has."""
     report = Report(text)
     report.test_rows()
     kinds = Counter(kind for kind, _, _ in leaves(report))
-    return tuple(kinds[kind] for kind in (b'accept', b'reject', b'unknown'))
+    return 'sound ' + ' '.join(f'{kind.decode()} {kinds[kind]}' for kind in (*report.tests(), b'unknown'))
 
 def main():
     text = Text(sys.stdin.buffer)
     try:
-        print('sound accept %d reject %d unknown %d' % check(text))
+        print(check(text))
     except Fault as fault:
         sys.exit(f'not sound: {text.place}{fault}')  # on standard error, with status 1
     except TooLong:

@@ -62,6 +62,26 @@ STEPS = {
         .replace('\n', '').replace(';', '\n').encode(),
 }
 
+# Texts of properties. Either of two choices shows heads with p, or with the rest.
+TWIN = '''plift-property 1;kind mdp;parameters 1 p;common 1;states 3;init 0;goal 1 1;row 0 0 2;to 1 1:1;to 2 0:1 1:-1;
+row 0 1 2;to 1 0:1 1:-1;to 2 1:1;row 1 0 1;to 1 0:1;row 2 0 1;to 2 0:1;property %s;precision 4;depth %d;grid 20;box %s;%s'''
+# A coin of two hands is thrown again in half of the cases; one of them shows heads with p, the other with 1/2.
+HANDS = '''plift-property 1;kind mdp;parameters 1 p;common 4;states 3;init 0;goal 1 1;row 0 0 3;to 0 0:2;to 1 1:2;to 2 0:2 1:-2;
+row 0 1 3;to 0 0:2;to 1 0:1;to 2 0:1;row 1 0 1;to 1 0:4;row 2 0 1;to 2 0:4;property %s;precision 4;depth 0;grid 20;
+box 12 16;holds;lower e 2 k 1 m 2 b 8/16;y 8 16 0;rank 1 0 -;'''
+PROPERTIES = {
+    'MOST': TWIN % ('<= 13/16', 0, '12 16', 'holds;x 13 16 0;'),
+    'BELOW': TWIN % ('< 7/8', 0, '12 16', 'holds;x 13 16 0;'),
+    'SOME': TWIN % ('<= 1/2', 0, '12 16', 'fails;lower e 1 k 1 m 1 b 9/16;y 9 16 0;choice 0 - -;rank 1 0 -;'),
+    'SOME-BELOW': TWIN % ('< 9/16', 0, '12 16', 'fails;lower e 1 k 1 m 1 b 9/16;y 9 16 0;choice 0 - -;rank 1 0 -;'),
+    'LEAST': HANDS % '>= 1/2',
+    'ABOVE-ALL': HANDS % '> 3/8',
+    'ONE': TWIN % ('>= 1/2', 0, '12 16', 'fails;x 7 16 0;choice 1 - 0;'),
+    'ONE-ABOVE': TWIN % ('> 7/16', 0, '12 16', 'fails;x 7 16 0;choice 1 - 0;'),
+    'HALVES': TWIN % ('< 1/2', 1, '4 16', 'split 0;unknown;fails;lower e 1 k 1 m 1 b 8/16;y 8 16 0;choice 0 - -;rank 1 0 -;'),
+}
+PROPERTIES = {name: text.replace('\n', '').replace(';', '\n').encode() for name, text in PROPERTIES.items()}
+
 # The coin again, in the second version: over halves of a region from 1/10 to 9/10, each leaf at its own precision.
 RANGE = b'''plift 2;kind dtmc;parameters 1 p;common 1;states 3;init 0;goal 1 1;row 0 0 2;to 1 1:1;to 2 0:1 1:-1;row 1 0 1;
 to 1 0:1;row 2 0 1;to 2 0:1;bound 1/2;precision 4;from 1;depth 2;grid 40;box 4 36;split 0;at 1;accept 1 2 0;split 0;unknown;
@@ -410,6 +430,136 @@ ABOVE | 26=choice 2 0 - 0;unknown | rest
 '''
 
 
+# The same of texts of properties.
+PROPERTY_TABLE = '''
+MOST | | sound holds 1 fails 0 unknown 0
+MOST | 24=x 13 16 1 | sound holds 1 fails 0 unknown 0
+MOST | 23=unknown / 24=- | sound holds 0 fails 0 unknown 1
+MOST | 1=plift-property 2 | line 1: Version
+MOST | 1=plift-property 1 1 | line 1: Syntax
+MOST | 1=plift-properties 1 | line 1: Syntax
+MOST | 1=plift 1 | line 18: Syntax
+MOST | 1=plift-bounded 1 | line 18: Syntax
+MOST | 18=bound 13/16 | line 18: Syntax
+MOST | 18=property | line 18: Syntax
+MOST | 18=property <= | line 18: Syntax
+MOST | 18=property 13/16 | line 18: Syntax
+MOST | 18=property =< 13/16 | line 18: Syntax
+MOST | 18=property <=13/16 | line 18: Syntax
+MOST | 18=property <= 13 /16 | line 18: Syntax
+MOST | 18=property <= 26/32 | line 18: Syntax
+MOST | 18=property <= 3/2 | line 18: Limit
+MOST | 18=property <= 1/0 | line 18: Limit
+MOST | 18=property <= 13/16;steps 2 | line 19: Syntax
+MOST | 19=precision 4;from 1 | line 20: Syntax
+MOST | 13=to 2 1:2 | state 0 choice 1: set 1 sums to 1
+MOST | 22=box 12 21 | state 0 choice 0: target 2 at corner 1 has weight -1
+MOST | 23=holds 1 | line 23: Syntax
+MOST | 23=accept | line 23: Syntax
+MOST | 23=at 4;holds | line 23: Syntax
+MOST | 23=fails | line 24: Syntax
+MOST | 18=property >= 13/16 | line 24: Syntax
+MOST | 24=accept 13 16 0 | line 24: Syntax
+MOST | 24=x 1 13 16 0 | line 24: Syntax
+MOST | 24=x 13 16 | line 24: Syntax
+MOST | 24=x 13 17 0 | line 24: Limit
+MOST | 24=x 13 16 -1 | line 24: Limit
+MOST | 24=x 12 16 0 | node 0 state 0 choice 0 corner 1: 256 > 240
+MOST | 22=box 2 16 / 18=property <= 15/16 | node 0 state 0 choice 1 corner 0: 288 > 260
+MOST | 24=x 13 15 0 | node 0 goal state 1 value 15
+MOST | 24=x 14 16 0 | node 0 bound: 224 > 208
+MOST | 18=property < 13/16 | node 0 bound: 208 >= 208
+MOST | 24=x 13 16 0;choice 0 - 0 | rest
+MOST | 24=x 13 16 0;unknown | rest
+BELOW | | sound holds 1 fails 0 unknown 0
+BELOW | 24=x 14 16 0 | node 0 bound: 112 >= 112
+
+SOME | | sound holds 0 fails 1 unknown 0
+SOME | 24=reject e 1 k 1 m 1 b 9/16 | line 24: Syntax
+SOME | 24=lower b 9/16 | line 24: Syntax
+SOME | 24=lower e 1 k 1 m 2 b 9/16 | line 24: Syntax
+SOME | 24=lower e 1 k 1 m 1 b 8/16 | line 24: Syntax
+SOME | 24=lower e 1 k 1 m 1 b 9/8 | line 24: Syntax
+SOME | 24=lower e 127 k 1 m 127 b 9/16 | line 24: Limit
+SOME | 24=lower e 1 k 0 m 0 b 9/16 | line 24: Limit
+SOME | 24=lower e 1 k 65537 m 65537 b 9/16 | line 24: Limit
+SOME | 25=y 17 16 0 | line 25: Limit
+SOME | 26=- | line 26: Syntax
+SOME | 26=choice 2 - - | line 26: Limit
+SOME | 26=choice - - - | line 24: Syntax
+SOME | 26=choice 0 0 - | line 24: Syntax
+SOME | 27=rank 2 0 - | line 27: Limit
+SOME | 27=rank 0 0 - | line 24: Syntax
+SOME | 27=rank 1 1 - | line 24: Syntax
+SOME | 27=- | line 27: Truncated
+SOME | 18=property >= 1/2 | line 24: Syntax
+SOME | 25=y 9 15 0 | node 0 goal state 1 value 15
+SOME | 25=y 9 16 1 | node 0 unranked state 2 value 1
+SOME | 24=lower e 1 k 1 m 1 b 10/16 / 25=y 10 16 0 | node 0 state 0 choice 0 corner 0: 200 > 192
+SOME | 26=choice 1 - - | node 0 state 0 choice 1 corner 0: 180 > 128
+SOME | 24=lower e 0 k 1 m 0 b 9/16 | node 0 state 0 choice 0 corner 0: weight 12 times 2^0 < 20
+SOME | 18=property <= 9/16 | node 0 bound: 144 <= 144
+SOME-BELOW | | sound holds 0 fails 1 unknown 0
+SOME-BELOW | 18=property < 5/8 | node 0 bound: 72 < 80
+
+LEAST | | sound holds 1 fails 0 unknown 0
+LEAST | 26=lower e 3 k 2 m 6 b 7/16 / 27=y 7 16 0 / 28=rank 2 0 - / 20=property >= 7/16 | sound holds 1 fails 0 unknown 0
+LEAST | 26=lower e 2 k 1 m 3 b 8/16 | line 26: Syntax
+LEAST | 26=lower e 2 k 1 m 2 b 7/16 | line 26: Syntax
+LEAST | 26=lower e 2 k 1 m 2 b 8/32 | line 26: Syntax
+LEAST | 26=lower e 127 k 1 m 127 b 8/16 | line 26: Limit
+LEAST | 26=lower e 2 k 0 m 0 b 8/16 | line 26: Limit
+LEAST | 26=x 8 16 0 | line 26: Syntax
+LEAST | 27=y 8 17 0 | line 27: Limit
+LEAST | 28=choice 0 - -;rank 1 0 - | line 28: Syntax
+LEAST | 28=rank 2 0 - | line 28: Limit
+LEAST | 28=rank 1 - - | line 26: Syntax
+LEAST | 28=rank 0 0 - | line 26: Syntax
+LEAST | 28=rank 1 0 0 | line 26: Syntax
+LEAST | 20=property <= 1/2 | line 26: Syntax
+LEAST | 26=lower e 2 k 1 m 2 b 7/16 / 27=y 7 15 0 / 20=property >= 7/16 | node 0 goal state 1 value 15
+LEAST | 27=y 8 16 1 | node 0 unranked state 2 value 1
+LEAST | 28=rank - 0 - | node 0 unranked state 0 value 8
+LEAST | 26=lower e 2 k 1 m 2 b 9/16 / 27=y 9 16 0 | node 0 state 0 choice 1 corner 0: 36 > 34
+LEAST | 24=box 4 16 | node 0 state 0 choice 0 corner 0: 640 > 448
+LEAST | 26=lower e 1 k 1 m 1 b 8/16 | node 0 state 0 choice 0 corner 0: weight 24 times 2^1 < 80
+LEAST | 12=row 0 1 1 / 13=to 0 0:4 / 14=- / 15=- | node 0 state 0 choice 1 corner 0: weight 0 times 2^2 < 4
+LEAST | 28=rank 1 0 1 | node 0 state 2 choice 0 corner 0: weight 0 times 2^2 < 4
+LEAST | 20=property >= 5/8 | node 0 bound: 64 < 80
+LEAST | 20=property > 1/2 | node 0 bound: 16 <= 16
+LEAST | 28=rank 1 0 -;unknown | rest
+ABOVE-ALL | | sound holds 1 fails 0 unknown 0
+
+ONE | | sound holds 0 fails 1 unknown 0
+ONE | 24=x 8 16 0 / 18=property >= 5/8 | sound holds 0 fails 1 unknown 0
+ONE | 24=x 7 17 0 | line 24: Limit
+ONE | 24=lower e 1 k 1 m 1 b 7/16 | line 24: Syntax
+ONE | 25=- | line 25: Truncated
+ONE | 25=rank 1 0 - | line 25: Syntax
+ONE | 25=choice 1 - | line 25: Syntax
+ONE | 25=choice 1 - - | line 25: Syntax
+ONE | 25=choice - - 0 | line 25: Syntax
+ONE | 25=choice 1 0 0 | line 25: Syntax
+ONE | 25=choice 2 - 0 | line 25: Limit
+ONE | 25=choice 1 - 1 | line 25: Limit
+ONE | 18=property <= 1/2 | line 24: Syntax
+ONE | 24=x 7 15 0 | node 0 goal state 1 value 15
+ONE | 24=x 6 16 0 | node 0 state 0 choice 1 corner 0: 128 > 120
+ONE | 25=choice 0 - 0 | node 0 state 0 choice 0 corner 0: 192 > 140
+ONE | 24=x 8 16 0 | node 0 bound: 16 >= 16
+ONE | 18=property >= 7/16 | node 0 bound: 112 >= 112
+ONE | 25=choice 1 - 0;unknown | rest
+ONE-ABOVE | | sound holds 0 fails 1 unknown 0
+ONE-ABOVE | 18=property > 3/8 | node 0 bound: 56 > 48
+
+HALVES | | sound holds 0 fails 1 unknown 1
+HALVES | 23=unknown | node 0 depth
+HALVES | 24=split 0 | node 1 depth
+HALVES | 23=split 1 | line 23: Limit
+HALVES | 18=property <= 1/2 | node 2 bound: 16 <= 16
+'''
+
+
 class Answer(NamedTuple):
     """How a check ends: its status, and what it writes to standard output and standard error."""
     status: int
@@ -419,7 +569,7 @@ class Answer(NamedTuple):
 
 def changed(report: str, changes: str) -> bytes:
     """A report's text with changes, as a row tells them."""
-    lines = {**REPORTS, **STEPS}[report].decode().splitlines()
+    lines = {**REPORTS, **STEPS, **PROPERTIES}[report].decode().splitlines()
     for change in filter(None, changes.split(' / ')):
         number, line = change.split('=', 1)
         lines[int(number) - 1] = None if line == '-' else line.replace(';', '\n')
@@ -447,7 +597,7 @@ def rechecked(text: bytes) -> Answer:
     """How recheck.py ends on a text, without starting it."""
     read = recheck.Text(io.BytesIO(text))
     try:
-        return answer('sound accept %d reject %d unknown %d' % recheck.check(read))
+        return answer(recheck.check(read))
     except recheck.Fault as fault:
         return answer(f'{read.place}{fault}')
 
@@ -524,13 +674,13 @@ def compare_table(tests: Comparison) -> None:
         tests.compare(row[:100], changed(report, changes), answer(said), is_started=not changes)
 
 
-def compare_steps() -> Comparison:
-    """The rows of the table of texts for a number of steps, and their prefixes; recheck.py alone is asked."""
+def compare_alone(table: str, texts: dict[str, bytes]) -> Comparison:
+    """The rows of a table of texts that recheck.py alone reads, and the prefixes of these texts."""
     alone = Comparison(None)
-    for row in filter(None, STEPS_TABLE.split('\n')):
+    for row in filter(None, table.split('\n')):
         report, changes, said = [cell.strip(' ') if i != 1 else cell[1:-1] for i, cell in enumerate(row.split('|'))]
         alone.compare(row[:100], changed(report, changes), answer(said), is_started=not changes)
-    for name, text in STEPS.items():
+    for name, text in texts.items():
         for size in range(len(text)):
             line = text[:size].count(b'\n') + 1
             alone.compare(f'{size} bytes of {name}', text[:size], answer(f'line {line}: Truncated'))
@@ -627,9 +777,10 @@ def main() -> int:
     print(f'{tests.count} reports of the table')
     compare_prefixes(tests)
     print(f'{tests.count} with prefixes of a report')
-    alone = compare_steps()
-    print(f'{alone.count} for a number of steps, and their prefixes')
-    tests.wrong += alone.wrong
+    for what, table, texts in (('for a number of steps', STEPS_TABLE, STEPS), ('of properties', PROPERTY_TABLE, PROPERTIES)):
+        alone = compare_alone(table, texts)
+        print(f'{alone.count} {what}, and their prefixes')
+        tests.wrong += alone.wrong
     compare_quotients(tests)
     if plift:
         compare_chains(tests, 40)

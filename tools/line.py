@@ -17,8 +17,8 @@ from typing import Dict, List, NamedTuple, Optional, Sequence, Tuple
 
 sys.dont_write_bytecode = True
 
-from hints.numbers import Wide, ratio  # noqa: E402
-from hints.options import FLAGS, RANGED, STEPPED, VALUED, VIEWED  # noqa: E402
+from hints.formula import cause_of, is_bound  # noqa: E402
+from hints.options import FLAGS, FORMULATED, RANGED, STEPPED, VALUED, VIEWED  # noqa: E402
 
 TOOLS = Path(__file__).resolve().parent
 USAGE = 2
@@ -28,21 +28,22 @@ Setting = Tuple[str, str]
 
 class Grammar(NamedTuple):
     """The options of a command: those that take a value, flags, those that may stand twice and those that must stand,
-    and whether `--name=` alone is a value."""
+    and whether any text behind `--name=` is a value, be it empty or with a dash in front, and a dash alone is one, too."""
 
     valued: Sequence[str]
     flags: Sequence[str] = ()
     often: Sequence[str] = ()
     needed: Sequence[str] = ()
-    takes_empty: bool = False
+    takes_any: bool = False
 
 
 VERIFY = Grammar(RANGED, needed=("--goal", "--bound"))
 BOUNDED = Grammar(STEPPED, needed=("--goal", "--bound", "--steps"))
+PROPERTY = Grammar(FORMULATED, needed=("--formula",))
 LUMPED = Grammar(VALUED, needed=("--goal", "--bound"))
 REFINE = Grammar(("--depth",), needed=("--depth",))
-GRAMMARS = {"verify": VERIFY, "bounded": BOUNDED, "lumped": LUMPED, "refine": REFINE}
-VIEW = Grammar(VIEWED, flags=FLAGS, often=("--at",), takes_empty=True)
+GRAMMARS = {"verify": VERIFY, "bounded": BOUNDED, "property": PROPERTY, "lumped": LUMPED, "refine": REFINE}
+VIEW = Grammar(VIEWED, flags=FLAGS, often=("--at",), takes_any=True)
 # How many words stand behind a command that has no options.
 COUNTS = {"check": 0, "migrate": 0, "generate": 1, "selftest": 1}
 # Numbers in the order of their tests: the most digits, and the range. That of `--from` also ends at the precision.
@@ -64,9 +65,10 @@ def settings_of(grammar: Grammar, words: Sequence[str]) -> Optional[List[Setting
             continue
         if name not in grammar.valued or not mark and not rest:
             return None
-        is_empty = mark and not value and not grammar.takes_empty
+        is_empty = mark and not value and not grammar.takes_any
         value = value if mark else rest.pop(0)
-        if is_empty or value.startswith("-"):
+        is_taken = grammar.takes_any and (mark or value == "-")
+        if is_empty or value.startswith("-") and not is_taken:
             return None
         settings.append((name, value))
     return settings
@@ -86,22 +88,23 @@ def is_number(value: str, name: str) -> bool:
     return value.isascii() and value.isdigit() and len(value) <= most and low <= int(value) <= high
 
 
-def is_bound(text: str) -> bool:
-    """Whether a value may be a bound."""
-    try:
-        value = ratio(text)
-    except Wide:
-        return False
-    return value is not None and 0 <= value <= 1 and value.denominator < 2**32
-
-
-def first_bad_value(values: Dict[str, str]) -> Optional[str]:
-    """Returns the first option of `verify`, `bounded` or `lumped` whose value is at fault, but for the region, which takes a model."""
+def bad_question(values: Dict[str, str]) -> Optional[str]:
+    """Returns what is at fault with the formula, or else with the goal or the bound."""
+    if "--formula" in values:
+        cause = cause_of(values["--formula"])
+        return f"--formula {cause}" if cause else None
     goal = values["--goal"]
     if not goal or any(not " " <= letter <= "~" for letter in goal):
         return "--goal"
-    if not is_bound(values["--bound"]):
-        return "--bound"
+    return None if is_bound(values["--bound"]) else "--bound"
+
+
+def first_bad_value(values: Dict[str, str]) -> Optional[str]:
+    """Returns the first option of a command that reads a model whose value is at fault, but for the region, which takes
+    that model."""
+    question = bad_question(values)
+    if question:
+        return question
     bad = next((name for name in RANGES if name in values and not is_number(values[name], name)), None)
     if bad is None and int(values.get("--from", 1)) > int(values.get("--precision", USUAL_PRECISION)):
         return "--from"

@@ -10,7 +10,9 @@ from common import TOP, quick_program, tool
 line = tool("line")
 
 WORDS = [
-    "verify", "bounded", "lumped", "check", "migrate", "refine", "generate", "selftest", "--goal", "--bound", "--region", "--depth",
+    "verify", "bounded", "property", "lumped", "check", "migrate", "refine", "generate", "selftest", "--goal", "--bound",
+    "--region", "--depth", "--formula", '--formula=P<=1/2[F"a"]', '--formula=P>=0.5 [ "a b" U "c" ]', "--formula=P", "--formula=",
+    '--formula=P>2[F"a"]',
     "--precision", "--from", "--from=1", "--from=024", "--from=25", "--from=0", "--precision=40", "--steps", "--steps=64", "--steps=65", "--steps=064", "--steps=0", "--goal=a",
     "--bound=1/2", "--bound=", "--depth=3", "--depth=21", "--precision=0", "--precision=040", "-1", "", " ", "a", "1/2",
     "3%", "1e-3", "0.5", "2", "1/4294967295", "1/4294967296", "9223372036854775808/9223372036854775809", "1e-19", "20",
@@ -48,6 +50,20 @@ PLIFT = {
     "bounded --goal a --bound 1/2 --steps 65": "usage: --steps",
     "bounded --goal a --bound 1/2 --steps 064": "usage: --steps",
     "bounded --steps 0 --goal a --bound 1/2 --precision 41": "usage: --precision",
+    "property": "usage: words",
+    "property --formula": "usage: words",
+    "property --formula=": "usage: words",
+    "property --formula P --formula P": "usage: words",
+    "property --formula P --goal a": "usage: words",
+    "property --formula P --bound 1/2": "usage: words",
+    "property --formula P --from 1": "usage: words",
+    "property --formula P --steps 1": "usage: words",
+    "property --goal a --bound 1/2": "usage: words",
+    "verify --goal a --bound 1/2 --formula P": "usage: words",
+    "property --formula P --depth 21": "usage: --formula Syntax",
+    "property --formula=P<=1/0[F\"a\"] --depth 21": "usage: --formula Bound",
+    "property --precision 0 --depth 21 --formula=P<=1[F\"a\"]": "usage: --depth",
+    "property --precision 0 --formula=P<=1[F\"a\"]": "usage: --precision",
     "lumped --goal a": "usage: words",
     "lumped --goal a --bound 1/2 --steps 3": "usage: words",
     "lumped --goal a --bound 1/2 --from 1": "usage: words",
@@ -77,12 +93,59 @@ PLIFT = {
 PLAIN = [
     "check", "migrate", "refine --depth 1", "refine --depth=020", "generate 1", "selftest 32767", "verify --bound=1/2 --goal=a",
     "verify --goal a --bound 1/2 --region x --depth 020 --precision 1", "bounded --steps=64 --bound=1/2 --goal=a",
+    'property --formula=P<=1[F"a"]', 'property --depth 020 --formula P<=1[F"a"] --region x --precision=40',
     "lumped --depth 20 --bound=1/2 --goal=a", "verify --from 24 --bound=1/2 --goal=a",
     "verify --from=004 --bound=1/2 --goal=a --precision 4",
 ]
+# Formulas, and the cause for which they are refused.
+FORMULAS = {
+    'P<=1/2[F"a"]': None,
+    'P\t < 0.5e0 [ F\t"a b" ] '[:-1]: None,
+    'P >= 1/2["a"U"b"]': None,
+    'P>1e-3 [ "F" U "U" ]': None,
+    'P<=4294967294/4294967295 [F"]["]': None,
+    'P<=2/4294967296 [F"a"]': None,
+    'P<=1/4294967296 [F"a"]': "Bound",
+    'P<=1.5 [F"a"]': "Bound",
+    'P<=1/0 [F"a"]': "Bound",
+    'P<=0/0.0 [F"a"]': "Bound",
+    'P<=1e-19 [F"a"]': "Bound",
+    'P<=1/0 [F"a"': "Syntax",
+    "": "Syntax",
+    "P": "Syntax",
+    'p<=1/2 [F"a"]': "Syntax",
+    ' P<=1/2 [F"a"]': "Syntax",
+    'P<=1/2 [F"a"] ': "Syntax",
+    'P< =1/2 [F"a"]': "Syntax",
+    'P==1/2 [F"a"]': "Syntax",
+    'P=<1/2 [F"a"]': "Syntax",
+    'P<=-1/2 [F"a"]': "Syntax",
+    'P<=1 /2 [F"a"]': "Syntax",
+    'P<=.5 [F"a"]': "Syntax",
+    'P<=1/2/2 [F"a"]': "Syntax",
+    'P<= [F"a"]': "Syntax",
+    'P<=1/2 F"a"]': "Syntax",
+    'P<=1/2 [F a]': "Syntax",
+    'P<=1/2 [F""]': "Syntax",
+    'P<=1/2 [F"\t"]': "Syntax",
+    'P<=1/2 [F"\u00fc"]': "Syntax",
+    'P<=1/2\n[F"a"]': "Syntax",
+    'P<=1/2 [f"a"]': "Syntax",
+    'P<=1/2 ["a"]': "Syntax",
+    'P<=1/2 ["a" F "b"]': "Syntax",
+    'P<=1/2 [F "a" U "b"]': "Syntax",
+    'P<=1/2 ["a" U]': "Syntax",
+    'P<=1/2 [U "a"]': "Syntax",
+    'P<=1/2 [F"a"': "Syntax",
+    'P<=1/2 [F"a"]]': "Syntax",
+    'P<=1/2 [F"a""]': "Syntax",
+    'P<=\u0661 [F"a"]': "Syntax",
+}
+# Pieces that formulas are made of at random.
+PIECES = ["P", "<=", "<", ">=", ">", "=", "1/2", "0.5", "2", "1/0", "1e-19", "[", "]", "F", "U", '"a"', '"b c"', '""', '"', " ", "\t", "a", "-", "/"]
 VIEW = {
     "x": True, "--x": True, "--x p --x q": True, "--summary --follow": True, "--summary=": True,
-    "--summary": False, "": False, "--at p=1 --at=q=2 --x=": False,
+    "--summary": False, "": False, "--at p=1 --at=q=2 --x=": False, "--x -": False, "--x=-p": False, "--x -p": True,
 }
 
 
@@ -94,6 +157,11 @@ class Line(unittest.TestCase):
     def test_plain_lines_pass(self):
         for words in PLAIN:
             self.assertIsNone(line.plift_note(words.split()), words)
+
+    def test_formulas(self):
+        for text, cause in FORMULAS.items():
+            note = f"usage: --formula {cause}" if cause else None
+            self.assertEqual(line.plift_note(["property", "--formula", text or " "]), note if text else "usage: --formula Syntax", text)
 
     def test_faults_of_view(self):
         for words, is_fault in VIEW.items():
@@ -144,8 +212,26 @@ class AgainstTheProgram(unittest.TestCase):
 
     def test_plift(self):
         fronts = ["", "verify", "verify --goal a", "verify --goal a --bound 1/2", "verify --goal=a --bound", "generate",
-                  "lumped --goal a --bound 1/2", "bounded --goal a --bound 1/2", "bounded --goal a --bound 1/2 --steps"]
+                  "lumped --goal a --bound 1/2", "bounded --goal a --bound 1/2", "bounded --goal a --bound 1/2 --steps",
+                  "property", "property --formula", 'property --formula P<=1[F"a"]']
         self.compare("plift", lambda chance: chance.choice(fronts).split(), line.plift_note)
+
+    def test_formulas(self):
+        """Those of the table, and what is made of the pieces of formulas."""
+        program, chance = quick_program("plift"), random.Random(1)
+        if program is None:
+            self.skipTest("build/quick has no program")
+        formulas = [text for text in FORMULAS if text]
+        for _ in range(400):
+            parts = ["P", "<=", "1/2", "[", *chance.choice([["F", '"a"'], ['"b c"', "U", '"a"']]), "]"]
+            for _ in range(chance.randrange(4)):
+                at = chance.randrange(len(parts) + 1)
+                parts[at : at + chance.randrange(2)] = [chance.choice(PIECES)]
+            formulas.append("".join(parts))
+        for text in formulas:
+            if text and not text.startswith("-"):
+                words = ["property", "--formula", text]
+                self.assertEqual(line.plift_note(words), self.asked(program, words), text)
 
     def test_view(self):
         self.compare("plift-view", lambda chance: [], line.view_note)

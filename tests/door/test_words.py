@@ -14,9 +14,9 @@ line = tool("line")
 OPTION = re.compile(r"(?<![\w-])--[a-z]+")
 # What the launchers answer themselves.
 DOOR = {"--help", "--version", "--quick"}
-COMMANDS = ["verify", "bounded", "lumped", "check", "migrate", "refine", "generate", "selftest"]
+COMMANDS = ["verify", "bounded", "property", "lumped", "check", "migrate", "refine", "generate", "selftest"]
 # The options of all commands.
-ASKED = {*line.VERIFY.valued, *line.BOUNDED.valued, *line.LUMPED.valued}
+ASKED = {*line.VERIFY.valued, *line.BOUNDED.valued, *line.PROPERTY.valued, *line.LUMPED.valued}
 
 
 def help_of(name):
@@ -56,7 +56,7 @@ class Named(unittest.TestCase):
             self.assertIn(f"| {row} | 1 to {digits} digits, {low} to {high:,} |", values)
         digits, low, _ = line.RANGES["--from"]
         self.assertIn(f"| `--from` | 1 to {digits} digits, {low} to the precision |", values)
-        for text in (help_of("verify"), help_of("lumped"), re.sub(r"\s+", " ", man_of("plift"))):
+        for text in (help_of("verify"), help_of("property"), help_of("lumped"), re.sub(r"\s+", " ", man_of("plift"))):
             for name in ("--depth", "--precision"):
                 self.assertRegex(text, rf"{name} \S+[^-]*{line.RANGES[name][1]} to {line.RANGES[name][2]}\b")
         for text in (help_of("bounded"), re.sub(r"\s+", " ", man_of("plift"))):
@@ -68,6 +68,7 @@ class Named(unittest.TestCase):
         self.assertEqual(set(OPTION.findall(help_of("verify"))), set(line.VERIFY.valued))
         self.assertEqual(set(OPTION.findall(help_of("lumped"))), set(line.LUMPED.valued))
         self.assertEqual(set(OPTION.findall(help_of("bounded"))), set(line.BOUNDED.valued))
+        self.assertEqual(set(OPTION.findall(help_of("property"))), set(line.PROPERTY.valued))
         view = set(OPTION.findall(help_of("plift-view"))) - set(line.VERIFY.valued)
         self.assertEqual(view, {*line.VIEW.valued, *line.VIEW.flags, *DOOR})
         self.assertEqual(set(OPTION.findall(help_of("plift"))), {*ASKED, *DOOR})
@@ -128,6 +129,9 @@ class Completed(unittest.TestCase):
         self.assertEqual(self.offered("plift", "lumped", ""), {*line.LUMPED.valued, "--help"})
         self.assertEqual(self.offered("plift", "bounded", ""), {*line.BOUNDED.valued, "--help"})
         self.assertEqual(self.offered("plift", "bounded", "--steps", "3", "--s"), set())
+        self.assertEqual(self.offered("plift", "property", ""), {*line.PROPERTY.valued, "--help"})
+        self.assertEqual(self.offered("plift", "property", "--formula", ""), set())
+        self.assertEqual(self.offered("plift", "property", "--formula=P", "--"), {"--region", "--depth", "--precision", "--help"})
         left = {"--bound", "--region", "--precision", "--from", "--help"}
         self.assertEqual(self.offered("plift", "verify", "--goal", "x", "--depth=3", "--"), left)
         self.assertEqual(self.offered("plift", "--quick", "verify", "--b"), {"--bound"})

@@ -1,5 +1,5 @@
-"""Tests of what draws texts of `bounded`: its pictures of reports have the bytes of plift-view, and its answers to texts
-for a number of steps are those that were worked out by hand."""
+"""Tests of what draws texts of `bounded` and `property`: its pictures of reports have the bytes of plift-view, and its
+answers to texts for a number of steps and to those of properties are those that were worked out by hand."""
 
 import os
 import subprocess
@@ -24,6 +24,15 @@ ONE = COIN % (0, "4 6", "accept;x 1 3 16 0;x 2 4 16 0;")
 # From 1/5 to 4/5: halved at 1/2, and the lower half at 7/20 once more.
 TREE = COIN % (2, "4 16", "split 0;split 0;unknown;unknown;unknown;")
 HALVES = COIN % (1, "4 16", "split 0;unknown;reject b 6/16;y 1 4 16 0;choice 1 0 - 0;y 2 6 16 0;choice 2 0 - 0;")
+
+
+# Either of two choices shows heads with p, or with the rest: one of them with 3/4 or more where p is far from 1/2.
+TWIN = """plift-property 1;kind mdp;parameters 1 p;common 1;states 3;init 0;goal 1 1;row 0 0 2;to 1 1:1;to 2 0:1 1:-1;
+row 0 1 2;to 1 0:1 1:-1;to 2 1:1;row 1 0 1;to 1 0:1;row 2 0 1;to 2 0:1;property %s;precision 3;depth 2;grid 4;box 0 4;%s"""
+PROPERTY = TWIN % ("< 3/4", "split 0;split 0;fails;lower e 1 k 1 m 1 b 6/8;y 6 8 0;choice 1 - -;rank 1 0 -;unknown;"
+                   "split 0;unknown;fails;lower e 1 k 1 m 1 b 6/8;y 6 8 0;choice 0 - -;rank 1 0 -;")
+ALWAYS = TWIN % (">= 1/4", "split 0;split 0;fails;x 2 8 0;choice 0 - 0;holds;lower e 2 k 1 m 2 b 2/8;y 2 8 0;rank 1 0 -;"
+                 "split 0;holds;lower e 2 k 1 m 2 b 2/8;y 2 8 0;rank 1 0 -;unknown;")
 
 
 class Answer(NamedTuple):
@@ -96,8 +105,47 @@ class Steps(unittest.TestCase):
                 self.assertEqual(answer, Answer(status, "", note))
 
 
+class Properties(unittest.TestCase):
+    """Texts of properties have the look of reports: what holds that of what is accepted, what fails that of what is
+    rejected."""
+
+    def test_a_bar(self):
+        answer = draw([], text(PROPERTY))
+        self.assertEqual((answer.status, answer.note), (0, ""))
+        bars = [f"M{low} 1048576H{low + 262144}V0H{low}z" for low in range(0, 1048576, 262144)]
+        self.assertEqual(field_of(answer.out), ["", bars[0] + bars[3], bars[1] + bars[2], "".join(bars)])
+        self.assertIn(">below 3/4, numbers over 2^3, depth 2</text>", answer.out)
+        self.assertIn(">Markov decision process, states: 3</text>", answer.out)
+        self.assertIn(">holds 0.0000 %, fails 50.0000 %, unknown 50.0000 % of the volume", answer.out)
+        for word in ("holds", "fails", "unknown"):
+            self.assertIn(f'y="98">{word}</text>', answer.out)
+
+    def test_the_look_is_that_of_a_report(self):
+        report = draw([], (TOP / "examples" / "coin.report").read_bytes()).out
+        patterns = [line.partition('"20000" height')[2] for line in report.splitlines() if line.startswith("<pattern")]
+        shown = [line.partition('"20000" height')[2] for line in draw([], text(PROPERTY)).out.splitlines() if line.startswith("<pattern")]
+        self.assertEqual((shown, len(shown)), (patterns, 3))
+
+    def test_the_comparisons(self):
+        for op, words in (("<=", "at most"), ("<", "below"), (">=", "at least"), (">", "above")):
+            unknown = TWIN.replace("depth 2", "depth 0") % (f"{op} 1/3", "unknown;")
+            self.assertIn(f">{words} 1/3, numbers over 2^3, depth 0</text>", draw([], text(unknown)).out)
+
+    def test_a_table(self):
+        changed = ALWAYS.replace("fails;x 2 8 0;choice 0 - 0", "fails;x 1 8 0;choice 0 - 0")
+        self.assertEqual(draw(["--summary"], text(changed)).note, "not sound: node 2 state 0 choice 0 corner 1: 8 > 4\n")
+        wanted = [
+            "leaves holds 2 fails 0 unknown 2", "share holds 1/2 50.0000 %", "share fails 0 0.0000 %", "share unknown 1/2 50.0000 %",
+            "greatest holds depth 2 p 1/4 1/2", "least holds depth 2 p 1/4 1/2", "depth 0 holds 0 fails 0 unknown 0",
+            "depth 1 holds 0 fails 0 unknown 0", "depth 2 holds 2 fails 0 unknown 2",
+        ]
+        undecided = ALWAYS.replace("fails;x 2 8 0;choice 0 - 0", "unknown")
+        self.assertEqual(draw(["--summary"], text(undecided)).out.splitlines(), wanted)
+        self.assertEqual(draw(["--summary"], text(ALWAYS)).note, "not sound: node 2 bound: 8 >= 8\n")
+
+
 class Door(unittest.TestCase):
-    """plift-view takes both kinds of text, from a file and through a pipe."""
+    """plift-view takes each kind of text, from a file and through a pipe."""
 
     def ask_door(self, words: List[str], given: bytes, by_file: bool) -> Answer:
         door = [str(TOP / "plift-view"), "--quick", *words]
@@ -108,7 +156,7 @@ class Door(unittest.TestCase):
             done = subprocess.run(door, capture_output=True, env={**os.environ, "PLIFT_HINTS": "0"}, **how)
         return Answer(done.returncode, done.stdout.decode(), done.stderr.decode())
 
-    def test_both_kinds(self):
+    def test_each_kind(self):
         if not os.access(VIEW, os.X_OK):
             self.skipTest("the quick program isn't built")
         report = (TOP / "examples" / "retry-tree.report").read_bytes()
@@ -116,8 +164,11 @@ class Door(unittest.TestCase):
             for words in ([], ["--summary"], ["--x", "none"]):
                 with self.subTest(words=words, by_file=by_file):
                     self.assertEqual(self.ask_door(words, text(HALVES), by_file), draw(words, text(HALVES)))
+                    self.assertEqual(self.ask_door(words, text(PROPERTY), by_file), draw(words, text(PROPERTY)))
                     self.assertEqual(self.ask_door(words, report, by_file), ask([str(VIEW)], words, report))
             self.assertEqual(self.ask_door(["--follow"], text(HALVES), by_file).out.encode(), text(HALVES))
+            for front in (b"plift-bounded 10\n", b"plift-property 10\n", b"plift-propert 1\n", b"plift-bounde"):
+                self.assertEqual(self.ask_door([], front, by_file), ask([str(VIEW)], [], front))
             self.assertEqual(self.ask_door([], b"", by_file), Answer(1, "", "not sound: line 1: Truncated\n"))
 
 

@@ -127,6 +127,8 @@ MIGRATED = [
     migrate(changed(REPORT, "plift 1", "plift 3"), "line 1: Version", '"plift 3"', "versions 1 and 2"),
     migrate(STEPS, "line 1: Syntax", "a report of plift bounded", "recheck/recheck.py"),
     check(STEPS, "line 1: Syntax", "a report of plift bounded", "recheck/recheck.py"),
+    check(changed(COIN_REPORT, "plift 1", "plift-property 1"), "line 1: Syntax", "a text of plift property", "recheck/recheck.py"),
+    check(b"sound holds 1 fails 0 unknown 0\n", "line 1: Syntax", "the line that plift check writes"),
     migrate(RETRY, "line 1: Syntax", "that is a model text"),
     migrate(b"", "line 1: Truncated", "there is no text"),
     migrate(changed(REPORT, "accept 28", "accept 27"), "node 0 state 0 choice 0 corner 1: 558 > 540", "node 0 begins at line 35"),

@@ -107,6 +107,7 @@ def renamed(given: Given, match: "re.Match[str]", mistake: Mistake) -> Given:
 
 PROPOSALS = [
     (r"is this meant\? --region (.+)$", region),
+    (r"^write --formula (.+)$", lambda g, m, _: with_option(g, "--formula", shlex.split(m[1])[0])),
     (r"(?:one takes all clauses,|write a blank before it, as in|needs quotes, as in) --region (.+)$", region),
     (r"needs quotes, as in --goal (.+)$", lambda g, m, _: Given(["verify", "--goal", shlex.split(m[1])[0], "--bound", "1/2"], g.text)),
     (r"the lower end stands first: (.+)$", lambda g, m, _: with_option(g, "--region", m[1] + ",1/20<=q<=1/5")),
@@ -137,7 +138,7 @@ PROPOSALS = [
     (r"^(tr .* < FILE|tail -c \+4 FILE|iconv -f UTF-16 -t UTF-8 FILE|gzip -dc FILE)", lambda g, m, _: by_command(g, m[1])),
 ]
 LEAST = 60  # proposals that are taken
-OTHERS = ("is verify meant?", "is bounded meant?", "is lumped meant?")  # proposals of a command, whose words may need more
+OTHERS = ("is verify meant?", "is bounded meant?", "is lumped meant?", "is property meant?")  # proposals of a command, whose words may need more
 
 
 class Truth(unittest.TestCase):

@@ -4,8 +4,8 @@
     tests/memory/run.py [--bin PATH]
 
 Each request is refused twice: with all behind it, and alone. Refused alone it may be made again at once, as where a list
-asks for more than it needs and then for what it needs; the answer is then the whole one. What verify, lumped and
-bounded ask for last is their room, so none comes while rectangles are decided and the report is written.
+asks for more than it needs and then for what it needs; the answer is then the whole one. What verify, lumped,
+bounded and property ask for last is their room, so none comes while rectangles are decided and the report is written.
 
 Needs the built program (./plift builds it) and a C compiler, for a small library that is loaded before the C library
 and stands between the two. Prints how many requests each run makes. The last line is 'N passed, M failed'.
@@ -40,7 +40,7 @@ class Case:
     words: str
     reads: str = os.devnull
     report_of: "Case" = None
-    # What is asked for last, in bytes: the room of verify, lumped or bounded.
+    # What is asked for last, in bytes: the room of verify, lumped, bounded or property.
     last: tuple = ()
 
 
@@ -73,6 +73,10 @@ DEEP = Case("verify " + DEEP_JOB, COIN, last=room(12, **COIN_ROOM))
 RANGED = Case("verify --from 1 " + DEEP_JOB, COIN, last=room(12, **COIN_ROOM))
 BOUNDED = Case("bounded --steps 1 " + COIN_JOB, COIN, last=bounded_room(1, 0, **COIN_STEPS))
 FAR = Case("bounded --steps 64 " + DEEP_JOB, COIN, last=bounded_room(64, 12, **COIN_STEPS))
+PROPERTY_JOB = "--region 1/10<=p<=9/10 --precision 24 --depth 12"
+PROPERTY = Case("property --formula P>=1/2[F\"heads\"] " + PROPERTY_JOB, COIN, last=room(12, **COIN_ROOM))
+# The text is read twice, and the model is cut: state 2 leads to itself before and after.
+UNTIL = Case("property --formula P<1/2[\"init\"U\"heads\"] " + PROPERTY_JOB, COIN, last=room(12, **COIN_ROOM))
 # No two states of the coin behave alike.
 LUMPED = Case("lumped " + COIN_JOB, COIN, last=room(0, **COIN_ROOM))
 GENERATE = Case("generate 1")
@@ -85,7 +89,7 @@ LADDER_CHECK = Case("check", report_of=LADDER_VERIFY)
 SELFTEST = Case("selftest 1")
 
 # Each of these runs is tried with each of its requests refused in turn.
-CASES = [ACCEPT, DEEP, RANGED, LUMPED, BOUNDED, FAR, CHECK, MIGRATE, REFINE, GENERATE, LADDER_VERIFY, LADDER_CHECK, SELFTEST]
+CASES = [ACCEPT, DEEP, RANGED, LUMPED, BOUNDED, FAR, PROPERTY, UNTIL, CHECK, MIGRATE, REFINE, GENERATE, LADDER_VERIFY, LADDER_CHECK, SELFTEST]
 
 # What selftest does in one run: it asks for memory at least as often as these do behind their words.
 SELFTEST_PARTS = [LADDER_VERIFY, LADDER_CHECK]

@@ -23,6 +23,7 @@ split new --depth 7 < cut.report            | 1  | not sound: line 51: Truncated
 split new --depth 7 < empty                 | 1  | not sound: line 1: Truncated
 split new --depth 7 < changed.report        | 1  | not sound: node 4 state 1 choice 0 corner 1: 6560 > 6400
 split new --depth 7 < steps.text            | 1  | not sound: line 1: Syntax
+split new --depth 7 < property.text         | 1  | not sound: line 1: Syntax
 split new --depth 17 < fine.report          | 2  | usage: --region Wide
 left none                                   | 2  | none is no folder that `plift-tiles split` has made
 left tree.report                            | 2  | tree.report is no folder that `plift-tiles split` has made
@@ -53,7 +54,8 @@ class Words(TilesCase):
         fine = written(self.program, [*COIN, "--region", f"1/{2 ** 45}<=p<=1/2"], (EXAMPLES / "coin.drn").read_bytes())
         texts = {"tree.report": tree, "cut.report": tree[:-1], "empty": b"", "fine.report": fine,
                  "changed.report": tree.replace(b"\naccept 9 41 ", b"\naccept 9 40 ", 1),
-                 "steps.text": tree.replace(b"plift 1", b"plift-bounded 1", 1)}
+                 "steps.text": tree.replace(b"plift 1", b"plift-bounded 1", 1),
+                 "property.text": tree.replace(b"plift 1", b"plift-property 1", 1)}
         for name, data in texts.items():
             (self.folder / name).write_bytes(data)
         self.job()

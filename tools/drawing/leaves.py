@@ -8,8 +8,7 @@ from typing import List, Optional, Sequence, Tuple
 
 import recheck
 
-ACCEPT, REJECT, UNKNOWN = "accept", "reject", "unknown"
-KINDS = (ACCEPT, REJECT, UNKNOWN)
+ACCEPT, REJECT, HOLDS, FAILS, UNKNOWN = "accept", "reject", "holds", "fails", "unknown"
 
 Span = Tuple[int, int]
 
@@ -38,11 +37,14 @@ class Map:
     live: List[int]
     grid: int
     root: Sequence[Span]
+    op: str
     bound: Tuple[int, int]
     steps: Optional[int]
     least: int
     precision: int
     depth: int
+    kinds: Sequence[str]
+    """Those of leaves that say yes, of those that say no, and of those that tell nothing."""
     leaves: List[Leaf]
 
     def of_kind(self, kind: str) -> List[Leaf]:
@@ -66,10 +68,12 @@ def read_map(text: recheck.Text) -> Map:
         live=report.live,
         grid=report.grid,
         root=report.box,
+        op=report.op.decode(),
         bound=report.bound,
         steps=len(report.steps) if report.steps else None,
         least=report.least or report.most,
         precision=report.most,
         depth=report.depth,
+        kinds=[*(kind.decode() for kind in report.tests()), UNKNOWN],
         leaves=leaves,
     )

@@ -5,20 +5,22 @@ from __future__ import annotations
 from fractions import Fraction
 from typing import Dict, List, Optional, Tuple
 
-from .leaves import ACCEPT, KINDS, REJECT, UNKNOWN, Leaf, Map, Span
+from .leaves import ACCEPT, FAILS, HOLDS, REJECT, UNKNOWN, Leaf, Map, Span
 from .slices import Slice, meets
 
 CANVAS = 2**20
 BORDERED = 2**14  # a side of a leaf with a border is at least so long
 LONGEST = 24  # bytes of a name that is shown whole
-WORDS = {ACCEPT: "accepted", REJECT: "rejected", UNKNOWN: "unknown"}
-COLOURS = {ACCEPT: "#56b4e9", REJECT: "#b04a00", UNKNOWN: "#fff"}
-MARKS = {
-    ACCEPT: "",
-    REJECT: '<path d="M0 20000L20000 0M-5000 5000L5000 -5000M15000 25000L25000 15000" stroke="#fff" stroke-width="3000"/>',
-    UNKNOWN: '<circle cx="10000" cy="10000" r="2500" fill="#555"/>',
-}
-PLACES = {ACCEPT: 20, REJECT: 160, UNKNOWN: 300}
+WORDS = {ACCEPT: "accepted", REJECT: "rejected", HOLDS: HOLDS, FAILS: FAILS, UNKNOWN: UNKNOWN}
+SIDES = {"<=": "at most", "<": "below", ">=": "at least", ">": "above"}
+# Of what says yes, of what says no, and of what tells nothing: the colour, what is drawn over it, and its place in the legend.
+COLOURS = ("#56b4e9", "#b04a00", "#fff")
+MARKS = (
+    "",
+    '<path d="M0 20000L20000 0M-5000 5000L5000 -5000M15000 25000L25000 15000" stroke="#fff" stroke-width="3000"/>',
+    '<circle cx="10000" cy="10000" r="2500" fill="#555"/>',
+)
+PLACES = (20, 160, 300)
 ACROSS, UPRIGHT = 0, 1
 NAME = ('<text x="400" y="42" text-anchor="middle">', '<text x="20" y="126">')
 ENDS = ('<text x="400" y="60" font-size="11" text-anchor="middle">', '<text x="20" y="144" font-size="11">')
@@ -40,12 +42,12 @@ def asked(map_: Map) -> str:
     """What was asked."""
     within = "" if map_.steps is None else f" within {map_.steps} step{'s' * (map_.steps > 1)}"
     precisions = f"2^{map_.precision}" if map_.least == map_.precision else f"2^{map_.least} to 2^{map_.precision}"
-    return f"at most {map_.bound[0]}/{map_.bound[1]}{within}, numbers over {precisions}, depth {map_.depth}"
+    return f"{SIDES[map_.op]} {map_.bound[0]}/{map_.bound[1]}{within}, numbers over {precisions}, depth {map_.depth}"
 
 
 def shares(map_: Map) -> str:
     """The share of each kind."""
-    return ", ".join(f"{WORDS[kind]} {percent(map_.share(kind))}" for kind in KINDS) + " of the volume, rounded down"
+    return ", ".join(f"{WORDS[kind]} {percent(map_.share(kind))}" for kind in map_.kinds) + " of the volume, rounded down"
 
 
 def height(slice_: Slice) -> int:
@@ -60,24 +62,24 @@ def start(map_: Map, slice_: Slice) -> List[str]:
         ' font-family="sans-serif" font-size="14">',
         f"<title>{asked(map_)}</title>", f"<desc>{shares(map_)}</desc>", "<defs>",
     ]
-    for kind in KINDS:
+    for kind, colour, mark in zip(map_.kinds, COLOURS, MARKS):
         lines.append(
             f'<pattern id="{WORDS[kind]}" width="20000" height="20000" patternUnits="userSpaceOnUse">'
-            f'<path d="M0 0h20000v20000H0z" fill="{COLOURS[kind]}"/>{MARKS[kind]}</pattern>'
+            f'<path d="M0 0h20000v20000H0z" fill="{colour}"/>{mark}</pattern>'
         )
     return [*lines, "</defs>", '<rect width="720" height="100%" fill="#fff"/>']
 
 
-def legend() -> List[str]:
+def legend(map_: Map) -> List[str]:
     """A box and a word for each kind."""
     lines = ['<g stroke="#000" stroke-width="1500">']
-    for kind in KINDS:
+    for kind, place in zip(map_.kinds, PLACES):
         lines.append(
-            f'<svg x="{PLACES[kind]}" y="84" width="26" height="18" viewBox="0 0 52429 36298">'
+            f'<svg x="{place}" y="84" width="26" height="18" viewBox="0 0 52429 36298">'
             f'<path d="M0 0h52429v36298H0z" fill="url(#{WORDS[kind]})"/></svg>'
         )
     lines.append("</g>")
-    return lines + [f'<text x="{PLACES[kind] + 34}" y="98">{WORDS[kind]}</text>' for kind in KINDS]
+    return lines + [f'<text x="{place + 34}" y="98">{WORDS[kind]}</text>' for kind, place in zip(map_.kinds, PLACES)]
 
 
 def title(map_: Map) -> List[str]:
@@ -120,7 +122,7 @@ def field(map_: Map, slice_: Slice) -> List[str]:
         f'<svg x="140" y="{top}" width="520" height="{size}" viewBox="0 0 {CANVAS} {CANVAS}" preserveAspectRatio="xMinYMin slice">'
     ]
     shown = [leaf for leaf in map_.leaves if meets(map_, slice_.cuts, leaf)]
-    for kind in KINDS:
+    for kind in map_.kinds:
         rectangles = "".join(outline(map_, slice_, leaf) for leaf in shown if leaf.kind == kind)
         lines.append(f'<path fill="url(#{WORDS[kind]})" d="{rectangles}"/>')
     borders = "".join(outline(map_, slice_, leaf) for leaf in shown if has_border(map_, slice_, leaf))
@@ -182,6 +184,6 @@ def cuts(map_: Map, slice_: Slice) -> List[str]:
 
 def svg_text(map_: Map, slice_: Slice) -> str:
     """The picture: title, legend, field and axes."""
-    lines = [*start(map_, slice_), *title(map_), *legend(), *axis_lines(map_, UPRIGHT, slice_.y), *field(map_, slice_)]
+    lines = [*start(map_, slice_), *title(map_), *legend(map_), *axis_lines(map_, UPRIGHT, slice_.y), *field(map_, slice_)]
     lines += [*axis_lines(map_, ACROSS, slice_.x), *cuts(map_, slice_), "</g>", "</svg>"]
     return "".join(f"{line}\n" for line in lines)

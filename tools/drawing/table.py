@@ -5,13 +5,13 @@ from __future__ import annotations
 from fractions import Fraction
 from typing import List, Optional
 
-from .leaves import KINDS, UNKNOWN, Leaf, Map
+from .leaves import UNKNOWN, Leaf, Map
 from .picture import percent
 
 
-def counts(leaves: List[Leaf]) -> str:
-    """How many leaves there are of each kind."""
-    return " ".join(f"{kind} {sum(leaf.kind == kind for leaf in leaves)}" for kind in KINDS)
+def counts(map_: Map, leaves: List[Leaf]) -> str:
+    """How many of the leaves there are of each kind."""
+    return " ".join(f"{kind} {sum(leaf.kind == kind for leaf in leaves)}" for kind in map_.kinds)
 
 
 def leaf_line(map_: Map, label: str, leaf: Optional[Leaf]) -> str:
@@ -28,10 +28,10 @@ def leaf_line(map_: Map, label: str, leaf: Optional[Leaf]) -> str:
 def summary_text(map_: Map) -> str:
     """Leaves, shares, the first decided leaf below the fewest and the most splits, and leaves by depth."""
     decided = [leaf for leaf in map_.leaves if leaf.kind != UNKNOWN]
-    lines = [f"leaves {counts(map_.leaves)}"]
-    lines += [f"share {kind} {map_.share(kind)} {percent(map_.share(kind))}" for kind in KINDS]
+    lines = [f"leaves {counts(map_, map_.leaves)}"]
+    lines += [f"share {kind} {map_.share(kind)} {percent(map_.share(kind))}" for kind in map_.kinds]
     lines.append(leaf_line(map_, "greatest", min(decided, key=lambda leaf: leaf.depth, default=None)))
     lines.append(leaf_line(map_, "least", max(decided, key=lambda leaf: leaf.depth, default=None)))
     for depth in range(map_.depth + 1):
-        lines.append(f"depth {depth} {counts([leaf for leaf in map_.leaves if leaf.depth == depth])}")
+        lines.append(f"depth {depth} {counts(map_, [leaf for leaf in map_.leaves if leaf.depth == depth])}")
     return "".join(f"{line}\n" for line in lines)

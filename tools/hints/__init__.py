@@ -13,7 +13,7 @@ from __future__ import annotations
 import re
 from typing import List, Optional, Sequence
 
-from hints import advice, amounts, bounds, line, model, outside, rows, unsound, view
+from hints import advice, amounts, bounds, formula, line, model, outside, rows, unsound, view
 from hints.refusal import Refusal
 from hints.told import cut, printable, shown
 
@@ -58,6 +58,8 @@ def usage_hints(refusal: Refusal, usage: str) -> List[str]:
         return view.view_hints(refusal, usage)
     if usage.startswith("--region "):
         return bounds.region_hints(refusal, usage[9:])
+    if usage.startswith("--formula "):
+        return formula.formula_hints(refusal, usage[10:])
     return VALUES[usage](refusal) if usage in VALUES else []
 
 

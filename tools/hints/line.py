@@ -6,17 +6,19 @@ import re
 import shlex
 from typing import Dict, List, Optional, Sequence, Set
 
-from hints.options import NAMED, RANGED, STEPPED, VALUED
+from hints.formula import A_FORMULA, cause_of
+from hints.options import FORMULATED, NAMED, RANGED, STEPPED, VALUED
 from hints.refusal import Refusal
 from hints.told import listed, near, shown
 from hints.words import HELP, LONG_DASHES, PROPERTY, VERSION
 from hints.words import about_help, about_odd, asks_for_help, is_dashed, is_file
 
-COMMANDS = ["verify", "bounded", "lumped", "check", "migrate", "refine", "generate", "selftest"]
-ASKING = {"verify": RANGED, "bounded": STEPPED, "lumped": VALUED}
+COMMANDS = ["verify", "bounded", "property", "lumped", "check", "migrate", "refine", "generate", "selftest"]
+ASKING = {"verify": RANGED, "bounded": STEPPED, "property": FORMULATED, "lumped": VALUED}
 FORMS = {
     "verify": "plift verify --goal LABEL --bound B [--region R] [--depth H] [--precision W] [--from V] < model.drn",
     "bounded": "plift bounded --goal LABEL --bound B --steps S [--region R] [--depth H] [--precision W] < model.drn",
+    "property": "plift property --formula 'P<=B [F \"LABEL\"]' [--region R] [--depth H] [--precision W] < model.drn",
     "lumped": "plift lumped --goal LABEL --bound B [--region R] [--depth H] [--precision W] < model.drn",
     "check": "plift check < report",
     "migrate": "plift migrate < report > new.report",
@@ -41,6 +43,10 @@ OTHER_NAMES = {
     "--least-precision": "--from",
     "--within": "--steps",
     "--horizon": "--steps",
+    "--prop": "--formula",
+    "--property": "--formula",
+    "--spec": "--formula",
+    "-f": "--formula",
     "-g": "--goal",
     "-b": "--bound",
     "-r": "--region",
@@ -49,6 +55,19 @@ OTHER_NAMES = {
     "-w": "--precision",
 }
 MOST_FAULTS = 3
+# Of options that have to stand: what they are for.
+MISSING = {
+    "--goal": "--goal LABEL is missing: the label of the states to be reached",
+    "--bound": "--bound B is missing: the greatest probability that is allowed, as 1/2 or 0.5",
+    "--steps": "--steps S is missing: within how many steps, from 1 to 64; plift verify asks for any number",
+    "--formula": f"--formula T is missing: what is asked, as '{A_FORMULA}'",
+}
+# Of options of one command: which command takes them.
+ELSEWHERE = {
+    "--steps": "--steps stands for a number of steps: that is asked by plift bounded",
+    "--from": "--from begins a range of precisions: that is asked by plift verify alone",
+    "--formula": "--formula holds label and bound: it is taken by plift property alone",
+}
 CLAUSE = re.compile(r"[^<>=,]+<=[^<>=,]+<=[^<>=,]+")
 REGION = re.compile(r"<=|>=|<|>|\.\.|≤")
 
@@ -73,9 +92,12 @@ def why_not(name: str, guess: Optional[str]) -> str:
     return " (names aren't abbreviated)" if guess and guess.startswith(name) else ""
 
 
-def about_property(word: str) -> str:
-    """What to do about a property in the language of another tool."""
-    return f"{shown(word)}: plift takes no property; it asks whether --goal LABEL is reached with at most --bound B"
+def about_property(command: str, word: str) -> str:
+    """What to do about a formula that stands where none is due."""
+    if command == "property":
+        return f"{shown(word)}: a formula is given by --formula, in single quotes: --formula {shlex.quote(word)}"
+    asks = f"{command} asks whether --goal LABEL is reached with at most --bound B"
+    return f"{shown(word)}: a formula is taken by plift property --formula alone; {asks}"
 
 
 def about_option(command: str, word: str, value: str) -> str:
@@ -83,8 +105,8 @@ def about_option(command: str, word: str, value: str) -> str:
     name = word.split("=")[0]
     if asks_for_help(word):
         return about_help(word, "plift", command)
-    if PROPERTY.search(value):
-        return about_property(value)
+    if PROPERTY.search(value) and command != "property":
+        return about_property(command, value)
     if name.split(":")[0] in NAMED:
         return f"{shown(word)}: a value stands behind =, or is the next word: write {word.replace(':', '=', 1)}"
     guess = guessed(command, name)
@@ -111,7 +133,7 @@ def about_word(command: str, word: str, name: str, value: str) -> str:
     if is_file(word):
         return f"{shown(word)}: a file is given by <, as in plift {command} .. < {shlex.quote(word)}"
     if PROPERTY.search(word):
-        return about_property(word)
+        return about_property(command, word)
     if value == "=":
         return f"no blanks stand around =: write {name}={word} or {name} {word}"
     if REGION.search(word):
@@ -126,6 +148,8 @@ def about_stray(words: Sequence[str], name: str, value: str) -> str:
     if name == "--region" and all(map(CLAUSE.fullmatch, clauses)):
         whole = ",".join(clauses)
     needs = f"a value with blanks needs quotes, as in {name} {shlex.quote(whole)}"
+    if name == "--formula":
+        needs = f"a formula stands in single quotes, since the shell reads < > [ \" by itself: {name} '{A_FORMULA}'"
     return f"{told} alone behind the value of {name}: {needs}"
 
 
@@ -137,8 +161,8 @@ def about_twice(name: str, values: Sequence[str]) -> str:
 
 
 class Walk:
-    """Goes through the words behind `verify`, `bounded` or `lumped`, and finds their faults, the values of options, and the options that
-    other words most likely stand for."""
+    """Goes through the words behind a command that reads a model, and finds their faults, the values of options, and the
+    options that other words most likely stand for."""
 
     def __init__(self, command: str, words: Sequence[str]):
         self.command, self.words, self.at = command, words, 0
@@ -203,6 +227,8 @@ class Walk:
 
     def is_stray(self, word: str) -> bool:
         """Whether a word most likely belongs to the value before it."""
+        if self.name == "--formula":
+            return not is_file(word) and cause_of(self.value) is not None
         has_value = self.name in ("--goal", "--region") and self.value != "="
         return has_value and not is_file(word) and not PROPERTY.search(word)
 
@@ -215,25 +241,24 @@ class Walk:
         self.name = ""
 
 
+def is_about_formula(command: str, words: Sequence[str]) -> bool:
+    """Whether words of a command are about a formula, which another one takes."""
+    return command != "property" and any(word.startswith("--formula") or PROPERTY.search(word) for word in words)
+
+
 def about_asking(command: str, words: Sequence[str]) -> List[str]:
-    """What is wrong with a line of `verify`, `bounded` or `lumped`."""
+    """What is wrong with a line of a command that reads a model."""
     helps = [about_help(word, "plift", command) for word in words if asks_for_help(word) and word.startswith("-")]
     if helps:
         return helps[:1]
     walk = Walk(command, words)
     faults = walk.faults + [about_twice(name, values) for name, values in walk.values.items() if len(values) > 1]
-    named = walk.meant | set(walk.values)
-    if "--goal" not in named:
-        faults.append("--goal LABEL is missing: the label of the states to be reached")
-    if "--bound" not in named:
-        faults.append("--bound B is missing: the greatest probability that is allowed, as 1/2 or 0.5")
-    if command != "bounded" and "--steps" in walk.values:
-        faults.append("--steps stands for a number of steps: that is asked by plift bounded")
-    if command != "verify" and "--from" in walk.values:
-        faults.append("--from begins a range of precisions: that is asked by plift verify alone")
-    if command == "bounded" and "--steps" not in named:
-        faults.append("--steps S is missing: within how many steps, from 1 to 64; plift verify asks for any number")
-    return faults
+    others = [told for name, told in ELSEWHERE.items() if name in walk.values and name not in ASKING[command]]
+    if command == "property" and {"--goal", "--bound"} & set(walk.values):
+        others.append(f"label and bound stand in the formula: --formula '{A_FORMULA}'")
+    named = walk.meant | set(walk.values) | ({"--goal", "--bound"} if is_about_formula(command, words) else set())
+    missing = [told for name, told in MISSING.items() if name in ASKING[command] and name not in named]
+    return faults + missing[:2] + others + missing[2:]
 
 
 def about_reading(command: str, words: Sequence[str]) -> List[str]:
@@ -276,7 +301,7 @@ def about_blocks(command: str, words: Sequence[str]) -> List[str]:
 def about_command(word: str) -> str:
     """What is wrong with the first word."""
     guess = near(word, COMMANDS)
-    commands = f"the first word is one of {listed(COMMANDS)}"
+    commands = f"the first word is one of {listed(COMMANDS, len(COMMANDS))}"
     if about_odd(word):
         return about_odd(word) or ""
     if word in HELP:
@@ -301,7 +326,7 @@ def words_hints(refusal: Refusal) -> List[str]:
     """What is wrong with the words as a whole."""
     words = refusal.words
     if not words:
-        return ["there is no word: a command stands first, one of " + listed(COMMANDS), "plift --help shows them"]
+        return ["there is no word: a command stands first, one of " + listed(COMMANDS, len(COMMANDS)), "plift --help shows them"]
     command, behind = words[0], words[1:]
     if command not in COMMANDS:
         return [about_command(command), FORMS[near(command, COMMANDS) or "verify"]]
@@ -313,4 +338,5 @@ def words_hints(refusal: Refusal) -> List[str]:
         faults = about_refining(behind)
     else:
         faults = about_blocks(command, behind)
-    return faults[:MOST_FAULTS] + [FORMS[command]]
+    is_formula = command in ASKING and is_about_formula(command, behind)
+    return faults[:MOST_FAULTS] + [FORMS["property" if is_formula else command]]

@@ -9,13 +9,14 @@ Setting = Tuple[str, Optional[str]]
 VALUED = ["--goal", "--bound", "--region", "--depth", "--precision"]
 RANGED = [*VALUED, "--from"]  # of `verify`
 STEPPED = [*VALUED, "--steps"]  # of `bounded`
-NAMED = [*RANGED, "--steps"]  # of all commands
+FORMULATED = ["--formula", "--region", "--depth", "--precision"]  # of `property`
+NAMED = [*RANGED, "--steps", "--formula"]  # of all commands
 VIEWED = ["--x", "--y", "--at"]
 FLAGS = ["--summary", "--follow"]
 
 
 def options_of(words: Sequence[str]) -> List[Setting]:
-    """The options behind `verify`, `bounded` or `lumped`: a word with `=` is one with its value, any other takes the next word."""
+    """The options behind a command: a word with `=` is one with its value, any other takes the next word."""
     settings: List[Setting] = []
     at = 0
     while at < len(words):

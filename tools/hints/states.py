@@ -6,8 +6,10 @@ from math import gcd
 from typing import Dict, List, Tuple
 
 from hints.drn import State, labels_of, lines_of, read_model, TRANSITION
+from hints.formula import Fault as FormulaFault, read_formula
 from hints.numbers import SIZE
 from hints.place import Place
+from hints.refusal import Refusal
 from hints.told import counted, listed, near, printable, shown
 from hints.value import Fault, common_of, read_value
 
@@ -165,13 +167,23 @@ def of_number(goal: str, labels: Dict[bytes, List[int]]) -> str:
     return f"; state {goal} carries {listed(carried)}" if carried else f"; state {goal} carries no label"
 
 
+def asked_labels(refusal: Refusal) -> List[str]:
+    """The labels that were asked for, in the order in which they are looked for."""
+    if refusal.command() != "property":
+        return [label for label in [refusal.option("--goal")] if label is not None]
+    try:
+        formula = read_formula(refusal.option("--formula") or "")
+    except FormulaFault:
+        return []
+    return [formula.goal] + ([] if formula.safe is None else [formula.safe])
+
+
 def unknown_label(place: Place) -> List[str]:
     """Which label was asked for, and which there are."""
-    goal = place.refusal.option("--goal")
-    if goal is None:
-        return []
     labels = labels_in(place.model.states)
-    if goal.encode("utf-8", "surrogateescape") in labels:
+    asked = asked_labels(place.refusal)
+    goal = next((label for label in asked if label.encode("utf-8", "surrogateescape") not in labels), None)
+    if goal is None:
         return []
     why = ""
     bare = goal.strip().strip("\"'")
