@@ -50,8 +50,18 @@ def room(depth, parameters, states, rows, weights):
     pools = [(depth + 1, 2 * parameters * 8), (1, weights * 16), (1, states * 8), (1, rows * 4)]
     pools += [(1, states * 4), (1, states * 4), (1, 2 * states * 4)]
     pools += [(32, 2 * parameters * 8)] * 2
-    taken = tuple(size * states for size in (1, 4, 1, 4, 4, 1, 4))
-    return tuple(size for lanes, lane in pools for size in (lanes * lane, lanes * 8)) + taken
+    return tuple(size for lanes, lane in pools for size in (lanes * lane, lanes * 8)) + taken(states)
+
+
+def taken(states):
+    """What it takes to see whether so many states can be taken together."""
+    return tuple(size * states for size in (1, 4, 1, 4, 4, 1, 4))
+
+
+def property_room(depth, parameters, states, rows, weights):
+    """The same for a property, where states are looked at before the table."""
+    sides, rest = 2, room(depth, parameters, states, rows, weights)
+    return rest[:sides] + taken(states) + rest[sides : -len(taken(states))]
 
 
 def bounded_room(steps, depth, parameters, states, weights):
@@ -74,9 +84,9 @@ RANGED = Case("verify --from 1 " + DEEP_JOB, COIN, last=room(12, **COIN_ROOM))
 BOUNDED = Case("bounded --steps 1 " + COIN_JOB, COIN, last=bounded_room(1, 0, **COIN_STEPS))
 FAR = Case("bounded --steps 64 " + DEEP_JOB, COIN, last=bounded_room(64, 12, **COIN_STEPS))
 PROPERTY_JOB = "--region 1/10<=p<=9/10 --precision 24 --depth 12"
-PROPERTY = Case("property --formula P>=1/2[F\"heads\"] " + PROPERTY_JOB, COIN, last=room(12, **COIN_ROOM))
+PROPERTY = Case("property --formula P>=1/2[F\"heads\"] " + PROPERTY_JOB, COIN, last=property_room(12, **COIN_ROOM))
 # The text is read twice, and the model is cut: state 2 leads to itself before and after.
-UNTIL = Case("property --formula P<1/2[\"init\"U\"heads\"] " + PROPERTY_JOB, COIN, last=room(12, **COIN_ROOM))
+UNTIL = Case("property --formula P<1/2[\"init\"U\"heads\"] " + PROPERTY_JOB, COIN, last=property_room(12, **COIN_ROOM))
 # No two states of the coin behave alike.
 LUMPED = Case("lumped " + COIN_JOB, COIN, last=room(0, **COIN_ROOM))
 GENERATE = Case("generate 1")
