@@ -1,3 +1,4 @@
 pub mod Notes
 pub mod Part
 pub mod Rule
+pub mod Toll

@@ -7,8 +7,9 @@ ghost use Rattle.lift_model.specs.Links.{AreLinks, HasChoice};
 ghost use Rattle.float_guess.specs.Part.{IsSameBeyond};
 
 use crate::floats::float_of;
+use crate::notes::Note;
 use crate::part::{Part, first_weight};
-use crate::step::{Ahead, NOWHERE, Outlook, Step};
+use crate::step::{Ahead, Outlook, Step};
 use std::num::{
     f64_from_bits_with_nan, f64_to_bits_with_nan, nearest_i64_to_f64, saturating_f64_to_u32,
 };
@@ -35,15 +36,22 @@ enum Eliminated {
     Before(u32),
 }
 
+/// What is noted at a position.
+fn note_at(noted: &[u32], position: u32) -> Note {
+    Note {
+        bits: noted.get(position as usize).copied().unwrap_or(0),
+    }
+}
+
 impl Part<'_> {
     /// The step of the state at a position. Its leak lies in the lane.
-    fn step_at(&self, lane: &[i64], means: &[u32], targets: &[u32], position: u32) -> Step {
+    fn step_at(&self, lane: &[i64], means: &[u32], noted: &[u32], position: u32) -> Step {
         let bits = u64::try_from(self.number_at(lane, position)).unwrap_or(0);
         let mean = i64::from(means.get(position as usize).copied().unwrap_or(0));
         Step {
             leak: f64_from_bits_with_nan(bits),
             mean: nearest_i64_to_f64(mean) / MEAN_ONE - 1.0,
-            to: targets.get(position as usize).copied().unwrap_or(NOWHERE),
+            to: note_at(noted, position).position(),
         }
     }
 
@@ -52,7 +60,7 @@ impl Part<'_> {
         &self,
         lane: &mut [i64],
         means: &mut [u32],
-        targets: &mut [u32],
+        noted: &mut [u32],
         position: u32,
         step: Step,
     )
@@ -64,8 +72,8 @@ impl Part<'_> {
         if let Some(mean) = means.get_mut(position as usize) {
             *mean = saturating_f64_to_u32((step.mean + 1.0) * MEAN_ONE + 0.5);
         }
-        if let Some(to) = targets.get_mut(position as usize) {
-            *to = step.to;
+        if let Some(bits) = noted.get_mut(position as usize) {
+            *bits = Note { bits: *bits }.with_position(step.to).bits;
         }
         let bits = i64::try_from(f64_to_bits_with_nan(step.leak)).unwrap_or(0);
         self.write(lane, position, bits);
@@ -77,7 +85,7 @@ impl Part<'_> {
         &self,
         lane: &mut [i64],
         means: &mut [u32],
-        targets: &mut [u32],
+        noted: &mut [u32],
         from: u32,
         position: u32,
     ) -> Step
@@ -86,19 +94,19 @@ impl Part<'_> {
         ensures { IsSameBeyond self.now.rule.ends self.now.case.now self.now.links.now self.now.low self.now.high
             lane.old lane.new }
     {
-        let mut step = self.step_at(lane, means, targets, from);
+        let mut step = self.step_at(lane, means, noted, from);
         for _ in self.low..self.high {
             if step.to >= position {
                 break;
             }
-            let mut next = self.step_at(lane, means, targets, step.to);
+            let mut next = self.step_at(lane, means, noted, step.to);
             if next.to < position {
-                next = next.then(self.step_at(lane, means, targets, next.to));
-                self.write_step(lane, means, targets, step.to, next);
+                next = next.then(self.step_at(lane, means, noted, next.to));
+                self.write_step(lane, means, noted, step.to, next);
             }
             step = step.then(next);
         }
-        self.write_step(lane, means, targets, from, step);
+        self.write_step(lane, means, noted, from, step);
         step
     }
 
@@ -107,7 +115,7 @@ impl Part<'_> {
         &self,
         lane: &mut [i64],
         means: &mut [u32],
-        targets: &mut [u32],
+        noted: &mut [u32],
         position: u32,
         target: u32,
     ) -> Ahead
@@ -125,7 +133,7 @@ impl Part<'_> {
         if at > position {
             return Ahead::Later(at, self.worth_at(lane, at));
         }
-        let step = self.follow(lane, means, targets, at, position);
+        let step = self.follow(lane, means, noted, at, position);
         if step.to == position {
             return Ahead::Back(step);
         }
@@ -137,7 +145,7 @@ impl Part<'_> {
         &self,
         lane: &mut [i64],
         means: &mut [u32],
-        targets: &mut [u32],
+        noted: &mut [u32],
         s: u32,
         a: u32,
         corner: u32,
@@ -155,7 +163,7 @@ impl Part<'_> {
         for target in self.links.targets(place) {
             let weight = float_of(self.weights.get(at).copied().unwrap_or(0));
             if weight > 0.0 {
-                let ahead = self.look_at(lane, means, targets, position, *target);
+                let ahead = self.look_at(lane, means, noted, position, *target);
                 outlook = outlook.with(weight, ahead);
             }
             at = at.wrapping_add(1);
@@ -168,7 +176,7 @@ impl Part<'_> {
         &self,
         lane: &mut [i64],
         means: &mut [u32],
-        targets: &mut [u32],
+        noted: &mut [u32],
         s: u32,
         a: u32,
     ) -> Counted
@@ -179,11 +187,11 @@ impl Part<'_> {
             lane.old lane.new }
     {
         let mut counted = Counted {
-            outlook: self.outlook(lane, means, targets, s, a, 0),
+            outlook: self.outlook(lane, means, noted, s, a, 0),
             mark: u64::from(a) << 4,
         };
         for corner in 1..self.links.place(s, a).corners {
-            let outlook = self.outlook(lane, means, targets, s, a, corner);
+            let outlook = self.outlook(lane, means, noted, s, a, corner);
             if self
                 .rule
                 .corner
@@ -201,7 +209,7 @@ impl Part<'_> {
         &self,
         lane: &mut [i64],
         means: &mut [u32],
-        targets: &mut [u32],
+        noted: &mut [u32],
         position: u32,
     ) -> Counted
         requires links { AreLinks self.now.case.now.model self.now.links.now }
@@ -217,7 +225,7 @@ impl Part<'_> {
             return counted;
         };
         for a in 0..self.case.model().choices(s) {
-            let other = self.counted_of_row(lane, means, targets, s, a);
+            let other = self.counted_of_row(lane, means, noted, s, a);
             let (one, most) = (other.outlook.worth(), counted.outlook.worth());
             if a == 0 || self.rule.choice.prefers(one, most) {
                 counted = other;
@@ -227,7 +235,7 @@ impl Part<'_> {
     }
 
     /// Puts the states in, from the first position on, as long as that does.
-    fn put_in(&self, lane: &mut [i64], means: &mut [u32], targets: &mut [u32]) -> Eliminated
+    fn put_in(&self, lane: &mut [i64], means: &mut [u32], noted: &mut [u32]) -> Eliminated
         requires links { AreLinks self.now.case.now.model self.now.links.now }
         requires size { length lane.old ≡ length self.now.case.now.model.states }
         ensures { IsSameBeyond self.now.rule.ends self.now.case.now self.now.links.now self.now.low self.now.high
@@ -235,11 +243,12 @@ impl Part<'_> {
     {
         let mut marks: u64 = 1;
         for position in self.low..self.high {
-            let counted = self.counted_at(lane, means, targets, position);
-            let Some(step) = counted.outlook.step(self.extra) else {
+            let counted = self.counted_at(lane, means, noted, position);
+            let extra = self.extra * note_at(noted, position).share();
+            let Some(step) = counted.outlook.step(extra) else {
                 return Eliminated::Before(position);
             };
-            self.write_step(lane, means, targets, position, step);
+            self.write_step(lane, means, noted, position, step);
             marks = marks
                 .wrapping_mul(6364136223846793005)
                 .wrapping_add(counted.mark);
@@ -248,14 +257,14 @@ impl Part<'_> {
     }
 
     /// Writes what the states before a position are worth, by their steps.
-    fn take_out(&self, lane: &mut [i64], means: &[u32], targets: &[u32], end: u32)
+    fn take_out(&self, lane: &mut [i64], means: &[u32], noted: &[u32], end: u32)
         requires links { AreLinks self.now.case.now.model self.now.links.now }
         requires size { length lane.old ≡ length self.now.case.now.model.states }
         ensures { IsSameBeyond self.now.rule.ends self.now.case.now self.now.links.now self.now.low self.now.high
             lane.old lane.new }
     {
         for position in (self.low..end).rev() {
-            let step = self.step_at(lane, means, targets, position);
+            let step = self.step_at(lane, means, noted, position);
             let worth = step.worth(self.worth_at(lane, step.to));
             self.write_worth(lane, position, worth);
         }
@@ -263,7 +272,7 @@ impl Part<'_> {
 
     /// Finds what the states are worth by elimination, with the choices and corners that count anew in each
     /// round, until the same count again. False: that didn't do.
-    pub(crate) fn eliminate(&self, lane: &mut [i64], means: &mut [u32], targets: &mut [u32]) -> bool
+    pub(crate) fn eliminate(&self, lane: &mut [i64], means: &mut [u32], noted: &mut [u32]) -> bool
         requires links { AreLinks self.now.case.now.model self.now.links.now }
         requires size { length lane.old ≡ length self.now.case.now.model.states }
         ensures { IsSameBeyond self.now.rule.ends self.now.case.now self.now.links.now self.now.low self.now.high
@@ -271,16 +280,16 @@ impl Part<'_> {
     {
         let mut last = 0;
         for _ in 0..ROUNDS {
-            match self.put_in(lane, means, targets) {
+            match self.put_in(lane, means, noted) {
                 Eliminated::All(marks) => {
-                    self.take_out(lane, means, targets, self.high);
+                    self.take_out(lane, means, noted, self.high);
                     if marks == last {
                         return true;
                     }
                     last = marks;
                 }
                 Eliminated::Before(end) => {
-                    self.take_out(lane, means, targets, end);
+                    self.take_out(lane, means, noted, end);
                     return false;
                 }
             }

@@ -7,7 +7,6 @@ ghost use Rattle.float_guess.specs.Part.{CanGuess, KeepsBeyond, IsSameBeyond, Ar
 use crate::floats::ONE;
 use crate::part::Part;
 use crate::rule::Rule;
-use crate::shares::SHARES_IN_A_UNIT;
 use corner_lift::{Case, one_at, rows_at_corners};
 use lift_model::Links;
 use std::num::nearest_i64_to_f64;
@@ -17,6 +16,10 @@ const MARGINS_IN_A_UNIT: i64 = 64;
 
 /// It differs by this at least, since an elimination keeps some numbers to 30 bits.
 const LEAST_MARGIN: i64 = 1 << 32;
+
+/// The share of a unit that a moved guess adds for each expected step: a little less than the half that rounding makes
+/// of a step on average.
+const SHARE: f64 = 0.390625;
 
 /// On which side of what the floats say a guess lies.
 #[derive(Clone, Copy)]
@@ -30,9 +33,11 @@ pub enum Rounding {
 /// How a guess is made.
 #[derive(Clone, Copy)]
 pub enum Way {
-    /// By elimination, and beyond what it says on the side of the rounding's opposite, by so many
-    /// `SHARES_IN_A_UNIT`th parts of a unit for each expected step.
-    Elimination(u32),
+    /// By elimination.
+    Elimination,
+    /// The same, and beyond what it says on the side of the rounding's opposite, by a share of a unit for each
+    /// expected step: the lesser the higher the level that is noted.
+    MovedElimination,
     /// By so many sweeps at most.
     Sweeps(u32),
     /// Not at all: they are 0, rounded.
@@ -52,11 +57,11 @@ impl Rounding {
 }
 
 impl Way {
-    /// What each expected step brings besides, where `top` stands for 1: what rounding makes of it.
+    /// What each expected step brings besides, where the share is whole and `top` stands for 1.
     fn extra(self, rounding: Rounding, top: i64) -> f64 {
         let share = match self {
-            Way::Elimination(share) => nearest_i64_to_f64(i64::from(share)) / SHARES_IN_A_UNIT,
-            Way::Sweeps(_) | Way::Nothing => 0.0,
+            Way::MovedElimination => SHARE,
+            Way::Elimination | Way::Sweeps(_) | Way::Nothing => 0.0,
         };
         let extra = share / nearest_i64_to_f64(top);
         match rounding {
@@ -80,16 +85,35 @@ impl Part<'_> {
         }
     }
 
+    /// Where there are tolls, and sweeps find no end, costs may have none: each state is worth the most. False: there are no
+    /// tolls.
+    fn take_most(&self, lane: &mut [i64]) -> bool
+        requires links { AreLinks self.now.case.now.model self.now.links.now }
+        requires size { length lane.old ≡ length self.now.case.now.model.states }
+        ensures { IsSameBeyond self.now.rule.ends self.now.case.now self.now.links.now self.now.low self.now.high
+            lane.old lane.new }
+    {
+        if !self.rule.ends.has_tolls() {
+            return false;
+        }
+        for position in self.low..self.high {
+            self.write(lane, position, ONE);
+        }
+        true
+    }
+
     /// Finds what the states are worth. False: it didn't.
-    fn find(&self, lane: &mut [i64], means: &mut [u32], targets: &mut [u32], way: Way) -> bool
+    fn find(&self, lane: &mut [i64], means: &mut [u32], noted: &mut [u32], way: Way) -> bool
         requires links { AreLinks self.now.case.now.model self.now.links.now }
         requires size { length lane.old ≡ length self.now.case.now.model.states }
         ensures { IsSameBeyond self.now.rule.ends self.now.case.now self.now.links.now self.now.low self.now.high
             lane.old lane.new }
     {
         match way {
-            Way::Elimination(_) => self.eliminate(lane, means, targets),
-            Way::Sweeps(most) => self.approach(lane, means, most),
+            Way::Elimination | Way::MovedElimination => {
+                !self.rule.ends.has_tolls() && self.eliminate(lane, means, noted)
+            }
+            Way::Sweeps(most) => self.approach(lane, means, most) || self.take_most(lane),
             Way::Nothing => {
                 self.scale(lane, 0);
                 true
@@ -131,8 +155,8 @@ impl Part<'_> {
 
 /// Guesses what the states of a part are worth, which stand at the positions from `low` on and before `high`
 /// and whose numbers aren't given, by the numbers of the others: at or below that, or above it, by less than two
-/// units, if it does well. What `means` and `targets` hold is free. False: the guess isn't worth much, since
-/// the way didn't do.
+/// units, if it does well. What `means` holds is free. What was noted at the positions of the part is lost, but for
+/// the levels of their shares, which stay. False: the guess isn't worth much, since the way didn't do.
 pub fn guess_part(
     case: &Case,
     links: &Links,
@@ -141,7 +165,7 @@ pub fn guess_part(
     rounding: Rounding,
     lane: &mut [i64],
     means: &mut [u32],
-    targets: &mut [u32],
+    noted: &mut [u32],
     low: u32,
     high: u32,
     way: Way,
@@ -163,7 +187,7 @@ pub fn guess_part(
     };
     let unit = ONE.checked_div(top).unwrap_or(1);
     part.scale(lane, unit);
-    let done = part.find(lane, means, targets, way);
+    let done = part.find(lane, means, noted, way);
     part.round(lane, rounding, unit);
     done
 }

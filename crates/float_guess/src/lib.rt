@@ -8,11 +8,11 @@ mod guess;
 mod notes;
 mod part;
 mod rule;
-mod shares;
 mod step;
 mod sweep;
+mod toll;
 
 pub use guess::{Rounding, Way, guess_part};
-pub use notes::low_word_of;
+pub use notes::{Note, lessen_share, make_shares_whole};
 pub use rule::{Ends, Extreme, Rule};
-pub use shares::Shares;
+pub use toll::Tolls;

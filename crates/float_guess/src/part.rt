@@ -20,7 +20,7 @@ pub(crate) struct Part<'a> {
     pub(crate) weights: &'a [i128],
     pub(crate) rule: Rule<'a>,
     pub(crate) top: i64,
-    // what each expected step brings besides
+    // what each expected step brings besides, where the share is whole
     pub(crate) extra: f64,
     pub(crate) low: u32,
     pub(crate) high: u32,

@@ -1,9 +1,11 @@
 //! What the number of a state is made of, where vectors are found: which of its choices counts, which corner of a row,
-//! and which states have a number that is given.
+//! which states have a number that is given, and what each visit adds.
 
 ghost use Rattle.std.specs.Prelude.{◌≡◌, ◌<◌, length};
-ghost use Rattle.float_guess.specs.Rule.{is_given};
+ghost use Rattle.float_guess.specs.Rule.{is_given, has_tolls, added};
 
+use crate::toll::Tolls;
+use corner_lift::{Case, one_at};
 use lift_model::Model;
 
 /// What a state without rank has for a rank.
@@ -25,6 +27,8 @@ pub enum Ends<'a> {
     Goals,
     /// Goal states have 0, and the other states that have none of these ranks have 1.
     Unranked(&'a [u32]),
+    /// Goal states have 0, and each visit of another state adds its toll. Numbers are cut off at 1.
+    Tolled(Tolls<'a>),
 }
 
 /// What the number of each other state is made of.
@@ -64,9 +68,33 @@ impl Ends<'_> {
         ensures { result ≡ is_given model.now self.entry s }
     {
         match self {
-            Ends::Goals => model.is_goal(s),
+            Ends::Goals | Ends::Tolled(_) => model.is_goal(s),
             Ends::Unranked(ranks) => {
                 model.is_goal(s) || ranks.get(s as usize).copied().unwrap_or(NO_RANK) >= NO_RANK
+            }
+        }
+    }
+    /// Whether there are tolls.
+    #[inline(always)]
+    pub fn has_tolls(self) -> bool
+        ensures { result ≡ has_tolls self.entry }
+    {
+        match self {
+            Ends::Goals | Ends::Unranked(_) => false,
+            Ends::Tolled(_) => true,
+        }
+    }
+
+    /// What each visit of a state adds to its number.
+    #[inline]
+    pub fn added(self, case: &Case, s: u32) -> i64
+        ensures { result ≡ added case.now self.entry s }
+    {
+        match self {
+            Ends::Goals | Ends::Unranked(_) => 0,
+            Ends::Tolled(tolls) => {
+                let w = case.w();
+                tolls.of(w, s).min(one_at(w) as u128) as i64
             }
         }
     }

@@ -1,7 +1,7 @@
 //! What a state is worth in terms of a later one.
 
 /// In place of a position, where there is no later state.
-pub(crate) const NOWHERE: u32 = u32::MAX;
+pub(crate) const NOWHERE: u32 = (1 << 28) - 1;
 
 /// A state leaves its part with the probability `leak`, for what is worth `mean`, and else comes to the state
 /// at the position `to`.

@@ -71,7 +71,25 @@ impl Sweeping {
 }
 
 impl Part<'_> {
-    /// The weighted mean of a row at a corner, of the states but its own.
+    /// What a visit of a state adds to the sum of a row at a corner: that times what the row weighs.
+    #[inline(never)]
+    fn added(&self, s: u32, a: u32, corner: u32) -> f64
+        requires links { AreLinks self.now.case.now.model self.now.links.now }
+        requires row { HasChoice self.now.case.now.model s a }
+    {
+        let place = self.links.place(s, a);
+        let mut at = first_weight(place, corner);
+        let mut whole = 0.0;
+        for _ in self.links.targets(place) {
+            whole += float_of(self.weights.get(at).copied().unwrap_or(0));
+            at = at.wrapping_add(1);
+        }
+        let added = self.rule.ends.added(self.case, s);
+        whole * nearest_i64_to_f64(added) / nearest_i64_to_f64(self.top)
+    }
+
+    /// The weighted mean of a row at a corner, of the states but its own, with what each visit adds.
+    #[inline(always)]
     fn mean(&self, lane: &[i64], s: u32, a: u32, corner: u32) -> f64
         requires links { AreLinks self.now.case.now.model self.now.links.now }
         requires row { HasChoice self.now.case.now.model s a }
@@ -88,7 +106,16 @@ impl Part<'_> {
             }
             at = at.wrapping_add(1);
         }
-        if rest > 0.0 { sum / rest } else { 0.0 }
+        if self.rule.ends.has_tolls() {
+            sum += self.added(s, a, corner);
+        }
+        if rest > 0.0 {
+            sum / rest
+        } else if sum > 0.0 {
+            1.0
+        } else {
+            0.0
+        }
     }
 
     /// The mean at the corner that counts.

@@ -15,7 +15,7 @@ use Rattle.corner_lift.specs.Laws.{NumbersAreInRange, ParametersAreTheRoots}
 use Rattle.float_guess.specs.Part.{StandsAt, is_open, KeepsOthers}
 use Rattle.lower_cert.specs.Laws.{ClosedIsAbove, GuessIsAbove}
 use Rattle.lower_cert.specs.Lowering.{IsHigh, IsHighUnder, from_guess}
-use Rattle.float_guess.specs.Notes.{low_word}
+use Rattle.float_guess.specs.Notes.{low_word, noted_word}
 use Rattle.lower_cert.specs.Beginning.{IsNotedAt, IsNotedPart, IsOtherAt, AreOther, IsFilledAt, IsClosedChoice, IsClosedPosition, IsClosedPart, AreAll}
 use Rattle.lower_cert.proofs.Means.{either_way}
 use Rattle.lower_cert.proofs.Heights.{below-no}
@@ -127,14 +127,14 @@ filled_more k l low high at x y v all one p from to t stands =
     (same_or_less p at to)
 
 -- a state's number that is noted
-pub noted_some : (k : CaseData) (l : LinksData) (x : List ℤ) (at s v : ℕ) (noted : List ℕ) → s < length noted → v ≡ low_word (number x s) → ((t : ℕ) → StandsAt k l at t → t ≡ s) → IsNotedAt k l x at noted (set noted s v)
+pub noted_some : (k : CaseData) (l : LinksData) (x : List ℤ) (at s v : ℕ) (noted : List ℕ) → s < length noted → noted_word v ≡ low_word (number x s) → ((t : ℕ) → StandsAt k l at t → t ≡ s) → IsNotedAt k l x at noted (set noted s v)
 noted_some k l x at s v noted lt is only = record {
   each = λ t. ⊎_elim (λ (e : t ≡ s). inr (same t e)) (λ (ne : t ≢ s). inl (rw get_or-set_other refl)) (same_or_not t s);
   here = λ t h. same t (only t h);
 }
   where
-    same : (t : ℕ) → t ≡ s → slice_index_or (set noted s v) t 0 ≡ low_word (number x t)
-    same t e = ap (λ i. slice_index_or (set noted s v) i 0) e ∙ (rw get_or-set_same is) ∙ ap (λ i. low_word (number x i)) (sym e)
+    same : (t : ℕ) → t ≡ s → noted_word (slice_index_or (set noted s v) t 0) ≡ low_word (number x t)
+    same t e = ap (λ i. noted_word (slice_index_or (set noted s v) i 0)) e ∙ (rw get_or-set_same is) ∙ ap (λ i. low_word (number x i)) (sym e)
 
 pub noted_none : (k : CaseData) (l : LinksData) (x : List ℤ) (at : ℕ) (noted : List ℕ) → ((t : ℕ) → StandsAt k l at t → ⊥) → IsNotedAt k l x at noted noted
 noted_none k l x at noted none = record { each = λ t. inl refl; here = λ t h. absurd (none t h) }
@@ -142,7 +142,7 @@ noted_none k l x at noted none = record { each = λ t. inl refl; here = λ t h. 
 pub noted_more : (k : CaseData) (l : LinksData) (x : List ℤ) (low at : ℕ) (old new : List ℕ) → IsNotedPart k l x old low at → IsNotedAt k l x at old new → IsNotedPart k l x new low (at + 1)
 noted_more k l x low at old new all one p from to t stands =
     ⊎_elim
-    (λ (less : p < at). ⊎_elim (λ (e : slice_index_or new t 0 ≡ slice_index_or old t 0). e ∙ all p from less t stands) (λ (e : slice_index_or new t 0 ≡ low_word (number x t)). e) (one.each t))
+    (λ (less : p < at). ⊎_elim (λ (e : slice_index_or new t 0 ≡ slice_index_or old t 0). ap noted_word e ∙ all p from less t stands) (λ (e : noted_word (slice_index_or new t 0) ≡ low_word (number x t)). e) (one.each t))
     (λ (e : p ≡ at). one.here t (subst (λ i. StandsAt k l i t) e stands))
     (same_or_less p at to)
 

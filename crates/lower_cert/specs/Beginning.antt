@@ -6,7 +6,7 @@ use Rattle.lift_model.specs.Links.{LinksData}
 use Rattle.corner_lift.specs.Corner.{corner_sum, whole}
 use Rattle.corner_lift.specs.Case.{CaseData, number}
 use Rattle.float_guess.specs.Part.{StandsAt, KeepsOthers}
-use Rattle.float_guess.specs.Notes.{low_word}
+use Rattle.float_guess.specs.Notes.{low_word, noted_word}
 use Rattle.lower_cert.specs.Capping.{AtSomeCorner}
 
 -- the choice doesn't let its state rise: at some corner its weighted mean is at most the state's number
@@ -35,18 +35,18 @@ pub record IsFilledAt (k : CaseData) (l : LinksData) (low high at : ℕ) (v : �
   pub each : (s : ℕ) → (number new s ≡ number old s) ⊎ (number new s ≡ v)
   pub here : (s : ℕ) → StandsAt k l at s → number new s ≡ v
 
--- the low 32 bits of the number of the state at a position were noted, and all else is as it was or noted
+-- the low bits of the number of the state at a position were noted, and all else is as it was or noted
 pub record IsNotedAt (k : CaseData) (l : LinksData) (x : List ℤ) (at : ℕ) (old new : List ℕ) : Type 0 where
-  pub each : (s : ℕ) → (slice_index_or new s 0 ≡ slice_index_or old s 0) ⊎ (slice_index_or new s 0 ≡ low_word (number x s))
-  pub here : (s : ℕ) → StandsAt k l at s → slice_index_or new s 0 ≡ low_word (number x s)
+  pub each : (s : ℕ) → (slice_index_or new s 0 ≡ slice_index_or old s 0) ⊎ (noted_word (slice_index_or new s 0) ≡ low_word (number x s))
+  pub here : (s : ℕ) → StandsAt k l at s → noted_word (slice_index_or new s 0) ≡ low_word (number x s)
 
 -- those of the states of a part were noted
 abbrev pub IsNotedPart : CaseData → LinksData → List ℤ → List ℕ → ℕ → ℕ → Type 0
-IsNotedPart k l x noted low high = (at : ℕ) → low ≤ at → at < high → (s : ℕ) → StandsAt k l at s → slice_index_or noted s 0 ≡ low_word (number x s)
+IsNotedPart k l x noted low high = (at : ℕ) → low ≤ at → at < high → (s : ℕ) → StandsAt k l at s → noted_word (slice_index_or noted s 0) ≡ low_word (number x s)
 
 -- the state at a position has another number than the one of which that was noted
 abbrev pub IsOtherAt : CaseData → LinksData → List ℤ → List ℕ → ℕ → Type 0
-IsOtherAt k l x noted at = (s : ℕ) → StandsAt k l at s → slice_index_or noted s 0 ≢ low_word (number x s)
+IsOtherAt k l x noted at = (s : ℕ) → StandsAt k l at s → noted_word (slice_index_or noted s 0) ≢ low_word (number x s)
 
 -- so has each state of a part
 abbrev pub AreOther : CaseData → LinksData → List ℤ → List ℕ → ℕ → ℕ → Type 0

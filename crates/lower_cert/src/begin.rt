@@ -16,23 +16,28 @@ use crate::part::{Part, clear_part, fill_part, flag_part, note};
 use crate::raise::{Aim, raise_part};
 use crate::sweep::{component_end, is_alone, pass, visit, visit_alone};
 use corner_lift::{Lifted, rows_at_corners};
-use float_guess::{Ends, Extreme, Rounding, Rule, Shares, Way, guess_part, low_word_of};
+use float_guess::{
+    Ends, Extreme, Note, Rounding, Rule, Way, guess_part, lessen_share, make_shares_whole,
+};
 
 /// How many passes over a small component lower it from 1, before it is guessed, which takes as long as some fifty.
 const FIRST_PASSES: u32 = 48;
 
+/// As many passes are made before it is guessed as there are numbers, where these are no more.
+const FEW_NUMBERS: i64 = 1024;
+
 /// How many states a small component has at most.
 const SMALL: u32 = 64;
 
-/// How many guesses are made, to find one from which it takes few passes, and so many at most.
-const GUESSES: u32 = 12;
+/// How many moved guesses are made, until each state fell below one in so many passes.
+const GUESSES: u32 = 8;
 
 const GUESS_PASSES: u32 = 64;
 
-/// All states but one in so many fell, where a guess that took too many passes counts as too high.
-const MOSTLY: u32 = 16;
+/// How many more passes there are for each state behind one that didn't fall whose share was made less.
+const SPREAD_PASSES: u32 = 8;
 
-/// How many passes lower it from the last guesses.
+/// How many more lower it from that one.
 const GUESS_PATIENCE: u32 = 16384;
 
 /// How many passes are made before it is begun anew.
@@ -87,7 +92,12 @@ fn is_other_at(rows: &Lifted, lane: &[i64], noted: &[u32], position: u32) -> boo
     ensures { IsTrue result → IsOtherAt rows.now.case rows.now.links lane.now noted.now position }
 {
     match rows.open_state(position) {
-        Some(s) => noted[s as usize] != low_word_of(lane[s as usize]),
+        Some(s) => {
+            let note = Note {
+                bits: noted[s as usize],
+            };
+            !note.is_of(lane[s as usize])
+        }
         None => true,
     }
 }
@@ -107,33 +117,34 @@ fn are_other(rows: &Lifted, lane: &[i64], noted: &[u32], part: Part) -> bool
     true
 }
 
-/// Whether so have most states of a part.
-fn are_mostly_other(rows: &Lifted, lane: &[i64], noted: &[u32], part: Part) -> bool
+/// Makes the share of each state of a part less that has not, and of so many behind it.
+fn lessen_shares(rows: &Lifted, lane: &[i64], noted: &mut [u32], part: Part, spread: u32)
     requires numbers { AreNumbers rows.now.case lane.now }
-    requires notes { length noted.now ≡ length rows.now.case.model.states }
+    requires notes { length noted.old ≡ length rows.now.case.model.states }
     requires part { part.high ≤ length rows.now.links.order }
+    ensures { length noted.new ≡ length noted.old }
 {
-    let mut others: u32 = 0;
+    let mut left: u32 = 0;
     for position in part.low..part.high {
-        if is_other_at(rows, lane, noted, position) {
-            others = others.saturating_add(1);
+        if !is_other_at(rows, lane, noted, position) {
+            left = spread.saturating_add(1);
+        }
+        if left > 0 {
+            left -= 1;
+            lessen_share(noted, position);
         }
     }
-    let states = part.len();
-    others >= states - states / MOSTLY
 }
 
 /// What came of a guess.
 #[derive(Clone, Copy)]
 enum Guessed {
-    /// Each state of the part fell below it, so that it was a good one.
+    /// Each state of the part fell below it, so that it was none too low, and the part is settled.
     Good,
-    /// Some state didn't, though the part is settled, or many didn't: it was too low.
-    Low,
-    /// It took too many passes, though most states fell.
+    /// The same, but it took too many passes.
     Slow,
-    /// The same, and each state fell, so that it was none too low.
-    High,
+    /// Some state didn't fall.
+    Low,
     /// There was none.
     Nothing,
 }
@@ -143,30 +154,43 @@ impl Guessed {
     fn is_good(self) -> bool {
         match self {
             Guessed::Good => true,
-            Guessed::Low | Guessed::Slow | Guessed::High | Guessed::Nothing => false,
+            Guessed::Slow | Guessed::Low | Guessed::Nothing => false,
+        }
+    }
+
+    /// What came of one below which each state fell, and the part is settled or not.
+    fn fallen(settled: bool) -> Guessed {
+        if settled {
+            Guessed::Good
+        } else {
+            Guessed::Slow
         }
     }
 }
 
-/// What came of a guess that wasn't good: whether the part is settled, and whether each state fell, or most did.
-fn blamed(settled: bool, all: bool, most: bool) -> Guessed {
-    match (settled, all, most) {
-        (true, _, _) | (false, false, false) => Guessed::Low,
-        (false, true, _) => Guessed::High,
-        (false, false, true) => Guessed::Slow,
+/// A guess by elimination that is tried.
+#[derive(Clone, Copy)]
+struct Guess {
+    /// Whether it is moved.
+    way: Way,
+    /// In how many passes at most it lowers a part.
+    passes: u32,
+    /// For how many states behind one that doesn't fall the share is made less too.
+    spread: u32,
+}
+
+impl Guess {
+    /// One that isn't moved.
+    fn unmoved(passes: u32) -> Guess {
+        Guess {
+            way: Way::Elimination,
+            passes,
+            spread: 0,
+        }
     }
 }
 
-/// A guess that is tried.
-#[derive(Clone, Copy)]
-struct Guess {
-    /// By what share of a unit it is moved for each step.
-    share: u32,
-    /// In how many passes it may lower a part.
-    passes: u32,
-}
-
-/// Lowers a part from a guess. Unless it was a good one, the part is at 1 again.
+/// Lowers a part from a guess. Unless each state fell, the part is at 1 again.
 fn lower_from_guess(
     rows: &Lifted,
     lane: &mut [i64],
@@ -201,7 +225,7 @@ fn lower_from_guess(
         noted,
         part.low,
         part.high,
-        Way::Elimination(guess.share),
+        guess.way,
     );
     flag_part(flags, part);
     if !guessed {
@@ -214,17 +238,55 @@ fn lower_from_guess(
         limit: -1,
     };
     let settled = boundless.settle_within(lane, flags, part, guess.passes);
-    if settled && are_other(rows, lane, noted, part) {
-        return Guessed::Good;
+    if are_other(rows, lane, noted, part) {
+        return Guessed::fallen(settled);
     }
-    let all = are_other(rows, lane, noted, part);
-    let most = are_mostly_other(rows, lane, noted, part);
+    lessen_shares(rows, lane, noted, part, guess.spread);
     flag_part(flags, part);
     fill_part(rows, lane, part, rows.top());
-    blamed(settled, all, most)
+    Guessed::Low
 }
 
-/// Lowers a part from guesses, until one is good. False: none was, and the part is at 1 again.
+/// Lowers a part from moved guesses, each by lesser shares for the states that didn't fall from the last one, until
+/// each fell from one. False: they never did, or it took too many passes.
+fn lower_from_moved(
+    rows: &Lifted,
+    lane: &mut [i64],
+    flags: &mut [u32],
+    noted: &mut [u32],
+    part: Part,
+) -> bool
+    ghost spans: { Spans }
+    requires can { CanLower rows.now (from_top rows.now.case spans) lane.old }
+    requires flags { part.high ≤ length flags.old }
+    requires notes { length noted.old ≡ length rows.now.case.model.states }
+    requires part { part.high ≤ length rows.now.links.order }
+    ensures { IsHigh rows.now.case spans lane.new }
+{
+    let boundless = Descent {
+        rows: &*rows,
+        limit: -1,
+    };
+    make_shares_whole(noted);
+    let mut spread: u32 = 0;
+    for _ in 0..GUESSES {
+        let guess = Guess {
+            way: Way::MovedElimination,
+            passes: GUESS_PASSES.saturating_add(SPREAD_PASSES.saturating_mul(spread)),
+            spread,
+        };
+        match lower_from_guess(rows, lane, flags, noted, part, guess) {
+            Guessed::Good => return true,
+            Guessed::Slow => return boundless.settle_within(lane, flags, part, GUESS_PATIENCE),
+            Guessed::Low => spread = spread.saturating_mul(2).max(1),
+            Guessed::Nothing => return false,
+        }
+    }
+    false
+}
+
+/// Lowers a part from guesses, until one is good: from moved ones where one that isn't moved is none too low. False:
+/// none was.
 fn lower_from_guesses(
     rows: &Lifted,
     lane: &mut [i64],
@@ -239,50 +301,34 @@ fn lower_from_guesses(
     requires part { part.high ≤ length rows.now.links.order }
     ensures { IsHigh rows.now.case spans lane.new }
 {
-    let mut shares = Shares::unknown();
-    let mut share = 0;
-    let mut sure = 0;
-    for _ in 0..GUESSES {
-        let guess = Guess {
-            share,
-            passes: GUESS_PASSES,
-        };
-        match lower_from_guess(rows, lane, flags, noted, part, guess) {
-            Guessed::Good => return true,
-            Guessed::Nothing => return false,
-            Guessed::Low => shares = shares.below(share),
-            Guessed::Slow => shares = shares.above(share),
-            Guessed::High => {
-                sure = sure.max(share);
-                shares = shares.above(share);
+    let first = Guess::unmoved(GUESS_PASSES);
+    match lower_from_guess(rows, lane, flags, noted, part, first) {
+        Guessed::Good => return true,
+        Guessed::Slow => {
+            if lower_from_moved(rows, lane, flags, noted, part) {
+                return true;
             }
         }
-        match shares.next() {
-            Some(next) => share = next,
-            None => break,
-        }
+        Guessed::Low => {}
+        Guessed::Nothing => return false,
     }
-    for share in [shares.safe(), sure] {
-        let guess = Guess {
-            share,
-            passes: GUESS_PATIENCE,
-        };
-        if lower_from_guess(rows, lane, flags, noted, part, guess).is_good() {
-            return true;
-        }
-    }
-    false
+    let last = Guess::unmoved(GUESS_PATIENCE);
+    lower_from_guess(rows, lane, flags, noted, part, last).is_good()
 }
 
-/// How many passes lower a part from 1 before it is guessed. Two states settle in less time than it takes to
-/// guess them, and large parts often can't be.
-fn first_passes(part: Part) -> u32 {
+/// How many passes lower a part from 1 before it is guessed, where `top` stands for 1. Two states settle in less time
+/// than it takes to guess them, and large parts often can't be. Where there are few numbers, no state falls often.
+fn first_passes(part: Part, top: i64) -> u32 {
     let states = part.len();
-    if states > 2 && states <= SMALL {
+    let usual = if states > 2 && states <= SMALL {
         FIRST_PASSES
     } else {
         FIRST_PATIENCE
+    };
+    if top > FEW_NUMBERS {
+        return usual;
     }
+    u32::try_from(top).unwrap_or(usual)
 }
 
 impl Descent<'_> {
@@ -335,7 +381,7 @@ impl Descent<'_> {
     {
         clear_part(work, part);
         visit_first(self.rows, lane, work, part);
-        if self.settle_within(lane, work, part, first_passes(part)) {
+        if self.settle_within(lane, work, part, first_passes(part, self.rows.top())) {
             return;
         }
         let (flags, noted) = work.split_at_mut(self.rows.model().states() as usize);

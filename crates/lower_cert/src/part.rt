@@ -6,7 +6,7 @@ ghost use Rattle.lower_cert.specs.Beginning.{IsFilledAt, AreAll, IsNotedAt, IsNo
 ghost use Rattle.float_guess.specs.Part.{KeepsOthers};
 
 use corner_lift::Lifted;
-use float_guess::low_word_of;
+use float_guess::Note;
 
 /// A part of the states: those at the positions from `low` on and before `high`.
 #[derive(Clone, Copy)]
@@ -80,7 +80,10 @@ fn note_at(rows: &Lifted, lane: &[i64], noted: &mut [u32], position: u32)
     ensures { IsNotedAt rows.now.case rows.now.links lane.now position noted.old noted.new }
 {
     if let Some(s) = rows.open_state(position) {
-        noted[s as usize] = low_word_of(lane[s as usize]);
+        let note = Note {
+            bits: noted[s as usize],
+        };
+        noted[s as usize] = note.with_number(lane[s as usize]).bits;
     }
 }
 

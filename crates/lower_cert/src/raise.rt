@@ -13,7 +13,7 @@ use crate::lower::{is_at_most, times};
 use crate::part::{Part, fill_at, fill_part, flag_part, note};
 use crate::sweep::{flag_before, greater, take_flag};
 use corner_lift::{LaneSum, Lifted, Weighed, quotient_of, rows_at_corners};
-use float_guess::low_word_of;
+use float_guess::Note;
 
 /// How many sweeps come before those by which a jump is measured.
 const CALM_SWEEPS: u32 = 3;
@@ -29,9 +29,6 @@ const PASSES: u32 = 1024;
 
 /// The slack of a rough vector is the top over this.
 const ROUGH_PARTS: i64 = 1 << 14;
-
-/// How many numbers 32 bits hold.
-const WORDS: i64 = 1 << 32;
 
 /// A jump is so many parts of what the last sweeps brought.
 const PARTS: i64 = 256;
@@ -336,24 +333,19 @@ fn sweeps(rows: &Lifted, lane: &mut [i64], part: Part, count: u32, slack: i64) -
     Some(way)
 }
 
-/// A number of 32 bits, with its sign.
-fn signed(bits: u32) -> i64 {
-    let number = i64::from(bits);
-    if number < WORDS / 2 {
-        number
-    } else {
-        number.wrapping_sub(WORDS)
-    }
-}
-
-/// How far the state at a position moved since its number was noted, if by less than 2 to the 31.
+/// How far the state at a position moved since its number was noted, if by less than 2 to the 27.
 fn move_of(rows: &Lifted, lane: &[i64], noted: &[u32], position: u32) -> i64
     requires numbers { AreNumbers rows.now.case lane.now }
     requires notes { length noted.now ≡ length rows.now.case.model.states }
     requires position { position < length rows.now.links.order }
 {
     match rows.open_state(position) {
-        Some(s) => signed(low_word_of(lane[s as usize]).wrapping_sub(noted[s as usize])),
+        Some(s) => {
+            let note = Note {
+                bits: noted[s as usize],
+            };
+            note.move_to(lane[s as usize])
+        }
         None => 0,
     }
 }

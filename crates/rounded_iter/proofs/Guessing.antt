@@ -15,10 +15,10 @@ use Rattle.float_guess.specs.declared.rule.Extreme.TheVariants.{Greatest, Least}
 use Rattle.float_guess.specs.declared.rule.Rule.{Rule}
 use Rattle.float_guess.specs.Rule.{is_given, given}
 use Rattle.float_guess.specs.Part.{KeepsBeyond}
-use Rattle.rounded_iter.specs.Rising.{TableData, IsRead, IsBelow, IsEnoughEverywhere, IsLeastBound, IsLeastBoundWithin, IsEnough, IsEnoughAt, IsEnoughFor, Across}
-use Rattle.float_guess.specs.Notes.{low_word}
+use Rattle.rounded_iter.specs.Rising.{TableData, IsRead, IsBelow, IsEnoughEverywhere, IsLeastBound, IsLeastBoundWithin, IsEnough, IsEnoughBy, IsEnoughFor, Across}
+use Rattle.float_guess.specs.Notes.{low_word, noted_word}
 use Rattle.rounded_iter.specs.Watching.{count, flag, from_zero, IsGuess, IsLeastFrom, IsFound, IsSure}
-use Rattle.rounded_iter.proofs.Solving.{RowLaws, across_map, enough_shifted, lt_from_test, some_corner, value_range}
+use Rattle.rounded_iter.proofs.Solving.{RowLaws, across_map, enough_shifted, lt_from_test, some_corner, top_enough}
 use Rattle.rounded_iter.proofs.Raising.{in_or_past, true_or_false, given_inside, given_range}
 
 lesser : ℤ → ℤ → ℤ
@@ -88,9 +88,9 @@ guess_below r k spans x h = record {
 }
 
 -- what was noted of a number that differs
-pub sure_of : (r : Rule) (k : CaseData) (guess x : List ℤ) (noted : List ℕ) (s : ℕ) → flag noted s ≡ low_word (number guess s) → IsSure r k noted x s → (number guess s ≢ number x s) ⊎ ((number x s ≡ pos 0) ⊎ (is_given k.model r.ends s ≡ true))
+pub sure_of : (r : Rule) (k : CaseData) (guess x : List ℤ) (noted : List ℕ) (s : ℕ) → noted_word (flag noted s) ≡ low_word (number guess s) → IsSure r k noted x s → (number guess s ≢ number x s) ⊎ ((number x s ≡ pos 0) ⊎ (is_given k.model r.ends s ≡ true))
 sure_of r k guess x noted s e h = ⊎_elim
-    (λ (differs : flag noted s ≢ low_word (number x s)). inl (λ same. differs (e ∙ ap low_word same)))
+    (λ (differs : noted_word (flag noted s) ≢ low_word (number x s)). inl (λ same. differs (e ∙ ap low_word same)))
     (λ (sure : (number x s ≡ pos 0) ⊎ (is_given k.model r.ends s ≡ true)). inr sure)
     h
 
@@ -141,10 +141,10 @@ module _ (laws : RowLaws) (t : TableData) (spans : Spans) (read : IsRead t spans
   top_bound = record {
     numbers = top_numbers;
     given = λ s e. top_given s (given_inside k r.ends read.case.asked.model.goals s e) e;
-    enough = λ s state free. across_all r.choice (length (choices k.model s)) (λ a. IsEnoughFor e k spans top s a) (read.case.asked.model.some_choice s [] state) (λ a choice.
+    enough = λ s state free. across_all r.choice (length (choices k.model s)) (λ a. IsEnoughFor r k spans top s a) (read.case.asked.model.some_choice s [] state) (λ a choice.
         let has : HasChoice k.model s a = record { state = state; choice = choice } in
-        across_all e (corner_count k s a) (IsEnoughAt k spans top s a (number top s)) (some_corner laws k spans read.case read.table.inside s a has)
-        (λ c lt. subst (λ n. IsEnoughAt k spans top s a n c) (sym (top_free s state free)) (value_range laws k spans read.case read.table.inside s a has top top_numbers c).1));
+        across_all e (corner_count k s a) (IsEnoughBy r.ends k spans top s a (number top s)) (some_corner laws k spans read.case read.table.inside s a has)
+        (λ c lt. top_enough laws k spans read.case read.table.inside s a has top top_numbers r.ends (number top s) c (top_free s state free)));
   }
 
   module _ (u y : List ℤ) (m : ℤ) (bound : Bound u) (also : Bound y) (least : pos 0 ≤ℤ m) where
@@ -165,13 +165,13 @@ module _ (laws : RowLaws) (t : TableData) (spans : Spans) (read : IsRead t spans
         let z = lowered m u y in
         let n = length (choices k.model s) in
         ⊎_elim
-        (λ (is : number z s ≡ number u s). across_map r.choice n (λ a. IsEnoughFor e k spans u s a) (λ a. IsEnoughFor e k spans z s a)
-        (λ a choice. across_map e (corner_count k s a) (IsEnoughAt k spans u s a (number u s)) (IsEnoughAt k spans z s a (number z s))
-        (λ c lt. enough_shifted laws k spans read.case read.table.inside s a (record { state = state; choice = choice }) u z (pos 0) (λ i. omega (arith, linear, (at i).left)) (omega (arith, linear, is)) c lt))
+        (λ (is : number z s ≡ number u s). across_map r.choice n (λ a. IsEnoughFor r k spans u s a) (λ a. IsEnoughFor r k spans z s a)
+        (λ a choice. across_map e (corner_count k s a) (IsEnoughBy r.ends k spans u s a (number u s)) (IsEnoughBy r.ends k spans z s a (number z s))
+        (λ c lt. enough_shifted laws k spans read.case read.table.inside s a (record { state = state; choice = choice }) r.ends u z (pos 0) (omega (arith, linear)) (λ i. omega (arith, linear, (at i).left)) (omega (arith, linear, is)) c lt))
         (bound.enough s state free))
-        (λ (is : number z s ≡ number y s +ℤ m). across_map r.choice n (λ a. IsEnoughFor e k spans y s a) (λ a. IsEnoughFor e k spans z s a)
-        (λ a choice. across_map e (corner_count k s a) (IsEnoughAt k spans y s a (number y s)) (IsEnoughAt k spans z s a (number z s))
-        (λ c lt. enough_shifted laws k spans read.case read.table.inside s a (record { state = state; choice = choice }) y z m (λ i. (at i).right) is c lt))
+        (λ (is : number z s ≡ number y s +ℤ m). across_map r.choice n (λ a. IsEnoughFor r k spans y s a) (λ a. IsEnoughFor r k spans z s a)
+        (λ a choice. across_map e (corner_count k s a) (IsEnoughBy r.ends k spans y s a (number y s)) (IsEnoughBy r.ends k spans z s a (number z s))
+        (λ c lt. enough_shifted laws k spans read.case read.table.inside s a (record { state = state; choice = choice }) r.ends y z m least (λ i. (at i).right) is c lt))
         (also.enough s state free))
         (at s).one
 

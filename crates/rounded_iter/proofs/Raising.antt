@@ -18,13 +18,13 @@ use Rattle.corner_lift.specs.Laws.{NumbersAreInRange}
 use Rattle.float_guess.specs.declared.rule.Extreme.{Extreme}
 use Rattle.float_guess.specs.declared.rule.Extreme.TheVariants.{Greatest, Least}
 use Rattle.float_guess.specs.declared.rule.Ends.{Ends}
-use Rattle.float_guess.specs.declared.rule.Ends.TheVariants.{Goals, Unranked}
+use Rattle.float_guess.specs.declared.rule.Ends.TheVariants.{Goals, Unranked, Tolled}
 use Rattle.float_guess.specs.declared.rule.Rule.{Rule}
-use Rattle.float_guess.specs.Rule.{is_given, given}
+use Rattle.float_guess.specs.Rule.{is_given, given, has_tolls}
 use Rattle.rounded_iter.specs.Value.{IsValue, IsLeastValue, SomeMeanAtMost}
-use Rattle.rounded_iter.specs.Rising.{TableData, Run, IsBelow, IsEnoughEverywhere, IsLeastBound, IsLeastBoundWithin, IsEnough, HasEnough, IsEnoughFor, IsEnoughAt, IsMoreExtreme, IsSolved, IsSolvedBy, Across, room}
+use Rattle.rounded_iter.specs.Rising.{TableData, Run, IsBelow, IsEnoughEverywhere, IsLeastBound, IsLeastBoundWithin, IsEnough, HasEnough, IsEnoughFor, IsEnoughBy, IsMoreExtreme, IsSolvedFor, IsSolved, IsSolvedBy, Across, room, untolled}
 use Rattle.rounded_iter.specs.Watching.{from_zero, first_number, HasGoals, CanRaise, IsRaisedState, IsBelowUppers, IsLeastWithin}
-use Rattle.rounded_iter.proofs.Solving.{RowLaws, across_map, same_or_not, sum_moved, only_same, only_other, own_none, same_whole, at_root, at_spans, in_lane, set_numbers, n_least, risen}
+use Rattle.rounded_iter.proofs.Solving.{RowLaws, across_map, same_or_not, sum_moved, only_same, only_other, own_none, same_whole, at_root, at_spans, enough_same, in_lane, set_numbers, n_least, risen}
 
 abbrev Range : ℕ → ℤ → Type 0
 Range w n = (pos 0 ≤ℤ n) × (n ≤ℤ pos (2 ^ w))
@@ -60,10 +60,12 @@ given_inside k (Unranked ranks) goals s is = by_test (is_goal k.model s) (nat_lt
     by_test true lt goal inside e = goal_inside k goals s goal
     by_test false true goal inside e = ltb-true s (length k.model.states) inside
     by_test false false goal inside e = cc
+given_inside k (Tolled t) goals s is = goal_inside k goals s is
 
 -- what is given is from 0 to 2 ^ w
 pub given_range : (k : CaseData) (ends : Ends) (s : ℕ) → Range k.w (given k ends s)
 given_range k Goals s = (omega (arith, linear), omega (arith, linear))
+given_range k (Tolled t) s = (omega (arith, linear), omega (arith, linear))
 given_range k (Unranked ranks) s = by_test (is_goal k.model s)
   where
     by_test : (g : Bool) → Range k.w (if g then pos 0 else pos (2 ^ k.w))
@@ -78,11 +80,11 @@ module _ (laws : RowLaws) (r : Rule) (k : CaseData) (spans : Spans) (is : IsCase
 
   -- v, in place of the state's number, is enough for a choice
   abbrev With : ℤ → ℕ → Type 0
-  With v a = Across e (corner_count k s a) (IsEnoughAt k spans (set x s v) s a v)
+  With v a = Across e (corner_count k s a) (IsEnoughBy r.ends k spans (set x s v) s a v)
 
   -- a number that is enough for a choice stays so when it rises
   risen_for : (u v : ℤ) (a : ℕ) → a < length (choices k.model s) → u ≤ℤ v → With u a → With v a
-  risen_for u v a choice le h = across_map e (corner_count k s a) (IsEnoughAt k spans (set x s u) s a u) (IsEnoughAt k spans (set x s v) s a v) (λ c lt at. risen laws k spans is within s a (record { state = state; choice = choice }) x numbers u v c lt le at) h
+  risen_for u v a choice le h = across_map e (corner_count k s a) (IsEnoughBy r.ends k spans (set x s u) s a u) (IsEnoughBy r.ends k spans (set x s v) s a v) (λ c lt at. risen laws k spans is within s a (record { state = state; choice = choice }) x numbers r.ends u v c lt le at) h
 
   -- the first choice
   first_enough : (d : Extreme) (P : ℕ → Type 0) → P 0 → Across d 1 P
@@ -93,16 +95,16 @@ module _ (laws : RowLaws) (r : Rule) (k : CaseData) (spans : Spans) (is : IsCase
   first_only Greatest P all = all 0 (omega arith)
   first_only Least P one = subst P (let z : one.0 ≡ 0 = omega (arith, one.1.0) in z) one.1.1
 
-  pub solved_by_first : (v : ℤ) → IsSolved e k spans x s 0 (corner_count k s 0) v → IsSolvedBy r k spans x s 1 v
+  pub solved_by_first : (v : ℤ) → IsSolvedFor r.ends e k spans x s 0 (corner_count k s 0) v → IsSolvedBy r k spans x s 1 v
   solved_by_first v h = record {
     grown = h.grown;
     most = h.most;
     enough = first_enough r.choice (λ a. With v a) h.enough;
-    least = λ y at all. h.least y at (first_only r.choice (λ a. IsEnoughFor e k spans y s a) all);
+    least = λ y at all. h.least y at (first_only r.choice (λ a. IsEnoughFor r k spans y s a) all);
   }
 
   -- one choice more
-  module _ (i : ℕ) (lt : i < length (choices k.model s)) (u v : ℤ) (h : IsSolvedBy r k spans x s i u) (g : IsSolved e k spans x s i (corner_count k s i) v) where
+  module _ (i : ℕ) (lt : i < length (choices k.model s)) (u v : ℤ) (h : IsSolvedBy r k spans x s i u) (g : IsSolvedFor r.ends e k spans x s i (corner_count k s i) v) where
     more_grown : (d : Extreme) (z : ℤ) → IsMoreExtreme d u v z → number x s ≤ℤ z
     more_grown Greatest z o = omega (arith, linear, h.grown, o.0)
     more_grown Least z o = ⊎_elim (λ (e : z ≡ u). omega (arith, linear, e, h.grown)) (λ (e : z ≡ v). omega (arith, linear, e, g.grown)) o.2
@@ -121,14 +123,14 @@ module _ (laws : RowLaws) (r : Rule) (k : CaseData) (spans : Spans) (is : IsCase
         (λ (is_v : z ≡ v). (i, (omega arith, subst (λ m. With m i) (sym is_v) g.enough)))
         o.2
 
-    more_least : (d : Extreme) (z : ℤ) (y : List ℤ) → AtMost x y → (Across d i (λ a. IsEnoughFor e k spans y s a) → u ≤ℤ number y s) → IsMoreExtreme d u v z → Across d (i + 1) (λ a. IsEnoughFor e k spans y s a) → z ≤ℤ number y s
+    more_least : (d : Extreme) (z : ℤ) (y : List ℤ) → AtMost x y → (Across d i (λ a. IsEnoughFor r k spans y s a) → u ≤ℤ number y s) → IsMoreExtreme d u v z → Across d (i + 1) (λ a. IsEnoughFor r k spans y s a) → z ≤ℤ number y s
     more_least Greatest z y at first o all =
         let one = first (λ a less. all a (omega (arith, less))) in
         let two = g.least y at (all i (omega arith)) in
         ⊎_elim (λ (e : z ≡ u). omega (arith, linear, e, one)) (λ (e : z ≡ v). omega (arith, linear, e, two)) o.2
     more_least Least z y at first o one = ⊎_elim
         (λ (before : one.0 < i). omega (arith, linear, o.0, first (one.0, (before, one.1.1))))
-        (λ (here : one.0 ≡ i). omega (arith, linear, o.1, g.least y at (subst (λ a. IsEnoughFor e k spans y s a) here one.1.1)))
+        (λ (here : one.0 ≡ i). omega (arith, linear, o.1, g.least y at (subst (λ a. IsEnoughFor r k spans y s a) here one.1.1)))
         (one_more one.0 i one.1.0)
 
     pub solved_by_more : (z : ℤ) → IsMoreExtreme r.choice u v z → IsSolvedBy r k spans x s (i + 1) z
@@ -163,7 +165,7 @@ module _ (laws : RowLaws) (t : TableData) (run : Run) (x : List ℤ) (s : ℕ) (
         kept = λ b. refl;
         less = λ b. cc;
         other = λ i ne. refl;
-        enough = λ b. subst (λ m. Across r.choice n (λ a. Across r.corner (corner_count k s a) (IsEnoughAt k run.spans x s a m))) same (subst (λ y. Across r.choice n (λ a. Across r.corner (corner_count k s a) (IsEnoughAt k run.spans y s a v))) list h.enough);
+        enough = λ b. subst (λ m. Across r.choice n (λ a. Across r.corner (corner_count k s a) (IsEnoughBy r.ends k run.spans x s a m))) same (subst (λ y. Across r.choice n (λ a. Across r.corner (corner_count k s a) (IsEnoughBy r.ends k run.spans y s a v))) list h.enough);
       }
 
   module _ (v : ℤ) (h : IsSolvedBy r k run.spans x s n v) (ne : v ≢ number x s) where
@@ -207,7 +209,7 @@ module _ (laws : RowLaws) (t : TableData) (run : Run) (x : List ℤ) (s : ℕ) (
       kept = λ b. cc;
       less = λ b. room-set k.w x s v lane rises h.most;
       other = others;
-      enough = λ b. subst (λ m. Across r.choice n (λ a. Across r.corner (corner_count k s a) (IsEnoughAt k run.spans (set x s v) s a m))) (sym at_s) h.enough;
+      enough = λ b. subst (λ m. Across r.choice n (λ a. Across r.corner (corner_count k s a) (IsEnoughBy r.ends k run.spans (set x s v) s a m))) (sym at_s) h.enough;
     }
 
   -- the number becomes what is enough, whether or not it rises
@@ -219,9 +221,18 @@ module _ (laws : RowLaws) (t : TableData) (run : Run) (x : List ℤ) (s : ℕ) (
 pub raised_given : (t : TableData) (run : Run) (x : List ℤ) (s : ℕ) → CanRaise t run x s → is_given t.case.model t.rule.ends s ≡ true → IsRaisedState t run x x s false
 raised_given t run x s can is = record { below = can.below; kept = λ b. refl; less = λ b. cc; other = λ i ne. refl; enough = λ free. absurd (both_ways (is_given t.case.model t.rule.ends s) free is) }
 
+-- without tolls
+pub solved_plain : (r : Rule) (k : CaseData) (spans : Spans) (x : List ℤ) (s n : ℕ) (v : ℤ) → has_tolls r.ends ≡ false → IsSolvedBy (untolled r) k spans x s n v → IsSolvedBy r k spans x s n v
+solved_plain r k spans x s n v none h = by_ends r.ends refl none
+  where
+    by_ends : (ends : Ends) → r.ends ≡ ends → has_tolls ends ≡ false → IsSolvedBy r k spans x s n v
+    by_ends Goals e none = subst (λ ends. IsSolvedBy (record { choice = r.choice; corner = r.corner; ends = ends }) k spans x s n v) (sym e) h
+    by_ends (Unranked ranks) e none = subst (λ ends. IsSolvedBy (record { choice = r.choice; corner = r.corner; ends = ends }) k spans x s n v) (sym e) (record { grown = h.grown; most = h.most; enough = h.enough; least = h.least })
+    by_ends (Tolled t) e none = cc
+
 -- the only choice of a state is each of those that count
-pub solved_only : RowLaws → (r : Rule) (k : CaseData) (spans : Spans) → IsCase k → IsInside k.root spans → (x : List ℤ) → AreNumbers k x → (s : ℕ) → s < length k.model.states → length (choices k.model s) ≡ 1 → (v : ℤ) → IsSolved r.corner k spans x s 0 (corner_count k s 0) v → IsSolvedBy r k spans x s (length (choices k.model s)) v
-solved_only laws r k spans is within x numbers s state one v h = subst (λ n. IsSolvedBy r k spans x s n v) (sym one) (solved_by_first laws r k spans is within x numbers s state v h)
+pub solved_only : RowLaws → (r : Rule) (k : CaseData) (spans : Spans) → IsCase k → IsInside k.root spans → (x : List ℤ) → AreNumbers k x → (s : ℕ) → s < length k.model.states → length (choices k.model s) ≡ 1 → (v : ℤ) → IsSolved r.corner k spans x s 0 (corner_count k s 0) v → IsSolvedBy (untolled r) k spans x s (length (choices k.model s)) v
+solved_only laws r k spans is within x numbers s state one v h = subst (λ n. IsSolvedBy (untolled r) k spans x s n v) (sym one) (solved_by_first laws (untolled r) k spans is within x numbers s state v h)
 
 -- ---- other states
 
@@ -242,16 +253,16 @@ leads_inside m q i at = ⊎_elim
 
 -- a state that doesn't lead to the one that rose keeps what it has enough
 pub enough_kept : (t : TableData) (spans : Spans) (x y : List ℤ) (q s : ℕ) → q ≢ s → (Leads t.case.model q s → ⊥) → ((i : ℕ) → i ≢ s → number y i ≡ number x i) → HasEnough t.rule t.case spans x q → HasEnough t.rule t.case spans y q
-enough_kept t spans x y q s differs none other h free = across_map t.rule.choice (length (choices t.case.model q)) (λ b. IsEnoughFor t.rule.corner t.case spans x q b) (λ b. IsEnoughFor t.rule.corner t.case spans y q b) (λ b lt at_row.
+enough_kept t spans x y q s differs none other h free = across_map t.rule.choice (length (choices t.case.model q)) (λ b. IsEnoughFor t.rule t.case spans x q b) (λ b. IsEnoughFor t.rule t.case spans y q b) (λ b lt at_row.
     let k = t.case in
     let row = row_at k.model q b in
-    across_map t.rule.corner (corner_count k q b) (IsEnoughAt k spans x q b (number x q)) (IsEnoughAt k spans y q b (number y q))
+    across_map t.rule.corner (corner_count k q b) (IsEnoughBy t.rule.ends k spans x q b (number x q)) (IsEnoughBy t.rule.ends k spans y q b (number y q))
     (λ c at le.
     let v = corner k.d spans (support row) c in
     let d = number y s -ℤ number x s in
     let sum = sum_moved (number x) (number y) (only_at s) d (moves_at v row) moved in
     let nothing = own_none v s row (λ into. none (row_leads k.model q b s lt into)) in
-    omega (arith, linear, le, sum, ap (λ m. d *ℤ m) nothing, mul-zero d, ap (λ m. m *ℤ row_whole k q b) (other q differs))) at_row) (h free)
+    enough_same k spans q b t.rule.ends x y (number x q) (number y q) c (omega (arith, linear, sum, ap (λ m. d *ℤ m) nothing, mul-zero d)) (other q differs) le) at_row) (h free)
   where
     moved : (i : ℕ) → number y i ≡ number x i +ℤ (number y s -ℤ number x s) *ℤ only_at s i
     moved i = ⊎_elim

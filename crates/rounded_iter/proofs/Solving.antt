@@ -23,7 +23,10 @@ use Rattle.corner_lift.specs.Quotient.{IsRoundedUp, IsRoundedUpFrom}
 use Rattle.corner_lift.specs.Laws.{HasRow, ParametersAreTheRoots, NumbersAreInRange, SumsAreInRange, SumsRise, WeightsSumToWhole}
 use Rattle.float_guess.specs.declared.rule.Extreme.{Extreme}
 use Rattle.float_guess.specs.declared.rule.Extreme.TheVariants.{Greatest, Least}
-use Rattle.rounded_iter.specs.Rising.{Across, IsExtreme, IsMoreExtreme, IsEnoughAt, SolvesAt, IsSolved}
+use Rattle.float_guess.specs.declared.rule.Ends.{Ends}
+use Rattle.float_guess.specs.declared.rule.Ends.TheVariants.{Goals, Unranked, Tolled}
+use Rattle.float_guess.specs.Rule.{added}
+use Rattle.rounded_iter.specs.Rising.{Across, IsExtreme, IsMoreExtreme, IsEnoughAt, IsEnoughWith, IsEnoughBy, SolvesBy, SolvesAt, IsSolvedFor, IsSolved}
 
 -- ---- order
 
@@ -177,6 +180,15 @@ extreme_attained Least value n z is = is.attained
 
 -- ---- a row
 
+-- what is enough stays so where neither the sum nor the number changes
+pub enough_same : (k : CaseData) (spans : Spans) (s a : ℕ) (ends : Ends) (x y : List ℤ) (m n : ℤ) (c : ℕ) → row_value k spans s a y c ≡ row_value k spans s a x c → n ≡ m → IsEnoughBy ends k spans x s a m c → IsEnoughBy ends k spans y s a n c
+enough_same k spans s a Goals x y m n c sum same h = omega (arith, linear, h, sum, ap (λ i. i *ℤ row_whole k s a) same)
+enough_same k spans s a (Unranked ranks) x y m n c sum same h = omega (arith, linear, h, sum, ap (λ i. i *ℤ row_whole k s a) same)
+enough_same k spans s a (Tolled t) x y m n c sum same h = with_toll (added k (Tolled t) s) h
+  where
+    with_toll : (toll : ℤ) → IsEnoughWith toll k spans x s a m c → IsEnoughWith toll k spans y s a n c
+    with_toll toll h = λ below. omega (arith, linear, h (omega (arith, linear, same, below)), sum, ap (λ i. i *ℤ row_whole k s a) same)
+
 -- the laws of rows that a raise rests on
 pub record RowLaws : Type 0 where
   pub parameters : ParametersAreTheRoots
@@ -238,17 +250,28 @@ module _ (laws : RowLaws) (k : CaseData) (spans : Spans) (is : IsCase k) (within
   pub own_most : (c : ℕ) → c < corner_count k s a → own c ≤ℤ full
   own_most c lt = omega (arith, linear, full_sum c lt, laws.rise k spans s a c (only_at s) (λ t. pos 1) is within row_of (only_most s))
 
-  -- what is enough stays so where no number rises more than the state's own
-  pub enough_shifted : (x y : List ℤ) (d : ℤ) → ((t : ℕ) → number y t ≤ℤ (number x t +ℤ d)) → number y s ≡ number x s +ℤ d → (c : ℕ) → c < corner_count k s a → IsEnoughAt k spans x s a (number x s) c → IsEnoughAt k spans y s a (number y s) c
-  enough_shifted x y d le own_is c lt h =
+  -- the sum rises by no more than d times the whole, where no number rises by more than d
+  sum_shifted : (x y : List ℤ) (d : ℤ) → ((t : ℕ) → number y t ≤ℤ (number x t +ℤ d)) → number y s ≡ number x s +ℤ d → (c : ℕ) → c < corner_count k s a → (row_value k spans s a y c +ℤ number x s *ℤ full) ≤ℤ (row_value k spans s a x c +ℤ number y s *ℤ full)
+  sum_shifted x y d le own_is c lt =
       let up : corner_sum k.d spans row c (number y) ≤ℤ corner_sum k.d spans row c (λ t. number x t +ℤ d) = laws.rise k spans s a c (number y) (λ t. number x t +ℤ d) is within row_of le in
       let ones : corner_sum k.d spans row c (λ t. number x t +ℤ d) ≡ corner_sum k.d spans row c (number x) +ℤ d *ℤ corner_sum k.d spans row c (λ t. pos 1) =
       sum_moved (number x) (λ t. number x t +ℤ d) (λ t. pos 1) d (moves_at (corner k.d spans (support row) c) row) (λ t. omega (arith, linear, mul-comm d (pos 1), one-mul d)) in
       let product : number y s *ℤ full ≡ number x s *ℤ full +ℤ d *ℤ full = ap (λ n. n *ℤ full) own_is ∙ split (number x s) d full in
-      omega (arith, linear, up, ones, ap (λ n. d *ℤ n) (full_sum c lt), product, h)
+      omega (arith, linear, up, ones, ap (λ n. d *ℤ n) (full_sum c lt), product)
     where
       split : (p q r : ℤ) → (p +ℤ q) *ℤ r ≡ p *ℤ r +ℤ q *ℤ r
       split p q r = mul-comm (p +ℤ q) r ∙ mul-add r p q ∙ ap₂ ◌+ℤ◌ (mul-comm r p) (mul-comm r q)
+
+  enough_with_shifted : (toll : ℤ) (x y : List ℤ) (d : ℤ) → pos 0 ≤ℤ d → ((t : ℕ) → number y t ≤ℤ (number x t +ℤ d)) → number y s ≡ number x s +ℤ d → (c : ℕ) → c < corner_count k s a → IsEnoughWith toll k spans x s a (number x s) c → IsEnoughWith toll k spans y s a (number y s) c
+  enough_with_shifted toll x y d least le own_is c lt h = λ below.
+      let before : number x s <ℤ top = omega (arith, linear, below, own_is, least) in
+      omega (arith, linear, h before, sum_shifted x y d le own_is c lt)
+
+  -- what is enough stays so where no number rises more than the state's own
+  pub enough_shifted : (ends : Ends) (x y : List ℤ) (d : ℤ) → pos 0 ≤ℤ d → ((t : ℕ) → number y t ≤ℤ (number x t +ℤ d)) → number y s ≡ number x s +ℤ d → (c : ℕ) → c < corner_count k s a → IsEnoughBy ends k spans x s a (number x s) c → IsEnoughBy ends k spans y s a (number y s) c
+  enough_shifted Goals x y d least le own_is c lt h = omega (arith, linear, h, sum_shifted x y d le own_is c lt)
+  enough_shifted (Unranked ranks) x y d least le own_is c lt h = omega (arith, linear, h, sum_shifted x y d le own_is c lt)
+  enough_shifted (Tolled t) x y d least le own_is c lt h = enough_with_shifted (added k (Tolled t) s) x y d least le own_is c lt h
 
   module _ (x : List ℤ) (numbers : AreNumbers k x) where
     pub in_lane : s < length x
@@ -281,13 +304,13 @@ module _ (laws : RowLaws) (k : CaseData) (spans : Spans) (is : IsCase k) (within
     abbrev S : ℕ → ℤ
     S c = row_value k spans s a x c
 
-    set_below : (v : ℤ) (y : List ℤ) → AtMost x y → v ≡ number y s → (t : ℕ) → number (set x s v) t ≤ℤ number y t
+    pub set_below : (v : ℤ) (y : List ℤ) → AtMost x y → v ≡ number y s → (t : ℕ) → number (set x s v) t ≤ℤ number y t
     set_below v y le e t = ⊎_elim
         (λ (same : t ≡ s). subst (λ u. number (set x s v) u ≤ℤ number y u) (sym same) (let lt = in_lane in rw get_or-set_same (omega (arith, linear, e))))
         (λ (ne : t ≢ s). rw get_or-set_other (le t))
         (same_or_not t s)
 
-    n_range : (pos 0 ≤ℤ n) × (n ≤ℤ top)
+    pub n_range : (pos 0 ≤ℤ n) × (n ≤ℤ top)
     n_range = laws.numbers k x s numbers
 
     pub n_least : pos 0 ≤ℤ n
@@ -347,48 +370,62 @@ module _ (laws : RowLaws) (k : CaseData) (spans : Spans) (is : IsCase k) (within
 
     -- ---- all corners that count
 
-    pub solved_first : (e : Extreme) (v : ℤ) → SolvesAt k spans x s a 0 v → IsSolved e k spans x s a 1 v
-    solved_first Greatest v h = record {
+    pub solved_first : (ends : Ends) (e : Extreme) (v : ℤ) → SolvesBy ends k spans x s a 0 v → IsSolvedFor ends e k spans x s a 1 v
+    solved_first ends Greatest v h = record {
       grown = h.grown;
       most = h.most;
-      enough = λ c lt. subst (λ i. IsEnoughAt k spans (set x s v) s a v i) (let z : 0 ≡ c = omega (arith, lt) in z) h.enough;
+      enough = λ c lt. subst (λ i. IsEnoughBy ends k spans (set x s v) s a v i) (let z : 0 ≡ c = omega (arith, lt) in z) h.enough;
       least = λ y at all. h.least y at (all 0 (omega arith));
     }
-    solved_first Least v h = record {
+    solved_first ends Least v h = record {
       grown = h.grown;
       most = h.most;
       enough = (0, (omega arith, h.enough));
-      least = λ y at one. h.least y at (subst (λ i. IsEnoughAt k spans y s a (number y s) i) (let z : one.0 ≡ 0 = omega (arith, one.1.0) in z) one.1.1);
+      least = λ y at one. h.least y at (subst (λ i. IsEnoughBy ends k spans y s a (number y s) i) (let z : one.0 ≡ 0 = omega (arith, one.1.0) in z) one.1.1);
     }
 
     -- a number that is enough for a corner stays so when it rises
-    pub risen : (u v : ℤ) (c : ℕ) → c < corner_count k s a → u ≤ℤ v → IsEnoughAt k spans (set x s u) s a u c → IsEnoughAt k spans (set x s v) s a v c
-    risen u v c lt le h =
-        omega (arith, linear, h, value_set u c, value_set v c, mul-le (v -ℤ u) (own c) full (omega (arith, linear, le)) (own_most c lt), less-mul v u (own c), less-mul v u full)
+    sum_risen : (u v : ℤ) (c : ℕ) → c < corner_count k s a → u ≤ℤ v → (row_value k spans s a (set x s v) c +ℤ u *ℤ full) ≤ℤ (row_value k spans s a (set x s u) c +ℤ v *ℤ full)
+    sum_risen u v c lt le =
+        omega (arith, linear, value_set u c, value_set v c, mul-le (v -ℤ u) (own c) full (omega (arith, linear, le)) (own_most c lt), less-mul v u (own c), less-mul v u full)
 
-    pub solved_more : (e : Extreme) (i : ℕ) (u v z : ℤ) → i < corner_count k s a → IsSolved e k spans x s a i u → SolvesAt k spans x s a i v → IsMoreExtreme e u v z → IsSolved e k spans x s a (i + 1) z
-    solved_more Greatest i u v z lt h g o = record {
+    pub risen : (ends : Ends) (u v : ℤ) (c : ℕ) → c < corner_count k s a → u ≤ℤ v → IsEnoughBy ends k spans (set x s u) s a u c → IsEnoughBy ends k spans (set x s v) s a v c
+    risen Goals u v c lt le h = omega (arith, linear, h, sum_risen u v c lt le)
+    risen (Unranked ranks) u v c lt le h = omega (arith, linear, h, sum_risen u v c lt le)
+    risen (Tolled t) u v c lt le h = with_toll (added k (Tolled t) s) h
+      where
+        with_toll : (toll : ℤ) → IsEnoughWith toll k spans (set x s u) s a u c → IsEnoughWith toll k spans (set x s v) s a v c
+        with_toll toll h = λ below. omega (arith, linear, h (omega (arith, linear, le, below)), sum_risen u v c lt le)
+
+    -- 2 ^ w is enough
+    pub top_enough : (ends : Ends) (v : ℤ) (c : ℕ) → v ≡ top → IsEnoughBy ends k spans x s a v c
+    top_enough Goals v c same = omega (arith, linear, (value_range c).1, ap (λ m. m *ℤ full) same)
+    top_enough (Unranked ranks) v c same = omega (arith, linear, (value_range c).1, ap (λ m. m *ℤ full) same)
+    top_enough (Tolled t) v c same = λ below. absurd (omega (arith, linear, below, same))
+
+    pub solved_more : (ends : Ends) (e : Extreme) (i : ℕ) (u v z : ℤ) → i < corner_count k s a → IsSolvedFor ends e k spans x s a i u → SolvesBy ends k spans x s a i v → IsMoreExtreme e u v z → IsSolvedFor ends e k spans x s a (i + 1) z
+    solved_more ends Greatest i u v z lt h g o = record {
       grown = omega (arith, linear, h.grown, o.0);
       most = ⊎_elim (λ (e : z ≡ u). omega (arith, linear, e, h.most)) (λ (e : z ≡ v). omega (arith, linear, e, g.most)) o.2;
       enough = λ c less. ⊎_elim
-          (λ (before : c < i). risen u z c (omega (arith, before, lt)) o.0 (h.enough c before))
-          (λ (here : c ≡ i). subst (λ j. IsEnoughAt k spans (set x s z) s a z j) (sym here) (risen v z i lt o.1 g.enough))
+          (λ (before : c < i). risen ends u z c (omega (arith, before, lt)) o.0 (h.enough c before))
+          (λ (here : c ≡ i). subst (λ j. IsEnoughBy ends k spans (set x s z) s a z j) (sym here) (risen ends v z i lt o.1 g.enough))
           (one_more c i less);
       least = λ y at all.
           let first = h.least y at (λ c less. all c (omega (arith, less))) in
           let second = g.least y at (all i (omega arith)) in
           ⊎_elim (λ (e : z ≡ u). omega (arith, linear, e, first)) (λ (e : z ≡ v). omega (arith, linear, e, second)) o.2;
     }
-    solved_more Least i u v z lt h g o = record {
+    solved_more ends Least i u v z lt h g o = record {
       grown = ⊎_elim (λ (e : z ≡ u). omega (arith, linear, e, h.grown)) (λ (e : z ≡ v). omega (arith, linear, e, g.grown)) o.2;
       most = omega (arith, linear, h.most, o.0);
       enough = ⊎_elim
-          (λ (e : z ≡ u). (h.enough.0, (omega (arith, h.enough.1.0), subst (λ m. IsEnoughAt k spans (set x s m) s a m h.enough.0) (sym e) h.enough.1.1)))
-          (λ (e : z ≡ v). (i, (omega arith, subst (λ m. IsEnoughAt k spans (set x s m) s a m i) (sym e) g.enough)))
+          (λ (e : z ≡ u). (h.enough.0, (omega (arith, h.enough.1.0), subst (λ m. IsEnoughBy ends k spans (set x s m) s a m h.enough.0) (sym e) h.enough.1.1)))
+          (λ (e : z ≡ v). (i, (omega arith, subst (λ m. IsEnoughBy ends k spans (set x s m) s a m i) (sym e) g.enough)))
           o.2;
       least = λ y at one. ⊎_elim
           (λ (before : one.0 < i). omega (arith, linear, o.0, h.least y at (one.0, (before, one.1.1))))
-          (λ (here : one.0 ≡ i). omega (arith, linear, o.1, g.least y at (subst (λ j. IsEnoughAt k spans y s a (number y s) j) here one.1.1)))
+          (λ (here : one.0 ≡ i). omega (arith, linear, o.1, g.least y at (subst (λ j. IsEnoughBy ends k spans y s a (number y s) j) here one.1.1)))
           (one_more one.0 i one.1.0);
     }
 

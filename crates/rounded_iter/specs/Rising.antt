@@ -1,5 +1,5 @@
--- What the iteration keeps: a vector at or below every bound, which can only rise. Which choice and which corner count is said by a rule, and so is which numbers are given. A bound is an upper vector where each choice counts, the greatest corner does, and goal states have 2 ^ w; it is a value vector where the least corner does, and an upper vector for some scheduler where one choice does.
-use Rattle.std.specs.Prelude.{◌≡◌, ℕ, ◌+◌, ◌<◌, ◌^◌, ◌⊎◌, Bool, true, false, List, [], ◌∷◌, ℤ, pos, ◌-ℤ◌, ◌*ℤ◌, ◌≤ℤ◌, ◌<ℤ◌, nat_abs, length, slice_set, Contains}
+-- What the iteration keeps: a vector at or below every bound, which can only rise. Which choice and which corner count is said by a rule, and so is which numbers are given and what a visit adds. A bound is an upper vector where each choice counts, the greatest corner does, and goal states have 2 ^ w; it is a value vector where the least corner does, and an upper vector for some scheduler where one choice does.
+use Rattle.std.specs.Prelude.{◌≡◌, ℕ, ◌+◌, ◌<◌, ◌^◌, ◌⊎◌, Bool, true, false, List, [], ◌∷◌, ℤ, pos, ◌+ℤ◌, ◌-ℤ◌, ◌*ℤ◌, ◌≤ℤ◌, ◌<ℤ◌, nat_abs, length, slice_set, Contains}
 use Rattle.lift_grid.specs.Rectangle.{Spans}
 use Rattle.lift_model.specs.Model.{choices, row_at}
 use Rattle.lift_model.specs.Links.{LinksData, AreLinks, HasChoice, targets_of}
@@ -8,8 +8,10 @@ use Rattle.corner_lift.specs.Certificate.{AreNumbers, AtMost}
 use Rattle.corner_lift.specs.Table.{IsTable}
 use Rattle.float_guess.specs.declared.rule.Extreme.{Extreme}
 use Rattle.float_guess.specs.declared.rule.Extreme.TheVariants.{Greatest, Least}
+use Rattle.float_guess.specs.declared.rule.Ends.{Ends}
+use Rattle.float_guess.specs.declared.rule.Ends.TheVariants.{Goals, Unranked, Tolled}
 use Rattle.float_guess.specs.declared.rule.Rule.{Rule}
-use Rattle.float_guess.specs.Rule.{is_given, given}
+use Rattle.float_guess.specs.Rule.{is_given, given, added}
 
 -- the rows of a case, their weights in a rectangle, by which rule vectors are raised, and where an iteration may stop
 pub record TableData : Type 0 where
@@ -46,13 +48,27 @@ IsMoreExtreme Least a b z = (z ≤ℤ a) × (z ≤ℤ b) × ((z ≡ a) ⊎ (z �
 abbrev pub IsEnoughAt : CaseData → Spans → List ℤ → ℕ → ℕ → ℤ → ℕ → Type 0
 IsEnoughAt k spans x s a n c = row_value k spans s a x c ≤ℤ (n *ℤ row_whole k s a)
 
+-- the same with a toll, if the number is below 2 ^ w: numbers are cut off there
+abbrev pub IsEnoughWith : ℤ → CaseData → Spans → List ℤ → ℕ → ℕ → ℤ → ℕ → Type 0
+IsEnoughWith toll k spans x s a n c = n <ℤ pos (2 ^ k.w) → (row_value k spans s a x c +ℤ toll *ℤ row_whole k s a) ≤ℤ (n *ℤ row_whole k s a)
+
+-- which of both a rule asks for
+abbrev pub IsEnoughBy : Ends → CaseData → Spans → List ℤ → ℕ → ℕ → ℤ → ℕ → Type 0
+IsEnoughBy Goals k spans x s a n = IsEnoughAt k spans x s a n
+IsEnoughBy (Unranked ranks) k spans x s a n = IsEnoughAt k spans x s a n
+IsEnoughBy (Tolled t) k spans x s a n = IsEnoughWith (added k (Tolled t) s) k spans x s a n
+
+-- the rule without tolls
+abbrev pub untolled : Rule → Rule
+untolled r = record { choice = r.choice; corner = r.corner; ends = Goals }
+
 -- the state's number is enough for the choice at the corners that count
-abbrev pub IsEnoughFor : Extreme → CaseData → Spans → List ℤ → ℕ → ℕ → Type 0
-IsEnoughFor e k spans x s a = Across e (corner_count k s a) (IsEnoughAt k spans x s a (number x s))
+abbrev pub IsEnoughFor : Rule → CaseData → Spans → List ℤ → ℕ → ℕ → Type 0
+IsEnoughFor r k spans x s a = Across r.corner (corner_count k s a) (IsEnoughBy r.ends k spans x s a (number x s))
 
 -- the state's number is enough for the choices that count
 abbrev pub IsEnough : Rule → CaseData → Spans → List ℤ → ℕ → Type 0
-IsEnough r k spans x s = Across r.choice (length (choices k.model s)) (λ a. IsEnoughFor r.corner k spans x s a)
+IsEnough r k spans x s = Across r.choice (length (choices k.model s)) (λ a. IsEnoughFor r k spans x s a)
 
 -- a state has the number that is given for it, if one is
 abbrev pub HasGiven : Rule → CaseData → List ℤ → ℕ → Type 0
@@ -117,25 +133,33 @@ pub record CanSolve (t : TableData) (spans : Spans) (x : List ℤ) (s a c : ℕ)
   pub corner : c < corner_count t.case s a
 
 -- in place of the state's number, v is enough for the choice at the corner, and no vector from x on has less that is enough there
-pub record SolvesAt (k : CaseData) (spans : Spans) (x : List ℤ) (s a c : ℕ) (v : ℤ) : Type 0 where
+pub record SolvesBy (ends : Ends) (k : CaseData) (spans : Spans) (x : List ℤ) (s a c : ℕ) (v : ℤ) : Type 0 where
   pub grown : number x s ≤ℤ v
   pub most : v ≤ℤ pos (2 ^ k.w)
-  pub enough : IsEnoughAt k spans (slice_set x s v) s a v c
-  pub least : (y : List ℤ) → AtMost x y → IsEnoughAt k spans y s a (number y s) c → v ≤ℤ number y s
+  pub enough : IsEnoughBy ends k spans (slice_set x s v) s a v c
+  pub least : (y : List ℤ) → AtMost x y → IsEnoughBy ends k spans y s a (number y s) c → v ≤ℤ number y s
 
 -- the same at the corners of so many that count
-pub record IsSolved (e : Extreme) (k : CaseData) (spans : Spans) (x : List ℤ) (s a n : ℕ) (v : ℤ) : Type 0 where
+pub record IsSolvedFor (ends : Ends) (e : Extreme) (k : CaseData) (spans : Spans) (x : List ℤ) (s a n : ℕ) (v : ℤ) : Type 0 where
   pub grown : number x s ≤ℤ v
   pub most : v ≤ℤ pos (2 ^ k.w)
-  pub enough : Across e n (IsEnoughAt k spans (slice_set x s v) s a v)
-  pub least : (y : List ℤ) → AtMost x y → Across e n (IsEnoughAt k spans y s a (number y s)) → v ≤ℤ number y s
+  pub enough : Across e n (IsEnoughBy ends k spans (slice_set x s v) s a v)
+  pub least : (y : List ℤ) → AtMost x y → Across e n (IsEnoughBy ends k spans y s a (number y s)) → v ≤ℤ number y s
 
 -- the same for the first choices, so many, of which those count that the rule says
 pub record IsSolvedBy (r : Rule) (k : CaseData) (spans : Spans) (x : List ℤ) (s n : ℕ) (v : ℤ) : Type 0 where
   pub grown : number x s ≤ℤ v
   pub most : v ≤ℤ pos (2 ^ k.w)
-  pub enough : Across r.choice n (λ a. Across r.corner (corner_count k s a) (IsEnoughAt k spans (slice_set x s v) s a v))
-  pub least : (y : List ℤ) → AtMost x y → Across r.choice n (λ a. IsEnoughFor r.corner k spans y s a) → v ≤ℤ number y s
+  pub enough : Across r.choice n (λ a. Across r.corner (corner_count k s a) (IsEnoughBy r.ends k spans (slice_set x s v) s a v))
+  pub least : (y : List ℤ) → AtMost x y → Across r.choice n (λ a. IsEnoughFor r k spans y s a) → v ≤ℤ number y s
+
+-- at one corner, without tolls
+abbrev pub SolvesAt : CaseData → Spans → List ℤ → ℕ → ℕ → ℕ → ℤ → Type 0
+SolvesAt k spans x s a c v = SolvesBy Goals k spans x s a c v
+
+-- at the corners of so many that count, without tolls
+abbrev pub IsSolved : Extreme → CaseData → Spans → List ℤ → ℕ → ℕ → ℕ → ℤ → Type 0
+IsSolved e k spans x s a n v = IsSolvedFor Goals e k spans x s a n v
 
 -- by how much a vector can rise in all: the measure of the iteration
 abbrev pub room : ℕ → List ℤ → ℕ

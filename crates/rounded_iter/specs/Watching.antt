@@ -8,8 +8,8 @@ use Rattle.corner_lift.specs.Table.{IsTable}
 use Rattle.corner_lift.specs.Certificate.{AreNumbers, AtMost, IsUpper, IsLeastUpper}
 use Rattle.float_guess.specs.declared.rule.Ends.{Ends}
 use Rattle.float_guess.specs.declared.rule.Rule.{Rule}
-use Rattle.float_guess.specs.Rule.{is_given, given}
-use Rattle.float_guess.specs.Notes.{low_word}
+use Rattle.float_guess.specs.Rule.{is_given, given, has_tolls}
+use Rattle.float_guess.specs.Notes.{low_word, noted_word}
 use Rattle.rounded_iter.specs.declared.table.Ended.{Ended}
 use Rattle.rounded_iter.specs.declared.table.Ended.TheVariants.{Settled, Past, Slow}
 use Rattle.rounded_iter.specs.Rising.{TableData, IsRead, Run, HasGiven, IsBelow, IsEnoughEverywhere, IsLeastBound, HasEnough, room}
@@ -35,10 +35,11 @@ pub record CanRaise (t : TableData) (run : Run) (x : List ℤ) (s : ℕ) : Type 
   pub state : s < count t
   pub below : IsBelow t.rule t.case run x
 
--- what it needs to raise one whose number isn't given, or is 2 ^ w
-pub record CanRaiseFree (t : TableData) (run : Run) (x : List ℤ) (s : ℕ) : Type 0 where
+-- what it needs to raise one whose number isn't given, or is 2 ^ w, by a rule with tolls or without
+pub record CanRaiseFree (t : TableData) (run : Run) (x : List ℤ) (s : ℕ) (tolled : Bool) : Type 0 where
   pub can : CanRaise t run x s
   pub free : is_given t.case.model t.rule.ends s ≡ true → given t.case t.rule.ends s ≡ pos (2 ^ t.case.w)
+  pub tolls : has_tolls t.rule.ends ≡ tolled
 
 -- the number of s was raised to what is enough, unless it is given
 pub record IsRaisedState (t : TableData) (run : Run) (old new : List ℤ) (s : ℕ) (rose : Bool) : Type 0 where
@@ -195,11 +196,11 @@ pub record CanConfirm (t : TableData) (spans : Spans) (x : List ℤ) (flags note
 
 -- the low bits of the first numbers were noted, so many of them
 abbrev pub AreNoted : List ℤ → List ℕ → ℕ → Type 0
-AreNoted x noted n = (s : ℕ) → s < n → flag noted s ≡ low_word (number x s)
+AreNoted x noted n = (s : ℕ) → s < n → noted_word (flag noted s) ≡ low_word (number x s)
 
 -- The guess at a state, of which that was noted, is no fault: the number rose above it, or it is at most every bound there, as 0 is, and a number that is given.
 abbrev pub IsSure : Rule → CaseData → List ℕ → List ℤ → ℕ → Type 0
-IsSure r k noted x s = (flag noted s ≢ low_word (number x s)) ⊎ ((number x s ≡ pos 0) ⊎ (is_given k.model r.ends s ≡ true))
+IsSure r k noted x s = (noted_word (flag noted s) ≢ low_word (number x s)) ⊎ ((number x s ≡ pos 0) ⊎ (is_given k.model r.ends s ≡ true))
 
 -- what it needs to test that
 pub record CanTest (t : TableData) (x : List ℤ) (noted : List ℕ) : Type 0 where

@@ -3,19 +3,23 @@
 
 ghost use Rattle.std.specs.Prelude.{◌≡◌, ◌≤ℤ◌, ◌^◌, ◌<◌, ℕ, pos, length, IsTrue, IfSome, IsSome, Bool, true, false, Some};
 ghost use Rattle.lift_grid.specs.Rectangle.{Spans};
+ghost use Rattle.lift_model.specs.Links.{AreLinks};
 ghost use Rattle.corner_lift.specs.Case.{number};
 ghost use Rattle.rounded_iter.specs.Rising.{IsBelow, IsLeastBound, Run};
 ghost use Rattle.rounded_iter.specs.Watching.{CanStart, HasGoals, CanClimb, CanRise, CanFind, IsFound, CanGuess, IsGuess, CanConfirm, CanTest, AreNoted, IsSure, IsClimbed, first_number, from_zero};
 
 use crate::table::{Ended, Table};
 use corner_lift::{corners_bound_weights, rows_at_corners};
-use float_guess::{Ends, Rounding, Shares, Way, guess_part, low_word_of};
+use float_guess::{Ends, Note, Rounding, Way, guess_part, lessen_share, make_shares_whole};
 
 /// How many passes over a component are made before the first guess.
 const FIRST_PATIENCE: u32 = 32;
 
+/// As many passes are made at first as there are numbers, where these are no more: no state rises more often.
+const FEW_NUMBERS: i64 = 1024;
+
 /// How many times as many are made each time that a guess fails.
-const PATIENCE_STEP: u32 = 4;
+const PATIENCE_STEP: u32 = 64;
 
 /// How many sweeps are made for a guess, for each pass that there is patience for.
 const SWEEPS_A_PASS: u32 = 16;
@@ -26,22 +30,19 @@ const RAISES_A_PASS: u32 = 32;
 /// How many passes raise a guess by elimination.
 const RAISES: u32 = 16384;
 
-/// How many raise it at a share that a few tries tell, before it has to lie at or below each bound.
-const SHARE_RAISES: u32 = 256;
-
-/// All states but one in so many rose, where a guess that took too many passes counts as too low.
-const MOSTLY: u32 = 16;
-
-/// How many guesses by elimination are tried, to find one from which it takes few passes, and so many.
-const TRIES: u32 = 12;
+/// How many moved guesses are tried, until one is no fault after so many passes.
+const TRIES: u32 = 8;
 
 const TRY_RAISES: u32 = 64;
+
+/// How many more passes there are for each state on which a fault has an effect.
+const SPREAD_RAISES: u32 = 8;
 
 /// How many passes are made before it is asked whether a guess was no fault.
 const FEW_RAISES: [u32; 3] = [8, 16, 32];
 
 /// How many guesses are made.
-const GUESSES: u32 = 5;
+const GUESSES: u32 = 3;
 
 /// Of which components there is a guess.
 #[derive(Clone, Copy)]
@@ -68,17 +69,6 @@ pub(crate) enum Raised {
     Nothing,
 }
 
-/// What came of some tries.
-#[derive(Clone, Copy)]
-enum Tried {
-    /// The least bound: whether the initial state's number is within the limit.
-    Found(bool),
-    /// A share to move a guess by that is likely to do, and one by which it lay at or below each bound, or none.
-    Shares { likely: u32, sure: u32 },
-    /// Nothing.
-    Nothing,
-}
-
 /// Notes the low bits of each number.
 fn note(lane: &[i64], noted: &mut [u32])
     requires sizes { length noted.old ≡ length lane.now }
@@ -86,7 +76,7 @@ fn note(lane: &[i64], noted: &mut [u32])
     ensures { AreNoted lane.now noted.new (length lane.now) }
 {
     for s in 0..lane.len() {
-        noted[s] = low_word_of(lane[s]);
+        noted[s] = Note { bits: noted[s] }.with_number(lane[s]).bits;
     }
 }
 
@@ -100,6 +90,7 @@ impl Table<'_, '_> {
         let is_one = match self.rule.ends {
             Ends::Goals => model.is_goal(s),
             Ends::Unranked(_) => self.rule.ends.has(model, s) && !model.is_goal(s),
+            Ends::Tolled(_) => false,
         };
         if is_one { self.top } else { 0 }
     }
@@ -141,7 +132,10 @@ impl Table<'_, '_> {
         if number == 0 || self.rule.ends.has(self.rows.model(), s) {
             return true;
         }
-        noted[s as usize] != low_word_of(number)
+        let note = Note {
+            bits: noted[s as usize],
+        };
+        !note.is_of(number)
     }
 
     /// Whether it is at all states.
@@ -158,18 +152,28 @@ impl Table<'_, '_> {
         true
     }
 
-    /// Whether most numbers are others than those that were noted.
-    fn mostly_rose(&self, lane: &[i64], noted: &[u32]) -> bool
-        requires { CanTest self.now lane.now noted.now }
+    /// Makes the share of each state less at which the guess may be a fault, and of so many at later positions.
+    fn lessen_shares(&self, lane: &[i64], noted: &mut [u32], spread: u32)
+        requires can { CanTest self.now lane.now noted.old }
+        ensures { length noted.new ≡ length noted.old }
     {
         let states = self.rows.model().states();
-        let mut rose: u32 = 0;
-        for s in 0..states {
-            if self.is_sure_at(lane, noted, s) {
-                rose = rose.saturating_add(1);
+        let mut left: u32 = 0;
+        for position in 0..states {
+            let s = self
+                .rows
+                .order()
+                .get(position as usize)
+                .copied()
+                .unwrap_or(0);
+            if s < states && !self.is_sure_at(lane, noted, s) {
+                left = spread.saturating_add(1);
+            }
+            if left > 0 {
+                left -= 1;
+                lessen_share(noted, position);
             }
         }
-        rose >= states - states / MOSTLY
     }
 
     /// Raises a vector, of which that was noted, in so many passes at most, or some more. A few are made first: a
@@ -372,8 +376,8 @@ impl Table<'_, '_> {
         }
     }
 
-    /// The same, and tells whether the initial state's number is within the limit. None: no least bound came
-    /// of it for certain.
+    /// The same, to the end once it lies at or below each bound, and tells whether the initial state's number is within
+    /// the limit. None: no least bound came of it for certain.
     fn find_from_guess(
         &self,
         lane: &mut [i64],
@@ -392,17 +396,17 @@ impl Table<'_, '_> {
         match self.rise_from_guess(lane, flags, noted, way, passes) {
             Raised::Least => Some(!self.is_past(lane)),
             Raised::Past => Some(false),
-            Raised::High | Raised::Certain | Raised::Slow | Raised::Nothing => None,
+            Raised::Certain => self.rise(lane, flags, None),
+            Raised::High | Raised::Slow | Raised::Nothing => None,
         }
     }
 
-    /// The same of a guess by elimination, which is raised to the end once it lies at or below each bound.
-    fn find_from_share(
+    /// The same of moved ones, each by lesser shares for the states at which the last one may have been a fault.
+    fn find_from_moved(
         &self,
         lane: &mut [i64],
         flags: &mut [u32],
         noted: &mut [u32],
-        share: u32,
     ) -> Option<bool>
         ghost spans: { Spans }
         requires { CanConfirm self.now spans lane.old flags.old noted.old }
@@ -411,62 +415,22 @@ impl Table<'_, '_> {
     {
         rows_at_corners();
         corners_bound_weights();
-        let way = Way::Elimination(share);
-        match self.rise_from_guess(lane, flags, noted, way, SHARE_RAISES) {
-            Raised::Least => Some(!self.is_past(lane)),
-            Raised::Past => Some(false),
-            Raised::Certain => self.rise(lane, flags, None),
-            Raised::High | Raised::Slow | Raised::Nothing => None,
-        }
-    }
-
-    /// The shares of a unit for each step by which a guess by elimination is best moved, as far as a few tries
-    /// tell; or what the least bound is found to be by one of them.
-    fn try_shares(&self, lane: &mut [i64], flags: &mut [u32], noted: &mut [u32]) -> Tried
-        ghost spans: { Spans }
-        requires { CanConfirm self.now spans lane.old flags.old noted.old }
-        ensures found { (found : Bool) → result ≡ Tried.Found found → IsFound self.now spans lane.new found }
-        ensures guess { IsGuess self.now.rule self.now.case lane.new }
-    {
-        rows_at_corners();
-        corners_bound_weights();
-        let mut shares = Shares::unknown();
-        let mut share = 0;
-        let mut sure = 0;
+        make_shares_whole(noted);
+        let mut spread: u32 = 0;
         for _ in 0..TRIES {
-            let way = Way::Elimination(share);
-            match self.rise_from_guess(lane, flags, noted, way, TRY_RAISES) {
-                Raised::Least => return Tried::Found(!self.is_past(lane)),
-                Raised::Past => return Tried::Found(false),
-                Raised::High => shares = shares.below(share),
-                Raised::Certain => {
-                    if self.is_past(lane) {
-                        return Tried::Found(false);
-                    }
-                    sure = sure.max(share);
-                    shares = shares.above(share);
-                }
-                Raised::Slow => {
-                    shares = if self.mostly_rose(lane, noted) {
-                        shares.above(share)
-                    } else {
-                        shares.below(share)
-                    };
-                }
-                Raised::Nothing => return Tried::Nothing,
+            let passes = TRY_RAISES.saturating_add(SPREAD_RAISES.saturating_mul(spread));
+            let way = Way::MovedElimination;
+            if let Some(found) = self.find_from_guess(lane, flags, noted, way, passes) {
+                return Some(found);
             }
-            match shares.next() {
-                Some(next) => share = next,
-                None => break,
-            }
+            self.lessen_shares(lane, noted, spread);
+            spread = spread.saturating_mul(2).max(1);
         }
-        Tried::Shares {
-            likely: shares.safe(),
-            sure,
-        }
+        None
     }
 
-    /// Raises guesses by elimination. None: no least bound came of them for certain.
+    /// Raises guesses by elimination: moved ones where one that isn't moved lies at or below each bound. None: no
+    /// least bound came of them for certain.
     fn rise_from_guesses(
         &self,
         lane: &mut [i64],
@@ -478,18 +442,23 @@ impl Table<'_, '_> {
         ensures found { IfSome result (λ found. IsFound self.now spans lane.new found) }
         ensures guess { IsGuess self.now.rule self.now.case lane.new }
     {
-        let (likely, sure) = match self.try_shares(lane, flags, noted) {
-            Tried::Found(found) => return Some(found),
-            Tried::Shares { likely, sure } => (likely, sure),
-            Tried::Nothing => return None,
-        };
-        if let Some(found) = self.find_from_share(lane, flags, noted, likely) {
-            return Some(found);
+        rows_at_corners();
+        corners_bound_weights();
+        match self.rise_from_guess(lane, flags, noted, Way::Elimination, TRY_RAISES) {
+            Raised::Least => return Some(!self.is_past(lane)),
+            Raised::Past => return Some(false),
+            Raised::Certain => {
+                if self.is_past(lane) {
+                    return Some(false);
+                }
+                if let Some(found) = self.find_from_moved(lane, flags, noted) {
+                    return Some(found);
+                }
+            }
+            Raised::Slow => {}
+            Raised::High | Raised::Nothing => return None,
         }
-        if let Some(found) = self.find_from_share(lane, flags, noted, sure) {
-            return Some(found);
-        }
-        self.find_from_guess(lane, flags, noted, Way::Elimination(0), RAISES)
+        self.find_from_guess(lane, flags, noted, Way::Elimination, RAISES)
     }
 
     /// Finds the least bound where that takes long, and tells whether the initial state's number in it is
@@ -520,6 +489,14 @@ impl Table<'_, '_> {
         }
     }
 
+    /// How many passes are made before the first guess.
+    fn first_patience(&self) -> u32 {
+        if self.top > FEW_NUMBERS {
+            return FIRST_PATIENCE;
+        }
+        u32::try_from(self.top).unwrap_or(FIRST_PATIENCE)
+    }
+
     /// Raises a vector at or below the least bound to it, and tells whether the initial state's number in
     /// it is within the limit. False: it is above it in every bound.
     pub(crate) fn find(&self, lane: &mut [i64], work: &mut [u32]) -> bool
@@ -529,7 +506,7 @@ impl Table<'_, '_> {
     {
         let states = self.rows.model().states() as usize;
         let (flags, noted) = work.split_at_mut(states);
-        if let Some(found) = self.rise(lane, flags, Some(FIRST_PATIENCE)) {
+        if let Some(found) = self.rise(lane, flags, Some(self.first_patience())) {
             return found;
         }
         self.find_slow(lane, flags, noted)

@@ -3,8 +3,11 @@
 
 mod find;
 mod least;
+mod priced;
 mod solve;
 mod table;
+mod toll;
 mod worklist;
 
 pub use least::{least_bound, least_upper, least_upper_from, least_upper_within, least_value};
+pub use priced::least_priced;

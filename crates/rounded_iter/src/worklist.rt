@@ -1,12 +1,12 @@
 //! An iteration that looks at a state again only where one that it leads to rose. Each position in the
 //! order of states has a flag, which says that its state may have to rise.
 
-ghost use Rattle.std.specs.Prelude.{◌≡◌, ◌≢◌, ◌+◌, ◌^◌, ◌<◌, ◌≤ℤ◌, ◌<ℤ◌, ℕ, true, pos, length, slice_index_or, slice_set, IsTrue, IsFalse, IsSome};
+ghost use Rattle.std.specs.Prelude.{◌≡◌, ◌≢◌, ◌+◌, ◌^◌, ◌<◌, ◌≤ℤ◌, ◌<ℤ◌, ℕ, true, false, pos, length, slice_index_or, slice_set, IsTrue, IsFalse, IsSome};
 ghost use Rattle.corner_lift.specs.Case.{number};
 ghost use Rattle.lift_grid.specs.Rectangle.{Spans};
 ghost use Rattle.lift_model.specs.Model.{choices};
 ghost use Rattle.float_guess.specs.Rule.{is_given, given};
-ghost use Rattle.rounded_iter.specs.Rising.{Run, CanTryOnly, IsSolvedBy};
+ghost use Rattle.rounded_iter.specs.Rising.{Run, CanTryOnly, IsSolvedBy, untolled};
 ghost use Rattle.rounded_iter.specs.Watching.{CanRaise, CanRaiseFree, IsRaisedState, CanFlag, IsFlagged, CanVisit, IsVisited, CanTurn, IsTurned, CanPass, IsPassed, IsSettled, CanGoOn, IsKept, CanClimb, IsClimbed, flag};
 
 use crate::solve::more_extreme;
@@ -44,7 +44,7 @@ fn take_flag(work: &mut [u32], position: u32) -> bool
 
 /// Writes the number of a state, and tells whether it is another one.
 #[inline(always)]
-fn write_number(lane: &mut [i64], s: u32, number: i64) -> bool
+pub(crate) fn write_number(lane: &mut [i64], s: u32, number: i64) -> bool
     requires { s < length lane.old }
     ensures written { lane.new ≡ slice_set lane.old s number }
     ensures other { IsTrue result → number ≢ slice_index_or lane.old s (pos 0) }
@@ -79,12 +79,12 @@ fn is_over(passes: u32, patience: Option<u32>) -> bool
 }
 
 impl Table<'_, '_> {
-    /// The least number from the state's own on that is enough for the choices that count.
+    /// The least number from the state's own on that is enough for the choices that count, without tolls.
     #[inline(always)]
     fn enough_for_state(&self, lane: &[i64], s: u32) -> i64
         ghost spans: { Spans }
         requires { CanTryOnly self.now spans lane.now s }
-        ensures { IsSolvedBy self.now.rule self.now.case spans lane.now s
+        ensures { IsSolvedBy (untolled self.now.rule) self.now.case spans lane.now s
             (length (choices self.now.case.model s)) result }
     {
         rows_at_corners();
@@ -101,7 +101,7 @@ impl Table<'_, '_> {
     #[inline(always)]
     fn raise(&self, lane: &mut [i64], s: u32) -> bool
         ghost run: { Run }
-        requires { CanRaiseFree self.now run lane.old s }
+        requires { CanRaiseFree self.now run lane.old s false }
         ensures { IsRaisedState self.now run lane.old lane.new s result }
     {
         rows_at_corners();
@@ -120,7 +120,7 @@ impl Table<'_, '_> {
     {
         match self.rule.ends {
             Ends::Goals => false,
-            Ends::Unranked(_) => self.rows.model().is_goal(s),
+            Ends::Unranked(_) | Ends::Tolled(_) => self.rows.model().is_goal(s),
         }
     }
 
@@ -135,6 +135,9 @@ impl Table<'_, '_> {
         corners_bound_weights();
         if self.is_held(s) {
             return false;
+        }
+        if self.has_tolls() {
+            return self.raise_tolled(lane, s);
         }
         match self.enough_for_only(lane, s) {
             Some(number) => write_number(lane, s, number),

@@ -2,3 +2,6 @@ use Rattle.rounded_iter.proofs.table.Table.find_from_guess.Given as goal
 
 abbrev pub ghost-rise_from_guess : goal.ghost-rise_from_guess
 ghost-rise_from_guess g a = g.spans
+
+abbrev pub ghost-rise : goal.ghost-rise
+ghost-rise g a = g.spans

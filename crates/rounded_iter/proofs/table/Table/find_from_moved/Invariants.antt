@@ -1,8 +1,8 @@
 use Rattle.rounded_iter.specs.Watching.{IsGuess}
-use Rattle.rounded_iter.proofs.table.Table.try_shares.Given as goal
+use Rattle.rounded_iter.proofs.table.Table.find_from_moved.Given as goal
 
-abbrev pub ghost-rise_from_guess : goal.ghost-rise_from_guess
-ghost-rise_from_guess g a = g.spans
+abbrev pub ghost-find_from_guess : goal.ghost-find_from_guess
+ghost-find_from_guess g a = g.spans
 
 -- the vector may be guessed anew
 abbrev pub invariant-loop : goal.invariant-loop

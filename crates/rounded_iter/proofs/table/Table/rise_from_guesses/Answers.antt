@@ -1,6 +1,6 @@
 use Rattle.rounded_iter.proofs.Solving.{laws_of}
 use Rattle.rounded_iter.proofs.Guessing.{found_of}
-use Rattle.rounded_iter.proofs.table.Table.find_from_share.Goals as goal
+use Rattle.rounded_iter.proofs.table.Table.rise_from_guesses.Goals as goal
 
 pub returns-in-Least-clause-found : goal.returns-in-Least-clause-found
 returns-in-Least-clause-found g c =

@@ -1,7 +1,0 @@
-use Rattle.rounded_iter.proofs.table.Table.find_from_share.Given as goal
-
-abbrev pub ghost-rise_from_guess : goal.ghost-rise_from_guess
-ghost-rise_from_guess g a = g.spans
-
-abbrev pub ghost-rise : goal.ghost-rise
-ghost-rise g a = g.spans

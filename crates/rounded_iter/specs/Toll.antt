@@ -1,0 +1,24 @@
+-- One corner of a choice with a toll, in numbers.
+use Rattle.std.specs.Prelude.{◌≡◌, ℕ, ◌^◌, ℤ, pos, ◌+ℤ◌, ◌-ℤ◌, ◌*ℤ◌, ◌≤ℤ◌, ◌<ℤ◌}
+use Rattle.corner_lift.specs.Case.{engine_limit, most_precision}
+use Rattle.corner_lift.specs.Quotient.{IsRoundedUp}
+
+-- A number and a toll up to `top`, the sum and the whole at a corner, and how much of it is the self loop's. What comes from elsewhere is not below 0, and `top` times the whole is below the engine's limit.
+pub record CanLeave (number toll top sum whole own : ℤ) : Type 0 where
+  pub number_in : (pos 0 ≤ℤ number) × (number ≤ℤ top)
+  pub toll_in : (pos 0 ≤ℤ toll) × (toll ≤ℤ top)
+  pub top_in : top ≤ℤ pos (2 ^ most_precision)
+  pub whole_in : pos 1 ≤ℤ whole
+  pub own_in : (pos 0 ≤ℤ own) × (own ≤ℤ whole)
+  pub sum_in : ((number *ℤ own) ≤ℤ sum) × (sum ≤ℤ (top *ℤ whole))
+  pub room : (top *ℤ whole) <ℤ pos engine_limit
+
+-- what comes from elsewhere, with the toll
+abbrev pub rest_of : ℤ → ℤ → ℤ → ℤ → ℤ → ℤ
+rest_of number toll sum whole own = sum +ℤ toll *ℤ whole -ℤ number *ℤ own
+
+-- the number, where it is enough; else `top`, where the rest is above `top` times what leaves the state; else the rest over what leaves, rounded up
+pub record IsLeastOver (number toll top sum whole own v : ℤ) : Type 0 where
+  pub still : (sum +ℤ toll *ℤ whole) ≤ℤ (number *ℤ whole) → v ≡ number
+  pub capped : (number *ℤ whole) <ℤ (sum +ℤ toll *ℤ whole) → (top *ℤ (whole -ℤ own)) <ℤ rest_of number toll sum whole own → v ≡ top
+  pub solved : (number *ℤ whole) <ℤ (sum +ℤ toll *ℤ whole) → rest_of number toll sum whole own ≤ℤ (top *ℤ (whole -ℤ own)) → IsRoundedUp (rest_of number toll sum whole own) (whole -ℤ own) v × (pos 1 ≤ℤ (whole -ℤ own))

@@ -1,0 +1,121 @@
+//! The least priced vector: the least bound with tolls, where each number that was cut off is truly paid for.
+
+ghost use Rattle.std.specs.Prelude.{◌≡◌, ◌<◌, ◌≤ℤ◌, ◌<ℤ◌, ◌-ℤ◌, pos, List, ℤ, IsTrue, IsFalse, IfSome, IfNone, length};
+ghost use Rattle.lift_grid.specs.Rectangle.{Spans};
+ghost use Rattle.lift_model.specs.Links.{HasChoice};
+ghost use Rattle.corner_lift.specs.Certificate.{AreNumbers};
+ghost use Rattle.corner_lift.specs.Lifted.{IsLiftedTo};
+ghost use Rattle.rounded_iter.specs.Priced.{IsPriced, IsLeastPriced, IsPaidFor, IsBeyond, IsPaid, IsUnpaid, IsCutOff, ArePaid, SomeUnpaid, price};
+ghost use Rattle.rounded_iter.specs.Watching.{CanIterate};
+
+use crate::least::least_bound;
+use corner_lift::{Lifted, Weighed, corners_bound_weights, one_at, rows_at_corners, times};
+use float_guess::{Ends, Extreme, Rule, Tolls};
+
+/// What is left of a number without a toll, or none if the toll is more.
+fn left_of(top: i64, toll: u128) -> Option<i64>
+    requires { pos 0 ≤ℤ top }
+    ensures left { IfSome result (λ left. (left ≡ top -ℤ pos toll) × (pos 0 ≤ℤ left)) }
+    ensures none { IfNone result (top <ℤ pos toll) }
+{
+    if toll > top as u128 {
+        return None;
+    }
+    Some(top - toll as i64)
+}
+
+/// Whether 2 to the `w` pays for a choice, whatever the toll.
+fn pays_choice(rows: &Lifted, tolls: &Tolls, lane: &[i64], s: u32, a: u32) -> bool
+    ghost spans: { Spans }
+    requires lifted { IsLiftedTo rows.now spans }
+    requires row { HasChoice rows.now.case.model s a }
+    requires numbers { AreNumbers rows.now.case lane.now }
+    ensures paid { IsTrue result → IsPaidFor rows.now.case spans (price rows.now.case.w tolls.now) lane.now s a }
+    ensures beyond { IsFalse result → IsBeyond rows.now.case spans (price rows.now.case.w tolls.now) lane.now s a }
+{
+    rows_at_corners();
+    corners_bound_weights();
+    let w = rows.w();
+    let Some(left) = left_of(one_at(w), tolls.of(w, s)) else {
+        return false;
+    };
+    let Weighed { sum, whole } = rows.table_greatest(s, a, lane);
+    sum <= times(left, whole)
+}
+
+/// The same for each choice of a state.
+fn pays(rows: &Lifted, tolls: &Tolls, lane: &[i64], s: u32) -> bool
+    ghost spans: { Spans }
+    requires lifted { IsLiftedTo rows.now spans }
+    requires state { s < length rows.now.case.model.states }
+    requires numbers { AreNumbers rows.now.case lane.now }
+    ensures paid { IsTrue result → IsPaid rows.now.case spans (price rows.now.case.w tolls.now) lane.now s }
+    ensures unpaid { IsFalse result → IsUnpaid rows.now.case spans (price rows.now.case.w tolls.now) lane.now s }
+{
+    for a in 0..rows.choice_count(s) {
+        if !pays_choice(rows, tolls, lane, s, a) {
+            return false;
+        }
+    }
+    true
+}
+
+/// The same, or the state's number isn't cut off.
+fn pays_cut_off(rows: &Lifted, tolls: &Tolls, lane: &[i64], s: u32) -> bool
+    ghost spans: { Spans }
+    requires lifted { IsLiftedTo rows.now spans }
+    requires state { s < length rows.now.case.model.states }
+    requires numbers { AreNumbers rows.now.case lane.now }
+    ensures paid { IsTrue result → IsCutOff rows.now.case lane.now s
+        → IsPaid rows.now.case spans (price rows.now.case.w tolls.now) lane.now s }
+    ensures cut { IsFalse result → IsCutOff rows.now.case lane.now s }
+    ensures unpaid { IsFalse result → IsUnpaid rows.now.case spans (price rows.now.case.w tolls.now) lane.now s }
+{
+    if rows.model().is_goal(s) {
+        return true;
+    }
+    if lane[s as usize] != one_at(rows.w()) {
+        return true;
+    }
+    pays(rows, tolls, lane, s)
+}
+
+/// The same for each state.
+fn pays_all(rows: &Lifted, tolls: &Tolls, lane: &[i64]) -> bool
+    ghost spans: { Spans }
+    requires lifted { IsLiftedTo rows.now spans }
+    requires numbers { AreNumbers rows.now.case lane.now }
+    ensures paid { IsTrue result → ArePaid rows.now.case spans (price rows.now.case.w tolls.now) lane.now
+        (length rows.now.case.model.states) }
+    ensures unpaid { IsFalse result → SomeUnpaid rows.now.case spans (price rows.now.case.w tolls.now) lane.now }
+{
+    for s in 0..rows.model().states() {
+        if !pays_cut_off(rows, tolls, lane, s) {
+            return false;
+        }
+    }
+    true
+}
+
+/// Leaves in `lane` the least priced vector of the case on the rectangle that its rows are lifted to, if there is one: of
+/// the vectors of numbers from 0 to 2 to the `w` that have 0 on goal states, and elsewhere at least the toll and the
+/// weighted mean of each choice at each corner of its row, the one that is least at each state. False: there is no such
+/// vector, and what `lane` holds is free. What `lane` and `work` hold at entry is free. Takes no memory.
+pub fn least_priced(rows: &Lifted, tolls: &Tolls, lane: &mut [i64], work: &mut [u32]) -> bool
+    ghost spans: { Spans }
+    requires { CanIterate rows.now.case rows.now.links spans rows.now.weights lane.old work.old }
+    ensures least { IsTrue result → IsLeastPriced rows.now.case spans (price rows.now.case.w tolls.now) lane.new }
+    ensures none { IsFalse result → (z : List ℤ) → IsPriced rows.now.case spans (price rows.now.case.w tolls.now) z → ⊥ }
+{
+    rows_at_corners();
+    corners_bound_weights();
+    let rule = Rule {
+        choice: Extreme::Greatest,
+        corner: Extreme::Greatest,
+        ends: Ends::Tolled(*tolls),
+    };
+    if !least_bound(rows, rule, one_at(rows.w()), lane, work) {
+        return false;
+    }
+    pays_all(rows, tolls, lane)
+}
