@@ -1,0 +1,5 @@
+pub mod Cases
+pub mod Covering
+pub mod Paying
+pub mod Trees
+pub mod Ready

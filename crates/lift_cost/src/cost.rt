@@ -1,0 +1,42 @@
+//! The least priced vector of a case on a rectangle.
+
+ghost use Rattle.std.specs.Prelude.{◌≡◌, ◌≤◌, List, ℤ, IsTrue, IsFalse, length};
+ghost use Rattle.lift_grid.specs.Rectangle.{Spans};
+ghost use Rattle.rounded_iter.specs.Priced.{IsPriced, IsLeastPriced};
+ghost use Rattle.rounded_iter.specs.Watching.{CanIterate};
+ghost use Rattle.lift_cost.specs.Certificate.{price_over};
+
+use corner_lift::{Case, Lifted};
+use float_guess::Tolls;
+use lift_costs::Costs;
+use lift_model::Links;
+use rounded_iter::least_priced;
+
+/// Leaves in `lane` the least priced vector of the case on the rectangle whose table `weights` is, if there is one: of the
+/// vectors of numbers from 0 to 2 to the `w`, which stands for the cap, that have 0 on goal states, and elsewhere at least
+/// the state's cost over the cap and the weighted mean of each choice at each corner of its row, the one that is least at
+/// each state. False: there is no such vector, and what `lane` holds is free. What `lane` and `work` hold at entry is free.
+/// Takes no memory.
+pub fn least_cost(
+    case: &Case,
+    links: &Links,
+    weights: &[i128],
+    costs: &Costs,
+    cap: u32,
+    lane: &mut [i64],
+    work: &mut [u32],
+) -> bool
+    ghost spans: { Spans }
+    requires can { CanIterate case.now links.now spans weights.now lane.old work.old }
+    requires cap { 1 ≤ cap }
+    requires costs { length costs.now ≡ length case.now.model.states }
+    ensures least { IsTrue result → IsLeastPriced case.now spans (price_over case.now.w costs.now cap) lane.new }
+    ensures none { IsFalse result → (z : List ℤ) → IsPriced case.now spans (price_over case.now.w costs.now cap) z → ⊥ }
+{
+    let rows = Lifted::new(&*case, &*links, &*weights);
+    let tolls = Tolls {
+        costs: &*costs,
+        cap,
+    };
+    least_priced(&rows, &tolls, lane, work)
+}
