@@ -24,7 +24,7 @@ use Rattle.lift_dual.specs.Bounds.{for_one, for_all, BoundsAreAvoiding, LeastBou
 in_or_past : (s count : ℕ) → (s < count) ⊎ (count ≤ s)
 in_or_past s count = grind arith
 
-either_way : {P : Type 0} (b : Bool) → (b ≡ true → P) → (b ≡ false → P) → P
+pub either_way : {P : Type 0} (b : Bool) → (b ≡ true → P) → (b ≡ false → P) → P
 either_way true f g = f refl
 either_way false f g = g refl
 

@@ -50,7 +50,7 @@ pub listed-at : {A : Type 0} (n : ℕ) (f : ℕ → A) (s : ℕ) (d : A) → s <
 unfolding listed
 listed-at n f s d lt = tabulated-at 0 n f s d lt ∙ ap f (let e : 0 + s ≡ s = omega arith in e)
 
-listed-past : {A : Type 0} (n : ℕ) (f : ℕ → A) (s : ℕ) (d : A) → n ≤ s → get_or (listed n f) s d ≡ d
+pub listed-past : {A : Type 0} (n : ℕ) (f : ℕ → A) (s : ℕ) (d : A) → n ≤ s → get_or (listed n f) s d ≡ d
 listed-past n f s d le = get_or_past (listed n f) s d (omega (arith, le, listed-length n f))
 
 -- ---- the greater and the lesser

@@ -12,3 +12,4 @@ mod Bounds
 mod Ranking
 mod Doubling
 mod Greatest
+mod Chains

@@ -10,3 +10,4 @@ pub mod Bounds
 pub mod Ranking
 pub mod Rates
 pub mod Greatest
+pub mod Chains

@@ -7,6 +7,7 @@ ghost use Rattle.lift_dual.specs.Avoiding.{StagesAreLeast, RestIsAvoiding, RestI
 ghost use Rattle.lift_dual.specs.StagesOfAll.{StartOfAll, NextOfAll, EndOfAll};
 ghost use Rattle.lift_dual.specs.Bounds.{BoundsAreAvoiding, LeastBoundIsAvoiding};
 ghost use Rattle.lift_dual.specs.Bounds.{UpperOneIsBound, BoundIsMet, LeastBoundIsUpperOne};
+ghost use Rattle.lift_dual.specs.Chains.{LeastWithinIsForOne, GreatestAboveIsForAll, NoneAboveIsForAll};
 
 use corner_lift::{corners_bound_weights, rows_at_corners, rows_inside};
 use lift_cert::{certificates_decide, rejecting_certificates_reach};
@@ -97,6 +98,16 @@ pub fn bounds_are_vectors()
     ensures one { UpperOneIsBound }
     ensures met { BoundIsMet }
     ensures least_one { LeastBoundIsUpperOne }
+{
+    rows_at_corners();
+}
+
+/// Holds that a chain has one scheduler, for who looks for its certificates: those for the one that reaches the most
+/// are those for the one that reaches the least. It does nothing.
+pub fn chains_have_one_scheduler()
+    ensures least { LeastWithinIsForOne }
+    ensures greatest { GreatestAboveIsForAll }
+    ensures none { NoneAboveIsForAll }
 {
     rows_at_corners();
 }

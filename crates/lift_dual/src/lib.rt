@@ -3,14 +3,16 @@
 #![tactic(auto)]
 
 mod all;
+mod chain;
 mod laws;
 mod one;
 mod ranks;
 mod rates;
 
 pub use all::{greatest_all, greatest_all_above};
+pub use chain::pick_first;
 pub use laws::{
-    all_and_one, bounds_are_vectors, certificates_join, plans_are_supported, rest_is_greatest,
-    sides_are_apart, stages_of_all, until_is_bounded,
+    all_and_one, bounds_are_vectors, certificates_join, chains_have_one_scheduler,
+    plans_are_supported, rest_is_greatest, sides_are_apart, stages_of_all, until_is_bounded,
 };
 pub use one::{least_one, least_one_within};
