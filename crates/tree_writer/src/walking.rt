@@ -18,7 +18,7 @@ use lift_pool::Pool;
 use lift_walk::{axis_of, sides_go_down, split_axes_are_one, take_half, write_root};
 
 /// The last lane of sides.
-fn last_sides(sides: &Pool<i64>) -> &[i64]
+pub(crate) fn last_sides(sides: &Pool<i64>) -> &[i64]
     requires { 0 < length sides.now.lanes }
     ensures { result.now ≡ last_lane sides.now.lanes }
 {
@@ -27,11 +27,11 @@ fn last_sides(sides: &Pool<i64>) -> &[i64]
 
 /// Walks over the tree of a case.
 #[derive(Drop)]
-struct Walker<'a, D: Decider> {
-    case: &'a Case<'a>,
-    decider: &'a D,
+pub(crate) struct Walker<'a, D: Decider> {
+    pub(crate) case: &'a Case<'a>,
+    pub(crate) decider: &'a D,
     /// The case's greatest depth.
-    greatest: u32,
+    pub(crate) greatest: u32,
 }
 
 impl<D: Decider> Walker<'_, D> {
