@@ -5,3 +5,4 @@ pub mod Single
 pub mod Texts
 pub mod Ready
 pub mod Meeting
+pub mod Chains

@@ -4,3 +4,4 @@ pub mod Recent
 pub mod Rooms
 pub mod Text
 pub mod Laws
+pub mod Built

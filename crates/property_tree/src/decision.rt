@@ -73,7 +73,7 @@ impl Search<'_> {
         if is_upper(self.op) {
             self.finder.least_upper_within(limit, collapse, pools)
         } else {
-            upper_one_within(&self.finder, limit, pools)
+            upper_one_within(&self.finder, limit, collapse, pools)
         }
     }
 
@@ -105,7 +105,7 @@ impl Search<'_> {
         if is_upper(self.op) {
             self.finder.greatest_lower_above(limit, collapse, pools)
         } else {
-            lower_all_above(&self.finder, limit, pools)
+            lower_all_above(&self.finder, limit, collapse, pools)
         }
     }
 

@@ -2,6 +2,7 @@
 //! every scheduler, or at most.
 #![tactic(auto)]
 
+mod building;
 mod decider;
 mod decision;
 mod laws;
@@ -12,6 +13,7 @@ mod tree;
 mod vectors;
 mod writers;
 
+pub use building::{DualBranch, DualTree, build};
 pub use laws::{leaves_are_one, property_trees_are_one};
 pub use question::Question;
 pub use room::PropertyRoom;

@@ -8,7 +8,7 @@ lower_all_above-requires g c =
     let limit = c.greatest_low-limit.result in
     let fits : SFits w64 limit = search rules in
     let same : to_z w64 (of_z w64 limit) ≡ limit = to_z-of_z fits in
-    (c.requires.0, (c.requires.1.1.0, rw same c.greatest_low-limit.ensures.least))
+    (c.requires.0, (c.requires.1.0, (c.requires.1.1.0, rw same c.greatest_low-limit.ensures.least)))
 
 pub returns-then-is_upper-clause-decides : goal.returns-then-is_upper-clause-decides
 returns-then-is_upper-clause-decides g c =

@@ -1,6 +1,6 @@
 use Rattle.std.proofs.Common.{length, ap, ◌∙◌, to_z-of_z, arith}
 use Rattle.property_tree.proofs.Lanes.{lane_is, lane_kept, one_of, same_pool}
-use Rattle.property_tree.proofs.vectors.lower_all_above.Goals as goal
+use Rattle.property_tree.proofs.vectors.lower_of_process.Goals as goal
 
 pub greatest_all_above-requires : goal.greatest_all_above-requires
 greatest_all_above-requires g c =

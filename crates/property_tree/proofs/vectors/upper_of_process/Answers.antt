@@ -1,6 +1,6 @@
 use Rattle.std.proofs.Common.{length, ap, ◌∙◌, to_z-of_z, arith}
 use Rattle.property_tree.proofs.Lanes.{lane_is, lane_kept, one_of, same_pool}
-use Rattle.property_tree.proofs.vectors.upper_one_within.Goals as goal
+use Rattle.property_tree.proofs.vectors.upper_of_process.Goals as goal
 
 pub least_one_within-requires : goal.least_one_within-requires
 least_one_within-requires g c =
