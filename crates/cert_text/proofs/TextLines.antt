@@ -1,11 +1,22 @@
 -- The lines of a text, cut one by one.
-use Rattle.std.proofs.Common.{◌≡◌, ℕ, zero, suc, ◌+◌, ◌<◌, ◌≤◌, Bool, true, false, cond, not, List, [], ◌∷◌, ◌++◌, length, take, drop, refl, sym, ap, ap₂, ◌∙◌, arith, append-nil, append_assoc, codes, nat_eq}
+use Rattle.std.proofs.Common.{None, Some, ◌≡◌, ℕ, zero, suc, ◌+◌, ◌<◌, ◌≤◌, Bool, true, false, cond, not, List, [], ◌∷◌, ◌++◌, length, take, drop, refl, sym, ap, ap₂, ◌∙◌, arith, append-nil, append_assoc, codes, nat_eq}
 use Rattle.std.specs.Prelude.{min}
 use Rattle.std.specs.List.{AllByRecursion, concat, onto_first, position_or_len, starts_with}
-use Rattle.lift_base.specs.Lines.{is_feed}
+use Rattle.std.proofs.lemmas.Bool.{false_from_ne_true}
+use Rattle.std.proofs.lemmas.List.Sums.{position_or_len_is}
+use Rattle.memchr.specs.Find.{IsFirstByte, is_byte}
+use Rattle.lift_base.specs.Lines.{feed_at, is_feed}
 use Rattle.cert_text.specs.Whole.{feed_count}
 use Rattle.cert_text.specs.Migrated.{lines_of, second_line}
 use Rattle.cert_text.proofs.CutLines.{NoFeed, feed_count-append}
+
+-- ---- the first line feed
+
+pub no_feed : (text : List ℕ) → IsFirstByte (is_byte 10) text None → feed_at text ≡ length text
+no_feed text h = position_or_len_is is_feed text (length text) 0 (omega arith) (λ i below. false_from_ne_true _ (h i (omega arith) below)) (λ bad. absurd (omega (arith, bad)))
+
+pub first_feed : (text : List ℕ) (k : ℕ) → IsFirstByte (is_byte 10) text (Some k) → feed_at text ≡ k
+first_feed text k h = position_or_len_is is_feed text k 0 (omega (arith, h.0.high)) (λ i below. false_from_ne_true _ (h.0.before i (omega arith) below)) (λ _. h.1)
 
 -- ---- the first line
 

@@ -1,6 +1,6 @@
 // The parts of a head, line by line.
 ghost use Rattle.std.specs.Prelude.{◌≡◌, ◌≤◌, ◌<◌, ◌^◌, pos, length, None, IfOk};
-ghost use Rattle.lift_model.specs.Valid.{most_parameters};
+ghost use Rattle.lift_model.specs.Valid.{most_parameters, most_states};
 ghost use Rattle.lift_grid.specs.Rectangle.{most_halvings};
 ghost use Rattle.line_text.specs.Reading.{line_at};
 ghost use Rattle.line_text.specs.Follow.{Follows};
@@ -8,7 +8,7 @@ ghost use Rattle.cert_text.specs.Lines.{version_of, kind_of, parameters_of, goal
 ghost use Rattle.corner_lift.specs.Case.{most_precision};
 ghost use Rattle.cert_text.specs.Head.{from_at, head_at};
 ghost use Rattle.cert_text.specs.Forms.{IsHead};
-ghost use Rattle.cert_text.specs.HeadParts.{head_of};
+ghost use Rattle.cert_text.specs.HeadParts.{sizes_at, asked_at, head_of};
 
 use crate::box_line::box_of;
 use crate::head_lines::{bound_of, goal_of, kind_of, version_of};
@@ -37,20 +37,33 @@ const MOST_PRECISION: u64 = 40;
 /// How often the root may be halved, one half below another.
 const MOST_HALVINGS: u64 = 20;
 
+/// The numbers of a model.
+#[derive(Clone, Copy)]
+pub(crate) struct Sizes {
+    pub common: u64,
+    pub states: u32,
+    pub init: u32,
+}
+
+/// What is asked of a model.
+#[derive(Drop)]
+pub(crate) struct Asked {
+    pub bound: Bound,
+    pub precisions: Precisions,
+    pub depth: u32,
+    pub d: u64,
+    pub root: Rect,
+}
+
 /// What the lines of a head tell.
 #[derive(Drop)]
 pub(crate) struct Parts {
     pub kind: Kind,
-    pub common: u64,
     pub names: Names,
+    pub sizes: Sizes,
     pub goal: Vec<bool>,
-    pub init: u32,
     pub states: Vec<Vec<Row>>,
-    pub root: Rect,
-    pub d: u64,
-    pub depth: u32,
-    pub precisions: Precisions,
-    pub bound: Bound,
+    pub asked: Asked,
 }
 
 impl Parts {
@@ -61,17 +74,18 @@ impl Parts {
     {
         let model = Model::new(
             self.kind,
-            signed(self.common),
+            signed(self.sizes.common),
             self.names,
             self.goal,
-            self.init,
+            self.sizes.init,
             self.states,
         );
+        let asked = self.asked;
         let grid = Grid {
-            d: signed(self.d),
-            depth: self.depth,
+            d: signed(asked.d),
+            depth: asked.depth,
         };
-        Head::new(model, self.root, grid, self.precisions, self.bound)
+        Head::new(model, asked.root, grid, asked.precisions, asked.bound)
     }
 }
 
@@ -180,6 +194,48 @@ fn signed(n: u64) -> i64
     n as i64
 }
 
+/// The lines of the common denominator, of the number of states and of the initial one, of which the first is due.
+fn sizes_lines<S: Source>(alloc: Global, lines: &mut Lines, src: &mut S) -> Result<Sizes, FileError>
+    ensures follows { Follows S.left S.faults (λ x. x) sizes_at lines.old lines.new src.old src.new result }
+    ensures states { IfOk result (λ x. x.states ≤ most_states) }
+{
+    calls_add_up::<S>();
+    let common = number_line(alloc, lines, src, b"common", 1..NUMBER_LIMIT)?;
+    let count = number_line(alloc, lines, src, b"states", 1..MOST_STATES + 1)?;
+    let init = number_line(alloc, lines, src, b"init", 0..count)?;
+    Ok(Sizes {
+        common,
+        states: count as u32,
+        init: init as u32,
+    })
+}
+
+/// The lines of what is asked of a model with so many parameters, of which the first is due.
+fn asked_lines<S: Source>(
+    alloc: Global,
+    lines: &mut Lines,
+    src: &mut S,
+    second: bool,
+    parameters: u32,
+) -> Result<Asked, FileError>
+    ensures { Follows S.left S.faults (λ x. x) (asked_at second parameters) lines.old lines.new src.old src.new result }
+{
+    calls_add_up::<S>();
+    let bound = bound_line(lines, src)?;
+    let w = number_line(alloc, lines, src, b"precision", 1..MOST_PRECISION + 1)?;
+    let from = from_line(alloc, lines, src, second, w as u32)?;
+    let depth = number_line(alloc, lines, src, b"depth", 0..MOST_HALVINGS + 1)?;
+    let d = number_line(alloc, lines, src, b"grid", 1..NUMBER_LIMIT)?;
+    let root = box_line(alloc, lines, src, parameters, depth as u32)?;
+    Ok(Asked {
+        bound,
+        precisions: Precisions { from, w: w as u32 },
+        depth: depth as u32,
+        d,
+        root,
+    })
+}
+
 /// The parts of the head whose first line is due.
 pub(crate) fn parts_at<S: Source>(
     alloc: Global,
@@ -193,33 +249,21 @@ pub(crate) fn parts_at<S: Source>(
     let kind = kind_line(lines, src)?;
     let names = parameters_line(alloc, lines, src)?;
     let parameters = names.len();
-    let common = number_line(alloc, lines, src, b"common", 1..NUMBER_LIMIT)?;
-    let count = number_line(alloc, lines, src, b"states", 1..MOST_STATES + 1)?;
-    let init = number_line(alloc, lines, src, b"init", 0..count)?;
-    let goal = goal_line(alloc, lines, src, count as u32)?;
+    let sizes = sizes_lines(alloc, lines, src)?;
+    let goal = goal_line(alloc, lines, src, sizes.states)?;
     let shape = Shape {
         kind,
-        states: count as u32,
+        states: sizes.states,
         parameters,
     };
     let states = states(alloc, lines, src, shape)?;
-    let bound = bound_line(lines, src)?;
-    let w = number_line(alloc, lines, src, b"precision", 1..MOST_PRECISION + 1)?;
-    let from = from_line(alloc, lines, src, second, w as u32)?;
-    let depth = number_line(alloc, lines, src, b"depth", 0..MOST_HALVINGS + 1)?;
-    let d = number_line(alloc, lines, src, b"grid", 1..NUMBER_LIMIT)?;
-    let root = box_line(alloc, lines, src, parameters, depth as u32)?;
+    let asked = asked_lines(alloc, lines, src, second, parameters)?;
     Ok(Parts {
         kind,
-        common,
         names,
+        sizes,
         goal,
-        init: init as u32,
         states,
-        root,
-        d,
-        depth: depth as u32,
-        precisions: Precisions { from, w: w as u32 },
-        bound,
+        asked,
     })
 }

@@ -1,14 +1,27 @@
 // The text of a report in the second version, made of that in the first.
-ghost use Rattle.std.specs.Prelude.{◌≡◌, ◌<◌, ◌∷◌, ℕ, List, length};
+ghost use Rattle.std.specs.Prelude.{◌≡◌, ◌≤◌, ◌<◌, ◌∷◌, ℕ, List, length};
 ghost use Rattle.std.specs.List.{flat_map};
+ghost use Rattle.lift_base.specs.Lines.{feed_at};
 ghost use Rattle.lift_base.specs.Outside.{Wrote};
 ghost use Rattle.cert_text.specs.Migrated.{MigratesTo, lines_of, precision_in, second_line};
 
 use lift_base::{Sink, Word, WriteFault, write_all, write_words, writes_in_turn};
-use lift_bytes::len_before;
+use memchr::memchr;
 
 /// With what the line of the precision begins.
 const PRECISION: &[u8] = b"precision ";
+
+/// How many bytes stand before the first line feed; all of them where there is none.
+#[tactic(auto, using(crate::proofs::TextLines::no_feed, crate::proofs::TextLines::first_feed))]
+fn line_len(text: &[u8]) -> usize
+    ensures within { result ≤ length text.now }
+    ensures len { result ≡ feed_at text.now }
+{
+    match memchr(b'\n', text) {
+        Some(len) => len,
+        None => text.len(),
+    }
+}
 
 /// The first line of a text, with its line feed, and what stands behind it.
 pub(crate) fn cut_line(text: &[u8]) -> (&[u8], &[u8])
@@ -16,7 +29,7 @@ pub(crate) fn cut_line(text: &[u8]) -> (&[u8], &[u8])
     ensures lines { lines_of text.now ≡ result.0.now ∷ lines_of result.1.now }
     ensures shorter { length result.1.now < length text.now }
 {
-    let len = len_before(text, b'\n') + 1;
+    let len = line_len(text) + 1;
     text.split_at(len.min(text.len()))
 }
 
