@@ -7,6 +7,7 @@ pub mod CostLines
 pub mod CostLoop
 pub mod CostRunning
 pub mod CostSame
+mod CostSamples
 pub mod Counts
 pub mod Cuts
 pub mod Declared

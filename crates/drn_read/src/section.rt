@@ -10,7 +10,7 @@ pub enum Section {
     ValueType,
     /// `@parameters`, and a line with their names.
     Parameters,
-    /// `@reward_models`, and a line that is passed over.
+    /// `@reward_models`, and a line with their names.
     RewardModels,
     /// `@nr_states`, and a line with their number.
     NrStates,
@@ -29,7 +29,7 @@ pub enum Phase {
     Sections,
     /// The names of the parameters, or a section.
     NameList,
-    /// A line that is passed over, or a section.
+    /// The names of the reward models, or a section.
     RewardList,
     /// The number of states.
     StateCount,

@@ -1,5 +1,5 @@
 -- What an answer says, by the refusal that it comes from.
-use Rattle.std.proofs.Common.{IsOk, ◌≡◌, ◌≢◌, ◌≤◌, ◌<◌, ◌⊎◌, inl, inr, ℕ, List, [], ◌++◌, length, length-append, append-nil, true, false, None, Some, Ok, Err, refl, sym, ap, ◌∙◌, subst, arith, Result, IsErr, IsErrAnd}
+use Rattle.std.proofs.Common.{IsOk, ◌≡◌, ◌≢◌, ◌≤◌, ◌<◌, ◌⊎◌, inl, inr, ℕ, List, [], ◌++◌, length, length-append, append-nil, true, false, None, Some, Ok, Err, refl, sym, ap, subst, arith, Result, IsErr, IsErrAnd}
 use Rattle.std.specs.declared.option.Option.{Option}
 use Rattle.std.specs.Io.KnownBytes.{Appends}
 use Rattle.lift_base.specs.Outside.{Rose, AppendsFront, TakenHas, Wrote}

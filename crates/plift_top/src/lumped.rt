@@ -56,5 +56,7 @@ pub(crate) fn write_lumped<K: Sink>(
     quotients_are_cases();
     cases_have_distributions();
     let lumped = lump(alloc, case.model())?;
-    write_quotient(alloc, case, &lumped, bound, out)
+    let written = write_quotient(alloc, case, &lumped, bound, out);
+    drop(lumped);
+    written
 }

@@ -86,7 +86,8 @@ fn write_tree<K: Sink>(question: &Question, old: &Old, room: &mut Room, out: &mu
     requires made { IsMadeFor question.now.case.now question.now.links.now room.old }
     requires can { CanGoOn question.now.case.now question.now.bound old.now.head.now old.now.nodes.now }
     ensures { (t : Tree) → IsOldTree old.now.head.now old.now.nodes.now t → Shows
-        (λ refined. IsRefined question.now.case.now (least_precision old.now.head.now) question.now.bound question.now.case.now.root 0 t refined)
+        (λ refined. IsRefined question.now.case.now (least_precision old.now.head.now) question.now.bound
+        question.now.case.now.root 0 t refined)
         K.taken K.faults (node_text question.now.case.now old.now.head.now.from) out.old out.new result }
 {
     bases_are_gone_on_from();
@@ -173,8 +174,9 @@ fn write_refined<K: Sink>(
         old,
         room: &mut room,
     };
-    tell_buffered(out, &mut refinement)?;
-    Ok(())
+    let written = tell_buffered(out, &mut refinement);
+    drop(room);
+    Ok(written?)
 }
 
 // The region of a report, over the grid of a greater depth.
@@ -242,7 +244,9 @@ fn refine_old<K: Sink>(alloc: Global, job: RefineJob, old: Old, out: &mut K) -> 
         links: &links,
         bound: head.bound(),
     };
-    write_refined(alloc, &question, old, out)
+    let written = write_refined(alloc, &question, old, out);
+    drop(links);
+    written
 }
 
 // Checks a text as a report, and goes on from it. Nothing is written before the check is done.
@@ -257,7 +261,10 @@ fn refine_text<K: Sink>(
 {
     check_text(alloc, text)?;
     let (head, nodes) = cut_head(alloc, text)?;
-    refine_old(alloc, job, Old { head: &head, nodes }, out)
+    let old = Old { head: &head, nodes };
+    let written = refine_old(alloc, job, old, out);
+    drop(head);
+    written
 }
 
 /// Reads a report from the source, whole, checks it, and writes one of the same model, region and bound at a greater

@@ -42,6 +42,8 @@ use std::alloc::Global;
 /// How many bytes a text may have.
 pub(crate) const TEXT_LIMIT: usize = 1 << 26;
 
+// What has many parts is let go by a call of `drop`, so that no proof has a step for each of them.
+
 // Which states of a text have a label.
 fn states_with(alloc: Global, text: &[u8], label: &[u8]) -> Result<Vec<bool>, Refusal>
     requires { length text.now ≤ file_limit }
@@ -49,7 +51,9 @@ fn states_with(alloc: Global, text: &[u8], label: &[u8]) -> Result<Vec<bool>, Re
     ensures cause { IfErr result (IsTextFault (safe_in text.now (Some label.now))) }
 {
     let model = read_model(alloc, text, label)?;
-    let states = goals_of(alloc, &model)?;
+    let states = goals_of(alloc, &model);
+    drop(model);
+    let states = states?;
     Ok(states)
 }
 
@@ -64,7 +68,9 @@ fn model_in(alloc: Global, job: &VerifyJob, text: &[u8]) -> Result<Model, Refusa
         return Ok(model);
     };
     let safe = states_with(alloc, text, label)?;
-    let after = restrict(alloc, &model, &safe)?;
+    let after = restrict(alloc, &model, &safe);
+    drop(model);
+    let after = after?;
     Ok(after)
 }
 
@@ -155,8 +161,9 @@ pub(crate) fn write_whole<K: Sink>(
         question.now.case.now out.old out.new result }
 {
     let mut room = Room::make(alloc, question.case, question.links)?;
-    write_case(question, from, &mut room, out)?;
-    Ok(())
+    let written = write_case(question, from, &mut room, out);
+    drop(room);
+    Ok(written?)
 }
 
 // Writes the text of such a case for as many steps as the room was made for. Takes no memory.
@@ -192,8 +199,9 @@ fn write_within<K: Sink>(
         question.now.case.now out.old out.new result }
 {
     let mut room = BoundedRoom::make(alloc, question.case, question.links, steps)?;
-    write_case_within(question, &mut room, out)?;
-    Ok(())
+    let written = write_case_within(question, &mut room, out);
+    drop(room);
+    Ok(written?)
 }
 
 // Writes the text of such a case for a property. Takes no memory.
@@ -236,8 +244,9 @@ fn write_for<K: Sink>(
         op,
         bound: question.bound,
     };
-    write_case_for(&asked, &mut room, out)?;
-    Ok(())
+    let written = write_case_for(&asked, &mut room, out);
+    drop(room);
+    Ok(written?)
 }
 
 // Takes all memory that a job needs at a case whose rows were tested, and writes its answer.
@@ -288,7 +297,9 @@ fn write_over<K: Sink>(
         links: &links,
         bound: job.bound,
     };
-    write_answer(alloc, job, &question, out)
+    let written = write_answer(alloc, job, &question, out);
+    drop(links);
+    written
 }
 
 // Whether a chain is to be lumped, and the model is a decision process.
@@ -322,5 +333,7 @@ pub fn verify<S: Source, K: Sink>(
         return Err(Refusal::NotChain);
     }
     let region = root_of(alloc, job, model.names())?;
-    write_over(alloc, job, &model, &region, out)
+    let written = write_over(alloc, job, &model, &region, out);
+    drop(model);
+    written
 }

@@ -11,7 +11,7 @@ use Rattle.corner_lift.specs.Case.{most_precision}
 use Rattle.lift_cert.specs.declared.bound.Bound.{Bound}
 use Rattle.plift_words.specs.Line.{is_lumped, is_property, is_asking, is_check, is_migrate, depth_behind, word_behind, is_plain, options, value_of}
 use Rattle.plift_words.specs.Values.{goal_of, bound_of, option_number, steps_of, blocks_of}
-use Rattle.plift_words.specs.Job.{JobData, way_in, depth_of, precision_of, verify_job, formula_field, formula_in, property_job, asking_job, blocks_job, refine_job, other_job, job}
+use Rattle.plift_words.specs.Job.{JobData, way_in, verify_job, formula_field, formula_in, property_job, asking_job, blocks_job, refine_job, other_job, job}
 use Rattle.plift_words.specs.Given.{IsOfVerify}
 use Rattle.plift_words.specs.declared.way.Way.TheVariants as way
 use Rattle.property_text.specs.Formula.{FormulaData, formula_of}

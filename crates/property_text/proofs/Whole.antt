@@ -1,5 +1,5 @@
 -- Where every state is safe the cut changes nothing.
-use Rattle.std.proofs.Common.{◌≡◌, ◌+◌, ◌<◌, ◌≤◌, ◌||◌, ℕ, zero, suc, Bool, true, false, List, [], ◌∷◌, length, map, refl, sym, ap, ap₂, ◌∙◌, arith, cond}
+use Rattle.std.proofs.Common.{◌≡◌, ◌+◌, ◌<◌, ◌||◌, ℕ, zero, suc, Bool, true, false, List, [], ◌∷◌, length, map, refl, ap, ap₂, ◌∙◌, arith, cond}
 use Rattle.std.specs.Prelude.{slice_index_or}
 use Rattle.lift_poly.specs.Polynomial.{Term}
 use Rattle.lift_model.specs.declared.entry.Entry.{Entry}

@@ -1,8 +1,8 @@
 use Rattle.plift_top.proofs.Lumping.{of_quotient, tested_quotient, is_lumped_case}
 use Rattle.plift_top.proofs.lumped.write_lumped.Goals as goal
 
-pub write_quotient-requires : goal.write_quotient-requires
-write_quotient-requires g c =
+pub write_quotient-written-requires : goal.write_quotient-written-requires
+write_quotient-written-requires g c =
     let is = c.in_ok-lumped.ensures in
     tested_quotient c.quotients_are_cases.ensures.cases c.cases_have_distributions.ensures.weights c.cases_have_distributions.ensures.sums c.args.case.now c.in_ok-lumped.lumped c.model.result.now c.requires.case c.requires.chain c.model.ensures.value is.lumped is.small
 
@@ -13,4 +13,4 @@ returns g c =
     let found = c.in_ok-lumped.ensures in
     let is = is_lumped_case k l c.model.result.now c.requires.case c.requires.chain c.model.ensures.value found.lumped found.hold in
     let tested = tested_quotient c.quotients_are_cases.ensures.cases c.cases_have_distributions.ensures.weights c.cases_have_distributions.ensures.sums k l c.model.result.now c.requires.case c.requires.chain c.model.ensures.value found.lumped found.small in
-    of_quotient c.quotients_hold.ensures.plans c.quotients_hold.ensures.some k l is tested.case.asked.model g.K.Sink.taken g.K.Sink.faults c.args.bound c.args.out.now c.write_quotient.new.out c.write_quotient.result c.write_quotient.ensures
+    of_quotient c.quotients_hold.ensures.plans c.quotients_hold.ensures.some k l is tested.case.asked.model g.K.Sink.taken g.K.Sink.faults c.args.bound c.args.out.now c.write_quotient-written.new.out c.write_quotient-written.result c.write_quotient-written.ensures

@@ -20,4 +20,4 @@ returns-in_err-region-clause-answer g c =
 
 pub returns-clause-answer : goal.returns-clause-answer
 returns-clause-answer g c = verified g.S.Source.left g.S.Source.faults (verify_data c.args.job.now) _ _ _ _ c.in_ok-model.ensures.answer
-    (search rules) (rw c.names.ensures.value at c.in_ok-region.ensures.answer) g.K.Sink.taken g.K.Sink.faults _ _ _ c.write_over.ensures
+    (search rules) (rw c.names.ensures.value at c.in_ok-region.ensures.answer) g.K.Sink.taken g.K.Sink.faults _ _ _ c.write_over-written.ensures

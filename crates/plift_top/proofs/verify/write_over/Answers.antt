@@ -12,5 +12,5 @@ returns-in_err-case g c a is = over_refused g.K.Sink.taken g.K.Sink.faults (veri
 
 pub returns : goal.returns
 returns g c a is =
-    over_answered g.K.Sink.taken g.K.Sink.faults (verify_data c.args.job.now) _ a is _ c.in_ok-case.case c.args.out.now c.write_answer.new.out c.write_answer.result c.in_ok-case.ensures
-    (c.write_answer.ensures a (ap (λ (k : CaseData). k.model) c.in_ok-case.ensures.0 ∙ is))
+    over_answered g.K.Sink.taken g.K.Sink.faults (verify_data c.args.job.now) _ a is _ c.in_ok-case.case c.args.out.now c.write_answer-written.new.out c.write_answer-written.result c.in_ok-case.ensures
+    (c.write_answer-written.ensures a (ap (λ (k : CaseData). k.model) c.in_ok-case.ensures.0 ∙ is))
