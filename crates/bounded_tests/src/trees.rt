@@ -55,7 +55,9 @@ fn is_written(
     let links = Links::build(alloc, case.model())?;
     let mut room = BoundedRoom::make(alloc, case, &links, steps)?;
     let is_whole = write_tree(case, &links, bound, &mut room, out).is_ok();
-    Ok(is_whole && room.steps() == steps)
+    let is_as_made = room.steps() == steps;
+    drop(room);
+    Ok(is_whole && is_as_made)
 }
 
 /// The text of a tree; where the sink fails at its last byte, that has to be an error.

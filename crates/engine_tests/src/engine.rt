@@ -1,6 +1,7 @@
-//! Tests of links, tables, and what iterates over them: least vectors, also by a rule, ranks and greatest lower vectors.
+//! Tests of links, tables, and what iterates over them: least vectors, also by a rule and of costs, ranks and greatest lower vectors.
 //! Each is a table of one text.
 
+mod costs;
 mod greatest;
 mod links;
 mod ranks;

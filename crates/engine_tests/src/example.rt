@@ -18,7 +18,7 @@ use std::alloc::{AllocError, Global};
 use std::string::String;
 
 /// Lines that stand between semicolons, each with its line feed.
-fn lines_of(alloc: Global, lines: &str) -> Result<Vec<u8>, AllocError> {
+pub(crate) fn lines_of(alloc: Global, lines: &str) -> Result<Vec<u8>, AllocError> {
     let mut text = Vec::new(alloc);
     for line in lines.split(';') {
         text.extend_from_slice(line.as_bytes())?;

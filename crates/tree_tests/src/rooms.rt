@@ -47,6 +47,7 @@ fn are_written(
     let mut room = Room::make(alloc, case, &links)?;
     let is_first = is_written(case, &links, bounds[0], &mut room, first);
     let is_second = is_written(case, &links, bounds[1], &mut room, second);
+    drop(room);
     Ok((is_first, is_second))
 }
 

@@ -28,7 +28,7 @@ const TREES: &str = "\
 1/10<=p<=9/10 | 3 | 1 | split 0 at 1 accept 1 2 0 split 0 split 0 unknown at 4 reject 1 1 9 16 0 0 4294967295 4294967295 1 0 4294967295 at 3 reject 1 1 5 8 0 0 4294967295 4294967295 1 0 4294967295 |";
 
 /// Tells numbers, each with a blank behind it.
-fn tell_numbers(told: &mut String, numbers: &[i64]) -> Result<(), AllocError> {
+pub(crate) fn tell_numbers(told: &mut String, numbers: &[i64]) -> Result<(), AllocError> {
     for number in numbers {
         write!(told, "{number} ")?;
     }
@@ -36,7 +36,7 @@ fn tell_numbers(told: &mut String, numbers: &[i64]) -> Result<(), AllocError> {
 }
 
 /// The same for picks and ranks.
-fn tell_marks(told: &mut String, marks: &[u32]) -> Result<(), AllocError> {
+pub(crate) fn tell_marks(told: &mut String, marks: &[u32]) -> Result<(), AllocError> {
     for mark in marks {
         write!(told, "{mark} ")?;
     }

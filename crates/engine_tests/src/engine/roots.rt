@@ -1,6 +1,6 @@
 //! What is found on the table of a case's root, in lanes that are made once and lent.
 
-ghost use Rattle.std.specs.Prelude.{◌≡◌, ℕ, length, IfOk};
+ghost use Rattle.std.specs.Prelude.{◌≡◌, ℕ, length, OnOk};
 ghost use Rattle.lift_grid.specs.Rectangle.{spans_of, sides_of};
 ghost use Rattle.lift_model.specs.Model.{row_count};
 ghost use Rattle.lift_model.specs.Links.{AreLinks};
@@ -45,20 +45,30 @@ pub(crate) trait Engine {
             lanes.old.ranks.items lanes.old.picks.items lanes.old.work.items lanes.old.allowed.items };
 }
 
-/// Lanes for so many states and rows.
-fn lanes_for(alloc: Global, states: u32, rows: usize) -> Result<Lanes, AllocError>
-    ensures { IfOk result (λ lanes. AreLanes states rows lanes.numbers.items lanes.others.items
-        lanes.ranks.items lanes.picks.items lanes.work.items lanes.allowed.items) }
+/// Lanes without a place.
+fn no_lanes(alloc: Global) -> Lanes {
+    Lanes {
+        numbers: Vec::new(alloc),
+        others: Vec::new(alloc),
+        ranks: Vec::new(alloc),
+        picks: Vec::new(alloc),
+        work: Vec::new(alloc),
+        allowed: Vec::new(alloc),
+    }
+}
+
+/// Makes the lanes as long as so many states and rows need them.
+fn lay_out(lanes: &mut Lanes, states: u32, rows: usize) -> Result<(), AllocError>
+    ensures { OnOk result (AreLanes states rows lanes.new.numbers.items lanes.new.others.items
+        lanes.new.ranks.items lanes.new.picks.items lanes.new.work.items lanes.new.allowed.items) }
 {
     let states = states as usize;
-    Ok(Lanes {
-        numbers: vec![in alloc; 8; states]?,
-        others: vec![in alloc; 8; states]?,
-        ranks: vec![in alloc; 7; states]?,
-        picks: vec![in alloc; 7; states]?,
-        work: vec![in alloc; 7; 2 * states]?,
-        allowed: vec![in alloc; 7; rows]?,
-    })
+    lanes.numbers.resize(states, 8)?;
+    lanes.others.resize(states, 8)?;
+    lanes.ranks.resize(states, 7)?;
+    lanes.picks.resize(states, 7)?;
+    lanes.work.resize(2 * states, 7)?;
+    lanes.allowed.resize(rows, 7)
 }
 
 /// How many rows the model has: as many as the number of its last row, and one.
@@ -76,7 +86,8 @@ fn find_over<E: Engine>(alloc: Global, root: Root, engine: &E) -> Result<E::Foun
     requires table { IsTable root.case.now root.links.now (spans_of (sides_of root.case.now.root)) root.weights.now }
 {
     let model = root.case.model();
-    let mut lanes = lanes_for(alloc, model.states(), rows_of(model, root.links))?;
+    let mut lanes = no_lanes(alloc);
+    lay_out(&mut lanes, model.states(), rows_of(model, root.links))?;
     engine.find(alloc, root, &mut lanes)
 }
 

@@ -62,7 +62,7 @@ action a;3 : 1-1e-17;1 : 1e-17*p;2 : 1e-17*(1-p) / action a;0 : 1-1e-17;1 : 1e-1
 action a;3 : 1-1e-17;1 : 1e-17*p;2 : 1e-17*(1-p) / action a;0 : 1-1e-17;1 : 1e-17*p;2 : 1e-17*(1-p) | 1 0 - 1 | 20 | 629145 | \
     above; [419431, 1048576, 0, 419431]; above; above";
 
-/// Tells the least bound by a rule, or that each is above the limit.
+/// Tells the least bound by a rule behind those that were told, or that each is above the limit.
 fn tell_bound(
     told: &mut String,
     rows: &Lifted,
@@ -75,6 +75,9 @@ fn tell_bound(
     ensures numbers { length lanes.new.numbers.items ≡ length lanes.old.numbers.items }
     ensures work { length lanes.new.work.items ≡ length lanes.old.work.items }
 {
+    if !told.is_empty() {
+        told.push_str("; ")?;
+    }
     if least_bound(rows, rule, limit, &mut lanes.numbers, &mut lanes.work) {
         write!(told, "{:?}", lanes.numbers)
     } else {
@@ -107,23 +110,33 @@ struct Bounds {
     limit: i64,
 }
 
+/// Tells the least bound by each of the rules.
+fn tell_bounds(
+    told: &mut String,
+    rows: &Lifted,
+    bounds: &Bounds,
+    lanes: &mut Lanes,
+) -> Result<(), AllocError>
+    requires { CanIterate rows.now.case rows.now.links (spans_of (sides_of rows.now.case.root)) rows.now.weights
+        lanes.old.numbers.items lanes.old.work.items }
+{
+    let (ranks, limit) = (&bounds.ranks, bounds.limit);
+    let every = by_goals(Extreme::Greatest, Extreme::Greatest);
+    tell_bound(told, rows, every, limit, lanes)?;
+    let value = by_goals(Extreme::Greatest, Extreme::Least);
+    tell_bound(told, rows, value, limit, lanes)?;
+    let some = by_goals(Extreme::Least, Extreme::Greatest);
+    tell_bound(told, rows, some, limit, lanes)?;
+    tell_bound(told, rows, by_ranks(ranks), limit, lanes)
+}
+
 impl Engine for Bounds {
     type Found = String;
 
     fn find(&self, alloc: Global, root: Root, lanes: &mut Lanes) -> Result<String, Untold> {
         let rows = Lifted::new(root.case, root.links, root.weights);
         let mut told = String::new(alloc);
-        let every = by_goals(Extreme::Greatest, Extreme::Greatest);
-        tell_bound(&mut told, &rows, every, self.limit, lanes)?;
-        told.push_str("; ")?;
-        let value = by_goals(Extreme::Greatest, Extreme::Least);
-        tell_bound(&mut told, &rows, value, self.limit, lanes)?;
-        told.push_str("; ")?;
-        let some = by_goals(Extreme::Least, Extreme::Greatest);
-        tell_bound(&mut told, &rows, some, self.limit, lanes)?;
-        told.push_str("; ")?;
-        let avoiding = by_ranks(&self.ranks);
-        tell_bound(&mut told, &rows, avoiding, self.limit, lanes)?;
+        tell_bounds(&mut told, &rows, self, lanes)?;
         Ok(told)
     }
 }

@@ -1,0 +1,130 @@
+//! Trees for a comparison with a bound, that are built.
+
+ghost use Rattle.std.specs.Prelude.{◌≤◌};
+ghost use Rattle.lift_grid.specs.Rectangle.{most_halvings};
+
+use crate::cases::{bound_of, case_of, model_of, root_of, text_of};
+use crate::cells::{Teller, Untold, count, cut_three, each_row};
+use corner_lift::Case;
+use lift_model::{Links, Model};
+use property_text::Op;
+use property_tree::{DualBranch, build};
+use std::alloc::{AllocError, Global};
+use std::fmt::Write;
+use std::string::String;
+
+/// The model, its region, the depth, how what is reached is compared with 1/2, and the tree in preorder at precision 4,
+/// a bar behind it. Of a decided leaf e and k are shown, if it is a lower one, its numbers, its picks and its ranks, of
+/// which 4294967295 stands for none.
+///
+/// Where a coin shows heads with 1/2 at most, the bound itself decides which comparisons hold and which fail; of two
+/// coins that show heads with p and with 1 - p, the second one is the lesser from 3/5 on, and none is from 1/4 to 3/4.
+const DUAL_TREES: &str = "\
+COIN | 3/5<=p<=9/10 | 0 | >= | lower_all 1 1 [9, 16, 0] [1, 0, 4294967295] |
+COIN | 1/10<=p<=2/5 | 0 | >= | upper_one [7, 16, 0] [0, 4294967295, 0] |
+COIN | 1/10<=p<=9/10 | 1 | >= | split 0 unknown lower_all 1 1 [8, 16, 0] [1, 0, 4294967295] |
+COIN | 1/10<=p<=9/10 | 1 | > | split 0 upper_one [8, 16, 0] [0, 4294967295, 0] unknown |
+COIN | 1/10<=p<=9/10 | 1 | <= | split 0 upper [8, 16, 0] unknown |
+COIN | 1/10<=p<=9/10 | 1 | < | \
+split 0 unknown lower 1 1 [8, 16, 0] [0, 4294967295, 4294967295] [1, 0, 4294967295] |
+TWIN | 3/5<=p<=9/10 | 0 | >= | upper_one [7, 16, 0] [1, 4294967295, 0] |
+TWIN | 1/4<=p<=3/4 | 0 | >= | unknown |
+SHORT_CUT | 0<=p<=1 | 0 | >= | lower_all 1 2 [8, 16, 0, 16] [2, 1, 4294967295, 0] |";
+
+/// Tells a tree, each word with a blank behind it.
+fn tell_tree(told: &mut String, branch: &DualBranch) -> Result<(), AllocError> {
+    match branch {
+        DualBranch::Split { axis, lower, upper } => {
+            write!(told, "split {axis} ")?;
+            tell_tree(told, lower)?;
+            tell_tree(told, upper)
+        }
+        DualBranch::Upper { x } => write!(told, "upper {:?} ", x.as_slice()),
+        DualBranch::UpperOne { x, picks } => {
+            write!(told, "upper_one {:?} {:?} ", x.as_slice(), picks.as_slice())
+        }
+        DualBranch::Lower {
+            e,
+            k,
+            y,
+            picks,
+            ranks,
+        } => {
+            write!(told, "lower {e} {k} {:?} ", y.as_slice())?;
+            write!(told, "{:?} {:?} ", picks.as_slice(), ranks.as_slice())
+        }
+        DualBranch::LowerAll { e, k, y, ranks } => {
+            write!(
+                told,
+                "lower_all {e} {k} {:?} {:?} ",
+                y.as_slice(),
+                ranks.as_slice()
+            )
+        }
+        DualBranch::Unknown => told.push_str("unknown "),
+    }
+}
+
+/// A tree with a bar behind it.
+fn shown(alloc: Global, branch: &DualBranch) -> Result<String, AllocError> {
+    let mut told = String::new(alloc);
+    tell_tree(&mut told, branch)?;
+    told.push('|')?;
+    Ok(told)
+}
+
+/// The comparison of a cell.
+fn op_of(cell: &str) -> Op {
+    match cell {
+        "<=" => Op::AtMost,
+        "<" => Op::Below,
+        ">" => Op::Above,
+        _ => Op::AtLeast,
+    }
+}
+
+/// The tree of a case for a comparison with 1/2.
+fn tree_told(alloc: Global, case: &Case, op: Op) -> Result<String, Untold> {
+    let bound = bound_of("1/2")?;
+    let links = Links::build(alloc, case.model())?;
+    let tree = build(alloc, case, &links, op, bound)?;
+    Ok(shown(alloc, tree.top())?)
+}
+
+/// The same of a model over a region, at a depth.
+fn told_over(
+    alloc: Global,
+    model: &Model,
+    region: &[u8],
+    depth: u32,
+    op: Op,
+) -> Result<String, Untold>
+    requires { depth ≤ most_halvings }
+{
+    let (grid, root) = root_of(alloc, region, model.names(), depth)?;
+    let case = case_of(model, &root, grid)?;
+    tree_told(alloc, &case, op)
+}
+
+struct Formulas;
+
+impl Teller for Formulas {
+    type Told = String;
+
+    type Error = Untold;
+
+    fn tell(&self, alloc: Global, asked: &str) -> Result<String, Untold> {
+        let (name, region, depth, op) = cut_three(asked);
+        let depth = count(depth);
+        if depth > 20 {
+            return Err(Untold::Cell);
+        }
+        let model = model_of(alloc, text_of(name), b"heads")?;
+        told_over(alloc, &model, region.as_bytes(), depth, op_of(op))
+    }
+}
+
+#[test]
+fn builds_the_tree_for_a_comparison(rt: HostRuntime) {
+    each_row(&rt, rt.alloc(), DUAL_TREES, &Formulas);
+}

@@ -1,0 +1,308 @@
+//! Trees that are gone on from.
+
+ghost use Rattle.std.specs.Prelude.{◌≡◌, [], ◌∷◌, ◌++◌, ◌≤◌, None, IfOk, length, map};
+ghost use Rattle.lift_grid.specs.Rectangle.{most_halvings};
+ghost use Rattle.lift_model.specs.Links.{AreLinks};
+ghost use Rattle.lift_range.specs.Range.{Between};
+ghost use Rattle.region_tree.specs.Built.{tree_of};
+ghost use Rattle.tree_tests.specs.Cut.{AreGivenOfCut, cut, given_of, givens, letter_of};
+
+use crate::cases::{COIN, bound_of, case_of, model_of, root_of};
+use crate::cells::{self, Teller, Untold, count, cut_two, each_row};
+use crate::trees::{tell_marks, tell_numbers};
+use corner_lift::Case;
+use lift_cert::Bound;
+use lift_model::{Links, Model};
+use region_tree::{Base, Branch, Copier, Given, Room, Seen, Visitor, build, refine};
+use std::alloc::{AllocError, Global};
+use std::fmt::Write;
+use std::string::String;
+
+/// The coin with the bound 1/2, at precision 4: p's interval, the depth, the least precision, the depth at which the tree is
+/// cut that is gone on from, and in preorder the tree that is shown. A leaf of the first tree has the letter of its kind after
+/// the word given; others are told as in the table of trees. So what is shown is the tree of that table, wherever it is cut.
+const REFINED: &str = "\
+1/10<=p<=9/10 | 2 | 4 | 1 | split 0 given A split 0 unknown at 4 reject 1 1 11 16 0 0 4294967295 4294967295 1 0 4294967295 |
+1/10<=p<=9/10 | 3 | 1 | 0 | split 0 at 1 accept 1 2 0 split 0 split 0 unknown at 4 reject 1 1 9 16 0 0 4294967295 4294967295 1 0 4294967295 at 3 reject 1 1 5 8 0 0 4294967295 4294967295 1 0 4294967295 |
+1/10<=p<=9/10 | 3 | 1 | 1 | split 0 given A split 0 split 0 unknown at 4 reject 1 1 9 16 0 0 4294967295 4294967295 1 0 4294967295 at 3 reject 1 1 5 8 0 0 4294967295 4294967295 1 0 4294967295 |
+1/10<=p<=9/10 | 3 | 1 | 2 | split 0 given A split 0 split 0 unknown at 4 reject 1 1 9 16 0 0 4294967295 4294967295 1 0 4294967295 given R |
+1/10<=p<=9/10 | 3 | 1 | 3 | split 0 given A split 0 split 0 unknown given R given R |
+1/10<=p<=2/5 | 0 | 4 | 0 | given A |
+3/5<=p<=9/10 | 3 | 4 | 0 | given R |";
+
+/// The letter of a leaf that decides.
+fn letter(given: Given) -> &'static [u8]
+    ensures { result.now ≡ letter_of given }
+{
+    match given {
+        Given::Accept => b"A",
+        Given::Reject => b"R",
+        Given::Split(_) | Given::Unknown => b"",
+    }
+}
+
+/// Nodes that are still to come, and the one that was given last.
+#[derive(Drop)]
+struct Nodes<'n> {
+    rest: &'n [Given],
+    last: Given,
+}
+
+impl<'n> Base for Nodes<'n> {
+    ghost is_ahead = { λ b ahead. map given_of ahead ≡ b.rest.now };
+
+    ghost entry = { λ _ node. letter_of (given_of node) };
+
+    ghost bytes = { λ b. letter_of b.last };
+
+    fn next(&mut self) -> Given {
+        match self.rest.split_first() {
+            Some((given, rest)) => {
+                self.last = *given;
+                self.rest = rest;
+                *given
+            }
+            None => Given::Unknown,
+        }
+    }
+
+    fn bytes(&self) -> &[u8] {
+        letter(self.last)
+    }
+}
+
+/// Tells a rejecting leaf.
+fn tell_reject(
+    told: &mut String,
+    numbers: &[i64],
+    picks: &[u32],
+    ranks: &[u32],
+) -> Result<(), AllocError> {
+    tell_numbers(told, numbers)?;
+    tell_marks(told, picks)?;
+    tell_marks(told, ranks)
+}
+
+/// The words of a leaf that was given.
+fn given_words(bytes: &[u8]) -> &'static str {
+    match bytes {
+        b"A" => "given A ",
+        b"R" => "given R ",
+        _ => "given another ",
+    }
+}
+
+/// Tells the nodes that it is shown.
+#[derive(Drop)]
+struct Shown<'c, 'm> {
+    case: &'c Case<'m>,
+    told: String,
+    /// Whether there was memory for all.
+    is_whole: bool,
+}
+
+impl<'c, 'm> Shown<'c, 'm> {
+    /// Notes whether there was memory for a node.
+    fn note(&mut self, told: Result<(), AllocError>)
+        ensures { self.new.case ≡ self.old.case }
+    {
+        self.is_whole &= told.is_ok();
+    }
+}
+
+impl<'c, 'm> Visitor for Shown<'c, 'm> {
+    ghost states = { λ s. length s.case.now.model.states };
+
+    ghost precision = { λ s. s.case.now.w };
+
+    ghost entry = { λ _ node. letter_of (given_of node) };
+
+    ghost taken = { λ _. None };
+
+    ghost faults = { λ _. 0 };
+
+    #[tactic(auto, using(crate::proofs::Cutting::kept))]
+    fn split(&mut self, axis: u32) -> Seen {
+        let told = write!(self.told, "split {axis} ");
+        self.note(told);
+        Seen::Kept
+    }
+
+    #[tactic(auto, using(crate::proofs::Cutting::kept))]
+    fn accept(&mut self, u: u32, x: &[i64]) -> Seen {
+        let told = write!(self.told, "at {u} accept ");
+        self.note(told);
+        let told = tell_numbers(&mut self.told, x);
+        self.note(told);
+        Seen::Kept
+    }
+
+    #[tactic(auto, using(crate::proofs::Cutting::kept))]
+    fn reject(&mut self, u: u32, e: u32, k: u32, y: &[i64], picks: &[u32], ranks: &[u32]) -> Seen {
+        let told = write!(self.told, "at {u} reject {e} {k} ");
+        self.note(told);
+        let told = tell_reject(&mut self.told, y, picks, ranks);
+        self.note(told);
+        Seen::Kept
+    }
+
+    #[tactic(auto, using(crate::proofs::Cutting::kept))]
+    fn unknown(&mut self) -> Seen {
+        let told = self.told.push_str("unknown ");
+        self.note(told);
+        Seen::Kept
+    }
+}
+
+impl<'c, 'm> Copier for Shown<'c, 'm> {
+    #[tactic(auto, using(crate::proofs::Cutting::kept))]
+    fn copy(&mut self, bytes: &[u8]) -> Seen {
+        let told = self.told.push_str(given_words(bytes));
+        self.note(told);
+        Seen::Kept
+    }
+}
+
+/// Pushes the nodes of a tree that is cut at a depth.
+fn push_nodes(nodes: &mut Vec<Given>, branch: &Branch, depth: u32) -> Result<(), AllocError>
+    ensures { IfOk result (λ _. nodes.new.items ≡ nodes.old.items ++ givens (cut (tree_of branch.now) depth)) }
+{
+    let given = match branch {
+        Branch::Split { axis, lower, upper } if depth > 0 => {
+            nodes.push(Given::Split(*axis))?;
+            push_nodes(nodes, lower, depth - 1)?;
+            return push_nodes(nodes, upper, depth - 1);
+        }
+        Branch::Split { .. } | Branch::Unknown => Given::Unknown,
+        Branch::Accept { .. } => Given::Accept,
+        Branch::Reject { .. } => Given::Reject,
+    };
+    nodes.push(given)?;
+    Ok(())
+}
+
+/// A case, its links, a bound and a least precision, and the depth at which its tree is cut.
+#[derive(Clone, Copy)]
+struct Question<'q, 'm> {
+    case: &'q Case<'m>,
+    links: &'q Links,
+    bound: Bound,
+    from: u32,
+    depth: u32,
+}
+
+/// The nodes of the tree that is cut.
+fn nodes_of(alloc: Global, question: &Question) -> Result<Vec<Given>, AllocError>
+    requires links { AreLinks question.now.case.now.model question.now.links.now }
+    requires from { Between 1 question.now.case.now.w question.now.from }
+    ensures { IfOk result (λ nodes. AreGivenOfCut question.now.case.now question.now.from question.now.bound
+        question.now.depth nodes.items) }
+{
+    let (case, links) = (question.case, question.links);
+    let tree = build(alloc, case, links, question.bound, question.from)?;
+    let mut nodes = Vec::new(alloc);
+    push_nodes(&mut nodes, tree.top(), question.depth)?;
+    Ok(nodes)
+}
+
+/// The tree that goes on from these nodes, with a bar behind it.
+fn refined_told(alloc: Global, question: &Question, nodes: &[Given]) -> Result<String, Untold>
+    requires links { AreLinks question.now.case.now.model question.now.links.now }
+    requires from { Between 1 question.now.case.now.w question.now.from }
+    requires nodes { AreGivenOfCut question.now.case.now question.now.from question.now.bound
+        question.now.depth nodes.now }
+{
+    let (case, links) = (question.case, question.links);
+    let mut room = Room::make(alloc, case, links)?;
+    let mut base = Nodes {
+        rest: nodes,
+        last: Given::Unknown,
+    };
+    let mut shown = Shown {
+        case,
+        told: String::new(alloc),
+        is_whole: true,
+    };
+    refine(
+        case,
+        links,
+        question.bound,
+        question.from,
+        &mut room,
+        &mut base,
+        &mut shown,
+    );
+    if !shown.is_whole {
+        return Err(Untold::NoMemory);
+    }
+    shown.told.push('|')?;
+    Ok(shown.told)
+}
+
+/// What a row asks beside p's interval and the case's depth: the least precision, and the depth at which the tree is cut.
+#[derive(Clone, Copy)]
+struct Asked {
+    from: u32,
+    depth: u32,
+}
+
+/// The tree of a case that goes on from the one which is cut, for the bound 1/2.
+fn case_told(alloc: Global, case: &Case, asked: Asked) -> Result<String, Untold> {
+    if asked.from < 1 || asked.from > case.w() {
+        return Err(Untold::Cell);
+    }
+    let bound = bound_of("1/2")?;
+    let links = Links::build(alloc, case.model())?;
+    let question = Question {
+        case: &*case,
+        links: &links,
+        bound,
+        from: asked.from,
+        depth: asked.depth,
+    };
+    let nodes = nodes_of(alloc, &question)?;
+    refined_told(alloc, &question, nodes.as_slice())
+}
+
+/// The same of a model over a region, at a depth.
+fn told_over(
+    alloc: Global,
+    model: &Model,
+    region: &[u8],
+    depth: u32,
+    asked: Asked,
+) -> Result<String, Untold>
+    requires { depth ≤ most_halvings }
+{
+    let (grid, root) = root_of(alloc, region, model.names(), depth)?;
+    let case = case_of(model, &root, grid)?;
+    case_told(alloc, &case, asked)
+}
+
+struct Refined;
+
+impl Teller for Refined {
+    type Told = String;
+
+    type Error = Untold;
+
+    fn tell(&self, alloc: Global, asked: &str) -> Result<String, Untold> {
+        let (region, depth, rest) = cut_two(asked);
+        let (from, cut) = cells::cut(rest);
+        let depth = count(depth);
+        if depth > 20 {
+            return Err(Untold::Cell);
+        }
+        let asked = Asked {
+            from: count(from),
+            depth: count(cut),
+        };
+        let model = model_of(alloc, COIN)?;
+        told_over(alloc, &model, region.as_bytes(), depth, asked)
+    }
+}
+
+#[test]
+fn goes_on_from_a_tree(rt: HostRuntime) {
+    each_row(&rt, rt.alloc(), REFINED, &Refined);
+}
