@@ -52,6 +52,9 @@ class Native(unittest.TestCase):
     def test_claims_become_matches(self) -> None:
         self.assertEqual(rust.without_claims(CLAIM), MATCH)
 
+    def test_an_associated_type_is_dropped_without_a_word(self) -> None:
+        self.assertIn("    type Branch;\n", rust.as_rust("trait Grower {\n    type Branch: Drop;\n}\n"))
+
 
 if __name__ == "__main__":
     unittest.main()
