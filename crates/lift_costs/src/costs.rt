@@ -1,5 +1,5 @@
 // The costs of all states.
-ghost use Rattle.std.specs.Prelude.{◌≡◌, ◌<◌, ◌++◌, ◌∷◌, [], pos, ◌≤ℤ◌, length, OnOk, OnErr};
+ghost use Rattle.std.specs.Prelude.{◌≡◌, ◌<◌, ◌++◌, ◌∷◌, [], pos, ◌≤ℤ◌, length, All, OnOk, OnErr};
 ghost use Rattle.lift_frac.specs.Frac.{ratio_of};
 ghost use Rattle.lift_costs.specs.Costs.{IsCost, cost, cost_of};
 
@@ -60,6 +60,13 @@ impl Costs {
     {
         self.costs.push(cost_from(value))?;
         Ok(())
+    }
+
+    /// Holds the law that each of them is a cost, for who reasons about them all. It does nothing.
+    pub fn are_costs(&self)
+        ensures { All IsCost self.now }
+    {
+        let _ = &self.costs;
     }
 
     /// The cost of a state in lowest terms: its numerator and its denominator.
