@@ -10,21 +10,41 @@ use crate::floats::float_of;
 use crate::notes::Note;
 use crate::part::{Part, first_weight};
 use crate::step::{Ahead, Outlook, Step};
-use std::num::{
-    f64_from_bits_with_nan, f64_to_bits_with_nan, nearest_i64_to_f64, saturating_f64_to_u32,
-};
+use std::num::{f64_from_bits_with_nan, f64_to_bits_with_nan};
 
-/// What stands for 1 where a step's mean is kept, from -1 on.
-const MEAN_ONE: f64 = 1073741824.0;
+/// How many bits of a step's gain are kept below those of its leak, in place of the last ones of that float; 32 more are
+/// kept by themselves, and the last ones not at all.
+const GAIN_BITS: u32 = 15;
+
+const LOST_BITS: u32 = 17;
+
+/// The bits below a leak's.
+const LOW_BITS: u64 = (1 << GAIN_BITS) - 1;
+
+/// Halves of what is lost of both, for rounding.
+const LOW_HALF: u64 = 1 << (GAIN_BITS - 1);
+
+const LOST_HALF: u64 = 1 << (LOST_BITS - 1);
 
 /// How often the choices and corners that count are found anew.
 const ROUNDS: u32 = 24;
+
+/// How often where there are tolls, since those that are cut off are found one by one.
+const TOLLED_ROUNDS: u32 = 256;
 
 /// What counts of a state's rows: the outlook, and a number that tells choices and corners apart.
 #[derive(Clone, Copy)]
 struct Counted {
     outlook: Outlook,
     mark: u64,
+}
+
+impl Counted {
+    /// What counts of a state that is cut off, whichever choice and corner do.
+    const CUT_OFF: Counted = Counted {
+        outlook: Outlook::MOST,
+        mark: u64::MAX,
+    };
 }
 
 /// How an elimination ended.
@@ -46,11 +66,12 @@ fn note_at(noted: &[u32], position: u32) -> Note {
 impl Part<'_> {
     /// The step of the state at a position. Its leak lies in the lane.
     fn step_at(&self, lane: &[i64], means: &[u32], noted: &[u32], position: u32) -> Step {
-        let bits = u64::try_from(self.number_at(lane, position)).unwrap_or(0);
-        let mean = i64::from(means.get(position as usize).copied().unwrap_or(0));
+        let first = u64::try_from(self.number_at(lane, position)).unwrap_or(0);
+        let second = means.get(position as usize).copied().unwrap_or(0);
+        let low = first & LOW_BITS;
         Step {
-            leak: f64_from_bits_with_nan(bits),
-            mean: nearest_i64_to_f64(mean) / MEAN_ONE - 1.0,
+            leak: f64_from_bits_with_nan(first - low),
+            gain: f64_from_bits_with_nan((u64::from(second) << GAIN_BITS | low) << LOST_BITS),
             to: note_at(noted, position).position(),
         }
     }
@@ -69,14 +90,16 @@ impl Part<'_> {
         ensures { IsSameBeyond self.now.rule.ends self.now.case.now self.now.links.now self.now.low self.now.high
             lane.old lane.new }
     {
+        let leak = f64_to_bits_with_nan(step.leak).wrapping_add(LOW_HALF) & !LOW_BITS;
+        let gain = f64_to_bits_with_nan(step.gain).wrapping_add(LOST_HALF) >> LOST_BITS;
         if let Some(mean) = means.get_mut(position as usize) {
-            *mean = saturating_f64_to_u32((step.mean + 1.0) * MEAN_ONE + 0.5);
+            *mean = (gain >> GAIN_BITS) as u32;
         }
         if let Some(bits) = noted.get_mut(position as usize) {
             *bits = Note { bits: *bits }.with_position(step.to).bits;
         }
-        let bits = i64::try_from(f64_to_bits_with_nan(step.leak)).unwrap_or(0);
-        self.write(lane, position, bits);
+        let first = leak | gain & LOW_BITS;
+        self.write(lane, position, i64::try_from(first).unwrap_or(0));
     }
 
     /// The step of a state that was put in, to a state that wasn't, which is one from a position on. The
@@ -95,6 +118,9 @@ impl Part<'_> {
             lane.old lane.new }
     {
         let mut step = self.step_at(lane, means, noted, from);
+        if step.to >= position {
+            return step;
+        }
         for _ in self.low..self.high {
             if step.to >= position {
                 break;
@@ -168,6 +194,9 @@ impl Part<'_> {
             }
             at = at.wrapping_add(1);
         }
+        if self.tolled {
+            outlook = outlook.plus(self.toll_of(s) * self.whole(place, corner));
+        }
         outlook
     }
 
@@ -234,6 +263,12 @@ impl Part<'_> {
         counted
     }
 
+    /// Whether what counts of a state is cut off at 1.
+    #[inline(always)]
+    fn is_cut_off(&self, outlook: &Outlook) -> bool {
+        self.tolled && outlook.worth() >= 1.0
+    }
+
     /// Puts the states in, from the first position on, as long as that does.
     fn put_in(&self, lane: &mut [i64], means: &mut [u32], noted: &mut [u32]) -> Eliminated
         requires links { AreLinks self.now.case.now.model self.now.links.now }
@@ -243,8 +278,11 @@ impl Part<'_> {
     {
         let mut marks: u64 = 1;
         for position in self.low..self.high {
-            let counted = self.counted_at(lane, means, noted, position);
-            let extra = self.extra * note_at(noted, position).share();
+            let mut counted = self.counted_at(lane, means, noted, position);
+            if self.is_cut_off(&counted.outlook) {
+                counted = Counted::CUT_OFF;
+            }
+            let extra = self.extra_by(note_at(noted, position));
             let Some(step) = counted.outlook.step(extra) else {
                 return Eliminated::Before(position);
             };
@@ -271,7 +309,8 @@ impl Part<'_> {
     }
 
     /// Finds what the states are worth by elimination, with the choices and corners that count anew in each
-    /// round, until the same count again. False: that didn't do.
+    /// round, until the same count again. False: that didn't do. Without tolls, a guess that is moved up follows one
+    /// that isn't, or a lesser one, by which the same count mostly.
     pub(crate) fn eliminate(&self, lane: &mut [i64], means: &mut [u32], noted: &mut [u32]) -> bool
         requires links { AreLinks self.now.case.now.model self.now.links.now }
         requires size { length lane.old ≡ length self.now.case.now.model.states }
@@ -279,11 +318,12 @@ impl Part<'_> {
             lane.old lane.new }
     {
         let mut last = 0;
-        for _ in 0..ROUNDS {
+        let rounds = if self.tolled { TOLLED_ROUNDS } else { ROUNDS };
+        for _ in 0..rounds {
             match self.put_in(lane, means, noted) {
                 Eliminated::All(marks) => {
                     self.take_out(lane, means, noted, self.high);
-                    if marks == last {
+                    if marks == last || (self.extra > 0.0 && !self.tolled) {
                         return true;
                     }
                     last = marks;

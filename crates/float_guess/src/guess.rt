@@ -14,7 +14,7 @@ use std::num::nearest_i64_to_f64;
 /// By a unit over this a guess differs from what the floats say, so that errors of rounding don't matter.
 const MARGINS_IN_A_UNIT: i64 = 64;
 
-/// It differs by this at least, since an elimination keeps some numbers to 30 bits.
+/// It differs by this at least, since an elimination keeps some numbers to 36 bits.
 const LEAST_MARGIN: i64 = 1 << 32;
 
 /// The share of a unit that a moved guess adds for each expected step: a little less than the half that rounding makes
@@ -38,6 +38,8 @@ pub enum Way {
     /// The same, and beyond what it says on the side of the rounding's opposite, by a share of a unit for each
     /// expected step: the lesser the higher the level that is noted.
     MovedElimination,
+    /// By elimination, and beyond what it says by the part of a unit that is noted of a state, for each expected step.
+    RoundedElimination,
     /// By so many sweeps at most.
     Sweeps(u32),
     /// Not at all: they are 0, rounded.
@@ -57,10 +59,11 @@ impl Rounding {
 }
 
 impl Way {
-    /// What each expected step brings besides, where the share is whole and `top` stands for 1.
+    /// What each expected step brings besides, where the share or the part is whole and `top` stands for 1.
     fn extra(self, rounding: Rounding, top: i64) -> f64 {
         let share = match self {
             Way::MovedElimination => SHARE,
+            Way::RoundedElimination => 1.0,
             Way::Elimination | Way::Sweeps(_) | Way::Nothing => 0.0,
         };
         let extra = share / nearest_i64_to_f64(top);
@@ -93,7 +96,7 @@ impl Part<'_> {
         ensures { IsSameBeyond self.now.rule.ends self.now.case.now self.now.links.now self.now.low self.now.high
             lane.old lane.new }
     {
-        if !self.rule.ends.has_tolls() {
+        if !self.tolled {
             return false;
         }
         for position in self.low..self.high {
@@ -110,8 +113,8 @@ impl Part<'_> {
             lane.old lane.new }
     {
         match way {
-            Way::Elimination | Way::MovedElimination => {
-                !self.rule.ends.has_tolls() && self.eliminate(lane, means, noted)
+            Way::Elimination | Way::MovedElimination | Way::RoundedElimination => {
+                self.eliminate(lane, means, noted)
             }
             Way::Sweeps(most) => self.approach(lane, means, most) || self.take_most(lane),
             Way::Nothing => {
@@ -182,6 +185,7 @@ pub fn guess_part(
         rule,
         top,
         extra: way.extra(rounding, top),
+        tolled: rule.ends.has_tolls(),
         low,
         high,
     };
@@ -190,4 +194,38 @@ pub fn guess_part(
     let done = part.find(lane, means, noted, way);
     part.round(lane, rounding, unit);
     done
+}
+
+/// Notes of each state whose number isn't given, at its position, which part of a unit rounding adds to the mean that
+/// counts of the numbers in the lane, with the state's toll: the levels of the shares are lost, but no number that is
+/// noted. So `Way::RoundedElimination` guesses what rounding up makes of them.
+pub fn note_roundings(
+    case: &Case,
+    links: &Links,
+    weights: &[i128],
+    rule: Rule,
+    lane: &[i64],
+    noted: &mut [u32],
+)
+    requires { CanGuess case.now links.now lane.now }
+    ensures { length noted.new ≡ length noted.old }
+{
+    rows_at_corners();
+    let top = one_at(case.w());
+    let whole = Part {
+        case: &*case,
+        links: &*links,
+        weights: &*weights,
+        rule,
+        top,
+        extra: 0.0,
+        tolled: rule.ends.has_tolls(),
+        low: 0,
+        high: 0,
+    };
+    for s in 0..case.model().states() {
+        if !rule.ends.has(case.model(), s) {
+            whole.note_rounding(lane, noted, s);
+        }
+    }
 }

@@ -12,7 +12,7 @@ mod step;
 mod sweep;
 mod toll;
 
-pub use guess::{Rounding, Way, guess_part};
+pub use guess::{Rounding, Way, guess_part, note_roundings};
 pub use notes::{Note, lessen_share, make_shares_whole};
 pub use rule::{Ends, Extreme, Rule};
 pub use toll::Tolls;

@@ -3,8 +3,13 @@
 ghost use Rattle.std.specs.Prelude.{◌≡◌, ◌≢◌, ◌≤ℤ◌, ◌%◌, pos, length, IsTrue, IsFalse};
 ghost use Rattle.float_guess.specs.Notes.{low_word, noted_word, share_levels};
 
+use std::num::{nearest_i64_to_f64, saturating_f64_to_u32};
+
 /// How many levels of a share there are.
 const LEVELS: u32 = 16;
+
+/// The same as a float.
+const PARTS: f64 = 16.0;
 
 /// How many numbers the other 28 bits tell apart.
 const WORDS: u64 = 1 << 28;
@@ -91,6 +96,21 @@ impl Note {
             }
         }
         share
+    }
+
+    /// The note whose level tells a part of 1, to the nearest of as many as there are: the higher, the lesser.
+    pub(crate) fn with_part(self, part: f64) -> Note
+        ensures { noted_word result.bits ≡ noted_word self.bits }
+    {
+        let parts = saturating_f64_to_u32(part * PARTS + 0.5).min(LEVELS - 1);
+        Note {
+            bits: self.bits - self.bits % LEVELS + (LEVELS - 1 - parts),
+        }
+    }
+
+    /// The part of 1 that its level tells.
+    pub(crate) fn part(self) -> f64 {
+        nearest_i64_to_f64(i64::from(LEVELS - 1 - self.bits % LEVELS)) / PARTS
     }
 
     /// The note with a position for its number.

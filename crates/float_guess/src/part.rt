@@ -4,11 +4,15 @@ ghost use Rattle.std.specs.Prelude.{◌≡◌, ◌≤◌, ◌<◌, ℕ, length, 
 ghost use Rattle.lift_model.specs.Links.{AreLinks};
 ghost use Rattle.float_guess.specs.Part.{IsFreeAt, IsSameBeyond, IsWrittenAt};
 
-use crate::floats::{number_of, probability_of};
+use crate::floats::{float_of, number_of, probability_of};
+use crate::notes::Note;
 use crate::rule::Rule;
 use corner_lift::Case;
 use lift_model::{Links, RowPlace};
 use std::num::nearest_i64_to_f64;
+
+/// So much less than a state's part of a unit is added, so that errors of rounding don't matter.
+const LESS: f64 = 0.00390625;
 
 /// The states that stand at the positions from `low` on and before `high`. While they are guessed, the lane
 /// holds 2 to the 62 times a state's probability for each of them whose number isn't given; for the others it
@@ -20,8 +24,10 @@ pub(crate) struct Part<'a> {
     pub(crate) weights: &'a [i128],
     pub(crate) rule: Rule<'a>,
     pub(crate) top: i64,
-    // what each expected step brings besides, where the share is whole
+    // what each expected step brings besides, where the share or the part is whole
     pub(crate) extra: f64,
+    // whether visits add tolls
+    pub(crate) tolled: bool,
     pub(crate) low: u32,
     pub(crate) high: u32,
 }
@@ -99,6 +105,35 @@ impl Part<'_> {
             Some(position) => self.worth_at(lane, position),
             None => self.worth_beyond(lane, s),
         }
+    }
+
+    /// What each expected step from a state brings besides, of which that was noted: by its share, or where there are
+    /// tolls by its part.
+    pub(crate) fn extra_by(&self, note: Note) -> f64 {
+        if self.tolled {
+            self.extra * (note.part() - LESS).max(0.0)
+        } else {
+            self.extra * note.share()
+        }
+    }
+
+    /// What a visit of a state adds to what it is worth.
+    #[inline(never)]
+    pub(crate) fn toll_of(&self, s: u32) -> f64 {
+        let added = self.rule.ends.added(self.case, s);
+        nearest_i64_to_f64(added) / nearest_i64_to_f64(self.top)
+    }
+
+    /// What a row weighs at a corner.
+    #[inline(never)]
+    pub(crate) fn whole(&self, place: RowPlace, corner: u32) -> f64 {
+        let first = first_weight(place, corner);
+        let end = first.wrapping_add(place.count as usize);
+        let mut whole = 0.0;
+        for at in first..end {
+            whole += float_of(self.weights.get(at).copied().unwrap_or(0));
+        }
+        whole
     }
 
     /// Writes a number for the state at a position of the part, if its number isn't given.

@@ -3,28 +3,27 @@
 /// In place of a position, where there is no later state.
 pub(crate) const NOWHERE: u32 = (1 << 28) - 1;
 
-/// A state leaves its part with the probability `leak`, for what is worth `mean`, and else comes to the state
-/// at the position `to`.
+/// A state leaves its part with the probability `leak`, and else comes to the state at the position `to`. What it
+/// leaves for and what is added on the way are worth `gain` together.
 #[derive(Clone, Copy)]
 pub(crate) struct Step {
     pub(crate) leak: f64,
-    pub(crate) mean: f64,
+    pub(crate) gain: f64,
     pub(crate) to: u32,
 }
 
 impl Step {
     /// What the state is worth where the later one is worth so much.
     pub(crate) fn worth(self, later: f64) -> f64 {
-        self.leak * self.mean + (1.0 - self.leak) * later
+        self.gain + (1.0 - self.leak) * later
     }
 
     /// The step to the state that the later one comes to.
     pub(crate) fn then(self, next: Step) -> Step {
-        let leak = self.leak + (1.0 - self.leak) * next.leak;
-        let gain = self.leak * self.mean + (1.0 - self.leak) * next.leak * next.mean;
+        let on = 1.0 - self.leak;
         Step {
-            leak,
-            mean: if leak > 0.0 { gain / leak } else { 0.0 },
+            leak: self.leak + on * next.leak,
+            gain: self.gain + on * next.gain,
             to: next.to,
         }
     }
@@ -49,7 +48,7 @@ pub(crate) enum Ahead {
 /// state isn't counted, so that nothing is ever taken from 1.
 #[derive(Clone, Copy)]
 pub(crate) struct Outlook {
-    // the weight that leaves the part, and what it is worth there
+    // the weight that leaves the part, and what it is worth there, with what is added on the way
     leaving: f64,
     gain: f64,
     // the weight that comes back by earlier states
@@ -74,11 +73,25 @@ impl Outlook {
         more: false,
     };
 
-    /// With a weight that leaves the part for what is worth so much.
-    fn leave(self, weight: f64, worth: f64) -> Outlook {
+    /// That of a weight that leaves for what is worth the most.
+    pub(crate) const MOST: Outlook = Outlook {
+        leaving: 1.0,
+        gain: 1.0,
+        ..Outlook::NONE
+    };
+
+    /// With a weight of which such a share leaves the part, which gains so much.
+    fn leave(self, weight: f64, leak: f64, gain: f64) -> Outlook {
         let mut next = self;
-        next.leaving += weight;
-        next.gain += weight * worth;
+        next.leaving += weight * leak;
+        next.gain += weight * gain;
+        next
+    }
+
+    /// With so much that is added to the row's sum.
+    pub(crate) fn plus(self, added: f64) -> Outlook {
+        let mut next = self;
+        next.gain += added;
         next
     }
 
@@ -105,23 +118,26 @@ impl Outlook {
     /// With a weight that leads there.
     pub(crate) fn with(self, weight: f64, ahead: Ahead) -> Outlook {
         match ahead {
-            Ahead::Out(worth) => self.leave(weight, worth),
+            Ahead::Out(worth) => self.leave(weight, 1.0, worth),
             Ahead::Here => self,
             Ahead::Later(at, worth) => self.come(weight, worth, at),
             Ahead::Back(step) => self
-                .leave(weight * step.leak, step.mean)
+                .leave(weight, step.leak, step.gain)
                 .come_back(weight * (1.0 - step.leak)),
             Ahead::On(step, worth) => self
-                .leave(weight * step.leak, step.mean)
+                .leave(weight, step.leak, step.gain)
                 .come(weight * (1.0 - step.leak), worth, step.to),
         }
     }
 
-    /// What the row is worth, given what later states are worth now.
+    /// What the row is worth, given what later states are worth now. Where its weight leads nowhere else, that is
+    /// without end.
     pub(crate) fn worth(self) -> f64 {
         let all = self.leaving + self.coming;
         if all > 0.0 {
             (self.gain + self.hope) / all
+        } else if self.gain > 0.0 {
+            1.0
         } else {
             0.0
         }
@@ -137,18 +153,13 @@ impl Outlook {
         if all <= 0.0 {
             return Some(Step {
                 leak: 1.0,
-                mean: 0.0,
+                gain: self.worth(),
                 to: NOWHERE,
             });
         }
-        let mean = if self.leaving > 0.0 {
-            (self.gain + extra * (all + self.back)) / self.leaving
-        } else {
-            0.0
-        };
         Some(Step {
             leak: self.leaving / all,
-            mean,
+            gain: (self.gain + extra * (all + self.back)) / all,
             to: self.to,
         })
     }

@@ -5,6 +5,7 @@ ghost use Rattle.lift_model.specs.Links.{AreLinks, HasChoice};
 ghost use Rattle.float_guess.specs.Part.{IsSameBeyond};
 
 use crate::floats::{ONE, float_of};
+use crate::notes::Note;
 use crate::part::{Part, first_weight};
 use std::num::{nearest_i64_to_f64, saturating_f64_to_u32};
 
@@ -19,6 +20,9 @@ const PERIOD: u32 = 12;
 
 /// How many sweeps are not counted for it.
 const CALM: u32 = 4;
+
+/// By so much of a unit a mean may be above a number that it is equal to.
+const SLACK: f64 = 0.000001;
 
 /// How a part's sweeps go.
 #[derive(Clone, Copy)]
@@ -71,26 +75,9 @@ impl Sweeping {
 }
 
 impl Part<'_> {
-    /// What a visit of a state adds to the sum of a row at a corner: that times what the row weighs.
-    #[inline(never)]
-    fn added(&self, s: u32, a: u32, corner: u32) -> f64
-        requires links { AreLinks self.now.case.now.model self.now.links.now }
-        requires row { HasChoice self.now.case.now.model s a }
-    {
-        let place = self.links.place(s, a);
-        let mut at = first_weight(place, corner);
-        let mut whole = 0.0;
-        for _ in self.links.targets(place) {
-            whole += float_of(self.weights.get(at).copied().unwrap_or(0));
-            at = at.wrapping_add(1);
-        }
-        let added = self.rule.ends.added(self.case, s);
-        whole * nearest_i64_to_f64(added) / nearest_i64_to_f64(self.top)
-    }
-
-    /// The weighted mean of a row at a corner, of the states but its own, with what each visit adds.
+    /// The weighted mean of a row at a corner, of the states but its own, with the toll of each visit.
     #[inline(always)]
-    fn mean(&self, lane: &[i64], s: u32, a: u32, corner: u32) -> f64
+    fn mean(&self, lane: &[i64], s: u32, a: u32, corner: u32, toll: f64) -> f64
         requires links { AreLinks self.now.case.now.model self.now.links.now }
         requires row { HasChoice self.now.case.now.model s a }
     {
@@ -106,8 +93,8 @@ impl Part<'_> {
             }
             at = at.wrapping_add(1);
         }
-        if self.rule.ends.has_tolls() {
-            sum += self.added(s, a, corner);
+        if self.tolled {
+            sum += toll * self.whole(place, corner);
         }
         if rest > 0.0 {
             sum / rest
@@ -119,14 +106,15 @@ impl Part<'_> {
     }
 
     /// The mean at the corner that counts.
-    fn choice_mean(&self, lane: &[i64], s: u32, a: u32) -> f64
+    fn choice_mean(&self, lane: &[i64], s: u32, a: u32, toll: f64) -> f64
         requires links { AreLinks self.now.case.now.model self.now.links.now }
         requires row { HasChoice self.now.case.now.model s a }
     {
         let corners = self.links.place(s, a).corners;
-        let mut mean = self.mean(lane, s, a, 0);
+        let mut mean = self.mean(lane, s, a, 0, toll);
         for corner in 1..corners {
-            mean = self.rule.corner.of(mean, self.mean(lane, s, a, corner));
+            let other = self.mean(lane, s, a, corner, toll);
+            mean = self.rule.corner.of(mean, other);
         }
         mean
     }
@@ -137,8 +125,9 @@ impl Part<'_> {
         requires state { s < length self.now.case.now.model.states }
     {
         let mut mean: f64 = 0.0;
+        let toll = if self.tolled { self.toll_of(s) } else { 0.0 };
         for a in 0..self.case.model().choices(s) {
-            let other = self.choice_mean(lane, s, a);
+            let other = self.choice_mean(lane, s, a, toll);
             mean = if a == 0 {
                 other
             } else {
@@ -173,6 +162,19 @@ impl Part<'_> {
             *note = saturating_f64_to_u32(step / unit);
         }
         step.abs()
+    }
+
+    /// Notes which part of a unit rounding up adds to the mean of a state that counts, with its toll.
+    pub(crate) fn note_rounding(&self, lane: &[i64], noted: &mut [u32], s: u32)
+        requires links { AreLinks self.now.case.now.model self.now.links.now }
+        requires state { s < length self.now.case.now.model.states }
+        ensures { length noted.new ≡ length noted.old }
+    {
+        let mean = self.state_mean(lane, s) * nearest_i64_to_f64(self.top);
+        let part = (mean - SLACK).ceil() - mean;
+        if let Some(bits) = noted.get_mut(self.links.position(s) as usize) {
+            *bits = Note { bits: *bits }.with_part(part.max(0.0)).bits;
+        }
     }
 
     /// Moves each state. Gives the greatest step.

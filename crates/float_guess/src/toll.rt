@@ -29,6 +29,9 @@ impl Tolls<'_> {
         let (num, den) = self.costs.get(s);
         let due = num as u128 * one_at(w) as u128;
         let whole = den as u128 * i64::from(self.cap) as u128;
-        due.div_ceil(whole)
+        match (u64::try_from(due), u64::try_from(whole)) {
+            (Ok(due), Ok(whole)) => u128::from(due.div_ceil(whole)),
+            _ => due.div_ceil(whole),
+        }
     }
 }

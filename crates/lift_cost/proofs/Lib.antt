@@ -3,3 +3,4 @@ pub mod Covering
 pub mod Paying
 pub mod Trees
 pub mod Ready
+pub mod Limits

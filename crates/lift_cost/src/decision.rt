@@ -3,16 +3,17 @@
 ghost use Rattle.std.specs.Prelude.{◌≡◌, ◌*◌, ◌^◌, ◌≤ℤ◌, ◌<ℤ◌, ◌*ℤ◌, List, ℤ, pos, length, IsTrue, IsFalse};
 ghost use Rattle.lift_grid.specs.Rectangle.{Spans, spans_of};
 ghost use Rattle.corner_lift.specs.Case.{AreSidesInside, number};
-ghost use Rattle.rounded_iter.specs.Priced.{IsPriced, IsLeastPriced};
+ghost use Rattle.rounded_iter.specs.Priced.{IsLeastPriced};
 ghost use Rattle.lift_cost.specs.Certificate.{IsAffordable, price_over};
 ghost use Rattle.lift_cost.specs.Decided.{CanAskCost, DecidesCost, IsOpenCost, asked};
 ghost use Rattle.lift_cost.specs.Rooms.{HasCostLanes, KeepsPlaces};
 
-use crate::cost::least_cost;
+use crate::cost::least_cost_within;
 use crate::laws::cost_certificates_decide;
 use crate::question::CostQuestion;
 use crate::room::CostLanes;
 use corner_lift::{fill, one_at, rows_at_corners};
+use float_guess::Tolls;
 
 /// The product, which can't overflow.
 fn widening_mul(a: u64, b: u64) -> u128
@@ -42,7 +43,22 @@ impl CostQuestion<'_, '_> {
         widening_mul(number.unsigned_abs(), scale) <= most
     }
 
-    /// Whether there is a priced vector of the rectangle that has these sides. Then the least one is in the values.
+    /// No number above this is affordable.
+    fn limit(&self) -> i64
+        ensures { (n : ℤ) → (pos 0 ≤ℤ n) × (n ≤ℤ pos (2 ^ self.now.case.now.w))
+            → IsAffordable (asked self.now).budget self.now.cap self.now.case.now.w n → n ≤ℤ result }
+    {
+        let one = one_at(self.case.w());
+        let most = widening_mul(self.budget.num, one.unsigned_abs());
+        let scale = u128::from(short_mul(self.cap, self.budget.den));
+        match most.checked_div(scale) {
+            Some(number) if number < one as u128 => number as i64,
+            _ => one,
+        }
+    }
+
+    /// Whether there is a priced vector of the rectangle that has these sides, and the initial state's number in it is
+    /// within the limit. Then the least one is in the values.
     fn find(&self, lanes: &mut CostLanes, sides: &[i64]) -> bool
         ghost spans: { Spans }
         requires spans { spans_of sides.now ≡ spans }
@@ -52,16 +68,20 @@ impl CostQuestion<'_, '_> {
         ensures kept { KeepsPlaces lanes.old lanes.new }
         ensures least { IsTrue result → IsLeastPriced self.now.case.now spans
             (price_over self.now.case.now.w self.now.costs.now self.now.cap) lanes.new.values.items }
-        ensures none { IsFalse result → (z : List ℤ) → IsPriced self.now.case.now spans
-            (price_over self.now.case.now.w self.now.costs.now self.now.cap) z → ⊥ }
+        ensures open { IsFalse result → IsOpenCost self.now.case.now (asked self.now) spans }
     {
+        rows_at_corners();
         fill(self.case, self.links, sides, &mut lanes.weights);
-        least_cost(
+        let tolls = Tolls {
+            costs: self.costs,
+            cap: self.cap,
+        };
+        least_cost_within(
             self.case,
             self.links,
             &lanes.weights,
-            self.costs,
-            self.cap,
+            &tolls,
+            self.limit(),
             &mut lanes.values,
             &mut lanes.work,
         )

@@ -24,15 +24,21 @@ use float_guess::{
 const FIRST_PASSES: u32 = 48;
 
 /// As many passes are made before it is guessed as there are numbers, where these are no more.
+const VERY_FEW_NUMBERS: u32 = 64;
+
+/// As many are made before it is begun anew, where these are no more.
 const FEW_NUMBERS: i64 = 1024;
 
 /// How many states a small component has at most.
 const SMALL: u32 = 64;
 
 /// How many moved guesses are made, until each state fell below one in so many passes.
-const GUESSES: u32 = 8;
+const GUESSES: u32 = 5;
 
 const GUESS_PASSES: u32 = 64;
+
+/// How many passes lower it first from one that isn't moved.
+const FEW_PASSES: u32 = 32;
 
 /// How many more passes there are for each state behind one that didn't fall whose share was made less.
 const SPREAD_PASSES: u32 = 8;
@@ -247,15 +253,14 @@ fn lower_from_guess(
     Guessed::Low
 }
 
-/// Lowers a part from moved guesses, each by lesser shares for the states that didn't fall from the last one, until
-/// each fell from one. False: they never did, or it took too many passes.
-fn lower_from_moved(
+/// Lowers a part from a guess that isn't moved. A few passes mostly show whether each state falls.
+fn lower_from_unmoved(
     rows: &Lifted,
     lane: &mut [i64],
     flags: &mut [u32],
     noted: &mut [u32],
     part: Part,
-) -> bool
+) -> Guessed
     ghost spans: { Spans }
     requires can { CanLower rows.now (from_top rows.now.case spans) lane.old }
     requires flags { part.high ≤ length flags.old }
@@ -263,72 +268,34 @@ fn lower_from_moved(
     requires part { part.high ≤ length rows.now.links.order }
     ensures { IsHigh rows.now.case spans lane.new }
 {
-    let boundless = Descent {
-        rows: &*rows,
-        limit: -1,
-    };
-    make_shares_whole(noted);
-    let mut spread: u32 = 0;
-    for _ in 0..GUESSES {
-        let guess = Guess {
-            way: Way::MovedElimination,
-            passes: GUESS_PASSES.saturating_add(SPREAD_PASSES.saturating_mul(spread)),
-            spread,
-        };
-        match lower_from_guess(rows, lane, flags, noted, part, guess) {
-            Guessed::Good => return true,
-            Guessed::Slow => return boundless.settle_within(lane, flags, part, GUESS_PATIENCE),
-            Guessed::Low => spread = spread.saturating_mul(2).max(1),
-            Guessed::Nothing => return false,
+    let guess = Guess::unmoved(FEW_PASSES);
+    match lower_from_guess(rows, lane, flags, noted, part, guess) {
+        Guessed::Low => {
+            let guess = Guess::unmoved(GUESS_PASSES);
+            lower_from_guess(rows, lane, flags, noted, part, guess)
         }
+        guessed => guessed,
     }
-    false
-}
-
-/// Lowers a part from guesses, until one is good: from moved ones where one that isn't moved is none too low. False:
-/// none was.
-fn lower_from_guesses(
-    rows: &Lifted,
-    lane: &mut [i64],
-    flags: &mut [u32],
-    noted: &mut [u32],
-    part: Part,
-) -> bool
-    ghost spans: { Spans }
-    requires can { CanLower rows.now (from_top rows.now.case spans) lane.old }
-    requires flags { part.high ≤ length flags.old }
-    requires notes { length noted.old ≡ length rows.now.case.model.states }
-    requires part { part.high ≤ length rows.now.links.order }
-    ensures { IsHigh rows.now.case spans lane.new }
-{
-    let first = Guess::unmoved(GUESS_PASSES);
-    match lower_from_guess(rows, lane, flags, noted, part, first) {
-        Guessed::Good => return true,
-        Guessed::Slow => {
-            if lower_from_moved(rows, lane, flags, noted, part) {
-                return true;
-            }
-        }
-        Guessed::Low => {}
-        Guessed::Nothing => return false,
-    }
-    let last = Guess::unmoved(GUESS_PATIENCE);
-    lower_from_guess(rows, lane, flags, noted, part, last).is_good()
 }
 
 /// How many passes lower a part from 1 before it is guessed, where `top` stands for 1. Two states settle in less time
-/// than it takes to guess them, and large parts often can't be. Where there are few numbers, no state falls often.
+/// than it takes to guess them, and large parts often can't be. Where there are very few numbers no state falls often.
 fn first_passes(part: Part, top: i64) -> u32 {
     let states = part.len();
-    let usual = if states > 2 && states <= SMALL {
-        FIRST_PASSES
-    } else {
-        FIRST_PATIENCE
-    };
-    if top > FEW_NUMBERS {
-        return usual;
+    match u32::try_from(top) {
+        Ok(numbers) if numbers <= VERY_FEW_NUMBERS => numbers,
+        _ if states > 2 && states <= SMALL => FIRST_PASSES,
+        _ => FIRST_PATIENCE,
     }
-    u32::try_from(top).unwrap_or(usual)
+}
+
+/// How many passes lower a part from 1 that no guess was good for, where `top` stands for 1. Where there are few numbers
+/// no state falls often.
+fn passes_of(top: i64) -> u32 {
+    match u32::try_from(top) {
+        Ok(numbers) if VERY_FEW_NUMBERS < numbers && top <= FEW_NUMBERS => numbers,
+        _ => 0,
+    }
 }
 
 impl Descent<'_> {
@@ -348,6 +315,90 @@ impl Descent<'_> {
             }
         }
         false
+    }
+
+    /// Lowers a part from moved guesses, each by lesser shares for the states that didn't fall from the last one, until
+    /// each fell from one, or the initial state's number isn't above the limit. False: they never did, or it took too
+    /// many passes.
+    fn lower_from_moved(
+        &self,
+        lane: &mut [i64],
+        flags: &mut [u32],
+        noted: &mut [u32],
+        part: Part,
+    ) -> bool
+        ghost spans: { Spans }
+        requires can { CanLower self.now.rows.now (from_top self.now.rows.now.case spans) lane.old }
+        requires flags { part.high ≤ length flags.old }
+        requires notes { length noted.old ≡ length self.now.rows.now.case.model.states }
+        requires part { part.high ≤ length self.now.rows.now.links.order }
+        ensures { IsHigh self.now.rows.now.case spans lane.new }
+    {
+        make_shares_whole(noted);
+        let mut spread: u32 = 0;
+        for _ in 0..GUESSES {
+            let guess = Guess {
+                way: Way::MovedElimination,
+                passes: GUESS_PASSES.saturating_add(SPREAD_PASSES.saturating_mul(spread)),
+                spread,
+            };
+            match lower_from_guess(self.rows, lane, flags, noted, part, guess) {
+                Guessed::Good => return true,
+                Guessed::Slow => return self.settle_within(lane, flags, part, GUESS_PATIENCE),
+                Guessed::Low => spread = spread.saturating_mul(2).max(1),
+                Guessed::Nothing => return false,
+            }
+        }
+        false
+    }
+
+    /// Lowers a part from a guess below which each state fell: to the end where there are few numbers, and else from
+    /// moved guesses. False: they never did, or it took too many passes.
+    fn lower_on(&self, lane: &mut [i64], flags: &mut [u32], noted: &mut [u32], part: Part) -> bool
+        ghost spans: { Spans }
+        requires can { CanLower self.now.rows.now (from_top self.now.rows.now.case spans) lane.old }
+        requires flags { part.high ≤ length flags.old }
+        requires notes { length noted.old ≡ length self.now.rows.now.case.model.states }
+        requires part { part.high ≤ length self.now.rows.now.links.order }
+        ensures { IsHigh self.now.rows.now.case spans lane.new }
+    {
+        if lane[self.rows.model().init() as usize] <= self.limit {
+            return true;
+        }
+        if self.rows.top() > FEW_NUMBERS {
+            return self.lower_from_moved(lane, flags, noted, part);
+        }
+        self.settle_within(lane, flags, part, GUESS_PATIENCE)
+    }
+
+    /// Lowers a part from guesses, until one is good: from moved ones where one that isn't moved is none too low. False:
+    /// none was.
+    fn lower_from_guesses(
+        &self,
+        lane: &mut [i64],
+        flags: &mut [u32],
+        noted: &mut [u32],
+        part: Part,
+    ) -> bool
+        ghost spans: { Spans }
+        requires can { CanLower self.now.rows.now (from_top self.now.rows.now.case spans) lane.old }
+        requires flags { part.high ≤ length flags.old }
+        requires notes { length noted.old ≡ length self.now.rows.now.case.model.states }
+        requires part { part.high ≤ length self.now.rows.now.links.order }
+        ensures { IsHigh self.now.rows.now.case spans lane.new }
+    {
+        match lower_from_unmoved(self.rows, lane, flags, noted, part) {
+            Guessed::Good => return true,
+            Guessed::Slow => {
+                if self.lower_on(lane, flags, noted, part) {
+                    return true;
+                }
+            }
+            Guessed::Low => {}
+            Guessed::Nothing => return false,
+        }
+        let last = Guess::unmoved(GUESS_PATIENCE);
+        lower_from_guess(self.rows, lane, flags, noted, part, last).is_good()
     }
 
     /// Lowers the states of a part from where it is begun anew: from a rough vector, and where that doesn't do at
@@ -385,7 +436,11 @@ impl Descent<'_> {
             return;
         }
         let (flags, noted) = work.split_at_mut(self.rows.model().states() as usize);
-        if lower_from_guesses(self.rows, lane, flags, noted, part) {
+        if self.lower_from_guesses(lane, flags, noted, part) {
+            return;
+        }
+        let passes = passes_of(self.rows.top());
+        if passes > 0 && self.settle_within(lane, work, part, passes) {
             return;
         }
         self.lower_anew(lane, work, part);

@@ -1,5 +1,5 @@
 -- A bound that rose from a guess is the least of all, where at each state it rose above the guess or the guess is no more than any bound.
-use Rattle.std.proofs.Common.{◌≡◌, ◌≢◌, ℕ, zero, suc, ◌<◌, ◌≤◌, ◌^◌, Bool, true, false, not, cond, List, [], ◌∷◌, length, ℤ, pos, ◌+ℤ◌, ◌≤ℤ◌, ◌<ℤ◌, int_le, refl, sym, ap, subst, ◌∙◌, arith, ◌⊎◌, ⊎_elim, inl, inr, if◌then◌else◌}
+use Rattle.std.proofs.Common.{◌≡◌, ◌≢◌, ℕ, zero, suc, ◌+◌, ◌<◌, ◌≤◌, ◌^◌, Bool, true, false, not, cond, List, [], ◌∷◌, length, set, get_or-set_same, get_or-set_other, ℤ, pos, ◌+ℤ◌, ◌≤ℤ◌, ◌<ℤ◌, int_le, refl, sym, ap, subst, ◌∙◌, arith, ◌⊎◌, ⊎_elim, inl, inr, if◌then◌else◌}
 use Rattle.std.proofs.lemmas.Int.{by_lt_z}
 use Rattle.std.proofs.lemmas.List.{get_or_past, get_or_default}
 use Rattle.std.proofs.lemmas.List.Elements.{All-from_get_or}
@@ -18,7 +18,7 @@ use Rattle.float_guess.specs.Part.{KeepsBeyond}
 use Rattle.rounded_iter.specs.Rising.{TableData, IsRead, IsBelow, IsEnoughEverywhere, IsLeastBound, IsLeastBoundWithin, IsEnough, IsEnoughBy, IsEnoughFor, Across}
 use Rattle.float_guess.specs.Notes.{low_word, noted_word}
 use Rattle.rounded_iter.specs.Watching.{count, flag, from_zero, IsGuess, IsLeastFrom, IsFound, IsSure}
-use Rattle.rounded_iter.proofs.Solving.{RowLaws, across_map, enough_shifted, lt_from_test, some_corner, top_enough}
+use Rattle.rounded_iter.proofs.Solving.{RowLaws, across_map, enough_shifted, lt_from_test, same_or_not, some_corner, top_enough}
 use Rattle.rounded_iter.proofs.Raising.{in_or_past, true_or_false, given_inside, given_range}
 
 lesser : ℤ → ℤ → ℤ
@@ -282,4 +282,22 @@ pub guess_kept : (r : Rule) (k : CaseData) (l : LinksData) (low high : ℕ) (x y
 guess_kept r k l low high x y guess kept = record {
   numbers = kept.numbers;
   given = λ s g. kept.others s (rw g refl) ∙ guess.given s g;
+}
+
+-- what holds of the numbers of the states below s, and of the one that is written there, holds of one more
+pub one_more : (P : ℕ → ℤ → Type 0) (x : List ℤ) (s : ℕ) (v : ℤ) → s < length x → ((i : ℕ) → i < s → P i (number x i)) → P s v → (i : ℕ) → i < s + 1 → P i (number (set x s v) i)
+one_more P x s v inside before now i lt = ⊎_elim
+    (λ (same : i ≡ s). subst (λ j. P j (number (set x s v) j)) (sym same) (subst (P s) (sym (get_or-set_same x s v (pos 0) inside)) now))
+    (λ (differs : i ≢ s). subst (P i) (sym (get_or-set_other x s i v (pos 0) differs)) (before i (omega (arith, lt, differs))))
+    (same_or_not i s)
+
+-- numbers from 0 to 2 ^ w, and the given ones where they are given, are a guess
+pub guess_of : (r : Rule) (k : CaseData) (x : List ℤ) → length k.model.goal ≡ length k.model.states → length x ≡ length k.model.states
+    → ((s : ℕ) → s < length k.model.states → (is_given k.model r.ends s ≡ true → number x s ≡ given k r.ends s) × ((pos 0 ≤ℤ number x s) × (number x s ≤ℤ pos (2 ^ k.w)))) → IsGuess r k x
+guess_of r k x goals size written = record {
+  numbers = record {
+    size = size;
+    range = λ i d lt. subst (λ n. (pos 0 ≤ℤ n) × (n ≤ℤ pos (2 ^ k.w))) (sym (get_or_default x i d (pos 0) lt)) (written i (omega (arith, lt, size))).1;
+  };
+  given = λ s is. (written s (given_inside k r.ends goals s is)).0 is;
 }

@@ -5,3 +5,4 @@ pub mod Guessing
 pub mod Leaving
 pub mod Tolling
 pub mod Pricing
+pub mod Lone

@@ -1,23 +1,24 @@
 -- The least bound with tolls is the least priced vector, where what was cut off is truly paid for.
-use Rattle.std.proofs.Common.{◌≡◌, ℕ, ◌+◌, ◌*◌, ◌^◌, ◌<◌, ◌≤◌, ◌⊎◌, ⊎_elim, min, Bool, true, false, List, [], length, All, ℤ, pos, negsuc, ◌+ℤ◌, ◌-ℤ◌, ◌*ℤ◌, ◌≤ℤ◌, ◌<ℤ◌, unsigned_abs, refl, sym, ap, subst, arith}
+use Rattle.std.proofs.Common.{◌≡◌, ℕ, ◌+◌, ◌*◌, ◌^◌, ◌<◌, ◌≤◌, ◌⊎◌, ⊎_elim, min, Bool, true, false, List, [], ◌∷◌, length, All, ℤ, pos, negsuc, ◌+ℤ◌, ◌-ℤ◌, ◌*ℤ◌, ◌≤ℤ◌, ◌<ℤ◌, unsigned_abs, refl, sym, ap, subst, arith}
 use Rattle.std.proofs.lemmas.Int.{ints, by_lt_z}
 use Rattle.std.proofs.lemmas.List.{get_or_past}
 use Rattle.std.proofs.lemmas.List.Elements.{All-from_get_or}
-use Rattle.lift_poly.proofs.Ring.{linear, mul-comm, mul-le, mul-le_cancel, mul-zero}
+use Rattle.lift_poly.proofs.Ring.{linear, mul-comm, mul-le, mul-le_cancel, mul-zero, one-mul}
 use Rattle.lift_grid.specs.Rectangle.{Spans}
 use Rattle.lift_model.specs.declared.entry.Entry.{Entry}
 use Rattle.lift_model.specs.Model.{choices, row_at, is_goal}
-use Rattle.lift_model.specs.Links.{HasChoice}
+use Rattle.lift_model.specs.Links.{HasChoice, targets_of}
 use Rattle.corner_lift.specs.Corner.{AtCorners, corner_sum, whole}
 use Rattle.corner_lift.specs.Case.{CaseData, IsCase, IsInside, IsGreatest, number, row_value, row_whole, corner_count}
 use Rattle.corner_lift.specs.Certificate.{AreNumbers, AtMost, MeansAtMost}
+use Rattle.float_guess.specs.declared.rule.Extreme.TheVariants.{Greatest}
 use Rattle.float_guess.specs.declared.rule.Ends.TheVariants.{Tolled}
 use Rattle.float_guess.specs.declared.toll.Tolls.{Tolls}
 use Rattle.float_guess.specs.Rule.{added}
 use Rattle.float_guess.specs.Toll.{toll}
 use Rattle.rounded_iter.specs.Rising.{IsEnoughEverywhere, IsEnoughWith, IsLeastBound}
 use Rattle.rounded_iter.specs.Priced.{IsPriced, IsLeastPriced, IsPaidFor, IsBeyond, IsPaid, IsCutOff, ArePaid, SomeUnpaid, paying, price}
-use Rattle.rounded_iter.proofs.Solving.{RowLaws, less-mul, same_whole, at_root, at_spans, whole_positive, some_corner, value_range}
+use Rattle.rounded_iter.proofs.Solving.{RowLaws, less-mul, same_whole, at_root, at_spans, whole_positive, some_corner, value_range, only_value}
 use Rattle.rounded_iter.proofs.Raising.{in_or_past}
 
 -- ---- the toll, cut off
@@ -142,3 +143,16 @@ module _ (laws : RowLaws) (k : CaseData) (spans : Spans) (is : IsCase k) (within
       let full = row_whole k s a in
       let most = mul-le full (number y s -ℤ prices s) (pos (2 ^ k.w) -ℤ prices s) (omega (arith, linear, whole_positive laws k spans is within s a has)) (omega (arith, linear, (laws.numbers k y s priced.numbers).1)) in
       absurd (omega (arith, linear, beyond.1.1, up, means, product laws k spans is within s a has (number y s -ℤ prices s), most, mul-comm full (number y s -ℤ prices s), mul-comm full (pos (2 ^ k.w) -ℤ prices s)))
+
+  -- where a choice leads back to its state alone, and that costs something, there is none
+  pub none_endless : (s a : ℕ) → HasChoice k.model s a → is_goal k.model s ≡ false → targets_of (row_at k.model s a) ≡ s ∷ [] → 0 < cost s → (y : List ℤ) → IsPriced k spans prices y → ⊥
+  none_endless s a has free only some y priced =
+      let c : ℕ = 0 in
+      let at : c < corner_count k s a = some_corner laws k spans is within s a has in
+      let full = row_whole k s a in
+      let same = only_value laws k spans is within s a has y priced.numbers Greatest s only c at (number y) in
+      let means = priced.means s free a [] has.choice c (at_spans laws k spans is within s a has c at) in
+      let positive = whole_positive laws k spans is within s a has in
+      let dear : pos 1 ≤ℤ prices s = omega (arith, linear, some) in
+      let paid = mul-le full (pos 1) (prices s) (omega (arith, linear, positive)) dear in
+      absurd (omega (arith, linear, means, product laws k spans is within s a has (number y s -ℤ prices s), same, less-mul (number y s) (prices s) full, mul-comm full (number y s), mul-comm full (prices s), mul-comm full (pos 1), one-mul full, paid, positive))

@@ -450,7 +450,7 @@ module _ (laws : RowLaws) (k : CaseData) (spans : Spans) (is : IsCase k) (within
       pub only_inside : target < length x
       only_inside = omega (arith, numbers.size, target_inside (length k.model.states) (length k.model.names) row target only (is.asked.model.rows s [] has.state a [] has.choice).entries)
 
-      only_value : (c : ℕ) → c < corner_count k s a → (f : ℕ → ℤ) → corner_sum k.d spans row c f ≡ full *ℤ f target
+      pub only_value : (c : ℕ) → c < corner_count k s a → (f : ℕ → ℤ) → corner_sum k.d spans row c f ≡ full *ℤ f target
       only_value c lt f = single (corner k.d spans (support row) c) f row target only ∙ ap (λ w. w *ℤ f target) (full_sum c lt)
 
       pub only_solved : pos 1 ≤ℤ full → (v : ℤ) → IsMoreExtreme Greatest n (number x target) v → IsSolved e k spans x s a (corner_count k s a) v

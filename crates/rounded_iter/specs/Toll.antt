@@ -1,5 +1,5 @@
 -- One corner of a choice with a toll, in numbers.
-use Rattle.std.specs.Prelude.{◌≡◌, ℕ, ◌^◌, ℤ, pos, ◌+ℤ◌, ◌-ℤ◌, ◌*ℤ◌, ◌≤ℤ◌, ◌<ℤ◌}
+use Rattle.std.specs.Prelude.{◌≡◌, ◌⊎◌, ℕ, ◌^◌, ℤ, pos, ◌+ℤ◌, ◌-ℤ◌, ◌*ℤ◌, ◌≤ℤ◌, ◌<ℤ◌}
 use Rattle.corner_lift.specs.Case.{engine_limit, most_precision}
 use Rattle.corner_lift.specs.Quotient.{IsRoundedUp}
 
@@ -16,6 +16,20 @@ pub record CanLeave (number toll top sum whole own : ℤ) : Type 0 where
 -- what comes from elsewhere, with the toll
 abbrev pub rest_of : ℤ → ℤ → ℤ → ℤ → ℤ → ℤ
 rest_of number toll sum whole own = sum +ℤ toll *ℤ whole -ℤ number *ℤ own
+
+-- what is left of a number without the toll, but at least 0
+pub record IsBefore (number toll left : ℤ) : Type 0 where
+  pub least : pos 0 ≤ℤ left
+  pub most : left ≤ℤ number
+  pub enough : number ≤ℤ (left +ℤ toll)
+  pub tight : (left ≡ pos 0) ⊎ (left +ℤ toll ≡ number)
+
+-- a number with the toll, cut off at `top`
+pub record IsAfter (left toll top v : ℤ) : Type 0 where
+  pub most : v ≤ℤ top
+  pub within : v ≤ℤ (left +ℤ toll)
+  pub all : v <ℤ top → v ≡ left +ℤ toll
+  pub cut : (v ≡ top) ⊎ (v ≡ left +ℤ toll)
 
 -- the number, where it is enough; else `top`, where the rest is above `top` times what leaves the state; else the rest over what leaves, rounded up
 pub record IsLeastOver (number toll top sum whole own v : ℤ) : Type 0 where

@@ -1,16 +1,19 @@
 //! The least bound: by an iteration from below, which where it takes long is begun again from a guess. A
 //! guess is tested at the end, so nothing is known of how it is made.
 
-ghost use Rattle.std.specs.Prelude.{◌≡◌, ◌≤ℤ◌, ◌^◌, ◌<◌, ℕ, pos, length, IsTrue, IfSome, IsSome, Bool, true, false, Some};
+ghost use Rattle.std.specs.Prelude.{◌≡◌, ◌≤ℤ◌, ◌*◌, ◌^◌, ◌<◌, ℕ, pos, length, IsTrue, IfSome, IsSome, Bool, true, false, Some};
 ghost use Rattle.lift_grid.specs.Rectangle.{Spans};
 ghost use Rattle.lift_model.specs.Links.{AreLinks};
-ghost use Rattle.corner_lift.specs.Case.{number};
-ghost use Rattle.rounded_iter.specs.Rising.{IsBelow, IsLeastBound, Run};
+ghost use Rattle.corner_lift.specs.Case.{IsCase, number};
+ghost use Rattle.float_guess.specs.Rule.{is_given, given};
+ghost use Rattle.rounded_iter.specs.Rising.{IsBelow, IsLeastBound, IsRead, Run};
 ghost use Rattle.rounded_iter.specs.Watching.{CanStart, HasGoals, CanClimb, CanRise, CanFind, IsFound, CanGuess, IsGuess, CanConfirm, CanTest, AreNoted, IsSure, IsClimbed, first_number, from_zero};
 
 use crate::table::{Ended, Table};
 use corner_lift::{corners_bound_weights, rows_at_corners};
-use float_guess::{Ends, Note, Rounding, Way, guess_part, lessen_share, make_shares_whole};
+use float_guess::{
+    Ends, Note, Rounding, Way, guess_part, lessen_share, make_shares_whole, note_roundings,
+};
 
 /// How many passes over a component are made before the first guess.
 const FIRST_PATIENCE: u32 = 32;
@@ -34,6 +37,15 @@ const RAISES: u32 = 16384;
 const TRIES: u32 = 8;
 
 const TRY_RAISES: u32 = 64;
+
+/// How many are tried that are moved by what rounding makes of numbers, and how many passes raise one that is no fault
+/// before that is noted anew.
+const ROUNDED_TRIES: u32 = 16;
+
+const MORE_RAISES: u32 = 256;
+
+/// How many passes test a guess that was given.
+const TEST_RAISES: u32 = 32;
 
 /// How many more passes there are for each state on which a fault has an effect.
 const SPREAD_RAISES: u32 = 8;
@@ -118,6 +130,36 @@ impl Table<'_, '_> {
             if model.is_goal(s) {
                 lane[s as usize] = self.top;
             }
+        }
+    }
+
+    /// The number of a state in a guess that was given: a unit less, from 0 on and below `top`, unless the state's number
+    /// is given.
+    fn guessed_number(&self, number: i64, s: u32) -> i64
+        requires case { IsCase self.now.case }
+        requires state { s < length self.now.case.model.states }
+        ensures given { is_given self.now.case.model self.now.rule.ends s ≡ true
+            → result ≡ given self.now.case self.now.rule.ends s }
+        ensures range { (pos 0 ≤ℤ result) × (result ≤ℤ pos (2 ^ self.now.case.w)) }
+    {
+        if self.rule.ends.has(self.rows.model(), s) {
+            return self.first_number(s);
+        }
+        if number < 1 {
+            return 0;
+        }
+        number.min(self.top) - 1
+    }
+
+    /// Takes what `lane` holds for a guess.
+    fn take_guess(&self, lane: &mut [i64])
+        requires { CanStart self.now lane.old }
+        ensures { IsGuess self.now.rule self.now.case lane.new }
+    {
+        rows_at_corners();
+        let model = self.rows.model();
+        for s in 0..model.states() {
+            lane[s as usize] = self.guessed_number(lane[s as usize], s);
         }
     }
 
@@ -257,6 +299,22 @@ impl Table<'_, '_> {
     {
         self.start(lane);
         self.rise(lane, flags, patience)
+    }
+
+    /// Notes what rounding makes of each number.
+    fn note_all_roundings(&self, lane: &[i64], noted: &mut [u32])
+        requires { CanGuess self.now lane.now }
+        ensures { length noted.new ≡ length noted.old }
+    {
+        let rows = self.rows;
+        note_roundings(
+            rows.case(),
+            rows.links(),
+            rows.weights(),
+            self.rule,
+            lane,
+            noted,
+        );
     }
 
     /// Guesses the least bound in a component. False: it is not worth much.
@@ -401,6 +459,45 @@ impl Table<'_, '_> {
         }
     }
 
+    /// The same of guesses that are moved by what rounding makes of the numbers, where there are tolls: each by less for
+    /// the states at which the last one may have been a fault. Where the last one was none, but takes long, it is
+    /// raised for a while, and what rounding makes of it is noted anew.
+    fn find_from_rounded(
+        &self,
+        lane: &mut [i64],
+        flags: &mut [u32],
+        noted: &mut [u32],
+    ) -> Option<bool>
+        ghost spans: { Spans }
+        requires { CanConfirm self.now spans lane.old flags.old noted.old }
+        ensures found { IfSome result (λ found. IsFound self.now spans lane.new found) }
+        ensures guess { IsGuess self.now.rule self.now.case lane.new }
+    {
+        rows_at_corners();
+        corners_bound_weights();
+        self.note_all_roundings(lane, noted);
+        let mut spread: u32 = 0;
+        for _ in 0..ROUNDED_TRIES {
+            let passes = TRY_RAISES.saturating_add(SPREAD_RAISES.saturating_mul(spread));
+            match self.rise_from_guess(lane, flags, noted, Way::RoundedElimination, passes) {
+                Raised::Least => return Some(!self.is_past(lane)),
+                Raised::Past => return Some(false),
+                Raised::Certain => {
+                    if let Some(found) = self.rise(lane, flags, Some(MORE_RAISES)) {
+                        return Some(found);
+                    }
+                    self.note_all_roundings(lane, noted);
+                    spread = 0;
+                }
+                Raised::High | Raised::Slow | Raised::Nothing => {
+                    self.lessen_shares(lane, noted, spread);
+                    spread = spread.saturating_mul(2).max(1);
+                }
+            }
+        }
+        None
+    }
+
     /// The same of moved ones, each by lesser shares for the states at which the last one may have been a fault.
     fn find_from_moved(
         &self,
@@ -415,6 +512,9 @@ impl Table<'_, '_> {
     {
         rows_at_corners();
         corners_bound_weights();
+        if self.has_tolls() {
+            return self.find_from_rounded(lane, flags, noted);
+        }
         make_shares_whole(noted);
         let mut spread: u32 = 0;
         for _ in 0..TRIES {
@@ -510,5 +610,43 @@ impl Table<'_, '_> {
             return found;
         }
         self.find_slow(lane, flags, noted)
+    }
+
+    /// As `find`, where the vector may be past the limit.
+    fn find_above(&self, lane: &mut [i64], work: &mut [u32]) -> bool
+        ghost spans: { Spans }
+        requires { CanFind self.now spans lane.old work.old }
+        ensures { IsFound self.now spans lane.new result }
+    {
+        rows_at_corners();
+        corners_bound_weights();
+        if self.is_past(lane) {
+            return false;
+        }
+        self.find(lane, work)
+    }
+
+    /// Finds the least bound from the guess in `lane`, or from 0 where the guess isn't seen to lie at or below each bound,
+    /// and tells whether the initial state's number is within the limit. False: it is above it in every bound.
+    pub(crate) fn find_by_guess(&self, lane: &mut [i64], work: &mut [u32]) -> bool
+        ghost spans: { Spans }
+        requires read { IsRead self.now spans }
+        requires size { length lane.old ≡ length self.now.case.model.states }
+        requires places { length work.old ≡ 2 * length self.now.case.model.states }
+        ensures { IsFound self.now spans lane.new result }
+    {
+        rows_at_corners();
+        corners_bound_weights();
+        self.take_guess(lane);
+        let states = self.rows.model().states() as usize;
+        let (flags, noted) = work.split_at_mut(states);
+        match self.confirm_all(lane, flags, noted, TEST_RAISES) {
+            Raised::Least => !self.is_past(lane),
+            Raised::Certain => self.find_above(lane, work),
+            Raised::Past | Raised::High | Raised::Slow | Raised::Nothing => {
+                self.start(lane);
+                self.find(lane, work)
+            }
+        }
     }
 }

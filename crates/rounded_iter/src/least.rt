@@ -41,6 +41,30 @@ pub fn least_bound(
     table.find(lane, work)
 }
 
+/// As `least_bound`, but takes what `lane` holds for a guess: a vector a unit below it is raised, and only where each
+/// number rises does it tell anything.
+pub fn least_bound_by_guess(
+    rows: &Lifted,
+    rule: Rule,
+    limit: i64,
+    lane: &mut [i64],
+    work: &mut [u32],
+) -> bool
+    ghost spans: { Spans }
+    requires { CanIterate rows.now.case rows.now.links spans rows.now.weights lane.old work.old }
+    ensures { IsLeastBoundWithin rule.entry rows.now.case spans limit lane.new result }
+{
+    rows_at_corners();
+    corners_bound_weights();
+    let table = Table {
+        rows: &*rows,
+        rule,
+        top: one_at(rows.w()),
+        limit,
+    };
+    table.find_by_guess(lane, work)
+}
+
 /// Leaves in `lane` the least upper vector of the case on the rectangle whose table `weights` is: of the
 /// vectors of numbers from 0 to 2 to the `w` that have 2 to the `w` on goal states, and elsewhere at
 /// least the weighted mean of each choice at each corner of its row, the one that is least at each

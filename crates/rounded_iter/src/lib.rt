@@ -9,5 +9,8 @@ mod table;
 mod toll;
 mod worklist;
 
-pub use least::{least_bound, least_upper, least_upper_from, least_upper_within, least_value};
-pub use priced::least_priced;
+pub use least::{
+    least_bound, least_bound_by_guess, least_upper, least_upper_from, least_upper_within,
+    least_value,
+};
+pub use priced::{least_priced, least_priced_within};

@@ -1,8 +1,10 @@
 //! The least priced vector: the least bound with tolls, where each number that was cut off is truly paid for.
 
-ghost use Rattle.std.specs.Prelude.{◌≡◌, ◌<◌, ◌≤ℤ◌, ◌<ℤ◌, ◌-ℤ◌, pos, List, ℤ, IsTrue, IsFalse, IfSome, IfNone, length};
+ghost use Rattle.std.specs.Prelude.{◌≡◌, false, ◌<◌, ◌≤ℤ◌, ◌<ℤ◌, ◌-ℤ◌, pos, List, ℤ, IsTrue, IsFalse, IfSome, IfNone, length};
 ghost use Rattle.lift_grid.specs.Rectangle.{Spans};
 ghost use Rattle.lift_model.specs.Links.{HasChoice};
+ghost use Rattle.lift_model.specs.Model.{is_goal};
+ghost use Rattle.corner_lift.specs.Case.{number};
 ghost use Rattle.corner_lift.specs.Certificate.{AreNumbers};
 ghost use Rattle.corner_lift.specs.Lifted.{IsLiftedTo};
 ghost use Rattle.rounded_iter.specs.Priced.{IsPriced, IsLeastPriced, IsPaidFor, IsBeyond, IsPaid, IsUnpaid, IsCutOff, ArePaid, SomeUnpaid, price};
@@ -97,10 +99,94 @@ fn pays_all(rows: &Lifted, tolls: &Tolls, lane: &[i64]) -> bool
     true
 }
 
-/// Leaves in `lane` the least priced vector of the case on the rectangle that its rows are lifted to, if there is one: of
-/// the vectors of numbers from 0 to 2 to the `w` that have 0 on goal states, and elsewhere at least the toll and the
-/// weighted mean of each choice at each corner of its row, the one that is least at each state. False: there is no such
-/// vector, and what `lane` holds is free. What `lane` and `work` hold at entry is free. Takes no memory.
+/// Whether a choice leads back to its state alone, and a visit of that costs something: then what it costs has no end.
+fn is_endless(rows: &Lifted, tolls: &Tolls, s: u32, a: u32) -> bool
+    ghost spans: { Spans }
+    requires lifted { IsLiftedTo rows.now spans }
+    requires row { HasChoice rows.now.case.model s a }
+    requires open { is_goal rows.now.case.model s ≡ false }
+    ensures { IsTrue result → (z : List ℤ) → IsPriced rows.now.case spans (price rows.now.case.w tolls.now) z → ⊥ }
+{
+    rows_at_corners();
+    corners_bound_weights();
+    let Some(target) = rows.only_target(s, a) else {
+        return false;
+    };
+    if target != s {
+        return false;
+    }
+    let toll = tolls.of(rows.w(), s);
+    0 < toll
+}
+
+/// Whether a choice of a state is so.
+fn has_endless_choice(rows: &Lifted, tolls: &Tolls, s: u32) -> bool
+    ghost spans: { Spans }
+    requires lifted { IsLiftedTo rows.now spans }
+    requires state { s < length rows.now.case.model.states }
+    ensures { IsTrue result → (z : List ℤ) → IsPriced rows.now.case spans (price rows.now.case.w tolls.now) z → ⊥ }
+{
+    if rows.model().is_goal(s) {
+        return false;
+    }
+    for a in 0..rows.choice_count(s) {
+        if is_endless(rows, tolls, s, a) {
+            return true;
+        }
+    }
+    false
+}
+
+/// Whether a choice of some state is so.
+fn has_endless(rows: &Lifted, tolls: &Tolls) -> bool
+    ghost spans: { Spans }
+    requires { IsLiftedTo rows.now spans }
+    ensures { IsTrue result → (z : List ℤ) → IsPriced rows.now.case spans (price rows.now.case.w tolls.now) z → ⊥ }
+{
+    for s in 0..rows.model().states() {
+        if has_endless_choice(rows, tolls, s) {
+            return true;
+        }
+    }
+    false
+}
+
+/// Leaves in `lane` the least priced vector of the case on the rectangle that its rows are lifted to, if there is one and
+/// the initial state's number in it is within the limit: of the vectors of numbers from 0 to 2 to the `w` that have 0 on
+/// goal states, and elsewhere at least the toll and the weighted mean of each choice at each corner of its row, the one that
+/// is least at each state. False: in each such vector, if there is any, the initial state's number is above the limit, and
+/// what `lane` holds is free. What `lane` and `work` hold at entry is free. Takes no memory.
+pub fn least_priced_within(
+    rows: &Lifted,
+    tolls: &Tolls,
+    limit: i64,
+    lane: &mut [i64],
+    work: &mut [u32],
+) -> bool
+    ghost spans: { Spans }
+    requires { CanIterate rows.now.case rows.now.links spans rows.now.weights lane.old work.old }
+    ensures least { IsTrue result → IsLeastPriced rows.now.case spans (price rows.now.case.w tolls.now) lane.new }
+    ensures past { IsFalse result → (z : List ℤ) → IsPriced rows.now.case spans (price rows.now.case.w tolls.now) z
+        → limit <ℤ number z rows.now.case.model.init }
+{
+    rows_at_corners();
+    corners_bound_weights();
+    let _ = rows.w();
+    let rule = Rule {
+        choice: Extreme::Greatest,
+        corner: Extreme::Greatest,
+        ends: Ends::Tolled(*tolls),
+    };
+    if has_endless(rows, tolls) {
+        return false;
+    }
+    if !least_bound(rows, rule, limit, lane, work) {
+        return false;
+    }
+    pays_all(rows, tolls, lane)
+}
+
+/// The same with no limit but 2 to the `w`. False: there is no such vector.
 pub fn least_priced(rows: &Lifted, tolls: &Tolls, lane: &mut [i64], work: &mut [u32]) -> bool
     ghost spans: { Spans }
     requires { CanIterate rows.now.case rows.now.links spans rows.now.weights lane.old work.old }
@@ -108,14 +194,5 @@ pub fn least_priced(rows: &Lifted, tolls: &Tolls, lane: &mut [i64], work: &mut [
     ensures none { IsFalse result → (z : List ℤ) → IsPriced rows.now.case spans (price rows.now.case.w tolls.now) z → ⊥ }
 {
     rows_at_corners();
-    corners_bound_weights();
-    let rule = Rule {
-        choice: Extreme::Greatest,
-        corner: Extreme::Greatest,
-        ends: Ends::Tolled(*tolls),
-    };
-    if !least_bound(rows, rule, one_at(rows.w()), lane, work) {
-        return false;
-    }
-    pays_all(rows, tolls, lane)
+    least_priced_within(rows, tolls, one_at(rows.w()), lane, work)
 }

@@ -30,7 +30,7 @@ pub(crate) fn more_extreme(extreme: Extreme, a: i64, b: i64) -> i64
 impl Table<'_, '_> {
     /// The whole of a row, and its weighted sum at the corner that counts.
     #[inline(always)]
-    fn weigh(&self, lane: &[i64], s: u32, a: u32) -> Weighed
+    pub(crate) fn weigh(&self, lane: &[i64], s: u32, a: u32) -> Weighed
         ghost spans: { Spans }
         requires { CanTry self.now spans lane.now s a }
         ensures extreme { IsExtreme self.now.rule.corner (row_value self.now.case spans s a lane.now)
@@ -45,7 +45,7 @@ impl Table<'_, '_> {
 
     /// The same of a row of two entries that is quickly looked up.
     #[inline(always)]
-    fn weigh_pair(&self, lane: &[i64], s: u32, a: u32) -> Option<LaneSum>
+    pub(crate) fn weigh_pair(&self, lane: &[i64], s: u32, a: u32) -> Option<LaneSum>
         ghost spans: { Spans }
         requires { CanTry self.now spans lane.now s a }
         ensures extreme { IfSome result (λ row. IsExtreme self.now.rule.corner

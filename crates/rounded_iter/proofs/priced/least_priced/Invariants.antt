@@ -1,7 +1,4 @@
 use Rattle.rounded_iter.proofs.priced.least_priced.Given as goal
 
-abbrev pub ghost-least_bound : goal.ghost-least_bound
-ghost-least_bound g a = g.spans
-
-abbrev pub ghost-pays_all : goal.ghost-pays_all
-ghost-pays_all g a = g.spans
+abbrev pub ghost-least_priced_within : goal.ghost-least_priced_within
+ghost-least_priced_within g a = g.spans

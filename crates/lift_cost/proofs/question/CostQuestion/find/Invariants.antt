@@ -1,4 +1,4 @@
 use Rattle.lift_cost.proofs.question.CostQuestion.find.Given as goal
 
-abbrev pub ghost-least_cost : goal.ghost-least_cost
-ghost-least_cost g a = g.spans
+abbrev pub ghost-least_cost_within : goal.ghost-least_cost_within
+ghost-least_cost_within g a = g.spans

@@ -1,9 +1,10 @@
-use Rattle.rounded_iter.specs.Rising.{IsSolvedFor}
 use Rattle.rounded_iter.proofs.table.Table.tolled.Given as goal
 
-abbrev pub ghost-solve_tolled : goal.ghost-solve_tolled
-ghost-solve_tolled g a = g.spans
+abbrev pub ghost-tolled_corners : goal.ghost-tolled_corners
+ghost-tolled_corners g a = g.spans
 
--- the corners so far were taken
-abbrev pub invariant-loop-corner : goal.invariant-loop-corner
-invariant-loop-corner g l = IsSolvedFor l.self.rule.ends l.self.rule.corner l.self.case g.spans l.lane l.s l.a l.corner l.number
+abbrev pub ghost-tolled_pair : goal.ghost-tolled_pair
+ghost-tolled_pair g a = g.spans
+
+abbrev pub ghost-tolled_row : goal.ghost-tolled_row
+ghost-tolled_row g a = g.spans

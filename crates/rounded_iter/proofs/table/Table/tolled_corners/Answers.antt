@@ -4,7 +4,7 @@ use Rattle.lift_model.specs.Model.{row_at}
 use Rattle.corner_lift.specs.Case.{corner_count, row_parameters}
 use Rattle.rounded_iter.specs.Rising.{IsSolvedFor}
 use Rattle.rounded_iter.proofs.Solving.{laws_of, solved_first, solved_more}
-use Rattle.rounded_iter.proofs.table.Table.tolled.Goals as goal
+use Rattle.rounded_iter.proofs.table.Table.tolled_corners.Goals as goal
 
 pub loop-corner-init : goal.loop-corner-init
 loop-corner-init g c =

@@ -1,0 +1,10 @@
+use Rattle.lower_cert.proofs.descent.Descent.lower_from_guesses.Given as goal
+
+abbrev pub ghost-lower_from_guess : goal.ghost-lower_from_guess
+ghost-lower_from_guess g a = g.spans
+
+abbrev pub ghost-lower_from_unmoved : goal.ghost-lower_from_unmoved
+ghost-lower_from_unmoved g a = g.spans
+
+abbrev pub ghost-lower_on : goal.ghost-lower_on
+ghost-lower_on g a = g.spans

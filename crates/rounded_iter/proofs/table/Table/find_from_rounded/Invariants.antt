@@ -1,0 +1,12 @@
+use Rattle.rounded_iter.specs.Watching.{IsGuess}
+use Rattle.rounded_iter.proofs.table.Table.find_from_rounded.Given as goal
+
+abbrev pub ghost-rise_from_guess : goal.ghost-rise_from_guess
+ghost-rise_from_guess g a = g.spans
+
+abbrev pub ghost-rise : goal.ghost-rise
+ghost-rise g a = g.spans
+
+-- the vector may be guessed anew
+abbrev pub invariant-loop : goal.invariant-loop
+invariant-loop g l = IsGuess l.self.rule l.self.case l.lane

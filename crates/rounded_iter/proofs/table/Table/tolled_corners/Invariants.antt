@@ -1,0 +1,9 @@
+use Rattle.rounded_iter.specs.Rising.{IsSolvedFor}
+use Rattle.rounded_iter.proofs.table.Table.tolled_corners.Given as goal
+
+abbrev pub ghost-solve_tolled : goal.ghost-solve_tolled
+ghost-solve_tolled g a = g.spans
+
+-- the corners so far were taken
+abbrev pub invariant-loop-corner : goal.invariant-loop-corner
+invariant-loop-corner g l = IsSolvedFor l.self.rule.ends l.self.rule.corner l.self.case g.spans l.lane l.s l.a l.corner l.number

@@ -1,0 +1,4 @@
+use Rattle.rounded_iter.proofs.table.Table.tolled_pair.Given as goal
+
+abbrev pub ghost-weigh_pair : goal.ghost-weigh_pair
+ghost-weigh_pair g a = g.spans
