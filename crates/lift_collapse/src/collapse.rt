@@ -16,6 +16,7 @@ use crate::build::collapse;
 use crate::collapsed::Collapsed;
 use crate::lanes::{Lanes, Rows};
 use crate::laws::collapses_spread;
+use crate::sought::Sought;
 use corner_lift::{Case, fill};
 use lift_model::{Links, Model};
 use std::alloc::{AllocError, Global};
@@ -171,5 +172,27 @@ impl Collapse {
             spread(&self.collapsed.places, &self.lanes.values, lane);
         }
         above
+    }
+
+    /// Leaves in `lane` a guess of the vector of the rectangle that is sought: that of the collapsed model, or where the
+    /// initial state's number in it passes the limit, what was found of it up to there. Nothing is promised of it. What
+    /// `lane` holds at entry is free.
+    pub fn guess(&mut self, case: &Case, sought: Sought, limit: i64, lane: &mut [i64])
+        ghost spans: { Spans }
+        requires filled { IsFilled case.now spans self.old }
+        requires size { length lane.old ≡ length case.now.model.states }
+        ensures same { self.new ≡ self.old }
+        ensures size { length lane.new ≡ length lane.old }
+    {
+        collapses_spread();
+        let _ = case.model();
+        let inner = Case::new(&self.collapsed.model, case.root(), case.grid(), case.w());
+        let rows = Rows {
+            case: &inner,
+            links: &self.links,
+            weights: &self.weights,
+        };
+        self.lanes.guess(&rows, sought, limit);
+        spread(&self.collapsed.places, &self.lanes.values, lane);
     }
 }

@@ -1,13 +1,15 @@
 //! The lanes in which vectors are found.
 
-ghost use Rattle.std.specs.Prelude.{IsTrue, IsFalse, IfOk};
+ghost use Rattle.std.specs.Prelude.{◌≡◌, length, IsTrue, IsFalse, IfOk};
 ghost use Rattle.lift_grid.specs.Rectangle.{Spans};
 ghost use Rattle.rounded_iter.specs.Watching.{IsLeastWithin};
 ghost use Rattle.lower_cert.specs.Limit.{NoneIsAbove};
 ghost use Rattle.lower_cert.specs.Lowering.{IsHigh};
 ghost use Rattle.lift_collapse.specs.Finding.{AreLanesFor, AreLanesOf, IsRead};
 
-use corner_lift::Case;
+use crate::sought::Sought;
+use corner_lift::{Case, Lifted};
+use lift_dual::{least_avoiding_within, least_one_within};
 use lift_model::Links;
 use lower_cert::{greatest_reject_above, lower_unranked};
 use rounded_iter::least_upper_within;
@@ -21,8 +23,8 @@ pub(crate) struct Rows<'a> {
     pub(crate) weights: &'a [i128],
 }
 
-/// The lanes in which vectors are found: a number, a rank and a pick for each state, which rows are allowed, and work
-/// space.
+/// The lanes in which vectors are found: a number, a rank and a pick for each state, which rows are allowed, work space,
+/// and from which vectors guesses begin.
 #[derive(Drop)]
 pub(crate) struct Lanes {
     pub(crate) values: Vec<i64>,
@@ -30,6 +32,18 @@ pub(crate) struct Lanes {
     ranks: Vec<u32>,
     picks: Vec<u32>,
     work: Vec<u32>,
+    /// The last vectors for one scheduler, and avoiding ones, that passed a limit.
+    past_one: Vec<i64>,
+    past_avoiding: Vec<i64>,
+}
+
+/// Copies the numbers that are there, and zeros behind them.
+fn copy(from: &[i64], to: &mut [i64])
+    ensures { length to.new ≡ length to.old }
+{
+    for s in 0..to.len() {
+        to[s] = from.get(s).copied().unwrap_or(0);
+    }
 }
 
 impl Lanes {
@@ -38,12 +52,16 @@ impl Lanes {
         ensures { IfOk result (AreLanesOf states rows) }
     {
         let states = states as usize;
+        // where each state has one choice, these are never asked for
+        let past = if rows > states { states } else { 0 };
         Ok(Lanes {
             values: vec![in alloc; 0i64; states]?,
             allowed: vec![in alloc; 0u32; rows]?,
             ranks: vec![in alloc; 0u32; states]?,
             picks: vec![in alloc; 0u32; states]?,
             work: vec![in alloc; 0u32; 2 * states]?,
+            past_one: vec![in alloc; 0i64; past]?,
+            past_avoiding: vec![in alloc; 0i64; past]?,
         })
     }
 
@@ -102,6 +120,51 @@ impl Lanes {
         match rate {
             Some(_) => true,
             None => false,
+        }
+    }
+
+    /// Leaves in `values` the least upper vector for one scheduler, or where the initial state's number in it passes the
+    /// limit, what was found of it up to there. It is to be a guess, so nothing is promised of it. A vector that passed the
+    /// limit is kept, as the next one's guess.
+    fn guess_one(&mut self, rows: &Rows, limit: i64)
+        ghost spans: { Spans }
+        requires read { IsRead rows.now spans }
+        requires lanes { AreLanesFor rows.now.case.now.model self.old }
+        ensures lanes { AreLanesFor rows.now.case.now.model self.new }
+    {
+        copy(&self.past_one, &mut self.values);
+        let rows = Lifted::new(rows.case, rows.links, rows.weights);
+        let values = &mut self.values;
+        if !least_one_within(&rows, limit, values, &mut self.picks, &mut self.work) {
+            copy(&self.values, &mut self.past_one);
+        }
+    }
+
+    /// The same for the least avoiding vector.
+    fn guess_avoiding(&mut self, rows: &Rows, limit: i64)
+        ghost spans: { Spans }
+        requires read { IsRead rows.now spans }
+        requires lanes { AreLanesFor rows.now.case.now.model self.old }
+        ensures lanes { AreLanesFor rows.now.case.now.model self.new }
+    {
+        copy(&self.past_avoiding, &mut self.values);
+        let rows = Lifted::new(rows.case, rows.links, rows.weights);
+        let values = &mut self.values;
+        if !least_avoiding_within(&rows, limit, values, &mut self.ranks, &mut self.work) {
+            copy(&self.values, &mut self.past_avoiding);
+        }
+    }
+
+    /// The same for the vector that is sought.
+    pub(crate) fn guess(&mut self, rows: &Rows, sought: Sought, limit: i64)
+        ghost spans: { Spans }
+        requires read { IsRead rows.now spans }
+        requires lanes { AreLanesFor rows.now.case.now.model self.old }
+        ensures lanes { AreLanesFor rows.now.case.now.model self.new }
+    {
+        match sought {
+            Sought::UpperOne => self.guess_one(rows, limit),
+            Sought::Avoiding => self.guess_avoiding(rows, limit),
         }
     }
 }

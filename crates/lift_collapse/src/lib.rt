@@ -8,6 +8,8 @@ mod holds;
 mod lanes;
 mod laws;
 mod search;
+mod sought;
 
 pub use collapse::Collapse;
 pub use laws::collapses_spread;
+pub use sought::Sought;

@@ -16,7 +16,7 @@ use corner_lift::{Case, Lifted, one_at, rows_at_corners};
 use float_guess::{Ends, Extreme, Rule};
 use lift_model::Links;
 use lower_cert::Rate;
-use rounded_iter::least_bound;
+use rounded_iter::least_bound_by_guess;
 
 /// The greatest rank, or 1 where none is greater.
 fn height(ranks: &[u32]) -> u32
@@ -65,8 +65,9 @@ fn leave_rest(rows: &Lifted, lane: &mut [i64])
 
 /// Leaves in `ranks` the ranks by stages in which every choice counts, and in `lane` the least avoiding vector by
 /// these. Stops where the initial state's number passes the limit. True: `lane` is that vector, and its number
-/// there is within the limit. False: in each avoiding vector it is above.
-fn rank_and_avoid(
+/// there is within the limit. False: in each avoiding vector it is above. What `lane`, `ranks` and `work` hold at entry
+/// is free; `lane` is taken for a guess of that vector. Takes no memory.
+pub fn least_avoiding_within(
     rows: &Lifted,
     limit: i64,
     lane: &mut [i64],
@@ -89,7 +90,7 @@ fn rank_and_avoid(
         corner: Extreme::Greatest,
         ends: Ends::Unranked(&*ranks),
     };
-    least_bound(rows, rule, limit, lane, work)
+    least_bound_by_guess(rows, rule, limit, lane, work)
 }
 
 /// Leaves in `lane` what is left of the least avoiding vector, and gives the least rate and height that the ranks
@@ -137,13 +138,13 @@ pub fn greatest_all(
 {
     let top = one_at(case.w());
     let rows = Lifted::new(&*case, &*links, &*weights);
-    rank_and_avoid(&rows, top, lane, ranks, work);
+    least_avoiding_within(&rows, top, lane, ranks, work);
     leave_lower(&rows, lane, ranks)
 }
 
 /// As `greatest_all`, on the rectangle that the rows are lifted to, but stops as soon as the initial state's number
 /// isn't above the limit, which is at least -1. None: in no lower vector for every scheduler is it above, and what
-/// `lane` and `ranks` hold is free.
+/// `lane` and `ranks` hold is free. `lane` is taken for a guess of the least avoiding vector.
 pub fn greatest_all_above(
     rows: &Lifted,
     limit: i64,
@@ -162,7 +163,7 @@ pub fn greatest_all_above(
     rest_is_greatest();
     let _ = rows.w();
     let most = most_left(rows.top(), limit);
-    if !rank_and_avoid(rows, most, lane, ranks, work) {
+    if !least_avoiding_within(rows, most, lane, ranks, work) {
         return None;
     }
     Some(leave_lower(rows, lane, ranks))

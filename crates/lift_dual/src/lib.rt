@@ -9,7 +9,7 @@ mod one;
 mod ranks;
 mod rates;
 
-pub use all::{greatest_all, greatest_all_above};
+pub use all::{greatest_all, greatest_all_above, least_avoiding_within};
 pub use chain::pick_first;
 pub use laws::{
     all_and_one, bounds_are_vectors, certificates_join, chains_have_one_scheduler,

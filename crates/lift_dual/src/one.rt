@@ -13,7 +13,7 @@ use crate::laws::bounds_are_vectors;
 use corner_lift::{Case, Lifted, one_at, rows_at_corners};
 use float_guess::{Ends, Extreme, Rule};
 use lift_model::Links;
-use rounded_iter::least_bound;
+use rounded_iter::least_bound_by_guess;
 
 /// In place of a pick where a state has none.
 const NONE: u32 = u32::MAX;
@@ -84,7 +84,7 @@ fn pick_all(rows: &Lifted, lane: &[i64], picks: &mut [u32])
 /// lifted to, and in `picks`, for each state that is no goal state, the lowest choice that meets it. Stops where
 /// the initial state's number passes the limit. True: these are left, and that number is within the limit.
 /// False: in each upper vector for one scheduler it is above, and what `lane` and `picks` hold is free. What
-/// `lane`, `picks` and `work` hold at entry is free. Takes no memory.
+/// `lane`, `picks` and `work` hold at entry is free; `lane` is taken for a guess of that vector. Takes no memory.
 pub fn least_one_within(
     rows: &Lifted,
     limit: i64,
@@ -104,7 +104,7 @@ pub fn least_one_within(
         corner: Extreme::Greatest,
         ends: Ends::Goals,
     };
-    if !least_bound(rows, rule, limit, lane, work) {
+    if !least_bound_by_guess(rows, rule, limit, lane, work) {
         return false;
     }
     pick_all(rows, lane, picks);
