@@ -10,7 +10,7 @@ use Rattle.lift_finer.specs.Refined.{MayBeHalved, IsBase}
 use Rattle.lift_model.specs.Links.{LinksData}
 use Rattle.lift_model.specs.Model.{live}
 use Rattle.corner_lift.specs.Case.{CaseData, IsCase, AreSidesInside, at, greatest_depth}
-use Rattle.region_tree.specs.Bases.{IsGiven, Gives, IsOffered, OffersOne, GoesOn, IsRefined, HasPrecisionsTo}
+use Rattle.region_tree.specs.Bases.{Gives, IsOffered, OffersOne, GoesOn, IsRefined, HasPrecisionsTo}
 use Rattle.region_tree.specs.Nodes.{Node, nodes}
 use Rattle.region_tree.specs.Nodes.Node.{split as split-node, accept as accept-node, reject as reject-node, unknown as unknown-node}
 use Rattle.region_tree.specs.Recent.{HasAllPlaces}

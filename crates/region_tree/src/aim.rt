@@ -6,6 +6,9 @@ ghost use Rattle.corner_lift.specs.Case.{most_precision};
 use crate::decision::greatest_within;
 use lift_cert::Bound;
 
+/// Of how many precisions below one that decides an error tells.
+const NEAR: u32 = 3;
+
 /// How far the initial state's number at a leaf's precision was from its number at the case's own, rounded to that
 /// precision, in units of the last place: of the last leaf of each kind.
 #[derive(Clone, Copy)]
@@ -21,13 +24,14 @@ impl Errors {
         rejected: None,
     };
 
-    /// That of a kind.
+    /// That of a kind, or of the other one where none is known.
     pub(crate) fn of(self, accepts: bool) -> Option<i64> {
-        if accepts {
-            self.accepted
+        let (own, other) = if accepts {
+            (self.accepted, self.rejected)
         } else {
-            self.rejected
-        }
+            (self.rejected, self.accepted)
+        };
+        own.or(other)
     }
 
     /// Keeps that of a kind.
@@ -106,12 +110,13 @@ impl Aim {
         match error {
             Some(error) => {
                 let u = self.first_expected(error, low, high);
-                if u > low { u - 1 } else { u }
+                let is_far = high < self.w && high - u > NEAR;
+                if u > low && !is_far { u - 1 } else { u }
             }
             None => {
                 let u = self.first_expected(0, low, high);
                 if u < high {
-                    u + (high - u) / 2
+                    high - (high - u + 3) / 4
                 } else {
                     high - 1
                 }

@@ -9,7 +9,7 @@ ghost use Rattle.region_tree.specs.Built.{tree_of};
 ghost use Rattle.region_tree.specs.Decided.{IsDecided};
 ghost use Rattle.region_tree.specs.Recent.{AreCertified};
 ghost use Rattle.region_tree.specs.Right.{IsRight, IsRightTree};
-ghost use Rattle.region_tree.specs.Rooms.{HasLanes, KeepsShape, StandsAtDepth, last_sides};
+ghost use Rattle.region_tree.specs.Rooms.{HasLanes, IsMadeFor, KeepsShape, StandsAtDepth, last_sides};
 ghost use Rattle.region_tree.specs.declared.verdict.Verdict.TheVariants.{Unknown};
 
 use crate::laws::walks_are_placed;
@@ -139,6 +139,21 @@ impl Walker<'_> {
         room.give_half();
         halved(alloc, axis, lower, upper?)
     }
+
+    // The tree of the case, in a room that was made for it.
+    fn build_in(&self, alloc: Global, room: &mut Room) -> Result<Branch, AllocError>
+        requires from { Between 1 self.now.task.case.now.w self.now.task.from }
+        requires links { AreLinks self.now.task.case.now.model self.now.task.links.now }
+        requires greatest { self.now.greatest ≡ greatest_depth self.now.task.case.now }
+        requires made { IsMadeFor self.now.task.case.now self.now.task.links.now room.old }
+        ensures { IfOk result (λ b. IsRightTree self.now.task.case.now self.now.task.from self.now.task.bound (tree_of b)) }
+    {
+        walks_are_placed();
+        rows_are_rectangles();
+        let _ = self.task.case.w();
+        room.begin(self.task.case);
+        self.build_at(alloc, 0, room)
+    }
 }
 
 /// Builds the right tree of a case, for the precisions from `from` to its own. Memory is taken for a room and for the
@@ -154,11 +169,7 @@ pub fn build(
     requires from { Between 1 case.now.w from }
     ensures { IfOk result (λ t. IsRightTree case.now from bound (tree_of t.top)) }
 {
-    walks_are_placed();
-    rows_are_rectangles();
-    let _ = case.w();
     let mut room = Room::make(alloc, case, links)?;
-    room.begin(case);
     let greatest = case.greatest_depth();
     let task = Task {
         case: &*case,
@@ -167,6 +178,7 @@ pub fn build(
         from,
     };
     let walker = Walker { task, greatest };
-    let top = walker.build_at(alloc, 0, &mut room)?;
-    Ok(Tree { top })
+    let top = walker.build_in(alloc, &mut room);
+    drop(room);
+    Ok(Tree { top: top? })
 }

@@ -1,4 +1,3 @@
-use Rattle.std.proofs.Common.{subst, sym, ap, ◌∙◌}
 use Rattle.region_tree.proofs.Goings.{as_made, begun_lanes}
 use Rattle.region_tree.proofs.Meeting.{none_certified}
 use Rattle.region_tree.proofs.refining.refine.Goals as goal

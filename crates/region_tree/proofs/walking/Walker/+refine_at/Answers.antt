@@ -1,9 +1,8 @@
-use Rattle.std.proofs.Common.{rules, ◌≡◌, ◌<◌, ◌≤◌, ◌+◌, ◌∷◌, ◌++◌, refl, sym, ap, ◌∙◌, subst, arith, true, false}
+use Rattle.std.proofs.Common.{rules, ◌≡◌, ◌<◌, ◌+◌, ◌++◌, refl, sym, ap, ◌∙◌, subst, arith, true, false}
 use Rattle.lift_pool.specs.Lanes.{last_lane}
 use Rattle.lift_grid.specs.Rectangle.{spans_of}
 use Rattle.lift_grid.specs.Splitting.{IsSplitAxis}
 use Rattle.lift_model.specs.Model.{live}
-use Rattle.corner_lift.specs.Case.{greatest_depth}
 use Rattle.region_tree.specs.Bases.{Gives, OffersOne}
 use Rattle.region_tree.specs.Nodes.{Node, nodes}
 use Rattle.region_tree.specs.Nodes.Node.{split as split-node}
