@@ -19,10 +19,12 @@ use Rattle.cert_check.specs.Laws.{AnswersAreOne, PassingFilesAreSound, SoundFile
 use Rattle.cert_check.specs.Trust.{IsTrusted}
 use Rattle.cert_check.specs.Sound.{IsSoundFile}
 use Rattle.cert_check.specs.Source.{AnswersTold, ChecksSource, CountsFault, KeepsLimit, TellsSmallNumbers}
-use Rattle.cert_check.specs.Shown.{Checks, Says, IsOfFile, IsToldOfFile, failure_of}
+use Rattle.cert_check.specs.Shown.{Checks, Says, IsOfFile, IsToldOfFile, failure_of, leaves_in}
+use Rattle.cert_check.specs.declared.file.Checked.{Checked}
 use Rattle.cert_check.specs.declared.summary.Summary.{Summary}
 use Rattle.cert_check.specs.declared.error.CheckError.{CheckError}
 use Rattle.cert_check.specs.declared.error.CheckError.TheVariants.{Text, Rows, Missed, Depth, Axis, Rest, Fault, TooLong, Memory}
+use Rattle.cert_check.proofs.Walking.{by_leaves}
 
 -- ---- a source
 
@@ -100,6 +102,25 @@ module _ {S : Type 0} (left : S → Option (List ℕ)) (faults : S → ℕ) (wit
   faults_counted (Err (Depth node)) f = f.ran.fault
   faults_counted (Err (Axis node)) f = f.ran.fault
   faults_counted (Err Rest) f = f.ran.fault
+
+-- the same of a report that was checked, where the lines were fresh
+module _ {S : Type 0} (left : S → Option (List ℕ)) (faults : S → ℕ) (within : EndsWithin left faults) (beyond : EndsBeyond left faults) (limit : ℕ) (text : List ℕ) (first c : LinesData) (first_is : first ≡ fresh limit text) (s u : S) (keeps : KeepsLines c.failure c.limit c.taken)
+    (result : Result Checked CheckError) (end : Checks left faults first c s u (λ _ x. x.leaves) (λ later. FileEnds (head_at (place first later))) result) where
+  came : Comes left faults within beyond limit text c s u keeps (leaves_in result)
+  came = by_leaves result (subst (λ (l : LinesData). Checks left faults l c s u (λ _ x. x.leaves) (λ later. FileEnds (head_at (place l later))) result) first_is end)
+
+  still_ended : (result : Result Checked CheckError) → IfOk result (λ _. IsTrue c.ended) → IfOk (leaves_in result) (λ _. IsTrue c.ended)
+  still_ended (Ok x) ended = ended
+  still_ended (Err e) ended = tt
+
+  pub source_of : PassingFilesAreSound → SoundReportsHold → IfOk result (λ _. IsTrue c.ended) → ChecksSource limit left faults s u (leaves_in result)
+  source_of sound holds ended = source_checked left faults within beyond limit text c s u keeps sound holds (leaves_in result) (still_ended result ended) came
+
+  pub limit_of : KeepsLimit limit (leaves_in result) (left s) (left u)
+  limit_of = limit_kept left faults within beyond limit text c s u keeps (leaves_in result) came
+
+  pub faults_of : CountsFault (leaves_in result) (faults s) (faults u)
+  faults_of = faults_counted left faults within beyond limit text c s u keeps (leaves_in result) came
 
 -- nothing was taken
 pub none_taken : (limit : ℕ) (old : Option (List ℕ)) → TakenHas (λ bytes. length bytes ≤ limit) old old

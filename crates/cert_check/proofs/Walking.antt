@@ -12,7 +12,9 @@ use Rattle.line_text.specs.Reading.{Reader}
 use Rattle.line_text.specs.Follow.{Follows, Ran, Went, place, told_fault}
 use Rattle.line_text.specs.Laws.{AddsUp}
 use Rattle.cert_check.specs.Answer.{Answer}
-use Rattle.cert_check.specs.Shown.{Agrees, Checks, IsOfFile, failure_of, told, told_as}
+use Rattle.cert_check.specs.Shown.{Agrees, Checks, IsOfFile, failure_of, leaves_in, told, told_as}
+use Rattle.cert_check.specs.declared.file.Checked.{Checked}
+use Rattle.cert_check.specs.declared.summary.Summary.{Summary}
 use Rattle.cert_check.specs.declared.error.CheckError.{CheckError}
 use Rattle.cert_check.specs.declared.error.CheckError.TheVariants.{Text, Rows, Missed, Depth, Axis, Rest, Fault, TooLong, Memory}
 
@@ -137,3 +139,8 @@ unchecked {S} {X} {Y} {Z} {W} {left} {faults} adds {whole} {rest} {a} {b} {c} {s
       ran = subst (λ o. Ran left faults b c t u f.bytes o) (same_failure X Z e) f.ran;
       agrees = λ some later follows. how (f.bytes ++ later) (f.agrees some later follows);
     }))
+
+-- a report that was checked, by its leaves
+pub by_leaves : {S : Type 0} {left : S → Option (List ℕ)} {faults : S → ℕ} {a c : LinesData} {s u : S} {may : List ℕ → Answer Summary → Type 0} (r : Result Checked CheckError) → Checks left faults a c s u (λ _ x. x.leaves) may r → Checks left faults a c s u (λ _ x. x) may (leaves_in r)
+by_leaves (Ok x) f = record { bytes = f.bytes; ran = f.ran; agrees = f.agrees }
+by_leaves {S} {left} {faults} {a} {c} {s} {u} (Err e) f = record { bytes = f.bytes; ran = subst (λ o. Ran left faults a c s u f.bytes o) (same_failure Summary Checked e) f.ran; agrees = f.agrees }

@@ -19,6 +19,8 @@ use Rattle.line_text.specs.declared.error.FileError.{FileError}
 use Rattle.line_text.specs.declared.error.FileError.TheVariants as file
 use Rattle.line_text.specs.Follow.{Ran, place}
 use Rattle.cert_check.specs.Answer.{Came, Answer}
+use Rattle.cert_check.specs.declared.file.Checked.{Checked}
+use Rattle.cert_check.specs.declared.summary.Summary.{Summary}
 use Rattle.cert_check.specs.declared.walk.Walk.{Walk}
 use Rattle.cert_check.specs.declared.error.CheckError.{CheckError}
 use Rattle.cert_check.specs.declared.leaf.Rejecting.{Rejecting}
@@ -63,6 +65,11 @@ pub record IsPlaced (k : CaseData) (levels : ℕ) (spans : Spans) : Type 0 where
 abbrev pub Says : {X Y : Type 0} → (X → Y) → (Result Y CheckError → Type 0) → Result X CheckError → Type 0
 Says view may (Ok x) = may (Ok (view x))
 Says view may (Err e) = e ≢ Memory → may (Err e)
+
+-- what is answered of a report that was checked, by its leaves
+abbrev pub leaves_in : Result Checked CheckError → Result Summary CheckError
+leaves_in (Ok x) = Ok x.leaves
+leaves_in (Err e) = Err e
 
 -- the failure of the lines that an answer tells
 abbrev pub failure_of : {X : Type 0} → Result X CheckError → Option LineError

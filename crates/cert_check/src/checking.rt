@@ -1,9 +1,10 @@
 // Checks what a source gives.
 ghost use Rattle.std.specs.Prelude.{◌≡◌, ◌≤◌, IfErr};
+ghost use Rattle.cert_check.specs.Shown.{leaves_in};
 ghost use Rattle.cert_check.specs.Source.{AnswersTold, ChecksSource, CountsFault, KeepsLimit, TellsSmallNumbers, report_limit};
 
 use crate::error::CheckError;
-use crate::file::check_file;
+use crate::file::{Checked, check_file};
 use crate::laws::{answers_are_one, sound_files_pass, sound_reports_hold};
 use crate::summary::Summary;
 use crate::walk::Walk;
@@ -13,6 +14,16 @@ use std::alloc::Global;
 
 /// How many bytes a report may have.
 const REPORT_LIMIT: u64 = 1 << 32;
+
+/// Of a report that was checked its leaves.
+pub(crate) fn leaves_in(answer: Result<Checked, CheckError>) -> Result<Summary, CheckError>
+    ensures { result ≡ leaves_in answer }
+{
+    match answer {
+        Ok(checked) => Ok(checked.leaves),
+        Err(error) => Err(error),
+    }
+}
 
 /// Checks a report that a source gives, line by line, as `check` does; more than `limit` bytes are too many.
 pub fn check_within<S: Source>(
@@ -34,7 +45,7 @@ pub fn check_within<S: Source>(
     let mut walk = Walk::make(alloc, limit)?;
     let answer = check_file(alloc, &mut walk, src);
     let _ = walk.lines.given();
-    answer
+    leaves_in(answer)
 }
 
 /// Checks a report that a source gives, of at most 2^32 bytes, and tells how many leaves of each kind it has:

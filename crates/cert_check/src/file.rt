@@ -3,6 +3,7 @@ ghost use Rattle.std.specs.Prelude.{◌≡◌, ◌≤◌, ◌++◌, None, IsTrue
 ghost use Rattle.lift_model.specs.Links.{ArePlaces};
 ghost use Rattle.corner_lift.specs.Case.{IsAdmitted, greatest_depth};
 ghost use Rattle.line_text.specs.Follow.{place};
+ghost use Rattle.cert_text.specs.Cut.{WasHeadRead};
 ghost use Rattle.cert_text.specs.Head.{head_at};
 ghost use Rattle.cert_check.specs.Answer.{FileEnds, HeadEnds, RestEnds, Then, TreeEnds, rest_of, start};
 ghost use Rattle.cert_check.specs.Source.{TellsSmallNumbers};
@@ -99,20 +100,35 @@ fn check_head<S: Source>(
     check_nodes(&report, walk, src)
 }
 
+/// A report that was checked: its head, how many lines that has, and the leaves.
+#[derive(Drop)]
+pub(crate) struct Checked {
+    pub head: Head,
+    pub head_lines: u32,
+    pub leaves: Summary,
+}
+
 /// Checks a report whose first line is due.
 pub(crate) fn check_file<S: Source>(
     alloc: Global,
     walk: &mut Walk,
     src: &mut S,
-) -> Result<Summary, CheckError>
+) -> Result<Checked, CheckError>
     requires node { walk.old.node ≡ 0 }
-    ensures end { Checks S.left S.faults walk.old.lines walk.new.lines src.old src.new (λ _ s. s)
+    ensures end { Checks S.left S.faults walk.old.lines walk.new.lines src.old src.new (λ _ x. x.leaves)
         (λ later. FileEnds (head_at (place walk.old.lines later))) result }
+    ensures head { IfOk result (λ x. WasHeadRead S.left S.faults walk.old.lines src.old x.head x.head_lines) }
     ensures ended { IfOk result (λ _. IsTrue walk.new.lines.ended) }
     ensures told { IfErr result TellsSmallNumbers }
 {
     calls_add_up::<S>();
     heads_are_read();
     let head = read_head(alloc, &mut walk.lines, src)?;
-    check_head(alloc, walk, src, &head)
+    let head_lines = walk.lines.given();
+    let leaves = check_head(alloc, walk, src, &head)?;
+    Ok(Checked {
+        head,
+        head_lines,
+        leaves,
+    })
 }

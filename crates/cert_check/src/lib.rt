@@ -18,4 +18,4 @@ pub use laws::{
     sound_reports_hold, sound_trees_are_reports,
 };
 pub use summary::Summary;
-pub use text::check_text;
+pub use text::{SoundText, check_parts, check_text};

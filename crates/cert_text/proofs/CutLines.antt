@@ -41,6 +41,10 @@ pub every_append : {A : Type 0} (P : A → Type 0) (xs ys : List A) → AllByRec
 every_append P [] ys h g = g
 every_append P (x ∷ xs) ys h g = (h.0, every_append P xs ys h.1 g)
 
+pub every_back : {A : Type 0} (P : A → Type 0) (xs ys : List A) → AllByRecursion P (xs ++ ys) → AllByRecursion P ys
+every_back P [] ys all = all
+every_back P (x ∷ xs) ys (here, all) = every_back P xs ys all
+
 pub every_front : {A : Type 0} (P : A → Type 0) (xs ys : List A) → AllByRecursion P (xs ++ ys) → AllByRecursion P xs
 every_front P [] ys h = tt
 every_front P (x ∷ xs) ys h = (h.0, every_front P xs ys h.1)

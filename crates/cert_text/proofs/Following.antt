@@ -1,10 +1,9 @@
 -- Readers in turn over lines of a source: what the code has read so far, and what is left to be read.
-use Rattle.std.proofs.Common.{◌≡◌, ◌≢◌, ◌⊎◌, ◌∙◌, ◌+◌, ap, sym, subst, refl, ℕ, List, [], ◌++◌, None, Some, Ok, Err, IsTrue, append_assoc, inl, inr}
+use Rattle.std.proofs.Common.{◌≡◌, ◌∙◌, ◌+◌, ap, sym, subst, refl, ℕ, List, [], ◌++◌, None, Ok, Err, append_assoc, inl}
 use Rattle.std.specs.declared.option.Option.{Option}
 use Rattle.std.specs.declared.result.Result.{Result}
 use Rattle.std.specs.Result.{IsErrAnd}
 use Rattle.std.specs.List.{before_first}
-use Rattle.lift_base.specs.declared.pieces.LineError.{LineError}
 use Rattle.lift_base.specs.Lines.{LinesData, MayFollow, passed, is_feed}
 use Rattle.line_text.specs.declared.error.TextCause.{TextCause}
 use Rattle.line_text.specs.declared.error.TextCause.TheVariants.{Memory}
@@ -13,7 +12,7 @@ use Rattle.line_text.specs.declared.error.FileError.{FileError}
 use Rattle.line_text.specs.declared.error.FileError.TheVariants as file
 use Rattle.line_text.specs.Words.{words}
 use Rattle.line_text.specs.Parts.{Words, Read}
-use Rattle.line_text.specs.Reading.{◌>>=◌, Cursor, Reader, at, due, line_at}
+use Rattle.line_text.specs.Reading.{◌>>=◌, Cursor, Reader, due, line_at}
 use Rattle.line_text.specs.Shown.{Says}
 use Rattle.line_text.specs.Follow.{Agrees, Due, Follows, IsDue, Ran, Takes, Went, failure_of, place, told_fault}
 use Rattle.line_text.specs.Laws.{AddsUp}

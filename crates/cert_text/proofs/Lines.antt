@@ -11,7 +11,7 @@ use Rattle.lift_grid.specs.Tree.{RejectData}
 use Rattle.corner_lift.specs.Case.{CaseData}
 use Rattle.lift_cert.specs.declared.bound.Bound.{Bound}
 use Prim.Native.Char.{code}
-use Rattle.cert_text.specs.Report.{line, version_words, kind_words, parameters_words, size_lines, goal_words, rows_lines, model_lines, asked_lines, from_lines, scale_lines, box_line, head_lines, goal_states, numbered, reject_words, reject_lines}
+use Rattle.cert_text.specs.Report.{line, version_words, kind_words, parameters_words, size_lines, goal_words, rows_lines, model_lines, asked_lines, from_lines, scale_lines, box_line, head_lines, goal_states, numbered, reject_words, reject_lines, region_lines}
 
 -- a line is its first word, each further word behind a space, and a line feed
 pub line-words : {X : Type 0} (f : X → List ℕ) (word : List ℕ) (xs : List X) → line (word ∷ map f xs) ≡ word ++ (flat_map (λ x. code " " ∷ f x) xs ++ codes "\n")
@@ -71,20 +71,20 @@ model_parts m kind names e f =
     ap₂ (λ (k : Kind) (ns : List (List ℕ)). line (kind_words k) ++ (line (parameters_words ns) ++ concat (size_lines m ++ line (goal_words m.goal) ∷ rows_lines m.states))) (sym e) (sym f)
     ∙ ap (λ (rest : List ℕ). line (kind_words kind) ++ (line (parameters_words names) ++ rest)) (concat-append (size_lines m) (line (goal_words m.goal) ∷ rows_lines m.states))
 
+-- the lines of a region, one after the other
+pub region_parts : (k : CaseData) (root : Spans) → root ≡ k.root → concat (region_lines k) ≡ concat (scale_lines k) ++ box_line root
+region_parts k root f = concat-append (scale_lines k) (box_line k.root ∷ []) ∙ ap (λ (rest : List ℕ). concat (scale_lines k) ++ rest) (append-nil (box_line k.root) ∙ ap box_line (sym f))
+
 -- the parts of a head, one after the other
-pub head_parts : (k : CaseData) (from : Option ℕ) (bound : Bound) (m : ModelData) (root : Spans) → m ≡ k.model → root ≡ k.root
+pub head_parts : (k : CaseData) (from : Option ℕ) (bound : Bound) (m : ModelData) → m ≡ k.model
     → concat (head_lines k from bound)
-    ≡ line (version_words (is_some from)) ++ (concat (model_lines m) ++ (concat (asked_lines k bound) ++ (concat (from_lines from) ++ (concat (scale_lines k) ++ box_line root))))
-head_parts k from bound m root e f =
+    ≡ line (version_words (is_some from)) ++ (concat (model_lines m) ++ (concat (asked_lines k bound) ++ (concat (from_lines from) ++ concat (region_lines k))))
+head_parts k from bound m e =
     ap (λ (rest : List ℕ). line (version_words (is_some from)) ++ rest)
-    (concat-append (model_lines k.model) (asked_lines k bound ++ (from_lines from ++ (scale_lines k ++ box_line k.root ∷ [])))
+    (concat-append (model_lines k.model) (asked_lines k bound ++ (from_lines from ++ region_lines k))
     ∙ ap₂ (λ (head rest : List ℕ). head ++ rest) (ap (λ (n : ModelData). concat (model_lines n)) (sym e))
-    (concat-append (asked_lines k bound) (from_lines from ++ (scale_lines k ++ box_line k.root ∷ []))
-    ∙ ap (λ (rest : List ℕ). concat (asked_lines k bound) ++ rest)
-    (concat-append (from_lines from) (scale_lines k ++ box_line k.root ∷ [])
-    ∙ ap (λ (rest : List ℕ). concat (from_lines from) ++ rest)
-    (concat-append (scale_lines k) (box_line k.root ∷ [])
-    ∙ ap (λ (rest : List ℕ). concat (scale_lines k) ++ rest) (append-nil (box_line k.root) ∙ ap box_line (sym f))))))
+    (concat-append (asked_lines k bound) (from_lines from ++ region_lines k)
+    ∙ ap (λ (rest : List ℕ). concat (asked_lines k bound) ++ rest) (concat-append (from_lines from) (region_lines k))))
 
 flat_item_suc : {A : Type 0} (f : A → List ℕ) (xs : List A) (k : ℕ) (x : A) → k < length xs → x ≡ get_or xs k x → flat_map f (drop k xs) ≡ f x ++ flat_map f (drop (suc k) xs)
 flat_item_suc f [] k x h is = absurd (omega arith)
@@ -111,3 +111,16 @@ reject_parts init u r a b c d e = ap concat e ∙ ap (λ (rest : List ℕ). a ++
 -- the first line of a rejecting leaf, as the pieces that are written
 pub rate_line : (e k : ℕ) (y : ℤ) (z : ℕ) → line (reject_words e k y z) ≡ codes "reject e " ++ (decimal e ++ (codes " k " ++ (decimal k ++ (codes " m " ++ (decimal (e * k) ++ (codes " b " ++ (signed_decimal y ++ (codes "/" ++ (decimal z ++ codes "\n")))))))))
 rate_line e k y z = ap (λ (rest : List ℕ). codes "reject e " ++ (decimal e ++ (codes " k " ++ (decimal k ++ (codes " m " ++ (decimal (e * k) ++ (codes " b " ++ rest))))))) (append_assoc (signed_decimal y) (codes "/" ++ decimal z) (codes "\n"))
+
+-- what is made of a list with one item
+pub map-one : {X Y : Type 0} (f : X → Y) (xs : List X) (x : X) → length xs ≡ 1 → slice_get xs 0 ≡ Some x → map f xs ≡ (f x ∷ [])
+map-one f [] x l e = absurd (cc)
+map-one f (y ∷ []) x l e = let same : y ≡ x = cc in rw same refl
+map-one f (y ∷ z ∷ ys) x l e = absurd (omega arith)
+
+-- of one with two
+pub map-two : {X Y : Type 0} (f : X → Y) (xs : List X) (x y : X) → length xs ≡ 2 → slice_get xs 0 ≡ Some x → slice_get xs 1 ≡ Some y → map f xs ≡ (f x ∷ f y ∷ [])
+map-two f [] x y l d e = absurd (cc)
+map-two f (u ∷ []) x y l d e = absurd (omega arith)
+map-two f (u ∷ v ∷ []) x y l d e = let first : u ≡ x = cc in let second : v ≡ y = cc in rw first (rw second refl)
+map-two f (u ∷ v ∷ w ∷ ys) x y l d e = absurd (omega arith)

@@ -15,18 +15,19 @@ use Rattle.lift_poly.proofs.Ring.{linear, test_from_le}
 use Rattle.line_text.specs.Reading.{Cursor}
 use Rattle.line_text.specs.Follow.{Follows, place}
 use Rattle.line_text.specs.Laws.{EndsWithin}
-use Rattle.cert_text.specs.Report.{line, number_words, numbers_words, reject_words, mark_word, split_line, at_line, at_lines, accept_line, reject_lines, unknown_line}
-use Rattle.corner_lift.specs.Case.{number}
+use Rattle.cert_text.specs.Report.{line, version_words, model_lines, asked_lines, from_lines, scale_lines, top_lines, region_lines, number_words, numbers_words, reject_words, mark_word, split_line, at_line, at_lines, accept_line, reject_lines, unknown_line}
+use Rattle.std.specs.Prelude.{is_some}
+use Rattle.corner_lift.specs.Case.{CaseData, number}
 use Rattle.cert_text.specs.Head.{HeadData, head_at}
 use Rattle.cert_text.specs.Forms.{IsHead, IsNode}
 use Rattle.cert_text.specs.Laws.{told_lines}
 use Rattle.cert_text.specs.Nodes.{Node, split, accept, reject, unknown, node_lines}
 use Rattle.cert_text.specs.Migrated.{lines_of}
-use Rattle.cert_text.specs.Cut.{node_bytes, IsSplitOn, IsAcceptOf, IsRejectOf, IsOpenLeaf, CutsHead, IsBehind, lines_ahead}
+use Rattle.cert_text.specs.Cut.{node_bytes, IsSplitOn, IsAcceptOf, IsRejectOf, IsOpenLeaf, CutsHead, HeadsAreCut, IsBehind, lines_ahead, top_bytes}
 use Rattle.cert_text.proofs.ReportLaws.{heads_back}
 use Rattle.cert_text.proofs.Steps.{ok_is}
 use Rattle.cert_text.proofs.Decimals.{number_again}
-use Rattle.cert_text.proofs.CutLines.{every_front, feed_at, line_join, no_feeds, words_join}
+use Rattle.cert_text.proofs.CutLines.{every_back, every_front, feed_at, line_join, no_feeds, words_join}
 use Rattle.cert_text.proofs.Fits.{key_fits, number_line}
 use Rattle.cert_text.proofs.Lines.{line-names}
 use Rattle.cert_text.proofs.HeadForms.{head_form}
@@ -119,9 +120,6 @@ node_told h node is fit =
 
 head_told : (h : HeadData) → IsHead h → AllByRecursion IsTextLine (told_lines h)
 head_told h is = one_each (told_lines h) (head_ended h.asked h.from h.bound) (inverts_head.feeds h (told_lines h) (refl, head_form h is))
-
-pub head_behind : (h : HeadData) (n : ℕ) (text rest left : List ℕ) → IsHead h → text ≡ concat (told_lines h) ++ rest → n ≡ length (told_lines h) → IsBehind n text left → left ≡ rest
-head_behind h n text rest left is e count behind = left_all (told_lines h) n text rest left (head_told h is) count e behind
 
 -- ---- with what a node begins
 
@@ -338,11 +336,37 @@ never_above z top axis is top_is low test = let no : true ≡ false = sym (test_
 
 -- ---- the head
 
+-- the lines of a head are those of its top, and those that tell the region
+head_parted : (h : HeadData) → told_lines h ≡ top_lines h.asked h.from h.bound ++ region_lines h.asked
+head_parted h =
+    let model = model_lines h.asked.model in
+    let asked = asked_lines h.asked h.bound in
+    let from = from_lines h.from in
+    let region = region_lines h.asked in
+    ap (λ (ls : Lines). line (version_words (is_some h.from)) ∷ ls) (ap (λ (ls : Lines). model ++ ls) (sym (append_assoc asked from region)) ∙ sym (append_assoc model (asked ++ from) region))
+
+three_lines : (k : CaseData) → length (region_lines k) ≡ 3
+unfolding scale_lines
+three_lines k = refl
+
+-- a head that begins a text is cut into its top and its region
+pub head_behind : (h : HeadData) (n : ℕ) (text rest top region left : List ℕ) → IsHead h → text ≡ concat (told_lines h) ++ rest → n ≡ length (told_lines h) → top ≡ concat (take (n - 3) (lines_of text)) → IsBehind (n - 3) text region → IsBehind 3 region left
+    → (top ≡ top_bytes h) × (left ≡ rest)
+head_behind h n text rest top region left is e count top_is below behind =
+    let first = top_lines h.asked h.from h.bound in
+    let last = region_lines h.asked in
+    let three = three_lines h.asked in
+    let told = subst (λ (ls : Lines). AllByRecursion IsTextLine ls) (head_parted h) (head_told h is) in
+    let whole : text ≡ concat first ++ (concat last ++ rest) = e ∙ ap (λ (ls : Lines). concat ls ++ rest) (head_parted h) ∙ ap (λ (t : List ℕ). t ++ rest) (concat-append first last) ∙ append_assoc (concat first) (concat last) rest in
+    let lines : n ≡ length first + length last = count ∙ ap (λ (ls : Lines). length ls) (head_parted h) ∙ length-append first last in
+    let cut = cut_all first (n - 3) text (concat last ++ rest) top region (every_front IsTextLine first last told) (omega (arith, lines, three)) whole top_is below in
+    (cut.0, left_all last 3 region rest left (every_back IsTextLine first last told) (sym three) cut.1 behind)
+
 -- what was read of a text's head, and as many lines as were given
-pub head_cut : EndsWithin {S = List ℕ} (λ s. Some s) (λ _. 0) → (text window : List ℕ) (c : LinesData) (u : List ℕ) (head : HeadData) (n : ℕ) (left : List ℕ) → length text < 2 ^ 32
+head_cut : EndsWithin {S = List ℕ} (λ s. Some s) (λ _. 0) → (text window : List ℕ) (c : LinesData) (u : List ℕ) (head : HeadData) (n : ℕ) (top region left : List ℕ) → length text < 2 ^ 32
     → Follows {S = List ℕ} (λ s. Some s) (λ _. 0) (λ (h : HeadData). h) head_at (fresh (length text) window) c text u (Ok head) → KeepsLimit c.failure c.limit c.taken → c.given + length c.held ≤ c.taken → n ≡ min c.given (2 ^ 32 - 1)
-    → IsBehind n text left → CutsHead text head left
-head_cut within text window c u head n left small f keeps counted given behind h rest is e =
+    → top ≡ concat (take (n - 3) (lines_of text)) → IsBehind (n - 3) text region → IsBehind 3 region left → CutsHead text head top left
+head_cut within text window c u head n top region left small f keeps counted given top_is below behind h rest is e =
     let ends = within (length text) window c text u f.bytes f.ran keeps in
     let whole : text ≡ f.bytes ++ u = f.ran.took.consumed in
     let read : head_at (1, f.bytes ++ u) ≡ Ok (head, place c u) = f.agrees u ends.1 in
@@ -350,11 +374,9 @@ head_cut within text window c u head n left small f keeps counted given behind h
     let least : c.taken ≤ c.limit = subst (λ (o : Option LineError). KeepsLimit o c.limit c.taken) f.ran.left_with keeps in
     let most = f.ran.took.limit in
     let count : c.given + 1 ≡ 1 + length (told_lines h) = ap (λ (y : HeadData × Cursor). y.1.0) same in
-    (ap (λ (y : HeadData × Cursor). y.0) same, head_behind h n text rest left is e (omega (arith, given, least, counted, most, small, count)) behind)
+    let parts = head_behind h n text rest top region left is e (omega (arith, given, least, counted, most, small, count)) top_is below behind in
+    (ap (λ (y : HeadData × Cursor). y.0) same, parts.0, parts.1)
 
--- the same, where the lines and the source are told
-pub head_cut_from : EndsWithin {S = List ℕ} (λ s. Some s) (λ _. 0) → (text window : List ℕ) (first c : LinesData) (start u : List ℕ) (head : HeadData) (n : ℕ) (left : List ℕ) → length text < 2 ^ 32 → first ≡ fresh (length text) window → start ≡ text
-    → Follows {S = List ℕ} (λ s. Some s) (λ _. 0) (λ (h : HeadData). h) head_at first c start u (Ok head) → KeepsLimit c.failure c.limit c.taken → c.given + length c.held ≤ c.taken → n ≡ min c.given (2 ^ 32 - 1) → IsBehind n text left → CutsHead text head left
-head_cut_from within text window first c start u head n left small first_is start_is f =
-    let Ran : LinesData → List ℕ → Type 0 = λ l s. Follows {S = List ℕ} (λ s. Some s) (λ _. 0) (λ (h : HeadData). h) head_at l c s u (Ok head) in
-    head_cut within text window c u head n left small (subst (Ran (fresh (length text) window)) start_is (subst (λ (l : LinesData). Ran l start) first_is f))
+-- the same of a head that was read
+pub heads_cut : EndsWithin {S = List ℕ} (λ s. Some s) (λ _. 0) → HeadsAreCut
+heads_cut within text window head count top region left small f = head_cut within text window f.lines f.after head count top region left small f.read f.limit f.counted f.given

@@ -1,6 +1,6 @@
 -- Reports of the second version, by computation: what is read, and what is refused.
 use Rattle.std.proofs.Common.{◌≡◌, refl, [], ◌∷◌, ◌++◌, set, Ok}
-use Rattle.std.specs.Prelude.{codes, pos, None, Some}
+use Rattle.std.specs.Prelude.{codes, pos, Some}
 use Rattle.std.specs.List.{concat}
 use Rattle.line_text.specs.declared.error.TextCause.TheVariants.{Syntax, Limit, Truncated}
 use Rattle.line_text.specs.Reading.{due, line_at, fault}
@@ -8,7 +8,7 @@ use Rattle.lift_frac.specs.Gcd.{gcd}
 use Rattle.std.specs.Fmt.{digits}
 use Rattle.lift_grid.specs.Tree.Tree.{accept as accepted}
 use Rattle.cert_text.specs.Head.{HeadData, head_at, from_at, state_at, states_at, behind_first, row_at, entries_at, further_at}
-use Rattle.cert_text.specs.Nodes.{accept, unknown, node_at, second_by, decided_by, told_at, accept_at, reject_at, split_at, unknown_at}
+use Rattle.cert_text.specs.Nodes.{accept, node_at, second_by, decided_by, told_at, accept_at, unknown_at}
 use Rattle.cert_text.specs.Report.{size_lines, row_line, asked_lines, scale_lines, report_text}
 use Rattle.cert_text.proofs.ReadSamples.{coin, coin_lines}
 

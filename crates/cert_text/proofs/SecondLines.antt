@@ -1,6 +1,6 @@
 -- The lines of a report of the first version, and what the second has in their place.
-use Rattle.std.proofs.Common.{◌≡◌, ℕ, ◌+◌, ◌^◌, ◌<◌, ◌≤◌, Option, Bool, true, false, cond, List, [], ◌∷◌, ◌++◌, length, map, drop, refl, sym, ap, ap₂, subst, ◌∙◌, arith, append-nil, append_assoc, codes, nat_eq}
-use Rattle.std.specs.Prelude.{◌||◌, Some, None}
+use Rattle.std.proofs.Common.{◌≡◌, ℕ, ◌+◌, ◌^◌, Option, Bool, true, false, cond, List, [], ◌∷◌, ◌++◌, length, map, drop, refl, sym, ap, ap₂, subst, ◌∙◌, arith, append_assoc, codes, nat_eq}
+use Rattle.std.specs.Prelude.{Some, None}
 use Rattle.std.specs.List.{AllByRecursion, concat, flat_map, join_with_byte, starts_with}
 use Rattle.std.specs.Fmt.{decimal, signed_decimal}
 use Rattle.std.proofs.lemmas.Grind.{flat_map-append}
@@ -13,13 +13,12 @@ use Rattle.lift_model.specs.declared.entry.Entry.{Entry}
 use Rattle.lift_model.specs.Model.{ModelData}
 use Rattle.corner_lift.specs.Case.{CaseData, number}
 use Rattle.lift_cert.specs.declared.bound.Bound.{Bound}
-use Rattle.cert_text.specs.Report.{line, number_words, numbers_words, version_words, kind_name, kind_words, parameters_words, size_lines, goal_states, goal_words, term_word, entry_line, row_lines, row_line, numbered, state_lines, rows_lines, model_lines}
-use Rattle.cert_text.specs.Report.{bound_words, asked_lines, from_lines, scale_lines, box_line, head_lines, mark_word, reject_words, reject_lines, accept_line, at_line, tree_lines, report_text}
+use Rattle.cert_text.specs.Report.{line, number_words, numbers_words, version_words, kind_name, size_lines, goal_states, goal_words, term_word, entry_line, row_lines, row_line, numbered, state_lines, rows_lines, model_lines}
+use Rattle.cert_text.specs.Report.{bound_words, asked_lines, from_lines, scale_lines, box_line, head_lines, mark_word, reject_words, at_line, tree_lines, report_text}
 use Rattle.cert_text.specs.Head.{HeadData}
 use Rattle.cert_text.specs.Forms.{IsTree, IsReport}
 use Rattle.cert_text.specs.Whole.{feed_count, height}
-use Rattle.cert_text.specs.Laws.{text_of}
-use Rattle.cert_text.specs.Migrated.{MigratesTo, migrated, lines_of, precision_in, second_line}
+use Rattle.cert_text.specs.Migrated.{MigratesTo, lines_of, precision_in, second_line}
 use Rattle.cert_text.proofs.Lines.{line-names}
 use Rattle.cert_text.proofs.CutLines.{every_append, line_join}
 use Rattle.cert_text.proofs.HeadForms.{head_form}

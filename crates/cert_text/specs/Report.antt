@@ -142,6 +142,14 @@ box_words root = numbers_words (codes "box") (sides_of root)
 abbrev pub box_line : Spans → List ℕ
 box_line root = line (box_words root)
 
+-- the head's lines above its last three, which tell the depth and the region: the version, the model, the bound and the precisions
+abbrev pub top_lines : CaseData → Option ℕ → Bound → List (List ℕ)
+top_lines k from bound = line (version_words (is_some from)) ∷ (model_lines k.model ++ (asked_lines k bound ++ from_lines from))
+
+-- those: the depth, the grid and the root
+abbrev pub region_lines : CaseData → List (List ℕ)
+region_lines k = scale_lines k ++ box_line k.root ∷ []
+
 -- the head: the version, the model, and what is asked of it
 abbrev pub head_lines : CaseData → Option ℕ → Bound → List (List ℕ)
 head_lines k from bound =

@@ -1,8 +1,8 @@
 // Writes the head of a report.
-ghost use Rattle.std.specs.Prelude.{is_some};
+ghost use Rattle.std.specs.Prelude.{◌++◌, is_some};
 ghost use Rattle.std.specs.List.{concat};
 ghost use Rattle.lift_base.specs.Outside.{Wrote};
-ghost use Rattle.cert_text.specs.Report.{line, version_words, asked_lines, from_lines, scale_lines, box_line, head_lines};
+ghost use Rattle.cert_text.specs.Report.{line, version_words, asked_lines, from_lines, scale_lines, box_line, region_lines, head_lines};
 
 use crate::model::write_model;
 use corner_lift::Case;
@@ -82,6 +82,24 @@ pub fn write_box<K: Sink>(out: &mut K, root: &Rect) -> Result<(), WriteFault>
     )
 }
 
+/// Writes the last three lines of a head: the depth, the grid and the root.
+fn write_region<K: Sink>(out: &mut K, case: &Case) -> Result<(), WriteFault>
+    ensures { Wrote K.taken K.faults out.old out.new result (concat (region_lines case.now)) }
+{
+    writes_in_turn::<K>();
+    write_scale(out, case)?;
+    write_box(out, case.root())
+}
+
+/// Writes a head whose lines above the last three are given. Takes no memory.
+pub fn write_head_below<K: Sink>(out: &mut K, top: &[u8], case: &Case) -> Result<(), WriteFault>
+    ensures { Wrote K.taken K.faults out.old out.new result (top.now ++ concat (region_lines case.now)) }
+{
+    writes_in_turn::<K>();
+    write_all(out, top)?;
+    write_region(out, case)
+}
+
 /// Writes the head of a report: the version, the case's model, and what is asked of it. With a least
 /// precision the report is of the second version. Takes no memory.
 pub fn write_head<K: Sink>(
@@ -97,6 +115,5 @@ pub fn write_head<K: Sink>(
     write_model(out, case.model())?;
     write_asked(out, case, bound)?;
     write_from(out, from)?;
-    write_scale(out, case)?;
-    write_box(out, case.root())
+    write_region(out, case)
 }

@@ -1,5 +1,5 @@
 // The terms that were read last, found by their texts.
-ghost use Rattle.std.specs.Prelude.{◌≡◌, ◌≤◌, ℕ, [], Some, IfSome, IfOk, slice_get};
+ghost use Rattle.std.specs.Prelude.{◌≡◌, ◌≤◌, ℕ, [], Ok, Some, IfSome, IfOk, slice_get};
 ghost use Rattle.std.specs.Option.{option_map};
 ghost use Rattle.lift_model.specs.Valid.{most_parameters};
 ghost use Rattle.line_text.specs.Words.{words};
@@ -80,6 +80,45 @@ impl KnownTerms {
         Ok(())
     }
 
+    /// One more text that is kept with the polynomial that it writes.
+    fn keep_text(
+        &mut self,
+        alloc: Global,
+        hash: u8,
+        text: &[u8],
+        poly: &SharedPoly,
+    ) -> Result<(), AllocError>
+        ensures { (parameters : ℕ) → AreKnown parameters self.old.texts.items
+            → terms_of parameters (words text.now) ≡ Ok (Ok poly.now) → AreKnown parameters self.new.texts.items }
+    {
+        let known = Known {
+            text: Vec::from_slice(alloc, text)?,
+            poly: poly.share()?,
+        };
+        self.keep(hash, known)
+    }
+
+    /// The polynomial of a text's terms, which is read and kept.
+    #[inline(never)]
+    fn read_terms(
+        &mut self,
+        alloc: Global,
+        hash: u8,
+        text: &[u8],
+        parameters: u32,
+    ) -> Result<Result<SharedPoly, TextCause>, TextCause>
+        requires parameters { parameters ≤ most_parameters }
+        requires known { AreKnown parameters self.old.texts.items }
+        ensures value { Says (λ read. read) result (terms_of parameters (words text.now)) }
+        ensures known { AreKnown parameters self.new.texts.items }
+    {
+        let read = terms_of(alloc, Words::of(text), parameters)?;
+        if let Ok(poly) = &read {
+            self.keep_text(alloc, hash, text, poly)?;
+        }
+        Ok(read)
+    }
+
     /// The polynomial of a text's terms. It is read only where it isn't one of those that are kept.
     #[inline(always)]
     fn text_terms(
@@ -98,17 +137,7 @@ impl KnownTerms {
         if let Some(poly) = self.find(place, text) {
             return Ok(Ok(poly.share()?));
         }
-        match terms_of(alloc, Words::of(text), parameters)? {
-            Ok(poly) => {
-                let known = Known {
-                    text: Vec::from_slice(alloc, text)?,
-                    poly: poly.share()?,
-                };
-                self.keep(hash, known)?;
-                Ok(Ok(poly))
-            }
-            Err(cause) => Ok(Err(cause)),
-        }
+        self.read_terms(alloc, hash, text, parameters)
     }
 
     /// The polynomial that words write by its terms, or the cause that is told behind the form of all.

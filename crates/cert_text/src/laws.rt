@@ -1,12 +1,22 @@
 //! Laws of report texts, for who reasons about them. The functions do nothing.
 
+ghost use Rattle.cert_text.specs.Cut.{HeadsAreCut};
 ghost use Rattle.cert_text.specs.Laws.{HeadsAreReadBack, NodesAreReadBack, PrefixesAreTruncated, ReadHeadsAreTold, ReadNodesAreTold, ReadReportsAreTold, ReportsAreReadBack, TextsTellOneReport};
+
+use line_text::{TextSource, readings_end};
 
 /// A head is read exactly where its lines begin the text.
 pub fn heads_are_read()
     ensures back { HeadsAreReadBack }
     ensures told { ReadHeadsAreTold }
 {}
+
+/// A head that was read of a text in memory is cut off by its lines.
+pub fn heads_are_cut()
+    ensures { HeadsAreCut }
+{
+    readings_end::<TextSource>();
+}
 
 /// A node is read exactly where its lines begin the text.
 pub fn nodes_are_read()

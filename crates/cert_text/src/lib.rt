@@ -24,14 +24,15 @@ mod rejected;
 mod rows;
 mod values;
 
-pub use head::{write_box, write_head};
+pub use head::{write_box, write_head, write_head_below};
 pub use head_reader::{Head, read_head};
 pub use laws::{
-    heads_are_read, nodes_are_read, prefixes_are_truncated, reports_are_read, texts_tell_one_report,
+    heads_are_cut, heads_are_read, nodes_are_read, prefixes_are_truncated, reports_are_read,
+    texts_tell_one_report,
 };
 pub use line_text::{FileError, TextCause, TextError};
 pub use migrate::migrate_text;
 pub use model::write_model;
 pub use node::{write_accept, write_at, write_reject, write_split, write_unknown};
 pub use node_reader::{Node, read_node};
-pub use node_text::{NodeText, cut_head, cut_node};
+pub use node_text::{NodeText, behind_lines, cut_lines, cut_node};

@@ -1,5 +1,5 @@
 // Writes the lines of a model.
-ghost use Rattle.std.specs.Prelude.{◌≡◌, ◌<◌, ◌∷◌, length};
+ghost use Rattle.std.specs.Prelude.{◌≡◌, ◌<◌, [], ◌∷◌, length, codes};
 ghost use Rattle.std.specs.List.{concat, flat_map};
 ghost use Rattle.std.specs.Fmt.{decimal};
 ghost use Rattle.lift_base.specs.Outside.{Wrote};
@@ -152,7 +152,55 @@ fn write_terms<K: Sink>(out: &mut K, poly: &MultiAffine) -> Result<(), WriteFaul
     Ok(())
 }
 
-fn write_entry<K: Sink>(out: &mut K, entry: &Entry) -> Result<(), WriteFault>
+// The line of an entry with one term.
+fn write_single<K: Sink>(out: &mut K, target: u32, term: (u16, i128)) -> Result<(), WriteFault>
+    ensures { Wrote K.taken K.faults out.old out.new result
+        (line (codes "to" ∷ decimal target ∷ term_word term ∷ [])) }
+{
+    let (set, coefficient) = term;
+    write_words(
+        out,
+        &[
+            Word::Text(b"to "),
+            Word::Count(u64::from(target)),
+            Word::Text(b" "),
+            Word::Count(u64::from(set)),
+            Word::Text(b":"),
+            Word::Number(coefficient),
+            Word::Text(b"\n"),
+        ],
+    )
+}
+
+// The line of an entry with two terms.
+fn write_pair<K: Sink>(
+    out: &mut K,
+    target: u32,
+    first: (u16, i128),
+    second: (u16, i128),
+) -> Result<(), WriteFault>
+    ensures { Wrote K.taken K.faults out.old out.new result
+        (line (codes "to" ∷ decimal target ∷ term_word first ∷ term_word second ∷ [])) }
+{
+    write_words(
+        out,
+        &[
+            Word::Text(b"to "),
+            Word::Count(u64::from(target)),
+            Word::Text(b" "),
+            Word::Count(u64::from(first.0)),
+            Word::Text(b":"),
+            Word::Number(first.1),
+            Word::Text(b" "),
+            Word::Count(u64::from(second.0)),
+            Word::Text(b":"),
+            Word::Number(second.1),
+            Word::Text(b"\n"),
+        ],
+    )
+}
+
+fn write_long<K: Sink>(out: &mut K, entry: &Entry) -> Result<(), WriteFault>
     ensures { Wrote K.taken K.faults out.old out.new result (entry_line entry.now) }
 {
     writes_in_turn::<K>();
@@ -162,6 +210,18 @@ fn write_entry<K: Sink>(out: &mut K, entry: &Entry) -> Result<(), WriteFault>
     )?;
     write_terms(out, &entry.poly)?;
     write_all(out, b"\n")
+}
+
+// Most entries have one term or two, and are written at once.
+fn write_entry<K: Sink>(out: &mut K, entry: &Entry) -> Result<(), WriteFault>
+    ensures { Wrote K.taken K.faults out.old out.new result (entry_line entry.now) }
+{
+    let poly = &*entry.poly;
+    match poly.len() {
+        1 => write_single(out, entry.target, poly.term(0)),
+        2 => write_pair(out, entry.target, poly.term(0), poly.term(1)),
+        _ => write_long(out, entry),
+    }
 }
 
 fn write_entries<K: Sink>(out: &mut K, entries: &[Entry]) -> Result<(), WriteFault>

@@ -1,18 +1,15 @@
 // Cuts the nodes of a report off its text, one after another.
-ghost use Rattle.std.specs.Prelude.{◌≡◌, ◌<◌, ◌^◌, ◌++◌, ℕ, List, Some, IfOk, codes, false, length, nat_eq, pos, take};
+ghost use Rattle.std.specs.Prelude.{◌≡◌, ◌<◌, ◌++◌, ℕ, List, Some, codes, false, length, nat_eq, pos, take};
 ghost use Rattle.std.specs.List.{concat, starts_with};
 ghost use Rattle.lift_model.specs.Valid.{most_parameters};
 ghost use Rattle.line_text.specs.Words.{words};
 ghost use Rattle.cert_text.specs.Report.{number_words, split_line};
 ghost use Rattle.cert_text.specs.Migrated.{lines_of};
-ghost use Rattle.cert_text.specs.Cut.{CutsHead, CutsNode, IsBehind, lines_ahead};
+ghost use Rattle.cert_text.specs.Cut.{CutsNode, IsBehind, lines_ahead};
 
-use crate::head_reader::{Head, read_head};
 use crate::migrate::cut_line;
-use lift_base::Lines;
 use lift_bytes::len_before;
-use line_text::{TextSource, Words, readings_end};
-use std::alloc::{AllocError, Global};
+use line_text::Words;
 
 /// A node of a report's text. A decided leaf has the bytes of its lines.
 #[derive(Clone, Copy, Debug, PartialEq, Eq)]
@@ -38,7 +35,7 @@ fn behind_line(text: &[u8]) -> &[u8]
 }
 
 /// What stands behind so many lines of a text; nothing where there are fewer.
-fn behind_lines(text: &[u8], count: u32) -> &[u8]
+pub fn behind_lines(text: &[u8], count: u32) -> &[u8]
     ensures { IsBehind count text.now result.now }
 {
     let mut rest = text;
@@ -49,7 +46,7 @@ fn behind_lines(text: &[u8], count: u32) -> &[u8]
 }
 
 /// The first so many lines of a text, and what stands behind them.
-fn cut_lines(text: &[u8], count: u32) -> (&[u8], &[u8])
+pub fn cut_lines(text: &[u8], count: u32) -> (&[u8], &[u8])
     ensures lines { result.0.now ≡ concat (take count (lines_of text.now)) }
     ensures behind { IsBehind count text.now result.1.now }
 {
@@ -114,19 +111,4 @@ pub fn cut_node(text: &[u8]) -> (NodeText<'_>, &[u8])
     } else {
         cut_leaf(text)
     }
-}
-
-/// Reads the head of a report that begins the text, and cuts it off. Where a head begins the text, nothing but want of
-/// memory fails.
-pub fn cut_head(alloc: Global, text: &[u8]) -> Result<(Head, &[u8]), AllocError>
-    requires { length text.now < 2 ^ 32 }
-    ensures { IfOk result (λ x. CutsHead text.now x.0 x.1.now) }
-{
-    readings_end::<TextSource>();
-    let mut lines = Lines::make(alloc, text.len() as u64)?;
-    let mut source = TextSource::new(text);
-    let Ok(head) = read_head(alloc, &mut lines, &mut source) else {
-        return Err(AllocError);
-    };
-    Ok((head, behind_lines(text, lines.given())))
 }

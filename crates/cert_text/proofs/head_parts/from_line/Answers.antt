@@ -1,4 +1,4 @@
-use Rattle.std.proofs.Common.{◌≡◌, ◌+◌, ◌∙◌, ℕ, Bool, true, false, Option, None, Some, Ok, codes, ap, refl, rules}
+use Rattle.std.proofs.Common.{◌≡◌, ◌+◌, ◌∙◌, Bool, true, false, None, Some, Ok, codes, ap, refl, rules}
 use Rattle.line_text.specs.Reading.{◌>>=◌, Cursor, line_at}
 use Rattle.line_text.specs.Parts.{number_in}
 use Rattle.line_text.specs.Follow.{place}

@@ -1,4 +1,4 @@
-use Rattle.std.proofs.Common.{◌∙◌, sym, ap, ap₂, ◌∷◌, List, ℕ, arith}
+use Rattle.std.proofs.Common.{◌∙◌, sym, ap₂, ◌∷◌, List, ℕ, arith}
 use Rattle.cert_text.specs.Migrated.{lines_of}
 use Rattle.cert_text.proofs.TextLines.{first_line}
 use Rattle.cert_text.proofs.migrate.cut_line.Goals as goal

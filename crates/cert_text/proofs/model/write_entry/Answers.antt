@@ -1,20 +1,18 @@
-use Rattle.std.proofs.Common.{append-nil}
-use Rattle.std.specs.Fmt.{decimal}
+use Rattle.std.proofs.Common.{◌≡◌, length, slice_get, Some}
 use Rattle.cert_text.specs.Report.{term_word}
-use Rattle.cert_text.proofs.Lines.{line-words}
+use Rattle.cert_text.proofs.Lines.{map-one, map-two}
 use Rattle.cert_text.proofs.model.write_entry.Goals as goal
 
-pub returns-in_err-write_words : goal.returns-in_err-write_words
-returns-in_err-write_words g c =
-    let first = rw (append-nil, c.from.ensures) at c.in_err-write_words.ensures in
-    rw (line-words term_word (decimal c.args.entry.now.target)) (c.writes_in_turn.ensures.stopped _ _ _ _ _ _ c.from_residual.ensures.0 first)
+pub returns-in-1 : goal.returns-in-1
+returns-in-1 g c =
+    let poly = c.args.entry.now.poly in
+    let count : length c.deref-poly.result.now ≡ 1 = cc in
+    let one : length poly ≡ 1 = rw c.deref-poly.ensures at count in
+    rw (map-one term_word poly _ one (rw c.deref-poly.ensures at c.term.ensures)) c.write_single.ensures
 
-pub returns-in_err-write_terms : goal.returns-in_err-write_terms
-returns-in_err-write_terms g c =
-    let first = rw (append-nil, c.from.ensures) at c.in_ok-write_words.ensures in
-    rw (line-words term_word (decimal c.args.entry.now.target)) (c.writes_in_turn.ensures.both _ _ _ _ _ _ first (c.writes_in_turn.ensures.stopped _ _ _ _ _ _ c.from_residual-in_err-write_terms.ensures.0 (rw c.deref.ensures at c.in_err-write_terms.ensures)))
-
-pub returns : goal.returns
-returns g c =
-    let first = rw (append-nil, c.from.ensures) at c.in_ok-write_words.ensures in
-    rw (line-words term_word (decimal c.args.entry.now.target)) (c.writes_in_turn.ensures.both _ _ _ _ _ _ first (c.writes_in_turn.ensures.both _ _ _ _ _ _ (rw c.deref.ensures at c.in_ok-write_terms.ensures) c.write_all.ensures.wrote))
+pub returns-in-2 : goal.returns-in-2
+returns-in-2 g c =
+    let poly = c.args.entry.now.poly in
+    let count : length c.deref-poly.result.now ≡ 2 = cc in
+    let two : length poly ≡ 2 = rw c.deref-poly.ensures at count in
+    rw (map-two term_word poly _ _ two (rw c.deref-poly.ensures at c.term-in-2.ensures) (rw c.deref-poly.ensures at c.term-in-2-2.ensures)) c.write_pair.ensures

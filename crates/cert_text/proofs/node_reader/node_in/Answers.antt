@@ -1,16 +1,10 @@
-use Rattle.std.proofs.Common.{◌≡◌, ◌∙◌, ◌+◌, true, false, Option, codes, ap, sym, rules}
+use Rattle.std.proofs.Common.{◌∙◌, Option, ap, sym}
 use Rattle.std.specs.Prelude.{ℕ}
 use Rattle.std.specs.List.{before_first}
 use Rattle.lift_base.specs.Lines.{is_feed}
-use Rattle.line_text.specs.declared.error.TextCause.TheVariants.{Syntax}
 use Rattle.line_text.specs.Words.{words}
-use Rattle.line_text.specs.Reading.{◌>>=◌, Cursor, due, line_at}
-use Rattle.line_text.specs.Parts.{number_in}
-use Rattle.line_text.specs.Follow.{place}
-use Rattle.cert_text.specs.Head.{HeadData, least_precision, at_precision}
-use Rattle.cert_text.specs.Leaf.{node_of}
-use Rattle.cert_text.specs.Nodes.{accept_at, decided_by, node_by, node_in, reject_at, second_by, told_at}
-use Rattle.cert_text.proofs.Following.{as_error, as_reader, begin_as, ends, goes, peeks, read_as, refused, stops, tail, then_fails}
+use Rattle.cert_text.specs.Nodes.{node_by, node_in, second_by}
+use Rattle.cert_text.proofs.Following.{as_reader}
 use Rattle.cert_text.proofs.node_reader.node_in.Goals as goal
 
 pub returns-in-None : goal.returns-in-None

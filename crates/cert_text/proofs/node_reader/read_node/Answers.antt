@@ -1,14 +1,10 @@
-use Rattle.std.proofs.Common.{◌≡◌, ◌∙◌, List, ℕ, ap, sym}
-use Rattle.std.specs.List.{before_first}
-use Rattle.lift_base.specs.Lines.{is_feed, passed}
-use Rattle.line_text.specs.declared.error.TextError.{TextError}
 use Rattle.line_text.specs.Words.{words}
-use Rattle.line_text.specs.Reading.{◌>>=◌, Cursor, due}
+use Rattle.line_text.specs.Reading.{◌>>=◌, due}
 use Rattle.line_text.specs.Follow.{place}
 use Rattle.cert_text.specs.Leaf.{node_of}
 use Rattle.cert_text.specs.Nodes.{node_at, node_in}
 use Rattle.cert_text.proofs.NodeSteps.{node_is_read}
-use Rattle.cert_text.proofs.Following.{begin_as, goes_by, peeks, tail, ends, as_error, then_fails}
+use Rattle.cert_text.proofs.Following.{begin_as, peeks, tail, ends, as_error, then_fails}
 use Rattle.cert_text.proofs.node_reader.read_node.Goals as goal
 
 pub node_in-requires : goal.node_in-requires

@@ -1,4 +1,4 @@
-use Rattle.std.proofs.Common.{◌≡◌, ℕ, length, Ok, codes, rules, refl}
+use Rattle.std.proofs.Common.{◌≡◌, length, Ok, codes, rules, refl}
 use Rattle.line_text.specs.Reading.{◌>>=◌, Cursor, line_at}
 use Rattle.line_text.specs.Parts.{number_in}
 use Rattle.cert_text.specs.Nodes.{split, split_at}

@@ -1,6 +1,5 @@
-use Rattle.std.proofs.Common.{◌≡◌, ℤ, List, length, Ok, codes, ap, sym, rules}
+use Rattle.std.proofs.Common.{length, Ok, codes, rules}
 use Rattle.line_text.specs.Reading.{◌>>=◌, Cursor, line_at}
-use Rattle.line_text.specs.Follow.{place}
 use Rattle.cert_text.specs.Lines.{values_of}
 use Rattle.cert_text.specs.Nodes.{accept, accept_at}
 use Rattle.cert_text.proofs.NodeSteps.{accept_is_read}

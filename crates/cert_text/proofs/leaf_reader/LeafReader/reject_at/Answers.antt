@@ -1,11 +1,11 @@
-use Rattle.std.proofs.Common.{◌≡◌, ◌+◌, ◌∙◌, Ok, Err, Result, ap, sym, subst}
+use Rattle.std.proofs.Common.{◌∙◌, Result, ap, subst}
 use Rattle.line_text.specs.declared.error.FileError.{FileError}
 use Rattle.line_text.specs.Words.{words}
-use Rattle.line_text.specs.Reading.{◌>>=◌, Cursor, line_at}
+use Rattle.line_text.specs.Reading.{◌>>=◌, line_at}
 use Rattle.line_text.specs.Follow.{Follows, place}
 use Rattle.cert_text.specs.declared.rejected.Rejected.{Rejected}
 use Rattle.cert_text.specs.Lines.{reject_of}
-use Rattle.cert_text.specs.Leaf.{node_of, rejected_of}
+use Rattle.cert_text.specs.Leaf.{rejected_of}
 use Rattle.cert_text.specs.Nodes.{reject_at, rejecting_at}
 use Rattle.cert_text.proofs.NodeSteps.{reject_is_read}
 use Rattle.cert_text.proofs.Following.{as_error, begin_as, goes, line_is, line_none, stops, tail}
