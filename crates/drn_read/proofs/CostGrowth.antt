@@ -1,6 +1,6 @@
 -- What the lines of a text say of rewards, with one more line.
-use Rattle.std.proofs.Common.{◌≡◌, ℕ, Bool, true, false, not, refl, List, [], ◌∷◌, ◌++◌, length, sym, ◌∙◌, ap, append_assoc, Option, Some, None}
-use Rattle.std.specs.Prelude.{map, filter, position, codes, ◌==◌, if◌then◌else◌}
+use Rattle.std.proofs.Common.{◌≡◌, ℕ, Bool, true, false, refl, List, [], ◌∷◌, ◌++◌, length, sym, ◌∙◌, ap, append_assoc, Option, Some, None}
+use Rattle.std.specs.Prelude.{map, filter, position, ◌==◌, if◌then◌else◌}
 use Rattle.std.specs.List.{list_all}
 use Rattle.std.specs.Str.{bytes_eq}
 use Rattle.std.proofs.Math.Dec.{eqb-suc-zero}
@@ -11,9 +11,9 @@ use Rattle.lift_costs.specs.Costs.{CostData}
 use Rattle.drn_lexer.specs.Cutting.{pieces_behind}
 use Rattle.drn_lexer.specs.Lines.{TextLine, content, is_blank_line, is_comment}
 use Rattle.drn_lexer.specs.Words.{words}
-use Rattle.drn_read.specs.Faults.{first_of, told}
+use Rattle.drn_read.specs.Faults.{told}
 use Rattle.drn_read.specs.Parts.{Part, parts}
-use Rattle.drn_read.specs.Sections.{section_at, section_of, is_head, is_section, said_in, sections, phase_of, phase_behind, gather}
+use Rattle.drn_read.specs.Sections.{section_at, section_of, is_head, is_section, said_in, sections, phase_of, phase_behind}
 use Rattle.drn_read.specs.Judging.{Said, line_fault}
 use Rattle.drn_read.specs.Reading.{said}
 use Rattle.drn_read.specs.Keeping.{with_line}

@@ -1,6 +1,5 @@
 -- A reader that keeps what the lines before it say with their rewards, and goes by the lines that aren't passed over, finds the first fault.
-use Rattle.std.proofs.Common.{◌≡◌, ℕ, Bool, true, false, refl, List, [], ◌∷◌, ◌++◌, sym, ◌∙◌, ap, append_assoc, Option, Some, None}
-use Rattle.std.specs.Prelude.{if◌then◌else◌}
+use Rattle.std.proofs.Common.{◌≡◌, Bool, true, false, refl, List, [], ◌∷◌, ◌++◌, sym, ◌∙◌, ap, append_assoc, Option, Some, None}
 use Rattle.std.proofs.lemmas.List.{append-nil}
 use Rattle.drn_lexer.specs.Lines.{TextLine, is_comment, own_fault, is_passed_over, behind_comments}
 use Rattle.drn_lexer.specs.declared.error.LexError.{LexError}

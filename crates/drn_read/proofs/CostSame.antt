@@ -1,5 +1,5 @@
 -- A model that is read with costs is the one that is read without rewards, and each of its states has a cost.
-use Rattle.std.proofs.Common.{if◌then◌else◌, ◌≡◌, ◌+◌, ℕ, Bool, true, false, List, [], ◌∷◌, ◌++◌, length, map, refl, sym, ap, ◌∙◌, Option, Some, None, Result, Ok, Err, arith, length-append}
+use Rattle.std.proofs.Common.{if◌then◌else◌, ◌≡◌, ℕ, Bool, true, false, List, [], ◌∷◌, ◌++◌, length, map, refl, sym, ap, ◌∙◌, Option, Some, None, Result, Ok, Err, arith, length-append}
 use Rattle.std.specs.Prelude.{filter, position}
 use Rattle.std.specs.Str.{bytes_eq}
 use Rattle.std.proofs.lemmas.List.{length-map}
@@ -11,10 +11,10 @@ use Rattle.drn_lexer.specs.declared.error.LexError.{LexError}
 use Rattle.drn_read.specs.Faults.{first_of, lexed, told}
 use Rattle.drn_read.specs.Parts.{Part, parts}
 use Rattle.drn_read.specs.Sections.{Placeholder, sections, names, placeholders, said_in, gather}
-use Rattle.drn_read.specs.States.{ModelLine, model_line, model_lines, is_state, state}
+use Rattle.drn_read.specs.States.{model_line, model_lines, is_state, state}
 use Rattle.drn_read.specs.Judging.{line_fault}
 use Rattle.drn_read.specs.Reading.{said, judge, first_fault, end_fault, model, last_number, drn}
-use Rattle.drn_read.specs.Costs.{Asked, CostSaid, reward_names, begins_state, line_cost, state_lines, costs, cost_said, line_rewards_fault, judge_costs, first_cost_fault, before_common, cost_end_fault, drn_costs}
+use Rattle.drn_read.specs.Costs.{Asked, reward_names, begins_state, line_cost, state_lines, costs, cost_said, line_rewards_fault, judge_costs, first_cost_fault, before_common, cost_end_fault, drn_costs}
 use Rattle.drn_read.specs.CostLaws.{CostsAreReadWithTheModel}
 use Rattle.drn_read.specs.declared.error.DrnError.{DrnError}
 use Rattle.drn_read.specs.declared.section.Section.TheVariants.{Model}

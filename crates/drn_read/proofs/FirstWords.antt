@@ -1,13 +1,12 @@
 -- The first word of a line. Where it begins with a quote that has no end, it is no keyword, and no other word stands behind it.
-use Rattle.std.proofs.Common.{◌≡◌, ◌==◌, ◌+◌, ℕ, zero, suc, Bool, true, false, refl, sym, ◌∙◌, ap, List, [], ◌∷◌, length, take, drop, Option, Some, None, Result, Ok, Err}
-use Rattle.std.specs.Prelude.{if◌then◌else◌}
-use Rattle.std.specs.List.{list_any, position_or_len}
+use Rattle.std.proofs.Common.{◌≡◌, ◌==◌, ℕ, zero, Bool, true, false, refl, sym, ◌∙◌, ap, List, [], ◌∷◌, length, take, drop, Err}
+use Rattle.std.specs.List.{list_any}
 use Rattle.std.specs.Str.{bytes_eq}
-use Rattle.std.proofs.lemmas.Bool.{eqb-true, false_from_ne_true, both_ways}
+use Rattle.std.proofs.lemmas.Bool.{false_from_ne_true, both_ways}
 use Rattle.std.proofs.lemmas.Slice.Eq.{bytes_eq-Decides}
 use Rattle.lift_bytes.specs.Bytes.{is_blank, first_passes}
 use Rattle.drn_lexer.specs.Cutting.{Piece, pieces_behind}
-use Rattle.drn_lexer.specs.Words.{WordKind, words, word_front, runs_to}
+use Rattle.drn_lexer.specs.Words.{WordKind, words, word_front}
 use Rattle.drn_lexer.specs.declared.error.LexError.{LexError}
 use Rattle.drn_lexer.specs.declared.error.LexError.TheVariants.{OpenQuote}
 use Rattle.drn_read.specs.States.{begins_with}

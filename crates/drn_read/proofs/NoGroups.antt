@@ -1,7 +1,6 @@
 -- A line without a bracket holds no rewards.
-use Rattle.std.proofs.Common.{◌≡◌, ◌==◌, ◌||◌, ℕ, zero, suc, Bool, true, false, cond, refl, sym, ◌∙◌, ap, List, [], ◌∷◌, take, drop, Option, Some, None, Ok, Err}
-use Rattle.std.specs.Prelude.{codes}
-use Rattle.std.specs.List.{list_any, position_or_len}
+use Rattle.std.proofs.Common.{◌≡◌, ◌==◌, ◌||◌, ℕ, zero, suc, Bool, true, false, cond, refl, ◌∙◌, ap, List, [], ◌∷◌, take, drop, Option, Some, None, Ok, Err}
+use Rattle.std.specs.List.{list_any}
 use Rattle.std.specs.Option.{option_and_then}
 use Rattle.std.proofs.lemmas.Bool.{or_parts}
 use Rattle.lift_bytes.specs.Bytes.{is_blank}
@@ -10,10 +9,9 @@ use Rattle.drn_lexer.specs.Cutting.{Piece, pieces_behind}
 use Rattle.drn_lexer.specs.Words.{WordKind, words, word_front}
 use Rattle.drn_lexer.specs.declared.word.WordForm.TheVariants as word
 use Rattle.drn_read.specs.Sections.{Header}
-use Rattle.drn_read.specs.States.{StateText, begins_with}
+use Rattle.drn_read.specs.States.{StateText}
 use Rattle.drn_read.specs.Rewards.{rewards_fault}
 use Rattle.drn_read.specs.RewardLines.{is_rewards, rewards_at, action_rewards, reached_in_action, reached_in_state, words_rewards_fault}
-use Rattle.drn_read.specs.declared.owner.Owner.{Owner}
 use Rattle.drn_read.specs.declared.owner.Owner.TheVariants.{State, Action}
 use Rattle.drn_read.specs.declared.error.DrnCause.{DrnCause}
 

@@ -1,6 +1,6 @@
 -- The place of the first name that passes, with one more name.
 use Rattle.std.proofs.Common.{◌≡◌, ◌+◌, ◌||◌, ℕ, suc, Bool, true, false, not, cond, refl, sym, ◌∙◌, ap, List, [], ◌∷◌, ◌++◌, length, Option, Some, None, arith}
-use Rattle.std.specs.Prelude.{position, nat_lt, is_none}
+use Rattle.std.specs.Prelude.{position, is_none}
 use Rattle.std.specs.List.{list_any, position_or_len}
 use Rattle.drn_read.proofs.Pairing.{below}
 

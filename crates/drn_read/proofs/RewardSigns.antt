@@ -1,5 +1,5 @@
 -- Values of rewards aren't below 0, and where they stand in a group.
-use Rattle.std.proofs.Common.{◌≡◌, ◌*ℤ◌, ◌≤ℤ◌, ◌*◌, ◌^◌, ◌-◌, ◌==◌, ℕ, ℤ, zero, suc, pos, Bool, true, false, cond, refl, sym, ◌∙◌, ap, subst, List, map, Option, Some, None, Result, Ok, Err, arith}
+use Rattle.std.proofs.Common.{◌≡◌, ◌*ℤ◌, ◌≤ℤ◌, ◌*◌, ◌^◌, ◌-◌, ◌==◌, ℕ, ℤ, pos, Bool, true, false, cond, refl, sym, ◌∙◌, ap, subst, List, Option, Some, None, Result, Ok, Err, arith}
 use Rattle.std.specs.Prelude.{unsigned_abs, slice_get}
 use Rattle.std.specs.Int.{int_signum}
 use Rattle.std.specs.List.{slice_split}
@@ -13,7 +13,7 @@ use Rattle.lift_frac.specs.Literal.{Literal, literal_at, is_literal, number, up,
 use Rattle.lift_frac.specs.Written.{cut_at}
 use Rattle.lift_frac.specs.declared.error.FracError.{FracError}
 use Rattle.lift_frac.specs.declared.error.FracError.TheVariants.{Wide, Zero, BadLiteral}
-use Rattle.drn_read.specs.Rewards.{quotient, reward_value, reward_values, inside}
+use Rattle.drn_read.specs.Rewards.{quotient, reward_value, inside}
 use Rattle.drn_read.specs.Costs.{cost_in}
 
 -- ---- signs
@@ -110,3 +110,8 @@ pub cost_at_piece : (group : List ℕ) (place : ℕ) (piece : Option (List ℕ))
     → cost_in (Some place) (Some group) ≡ cost_by (option_map (λ text. reward_value (trimmed text)) piece)
 cost_at_piece group place piece e =
     ap cost_by (slice_get-map (λ text. reward_value (trimmed text)) (slice_split (λ b. b == 44) (inside group)) place ∙ ap (option_map (λ text. reward_value (trimmed text))) (sym e))
+
+-- the same by the value that the piece writes, or why it writes none
+pub cost_at_value : (group : List ℕ) (place : ℕ) (piece : List ℕ) (value : Result Ratio FracError) → Some piece ≡ slice_get (slice_split (λ b. b == 44) (inside group)) place
+    → value ≡ reward_value (trimmed piece) → cost_in (Some place) (Some group) ≡ cost_by (Some value)
+cost_at_value group place piece value e f = cost_at_piece group place (Some piece) e ∙ ap (λ v. cost_by (Some v)) (sym f)

@@ -1,7 +1,6 @@
 -- Values of rewards: tests of lists of them, and their sign.
-use Rattle.std.proofs.Common.{◌≡◌, ◌*ℤ◌, ◌≤ℤ◌, ◌*◌, ◌+◌, ◌^◌, ◌/◌, ◌-◌, ◌==◌, ◌||◌, ℕ, ℤ, zero, suc, pos, Bool, true, false, refl, sym, ◌∙◌, ap, subst, List, [], ◌∷◌, map, Option, Some, None, Result, Ok, Err}
-use Rattle.std.specs.Prelude.{unsigned_abs, slice_get, if◌then◌else◌}
-use Rattle.std.specs.List.{list_any, slice_split}
+use Rattle.std.proofs.Common.{◌≡◌, ◌||◌, Bool, refl, ap, List, [], ◌∷◌, map}
+use Rattle.std.specs.List.{list_any}
 
 pub any_map : {A B : Type 0} (p : B → Bool) (f : A → B) (xs : List A) → list_any p (map f xs) ≡ list_any (λ x. p (f x)) xs
 any_map p f [] = refl

@@ -1,5 +1,4 @@
 use Rattle.std.proofs.Common.{◌≡◌, true, rules, sym, ap, subst, ◌∙◌}
-use Rattle.drn_lexer.specs.Lines.{TextLine}
 use Rattle.drn_read.specs.States.{is_transition}
 use Rattle.drn_read.specs.Judging.{line_fault}
 use Rattle.drn_read.specs.Costs.{CostSaid}
