@@ -8,7 +8,6 @@ use Rattle.lift_grid.specs.Tree.{Tree}
 use Rattle.lift_model.specs.Model.{ModelData}
 use Rattle.plift_top.specs.Asked.{AskedModel, uncut, cut, asked_model, verified_model}
 use Rattle.corner_lift.specs.Case.{CaseData, IsCase, IsAdmitted, case_of}
-use Rattle.lift_cert.specs.declared.bound.Bound.{Bound}
 use Rattle.lift_rows.specs.Laws.{AdmittedHasNoFault}
 use Rattle.region_tree.specs.Laws.{RightTreesAreOne}
 use Rattle.cert_text.specs.Report.{report_text}
@@ -24,7 +23,8 @@ use Rattle.plift_words.specs.declared.job.Field.TheVariants as field
 use Rattle.plift_words.specs.declared.error.WordsError.{WordsError}
 use Rattle.plift_words.specs.declared.error.WordsError.TheVariants as words
 use Rattle.plift_top.specs.Refused.{words_refusal}
-use Rattle.plift_words.specs.Way.{from_told, is_reported}
+use Rattle.std.specs.Option.{ForSome}
+use Rattle.plift_words.specs.Way.{bound_told, from_told, is_reported}
 use Rattle.plift_top.specs.RightReport.{version_of}
 use Rattle.plift_words.specs.declared.way.Way.{Way}
 use Rattle.plift_words.specs.declared.way.Way.TheVariants as way
@@ -82,43 +82,46 @@ not_long_report bytes None h long = absurd long.1
 not_long_report bytes (Some ys) h (taken, is, more) = omega (arith, ap length is, length-append taken ys)
 
 -- what is answered is a case
-answered_case : (old new : Option (List ℕ)) (bound : Bound) (asked : Way) (a : AskedModel) (k : CaseData) → IsAnswered old new bound asked a k → IsCase k
-answered_case old new bound (way.Whole from) a k h = h.case
-answered_case old new bound (way.Within n) a k h = h.case
-answered_case old new bound way.Lumped a k h = h.is.case
-answered_case old new bound (way.Property op) a k h = h.case
+answered_case : (old new : Option (List ℕ)) (asked : Way) (a : AskedModel) (k : CaseData) → IsAnswered old new asked a k → IsCase k
+answered_case old new (way.Whole bound from) a k h = h.case
+answered_case old new (way.Within bound n) a k h = h.case
+answered_case old new (way.Lumped bound) a k h = h.is.case
+answered_case old new (way.Property bound op) a k h = h.case
+answered_case old new (way.Cost limits) a k h = h.case
 
 -- and can be
-answerable : (old new : Option (List ℕ)) (bound : Bound) (asked : Way) (a : AskedModel) (k : CaseData) → IsAnswered old new bound asked a k → IsAnswerable asked k.model
-answerable old new bound (way.Whole from) a k h = (refl, λ e. absurd (cc))
-answerable old new bound (way.Within n) a k h = (refl, λ e. absurd (cc))
-answerable old new bound way.Lumped a k h = (ap (lacks_chain way.Lumped) h.is.chain, λ e wide. not_wide h.is.lumped h.reported.case.asked.model wide)
-answerable old new bound (way.Property op) a k h = (refl, λ e. absurd (cc))
+answerable : (old new : Option (List ℕ)) (asked : Way) (a : AskedModel) (k : CaseData) → IsAnswered old new asked a k → IsAnswerable asked k.model
+answerable old new (way.Whole bound from) a k h = (refl, λ e. absurd (cc))
+answerable old new (way.Within bound n) a k h = (refl, λ e. absurd (cc))
+answerable old new (way.Lumped bound) a k h = (ap (lacks_chain (way.Lumped bound)) h.is.chain, λ e wide. not_wide h.is.lumped h.reported.case.asked.model wide)
+answerable old new (way.Property bound op) a k h = (refl, λ e. absurd (cc))
+answerable old new (way.Cost limits) a k h = (refl, λ e. absurd (cc))
 
 -- what answers a case that a text stands for, by a report, is a sound file
-answered_soundly : RightReportsAreSound → LumpedReportsAreSound → (old new : Option (List ℕ)) (bound : Bound) (asked : Way) (text label : List ℕ) (m : ModelData) (root : Region) (w : ℕ) → drn text label ≡ Ok m → IsToldBound bound → is_reported asked ≡ true
-    → IsAnswered old new bound asked (uncut m) (case_of m root w) → (report : List ℕ) × (leaves : Summary) × IsSoundFile report leaves × (leaves.version ≡ version_of (from_told asked)) × Appends old new report
-answered_soundly law lumped old new bound (way.Whole from) text label m root w read told shown h =
+answered_soundly : RightReportsAreSound → LumpedReportsAreSound → (old new : Option (List ℕ)) (asked : Way) (text label : List ℕ) (m : ModelData) (root : Region) (w : ℕ) → drn text label ≡ Ok m → ForSome (bound_told asked) IsToldBound → is_reported asked ≡ true
+    → IsAnswered old new asked (uncut m) (case_of m root w) → (report : List ℕ) × (leaves : Summary) × IsSoundFile report leaves × (leaves.version ≡ version_of (from_told asked)) × Appends old new report
+answered_soundly law lumped old new (way.Whole bound from) text label m root w read told shown h =
     let k = case_of m root w in
-    (report_text k from bound h.tree, leaf_counts (version_of from) h.tree, law text label m root w from bound h.tree read h.case h.range told h.right, refl, h.report)
-answered_soundly law lumped old new bound (way.Within n) text label m root w read told shown h = absurd (cc)
-answered_soundly law lumped old new bound (way.Property op) text label m root w read told shown h = absurd (cc)
-answered_soundly law lumped old new bound way.Lumped text label m root w read told shown h =
+    (report_text k from bound h.tree, leaf_counts (version_of from) h.tree, law text label m root w from bound h.tree read h.case h.range (told bound refl) h.right, refl, h.report)
+answered_soundly law lumped old new (way.Within bound n) text label m root w read told shown h = absurd (cc)
+answered_soundly law lumped old new (way.Property bound op) text label m root w read told shown h = absurd (cc)
+answered_soundly law lumped old new (way.Cost limits) text label m root w read told shown h = absurd (cc)
+answered_soundly law lumped old new (way.Lumped bound) text label m root w read told shown h =
     let k = lumped_case (case_of m root w) h.l in
     let r = h.reported in
-    (report_text k None bound r.tree, leaf_counts 1 r.tree, lumped text label (case_of m root w) h.l bound r.tree read h.is.lumped r.case told r.right, refl, r.report)
+    (report_text k None bound r.tree, leaf_counts 1 r.tree, lumped text label (case_of m root w) h.l bound r.tree read h.is.lumped r.case (told bound refl) r.right, refl, r.report)
 
 -- what is a report of a job to a text, is a sound file
-reported_soundly : RightReportsAreSound → LumpedReportsAreSound → (old new : Option (List ℕ)) (j : VerifyData) (text : List ℕ) → IsToldBound j.bound → j.safe ≡ None → is_reported j.way ≡ true → Reports old new j text
+reported_soundly : RightReportsAreSound → LumpedReportsAreSound → (old new : Option (List ℕ)) (j : VerifyData) (text : List ℕ) → ForSome (bound_told j.way) IsToldBound → (j.safe ≡ None) × (j.reward ≡ None) → is_reported j.way ≡ true → Reports old new j text
     → (report : List ℕ) × (leaves : Summary) × IsSoundFile report leaves × (leaves.version ≡ version_of (from_told j.way)) × Appends old new report
-reported_soundly law lumped old new j text told none shown m = by (as_read j text none m.model m.read)
+reported_soundly law lumped old new j text told none shown m = by (as_read j text none.1 none.0 m.model m.read)
   where
     by : ((n : ModelData) × (drn text j.goal ≡ Ok n) × (m.model ≡ uncut n)) → (report : List ℕ) × (leaves : Summary) × IsSoundFile report leaves × (leaves.version ≡ version_of (from_told j.way)) × Appends old new report
     by (n, read, same) =
-        answered_soundly law lumped old new j.bound j.way text j.goal n m.root j.precision read told shown
-        (subst (λ (b : AskedModel). IsAnswered old new j.bound j.way b (case_of (cut b) m.root j.precision)) same m.has)
+        answered_soundly law lumped old new j.way text j.goal n m.root j.precision read told shown
+        (subst (λ (b : AskedModel). IsAnswered old new j.way b (case_of (cut b) m.root j.precision)) same m.has)
 
-read_soundly : RightReportsAreSound → LumpedReportsAreSound → (old new : Option (List ℕ)) (j : VerifyData) (before after : Option (List ℕ)) → IsToldBound j.bound → j.safe ≡ None → is_reported j.way ≡ true → WasRead (Reports old new j) before after
+read_soundly : RightReportsAreSound → LumpedReportsAreSound → (old new : Option (List ℕ)) (j : VerifyData) (before after : Option (List ℕ)) → ForSome (bound_told j.way) IsToldBound → (j.safe ≡ None) × (j.reward ≡ None) → is_reported j.way ≡ true → WasRead (Reports old new j) before after
     → (report : List ℕ) × (leaves : Summary) × IsSoundFile report leaves × (leaves.version ≡ version_of (from_told j.way)) × Appends old new report
 read_soundly law lumped old new j before after told none shown w = reported_soundly law lumped old new j w.text told none shown w.has
 
@@ -168,7 +171,7 @@ module _ {S K : Type 0} (left : S → Option (List ℕ)) (faults : S → ℕ) (t
 
   -- what was written for a job is a sound file
   pub sound : RightReportsAreSound → LumpedReportsAreSound → (asked : Result JobData Field) (answer : Result (Unit {0}) Refusal) → Acts left faults taken counts asked source source' out out' answer
-      → (IsOk answer → (j : VerifyData) → AsksToVerify asked j → IsToldBound j.bound) → (IsOk answer → (j : VerifyData) → AsksToVerify asked j → is_reported j.way ≡ true → j.safe ≡ None)
+      → (IsOk answer → (j : VerifyData) → AsksToVerify asked j → ForSome (bound_told j.way) IsToldBound) → (IsOk answer → (j : VerifyData) → AsksToVerify asked j → is_reported j.way ≡ true → (j.safe ≡ None) × (j.reward ≡ None))
       → answered answer ≡ status.Done → (j : VerifyData) → AsksToVerify asked j → is_reported j.way ≡ true
       → (report : List ℕ) × (leaves : Summary) × IsSoundFile report leaves × (leaves.version ≡ version_of (from_told j.way)) × Appends (taken out) (taken out') report
   sound law lumped (Ok (verify i)) (Ok x) a told whole e j is shown =
@@ -558,7 +561,7 @@ module _ {S K : Type 0} (left : S → Option (List ℕ)) (faults : S → ℕ) (t
         → (answered answer ≡ status_of why) ⊎ (answered answer ≡ status.Memory)
     refused asked answer a is why bad =
         by_answer (λ (s : Status). (s ≡ status_of why) ⊎ (s ≡ status.Memory))
-        (λ h. absurd (never_refused none j (verified_model j text) (cut h.model) h.root (verified_of j text h.model h.read) h.named (answered_case _ _ _ j.way _ _ h.has).admitted (answerable _ _ _ j.way _ _ h.has) why bad))
+        (λ h. absurd (never_refused none j (verified_model j text) (cut h.model) h.root (verified_of j text h.model h.read) h.named (answered_case _ _ j.way _ _ h.has).admitted (answerable _ _ j.way _ _ h.has) why bad))
         (λ other h. inl (one_status j (verified_model j text) other why h bad)) (inr refl) asked answer a is
 
   -- a job whose rows aren't admitted is refused by them, but for want of memory
@@ -570,7 +573,7 @@ module _ {S K : Type 0} (left : S → Option (List ℕ)) (faults : S → ℕ) (t
       (λ h. absurd (bad (same_case h))) (λ why h. inl (rows_status j (verified_model j text) (cut a) root (verified_of j text a read) named chain why h)) (inr refl) asked answer acts is
     where
       same_case : Reports (taken out) (taken out') j text → IsAdmitted (case_of (cut a) root j.precision)
-      same_case h = admitted_by h.model h.root h.read h.named (answered_case _ _ _ j.way _ _ h.has).admitted
+      same_case h = admitted_by h.model h.root h.read h.named (answered_case _ _ j.way _ _ h.has).admitted
         where
           admitted_by : (b : AskedModel) (r : Region) → asked_model j text ≡ Ok b → region (cut b).names j.depth j.region ≡ Ok r → IsAdmitted (case_of (cut b) r j.precision) → IsAdmitted (case_of (cut a) root j.precision)
           admitted_by b r e f h =
@@ -770,6 +773,9 @@ module _ {S K : Type 0} (left : S → Option (List ℕ)) (faults : S → ℕ) (t
   refused_by (Err field.From) words.Memory is = (λ e. absurd (cc), refl, refl)
   refused_by (Err field.Formula) words.Memory is = (λ e. absurd (cc), refl, refl)
   refused_by (Err field.FormulaBound) words.Memory is = (λ e. absurd (cc), refl, refl)
+  refused_by (Err field.Reward) words.Memory is = (λ e. absurd (cc), refl, refl)
+  refused_by (Err field.Cap) words.Memory is = (λ e. absurd (cc), refl, refl)
+  refused_by (Err field.Budget) words.Memory is = (λ e. absurd (cc), refl, refl)
   refused_by (Err field.Words) words.Memory is = absurd is
   refused_by (Err field.Blocks) words.Memory is = absurd is
 

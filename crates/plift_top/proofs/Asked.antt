@@ -1,17 +1,20 @@
 -- The model that a job asks of a text, by the models that the text stands for.
-use Rattle.std.proofs.Common.{◌≡◌, ◌≢◌, ℕ, Bool, List, None, Some, Ok, Err, refl, sym, ap, ap₂, ◌∙◌, subst, Result, IsErrAnd, IfErr}
+use Rattle.std.proofs.Common.{◌≡◌, ◌≢◌, ℕ, Bool, List, [], None, Some, Ok, Err, refl, sym, ap, ap₂, ◌∙◌, subst, Result, IsErrAnd, IfErr}
 use Rattle.std.specs.declared.option.Option.{Option}
 use Rattle.lift_grid.specs.Region.{◌>>=◌}
 use Rattle.lift_model.specs.Model.{ModelData}
+use Rattle.lift_costs.specs.Costs.{CostData}
 use Rattle.drn_read.specs.Reading.{drn}
+use Rattle.drn_read.specs.Costs.{drn_costs}
 use Rattle.drn_read.specs.declared.error.DrnCause.{DrnCause}
 use Rattle.drn_read.specs.declared.error.DrnCause.TheVariants as cause
 use Rattle.drn_read.specs.declared.error.DrnError.{DrnError}
 use Rattle.property_text.specs.Restricted.{restricted}
 use Rattle.plift_words.specs.Job.{VerifyData}
-use Rattle.plift_top.specs.Asked.{AskedModel, uncut, cut, safe_in, asked_model, verified_model}
+use Rattle.plift_top.specs.Asked.{AskedModel, uncut, cut, safe_in, safe_model, costed_model, asked_model, verified_model}
 use Rattle.plift_top.specs.Refused.{model_refusal}
-use Rattle.plift_top.specs.Steps.{IsModelOf, IsTextFault}
+use Rattle.plift_top.specs.Steps.{IsModelOf, IsTextFault, without_costs}
+use Rattle.plift_top.specs.declared.costed.CostedModel.{CostedModel}
 use Rattle.plift_top.specs.declared.refusal.Refusal.{Refusal}
 use Rattle.plift_top.specs.declared.refusal.Refusal.TheVariants as refusal
 
@@ -22,7 +25,7 @@ ok_same (Err e) a b p q = absurd (cc)
 
 -- a model with these states as the safe ones
 abbrev with_safe : ModelData → Option (List Bool) → AskedModel
-with_safe m safe = record { read = m; safe = safe }
+with_safe m safe = record { read = m; safe = safe; costs = [] }
 
 -- the same, or why the states aren't given
 abbrev by_safe : ModelData → Result (Option (List Bool)) DrnError → Result AskedModel DrnError
@@ -56,10 +59,14 @@ module _ (text label : List ℕ) where
 
 -- ---- the whole
 
-module _ (job : VerifyData) (text : List ℕ) where
+-- what is asked of a text, by the reward
+abbrev by_reward : VerifyData → List ℕ → Option (List ℕ) → Result AskedModel DrnError
+by_reward job text reward = elim reward [ Some name ↦ costed_model text job.goal name | None ↦ safe_model job text ]
+
+module _ (job : VerifyData) (text : List ℕ) (free : job.reward ≡ None) where
   -- by what each label gives
   asked_by : (read : Result ModelData DrnError) (safe : Result (Option (List Bool)) DrnError) → drn text job.goal ≡ read → safe_in text job.safe ≡ safe → asked_model job text ≡ (read >>= λ m. by_safe m safe)
-  asked_by read safe p q = ap₂ (λ (r : Result ModelData DrnError) (s : Result (Option (List Bool)) DrnError). r >>= λ m. by_safe m s) p q
+  asked_by read safe p q = ap (by_reward job text) free ∙ ap₂ (λ (r : Result ModelData DrnError) (s : Result (Option (List Bool)) DrnError). r >>= λ m. by_safe m s) p q
 
   -- the text is refused with the label of the goal states
   pub no_model : (error : DrnError) → drn text job.goal ≡ Err error → verified_model job text ≡ Err error
@@ -70,13 +77,13 @@ module _ (job : VerifyData) (text : List ℕ) where
     pub read_uncut_by : job.safe ≡ None → asked_model job text ≡ Ok (uncut m)
     read_uncut_by none = asked_by (Ok m) (Ok None) read (ap (safe_in text) none)
 
-    pub model_as_read : job.safe ≡ None → IsModelOf job m text
-    model_as_read none = record { asked = uncut m; read = read_uncut_by none; after = refl }
+    pub model_as_read : job.safe ≡ None → IsModelOf job (without_costs m) text
+    model_as_read none = record { asked = uncut m; read = read_uncut_by none; after = refl; costs = refl }
 
     -- with one
     module _ (label : List ℕ) (is : job.safe ≡ Some label) where
-      pub model_cut : (safe : List Bool) → safe_in text (Some label) ≡ Ok (Some safe) → (after : ModelData) → after ≡ restricted m safe → IsModelOf job after text
-      model_cut safe h after e = record { asked = with_safe m (Some safe); read = asked_by (Ok m) (Ok (Some safe)) read (ap (safe_in text) is ∙ h); after = e }
+      pub model_cut : (safe : List Bool) → safe_in text (Some label) ≡ Ok (Some safe) → (after : ModelData) → after ≡ restricted m safe → IsModelOf job (without_costs after) text
+      model_cut safe h after e = record { asked = with_safe m (Some safe); read = asked_by (Ok m) (Ok (Some safe)) read (ap (safe_in text) is ∙ h); after = e; costs = refl }
 
       pub no_safe_states : (why : Refusal) → IsTextFault (safe_in text (Some label)) why → IsTextFault (verified_model job text) why
       no_safe_states why h =
@@ -84,14 +91,7 @@ module _ (job : VerifyData) (text : List ℕ) where
           subst (λ (r : Result AskedModel DrnError). IsTextFault (r >>= λ a. Ok (cut a)) why) (sym (asked_by (Ok m) safe read (ap (safe_in text) is)))
           (fault_after (by_safe m safe) (λ a. Ok (cut a)) why (fault_after safe (λ s. Ok (with_safe m s)) why h))
 
-  -- the model that is verified is the one that was read, after the cut
-  pub verified_is : (m : ModelData) → IsModelOf job m text → verified_model job text ≡ Ok m
-  verified_is m is = ap (λ (r : Result AskedModel DrnError). r >>= λ a. Ok (cut a)) is.read ∙ ap (λ (n : ModelData). Ok n) (sym is.after)
-
-  pub verified_of : (a : AskedModel) → asked_model job text ≡ Ok a → verified_model job text ≡ Ok (cut a)
-  verified_of a read = ap (λ (r : Result AskedModel DrnError). r >>= λ b. Ok (cut b)) read
-
-  -- where no label of safe states is told, a model is asked as it was read
+  -- where neither a label of safe states nor a reward is told, a model is asked as it was read
   pub as_read : job.safe ≡ None → (a : AskedModel) → asked_model job text ≡ Ok a → (m : ModelData) × (drn text job.goal ≡ Ok m) × (a ≡ uncut m)
   as_read none a h = by (drn text job.goal) refl
     where
@@ -99,8 +99,27 @@ module _ (job : VerifyData) (text : List ℕ) where
       by (Ok m) is = (m, is, ok_same (asked_model job text) a (uncut m) h (read_uncut_by m is none))
       by (Err e) is = (let never : Ok a ≡ Err e = sym h ∙ asked_by (Err e) (Ok None) is (ap (safe_in text) none) in absurd (cc))
 
-pub read_uncut : (job : VerifyData) (text : List ℕ) (m : ModelData) → job.safe ≡ None → drn text job.goal ≡ Ok m → asked_model job text ≡ Ok (uncut m)
-read_uncut job text m none read = read_uncut_by job text m read none
+-- with costs
+module _ (job : VerifyData) (text reward : List ℕ) (is : job.reward ≡ Some reward) where
+  costed_by : (found : Result (ModelData × List CostData) DrnError) → drn_costs text (record { label = job.goal; reward = reward }) ≡ found → asked_model job text ≡ (found >>= λ f. Ok (record { read = f.0; safe = None; costs = f.1 }))
+  costed_by found h = ap (by_reward job text) is ∙ ap (λ (r : Result (ModelData × List CostData) DrnError). r >>= λ f. Ok (record { read = f.0; safe = None; costs = f.1 })) h
+
+  pub model_costed : (m : ModelData) (costs : List CostData) → drn_costs text (record { label = job.goal; reward = reward }) ≡ Ok (m, costs) → IsModelOf job (record { model = m; costs = costs }) text
+  model_costed m costs h = record { asked = record { read = m; safe = None; costs = costs }; read = costed_by (Ok (m, costs)) h; after = refl; costs = refl }
+
+  pub no_costed : (error : DrnError) → drn_costs text (record { label = job.goal; reward = reward }) ≡ Err error → verified_model job text ≡ Err error
+  no_costed error h = ap (λ (r : Result AskedModel DrnError). r >>= λ a. Ok (cut a)) (costed_by (Err error) h)
+
+module _ (job : VerifyData) (text : List ℕ) where
+  -- the model that is verified is the one that was read, after the cut
+  pub verified_is : (m : CostedModel) → IsModelOf job m text → verified_model job text ≡ Ok m.model
+  verified_is m is = ap (λ (r : Result AskedModel DrnError). r >>= λ a. Ok (cut a)) is.read ∙ ap (λ (n : ModelData). Ok n) (sym is.after)
+
+  pub verified_of : (a : AskedModel) → asked_model job text ≡ Ok a → verified_model job text ≡ Ok (cut a)
+  verified_of a read = ap (λ (r : Result AskedModel DrnError). r >>= λ b. Ok (cut b)) read
+
+pub read_uncut : (job : VerifyData) (text : List ℕ) (m : ModelData) → job.reward ≡ None → job.safe ≡ None → drn text job.goal ≡ Ok m → asked_model job text ≡ Ok (uncut m)
+read_uncut job text m free none read = read_uncut_by job text free m read none
 
 -- ---- the refusal of a failed call
 

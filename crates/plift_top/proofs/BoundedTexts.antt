@@ -27,7 +27,7 @@ leaf_holds accepting rejecting k bound h case spans depth (BoundedLeaf.reject q)
 -- what is said of a case's text holds
 pub reported_within : AcceptingBoundsWithin → RejectingReachesWithin → RootIsAtDepth → HalvesAreDeeper → TreesTile → LiveHasSpan
     → {K : Type 0} (taken : K → Option (List ℕ)) (faults : K → ℕ) (k : CaseData) (bound : Bound) (h : ℕ) (old new : K) (result : Written) → IsTestedCase k → WroteSome (IsBoundedText k bound h) taken faults old new result
-    → WritesCase taken faults bound (way.Within h) (uncut k.model) k old new result
+    → WritesCase taken faults (way.Within bound h) (uncut k.model) k old new result
 reported_within accepting rejecting root deeper tile live taken faults k bound h old new (Ok x) case w =
     let tree = w.some.1.1.0 in
     let right = w.some.1.1.1.0 in
@@ -40,7 +40,7 @@ reported_within accepting rejecting root deeper tile live taken faults k bound h
       sums = case.sums;
       right = right;
       tiles = parts_tile deeper decides opens k case.case tile live k.root 0 tree (root k case.case) right;
-      schedulers = parts_hold deeper decides opens k case.case (PartHolds k bound h) (leaf_holds accepting rejecting k bound h case.case) (λ spans v inside. tt) k.root 0 tree (root k case.case) right;
+      schedulers = parts_hold deeper decides opens k case.case (PartHolds k bound h) (leaf_holds accepting rejecting k bound h case.case) (λ spans undecided v inside. tt) k.root 0 tree (root k case.case) right;
       text = w.whole (bounded_text k bound h tree) (tree_text k h tree, (tree, (right, refl)), refl);
     }
 reported_within accepting rejecting root deeper tile live taken faults k bound h old new (Err e) case w =

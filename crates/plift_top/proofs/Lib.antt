@@ -11,6 +11,7 @@ pub mod HeadedTexts
 pub mod Parts
 pub mod BoundedTexts
 pub mod PropertyTexts
+pub mod CostTexts
 pub mod Lumping
 mod Samples
 mod Migrating

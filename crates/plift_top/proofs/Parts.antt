@@ -53,11 +53,11 @@ module _ {L : Type 0} where
         subst (λ (rectangles : List Spans). Tiles k.d spans rectangles) (same_rectangles spans depth tree) (tile k.d spans depth (bare tree) (halves_spans live spans depth tree at r))
 
     -- what each leaf says holds
-    pub parts_hold : (P : Part L → Type 0) → ((spans : Spans) (depth : ℕ) (l : L) → IsAtDepth k depth spans → decides spans l → P (record { spans = spans; leaf = Some l })) → ((spans : Spans) → P (record { spans = spans; leaf = None }))
+    pub parts_hold : (P : Part L → Type 0) → ((spans : Spans) (depth : ℕ) (l : L) → IsAtDepth k depth spans → decides spans l → P (record { spans = spans; leaf = Some l })) → ((spans : Spans) → opens spans → P (record { spans = spans; leaf = None }))
         → (spans : Spans) (depth : ℕ) (tree : Halved L) → IsAtDepth k depth spans → IsRightBy decides opens k spans depth tree → All P (parts spans tree)
     parts_hold P holds undecided spans depth (Halved.split axis lower upper) at r =
         let halves = deeper k spans depth axis case at r.1.left r.1.axis_is in
         All-append P (parts (lower_half axis spans) lower) (parts (upper_half axis spans) upper)
         (parts_hold P holds undecided (lower_half axis spans) (depth + 1) lower halves.0 r.2) (parts_hold P holds undecided (upper_half axis spans) (depth + 1) upper halves.1 r.3)
     parts_hold P holds undecided spans depth (Halved.leaf l) at r = only P _ (holds spans depth l at r)
-    parts_hold P holds undecided spans depth Halved.unknown at r = only P _ (undecided spans)
+    parts_hold P holds undecided spans depth Halved.unknown at r = only P _ (undecided spans r.0)

@@ -46,7 +46,7 @@ module _ (all_at_least : UntilIsReachedByAll) (one_at_most : UntilIsBoundedForOn
 -- what is said of a case's text holds
 pub reported_for : UntilIsReachedByAll → UntilIsBoundedForOne → UntilIsBoundedForAll → UntilIsReachedByOne → CutOfNoneIsSame → RootIsAtDepth → HalvesAreDeeper → TreesTile → LiveHasSpan
     → {K : Type 0} (taken : K → Option (List ℕ)) (faults : K → ℕ) (k : CaseData) (op : Op) (bound : Bound) (old new : K) (result : Written) → IsTestedCase k → WroteSome (IsPropertyText k op bound) taken faults old new result
-    → (a : AskedModel) → k.model ≡ cut a → WritesCase taken faults bound (way.Property op) a k old new result
+    → (a : AskedModel) → k.model ≡ cut a → WritesCase taken faults (way.Property bound op) a k old new result
 reported_for all_at_least one_at_most all_at_most one_at_least same root deeper tile live taken faults k op bound old new (Ok x) case w a is =
     let tree = w.some.1.1.0 in
     let right = w.some.1.1.1.0 in
@@ -60,7 +60,7 @@ reported_for all_at_least one_at_most all_at_most one_at_least same root deeper 
       right = right;
       tiles = parts_tile deeper decides opens k case.case tile live k.root 0 tree (root k case.case) right;
       schedulers = parts_hold deeper decides opens k case.case (HoldsFor a k op bound) (leaf_holds all_at_least one_at_most all_at_most one_at_least same a k is case.case op bound)
-          (λ spans. record { says = λ v inside. tt; settles = tt }) k.root 0 tree (root k case.case) right;
+          (λ spans undecided. record { says = λ v inside. tt; settles = tt }) k.root 0 tree (root k case.case) right;
       text = w.whole (property_text k op bound tree) (tree_text k op tree, (tree, (right, refl)), refl);
     }
 reported_for all_at_least one_at_most all_at_most one_at_least same root deeper tile live taken faults k op bound old new (Err e) case w a is =

@@ -18,7 +18,7 @@ use Rattle.lift_finer.specs.Finer.{finer_region, finer_spans, finer_within, is_s
 use Rattle.region_tree.specs.Bases.{IsRefined}
 use Rattle.cert_text.specs.Head.{HeadData, least_precision}
 use Rattle.cert_text.specs.Laws.{TextsTellOneReport, text_of, told_lines}
-use Rattle.cert_text.specs.Cut.{CutsHead}
+use Rattle.cert_text.specs.Cut.{CutsHead, top_bytes}
 use Rattle.cert_text.specs.Report.{report_text, tree_lines}
 use Rattle.cert_check.specs.Sound.{IsSound, IsSoundFile}
 use Rattle.cert_check.specs.Answer.{Answers}
@@ -167,12 +167,15 @@ module _ {K : Type 0} (taken : K → Option (List ℕ)) (counts : K → ℕ) (de
   text_short (Err e) is = subst (λ (r : Refusal). RefinesText {T = Unit {0}} taken counts depth text out out (Err r)) (sym is) refl
 
 -- a text that was found sound, with the head and the nodes that were cut off it
-module _ (text : List ℕ) (leaves : Summary) (file : IsSoundFile text leaves) (h : HeadData) (left : List ℕ) (cuts : CutsHead text h left) where
-  parts : (h ≡ file.head) × (left ≡ concat (tree_lines file.head.from file.head.asked.model.init file.tree))
+module _ (text : List ℕ) (leaves : Summary) (file : IsSoundFile text leaves) (h : HeadData) (top left : List ℕ) (cuts : CutsHead text h top left) where
+  parts : (h ≡ file.head) × (top ≡ top_bytes file.head) × (left ≡ concat (tree_lines file.head.from file.head.asked.model.init file.tree))
   parts = cuts file.head (concat (tree_lines file.head.from file.head.asked.model.init file.tree)) file.sound.report.head file.text
 
   old_at : IsOldTree h left file.tree
-  old_at = subst (λ (g : HeadData). IsOldTree g left file.tree) (sym parts.0) (record { sound = file.sound; text = parts.1 })
+  old_at = subst (λ (g : HeadData). IsOldTree g left file.tree) (sym parts.0) (record { sound = file.sound; text = parts.2 })
+
+  pub text_top : top ≡ top_bytes h
+  text_top = parts.1 ∙ ap top_bytes (sym parts.0)
 
   pub text_old : IsOld h left
   text_old = (file.tree, old_at)

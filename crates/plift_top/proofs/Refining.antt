@@ -1,7 +1,7 @@
 -- Going on from a report: its text as a base, what is written, and what it comes to.
 use Rattle.std.proofs.Common.{◌≡◌, ◌≤◌, ◌<◌, ◌+◌, ◌-◌, ◌^◌, ◌⊎◌, inl, inr, ◌∙◌, ℕ, List, [], ◌∷◌, ◌++◌, ℤ, length, None, Some, Ok, Err, refl, sym, ap, ap₂, subst, arith, append-nil, append_assoc, Result, IsErr, IsErrAnd}
 use Rattle.std.specs.declared.option.Option.{Option}
-use Rattle.std.specs.Prelude.{IfOk, IfErr}
+use Rattle.std.specs.Prelude.{IfOk, IfErr, is_some}
 use Rattle.std.specs.List.{AllByRecursion, concat, flat_map}
 use Rattle.std.specs.Io.KnownBytes.{Appends, Consumes, IsAtEnd}
 use Rattle.std.proofs.KnownBytes.{Appends-trans}
@@ -19,6 +19,7 @@ use Rattle.lift_cert.specs.declared.bound.Bound.{Bound}
 use Rattle.lower_cert.specs.AnyRanks.{HeightFits}
 use Rattle.lift_finer.specs.Finer.{finer_spans}
 use Rattle.lift_finer.specs.Refined.{Refines, IsCertified, IsBase}
+use Rattle.lift_refine.specs.Deeper.{deeper_case}
 use Rattle.lift_refine.specs.Laws.{CertifiedTreesAreBases, BasesWithRightTreesAreCertified, RefinedRightTrees}
 use Rattle.region_tree.specs.Bases.{IsGiven, IsRefined, IsOffered, OffersOne, HasPrecisionsTo, GoesOn as WalksOn}
 use Rattle.region_tree.specs.Laws.{RootIsAtDepth}
@@ -32,9 +33,9 @@ use Rattle.region_tree.specs.declared.visitor.Seen.TheVariants.{Kept, Failed}
 use Rattle.cert_text.specs.Head.{HeadData, least_precision, version}
 use Rattle.cert_text.specs.Forms.{IsHead, IsNode, IsTree}
 use Rattle.cert_text.specs.Laws.{text_of, told_lines}
-use Rattle.cert_text.specs.Report.{head_lines, report_text, tree_lines, split_line, at_lines, accept_line, reject_lines, unknown_line}
+use Rattle.cert_text.specs.Report.{line, version_words, model_lines, asked_lines, from_lines, top_lines, region_lines, head_lines, report_text, tree_lines, split_line, at_lines, accept_line, reject_lines, unknown_line}
 use Rattle.cert_text.specs.Nodes as text
-use Rattle.cert_text.specs.Cut.{node_bytes, IsSplitOn, IsAcceptOf, IsRejectOf, IsOpenLeaf}
+use Rattle.cert_text.specs.Cut.{node_bytes, top_bytes, IsSplitOn, IsAcceptOf, IsRejectOf, IsOpenLeaf}
 use Rattle.cert_check.specs.Sound.{IsSound, IsSoundTree, IsSoundFile}
 use Rattle.cert_check.specs.Laws.{CanBeTold, SoundTreesAreReports}
 use Rattle.plift_top.specs.Laws.{RefinedReportsAreSound}
@@ -165,6 +166,24 @@ shown {R} {K} out k bound t taken faults old new seen v least told from v_is fro
     let here : Is v told = record { tree = w.tree; took = w.took; cause = w.cause; later = w.later } in
     subst (λ (f : Option ℕ). Is least f) from_is (subst (λ (u : ℕ). Is u told) v_is here)
 
+-- ---- the head at a greater depth
+
+-- it has the top of the old one
+top_same : (n depth : ℕ) (h : HeadData) → top_lines (deeper_case n depth h.asked) h.from h.bound ≡ top_lines h.asked h.from h.bound
+unfolding asked_lines
+top_same n depth h = refl
+
+-- the parts of a head
+top_and_region : (k : CaseData) (from : Option ℕ) (bound : Bound) → concat (top_lines k from bound) ++ concat (region_lines k) ≡ concat (head_lines k from bound)
+top_and_region k from bound =
+    let model = model_lines k.model in
+    let asked = asked_lines k bound in
+    let lines = from_lines from in
+    let region = region_lines k in
+    let joined : top_lines k from bound ++ region ≡ head_lines k from bound =
+    ap (λ (ls : List (List ℕ)). line (version_words (is_some from)) ∷ ls) (append_assoc model (asked ++ lines) region ∙ ap (λ (ls : List (List ℕ)). model ++ ls) (append_assoc asked lines region)) in
+    sym (concat-append (top_lines k from bound) region) ∙ ap concat joined
+
 -- ---- what is written
 
 module _ {K : Type 0} (k : CaseData) (bound : Bound) (h : HeadData) (left : List ℕ) (can : CanGoOn k bound h left) (taken : K → Option (List ℕ)) (faults : K → ℕ) where
@@ -180,6 +199,13 @@ module _ {K : Type 0} (k : CaseData) (bound : Bound) (h : HeadData) (left : List
 
   head_wrote : {T E : Type 0} {old new : K} {result : Result T E} → Wrote taken faults old new result (concat (head_lines k h.from bound)) → Wrote taken faults old new result head
   head_wrote {T} {E} {old} {new} {result} w = subst (λ (b : Bound). Wrote taken faults old new result (concat (head_lines k h.from b))) can.bound_is w
+
+  -- the head at the greater depth: the top of the old one, and the region
+  pub deeper_written : {T E : Type 0} {old new : K} {result : Result T E} (top : List ℕ) → top ≡ top_bytes h → Wrote taken faults old new result (top ++ concat (region_lines k)) → Wrote taken faults old new result (concat (head_lines k h.from bound))
+  deeper_written {T} {E} {old} {new} {result} top is w =
+      let above : concat (top_lines k h.from h.bound) ≡ top_bytes h = ap (λ (x : CaseData). concat (top_lines x h.from h.bound)) can.deeper ∙ ap concat (top_same (finer_by k.depth h) k.depth h) in
+      let same : top ≡ concat (top_lines k h.from bound) = is ∙ sym above ∙ ap (λ (b : Bound). concat (top_lines k h.from b)) (sym can.bound_is) in
+      subst (λ (bytes : List ℕ). Wrote taken faults old new result bytes) (ap (λ (t : List ℕ). t ++ concat (region_lines k)) same ∙ top_and_region k h.from bound) w
 
   -- the bytes of a report, by its entries
   by_entries : (P : List ℕ → Type 0) (bytes : List ℕ) → ((t refined : Tree) → IsOldTree h left t → IsRefined k (least_precision h) h.bound k.root 0 t refined → P (head ++ entries (node_text k h.from) refined)) → IsRefinedText k h left bytes → P bytes

@@ -97,7 +97,7 @@ module _ {K : Type 0} (k : CaseData) (from : Option ℕ) (bound : Bound) (taken 
 -- what is said of a case's report holds
 pub reported : AcceptingBounds → RejectingReaches → LowerPrecisionIsCase → RootIsAtDepth → HalvesAreDeeper → RightTreesTile
     → {K : Type 0} (taken : K → Option (List ℕ)) (faults : K → ℕ) (k : CaseData) (from : Option ℕ) (bound : Bound) (old new : K) (result : Written) → IsTestedCase k → IsRange k from
-    → WroteSome (IsRightReport k from bound) taken faults old new result → WritesCase taken faults bound (way.Whole from) (uncut k.model) k old new result
+    → WroteSome (IsRightReport k from bound) taken faults old new result → WritesCase taken faults (way.Whole bound from) (uncut k.model) k old new result
 reported accepting reached lower root deeper tile taken faults k from bound old new (Ok x) case range w =
     let tree = w.some.1.0 in
     let right = w.some.1.1 in

@@ -64,7 +64,7 @@ module _ (n : ℕ) (some : 1 ≤ n) (few : n ≤ most_blocks) (texts : TextIsSho
     where
       by : (a : AskedModel) (root : Region) → asked_model ladder_job (ladder_text n) ≡ Ok a → region (cut a).names ladder_depth ladder_region_text ≡ Ok root → P (case_of (cut a) root ladder_precision) → P (ladder_case n)
       by a root read named h =
-          let is : asked_model ladder_job (ladder_text n) ≡ Ok (uncut (ladder n)) = read_uncut ladder_job (ladder_text n) (ladder n) refl (reads n some few) in
+          let is : asked_model ladder_job (ladder_text n) ≡ Ok (uncut (ladder n)) = read_uncut ladder_job (ladder_text n) (ladder n) refl refl (reads n some few) in
           let first : a ≡ uncut (ladder n) = ok_same (asked_model ladder_job (ladder_text n)) a (uncut (ladder n)) read is in
           let there : region (ladder n).names ladder_depth ladder_region_text ≡ Ok root = subst (λ (b : AskedModel). region (cut b).names ladder_depth ladder_region_text ≡ Ok root) first named in
           let second : root ≡ ladder_region = (let is = names n in cc) in
@@ -109,7 +109,7 @@ module _ (n : ℕ) (some : 1 ≤ n) (few : n ≤ most_blocks) (texts : TextIsSho
 
   -- a ladder isn't refused
   never : AdmittedHasNoFault → (why : Refusal) → IsRefused ladder_job why (ladder_text n) → ⊥
-  never none why h = never_refused none ladder_job (verified_model ladder_job (ladder_text n)) (ladder n) ladder_region (ap (λ (r : Result AskedModel DrnError). r >>= λ a. Ok (cut a)) (read_uncut ladder_job (ladder_text n) (ladder n) refl (reads n some few))) (names n) (cases n some few).admitted (refl, λ e. absurd (cc)) why h
+  never none why h = never_refused none ladder_job (verified_model ladder_job (ladder_text n)) (ladder n) ladder_region (ap (λ (r : Result AskedModel DrnError). r >>= λ a. Ok (cut a)) (read_uncut ladder_job (ladder_text n) (ladder n) refl refl (reads n some few))) (names n) (cases n some few).admitted (refl, λ e. absurd (cc)) why h
 
   module _ {S K : Type 0} (source source' : S) (out out' : K) (left : S → Option (List ℕ)) (faults : S → ℕ) (taken : K → Option (List ℕ)) (counts : K → ℕ) (bytes : List ℕ)
       (told : left source ≡ Some (ladder_text n)) (calm : faults source' ≡ 0) (empty : taken out ≡ Some []) (took : taken out' ≡ Some bytes) (none : counts out ≡ 0) where

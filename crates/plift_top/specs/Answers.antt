@@ -58,6 +58,9 @@ usage_note field.From = codes "usage: --from\n"
 usage_note field.Blocks = codes "usage: N\n"
 usage_note field.Formula = codes "usage: --formula Syntax\n"
 usage_note field.FormulaBound = codes "usage: --formula Bound\n"
+usage_note field.Reward = codes "usage: --reward\n"
+usage_note field.Cap = codes "usage: --cap\n"
+usage_note field.Budget = codes "usage: --budget\n"
 
 -- the note of a region at fault: the cause
 abbrev pub region_note : RegionError → List ℕ
@@ -94,7 +97,7 @@ answered (Err why) = status_of why
 unfoldable pub wanted : List (String Global) → Result JobData Field
 wanted words = asked words
 
--- the words ask to verify that: by `verify`, `bounded`, `lumped` or `property`
+-- the words ask to verify that: by `verify`, `bounded`, `lumped`, `property` or `cost`
 abbrev pub AsksToVerify : Result JobData Field → VerifyData → Type 0
 AsksToVerify asked j = asked ≡ Ok (verify j)
 

@@ -6,6 +6,7 @@ pub mod Reported
 pub mod Bounded
 pub mod Lumped
 pub mod Property
+pub mod Cost
 pub mod Verify
 pub mod Check
 pub mod Migrate

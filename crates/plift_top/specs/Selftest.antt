@@ -27,7 +27,7 @@ one_half = record { num = 1; den = 2 }
 
 -- what a ladder is verified for: that it is done with probability at most 1/2, over the ladder's region
 abbrev pub ladder_job : VerifyData
-ladder_job = record { goal = codes "done"; safe = None; bound = one_half; region = ladder_region_text; depth = ladder_depth; precision = ladder_precision; way = way.Whole None }
+ladder_job = record { goal = codes "done"; safe = None; reward = None; region = ladder_region_text; depth = ladder_depth; precision = ladder_precision; way = way.Whole one_half None }
 
 -- the right tree of the ladder of so many blocks
 abbrev pub IsLadderTree : ℕ → Tree → Type 0

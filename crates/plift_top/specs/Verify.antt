@@ -1,4 +1,4 @@
--- What `verify`, `bounded`, `lumped` and `property` answer, and what stands after them.
+-- What `verify`, `bounded`, `lumped`, `property` and `cost` answer, and what stands after them.
 use Rattle.std.specs.Prelude.{◌≡◌, ◌<◌, ◌≤◌, ℕ, Bool, true, false, List, length, Ok, Err, Result, ⊤}
 use Rattle.std.specs.declared.option.Option.{Option}
 use Rattle.std.specs.Io.KnownBytes.{Consumes, IsAtEnd}
@@ -9,7 +9,6 @@ use Rattle.lift_grid.specs.declared.error.RegionError.{RegionError}
 use Rattle.lift_model.specs.declared.kind.Kind.{Kind}
 use Rattle.lift_model.specs.declared.kind.Kind.TheVariants.{Mdp}
 use Rattle.corner_lift.specs.Case.{CaseData, IsAdmitted, case_of}
-use Rattle.lift_cert.specs.declared.bound.Bound.{Bound}
 use Rattle.lift_rows.specs.Fault.{IsFirstFault}
 use Rattle.lift_lump.specs.Lumped.{IsWide}
 use Rattle.drn_read.specs.declared.error.DrnError.{DrnError}
@@ -22,6 +21,7 @@ use Rattle.plift_top.specs.Reported.{IsReported, IsCutOff}
 use Rattle.plift_top.specs.Bounded.{IsReportedWithin, IsCutOffWithin}
 use Rattle.plift_top.specs.Lumped.{IsReportedLumped, IsCutOffLumped}
 use Rattle.plift_top.specs.Property.{IsReportedFor, IsCutOffFor}
+use Rattle.plift_top.specs.Cost.{asked_cost, IsReportedPaid, IsCutOffPaid}
 use Rattle.plift_top.specs.declared.refusal.Refusal.{Refusal}
 use Rattle.plift_top.specs.declared.refusal.Refusal.TheVariants as refusal
 
@@ -34,16 +34,21 @@ pub record WasRead (P : List ℕ → Type 0) (old new : Option (List ℕ)) : Typ
 
 -- a chain is to be lumped, and the model is a decision process
 abbrev pub lacks_chain : Way → Kind → Bool
-lacks_chain way.Lumped Mdp = true
+lacks_chain (way.Lumped bound) Mdp = true
 lacks_chain _ _ = false
+
+-- a chain is to be lumped
+abbrev pub is_lumped : Way → Bool
+is_lumped (way.Lumped bound) = true
+is_lumped _ = false
 
 -- a chain is to be lumped whose rows are admitted, and its quotient has a coefficient that is too large
 abbrev pub IsTooWide : Way → CaseData → Type 0
-IsTooWide asked k = (asked ≡ way.Lumped) × IsAdmitted k × IsWide k.model
+IsTooWide asked k = (is_lumped asked ≡ true) × IsAdmitted k × IsWide k.model
 
 -- The model can be answered in this way, if its rows are admitted: where a chain is to be lumped, it is one, and its quotient isn't too wide.
 abbrev pub IsAnswerable : Way → ModelData → Type 0
-IsAnswerable asked m = (lacks_chain asked m.kind ≡ false) × (asked ≡ way.Lumped → IsWide m → ⊥)
+IsAnswerable asked m = (lacks_chain asked m.kind ≡ false) × (is_lumped asked ≡ true → IsWide m → ⊥)
 
 -- Why a job is refused at a model whose region comes to that: the region is at fault, a row isn't admitted, or the quotient is too wide.
 abbrev pub IsRefusedOver : VerifyData → ModelData → Result Region RegionError → Refusal → Type 0
@@ -67,19 +72,21 @@ IsRefusedAt job (Ok m) why = IsRefusedOf (lacks_chain job.way m.kind) job m why
 abbrev pub IsRefused : VerifyData → Refusal → List ℕ → Type 0
 IsRefused job why text = IsRefusedAt job (verified_model job text) why
 
--- The answer to a case of a model was appended, whole: its report for a bound on any number of steps, with a range of precisions where one is told, its text for a bound on as many as are told, the report of its quotient where it is lumped, and its text for a property.
-abbrev pub IsAnswered : Option (List ℕ) → Option (List ℕ) → Bound → Way → AskedModel → CaseData → Type 0
-IsAnswered old new bound (way.Whole from) a = IsReported old new from bound
-IsAnswered old new bound (way.Within h) a = IsReportedWithin old new bound h
-IsAnswered old new bound way.Lumped a = IsReportedLumped old new bound
-IsAnswered old new bound (way.Property op) a = IsReportedFor old new op bound a
+-- The answer to a case of a model was appended, whole: its report for a bound on any number of steps, with a range of precisions where one is told, its text for a bound on as many as are told, the report of its quotient where it is lumped, and its text for a property, or for a budget.
+abbrev pub IsAnswered : Option (List ℕ) → Option (List ℕ) → Way → AskedModel → CaseData → Type 0
+IsAnswered old new (way.Whole bound from) a = IsReported old new from bound
+IsAnswered old new (way.Within bound h) a = IsReportedWithin old new bound h
+IsAnswered old new (way.Lumped bound) a = IsReportedLumped old new bound
+IsAnswered old new (way.Property bound op) a = IsReportedFor old new op bound a
+IsAnswered old new (way.Cost limits) a = IsReportedPaid old new (asked_cost limits a)
 
 -- A front of it was appended.
-abbrev pub IsAnsweredInPart : Option (List ℕ) → Option (List ℕ) → Bound → Way → CaseData → Type 0
-IsAnsweredInPart old new bound (way.Whole from) = IsCutOff old new from bound
-IsAnsweredInPart old new bound (way.Within h) = IsCutOffWithin old new bound h
-IsAnsweredInPart old new bound way.Lumped = IsCutOffLumped old new bound
-IsAnsweredInPart old new bound (way.Property op) = IsCutOffFor old new op bound
+abbrev pub IsAnsweredInPart : Option (List ℕ) → Option (List ℕ) → Way → AskedModel → CaseData → Type 0
+IsAnsweredInPart old new (way.Whole bound from) a = IsCutOff old new from bound
+IsAnsweredInPart old new (way.Within bound h) a = IsCutOffWithin old new bound h
+IsAnsweredInPart old new (way.Lumped bound) a = IsCutOffLumped old new bound
+IsAnsweredInPart old new (way.Property bound op) a = IsCutOffFor old new op bound
+IsAnsweredInPart old new (way.Cost limits) a = IsCutOffPaid old new (asked_cost limits a)
 
 -- The text stands for a model, the job's region names a rectangle of its parameters, and P holds of it and of the case that the two make at the job's precision, after the cut.
 pub record Makes (P : AskedModel → CaseData → Type 0) (job : VerifyData) (text : List ℕ) : Type 0 where
@@ -91,11 +98,11 @@ pub record Makes (P : AskedModel → CaseData → Type 0) (job : VerifyData) (te
 
 -- what was appended is the answer to the case that the text and the job make
 abbrev pub Reports : Option (List ℕ) → Option (List ℕ) → VerifyData → List ℕ → Type 0
-Reports old new job text = Makes (IsAnswered old new job.bound job.way) job text
+Reports old new job text = Makes (IsAnswered old new job.way) job text
 
 -- what was appended is a front of that answer
 abbrev pub ReportsFront : Option (List ℕ) → Option (List ℕ) → VerifyData → List ℕ → Type 0
-ReportsFront old new job text = Makes (λ a. IsAnsweredInPart old new job.bound job.way) job text
+ReportsFront old new job text = Makes (IsAnsweredInPart old new job.way) job text
 
 -- why a job stopped before anything was written
 abbrev pub Stops : {S : Type 0} → (S → Option (List ℕ)) → (S → ℕ) → VerifyData → S → S → Refusal → Type 0

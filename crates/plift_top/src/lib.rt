@@ -3,6 +3,8 @@
 
 mod bounded;
 mod checking;
+mod cost;
+mod costed;
 mod edge;
 mod heads;
 mod laws;

@@ -27,7 +27,7 @@ fn write_quotient<K: Sink>(
 ) -> Result<(), Refusal>
     requires { IsTestedCase (lumped_case case.now lumped.now) }
     ensures { let k = lumped_case case.now lumped.now in
-        AnswersCase K.taken K.faults bound (way.Whole None) (uncut k.model) k out.old out.new result }
+        AnswersCase K.taken K.faults (way.Whole bound None) (uncut k.model) k out.old out.new result }
 {
     let quotient = Case::new(lumped.model(), case.root(), case.grid(), case.w());
     let links = Links::build(alloc, lumped.model())?;
@@ -49,7 +49,7 @@ pub(crate) fn write_lumped<K: Sink>(
 ) -> Result<(), Refusal>
     requires case { IsTestedCase case.now }
     requires chain { case.now.model.kind ≡ Dtmc }
-    ensures { AnswersCase K.taken K.faults bound way.Lumped (uncut case.now.model) case.now
+    ensures { AnswersCase K.taken K.faults (way.Lumped bound) (uncut case.now.model) case.now
         out.old out.new result }
 {
     quotients_hold();

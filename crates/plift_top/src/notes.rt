@@ -41,6 +41,9 @@ fn usage_note(field: Field) -> &'static [u8]
         Field::Blocks => b"usage: N\n",
         Field::Formula => b"usage: --formula Syntax\n",
         Field::FormulaBound => b"usage: --formula Bound\n",
+        Field::Reward => b"usage: --reward\n",
+        Field::Cap => b"usage: --cap\n",
+        Field::Budget => b"usage: --budget\n",
     }
 }
 

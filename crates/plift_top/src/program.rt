@@ -1,6 +1,7 @@
 // The whole program, over any source and sinks.
 ghost use Rattle.std.specs.Prelude.{◌≡◌, ◌≢◌, ◌≤◌, ◌<◌, ◌⊎◌, length, List, ℕ};
 ghost use Rattle.std.specs.Prelude.{Some, None, Ok, Err, IsErr, IsOk, true, false};
+ghost use Rattle.std.specs.Option.{ForSome};
 ghost use Rattle.std.specs.Io.KnownBytes.{Appends};
 ghost use Rattle.lift_base.specs.Outside.{Rose, AppendsFront, TakenHas};
 ghost use Rattle.lift_grid.specs.Region.{Region, region};
@@ -12,7 +13,7 @@ ghost use Rattle.cert_text.specs.Report.{report_text};
 ghost use Rattle.cert_text.specs.Forms.{IsToldBound};
 ghost use Rattle.plift_words.specs.Job.{VerifyData};
 ghost use Rattle.plift_words.specs.declared.job.Field.TheVariants.{Words};
-ghost use Rattle.plift_words.specs.Way.{from_told, is_reported};
+ghost use Rattle.plift_words.specs.Way.{bound_told, from_told, is_reported};
 ghost use Rattle.plift_top.specs.Asked.{AskedModel, cut, asked_model};
 ghost use Rattle.plift_top.specs.RightReport.{version_of};
 ghost use Rattle.plift_top.specs.Verify.{WasRead, Reports, ReportsFront, IsAnswerable, lacks_chain};
@@ -72,9 +73,9 @@ fn act<S: Source, K: Sink>(
     ensures limit { ((n : ℕ) → AsksToSelftest (wanted words.now) n → ⊥)
         → KeepsWithin (limit_of (wanted words.now)) result (S.left source.old) (S.left source.new) }
     ensures bound { IsOk result → (j : VerifyData) → AsksToVerify (wanted words.now) j
-        → IsToldBound j.bound }
+        → ForSome (bound_told j.way) IsToldBound }
     ensures whole { IsOk result → (j : VerifyData) → AsksToVerify (wanted words.now) j
-        → is_reported j.way ≡ true → j.safe ≡ None }
+        → is_reported j.way ≡ true → (j.safe ≡ None) × (j.reward ≡ None) }
 {
     match job_of(alloc, words) {
         Ok(Job::Verify(job)) => verify(alloc, &job, source, out),
@@ -96,12 +97,12 @@ pub fn run<S: Source, K: Sink, E: Sink>(
     out: &mut K,
     notes: &mut E,
 ) -> Status
-    // Done of `verify`, `bounded`, `lumped` or `property`: the source gave a text that stands for a model,
-    // which with the job's region makes a case, of `property` after the cut, and out took the report of this
-    // case, with a range of precisions where the job tells one, its text for the number of steps, the report of
-    // its quotient, or its text for the property, whole, and that of its right tree. The tree's leaves tile the
-    // root, and each bounds the schedulers inside its rectangle: those of the model that was read, of `property`
-    // by way of its safe states.
+    // Done of `verify`, `bounded`, `lumped`, `property` or `cost`: the source gave a text that stands for a model,
+    // of `cost` with costs, which with the job's region makes a case, of `property` after the cut, and out took the
+    // report of this case, with a range of precisions where the job tells one, its text for the number of steps, the
+    // report of its quotient, or its text for the property or for the budget, whole, and that of its right tree. The
+    // tree's leaves tile the root, and each bounds the schedulers inside its rectangle: those of the model that was
+    // read, of `property` by way of its safe states, and of `cost` by what they pay before the goal.
     ensures done { result ≡ Status.Done
         → (j : VerifyData) → AsksToVerify (wanted words.now.items) j
         → WasRead (Reports (K.taken out.old) (K.taken out.new) j)

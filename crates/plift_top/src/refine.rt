@@ -8,6 +8,7 @@ ghost use Rattle.lift_model.specs.Links.{AreLinks};
 ghost use Rattle.region_tree.specs.Bases.{IsRefined};
 ghost use Rattle.region_tree.specs.Rooms.{IsMadeFor};
 ghost use Rattle.region_tree.specs.Visits.{Shows};
+ghost use Rattle.cert_text.specs.Cut.{top_bytes};
 ghost use Rattle.cert_text.specs.Forms.{IsHead};
 ghost use Rattle.cert_text.specs.Head.{least_precision};
 ghost use Rattle.plift_top.specs.RightReport.{node_text};
@@ -22,8 +23,8 @@ use crate::question::Question;
 use crate::refusal::Refusal;
 use crate::report::Reporter;
 use crate::verify::TEXT_LIMIT;
-use cert_check::check_text;
-use cert_text::{Head, NodeText, cut_head, cut_node, texts_tell_one_report, write_head};
+use cert_check::{SoundText, check_parts};
+use cert_text::{Head, NodeText, cut_node, texts_tell_one_report, write_head_below};
 use corner_lift::Case;
 use lift_base::{Sink, Source, Telling, WriteFault, read_all, tell_buffered, writes_in_turn};
 use lift_finer::finer_region;
@@ -77,6 +78,8 @@ impl<'t, 'h> Base for TextBase<'t, 'h> {
 #[derive(Clone, Copy)]
 struct Old<'t, 'h> {
     head: &'h Head,
+    /// The lines of the head that don't tell the depth and the region.
+    top: &'t [u8],
     nodes: &'t [u8],
 }
 
@@ -116,7 +119,7 @@ fn write_tree<K: Sink>(question: &Question, old: &Old, room: &mut Room, out: &mu
     )
 }
 
-// Writes the head of a case, and then the nodes of a tree that refines the one of a report.
+// Writes the head of a case, whose top is that of the old one, and then the nodes of a tree that refines the one of a report.
 fn write_text<K: Sink>(
     question: &Question,
     old: &Old,
@@ -126,11 +129,12 @@ fn write_text<K: Sink>(
     requires links { AreLinks question.now.case.now.model question.now.links.now }
     requires made { IsMadeFor question.now.case.now question.now.links.now room.old }
     requires can { CanGoOn question.now.case.now question.now.bound old.now.head.now old.now.nodes.now }
+    requires top { old.now.top.now ≡ top_bytes old.now.head.now }
     ensures { WroteSome (IsRefinedText question.now.case.now old.now.head.now old.now.nodes.now)
         K.taken K.faults out.old out.new result }
 {
     writes_in_turn::<K>();
-    write_head(out, question.case, question.bound, old.head.told_from())?;
+    write_head_below(out, old.top, question.case)?;
     match write_tree(question, old, room, out) {
         Seen::Kept => Ok(()),
         Seen::Failed => Err(WriteFault),
@@ -148,7 +152,8 @@ struct Refinement<'q, 'c, 'm, 't, 'h, 'r> {
 impl<'q, 'c, 'm, 't, 'h, 'r> Telling for Refinement<'q, 'c, 'm, 't, 'h, 'r> {
     ghost is_ready = { λ r. AreLinks r.question.now.case.now.model r.question.now.links.now
         × IsMadeFor r.question.now.case.now r.question.now.links.now r.room.now
-        × CanGoOn r.question.now.case.now r.question.now.bound r.old.head.now r.old.nodes.now };
+        × CanGoOn r.question.now.case.now r.question.now.bound r.old.head.now r.old.nodes.now
+        × (r.old.top.now ≡ top_bytes r.old.head.now) };
 
     ghost is_text = { λ r bytes. IsRefinedText r.question.now.case.now r.old.head.now r.old.nodes.now bytes };
 
@@ -166,6 +171,7 @@ fn write_refined<K: Sink>(
 ) -> Result<(), Refusal>
     requires links { AreLinks question.now.case.now.model question.now.links.now }
     requires can { CanGoOn question.now.case.now question.now.bound old.head.now old.nodes.now }
+    requires top { old.top.now ≡ top_bytes old.head.now }
     ensures { WritesRefined K.taken K.faults question.now.case.now old.entry.head.now old.entry.nodes.now out.old out.new result }
 {
     let mut room = Room::make(alloc, question.case, question.links)?;
@@ -225,7 +231,8 @@ fn linked_case_of<'m>(
 
 // Goes on from a report whose head was read.
 fn refine_old<K: Sink>(alloc: Global, job: RefineJob, old: Old, out: &mut K) -> Result<(), Refusal>
-    requires { IsOld old.head.now old.nodes.now }
+    requires old { IsOld old.head.now old.nodes.now }
+    requires top { old.top.now ≡ top_bytes old.head.now }
     ensures { (t : Tree) → IsOldTree old.entry.head.now old.entry.nodes.now t
         → RefinesOld K.taken K.faults job.depth old.entry.head.now t out.old out.new result }
 {
@@ -259,9 +266,17 @@ fn refine_text<K: Sink>(
     requires { length text.now ≤ file_limit }
     ensures { RefinesText K.taken K.faults job.depth text.now out.old out.new result }
 {
-    check_text(alloc, text)?;
-    let (head, nodes) = cut_head(alloc, text)?;
-    let old = Old { head: &head, nodes };
+    let SoundText {
+        head,
+        top,
+        nodes,
+        ..
+    } = check_parts(alloc, text)?;
+    let old = Old {
+        head: &head,
+        top,
+        nodes,
+    };
     let written = refine_old(alloc, job, old, out);
     drop(head);
     written

@@ -63,11 +63,11 @@ fn verify_ladder(
     let job = VerifyJob {
         goal: b"done",
         safe: None,
-        bound: Bound { num: 1, den: 2 },
+        reward: None,
         region: b"1/2<=p<=3/5,1/2<=q<=3/5",
         depth: 2,
         precision: 24,
-        way: Way::Whole(None),
+        way: Way::Whole(Bound { num: 1, den: 2 }, None),
     };
     verify(alloc, &job, source, report)
 }

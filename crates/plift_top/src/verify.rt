@@ -1,39 +1,46 @@
-// Verifies a model against a bound: on any number of steps, on as many as are told, by its quotient, or for a
-// property.
-ghost use Rattle.std.specs.Prelude.{◌≡◌, ◌≤◌, false, Ok, Some, IfOk, IfErr, length};
+// Verifies a model: against a bound, on any number of steps, on as many as are told, by its quotient, or for a
+// property; or against a budget.
+ghost use Rattle.std.specs.Prelude.{◌≡◌, ◌≤◌, false, true, Ok, None, Some, IfOk, IfErr, length};
+ghost use Rattle.std.specs.Option.{option_copied};
 ghost use Rattle.lift_grid.specs.Rectangle.{IsOnGrid};
 ghost use Rattle.lift_grid.specs.Parts.{region_of};
 ghost use Rattle.lift_model.specs.Links.{AreLinks};
 ghost use Rattle.region_tree.specs.Rooms as whole;
 ghost use Rattle.lift_bounded.specs.Rooms as within;
 ghost use Rattle.property_tree.specs.Rooms as property;
+ghost use Rattle.lift_cost.specs.Rooms as cost;
+ghost use Rattle.lift_cost.specs.Decided.{CanAskCost};
 ghost use Rattle.plift_words.specs.Given.{verify_data};
-ghost use Rattle.plift_words.specs.declared.way.Way.TheVariants.{Whole, Within, Property};
+ghost use Rattle.plift_words.specs.declared.way.Way.TheVariants.{Whole, Within, Property, Cost};
 ghost use Rattle.plift_words.specs.Values.{most_steps};
+ghost use Rattle.plift_words.specs.Way.{is_cost};
 ghost use Rattle.plift_top.specs.RightReport.{IsRange};
 ghost use Rattle.cert_check.specs.Source.{file_limit};
 ghost use Rattle.plift_top.specs.Asked.{AskedModel, uncut, cut, safe_in, verified_model};
 ghost use Rattle.plift_top.specs.Verify.{Verifies, KeepsLimit, lacks_chain};
-ghost use Rattle.plift_top.specs.Steps.{IsTestedCase, IsTextFault, IsModelOf, ReadsModel, NamesRoot, AdmitsCase};
-ghost use Rattle.plift_top.specs.Steps.{WritesCase, AnswersCase, WritesOver};
+ghost use Rattle.plift_top.specs.Steps.{IsTestedCase, IsTextFault, IsModelOf, HasCosts, ReadsModel, NamesRoot};
+ghost use Rattle.plift_top.specs.Steps.{without_costs, AdmitsCase, WritesCase, AnswersCase, WritesOver};
 
 use crate::bounded::write_bounded_buffered;
+use crate::cost::write_payment_buffered;
+use crate::costed::CostedModel;
 use crate::lumped::write_lumped;
 use crate::property::write_property_buffered;
-use crate::question::Question;
+use crate::question::{Question, TestedCase};
 use crate::refusal::Refusal;
 use crate::report::write_report_buffered;
 use corner_lift::{Case, live_parameters_have_spans, lower_precisions_are_cases};
-use drn_read::read_model;
+use drn_read::{Costs, costs_are_read_with_the_model, read_costs, read_model};
 use lift_base::{Sink, Source, WriteFault, read_all};
 use lift_bounded::{BoundedRoom, certificates_by_steps_decide};
 use lift_cert::{certificates_decide, rejecting_certificates_reach};
+use lift_cost::{CostQuestion, CostRoom, cost_certificates_decide};
 use lift_dual::until_is_bounded;
 use lift_grid::{Grid, Rect, read_region, trees_tile};
 use lift_model::{Kind, Links, Model};
 use lift_names::Names;
 use lift_rows::{admit, admit_linked};
-use plift_words::{VerifyJob, Way};
+use plift_words::{CostLimits, VerifyJob, Way};
 use property_text::{Op, goals_of, restrict, until_is_reach};
 use property_tree::PropertyRoom;
 use region_tree::{Room, rectangles_at_depths, right_trees_tile};
@@ -57,10 +64,29 @@ fn states_with(alloc: Global, text: &[u8], label: &[u8]) -> Result<Vec<bool>, Re
     Ok(states)
 }
 
-// The model that a text stands for, after the cut where the job has a label of safe states.
-fn model_in(alloc: Global, job: &VerifyJob, text: &[u8]) -> Result<Model, Refusal>
-    requires { length text.now ≤ file_limit }
+// The model that a text stands for, with the costs of its states by the reward of this name.
+fn costed_in(
+    alloc: Global,
+    job: &VerifyJob,
+    reward: &[u8],
+    text: &[u8],
+) -> Result<CostedModel, Refusal>
+    requires short { length text.now ≤ file_limit }
+    requires reward { option_copied job.now.reward ≡ Some reward.now }
     ensures model { IfOk result (λ m. IsModelOf (verify_data job.now) m text.now) }
+    ensures count { IfOk result (λ m. length m.costs ≡ length m.model.states) }
+    ensures cause { IfErr result (IsTextFault (verified_model (verify_data job.now) text.now)) }
+{
+    costs_are_read_with_the_model();
+    let (model, costs) = read_costs(alloc, text, job.goal, reward)?;
+    Ok(CostedModel { model, costs })
+}
+
+// The model that a text stands for without costs, after the cut where the job has a label of safe states.
+fn model_in(alloc: Global, job: &VerifyJob, text: &[u8]) -> Result<Model, Refusal>
+    requires short { length text.now ≤ file_limit }
+    requires none { job.now.reward ≡ None }
+    ensures model { IfOk result (λ m. IsModelOf (verify_data job.now) (without_costs m) text.now) }
     ensures cause { IfErr result (IsTextFault (verified_model (verify_data job.now) text.now)) }
 {
     let model = read_model(alloc, text, job.goal)?;
@@ -74,13 +100,35 @@ fn model_in(alloc: Global, job: &VerifyJob, text: &[u8]) -> Result<Model, Refusa
     Ok(after)
 }
 
-// Reads the text, and the model that it stands for, after the cut.
-fn model_of<S: Source>(alloc: Global, job: &VerifyJob, source: &mut S) -> Result<Model, Refusal>
+// The model that a text stands for as the job asks of it.
+fn asked_in(alloc: Global, job: &VerifyJob, text: &[u8]) -> Result<CostedModel, Refusal>
+    requires { length text.now ≤ file_limit }
+    ensures model { IfOk result (λ m. IsModelOf (verify_data job.now) m text.now) }
+    ensures costs { IfOk result (HasCosts job.now.way) }
+    ensures cause { IfErr result (IsTextFault (verified_model (verify_data job.now) text.now)) }
+{
+    if let Some(reward) = job.reward {
+        return costed_in(alloc, job, reward, text);
+    }
+    let model = model_in(alloc, job, text)?;
+    Ok(CostedModel {
+        model,
+        costs: Costs::new(alloc),
+    })
+}
+
+// Reads the text, and the model that it stands for as the job asks of it.
+fn model_of<S: Source>(
+    alloc: Global,
+    job: &VerifyJob,
+    source: &mut S,
+) -> Result<CostedModel, Refusal>
     ensures answer { ReadsModel S.left S.faults (verify_data job.now) source.old source.new result }
+    ensures costs { IfOk result (HasCosts job.now.way) }
     ensures limit { KeepsLimit result (S.left source.old) (S.left source.new) }
 {
     let text = read_all(alloc, source, TEXT_LIMIT)?;
-    model_in(alloc, job, &text)
+    asked_in(alloc, job, &text)
 }
 
 // The rectangle that the job's region names, over its grid.
@@ -136,7 +184,7 @@ fn write_case<K: Sink>(
     requires links { AreLinks question.now.case.now.model question.now.links.now }
     requires from { IsRange question.now.case.now from }
     requires made { whole.IsMadeFor question.now.case.now question.now.links.now room.old }
-    ensures { WritesCase K.taken K.faults question.now.bound (Whole from) (uncut question.now.case.now.model)
+    ensures { WritesCase K.taken K.faults (Whole question.now.bound from) (uncut question.now.case.now.model)
         question.now.case.now out.old out.new result }
 {
     certificates_decide();
@@ -157,7 +205,7 @@ pub(crate) fn write_whole<K: Sink>(
     requires case { IsTestedCase question.now.case.now }
     requires links { AreLinks question.now.case.now.model question.now.links.now }
     requires from { IsRange question.now.case.now from }
-    ensures { AnswersCase K.taken K.faults question.now.bound (Whole from) (uncut question.now.case.now.model)
+    ensures { AnswersCase K.taken K.faults (Whole question.now.bound from) (uncut question.now.case.now.model)
         question.now.case.now out.old out.new result }
 {
     let mut room = Room::make(alloc, question.case, question.links)?;
@@ -175,7 +223,7 @@ fn write_case_within<K: Sink>(
     requires case { IsTestedCase question.now.case.now }
     requires links { AreLinks question.now.case.now.model question.now.links.now }
     requires made { within.IsMadeFor question.now.case.now question.now.links.now room.old }
-    ensures { WritesCase K.taken K.faults question.now.bound (Within room.old.steps) (uncut question.now.case.now.model)
+    ensures { WritesCase K.taken K.faults (Within question.now.bound room.old.steps) (uncut question.now.case.now.model)
         question.now.case.now out.old out.new result }
 {
     certificates_by_steps_decide();
@@ -195,7 +243,7 @@ fn write_within<K: Sink>(
     requires case { IsTestedCase question.now.case.now }
     requires links { AreLinks question.now.case.now.model question.now.links.now }
     requires steps { (1 ≤ steps) × (steps ≤ most_steps) }
-    ensures { AnswersCase K.taken K.faults question.now.bound (Within steps) (uncut question.now.case.now.model)
+    ensures { AnswersCase K.taken K.faults (Within question.now.bound steps) (uncut question.now.case.now.model)
         question.now.case.now out.old out.new result }
 {
     let mut room = BoundedRoom::make(alloc, question.case, question.links, steps)?;
@@ -214,7 +262,7 @@ fn write_case_for<K: Sink>(
     requires links { AreLinks question.now.case.now.model question.now.links.now }
     requires made { property.IsMadeFor question.now.case.now question.now.links.now room.old }
     ensures { (a : AskedModel) → question.now.case.now.model ≡ cut a
-        → WritesCase K.taken K.faults question.now.bound (Property question.now.op) a question.now.case.now
+        → WritesCase K.taken K.faults (Property question.now.bound question.now.op) a question.now.case.now
         out.old out.new result }
 {
     until_is_bounded();
@@ -235,7 +283,7 @@ fn write_for<K: Sink>(
     requires case { IsTestedCase question.now.case.now }
     requires links { AreLinks question.now.case.now.model question.now.links.now }
     ensures { (a : AskedModel) → question.now.case.now.model ≡ cut a
-        → AnswersCase K.taken K.faults question.now.bound (Property op) a question.now.case.now out.old out.new result }
+        → AnswersCase K.taken K.faults (Property question.now.bound op) a question.now.case.now out.old out.new result }
 {
     let mut room = PropertyRoom::make(alloc, question.case, question.links)?;
     let asked = property_tree::Question {
@@ -249,25 +297,76 @@ fn write_for<K: Sink>(
     Ok(written?)
 }
 
+// Writes the text of such a case for a budget. Takes no memory.
+fn write_case_paid<K: Sink>(
+    question: &CostQuestion,
+    room: &mut CostRoom,
+    out: &mut K,
+) -> Result<(), WriteFault>
+    requires case { IsTestedCase question.now.case.now }
+    requires can { CanAskCost question.now }
+    requires made { cost.IsMadeFor question.now.case.now question.now.links.now room.old }
+    ensures { (a : AskedModel) → question.now.case.now.model ≡ cut a → question.now.costs.now ≡ a.costs
+        → WritesCase K.taken K.faults (Cost (record { cap = question.now.cap; budget = question.now.budget }))
+        a question.now.case.now out.old out.new result }
+{
+    question.costs.are_costs();
+    cost_certificates_decide();
+    rectangles_at_depths();
+    live_parameters_have_spans();
+    trees_tile();
+    write_payment_buffered(question, room, out)
+}
+
+// Makes the room of such a case, and writes its text for a budget.
+fn write_paid<K: Sink>(
+    alloc: Global,
+    tested: &TestedCase,
+    limits: CostLimits,
+    out: &mut K,
+) -> Result<(), Refusal>
+    requires case { IsTestedCase tested.now.case.now }
+    requires links { AreLinks tested.now.case.now.model tested.now.links.now }
+    requires costs { length tested.now.costs.now ≡ length tested.now.case.now.model.states }
+    requires cap { 1 ≤ limits.cap }
+    ensures { (a : AskedModel) → tested.now.case.now.model ≡ cut a → tested.now.costs.now ≡ a.costs
+        → AnswersCase K.taken K.faults (Cost limits) a tested.now.case.now out.old out.new result }
+{
+    let mut room = CostRoom::make(alloc, tested.case, tested.links)?;
+    let question = CostQuestion {
+        case: tested.case,
+        links: tested.links,
+        costs: tested.costs,
+        cap: limits.cap,
+        budget: limits.budget,
+    };
+    let written = write_case_paid(&question, &mut room, out);
+    drop(room);
+    Ok(written?)
+}
+
 // Takes all memory that a job needs at a case whose rows were tested, and writes its answer.
 fn write_answer<K: Sink>(
     alloc: Global,
     job: &VerifyJob,
-    question: &Question,
+    tested: &TestedCase,
     out: &mut K,
 ) -> Result<(), Refusal>
-    requires case { IsTestedCase question.now.case.now }
-    requires links { AreLinks question.now.case.now.model question.now.links.now }
-    requires precision { question.now.case.now.w ≡ job.now.precision }
-    requires chain { lacks_chain job.now.way question.now.case.now.model.kind ≡ false }
-    ensures { (a : AskedModel) → question.now.case.now.model ≡ cut a
-        → AnswersCase K.taken K.faults question.now.bound job.now.way a question.now.case.now out.old out.new result }
+    requires case { IsTestedCase tested.now.case.now }
+    requires links { AreLinks tested.now.case.now.model tested.now.links.now }
+    requires costs { is_cost job.now.way ≡ true
+        → length tested.now.costs.now ≡ length tested.now.case.now.model.states }
+    requires precision { tested.now.case.now.w ≡ job.now.precision }
+    requires chain { lacks_chain job.now.way tested.now.case.now.model.kind ≡ false }
+    ensures { (a : AskedModel) → tested.now.case.now.model ≡ cut a → tested.now.costs.now ≡ a.costs
+        → AnswersCase K.taken K.faults job.now.way a tested.now.case.now out.old out.new result }
 {
     match job.way {
-        Way::Whole(from) => write_whole(alloc, question, from, out),
-        Way::Within(steps) => write_within(alloc, question, steps, out),
-        Way::Lumped => write_lumped(alloc, question.case, question.bound, out),
-        Way::Property(op) => write_for(alloc, question, op, out),
+        Way::Whole(bound, from) => write_whole(alloc, &tested.within(bound), from, out),
+        Way::Within(bound, steps) => write_within(alloc, &tested.within(bound), steps, out),
+        Way::Lumped(bound) => write_lumped(alloc, tested.case, bound, out),
+        Way::Property(bound, op) => write_for(alloc, &tested.within(bound), op, out),
+        Way::Cost(limits) => write_paid(alloc, tested, limits, out),
     }
 }
 
@@ -275,29 +374,31 @@ fn write_answer<K: Sink>(
 fn write_over<K: Sink>(
     alloc: Global,
     job: &VerifyJob,
-    model: &Model,
+    costed: &CostedModel,
     region: &(Grid, Rect),
     out: &mut K,
 ) -> Result<(), Refusal>
-    requires grid { IsOnGrid region.now.0.d region.now.0.depth (length model.now.names) region.now.1 }
+    requires grid { IsOnGrid region.now.0.d region.now.0.depth (length costed.now.model.names) region.now.1 }
     requires depth { region.now.0.depth ≡ job.now.depth }
-    requires chain { lacks_chain job.now.way model.now.kind ≡ false }
-    ensures { (a : AskedModel) → model.now ≡ cut a
+    requires chain { lacks_chain job.now.way costed.now.model.kind ≡ false }
+    requires costs { HasCosts job.now.way costed.now }
+    ensures { (a : AskedModel) → costed.now.model ≡ cut a → costed.now.costs ≡ a.costs
         → WritesOver K.taken K.faults (verify_data job.now) a (region_of region.now) out.old out.new result }
 {
     let (grid, root) = (region.0, &region.1);
+    let model = &costed.model;
     let Ok(links) = Links::build(alloc, model) else {
         // A row that isn't admitted is told all the same.
         case_of(model, root, grid, job)?;
         return Err(Refusal::Memory);
     };
     let case = linked_case_of(model, root, grid, job, &links)?;
-    let question = Question {
+    let tested = TestedCase {
         case: &case,
         links: &links,
-        bound: job.bound,
+        costs: &costed.costs,
     };
-    let written = write_answer(alloc, job, &question, out);
+    let written = write_answer(alloc, job, &tested, out);
     drop(links);
     written
 }
@@ -307,17 +408,17 @@ fn lacks_chain(way: Way, kind: Kind) -> bool
     ensures { result ≡ lacks_chain way kind }
 {
     match way {
-        Way::Lumped => match kind {
+        Way::Lumped(_) => match kind {
             Kind::Mdp => true,
             Kind::Dtmc => false,
         },
-        Way::Whole(_) | Way::Within(_) | Way::Property(_) => false,
+        Way::Whole(..) | Way::Within(..) | Way::Property(..) | Way::Cost(_) => false,
     }
 }
 
-/// Reads a model from the source, cuts it where the job has a label of safe states, tests its rows over the job's
-/// region, and writes its report, its text for the job's number of steps or for its property, or the report of its
-/// quotient.
+/// Reads a model from the source, with its costs where the job has a reward, cuts it where the job has a label of safe
+/// states, tests its rows over the job's region, and writes its report, its text for the job's number of steps, for its
+/// property or for its budget, or the report of its quotient.
 pub fn verify<S: Source, K: Sink>(
     alloc: Global,
     job: &VerifyJob,
@@ -328,12 +429,12 @@ pub fn verify<S: Source, K: Sink>(
         source.old source.new out.old out.new result }
     ensures limit { KeepsLimit result (S.left source.old) (S.left source.new) }
 {
-    let model = model_of(alloc, job, source)?;
-    if lacks_chain(job.way, model.kind()) {
+    let costed = model_of(alloc, job, source)?;
+    if lacks_chain(job.way, costed.model.kind()) {
         return Err(Refusal::NotChain);
     }
-    let region = root_of(alloc, job, model.names())?;
-    let written = write_over(alloc, job, &model, &region, out);
-    drop(model);
+    let region = root_of(alloc, job, costed.model.names())?;
+    let written = write_over(alloc, job, &costed, &region, out);
+    drop(costed);
     written
 }

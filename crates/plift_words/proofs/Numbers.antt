@@ -13,10 +13,10 @@ digits : IsNumeralModel (λ ds. list_all is_ascii_digit ds ≡ true) (digits_val
 digits = numerals_by_value _ (search rules)
 
 -- a few digits are read as the number that they write
-pub few_digits : {E : Type 0} (most : ℕ) (word : List ℕ) (r : Result ℕ E) → ParsesUnsigned 32 10 word r → list_all is_ascii_digit word ≡ true → (length word == 0) ≡ false → most ≤ 9 → length word ≤ most
+pub few_digits : {E : Type 0} (most : ℕ) (word : List ℕ) (r : Result ℕ E) → ParsesUnsigned 64 10 word r → list_all is_ascii_digit word ≡ true → (length word == 0) ≡ false → most ≤ 10 → length word ≤ most
     → result_ok r ≡ number_of most word
 few_digits most word r h all some fits short =
     let above : 0 < length word = grind (arith, nat_tests) in
     let few : nat_le (length word) most ≡ true = grind (arith, nat_tests) in
-    let read = parse_gives digits 32 word r h all above (omega (arith, digits_value_short digits word 9 all (omega (arith, short, fits)))) in
+    let read = parse_gives digits 64 word r h all above (omega (arith, digits_value_short digits word 10 all (omega (arith, short, fits)))) in
     rw (all, some, few) (ap result_ok read)

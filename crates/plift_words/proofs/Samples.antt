@@ -1,6 +1,7 @@
 -- The definitions tried on lines that were worked out by hand.
 use Rattle.std.proofs.Common.{◌≡◌, [], ◌∷◌, codes, Ok, Err, Some, None, refl}
 use Rattle.lift_frac.specs.Gcd.{gcd}
+use Rattle.lift_cert.specs.declared.bound.Bound.{Bound}
 use Rattle.plift_words.specs.Line.{options}
 use Rattle.plift_words.specs.Job.{VerifyData, job}
 use Rattle.plift_words.specs.Job.JobData.{verify, check, migrate, refine, generate, selftest}
@@ -8,51 +9,54 @@ use Rattle.plift_words.specs.declared.job.Field.TheVariants as field
 use Rattle.plift_words.specs.declared.way.Way.TheVariants as way
 use Rattle.property_text.specs.declared.op.Op.TheVariants.{AtLeast, Below}
 
+half : Bound
+half = record { num = 1; den = 2 }
+
 at_most_half : VerifyData
-at_most_half = record { goal = codes "heads"; safe = None; bound = record { num = 1; den = 2 }; region = []; depth = 5; precision = 4; way = way.Whole None }
+at_most_half = record { goal = codes "heads"; safe = None; reward = None; region = []; depth = 5; precision = 4; way = way.Whole half None }
 
 -- the words in another order and in both spellings, with a bound that isn't in lowest terms
 asks : job (codes "verify" ∷ codes "--depth=5" ∷ codes "--bound" ∷ codes "2/4" ∷ codes "--goal=heads" ∷ codes "--precision" ∷ codes "04" ∷ []) ≡ Ok (verify at_most_half)
-unfolding at_most_half gcd
+unfolding at_most_half half gcd
 asks = refl
 
 -- the same bound as a decimal
 asks_decimal : job (codes "verify" ∷ codes "--depth=5" ∷ codes "--bound=5e-1" ∷ codes "--goal=heads" ∷ codes "--precision=4" ∷ []) ≡ Ok (verify at_most_half)
-unfolding at_most_half gcd
+unfolding at_most_half half gcd
 asks_decimal = refl
 
 -- the region is the text behind the first `=`, as it stands
 asks_region : job (codes "verify" ∷ codes "--goal=heads" ∷ codes "--bound=1/2" ∷ codes "--region=1/10<=p<=2/5" ∷ codes "--depth=5" ∷ codes "--precision=4" ∷ [])
     ≡ Ok (verify (record at_most_half { region = codes "1/10<=p<=2/5" }))
-unfolding at_most_half gcd
+unfolding at_most_half half gcd
 asks_region = refl
 
 -- what is left out: no region, the depth 0 and the precision 24
 asks_least : job (codes "verify" ∷ codes "--goal=heads" ∷ codes "--bound=1/2" ∷ []) ≡ Ok (verify (record at_most_half { depth = 0; precision = 24 }))
-unfolding at_most_half gcd
+unfolding at_most_half half gcd
 asks_least = refl
 
 -- within a number of steps
-asks_within : job (codes "bounded" ∷ codes "--goal=heads" ∷ codes "--steps" ∷ codes "64" ∷ codes "--bound=1/2" ∷ codes "--depth=5" ∷ codes "--precision=4" ∷ []) ≡ Ok (verify (record at_most_half { way = way.Within 64 }))
-unfolding at_most_half gcd
+asks_within : job (codes "bounded" ∷ codes "--goal=heads" ∷ codes "--steps" ∷ codes "64" ∷ codes "--bound=1/2" ∷ codes "--depth=5" ∷ codes "--precision=4" ∷ []) ≡ Ok (verify (record at_most_half { way = way.Within half 64 }))
+unfolding at_most_half half gcd
 asks_within = refl
 
 -- by the quotient of a chain
-asks_lumped : job (codes "lumped" ∷ codes "--goal=heads" ∷ codes "--bound=1/2" ∷ codes "--depth=5" ∷ codes "--precision=4" ∷ []) ≡ Ok (verify (record at_most_half { way = way.Lumped }))
-unfolding at_most_half gcd
+asks_lumped : job (codes "lumped" ∷ codes "--goal=heads" ∷ codes "--bound=1/2" ∷ codes "--depth=5" ∷ codes "--precision=4" ∷ []) ≡ Ok (verify (record at_most_half { way = way.Lumped half }))
+unfolding at_most_half half gcd
 asks_lumped = refl
 
 lumped_within : job (codes "lumped" ∷ codes "--goal=heads" ∷ codes "--bound=1/2" ∷ codes "--steps=4" ∷ []) ≡ Err field.Words
 lumped_within = refl
 
 -- by a formula, with a label of safe states and without one
-asks_until : job (codes "property" ∷ codes "--depth=5" ∷ codes "--formula" ∷ codes "P>=2/4 [ \"up\" U \"heads\" ]" ∷ codes "--precision=4" ∷ []) ≡ Ok (verify (record at_most_half { safe = Some (codes "up"); way = way.Property AtLeast }))
-unfolding at_most_half gcd
+asks_until : job (codes "property" ∷ codes "--depth=5" ∷ codes "--formula" ∷ codes "P>=2/4 [ \"up\" U \"heads\" ]" ∷ codes "--precision=4" ∷ []) ≡ Ok (verify (record at_most_half { safe = Some (codes "up"); way = way.Property half AtLeast }))
+unfolding at_most_half half gcd
 asks_until = refl
 
 asks_eventually : job (codes "property" ∷ codes "--formula=P<0.5[F\"heads\"]" ∷ codes "--region" ∷ codes "p<=2/5" ∷ codes "--depth=5" ∷ codes "--precision=4" ∷ [])
-    ≡ Ok (verify (record at_most_half { region = codes "p<=2/5"; way = way.Property Below }))
-unfolding at_most_half gcd
+    ≡ Ok (verify (record at_most_half { region = codes "p<=2/5"; way = way.Property half Below }))
+unfolding at_most_half half gcd
 asks_eventually = refl
 
 -- no formula, a bound out of its range, and a formula before a depth
@@ -66,6 +70,60 @@ formula_bound = refl
 formula_first : job (codes "property" ∷ codes "--depth=21" ∷ codes "--formula" ∷ codes "P<=3/2 [ F \"heads\" ]" ∷ []) ≡ Err field.FormulaBound
 unfolding gcd
 formula_first = refl
+
+-- what is paid, by a name, a cap and a budget that isn't in lowest terms
+two_of_four : VerifyData
+two_of_four = record { goal = codes "heads"; safe = None; reward = Some (codes "steps"); region = []; depth = 5; precision = 4; way = way.Cost (record { cap = 4; budget = record { num = 2; den = 1 } }) }
+
+asks_cost : job (codes "cost" ∷ codes "--budget" ∷ codes "4/2" ∷ codes "--goal=heads" ∷ codes "--reward=steps" ∷ codes "--cap" ∷ codes "04" ∷ codes "--depth=5" ∷ codes "--precision=4" ∷ []) ≡ Ok (verify two_of_four)
+unfolding two_of_four gcd
+asks_cost = refl
+
+whole_cap : job (codes "cost" ∷ codes "--budget=4" ∷ codes "--goal=heads" ∷ codes "--reward=steps" ∷ codes "--cap=4" ∷ codes "--depth=5" ∷ codes "--precision=4" ∷ [])
+    ≡ Ok (verify (record two_of_four { way = way.Cost (record { cap = 4; budget = record { num = 4; den = 1 } }) }))
+unfolding two_of_four gcd
+whole_cap = refl
+
+-- the least and the greatest cap, one more, too many digits, and a budget above the cap
+no_budget : job (codes "cost" ∷ codes "--budget=0" ∷ codes "--goal=heads" ∷ codes "--reward=steps" ∷ codes "--cap=0000000001" ∷ codes "--depth=5" ∷ codes "--precision=4" ∷ [])
+    ≡ Ok (verify (record two_of_four { way = way.Cost (record { cap = 1; budget = record { num = 0; den = 1 } }) }))
+unfolding two_of_four gcd
+no_budget = refl
+
+great_cap : job (codes "cost" ∷ codes "--budget=1/2" ∷ codes "--goal=heads" ∷ codes "--reward=steps" ∷ codes "--cap=4294967295" ∷ codes "--depth=5" ∷ codes "--precision=4" ∷ [])
+    ≡ Ok (verify (record two_of_four { way = way.Cost (record { cap = 4294967295; budget = record { num = 1; den = 2 } }) }))
+unfolding two_of_four gcd
+great_cap = refl
+
+too_great_cap : job (codes "cost" ∷ codes "--budget=1/2" ∷ codes "--goal=heads" ∷ codes "--reward=steps" ∷ codes "--cap=4294967296" ∷ []) ≡ Err field.Cap
+too_great_cap = refl
+
+no_cap : job (codes "cost" ∷ codes "--budget=1/2" ∷ codes "--goal=heads" ∷ codes "--reward=steps" ∷ codes "--cap=0" ∷ []) ≡ Err field.Cap
+no_cap = refl
+
+eleven_digits : job (codes "cost" ∷ codes "--budget=1/2" ∷ codes "--goal=heads" ∷ codes "--reward=steps" ∷ codes "--cap=00000000001" ∷ []) ≡ Err field.Cap
+eleven_digits = refl
+
+above_the_cap : job (codes "cost" ∷ codes "--budget=9/2" ∷ codes "--goal=heads" ∷ codes "--reward=steps" ∷ codes "--cap=4" ∷ []) ≡ Err field.Budget
+unfolding gcd
+above_the_cap = refl
+
+-- the order of what is at fault
+reward_first : job (codes "cost" ∷ codes "--budget=9/2" ∷ codes "--goal=heads" ∷ codes "--reward" ∷ codes "all steps" ∷ codes "--cap=0" ∷ []) ≡ Err field.Reward
+reward_first = refl
+
+precision_before_reward : job (codes "cost" ∷ codes "--budget=9/2" ∷ codes "--goal=heads" ∷ codes "--reward" ∷ codes "all steps" ∷ codes "--cap=0" ∷ codes "--precision=0" ∷ []) ≡ Err field.Precision
+precision_before_reward = refl
+
+-- without a cap, with a bound, and for another command
+cost_of_none : job (codes "cost" ∷ codes "--budget=1/2" ∷ codes "--goal=heads" ∷ codes "--reward=steps" ∷ []) ≡ Err field.Words
+cost_of_none = refl
+
+cost_with_bound : job (codes "cost" ∷ codes "--budget=1/2" ∷ codes "--bound=1/2" ∷ codes "--goal=heads" ∷ codes "--reward=steps" ∷ codes "--cap=4" ∷ []) ≡ Err field.Words
+cost_with_bound = refl
+
+verify_with_cap : job (codes "verify" ∷ codes "--goal=heads" ∷ codes "--bound=1/2" ∷ codes "--cap=4" ∷ []) ≡ Err field.Words
+verify_with_cap = refl
 
 -- none, one beside a goal or for another command, and a range
 property_of_none : job (codes "property" ∷ codes "--depth=5" ∷ []) ≡ Err field.Words
@@ -81,12 +139,12 @@ property_from : job (codes "property" ∷ codes "--from=1" ∷ codes "--formula"
 property_from = refl
 
 -- with the least precision of a range, from 1 to the precision
-asks_from : job (codes "verify" ∷ codes "--from" ∷ codes "001" ∷ codes "--goal=heads" ∷ codes "--bound=1/2" ∷ codes "--depth=5" ∷ codes "--precision=4" ∷ []) ≡ Ok (verify (record at_most_half { way = way.Whole (Some 1) }))
-unfolding at_most_half gcd
+asks_from : job (codes "verify" ∷ codes "--from" ∷ codes "001" ∷ codes "--goal=heads" ∷ codes "--bound=1/2" ∷ codes "--depth=5" ∷ codes "--precision=4" ∷ []) ≡ Ok (verify (record at_most_half { way = way.Whole half (Some 1) }))
+unfolding at_most_half half gcd
 asks_from = refl
 
-from_the_precision : job (codes "verify" ∷ codes "--from=4" ∷ codes "--goal=heads" ∷ codes "--bound=1/2" ∷ codes "--depth=5" ∷ codes "--precision=4" ∷ []) ≡ Ok (verify (record at_most_half { way = way.Whole (Some 4) }))
-unfolding at_most_half gcd
+from_the_precision : job (codes "verify" ∷ codes "--from=4" ∷ codes "--goal=heads" ∷ codes "--bound=1/2" ∷ codes "--depth=5" ∷ codes "--precision=4" ∷ []) ≡ Ok (verify (record at_most_half { way = way.Whole half (Some 4) }))
+unfolding at_most_half half gcd
 from_the_precision = refl
 
 from_above : job (codes "verify" ∷ codes "--from=5" ∷ codes "--goal=heads" ∷ codes "--bound=1/2" ∷ codes "--depth=5" ∷ codes "--precision=4" ∷ []) ≡ Err field.From
@@ -139,7 +197,7 @@ precision_first = refl
 
 -- an empty text in two words is what a line without a region gives
 asks_nothing : job (codes "verify" ∷ codes "--goal=heads" ∷ codes "--bound=1/2" ∷ codes "--region" ∷ [] ∷ codes "--depth=5" ∷ codes "--precision=4" ∷ []) ≡ Ok (verify at_most_half)
-unfolding at_most_half gcd
+unfolding at_most_half half gcd
 asks_nothing = refl
 
 -- one word is cut at its first `=`, and a value of two words isn't cut

@@ -21,7 +21,7 @@ use Rattle.clap.proofs.TakesLemmas.{leaf_takes}
 use Rattle.clap.proofs.WalkLemmas.{both, first_value-rows}
 use Rattle.clap.proofs.SimpleLemmas.{is_false, is_nil}
 use Rattle.lift_frac.specs.Written.{cut_at}
-use Rattle.plift_words.specs.Line.{Setting, attached, options, stands, value_of, is_option, is_value, are_options, is_command, has, tells_goal, tells_formula, is_verify, is_bounded, is_lumped, is_property, is_asking}
+use Rattle.plift_words.specs.Line.{Setting, attached, options, stands, value_of, is_option, is_value, are_options, is_command, has, tells_goal, tells_formula, tells_cost, is_verify, is_bounded, is_lumped, is_property, is_cost, is_asking}
 use Rattle.plift_words.proofs.Cuts.{neither, cut_parts, options_one, options_two, options_lone}
 use Rattle.plift_words.specs.Parser.{HasValues, verify_app}
 
@@ -43,6 +43,9 @@ data Known : Text → Text → Type 0 where
   steps : Known (codes "--steps") (codes "steps")
   from : Known (codes "--from") (codes "from")
   formula : Known (codes "--formula") (codes "formula")
+  reward : Known (codes "--reward") (codes "reward")
+  budget : Known (codes "--budget") (codes "budget")
+  cap : Known (codes "--cap") (codes "cap")
 
 -- waits for the value of an option
 abbrev waits : List Row → Text → Walk
@@ -68,6 +71,9 @@ name_walked name id precision h = refl
 name_walked name id steps h = refl
 name_walked name id from h = refl
 name_walked name id formula h = refl
+name_walked name id reward h = refl
+name_walked name id budget h = refl
+name_walked name id cap h = refl
 
 name_passes : (name id : Text) → Known name id → (h : Held) → settle_passes rules false h ≡ true → turn_passes shape [] (walk_from h) name ≡ true
 unfolding shape verify_app
@@ -79,6 +85,9 @@ name_passes name id precision h e = rw e refl
 name_passes name id steps h e = rw e refl
 name_passes name id from h e = rw e refl
 name_passes name id formula h e = rw e refl
+name_passes name id reward h e = rw e refl
+name_passes name id budget h e = rw e refl
+name_passes name id cap h e = rw e refl
 
 -- what doesn't begin with `-` is no option
 record IsNoFlag (v : Text) : Type 0 where
@@ -106,6 +115,9 @@ value_walked id v rows name precision n = rw (n.long, n.short, n.marker) refl
 value_walked id v rows name steps n = rw (n.long, n.short, n.marker) refl
 value_walked id v rows name from n = rw (n.long, n.short, n.marker) refl
 value_walked id v rows name formula n = rw (n.long, n.short, n.marker) refl
+value_walked id v rows name reward n = rw (n.long, n.short, n.marker) refl
+value_walked id v rows name budget n = rw (n.long, n.short, n.marker) refl
+value_walked id v rows name cap n = rw (n.long, n.short, n.marker) refl
 
 value_passes : (id v : Text) (rows : List Row) (name : Text) → Known name id → IsNoFlag v → turn_passes shape [] (waits rows id) v ≡ true
 unfolding shape verify_app
@@ -117,6 +129,9 @@ value_passes id v rows name precision n = rw (n.long, n.short, n.marker) refl
 value_passes id v rows name steps n = rw (n.long, n.short, n.marker) refl
 value_passes id v rows name from n = rw (n.long, n.short, n.marker) refl
 value_passes id v rows name formula n = rw (n.long, n.short, n.marker) refl
+value_passes id v rows name reward n = rw (n.long, n.short, n.marker) refl
+value_passes id v rows name budget n = rw (n.long, n.short, n.marker) refl
+value_passes id v rows name cap n = rw (n.long, n.short, n.marker) refl
 
 -- the rows after an option was used with a value
 abbrev used_with : Text → Text → List Row → List Row
@@ -132,6 +147,9 @@ one_walked name id v precision h = refl
 one_walked name id v steps h = refl
 one_walked name id v from h = refl
 one_walked name id v formula h = refl
+one_walked name id v reward h = refl
+one_walked name id v budget h = refl
+one_walked name id v cap h = refl
 
 one_passes : (name id v : Text) → Known name id → (h : Held) → settle_passes rules false h ≡ true → has_row id (settled rules h).rows ≡ false
     → turn_passes shape [] (walk_from h) (name ++ code "=" ∷ v) ≡ true
@@ -144,6 +162,9 @@ one_passes name id v precision h e fresh = rw (e, fresh) refl
 one_passes name id v steps h e fresh = rw (e, fresh) refl
 one_passes name id v from h e fresh = rw (e, fresh) refl
 one_passes name id v formula h e fresh = rw (e, fresh) refl
+one_passes name id v reward h e fresh = rw (e, fresh) refl
+one_passes name id v budget h e fresh = rw (e, fresh) refl
+one_passes name id v cap h e fresh = rw (e, fresh) refl
 
 -- ---- rows
 
@@ -175,6 +196,9 @@ used_new name id v precision rows fresh = set_new id v rows fresh
 used_new name id v steps rows fresh = set_new id v rows fresh
 used_new name id v from rows fresh = set_new id v rows fresh
 used_new name id v formula rows fresh = set_new id v rows fresh
+used_new name id v reward rows fresh = set_new id v rows fresh
+used_new name id v budget rows fresh = set_new id v rows fresh
+used_new name id v cap rows fresh = set_new id v rows fresh
 
 -- what is held comes to these rows
 record Ready (h : Held) (rows : List Row) : Type 0 where
@@ -194,6 +218,9 @@ holds_passes name id v precision rows fresh = rw fresh refl
 holds_passes name id v steps rows fresh = rw fresh refl
 holds_passes name id v from rows fresh = rw fresh refl
 holds_passes name id v formula rows fresh = rw fresh refl
+holds_passes name id v reward rows fresh = rw fresh refl
+holds_passes name id v budget rows fresh = rw fresh refl
+holds_passes name id v cap rows fresh = rw fresh refl
 
 holds_ready : (name id v : Text) → Known name id → (rows : List Row) → has_row id rows ≡ false → Ready (holds rows id v) (rows ++ row id v ∷ [])
 holds_ready name id v k rows fresh = record { settles = ap clean (used_new name id v k rows fresh); passes = holds_passes name id v k rows fresh }
@@ -210,21 +237,30 @@ named name word k e = subst (λ (w : Text). Known w (drop 2 w)) (sym ((bytes_eq-
 known : (name : Text) → is_option name ≡ true → Known name (drop 2 name)
 known name e =
     let is : Text → Bool = bytes_eq name in
-    elim (either (is (codes "--goal")) (list_any is (codes "--bound" ∷ codes "--region" ∷ codes "--depth" ∷ codes "--precision" ∷ codes "--steps" ∷ codes "--from" ∷ codes "--formula" ∷ [])) e) [
-      | inl g ↦ named name (codes "--goal") goal g
-      | inr e ↦ elim (either (is (codes "--bound")) (list_any is (codes "--region" ∷ codes "--depth" ∷ codes "--precision" ∷ codes "--steps" ∷ codes "--from" ∷ codes "--formula" ∷ [])) e) [
-        | inl b ↦ named name (codes "--bound") bound b
-        | inr e ↦ elim (either (is (codes "--region")) (list_any is (codes "--depth" ∷ codes "--precision" ∷ codes "--steps" ∷ codes "--from" ∷ codes "--formula" ∷ [])) e) [
-          | inl r ↦ named name (codes "--region") region r
-          | inr e ↦ elim (either (is (codes "--depth")) (list_any is (codes "--precision" ∷ codes "--steps" ∷ codes "--from" ∷ codes "--formula" ∷ [])) e) [
-            | inl d ↦ named name (codes "--depth") depth d
-            | inr e ↦ elim (either (is (codes "--precision")) (list_any is (codes "--steps" ∷ codes "--from" ∷ codes "--formula" ∷ [])) e) [
-              | inl p ↦ named name (codes "--precision") precision p
-              | inr e ↦ elim (either (is (codes "--steps")) (list_any is (codes "--from" ∷ codes "--formula" ∷ [])) e) [
-                | inl h ↦ named name (codes "--steps") steps h
-                | inr e ↦ elim (either (is (codes "--from")) (list_any is (codes "--formula" ∷ [])) e) [
-                  | inl v ↦ named name (codes "--from") from v
-                  | inr e ↦ elim (either (is (codes "--formula")) false e) [ inl f ↦ named name (codes "--formula") formula f | inr none ↦ absurd (cc) ]
+    elim (either (is (codes "--goal")) (list_any is (codes "--bound" ∷ codes "--region" ∷ codes "--depth" ∷ codes "--precision" ∷ codes "--steps" ∷ codes "--from" ∷ codes "--formula" ∷ codes "--reward" ∷ codes "--budget" ∷ codes "--cap" ∷ [])) e) [
+      | inl o ↦ named name (codes "--goal") goal o
+      | inr e ↦ elim (either (is (codes "--bound")) (list_any is (codes "--region" ∷ codes "--depth" ∷ codes "--precision" ∷ codes "--steps" ∷ codes "--from" ∷ codes "--formula" ∷ codes "--reward" ∷ codes "--budget" ∷ codes "--cap" ∷ [])) e) [
+        | inl o ↦ named name (codes "--bound") bound o
+        | inr e ↦ elim (either (is (codes "--region")) (list_any is (codes "--depth" ∷ codes "--precision" ∷ codes "--steps" ∷ codes "--from" ∷ codes "--formula" ∷ codes "--reward" ∷ codes "--budget" ∷ codes "--cap" ∷ [])) e) [
+          | inl o ↦ named name (codes "--region") region o
+          | inr e ↦ elim (either (is (codes "--depth")) (list_any is (codes "--precision" ∷ codes "--steps" ∷ codes "--from" ∷ codes "--formula" ∷ codes "--reward" ∷ codes "--budget" ∷ codes "--cap" ∷ [])) e) [
+            | inl o ↦ named name (codes "--depth") depth o
+            | inr e ↦ elim (either (is (codes "--precision")) (list_any is (codes "--steps" ∷ codes "--from" ∷ codes "--formula" ∷ codes "--reward" ∷ codes "--budget" ∷ codes "--cap" ∷ [])) e) [
+              | inl o ↦ named name (codes "--precision") precision o
+              | inr e ↦ elim (either (is (codes "--steps")) (list_any is (codes "--from" ∷ codes "--formula" ∷ codes "--reward" ∷ codes "--budget" ∷ codes "--cap" ∷ [])) e) [
+                | inl o ↦ named name (codes "--steps") steps o
+                | inr e ↦ elim (either (is (codes "--from")) (list_any is (codes "--formula" ∷ codes "--reward" ∷ codes "--budget" ∷ codes "--cap" ∷ [])) e) [
+                  | inl o ↦ named name (codes "--from") from o
+                  | inr e ↦ elim (either (is (codes "--formula")) (list_any is (codes "--reward" ∷ codes "--budget" ∷ codes "--cap" ∷ [])) e) [
+                    | inl o ↦ named name (codes "--formula") formula o
+                    | inr e ↦ elim (either (is (codes "--reward")) (list_any is (codes "--budget" ∷ codes "--cap" ∷ [])) e) [
+                      | inl o ↦ named name (codes "--reward") reward o
+                      | inr e ↦ elim (either (is (codes "--budget")) (list_any is (codes "--cap" ∷ [])) e) [
+                        | inl o ↦ named name (codes "--budget") budget o
+                        | inr e ↦ elim (either (is (codes "--cap")) false e) [ inl o ↦ named name (codes "--cap") cap o | inr none ↦ absurd (cc) ]
+                      ]
+                    ]
+                  ]
                 ]
               ]
             ]
@@ -243,6 +279,9 @@ dashed name id precision = refl
 dashed name id steps = refl
 dashed name id from = refl
 dashed name id formula = refl
+dashed name id reward = refl
+dashed name id budget = refl
+dashed name id cap = refl
 
 same_name : (n i m j : Text) → Known n i → Known m j → bytes_eq i j ≡ bytes_eq n m
 same_name n i m j a b = rw (dashed n i a, dashed m j b) refl
@@ -479,15 +518,18 @@ of_three : (name command : Text) (words : List Text) (a b c : Bool) → (is_comm
 of_three name command words a b c e = of_two name command words a b (both _ c e).0
 
 plain_line : (command : Text) (words : List Text) → is_asking (command ∷ words) ≡ true → are_options (options words) ≡ true
-plain_line command words e = let line = command ∷ words in elim (either (is_verify line || is_bounded line || is_lumped line) (is_property line) e) [
-  | inl o ↦ elim (either (is_verify line || is_bounded line) (is_lumped line) o) [
-    | inl o ↦ elim (either (is_verify line) (is_bounded line) o) [
-      | inl v ↦ of_two (codes "verify") command words (tells_goal line) (not (has (codes "--steps") line)) v
-      | inr b ↦ of_three (codes "bounded") command words (tells_goal line) (has (codes "--steps") line) (not (has (codes "--from") line)) b
+plain_line command words e = let line = command ∷ words in elim (either (is_verify line || is_bounded line || is_lumped line || is_property line) (is_cost line) e) [
+  | inl o ↦ elim (either (is_verify line || is_bounded line || is_lumped line) (is_property line) o) [
+    | inl o ↦ elim (either (is_verify line || is_bounded line) (is_lumped line) o) [
+      | inl o ↦ elim (either (is_verify line) (is_bounded line) o) [
+        | inl v ↦ of_two (codes "verify") command words (tells_goal line) (not (has (codes "--steps") line)) v
+        | inr b ↦ of_three (codes "bounded") command words (tells_goal line) (has (codes "--steps") line) (not (has (codes "--from") line)) b
+      ]
+      | inr l ↦ of_three (codes "lumped") command words (tells_goal line) (not (has (codes "--steps") line)) (not (has (codes "--from") line)) l
     ]
-    | inr l ↦ of_three (codes "lumped") command words (tells_goal line) (not (has (codes "--steps") line)) (not (has (codes "--from") line)) l
+    | inr p ↦ of_three (codes "property") command words (tells_formula line) (not (has (codes "--steps") line)) (not (has (codes "--from") line)) p
   ]
-  | inr p ↦ of_three (codes "property") command words (tells_formula line) (not (has (codes "--steps") line)) (not (has (codes "--from") line)) p
+  | inr c ↦ of_three (codes "cost") command words (tells_cost line) (not (has (codes "--steps") line)) (not (has (codes "--from") line)) c
 ]
 
 -- the parser takes the words, and what it finds in them
@@ -540,4 +582,7 @@ values_found a words (Ok m) is plain h = record {
   steps = value_found a words m is plain h (codes "--steps") (codes "steps") steps;
   from = value_found a words m is plain h (codes "--from") (codes "from") from;
   formula = value_found a words m is plain h (codes "--formula") (codes "formula") formula;
+  reward = value_found a words m is plain h (codes "--reward") (codes "reward") reward;
+  budget = value_found a words m is plain h (codes "--budget") (codes "budget") budget;
+  cap = value_found a words m is plain h (codes "--cap") (codes "cap") cap;
 }

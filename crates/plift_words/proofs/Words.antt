@@ -1,6 +1,6 @@
 -- What plain lines ask for.
 use Rattle.std.proofs.Common.{◌≡◌, ◌||◌, ℕ, List, [], ◌∷◌, Bool, true, false, None, Some, Ok, Err, Result, codes, drop, refl, subst}
-use Rattle.std.specs.Prelude.{option_and_then, is_some, if◌then◌else◌}
+use Rattle.std.specs.Prelude.{⊤, option_and_then, is_some, if◌then◌else◌}
 use Rattle.std.specs.Option.{ok_or, unwrap_or}
 use Rattle.std.specs.declared.option.Option.{Option}
 use Rattle.clap.specs.Words.{first_value}
@@ -9,10 +9,12 @@ use Rattle.lift_grid.specs.Rectangle.{most_halvings}
 use Rattle.lift_grid.specs.Region.{◌>>=◌}
 use Rattle.corner_lift.specs.Case.{most_precision}
 use Rattle.lift_cert.specs.declared.bound.Bound.{Bound}
-use Rattle.plift_words.specs.Line.{is_lumped, is_property, is_asking, is_check, is_migrate, depth_behind, word_behind, is_plain, options, value_of}
-use Rattle.plift_words.specs.Values.{goal_of, bound_of, option_number, steps_of, blocks_of}
-use Rattle.plift_words.specs.Job.{JobData, way_in, verify_job, formula_field, formula_in, property_job, asking_job, blocks_job, refine_job, other_job, job}
+use Rattle.plift_words.specs.Line.{is_lumped, is_property, is_cost, is_asking, is_check, is_migrate, depth_behind, word_behind, is_plain, options, value_of}
+use Rattle.plift_words.specs.Values.{goal_of, reward_of, bound_of, cap_of, budget_of, option_number, steps_of, blocks_of}
+use Rattle.plift_words.specs.Job.{JobData, way_in, limits_in, verify_job, formula_field, formula_in, property_job, cost_job, asking_job, blocks_job, refine_job, other_job, job}
 use Rattle.plift_words.specs.Given.{IsOfVerify}
+use Rattle.lift_cost.specs.declared.question.Budget.{Budget}
+use Rattle.plift_words.specs.declared.way.CostLimits.{CostLimits}
 use Rattle.plift_words.specs.declared.way.Way.TheVariants as way
 use Rattle.property_text.specs.Formula.{FormulaData, formula_of}
 use Rattle.property_text.specs.declared.error.FormulaError.{FormulaError}
@@ -28,8 +30,8 @@ job_by lumps goal bound region depth precision steps from = do
   bound ← ok_or bound field.Bound
   depth ← ok_or depth field.Depth
   precision ← ok_or precision field.Precision
-  asked_on ← way_in lumps precision steps from
-  Ok (JobData.verify (record { goal = goal; safe = None; bound = bound; region = region; depth = depth; precision = precision; way = asked_on }))
+  asked ← way_in bound lumps precision steps from
+  Ok (JobData.verify (record { goal = goal; safe = None; reward = None; region = region; depth = depth; precision = precision; way = asked }))
 
 of_steps : (lumps : Bool) (goal : List ℕ) (bound : Bound) (region : List ℕ) (depth precision : ℕ) (word : List ℕ) (from : Option (List ℕ)) (steps : Option ℕ) → steps_of word ≡ steps
     → IsOfVerify (job_by lumps (Some goal) (Some bound) region (Some depth) (Some precision) (Some word) from)
@@ -59,7 +61,7 @@ property_by formula region depth precision = do
   formula ← formula
   depth ← ok_or depth field.Depth
   precision ← ok_or precision field.Precision
-  Ok (JobData.verify (record { goal = formula.goal; safe = formula.safe; bound = formula.bound; region = region; depth = depth; precision = precision; way = way.Property formula.op }))
+  Ok (JobData.verify (record { goal = formula.goal; safe = formula.safe; reward = None; region = region; depth = depth; precision = precision; way = way.Property formula.bound formula.op }))
 
 of_formula : (f : Result FormulaData FormulaError) (region : List ℕ) (depth precision : Option ℕ) → IsOfVerify (property_by (formula_field f) region depth precision)
 of_formula (Ok f) r (Some d) (Some p) = tt
@@ -73,7 +75,46 @@ of_property : (word : Option (List ℕ)) (region : List ℕ) (depth precision : 
 of_property None r d p = tt
 of_property (Some word) r d p = of_formula (formula_of word) r d p
 
--- the job of the words as a line of one of the four
+-- the job of the values of a line of `cost`
+abbrev cost_by : Option (List ℕ) → List ℕ → Option ℕ → Option ℕ → Option (List ℕ) → Option (List ℕ) → Option (List ℕ) → Result JobData Field
+cost_by goal region depth precision reward cap budget = do
+  goal ← ok_or goal field.Goal
+  depth ← ok_or depth field.Depth
+  precision ← ok_or precision field.Precision
+  reward ← ok_or reward field.Reward
+  limits ← limits_in cap budget
+  Ok (JobData.verify (record { goal = goal; safe = None; reward = Some reward; region = region; depth = depth; precision = precision; way = way.Cost limits }))
+
+-- the limits are some, or the cap or the budget is at fault
+abbrev IsOfLimits : Result CostLimits Field → Type 0
+IsOfLimits (Ok limits) = ⊤
+IsOfLimits (Err field.Cap) = ⊤
+IsOfLimits (Err field.Budget) = ⊤
+IsOfLimits (Err _) = ⊥
+
+limits_of : (cap : Option ℕ) (budget : ℕ → Option Budget) → IsOfLimits (ok_or cap field.Cap >>= λ most. ok_or (budget most) field.Budget >>= λ paid. Ok (record { cap = most; budget = paid }))
+limits_of None budget = tt
+limits_of (Some most) budget = by (budget most)
+  where
+    by : (paid : Option Budget) → IsOfLimits (ok_or paid field.Budget >>= λ paid. Ok (record { cap = most; budget = paid }))
+    by None = tt
+    by (Some paid) = tt
+
+with_limits : (goal : List ℕ) (region : List ℕ) (depth precision : ℕ) (reward : List ℕ) (limits : Result CostLimits Field) → IsOfLimits limits
+    → IsOfVerify (limits >>= λ l. Ok (JobData.verify (record { goal = goal; safe = None; reward = Some reward; region = region; depth = depth; precision = precision; way = way.Cost l })))
+with_limits g r d p n (Ok limits) h = tt
+with_limits g r d p n (Err field.Cap) h = tt
+with_limits g r d p n (Err field.Budget) h = tt
+with_limits g r d p n (Err _) h = absurd h
+
+of_cost : (goal : Option (List ℕ)) (region : List ℕ) (depth precision : Option ℕ) (reward cap budget : Option (List ℕ)) → IsOfVerify (cost_by goal region depth precision reward cap budget)
+of_cost None r d p n c b = tt
+of_cost (Some g) r None p n c b = tt
+of_cost (Some g) r (Some d) None n c b = tt
+of_cost (Some g) r (Some d) (Some p) None c b = tt
+of_cost (Some g) r (Some d) (Some p) (Some n) c b = with_limits g r d p n (limits_in c b) (limits_of (option_and_then cap_of c) (λ most. option_and_then (budget_of most) b))
+
+-- the job of the words as a line of one of the five
 abbrev verified : List (List ℕ) → Result JobData Field
 verified words = asking_job words (λ name. value_of name (options (drop 1 words)))
 
@@ -87,22 +128,24 @@ of_verified words =
     let region = unwrap_or (value (codes "--region")) [] in
     let depth = option_number 0 most_halvings (unwrap_or (value (codes "--depth")) (codes "0")) in
     let precision = option_number 1 most_precision (unwrap_or (value (codes "--precision")) (codes "24")) in
-    either_of (is_property words) (property_job value) (verify_job (is_lumped words) value)
+    either_of (is_property words) (property_job value) (if is_cost words then cost_job value else verify_job (is_lumped words) value)
     (of_property (value (codes "--formula")) region depth precision)
-    (of_verify (is_lumped words) (option_and_then goal_of (value (codes "--goal"))) (option_and_then bound_of (value (codes "--bound"))) region depth precision (value (codes "--steps")) (value (codes "--from")))
+    (either_of (is_cost words) (cost_job value) (verify_job (is_lumped words) value)
+    (of_cost (option_and_then goal_of (value (codes "--goal"))) region depth precision (option_and_then reward_of (value (codes "--reward"))) (value (codes "--cap")) (value (codes "--budget")))
+    (of_verify (is_lumped words) (option_and_then goal_of (value (codes "--goal"))) (option_and_then bound_of (value (codes "--bound"))) region depth precision (value (codes "--steps")) (value (codes "--from"))))
 
 of_first : (b : Bool) (x y : Result JobData Field) → b ≡ true → IsOfVerify x → IsOfVerify (if b then x else y)
 of_first true x y e h = h
 of_first false x y e h = absurd (cc)
 
--- the job of a plain line of `verify`, `bounded`, `lumped` or `property`
+-- the job of a plain line of `verify`, `bounded`, `lumped`, `property` or `cost`
 pub verify_lines : (words : List (List ℕ)) → is_asking words ≡ true → IsOfVerify (job words)
 verify_lines words e = of_first (is_asking words) (verified words) (other_job words) e (of_verified words)
 
 -- the values that the parser found on a plain line make its job
 pub found_job : (words : List (List ℕ)) (found : Found) → is_asking words ≡ true → HasValues found (options (drop 1 words)) → job words ≡ asking_job words (λ name. first_value found (drop 2 name))
 found_job [] found e h = absurd (cc)
-found_job (command ∷ words) found e h = rw (e, h.goal, h.bound, h.region, h.depth, h.precision, h.steps, h.from, h.formula) refl
+found_job (command ∷ words) found e h = rw (e, h.goal, h.bound, h.region, h.depth, h.precision, h.steps, h.from, h.formula, h.reward, h.budget, h.cap) refl
 
 -- ---- lines of the other commands
 

@@ -23,7 +23,7 @@ asked words = job (map string_bytes words)
 
 -- what is to be verified
 abbrev pub verify_data : VerifyJob → VerifyData
-verify_data j = record { goal = j.goal.now; safe = option_copied j.safe; bound = j.bound; region = j.region.now; depth = j.depth; precision = j.precision; way = j.way }
+verify_data j = record { goal = j.goal.now; safe = option_copied j.safe; reward = option_copied j.reward; region = j.region.now; depth = j.depth; precision = j.precision; way = j.way }
 
 -- a job
 abbrev pub job_data : Job → JobData
@@ -39,7 +39,7 @@ abbrev pub answer_data : Result Job Field → Result JobData Field
 answer_data (Ok j) = Ok (job_data j)
 answer_data (Err f) = Err f
 
--- a line of `verify`, `bounded`, `lumped` or `property`: it asks to verify, or a value of it is at fault
+-- a line of `verify`, `bounded`, `lumped`, `property` or `cost`: it asks to verify, or a value of it is at fault
 abbrev pub IsOfVerify : Result JobData Field → Type 0
 IsOfVerify (Ok (JobData.verify j)) = ⊤
 IsOfVerify (Err field.Goal) = ⊤
@@ -50,9 +50,12 @@ IsOfVerify (Err field.Steps) = ⊤
 IsOfVerify (Err field.From) = ⊤
 IsOfVerify (Err field.Formula) = ⊤
 IsOfVerify (Err field.FormulaBound) = ⊤
+IsOfVerify (Err field.Reward) = ⊤
+IsOfVerify (Err field.Cap) = ⊤
+IsOfVerify (Err field.Budget) = ⊤
 IsOfVerify _ = ⊥
 
--- The answer to a line: the job that it asks for, or its part at fault. Want of memory comes only where it is a plain line of `verify`, `bounded`, `lumped` or `property`.
+-- The answer to a line: the job that it asks for, or its part at fault. Want of memory comes only where it is a plain line of `verify`, `bounded`, `lumped`, `property` or `cost`.
 abbrev pub Asks : Result JobData Field → Result Job WordsError → Type 0
 Asks asked (Ok j) = asked ≡ Ok (job_data j)
 Asks asked (Err (error.Usage f)) = asked ≡ Err f

@@ -5,22 +5,24 @@ use Rattle.lift_grid.specs.Rectangle.{most_halvings}
 use Rattle.lift_grid.specs.Region.{◌>>=◌}
 use Rattle.corner_lift.specs.Case.{most_precision}
 use Rattle.lift_cert.specs.declared.bound.Bound.{Bound}
-use Rattle.plift_words.specs.Line.{is_lumped, is_property, is_asking, is_check, is_migrate, depth_behind, word_behind, options, value_of}
-use Rattle.plift_words.specs.Values.{goal_of, bound_of, option_number, steps_of, blocks_of}
+use Rattle.plift_words.specs.Line.{is_lumped, is_property, is_cost, is_asking, is_check, is_migrate, depth_behind, word_behind, options, value_of}
+use Rattle.plift_words.specs.Values.{goal_of, reward_of, bound_of, cap_of, budget_of, option_number, steps_of, blocks_of}
 use Rattle.plift_words.specs.declared.job.Field.{Field}
 use Rattle.plift_words.specs.declared.job.Field.TheVariants as field
+use Rattle.plift_words.specs.declared.way.CostLimits.{CostLimits}
 use Rattle.plift_words.specs.declared.way.Way.{Way}
 use Rattle.plift_words.specs.declared.way.Way.TheVariants as way
 use Rattle.property_text.specs.Formula.{FormulaData, formula_of}
 use Rattle.property_text.specs.declared.error.FormulaError.{FormulaError}
 use Rattle.property_text.specs.declared.error.FormulaError.TheVariants as error
 
--- What is to be verified: a goal label and a bound on reaching it, over a region, to a depth of splits and with numbers over 2 ^ precision; and what the bound is asked on.
+-- What is to be verified: what is asked of a goal label, over a region, to a depth of splits and with numbers over 2 ^ precision.
 pub record VerifyData : Type 0 where
   pub goal : List ℕ
   -- the label of the states that a path may pass through; all where there is none
   pub safe : Option (List ℕ)
-  pub bound : Bound
+  -- the name of the reward that is paid; none where nothing is
+  pub reward : Option (List ℕ)
   -- the text that names the region
   pub region : List ℕ
   pub depth : ℕ
@@ -46,10 +48,10 @@ abbrev pub from_in : ℕ → Option (List ℕ) → Result (Option ℕ) Field
 from_in precision None = Ok None
 from_in precision (Some word) = ok_or (option_number 1 precision word) field.From >>= λ from. Ok (Some from)
 
--- What a bound is asked on, by whether it asks to lump, the precision, and the words of the options for steps and for a range: within a number of steps where their option stands there, by the quotient where it asks to lump, and else with a range where one is told.
-abbrev pub way_in : Bool → ℕ → Option (List ℕ) → Option (List ℕ) → Result Way Field
-way_in lumps precision (Some word) from = ok_or (steps_of word) field.Steps >>= λ steps. Ok (way.Within steps)
-way_in lumps precision None from = if lumps then Ok way.Lumped else (from_in precision from >>= λ least. Ok (way.Whole least))
+-- What is asked with a bound, by whether it asks to lump, the precision, and the words of the options for steps and for a range: within a number of steps where their option stands there, by the quotient where it asks to lump, and else with a range where one is told.
+abbrev pub way_in : Bound → Bool → ℕ → Option (List ℕ) → Option (List ℕ) → Result Way Field
+way_in bound lumps precision (Some word) from = ok_or (steps_of word) field.Steps >>= λ steps. Ok (way.Within bound steps)
+way_in bound lumps precision None from = if lumps then Ok (way.Lumped bound) else (from_in precision from >>= λ least. Ok (way.Whole bound least))
 
 -- the depth, where its word is a number in its range; 0 where there is none
 abbrev pub depth_of : Option (List ℕ) → Result ℕ Field
@@ -66,8 +68,8 @@ verify_job lumps given = do
   bound ← ok_or (option_and_then bound_of (given (codes "--bound"))) field.Bound
   depth ← depth_of (given (codes "--depth"))
   precision ← precision_of (given (codes "--precision"))
-  asked_on ← way_in lumps precision (given (codes "--steps")) (given (codes "--from"))
-  Ok (JobData.verify (record { goal = goal; safe = None; bound = bound; region = unwrap_or (given (codes "--region")) []; depth = depth; precision = precision; way = asked_on }))
+  asked ← way_in bound lumps precision (given (codes "--steps")) (given (codes "--from"))
+  Ok (JobData.verify (record { goal = goal; safe = None; reward = None; region = unwrap_or (given (codes "--region")) []; depth = depth; precision = precision; way = asked }))
 
 -- the formula that is told, or that it is none, or has no bound
 abbrev pub formula_field : Result FormulaData FormulaError → Result FormulaData Field
@@ -86,11 +88,28 @@ property_job given = do
   formula ← formula_in (given (codes "--formula"))
   depth ← depth_of (given (codes "--depth"))
   precision ← precision_of (given (codes "--precision"))
-  Ok (JobData.verify (record { goal = formula.goal; safe = formula.safe; bound = formula.bound; region = unwrap_or (given (codes "--region")) []; depth = depth; precision = precision; way = way.Property formula.op }))
+  Ok (JobData.verify (record { goal = formula.goal; safe = formula.safe; reward = None; region = unwrap_or (given (codes "--region")) []; depth = depth; precision = precision; way = way.Property formula.bound formula.op }))
 
--- the job of a line of one of these four commands
+-- the cap and the budget, or the first of them that is out of its grammar or range
+abbrev pub limits_in : Option (List ℕ) → Option (List ℕ) → Result CostLimits Field
+limits_in cap budget = do
+  most ← ok_or (option_and_then cap_of cap) field.Cap
+  paid ← ok_or (option_and_then (budget_of most) budget) field.Budget
+  Ok (record { cap = most; budget = paid })
+
+-- The job of a line of `cost`, by the words behind its options, or the first of goal, depth, precision, reward, cap and budget that is out of its grammar or range.
+abbrev pub cost_job : (List ℕ → Option (List ℕ)) → Result JobData Field
+cost_job given = do
+  goal ← ok_or (option_and_then goal_of (given (codes "--goal"))) field.Goal
+  depth ← depth_of (given (codes "--depth"))
+  precision ← precision_of (given (codes "--precision"))
+  reward ← ok_or (option_and_then reward_of (given (codes "--reward"))) field.Reward
+  limits ← limits_in (given (codes "--cap")) (given (codes "--budget"))
+  Ok (JobData.verify (record { goal = goal; safe = None; reward = Some reward; region = unwrap_or (given (codes "--region")) []; depth = depth; precision = precision; way = way.Cost limits }))
+
+-- the job of a line of one of these five commands
 abbrev pub asking_job : List (List ℕ) → (List ℕ → Option (List ℕ)) → Result JobData Field
-asking_job words given = if is_property words then property_job given else verify_job (is_lumped words) given
+asking_job words given = if is_property words then property_job given else (if is_cost words then cost_job given else verify_job (is_lumped words) given)
 
 -- the job of a number of blocks, or that it is at fault
 abbrev pub blocks_job : (ℕ → JobData) → List ℕ → Result JobData Field

@@ -36,9 +36,9 @@ stands name settings = list_any (λ s. bytes_eq s.name name) settings
 abbrev pub value_of : List ℕ → List Setting → Option (List ℕ)
 value_of name settings = option_and_then (λ s. s.value) (find (λ s. bytes_eq s.name name) settings)
 
--- the names of the options of `verify`, `bounded`, `lumped` and `property`
+-- the names of the options of `verify`, `bounded`, `lumped`, `property` and `cost`
 abbrev pub is_option : List ℕ → Bool
-is_option name = list_any (bytes_eq name) (codes "--goal" ∷ codes "--bound" ∷ codes "--region" ∷ codes "--depth" ∷ codes "--precision" ∷ codes "--steps" ∷ codes "--from" ∷ codes "--formula" ∷ [])
+is_option name = list_any (bytes_eq name) (codes "--goal" ∷ codes "--bound" ∷ codes "--region" ∷ codes "--depth" ∷ codes "--precision" ∷ codes "--steps" ∷ codes "--from" ∷ codes "--formula" ∷ codes "--reward" ∷ codes "--budget" ∷ codes "--cap" ∷ [])
 
 -- a value is there, and doesn't begin with `-`
 abbrev pub is_value : Option (List ℕ) → Bool
@@ -61,13 +61,25 @@ is_command name (command ∷ words) = bytes_eq command name && are_options (opti
 abbrev pub has : List ℕ → List (List ℕ) → Bool
 has name words = stands name (options (drop 1 words))
 
--- behind it stand the goal and the bound, and no formula
-abbrev pub tells_goal : List (List ℕ) → Bool
-tells_goal words = has (codes "--goal") words && has (codes "--bound") words && not (has (codes "--formula") words)
+-- behind it stands an option that tells what is paid: the reward, the budget or the cap
+abbrev pub tells_payment : List (List ℕ) → Bool
+tells_payment words = has (codes "--reward") words || has (codes "--budget") words || has (codes "--cap") words
 
--- behind it stands a formula, and neither the goal nor the bound
+-- behind it stand the goal and the bound, no formula, and nothing of what is paid
+abbrev pub tells_goal : List (List ℕ) → Bool
+tells_goal words = has (codes "--goal") words && has (codes "--bound") words && not (has (codes "--formula") words) && not (tells_payment words)
+
+-- behind it stands a formula, neither the goal nor the bound, and nothing of what is paid
 abbrev pub tells_formula : List (List ℕ) → Bool
-tells_formula words = has (codes "--formula") words && not (has (codes "--goal") words) && not (has (codes "--bound") words)
+tells_formula words = has (codes "--formula") words && not (has (codes "--goal") words) && not (has (codes "--bound") words) && not (tells_payment words)
+
+-- behind it stand the reward, the budget and the cap
+abbrev pub tells_limits : List (List ℕ) → Bool
+tells_limits words = has (codes "--reward") words && has (codes "--budget") words && has (codes "--cap") words
+
+-- behind it stand the goal and all of what is paid, and neither a bound nor a formula
+abbrev pub tells_cost : List (List ℕ) → Bool
+tells_cost words = has (codes "--goal") words && tells_limits words && not (has (codes "--bound") words) && not (has (codes "--formula") words)
 
 -- the command `verify`, and behind it the goal, the bound and other options, without a number of steps
 abbrev pub is_verify : List (List ℕ) → Bool
@@ -85,9 +97,13 @@ is_lumped words = is_command (codes "lumped") words && tells_goal words && not (
 abbrev pub is_property : List (List ℕ) → Bool
 is_property words = is_command (codes "property") words && tells_formula words && not (has (codes "--steps") words) && not (has (codes "--from") words)
 
--- one of these four
+-- the command `cost`, and behind it the goal, a reward, a budget, a cap, and of the options of `verify` the region, the depth and the precision
+abbrev pub is_cost : List (List ℕ) → Bool
+is_cost words = is_command (codes "cost") words && tells_cost words && not (has (codes "--steps") words) && not (has (codes "--from") words)
+
+-- one of these five
 abbrev pub is_asking : List (List ℕ) → Bool
-is_asking words = is_verify words || is_bounded words || is_lumped words || is_property words
+is_asking words = is_verify words || is_bounded words || is_lumped words || is_property words || is_cost words
 
 -- this command, and nothing behind it
 abbrev pub is_alone : List ℕ → List (List ℕ) → Bool
@@ -121,6 +137,6 @@ abbrev pub depth_behind : List ℕ → List (List ℕ) → Option (List ℕ)
 depth_behind name [] = None
 depth_behind name (command ∷ words) = if bytes_eq command name then option_and_then depth_in (only (options words)) else None
 
--- a plain line: one of the nine commands, and what stands behind it
+-- a plain line: one of the ten commands, and what stands behind it
 abbrev pub is_plain : List (List ℕ) → Bool
 is_plain words = is_asking words || is_check words || is_migrate words || is_some (depth_behind (codes "refine") words) || is_some (word_behind (codes "generate") words) || is_some (word_behind (codes "selftest") words)

@@ -9,7 +9,7 @@ use Rattle.plift_words.specs.Line.{Setting, value_of}
 abbrev pub option : Text → Rule
 option name = record (new_rule name) { long = Some name; action = Some Set }
 
--- the options of `verify`, `bounded`, `lumped` and `property`; which of them have to stand there is told by the plain lines
+-- the options of `verify`, `bounded`, `lumped`, `property` and `cost`; which of them have to stand there is told by the plain lines
 unfoldable pub verify_app : App
 verify_app =
     let goal = with_rule (new_app (codes "verify")) (option (codes "goal")) in
@@ -19,7 +19,10 @@ verify_app =
     let precision = with_rule depth (option (codes "precision")) in
     let steps = with_rule precision (option (codes "steps")) in
     let from = with_rule steps (option (codes "from")) in
-    with_rule from (option (codes "formula"))
+    let formula = with_rule from (option (codes "formula")) in
+    let reward = with_rule formula (option (codes "reward")) in
+    let budget = with_rule reward (option (codes "budget")) in
+    with_rule budget (option (codes "cap"))
 
 -- the values that the parser found are those of the options
 pub record HasValues (found : Found) (settings : List Setting) : Type 0 where
@@ -31,3 +34,6 @@ pub record HasValues (found : Found) (settings : List Setting) : Type 0 where
   pub steps : first_value found (codes "steps") ≡ value_of (codes "--steps") settings
   pub from : first_value found (codes "from") ≡ value_of (codes "--from") settings
   pub formula : first_value found (codes "formula") ≡ value_of (codes "--formula") settings
+  pub reward : first_value found (codes "reward") ≡ value_of (codes "--reward") settings
+  pub budget : first_value found (codes "budget") ≡ value_of (codes "--budget") settings
+  pub cap : first_value found (codes "cap") ≡ value_of (codes "--cap") settings

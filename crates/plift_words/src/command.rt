@@ -6,20 +6,22 @@ ghost use Rattle.clap.specs.Words.{found_of, first_value};
 ghost use Rattle.plift_words.specs.Line.{is_lumped, is_asking};
 ghost use Rattle.lift_grid.specs.Rectangle.{most_halvings};
 ghost use Rattle.corner_lift.specs.Case.{most_precision};
-ghost use Rattle.plift_words.specs.Values.{goal_of, bound_of, option_number, most_steps, blocks_of};
-ghost use Rattle.plift_words.specs.Job.{from_in, way_in, depth_of, precision_of, formula_in};
-ghost use Rattle.plift_words.specs.Job.{verify_job, property_job, asking_job, refine_job, other_job};
+ghost use Rattle.plift_words.specs.Values.{goal_of, reward_of, bound_of, option_number, most_steps, blocks_of};
+ghost use Rattle.plift_words.specs.Job.{from_in, way_in, depth_of, precision_of, formula_in, limits_in};
+ghost use Rattle.plift_words.specs.Job.{verify_job, property_job, cost_job, asking_job, refine_job, other_job};
 ghost use Rattle.plift_words.specs.Way.{steps_told, from_told};
 ghost use Rattle.plift_words.specs.Given.{answer_data, asked, Asks};
 
 use crate::error::WordsError;
 use crate::job::{Field, Job, RefineJob, VerifyJob};
 use crate::line::{
-    depth_behind, is_asking, is_check, is_lumped, is_migrate, is_property, word_behind,
+    depth_behind, is_asking, is_check, is_cost, is_lumped, is_migrate, is_property, word_behind,
 };
 use crate::parser::parse;
-use crate::values::{bound_of, goal_of, ladder_of, option_number, steps_of};
-use crate::way::Way;
+use crate::values::{
+    bound_of, budget_of, cap_of, goal_of, ladder_of, option_number, reward_of, steps_of,
+};
+use crate::way::{CostLimits, Way};
 use clap::ArgMatches;
 use lift_cert::Bound;
 use property_text::{FormulaError, FormulaIn, formula_in};
@@ -94,17 +96,17 @@ fn from_in(matches: &ArgMatches<'_>, precision: u32) -> Result<Option<u32>, Fiel
     }
 }
 
-// What the bound is asked on: within how many steps, where their option stands there.
-fn way_in(matches: &ArgMatches<'_>, lumps: bool, precision: u32) -> Result<Way, Field>
+// What is asked with a bound: within how many steps, where their option stands there.
+fn way_in(matches: &ArgMatches<'_>, bound: Bound, lumps: bool, precision: u32) -> Result<Way, Field>
     ensures value { let given = first_value (found_of matches.now) in
-        result ≡ way_in lumps precision (given (codes "steps")) (given (codes "from")) }
+        result ≡ way_in bound lumps precision (given (codes "steps")) (given (codes "from")) }
     ensures steps { IfOk result (λ way. IfSome (steps_told way) (λ h. (1 ≤ h) × (h ≤ most_steps))) }
     ensures from { IfOk result (λ way. IfSome (from_told way) (λ v. (1 ≤ v) × (v ≤ precision))) }
 {
     match matches.get_str("steps") {
-        Some(word) => Ok(Way::Within(steps_of(word).ok_or(Field::Steps)?)),
-        None if lumps => Ok(Way::Lumped),
-        None => Ok(Way::Whole(from_in(matches, precision)?)),
+        Some(word) => Ok(Way::Within(bound, steps_of(word).ok_or(Field::Steps)?)),
+        None if lumps => Ok(Way::Lumped(bound)),
+        None => Ok(Way::Whole(bound, from_in(matches, precision)?)),
     }
 }
 
@@ -117,11 +119,11 @@ fn job_in<'a>(matches: &ArgMatches<'a>, lumps: bool) -> Result<Job<'a>, Field>
     let region = region_in(matches);
     let depth = depth_in(matches)?;
     let precision = precision_in(matches)?;
-    let way = way_in(matches, lumps, precision)?;
+    let way = way_in(matches, bound, lumps, precision)?;
     Ok(Job::Verify(VerifyJob {
         goal,
         safe: None,
-        bound,
+        reward: None,
         region,
         depth,
         precision,
@@ -149,27 +151,67 @@ fn property_in<'a>(matches: &ArgMatches<'a>) -> Result<Job<'a>, Field>
     Ok(Job::Verify(VerifyJob {
         goal: formula.goal,
         safe: formula.safe,
-        bound: formula.bound,
+        reward: None,
         region: region_in(matches),
         depth,
         precision,
-        way: Way::Property(formula.op),
+        way: Way::Property(formula.bound, formula.op),
     }))
 }
 
-// What the values of a line of `verify`, `bounded`, `lumped` or `property` ask for.
+fn reward_in<'a>(matches: &ArgMatches<'a>) -> Option<&'a [u8]>
+    ensures { option_map (λ name. name.now) result
+        ≡ option_and_then reward_of (first_value (found_of matches.now) (codes "reward")) }
+{
+    reward_of(matches.get_str("reward")?.as_bytes())
+}
+
+// The cap and the budget.
+fn limits_in(matches: &ArgMatches<'_>) -> Result<CostLimits, Field>
+    ensures value { let given = first_value (found_of matches.now) in
+        result ≡ limits_in (given (codes "cap")) (given (codes "budget")) }
+    ensures cap { IfOk result (λ limits. 1 ≤ limits.cap) }
+{
+    let cap = cap_of(matches.get_str("cap").ok_or(Field::Cap)?).ok_or(Field::Cap)?;
+    let word = matches.get_str("budget").ok_or(Field::Budget)?;
+    let budget = budget_of(word, cap).ok_or(Field::Budget)?;
+    Ok(CostLimits { cap, budget })
+}
+
+fn cost_in<'a>(matches: &ArgMatches<'a>) -> Result<Job<'a>, Field>
+    ensures { answer_data result ≡ cost_job (λ name. first_value (found_of matches.now) (drop 2 name)) }
+{
+    let goal = goal_in(matches).ok_or(Field::Goal)?;
+    let depth = depth_in(matches)?;
+    let precision = precision_in(matches)?;
+    let reward = reward_in(matches).ok_or(Field::Reward)?;
+    let limits = limits_in(matches)?;
+    Ok(Job::Verify(VerifyJob {
+        goal,
+        safe: None,
+        reward: Some(reward),
+        region: region_in(matches),
+        depth,
+        precision,
+        way: Way::Cost(limits),
+    }))
+}
+
+// What the values of a line of `verify`, `bounded`, `lumped`, `property` or `cost` ask for.
 fn asking_job<'a>(matches: &ArgMatches<'a>, words: &[String]) -> Result<Job<'a>, Field>
     ensures { answer_data result
         ≡ asking_job (map string_bytes words.now) (λ name. first_value (found_of matches.now) (drop 2 name)) }
 {
     if is_property(words) {
         property_in(matches)
+    } else if is_cost(words) {
+        cost_in(matches)
     } else {
         job_in(matches, is_lumped(words))
     }
 }
 
-// What a plain line of `verify`, `bounded`, `lumped` or `property` asks for.
+// What a plain line of `verify`, `bounded`, `lumped`, `property` or `cost` asks for.
 fn verify_job(alloc: Global, words: &[String]) -> Result<Job<'_>, WordsError>
     requires { is_asking (map string_bytes words.now) ≡ true }
     ensures { Asks (asked words.entry.now) result }
@@ -215,7 +257,7 @@ fn other_job(words: &[String]) -> Result<Job<'static>, Field>
 }
 
 /// What the words after the program's name ask for. `Usage` with the part of them that is at fault,
-/// or `Memory`, which comes only where the line is a plain one of `verify`, `bounded`, `lumped` or `property`.
+/// or `Memory`, which comes only where the line is a plain one of `verify`, `bounded`, `lumped`, `property` or `cost`.
 pub fn job_of(alloc: Global, words: &[String]) -> Result<Job<'_>, WordsError>
     ensures { Asks (asked words.entry.now) result }
 {

@@ -1,13 +1,13 @@
 // A job, and the parts of the command line that ask for it.
-ghost use Rattle.std.specs.Prelude.{◌≡◌, ◌≤◌, true, None};
+ghost use Rattle.std.specs.Prelude.{◌≡◌, ◌≢◌, ◌≤◌, ◌<◌, true, None};
 ghost use Rattle.std.specs.Option.{ForSome};
 ghost use Rattle.lift_grid.specs.Rectangle.{most_halvings};
 ghost use Rattle.corner_lift.specs.Case.{most_precision};
 ghost use Rattle.plift_words.specs.Values.{most_steps};
-ghost use Rattle.plift_words.specs.Way.{steps_told, from_told, is_reported};
+ghost use Rattle.lift_cert.specs.Bound.{IsBound, part_limit};
+ghost use Rattle.plift_words.specs.Way.{bound_told, steps_told, from_told, cap_told, is_reported, is_cost};
 
 use crate::way::Way;
-use lift_cert::Bound;
 use model_gen::Ladder;
 
 /// A part of the command line that can be at fault.
@@ -28,6 +28,9 @@ pub enum Field {
     Formula,
     /// The bound of the formula.
     FormulaBound,
+    Reward,
+    Cap,
+    Budget,
 }
 
 /// What is to be verified.
@@ -36,20 +39,24 @@ pub struct VerifyJob<'a> {
     pub goal: &'a [u8],
     /// The label of the states that a path may pass through; all where there is none, as where a report is written.
     pub safe: Option<&'a [u8]>,
-    pub bound: Bound,
+    /// The name of the reward that is paid, where it is asked what is.
+    pub reward: Option<&'a [u8]>,
     /// The text that names the region; it is read against the model's parameters.
     pub region: &'a [u8],
     /// How often a rectangle may be halved, from 0 to 20.
     pub depth: u32,
     /// A certificate's numbers are over 2^precision, from 1 to 40.
     pub precision: u32,
-    /// What the bound is asked on; a number of steps is from 1 to 64, the least precision of a range from 1 to the
-    /// greatest.
+    /// What is asked, with its bound; a number of steps is from 1 to 64, the least precision of a range from 1 to the
+    /// greatest, a cap at least 1.
     pub way: Way,
     ghost in_range: { (depth ≤ most_halvings) × (1 ≤ precision) × (precision ≤ most_precision) },
-    ghost all_are_safe: { is_reported way ≡ true → safe ≡ None },
+    ghost read_alone: { is_reported way ≡ true → (safe ≡ None) × (reward ≡ None) },
+    ghost reward_told: { is_cost way ≡ true → reward ≢ None },
+    ghost bound_is_one: { ForSome (bound_told way) (λ b. IsBound b × (b.den < part_limit)) },
     ghost steps_in_range: { ForSome (steps_told way) (λ h. (1 ≤ h) × (h ≤ most_steps)) },
     ghost from_in_range: { ForSome (from_told way) (λ from. (1 ≤ from) × (from ≤ precision)) },
+    ghost cap_in_range: { ForSome (cap_told way) (λ cap. 1 ≤ cap) },
 }
 
 /// To which depth a report is refined.
@@ -63,7 +70,7 @@ pub struct RefineJob {
 /// What the words ask for: a command, with what it is asked.
 #[derive(Clone, Copy)]
 pub enum Job<'a> {
-    /// `verify`, `bounded`, `lumped` or `property`.
+    /// `verify`, `bounded`, `lumped`, `property` or `cost`.
     Verify(VerifyJob<'a>),
     /// Checks a report.
     Check,

@@ -15,4 +15,4 @@ pub use command::job_of;
 pub use error::WordsError;
 pub use job::{Field, Job, RefineJob, VerifyJob};
 pub use laws::plain_lines_ask;
-pub use way::Way;
+pub use way::{CostLimits, Way};

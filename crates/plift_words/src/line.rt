@@ -6,8 +6,8 @@ ghost use Rattle.lift_bytes.specs.Bytes.{code};
 ghost use Rattle.lift_frac.specs.Written.{cut_at};
 ghost use Rattle.plift_words.specs.Line.{attached, options, stands};
 ghost use Rattle.plift_words.specs.Line.{is_option, is_value, are_options, is_command, has};
-ghost use Rattle.plift_words.specs.Line.{tells_goal, tells_formula};
-ghost use Rattle.plift_words.specs.Line.{is_verify, is_bounded, is_lumped, is_property, is_asking};
+ghost use Rattle.plift_words.specs.Line.{tells_goal, tells_formula, tells_payment, tells_limits, tells_cost};
+ghost use Rattle.plift_words.specs.Line.{is_verify, is_bounded, is_lumped, is_property, is_cost, is_asking};
 ghost use Rattle.plift_words.specs.Line.{is_alone, is_check, is_migrate, word_behind};
 ghost use Rattle.plift_words.specs.Line.{only, depth_in, depth_behind};
 ghost use Rattle.plift_words.specs.Given.{setting_of};
@@ -94,6 +94,9 @@ fn is_option(name: &str) -> bool
         || name == "--steps"
         || name == "--from"
         || name == "--formula"
+        || name == "--reward"
+        || name == "--budget"
+        || name == "--cap"
 }
 
 fn is_value(value: Option<&str>) -> bool
@@ -147,18 +150,48 @@ fn has(name: &str, words: &[String]) -> bool
     }
 }
 
-// Whether the goal and the bound stand behind the command, and no formula.
+// Whether an option that tells what is paid stands behind the command.
+fn tells_payment(words: &[String]) -> bool
+    ensures { result ≡ tells_payment (map string_bytes words.now) }
+{
+    has("--reward", words) || has("--budget", words) || has("--cap", words)
+}
+
+// Whether the goal and the bound stand behind the command, no formula, and nothing of what is paid.
 fn tells_goal(words: &[String]) -> bool
     ensures { result ≡ tells_goal (map string_bytes words.now) }
 {
-    has("--goal", words) && has("--bound", words) && !has("--formula", words)
+    has("--goal", words)
+        && has("--bound", words)
+        && !has("--formula", words)
+        && !tells_payment(words)
 }
 
-// Whether a formula stands behind the command, and neither the goal nor the bound.
+// Whether a formula stands behind the command, neither the goal nor the bound, and nothing of what is paid.
 fn tells_formula(words: &[String]) -> bool
     ensures { result ≡ tells_formula (map string_bytes words.now) }
 {
-    has("--formula", words) && !has("--goal", words) && !has("--bound", words)
+    has("--formula", words)
+        && !has("--goal", words)
+        && !has("--bound", words)
+        && !tells_payment(words)
+}
+
+// Whether the reward, the budget and the cap stand behind the command.
+fn tells_limits(words: &[String]) -> bool
+    ensures { result ≡ tells_limits (map string_bytes words.now) }
+{
+    has("--reward", words) && has("--budget", words) && has("--cap", words)
+}
+
+// Whether the goal and all of what is paid stand behind the command, and neither a bound nor a formula.
+fn tells_cost(words: &[String]) -> bool
+    ensures { result ≡ tells_cost (map string_bytes words.now) }
+{
+    has("--goal", words)
+        && tells_limits(words)
+        && !has("--bound", words)
+        && !has("--formula", words)
 }
 
 fn is_verify(words: &[String]) -> bool
@@ -197,12 +230,27 @@ pub fn is_property(words: &[String]) -> bool
         && !has("--from", words)
 }
 
-/// Whether the line is the command `verify`, `bounded`, `lumped` or `property`, and behind it its options with their
-/// values, in any order and each at most once. Takes no memory.
+/// Whether the line is the command `cost`, and behind it the goal, a reward, a budget, a cap, and of the options of
+/// `verify` the region, the depth and the precision.
+pub fn is_cost(words: &[String]) -> bool
+    ensures { result ≡ is_cost (map string_bytes words.now) }
+{
+    is_command("cost", words)
+        && tells_cost(words)
+        && !has("--steps", words)
+        && !has("--from", words)
+}
+
+/// Whether the line is the command `verify`, `bounded`, `lumped`, `property` or `cost`, and behind it its options with
+/// their values, in any order and each at most once. Takes no memory.
 pub fn is_asking(words: &[String]) -> bool
     ensures { result ≡ is_asking (map string_bytes words.now) }
 {
-    is_verify(words) || is_bounded(words) || is_lumped(words) || is_property(words)
+    is_verify(words)
+        || is_bounded(words)
+        || is_lumped(words)
+        || is_property(words)
+        || is_cost(words)
 }
 
 // Whether the line is this command, and nothing behind it.

@@ -1,4 +1,4 @@
-// Reads the options of a line of `verify`, `bounded`, `lumped` or `property` by the parser of command lines.
+// Reads the options of a line of `verify`, `bounded`, `lumped`, `property` or `cost` by the parser of command lines.
 ghost use Rattle.std.specs.Prelude.{◌≡◌, IfOk, IfErr, true, map, drop, string_bytes};
 ghost use Rattle.clap.specs.Words.{app_of, with_rule, found_of, kind_of};
 ghost use Rattle.plift_words.specs.Line.{is_asking, options};
@@ -31,11 +31,14 @@ fn verify_command<'a>(alloc: Global) -> Result<Command<'a>, AllocError>
     let command = with_option(alloc, command, "precision")?;
     let command = with_option(alloc, command, "steps")?;
     let command = with_option(alloc, command, "from")?;
-    with_option(alloc, command, "formula")
+    let command = with_option(alloc, command, "formula")?;
+    let command = with_option(alloc, command, "reward")?;
+    let command = with_option(alloc, command, "budget")?;
+    with_option(alloc, command, "cap")
 }
 
-/// The values of the options of a plain line of `verify`, `bounded`, `lumped` or `property`. Fails for want of memory
-/// alone: such a line is one that the parser takes.
+/// The values of the options of a plain line of `verify`, `bounded`, `lumped`, `property` or `cost`. Fails for want of
+/// memory alone: such a line is one that the parser takes.
 pub fn parse<'a>(alloc: Global, words: &'a [String]) -> Result<ArgMatches<'a>, Error>
     requires { is_asking (map string_bytes words.now) ≡ true }
     ensures values { IfOk result (λ m.

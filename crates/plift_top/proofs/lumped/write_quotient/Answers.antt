@@ -19,6 +19,6 @@ write_whole-requires-clause-from g c v e = absurd (cc)
 
 pub returns : goal.returns
 returns g c =
-    subst (λ (k : CaseData). AnswersCase g.K.Sink.taken g.K.Sink.faults c.args.bound (Whole None) (uncut k.model) k c.args.out.now c.write_whole.new.out c.write_whole.result)
+    subst (λ (k : CaseData). AnswersCase g.K.Sink.taken g.K.Sink.faults (Whole c.args.bound None) (uncut k.model) k c.args.out.now c.write_whole.new.out c.write_whole.result)
     (c.new-quotient.ensures ∙ same_case c.args.case.now c.args.lumped.now c.model.result.now c.grid.result c.root.result.now c.w.result c.model.ensures c.root.ensures.value c.grid.ensures.d c.grid.ensures.depth c.w.ensures.value)
     c.write_whole.ensures

@@ -5,11 +5,11 @@ use Rattle.plift_top.proofs.verify.write_within.Goals as goal
 
 pub returns-in_err-room : goal.returns-in_err-room
 returns-in_err-room g c =
-    answer_short g.K.Sink.taken g.K.Sink.faults c.args.question.now.bound (Within c.args.steps) (uncut c.args.question.now.case.now.model) c.args.question.now.case.now c.args.out.now c.from_residual.result c.from_residual.ensures.1
+    answer_short g.K.Sink.taken g.K.Sink.faults (Within c.args.question.now.bound c.args.steps) (uncut c.args.question.now.case.now.model) c.args.question.now.case.now c.args.out.now c.from_residual.result c.from_residual.ensures.1
 
 pub returns-in_err-written : goal.returns-in_err-written
 returns-in_err-written g c =
-    answer_cut_off g.K.Sink.taken g.K.Sink.faults c.args.question.now.bound (Within c.args.steps) (uncut c.args.question.now.case.now.model) c.args.question.now.case.now
+    answer_cut_off g.K.Sink.taken g.K.Sink.faults (Within c.args.question.now.bound c.args.steps) (uncut c.args.question.now.case.now.model) c.args.question.now.case.now
     c.args.out.now c.write_case_within-written.new.out _ c.from_residual-in_err-written.ensures.1
     (rw c.in_ok-room.ensures.steps at c.in_err-written.ensures)
 

@@ -13,4 +13,7 @@ returns c =
     let precision = with_more _ _ _ (codes "precision") c.in_ok-command-5.ensures depth in
     let steps = with_more _ _ _ (codes "steps") c.in_ok-command-6.ensures precision in
     let from = with_more _ _ _ (codes "from") c.in_ok-command-7.ensures steps in
-    with_last _ _ (codes "formula") c.with_option-8.result c.with_option-8.ensures from
+    let formula = with_more _ _ _ (codes "formula") c.in_ok-command-8.ensures from in
+    let reward = with_more _ _ _ (codes "reward") c.in_ok-command-9.ensures formula in
+    let budget = with_more _ _ _ (codes "budget") c.in_ok-command-10.ensures reward in
+    with_last _ _ (codes "cap") c.with_option-11.result c.with_option-11.ensures budget

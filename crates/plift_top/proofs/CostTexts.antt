@@ -1,0 +1,85 @@
+-- What a text for a budget is, piece by piece, and what its leaves say.
+use Rattle.std.proofs.Common.{◌≡◌, ◌≤◌, ◌<◌, ◌+◌, ℕ, zero, suc, List, [], ◌∷◌, ◌++◌, map, drop, codes, Some, None, refl, sym, ap, ap₂, ◌∙◌, subst, arith, add-one, append_assoc, Option, Ok, Err, length}
+use Rattle.std.specs.Prelude.{All, ℤ, pos, unsigned_abs, slice_index_or}
+use Rattle.std.specs.List.{flat_map}
+use Prim.Native.Char.{code}
+use Rattle.lift_base.specs.Outside.{WroteSome}
+use Rattle.lift_base.specs.Laws.{Written}
+use Rattle.lift_grid.specs.Rectangle.{Spans}
+use Rattle.lift_grid.specs.Laws.{TreesTile}
+use Rattle.corner_lift.specs.Case.{CaseData, IsCase}
+use Rattle.corner_lift.specs.Laws.{LiveHasSpan}
+use Rattle.lift_walk.specs.Laws.{RootIsAtDepth, HalvesAreDeeper}
+use Rattle.lift_walk.specs.Sides.{IsAtDepth}
+use Rattle.lift_costs.specs.Costs.{CostData, IsCost, cost_of, no_cost}
+use Rattle.lift_cost.specs.Decided.{AskedCost, DecidesCost, IsOpenCost}
+use Rattle.lift_cost.specs.Laws.{CertificatesBoundCosts}
+use Rattle.lift_cost.specs.Text.{tree_text}
+use Rattle.lift_cost.specs.declared.question.Budget.{Budget}
+use Rattle.cert_text.specs.Report.{line, spaced}
+use Rattle.plift_words.specs.declared.way.Way.TheVariants as way
+use Rattle.plift_top.specs.Asked.{AskedModel}
+use Rattle.plift_top.specs.Cost.{asked_cost, fraction_word, cost_word, cost_text, IsCostText, CostPartHolds}
+use Rattle.plift_top.specs.Steps.{IsTestedCase, WritesCase}
+use Rattle.plift_top.proofs.Parts.{parts_tile, parts_hold}
+
+-- ---- the line of the costs
+
+-- a line is its first word, the others with a space before each, and the line feed
+pub line_pieces : {A : Type 0} (word : A → List ℕ) (first : List ℕ) (xs : List A) → line (first ∷ map word xs) ≡ first ++ (flat_map (λ x. spaced (word x)) xs ++ codes "\n")
+line_pieces word first [] = refl
+line_pieces word first (x ∷ xs) =
+    ap (λ (rest : List ℕ). first ++ spaced rest) (line_pieces word (word x) xs)
+    ∙ ap (λ (rest : List ℕ). first ++ code " " ∷ rest) (sym (append_assoc (word x) (flat_map (λ y. spaced (word y)) xs) (codes "\n")))
+
+flat_suc : {A : Type 0} (f : A → List ℕ) (xs : List A) (i : ℕ) (default : A) → i < length xs → flat_map f (drop i xs) ≡ f (slice_index_or xs i default) ++ flat_map f (drop (suc i) xs)
+flat_suc f [] i default h = absurd (omega arith)
+flat_suc f (x ∷ xs) zero default h = refl
+flat_suc f (x ∷ xs) (suc i) default h = flat_suc f xs i default (omega arith)
+
+-- the next of the costs that are left, which is told as a pair, and those behind it
+pub next_cost : (costs : List CostData) (s : ℕ) (told : ℤ × ℤ) → s < length costs → told ≡ (pos (cost_of costs s).num, pos (cost_of costs s).den)
+    → flat_map (λ c. spaced (cost_word c)) (drop s costs) ≡ spaced (fraction_word (unsigned_abs told.0) (unsigned_abs told.1)) ++ flat_map (λ c. spaced (cost_word c)) (drop (s + 1) costs)
+next_cost costs s told h e =
+    rw (add-one s) (flat_suc (λ c. spaced (cost_word c)) costs s no_cost h
+    ∙ ap (λ (t : ℤ × ℤ). spaced (fraction_word (unsigned_abs t.0) (unsigned_abs t.1)) ++ flat_map (λ c. spaced (cost_word c)) (drop (suc s) costs)) (sym e))
+
+-- ---- what is said
+
+-- what a decided leaf says holds
+leaf_holds : CertificatesBoundCosts → (k : CaseData) (q : AskedCost) → IsCase k → All IsCost q.costs → 1 ≤ q.cap → (spans : Spans) (depth : ℕ) (z : List ℤ) → IsAtDepth k depth spans → DecidesCost k q spans z
+    → CostPartHolds k q (record { spans = spans; leaf = Some z })
+leaf_holds bounds k q case costs cap spans depth z at r = bounds k spans q.costs q.cap q.budget z case at.inside costs cap (record { priced = r.0.priced; limit = r.1 })
+
+-- what is said of a case's text for what is asked
+reported_by : CertificatesBoundCosts → RootIsAtDepth → HalvesAreDeeper → TreesTile → LiveHasSpan
+    → {K : Type 0} (taken : K → Option (List ℕ)) (faults : K → ℕ) (k : CaseData) (old new : K) (result : Written) → IsTestedCase k → (budget : Budget) (cap : ℕ) (a : AskedModel) → All IsCost a.costs → 1 ≤ cap
+    → WroteSome (IsCostText k (asked_cost (record { cap = cap; budget = budget }) a)) taken faults old new result → WritesCase taken faults (way.Cost (record { cap = cap; budget = budget })) a k old new result
+reported_by bounds root deeper tile live taken faults k old new (Ok x) case budget cap a costs some w =
+    let q = asked_cost (record { cap = cap; budget = budget }) a in
+    let tree = w.some.1.1.0 in
+    let right = w.some.1.1.1.0 in
+    let decides = DecidesCost k q in
+    let opens = IsOpenCost k q in
+    record {
+      tree = tree;
+      case = case.case;
+      weights = case.weights;
+      sums = case.sums;
+      right = right;
+      tiles = parts_tile deeper decides opens k case.case tile live k.root 0 tree (root k case.case) right;
+      schedulers = parts_hold deeper decides opens k case.case (CostPartHolds k q) (leaf_holds bounds k q case.case costs some) (λ spans undecided. undecided) k.root 0 tree (root k case.case) right;
+      text = w.whole (cost_text k q tree) (tree_text tree, (tree, (right, refl)), refl);
+    }
+reported_by bounds root deeper tile live taken faults k old new (Err e) case budget cap a costs some w =
+    let q = asked_cost (record { cap = cap; budget = budget }) a in
+    (record { case = case.case; weights = case.weights; sums = case.sums; front = λ tree right. w.part (cost_text k q tree) (tree_text tree, (tree, (right, refl)), refl) }, w.cause)
+
+-- the same by what was asked
+pub reported_paid : CertificatesBoundCosts → RootIsAtDepth → HalvesAreDeeper → TreesTile → LiveHasSpan
+    → {K : Type 0} (taken : K → Option (List ℕ)) (faults : K → ℕ) (k : CaseData) (costs : List CostData) (cap : ℕ) (budget : Budget) (old new : K) (result : Written) → IsTestedCase k → All IsCost costs → 1 ≤ cap
+    → WroteSome (IsCostText k (record { costs = costs; cap = cap; budget = record { num = budget.num; den = budget.den } })) taken faults old new result → (a : AskedModel) → costs ≡ a.costs
+    → WritesCase taken faults (way.Cost (record { cap = cap; budget = budget })) a k old new result
+reported_paid bounds root deeper tile live taken faults k costs cap budget old new result case valid some w a paid =
+    reported_by bounds root deeper tile live taken faults k old new result case budget cap a (subst (All IsCost) paid valid) some
+    (subst (λ (c : List CostData). WroteSome (IsCostText k (record { costs = c; cap = cap; budget = record { num = budget.num; den = budget.den } })) taken faults old new result) paid w)
