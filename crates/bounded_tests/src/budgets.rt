@@ -1,13 +1,12 @@
 //! Trees for a budget, that are built.
 
 ghost use Rattle.std.specs.Prelude.{◌≡◌, ◌≤◌, length};
-ghost use Rattle.lift_grid.specs.Rectangle.{most_halvings};
 
-use crate::cases::{bound_of, case_of, root_of};
+use crate::cases::{Asker, ask_over, bound_of};
 use crate::cells::{Teller, Untold, count, cut, cut_three, each_row};
 use corner_lift::Case;
 use drn_read::read_costs;
-use lift_cost::{Budget, CostBranch, build};
+use lift_cost::{Budget, CostBranch, CostTree, build};
 use lift_costs::Costs;
 use lift_model::{Links, Model};
 use std::alloc::{AllocError, Global};
@@ -89,42 +88,42 @@ fn budget_of(cap: u32, part: &str) -> Result<Budget, Untold> {
 }
 
 /// The tree of a case.
-fn tree_told(
+fn tree_of(
     alloc: Global,
     case: &Case,
     costs: &Costs,
     cap: u32,
     budget: Budget,
-) -> Result<String, Untold> {
-    if cap < 1 || costs.len() != case.model().states() as usize {
-        return Err(Untold::Cell);
-    }
-    let links = Links::build(alloc, case.model())?;
-    let tree = build(alloc, case, &links, costs, cap, budget)?;
-    Ok(shown(alloc, tree.top())?)
-}
-
-/// The same by the cells of a cap and of a budget.
-fn case_told(alloc: Global, case: &Case, costs: &Costs, cells: &str) -> Result<String, Untold> {
-    let (cap, part) = cut(cells);
-    let cap = count(cap);
-    tree_told(alloc, case, costs, cap, budget_of(cap, part)?)
-}
-
-/// The same of a model over a region, at a depth.
-fn told_over(
-    alloc: Global,
-    read: &(Model, Costs),
-    region: &[u8],
-    depth: u32,
-    cells: &str,
-) -> Result<String, Untold>
-    requires { depth ≤ most_halvings }
+) -> Result<CostTree, AllocError>
+    requires costs { length costs.now ≡ length case.now.model.states }
+    requires cap { 1 ≤ cap }
 {
-    let (model, costs) = read;
-    let (grid, root) = root_of(alloc, region, model.names(), depth)?;
-    let case = case_of(model, &root, grid)?;
-    case_told(alloc, &case, costs, cells)
+    let links = Links::build(alloc, case.model())?;
+    let tree = build(alloc, case, &links, costs, cap, budget);
+    drop(links);
+    tree
+}
+
+/// Costs, and the cells of a cap and of a budget.
+#[derive(Clone, Copy)]
+struct Within<'a> {
+    costs: &'a Costs,
+    cells: &'a str,
+}
+
+impl Asker for Within<'_> {
+    fn ask(&self, alloc: Global, case: &Case) -> Result<String, Untold> {
+        let (cap, part) = cut(self.cells);
+        let cap = count(cap);
+        let budget = budget_of(cap, part)?;
+        if cap < 1 || self.costs.len() != case.model().states() as usize {
+            return Err(Untold::Cell);
+        }
+        let tree = tree_of(alloc, case, self.costs, cap, budget)?;
+        let told = shown(alloc, tree.top());
+        drop(tree);
+        Ok(told?)
+    }
 }
 
 struct Budgets;
@@ -135,13 +134,16 @@ impl Teller for Budgets {
     type Error = Untold;
 
     fn tell(&self, alloc: Global, asked: &str) -> Result<String, Untold> {
-        let (name, region, depth, rest) = cut_three(asked);
-        let depth = count(depth);
-        if depth > 20 {
-            return Err(Untold::Cell);
-        }
-        let read = model_of(alloc, text_of(name))?;
-        told_over(alloc, &read, region.as_bytes(), depth, rest)
+        let (name, region, depth, cells) = cut_three(asked);
+        let (model, costs) = model_of(alloc, text_of(name))?;
+        let within = Within {
+            costs: &costs,
+            cells,
+        };
+        let told = ask_over(alloc, &model, region, count(depth), &within);
+        drop(costs);
+        drop(model);
+        told
     }
 }
 

@@ -13,9 +13,11 @@ use lift_model::Model;
 use lift_names::Names;
 use lift_rows::admit;
 use std::alloc::Global;
+use std::string::String;
 
 /// A coin that shows heads with p.
-const COIN: &[u8] = b"@type: DTMC\n@parameters\np\n@model\nstate 0 init\n1 : p\n2 : 1-p\n\
+pub(crate) const COIN: &[u8] =
+    b"@type: DTMC\n@parameters\np\n@model\nstate 0 init\n1 : p\n2 : 1-p\n\
 state 1 heads\n1 : 1\nstate 2\n2 : 1\n";
 
 /// A coin that is tossed again in half of the cases.
@@ -37,7 +39,7 @@ const WAIT: &[u8] =
 action wait\n0 : 1\nstate 1 heads\n1 : 1\nstate 2\n2 : 1\n";
 
 /// The text of that name.
-pub(crate) fn text_of(name: &str) -> &'static [u8] {
+fn text_of(name: &str) -> &'static [u8] {
     match name {
         "LOOP" => LOOP,
         "SHORT_CUT" => SHORT_CUT,
@@ -59,12 +61,7 @@ pub(crate) fn model_of(alloc: Global, text: &[u8], label: &[u8]) -> Result<Model
 }
 
 /// The rectangle that a region's text names, over its grid.
-pub(crate) fn root_of(
-    alloc: Global,
-    region: &[u8],
-    names: &Names,
-    depth: u32,
-) -> Result<(Grid, Rect), Untold>
+fn root_of(alloc: Global, region: &[u8], names: &Names, depth: u32) -> Result<(Grid, Rect), Untold>
     requires { depth ≤ most_halvings }
     ensures on_grid { IfOk result (λ p. IsOnGrid p.0.d p.0.depth (length names.now) p.1) }
     ensures depth { IfOk result (λ p. p.0.depth ≤ most_halvings) }
@@ -76,7 +73,7 @@ pub(crate) fn root_of(
 }
 
 /// The case of a model over a root, at precision 4.
-pub(crate) fn case_of<'m>(model: &'m Model, root: &'m Rect, grid: Grid) -> Result<Case<'m>, Untold>
+fn case_of<'m>(model: &'m Model, root: &'m Rect, grid: Grid) -> Result<Case<'m>, Untold>
     requires grid { IsOnGrid grid.d grid.depth (length model.now.names) root.now }
     requires depth { grid.depth ≤ most_halvings }
 {
@@ -84,6 +81,55 @@ pub(crate) fn case_of<'m>(model: &'m Model, root: &'m Rect, grid: Grid) -> Resul
         Ok(case) => Ok(case),
         Err(_) => Err(Untold::Cell),
     }
+}
+
+/// What is asked of a case.
+pub(crate) trait Asker {
+    /// What is told of the case.
+    fn ask(&self, alloc: Global, case: &Case) -> Result<String, Untold>;
+}
+
+/// What is told of the case of a model over a region, at a depth.
+fn ask_at<A: Asker>(
+    alloc: Global,
+    model: &Model,
+    region: &[u8],
+    depth: u32,
+    asker: &A,
+) -> Result<String, Untold>
+    requires { depth ≤ most_halvings }
+{
+    let (grid, root) = root_of(alloc, region, model.names(), depth)?;
+    let case = case_of(model, &root, grid)?;
+    asker.ask(alloc, &case)
+}
+
+/// The same, where the depth is one of those that may be asked for.
+pub(crate) fn ask_over<A: Asker>(
+    alloc: Global,
+    model: &Model,
+    region: &str,
+    depth: u32,
+    asker: &A,
+) -> Result<String, Untold> {
+    if depth > 20 {
+        return Err(Untold::Cell);
+    }
+    ask_at(alloc, model, region.as_bytes(), depth, asker)
+}
+
+/// The same of the model of that name.
+pub(crate) fn ask_named<A: Asker>(
+    alloc: Global,
+    name: &str,
+    region: &str,
+    depth: u32,
+    asker: &A,
+) -> Result<String, Untold> {
+    let model = model_of(alloc, text_of(name), b"heads")?;
+    let told = ask_over(alloc, &model, region, depth, asker);
+    drop(model);
+    told
 }
 
 /// The bound of a fraction from 0 to 1.

@@ -5,7 +5,7 @@ ghost use Rattle.lift_grid.specs.Rectangle.{spans_of, sides_of};
 ghost use Rattle.lift_model.specs.Links.{AreLinks};
 ghost use Rattle.corner_lift.specs.Table.{IsTable};
 
-use crate::cases::{case_of, model_of, root_of, text_of};
+use crate::cases::{Asker, ask_named};
 use crate::cells::{Teller, Untold, cut, each_row};
 use corner_lift::{Case, fill};
 use lift_dual::{greatest_all, least_one};
@@ -100,16 +100,27 @@ fn greatest_shown(
     format!(in alloc; "{numbers:?} {marks:?} e {e} k {k}")
 }
 
-/// Both on the root of a case.
-fn both_shown(alloc: Global, case: &Case) -> Result<String, AllocError> {
-    let links = Links::build(alloc, case.model())?;
-    let weights = table_of(alloc, case, &links)?;
-    let least = least_shown(alloc, case, &links, &weights)?;
-    let greatest = greatest_shown(alloc, case, &links, &weights)?;
+/// Both by the links of a case.
+fn both_by(alloc: Global, case: &Case, links: &Links) -> Result<String, AllocError>
+    requires { AreLinks case.now.model links.now }
+{
+    let weights = table_of(alloc, case, links)?;
+    let least = least_shown(alloc, case, links, &weights)?;
+    let greatest = greatest_shown(alloc, case, links, &weights)?;
     format!(in alloc; "{least}; {greatest}")
 }
 
+/// Both on the root of a case.
 struct Both;
+
+impl Asker for Both {
+    fn ask(&self, alloc: Global, case: &Case) -> Result<String, Untold> {
+        let links = Links::build(alloc, case.model())?;
+        let both = both_by(alloc, case, &links);
+        drop(links);
+        Ok(both?)
+    }
+}
 
 impl Teller for Both {
     type Told = String;
@@ -118,10 +129,7 @@ impl Teller for Both {
 
     fn tell(&self, alloc: Global, asked: &str) -> Result<String, Untold> {
         let (name, region) = cut(asked);
-        let model = model_of(alloc, text_of(name), b"heads")?;
-        let (grid, root) = root_of(alloc, region.as_bytes(), model.names(), 0)?;
-        let case = case_of(&model, &root, grid)?;
-        Ok(both_shown(alloc, &case)?)
+        ask_named(alloc, name, region, 0, self)
     }
 }
 

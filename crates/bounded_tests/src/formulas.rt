@@ -1,12 +1,12 @@
 //! Trees for a comparison with a bound, that are built.
 
-ghost use Rattle.std.specs.Prelude.{◌≤◌};
-ghost use Rattle.lift_grid.specs.Rectangle.{most_halvings};
+ghost use Rattle.lift_model.specs.Links.{AreLinks};
 
-use crate::cases::{bound_of, case_of, model_of, root_of, text_of};
+use crate::cases::{Asker, ask_named, bound_of};
 use crate::cells::{Teller, Untold, count, cut_three, each_row};
 use corner_lift::Case;
-use lift_model::{Links, Model};
+use lift_cert::Bound;
+use lift_model::Links;
 use property_text::Op;
 use property_tree::{DualBranch, build};
 use std::alloc::{AllocError, Global};
@@ -83,27 +83,36 @@ fn op_of(cell: &str) -> Op {
     }
 }
 
-/// The tree of a case for a comparison with 1/2.
-fn tree_told(alloc: Global, case: &Case, op: Op) -> Result<String, Untold> {
-    let bound = bound_of("1/2")?;
-    let links = Links::build(alloc, case.model())?;
-    let tree = build(alloc, case, &links, op, bound)?;
-    Ok(shown(alloc, tree.top())?)
+/// The tree of a case for a comparison with a bound, by its links.
+fn tree_by(
+    alloc: Global,
+    case: &Case,
+    links: &Links,
+    op: Op,
+    bound: Bound,
+) -> Result<String, AllocError>
+    requires { AreLinks case.now.model links.now }
+{
+    let tree = build(alloc, case, links, op, bound)?;
+    let told = shown(alloc, tree.top());
+    drop(tree);
+    told
 }
 
-/// The same of a model over a region, at a depth.
-fn told_over(
-    alloc: Global,
-    model: &Model,
-    region: &[u8],
-    depth: u32,
+/// A comparison with 1/2.
+#[derive(Clone, Copy)]
+struct Comparison {
     op: Op,
-) -> Result<String, Untold>
-    requires { depth ≤ most_halvings }
-{
-    let (grid, root) = root_of(alloc, region, model.names(), depth)?;
-    let case = case_of(model, &root, grid)?;
-    tree_told(alloc, &case, op)
+}
+
+impl Asker for Comparison {
+    fn ask(&self, alloc: Global, case: &Case) -> Result<String, Untold> {
+        let bound = bound_of("1/2")?;
+        let links = Links::build(alloc, case.model())?;
+        let told = tree_by(alloc, case, &links, self.op, bound);
+        drop(links);
+        Ok(told?)
+    }
 }
 
 struct Formulas;
@@ -115,12 +124,8 @@ impl Teller for Formulas {
 
     fn tell(&self, alloc: Global, asked: &str) -> Result<String, Untold> {
         let (name, region, depth, op) = cut_three(asked);
-        let depth = count(depth);
-        if depth > 20 {
-            return Err(Untold::Cell);
-        }
-        let model = model_of(alloc, text_of(name), b"heads")?;
-        told_over(alloc, &model, region.as_bytes(), depth, op_of(op))
+        let comparison = Comparison { op: op_of(op) };
+        ask_named(alloc, name, region, count(depth), &comparison)
     }
 }
 

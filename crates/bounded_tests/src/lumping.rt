@@ -80,9 +80,21 @@ fn blocks_told(alloc: Global, model: &Model) -> Result<String, AllocError>
     requires { GoalsHaveEntries model.now }
 {
     match lump(alloc, model) {
-        Ok(lumped) => blocks_shown(alloc, &lumped, model.states()),
+        Ok(lumped) => {
+            let blocks = blocks_shown(alloc, &lumped, model.states());
+            drop(lumped);
+            blocks
+        }
         Err(cause) => format!(in alloc; "{cause:?}"),
     }
+}
+
+/// The same of any chain whose goal states have entries.
+fn told_of(alloc: Global, model: &Model) -> Result<String, Untold> {
+    if !goals_have_entries(model) {
+        return Err(Untold::Cell);
+    }
+    Ok(blocks_told(alloc, model)?)
 }
 
 struct Blocks;
@@ -94,10 +106,9 @@ impl Teller for Blocks {
 
     fn tell(&self, alloc: Global, asked: &str) -> Result<String, Untold> {
         let model = model_of(alloc, text_of(asked), b"goal")?;
-        if !goals_have_entries(&model) {
-            return Err(Untold::Cell);
-        }
-        Ok(blocks_told(alloc, &model)?)
+        let told = told_of(alloc, &model);
+        drop(model);
+        told
     }
 }
 

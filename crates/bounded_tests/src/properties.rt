@@ -1,174 +1,86 @@
 //! Formulas, read or refused, and models that are cut for them.
 
-use crate::cases::{model_of, text_of};
+use crate::cases::{COIN, model_of};
+use crate::cells::{Teller, Untold, count, cut_three, each_row};
 use lift_model::{Model, Row};
-use property_text::{FormulaError, Op, read_formula, restrict};
-use std::alloc::Global;
-use std::test::Fail;
+use property_text::{Formula, read_formula, restrict};
+use std::alloc::{AllocError, Global};
+use std::string::String;
+
+/// The comparison, the bound, the label of the safe states, `-` where there is none, and that of the goal states.
+fn formula_shown(alloc: Global, formula: &Formula) -> Result<String, AllocError> {
+    let safe = String::from_utf8_lossy(alloc, formula.safe().unwrap_or(b"-"))?;
+    let goal = String::from_utf8_lossy(alloc, formula.goal())?;
+    let (op, bound) = (formula.op(), formula.bound());
+    format!(in alloc; "{op:?} {}/{}, {safe}, {goal}", bound.num, bound.den)
+}
+
+struct Formulas;
+
+impl Teller for Formulas {
+    type Told = String;
+
+    type Error = AllocError;
+
+    fn tell(&self, alloc: Global, asked: &str) -> Result<String, AllocError> {
+        match read_formula(alloc, asked.as_bytes()) {
+            Ok(formula) => {
+                let shown = formula_shown(alloc, &formula);
+                drop(formula);
+                shown
+            }
+            Err(cause) => format!(in alloc; "{cause:?}"),
+        }
+    }
+}
+
+/// A text, and the formula that it is.
+const READ: &str = "\
+P>=1/2 [ F \"heads\" ] | AtLeast 1/2, -, heads
+P<=1/2[F\"heads\"] | AtMost 1/2, -, heads
+P\t> 1e-1\t[\tF\t\"a b\"\t] | Above 1/10, -, a b
+P < 0.25 [ \"up\" U \"done\" ] | Below 1/4, up, done
+P<1 [ \"F\"U\"U\" ] | Below 1/1, F, U
+P<=0/3 [ F \"]\" ] | AtMost 0/1, -, ]
+P>1/4294967295 [ F \"a\" ] | Above 1/4294967295, -, a";
+
+#[test]
+fn formulas_are_read(rt: HostRuntime) {
+    each_row(&rt, rt.alloc(), READ, &Formulas);
+}
+
+/// A text, and why it is no formula: what is wrong as a whole, in the comparison or its bound, and in the path; and bounds
+/// out of range.
+const REFUSED: &str = "\
+P<=1/2 F \"heads\" | Syntax
+ | Syntax
+ P<=1/2 [ F \"a\" ] | Syntax
+P<=1/2 [ F \"a\" ]  | Syntax
+P<=1/2 [ F \"a\" ]] | Syntax
+P< =1/2 [ F \"a\" ] | Syntax
+P=1/2 [ F \"a\" ] | Syntax
+P<=1 /2 [ F \"a\" ] | Syntax
+P<=-1/2 [ F \"a\" ] | Syntax
+P<=1/2/2 [ F \"a\" ] | Syntax
+P<= [ F \"a\" ] | Syntax
+P<=1/2 [ F \"\" ] | Syntax
+P<=1/2 [ F a ] | Syntax
+P<=1/2 [ F \"a\tb\" ] | Syntax
+P<=1/2 [ \"a\" F \"b\" ] | Syntax
+P<=1/0 [ \"a\" U ] | Syntax
+P<=1/0 [ F \"a\" ] | Bound
+P<=3/2 [ F \"a\" ] | Bound
+P>1/4294967296 [ F \"a\" ] | Bound
+P>=1e99/1e99 [ F \"a\" ] | Bound";
+
+#[test]
+fn what_is_no_formula_is_refused(rt: HostRuntime) {
+    each_row(&rt, rt.alloc(), REFUSED, &Formulas);
+}
 
 /// A choice between a row without entries and one with two.
 const CHOICE: &[u8] = b"@type: MDP\n@parameters\np\n@model\nstate 0 init\naction none\n\
 action toss\n1 : p\n2 : 1-p\nstate 1 heads\n1 : 1\nstate 2\n2 : 1\n";
-
-/// Whether a text is read as a formula with this comparison, bound and labels.
-fn says(
-    alloc: Global,
-    text: &[u8],
-    op: Op,
-    bound: (u32, u32),
-    labels: (Option<&[u8]>, &[u8]),
-) -> bool {
-    match read_formula(alloc, text) {
-        Ok(formula) => {
-            formula.op() == op
-                && (formula.bound().num, formula.bound().den) == bound
-                && formula.safe() == labels.0
-                && formula.goal() == labels.1
-        }
-        Err(_) => false,
-    }
-}
-
-/// Why a text isn't read.
-fn refusal(alloc: Global, text: &[u8]) -> Option<FormulaError> {
-    read_formula(alloc, text).err()
-}
-
-/// Whether all these texts are refused for that reason.
-fn are_refused(alloc: Global, texts: &[&[u8]], error: FormulaError) -> bool {
-    for text in texts {
-        if refusal(alloc, text) != Some(error) {
-            return false;
-        }
-    }
-    true
-}
-
-#[test]
-fn formulas_are_read(rt: HostRuntime) -> Result<(), Fail> {
-    let alloc = rt.alloc();
-    assert!(rt;
-        says(
-            alloc,
-            b"P>=1/2 [ F \"heads\" ]",
-            Op::AtLeast,
-            (1, 2),
-            (None, b"heads")
-        )
-    );
-    assert!(rt;
-        says(
-            alloc,
-            b"P<=1/2[F\"heads\"]",
-            Op::AtMost,
-            (1, 2),
-            (None, b"heads")
-        )
-    );
-    assert!(rt;
-        says(
-            alloc,
-            b"P\t> 1e-1\t[\tF\t\"a b\"\t]",
-            Op::Above,
-            (1, 10),
-            (None, b"a b")
-        )
-    );
-    assert!(rt;
-        says(
-            alloc,
-            b"P < 0.25 [ \"up\" U \"done\" ]",
-            Op::Below,
-            (1, 4),
-            (Some(b"up"), b"done")
-        )
-    );
-    assert!(rt;
-        says(
-            alloc,
-            b"P<1 [ \"F\"U\"U\" ]",
-            Op::Below,
-            (1, 1),
-            (Some(b"F"), b"U")
-        )
-    );
-    assert!(rt;
-        says(
-            alloc,
-            b"P<=0/3 [ F \"]\" ]",
-            Op::AtMost,
-            (0, 1),
-            (None, b"]")
-        )
-    );
-    assert!(rt;
-        says(
-            alloc,
-            b"P>1/4294967295 [ F \"a\" ]",
-            Op::Above,
-            (1, 4294967295),
-            (None, b"a")
-        )
-    );
-    Ok(())
-}
-
-#[test]
-fn what_is_no_formula_is_refused(rt: HostRuntime) -> Result<(), Fail> {
-    let alloc = rt.alloc();
-    let whole: [&[u8]; 5] = [
-        b"",
-        b"P<=1/2 F \"heads\"",
-        b" P<=1/2 [ F \"a\" ]",
-        b"P<=1/2 [ F \"a\" ] ",
-        b"P<=1/2 [ F \"a\" ]]",
-    ];
-    assert!(rt; are_refused(alloc, &whole, FormulaError::Syntax));
-    let bounds: [&[u8]; 6] = [
-        b"P< =1/2 [ F \"a\" ]",
-        b"P=1/2 [ F \"a\" ]",
-        b"P<=1 /2 [ F \"a\" ]",
-        b"P<=-1/2 [ F \"a\" ]",
-        b"P<=1/2/2 [ F \"a\" ]",
-        b"P<= [ F \"a\" ]",
-    ];
-    assert!(rt; are_refused(alloc, &bounds, FormulaError::Syntax));
-    let paths: [&[u8]; 5] = [
-        b"P<=1/2 [ F \"\" ]",
-        b"P<=1/2 [ F a ]",
-        b"P<=1/2 [ F \"a\tb\" ]",
-        b"P<=1/2 [ \"a\" F \"b\" ]",
-        b"P<=1/0 [ \"a\" U ]",
-    ];
-    assert!(rt; are_refused(alloc, &paths, FormulaError::Syntax));
-    Ok(())
-}
-
-#[test]
-fn bounds_out_of_range_are_refused(rt: HostRuntime) -> Result<(), Fail> {
-    let texts: [&[u8]; 4] = [
-        b"P<=1/0 [ F \"a\" ]",
-        b"P<=3/2 [ F \"a\" ]",
-        b"P>1/4294967296 [ F \"a\" ]",
-        b"P>=1e99/1e99 [ F \"a\" ]",
-    ];
-    assert!(rt; are_refused(rt.alloc(), &texts, FormulaError::Bound));
-    Ok(())
-}
-
-/// The model of a text after the cut that leaves these states.
-fn cut_of(alloc: Global, text: &[u8], safe: &[bool]) -> Result<Model, Fail> {
-    let Ok(model) = model_of(alloc, text, b"heads") else {
-        return Err(Fail::new("the text stands for no model"));
-    };
-    if safe.len() != model.states() as usize {
-        return Err(Fail::new("there are more states or fewer"));
-    }
-    match restrict(alloc, &model, safe) {
-        Ok(cut) => Ok(cut),
-        Err(_) => Err(Fail::new("there is no memory")),
-    }
-}
 
 /// Whether a row is one entry to that state with probability 1.
 fn stays(row: &Row, state: u32, common: i64) -> bool {
@@ -182,40 +94,91 @@ fn stays(row: &Row, state: u32, common: i64) -> bool {
     }
 }
 
-/// How many entries the row of a state's choice has after the cut, and whether it stays in the state.
-fn row_of(
+/// How many entries the row of a state's choice has, and whether it stays in the state.
+fn row_shown(alloc: Global, model: &Model, state: u32, choice: u32) -> Result<String, Untold> {
+    if state >= model.states() || choice >= model.choices(state) {
+        return Err(Untold::Cell);
+    }
+    let row = model.row(state, choice);
+    let (count, stays) = (row.entries().len(), stays(row, state, model.common()));
+    Ok(format!(in alloc; "{count} {stays}")?)
+}
+
+/// Which states a cell says are safe, by a 1 for each.
+fn safe_of(alloc: Global, cell: &str) -> Result<Vec<bool>, AllocError> {
+    let mut safe = Vec::new(alloc);
+    for byte in cell.as_bytes() {
+        safe.push(*byte == b'1')?;
+    }
+    Ok(safe)
+}
+
+/// The row of that state and choice of a model after the cut that leaves the safe states.
+fn cut_row(
+    alloc: Global,
+    model: &Model,
+    safe: &[bool],
+    state: u32,
+    choice: u32,
+) -> Result<String, Untold> {
+    if safe.len() != model.states() as usize {
+        return Err(Untold::Cell);
+    }
+    let cut = restrict(alloc, model, safe)?;
+    let shown = row_shown(alloc, &cut, state, choice);
+    drop(cut);
+    shown
+}
+
+/// The same of the model of a text.
+fn cut_told(
     alloc: Global,
     text: &[u8],
     safe: &[bool],
     state: u32,
     choice: u32,
-) -> Result<(usize, bool), Fail> {
-    let cut = cut_of(alloc, text, safe)?;
-    if state >= cut.states() || choice >= cut.choices(state) {
-        return Err(Fail::new("there is no such choice"));
+) -> Result<String, Untold> {
+    let model = model_of(alloc, text, b"heads")?;
+    let shown = cut_row(alloc, &model, safe, state, choice);
+    drop(model);
+    shown
+}
+
+struct Cuts;
+
+impl Teller for Cuts {
+    type Told = String;
+
+    type Error = Untold;
+
+    fn tell(&self, alloc: Global, asked: &str) -> Result<String, Untold> {
+        let (name, safe, state, choice) = cut_three(asked);
+        let text = if name == "COIN" { COIN } else { CHOICE };
+        let safe = safe_of(alloc, safe)?;
+        cut_told(alloc, text, &safe, count(state), count(choice))
     }
-    let row = cut.row(state, choice);
-    Ok((row.entries().len(), stays(row, state, cut.common())))
 }
 
-#[test]
-fn a_state_that_is_not_safe_is_cut(rt: HostRuntime) -> Result<(), Fail> {
-    let alloc = rt.alloc();
-    let coin = text_of("COIN");
-    let safe = [false, true, false];
-    assert!(rt; row_of(alloc, coin, &safe, 0, 0)? == (1, true));
-    assert!(rt; row_of(alloc, coin, &safe, 1, 0)? == (1, true));
-    assert!(rt; row_of(alloc, coin, &safe, 2, 0)? == (1, true));
-    assert!(rt; row_of(alloc, coin, &[true, false, false], 0, 0)? == (2, false));
-    Ok(())
-}
+/// A model, which of its states are safe, a state and a choice, and how many entries its row has after the cut, and whether
+/// it stays in the state.
+const CUT: &str = "\
+COIN | 010 | 0 | 0 | 1 true
+COIN | 010 | 1 | 0 | 1 true
+COIN | 010 | 2 | 0 | 1 true
+COIN | 100 | 0 | 0 | 2 false";
 
 #[test]
-fn each_choice_is_cut_that_has_an_entry(rt: HostRuntime) -> Result<(), Fail> {
-    let alloc = rt.alloc();
-    let safe = [false, false, true];
-    assert!(rt; row_of(alloc, CHOICE, &safe, 0, 0)? == (0, false));
-    assert!(rt; row_of(alloc, CHOICE, &safe, 0, 1)? == (1, true));
-    assert!(rt; row_of(alloc, CHOICE, &[true, true, true], 0, 1)? == (2, false));
-    Ok(())
+fn a_state_that_is_not_safe_is_cut(rt: HostRuntime) {
+    each_row(&rt, rt.alloc(), CUT, &Cuts);
+}
+
+/// The same of a model with a row without entries.
+const CHOICES_CUT: &str = "\
+CHOICE | 001 | 0 | 0 | 0 false
+CHOICE | 001 | 0 | 1 | 1 true
+CHOICE | 111 | 0 | 1 | 2 false";
+
+#[test]
+fn each_choice_is_cut_that_has_an_entry(rt: HostRuntime) {
+    each_row(&rt, rt.alloc(), CHOICES_CUT, &Cuts);
 }

@@ -1,16 +1,16 @@
 //! Trees that are written.
 
 ghost use Rattle.std.specs.Prelude.{◌≤◌};
-ghost use Rattle.lift_grid.specs.Rectangle.{most_halvings};
+ghost use Rattle.lift_model.specs.Links.{AreLinks};
 ghost use Rattle.lift_bounded.specs.Rooms.{most_steps};
 
-use crate::cases::{bound_of, case_of, model_of, root_of, text_of};
+use crate::cases::{Asker, ask_named, bound_of};
 use crate::cells::{Teller, Untold, count, cut, cut_three, each_row};
 use corner_lift::Case;
 use lift_base::MemSink;
 use lift_bounded::{BoundedRoom, write_tree};
 use lift_cert::Bound;
-use lift_model::{Links, Model};
+use lift_model::Links;
 use std::alloc::{AllocError, Global};
 use std::string::String;
 
@@ -42,60 +42,100 @@ fn lines_shown(alloc: Global, bytes: &[u8]) -> Result<String, AllocError> {
     String::from_utf8_lossy(alloc, &text)
 }
 
-/// Whether a case's tree for a bound and so many steps is written whole.
-fn is_written(
-    alloc: Global,
-    case: &Case,
+/// A bound, and a number of steps.
+#[derive(Clone, Copy)]
+struct Asked {
     bound: Bound,
     steps: u32,
+}
+
+/// Whether a case's tree for what is asked is written whole, by its links.
+fn is_written_by(
+    alloc: Global,
+    case: &Case,
+    links: &Links,
+    asked: Asked,
     out: &mut MemSink,
 ) -> Result<bool, AllocError>
-    requires { (1 ≤ steps) × (steps ≤ most_steps) }
+    requires links { AreLinks case.now.model links.now }
+    requires steps { (1 ≤ asked.steps) × (asked.steps ≤ most_steps) }
 {
-    let links = Links::build(alloc, case.model())?;
-    let mut room = BoundedRoom::make(alloc, case, &links, steps)?;
-    let is_whole = write_tree(case, &links, bound, &mut room, out).is_ok();
-    let is_as_made = room.steps() == steps;
+    let mut room = BoundedRoom::make(alloc, case, links, asked.steps)?;
+    let is_whole = write_tree(case, links, asked.bound, &mut room, out).is_ok();
+    let is_as_made = room.steps() == asked.steps;
     drop(room);
     Ok(is_whole && is_as_made)
 }
 
-/// The text of a tree; where the sink fails at its last byte, that has to be an error.
-fn tree_told(alloc: Global, case: &Case, bound: Bound, steps: u32) -> Result<String, Untold>
-    requires { (1 ≤ steps) × (steps ≤ most_steps) }
-{
-    let mut whole = sink(alloc, 0)?;
-    let is_whole = is_written(alloc, case, bound, steps, &mut whole)?;
-    let mut broken = sink(alloc, whole.taken().len() as u64)?;
-    if !is_whole || is_written(alloc, case, bound, steps, &mut broken)? {
-        return Err(Untold::Cell);
-    }
-    Ok(lines_shown(alloc, whole.taken())?)
-}
-
-/// The same by the cells of a bound and of steps.
-fn case_told(alloc: Global, case: &Case, cells: &str) -> Result<String, Untold> {
-    let (bound, steps) = cut(cells);
-    let (bound, steps) = (bound_of(bound)?, count(steps));
-    if steps < 1 || steps > 64 {
-        return Err(Untold::Cell);
-    }
-    tree_told(alloc, case, bound, steps)
-}
-
-/// The same of a model over a region, at a depth.
-fn told_over(
+/// The same by links that are built.
+fn is_written(
     alloc: Global,
-    model: &Model,
-    region: &[u8],
-    depth: u32,
-    cells: &str,
-) -> Result<String, Untold>
-    requires { depth ≤ most_halvings }
+    case: &Case,
+    asked: Asked,
+    out: &mut MemSink,
+) -> Result<bool, AllocError>
+    requires { (1 ≤ asked.steps) × (asked.steps ≤ most_steps) }
 {
-    let (grid, root) = root_of(alloc, region, model.names(), depth)?;
-    let case = case_of(model, &root, grid)?;
-    case_told(alloc, &case, cells)
+    let links = Links::build(alloc, case.model())?;
+    let is_written = is_written_by(alloc, case, &links, asked, out);
+    drop(links);
+    is_written
+}
+
+/// The same into a sink whose call of that number fails.
+fn is_written_till(
+    alloc: Global,
+    case: &Case,
+    asked: Asked,
+    failing: u64,
+) -> Result<bool, AllocError>
+    requires { (1 ≤ asked.steps) × (asked.steps ≤ most_steps) }
+{
+    let mut out = sink(alloc, failing)?;
+    let is_written = is_written(alloc, case, asked, &mut out);
+    drop(out);
+    is_written
+}
+
+/// The text of a tree, by a sink that takes it; where a sink fails at its last byte, that has to be an error.
+fn tree_taken(alloc: Global, case: &Case, asked: Asked, out: &mut MemSink) -> Result<String, Untold>
+    requires { (1 ≤ asked.steps) × (asked.steps ≤ most_steps) }
+{
+    if !is_written(alloc, case, asked, out)? {
+        return Err(Untold::Cell);
+    }
+    let text = out.taken();
+    if is_written_till(alloc, case, asked, text.len() as u64)? {
+        return Err(Untold::Cell);
+    }
+    Ok(lines_shown(alloc, text)?)
+}
+
+/// The text of a tree.
+fn tree_told(alloc: Global, case: &Case, asked: Asked) -> Result<String, Untold>
+    requires { (1 ≤ asked.steps) × (asked.steps ≤ most_steps) }
+{
+    let mut out = sink(alloc, 0)?;
+    let told = tree_taken(alloc, case, asked, &mut out);
+    drop(out);
+    told
+}
+
+/// The cells of a bound and of steps.
+#[derive(Clone, Copy)]
+struct Within<'a> {
+    cells: &'a str,
+}
+
+impl Asker for Within<'_> {
+    fn ask(&self, alloc: Global, case: &Case) -> Result<String, Untold> {
+        let (bound, steps) = cut(self.cells);
+        let (bound, steps) = (bound_of(bound)?, count(steps));
+        if steps < 1 || steps > 64 {
+            return Err(Untold::Cell);
+        }
+        tree_told(alloc, case, Asked { bound, steps })
+    }
 }
 
 struct Trees;
@@ -106,13 +146,8 @@ impl Teller for Trees {
     type Error = Untold;
 
     fn tell(&self, alloc: Global, asked: &str) -> Result<String, Untold> {
-        let (name, region, depth, rest) = cut_three(asked);
-        let depth = count(depth);
-        if depth > 20 {
-            return Err(Untold::Cell);
-        }
-        let model = model_of(alloc, text_of(name), b"heads")?;
-        told_over(alloc, &model, region.as_bytes(), depth, rest)
+        let (name, region, depth, cells) = cut_three(asked);
+        ask_named(alloc, name, region, count(depth), &Within { cells })
     }
 }
 

@@ -68,6 +68,11 @@ pub(crate) fn cut_three(row: &str) -> (&str, &str, &str, &str) {
     (first, second, third, rest)
 }
 
+/// The first word of a cell, and those behind it; nothing where it has no other.
+pub(crate) fn first_word(cell: &str) -> (&str, &str) {
+    cell.split_once(' ').unwrap_or((cell, ""))
+}
+
 /// The number of a cell; 99 where it writes none.
 pub(crate) fn number(cell: &str) -> u64 {
     cell.parse::<u64>().unwrap_or(99)

@@ -79,6 +79,47 @@ pub(crate) fn case_of<'m>(
     }
 }
 
+/// What is asked of a case.
+pub(crate) trait Asker {
+    type Told;
+
+    /// What is told of the case.
+    fn ask(&self, alloc: Global, case: &Case) -> Result<Self::Told, Untold>;
+}
+
+/// What is told of the case of a model over a region, at that precision.
+pub(crate) fn ask_over<A: Asker>(
+    alloc: Global,
+    model: &Model,
+    region: &[u8],
+    w: u32,
+    asker: &A,
+) -> Result<A::Told, Untold>
+    requires low { 1 ≤ w }
+    requires high { w ≤ most_precision }
+{
+    let (grid, root) = root_of(alloc, region, model.names(), 0)?;
+    let case = case_of(model, &root, grid, w)?;
+    asker.ask(alloc, &case)
+}
+
+/// The same of the model of a text.
+pub(crate) fn ask_text<A: Asker>(
+    alloc: Global,
+    lines: &str,
+    region: &[u8],
+    w: u32,
+    asker: &A,
+) -> Result<A::Told, Untold>
+    requires low { 1 ≤ w }
+    requires high { w ≤ most_precision }
+{
+    let model = model_of(alloc, lines)?;
+    let told = ask_over(alloc, &model, region, w, asker);
+    drop(model);
+    told
+}
+
 /// The text of a process with parameters, of the choices of its initial state 0 and those of a state 3, if there is one. State 1
 /// is the goal, and state 2 is never left.
 pub(crate) fn process_of(

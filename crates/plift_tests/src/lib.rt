@@ -7,6 +7,8 @@ mod cells;
 #[cfg(test)]
 mod checked;
 #[cfg(test)]
+mod costs;
+#[cfg(test)]
 mod decided;
 #[cfg(test)]
 mod each_fault;

@@ -1,18 +1,18 @@
 //! Trees that are gone on from.
 
 ghost use Rattle.std.specs.Prelude.{◌≡◌, [], ◌∷◌, ◌++◌, ◌≤◌, None, IfOk, length, map};
-ghost use Rattle.lift_grid.specs.Rectangle.{most_halvings};
 ghost use Rattle.lift_model.specs.Links.{AreLinks};
 ghost use Rattle.lift_range.specs.Range.{Between};
 ghost use Rattle.region_tree.specs.Built.{tree_of};
+ghost use Rattle.region_tree.specs.Rooms.{IsMadeFor};
 ghost use Rattle.tree_tests.specs.Cut.{AreGivenOfCut, cut, given_of, givens, letter_of};
 
-use crate::cases::{COIN, bound_of, case_of, model_of, root_of};
+use crate::cases::{Asker, ask_coin, bound_of};
 use crate::cells::{self, Teller, Untold, count, cut_two, each_row};
 use crate::trees::{tell_marks, tell_numbers};
 use corner_lift::Case;
 use lift_cert::Bound;
-use lift_model::{Links, Model};
+use lift_model::Links;
 use region_tree::{Base, Branch, Copier, Given, Room, Seen, Visitor, build, refine};
 use std::alloc::{AllocError, Global};
 use std::fmt::Write;
@@ -191,6 +191,15 @@ struct Question<'q, 'm> {
     depth: u32,
 }
 
+/// The nodes of a tree that is cut at a depth.
+fn nodes_below(alloc: Global, branch: &Branch, depth: u32) -> Result<Vec<Given>, AllocError>
+    ensures { IfOk result (λ nodes. nodes.items ≡ givens (cut (tree_of branch.now) depth)) }
+{
+    let mut nodes = Vec::new(alloc);
+    push_nodes(&mut nodes, branch, depth)?;
+    Ok(nodes)
+}
+
 /// The nodes of the tree that is cut.
 fn nodes_of(alloc: Global, question: &Question) -> Result<Vec<Given>, AllocError>
     requires links { AreLinks question.now.case.now.model question.now.links.now }
@@ -200,20 +209,34 @@ fn nodes_of(alloc: Global, question: &Question) -> Result<Vec<Given>, AllocError
 {
     let (case, links) = (question.case, question.links);
     let tree = build(alloc, case, links, question.bound, question.from)?;
-    let mut nodes = Vec::new(alloc);
-    push_nodes(&mut nodes, tree.top(), question.depth)?;
-    Ok(nodes)
+    let nodes = nodes_below(alloc, tree.top(), question.depth);
+    drop(tree);
+    nodes
 }
 
-/// The tree that goes on from these nodes, with a bar behind it.
-fn refined_told(alloc: Global, question: &Question, nodes: &[Given]) -> Result<String, Untold>
+/// A tree that was told, with a bar behind it, if there was memory for all.
+fn with_bar(mut told: String, is_whole: bool) -> Result<String, Untold> {
+    if !is_whole {
+        return Err(Untold::NoMemory);
+    }
+    told.push('|')?;
+    Ok(told)
+}
+
+/// The tree that goes on from these nodes, by a room that was made for the case.
+fn refined_in(
+    alloc: Global,
+    question: &Question,
+    nodes: &[Given],
+    room: &mut Room,
+) -> Result<String, Untold>
     requires links { AreLinks question.now.case.now.model question.now.links.now }
     requires from { Between 1 question.now.case.now.w question.now.from }
     requires nodes { AreGivenOfCut question.now.case.now question.now.from question.now.bound
         question.now.depth nodes.now }
+    requires made { IsMadeFor question.now.case.now question.now.links.now room.old }
 {
     let (case, links) = (question.case, question.links);
-    let mut room = Room::make(alloc, case, links)?;
     let mut base = Nodes {
         rest: nodes,
         last: Given::Unknown,
@@ -228,15 +251,23 @@ fn refined_told(alloc: Global, question: &Question, nodes: &[Given]) -> Result<S
         links,
         question.bound,
         question.from,
-        &mut room,
+        room,
         &mut base,
         &mut shown,
     );
-    if !shown.is_whole {
-        return Err(Untold::NoMemory);
-    }
-    shown.told.push('|')?;
-    Ok(shown.told)
+    with_bar(shown.told, shown.is_whole)
+}
+
+/// The tree that goes on from the one which is cut.
+fn question_told(alloc: Global, question: &Question) -> Result<String, Untold>
+    requires links { AreLinks question.now.case.now.model question.now.links.now }
+    requires from { Between 1 question.now.case.now.w question.now.from }
+{
+    let nodes = nodes_of(alloc, question)?;
+    let mut room = Room::make(alloc, question.case, question.links)?;
+    let told = refined_in(alloc, question, &nodes, &mut room);
+    drop(room);
+    told
 }
 
 /// What a row asks beside p's interval and the case's depth: the least precision, and the depth at which the tree is cut.
@@ -246,37 +277,25 @@ struct Asked {
     depth: u32,
 }
 
-/// The tree of a case that goes on from the one which is cut, for the bound 1/2.
-fn case_told(alloc: Global, case: &Case, asked: Asked) -> Result<String, Untold> {
-    if asked.from < 1 || asked.from > case.w() {
-        return Err(Untold::Cell);
+impl Asker for Asked {
+    /// The tree of a case that goes on from the one which is cut, for the bound 1/2.
+    fn ask(&self, alloc: Global, case: &Case) -> Result<String, Untold> {
+        if self.from < 1 || self.from > case.w() {
+            return Err(Untold::Cell);
+        }
+        let bound = bound_of("1/2")?;
+        let links = Links::build(alloc, case.model())?;
+        let question = Question {
+            case: &*case,
+            links: &links,
+            bound,
+            from: self.from,
+            depth: self.depth,
+        };
+        let told = question_told(alloc, &question);
+        drop(links);
+        told
     }
-    let bound = bound_of("1/2")?;
-    let links = Links::build(alloc, case.model())?;
-    let question = Question {
-        case: &*case,
-        links: &links,
-        bound,
-        from: asked.from,
-        depth: asked.depth,
-    };
-    let nodes = nodes_of(alloc, &question)?;
-    refined_told(alloc, &question, nodes.as_slice())
-}
-
-/// The same of a model over a region, at a depth.
-fn told_over(
-    alloc: Global,
-    model: &Model,
-    region: &[u8],
-    depth: u32,
-    asked: Asked,
-) -> Result<String, Untold>
-    requires { depth ≤ most_halvings }
-{
-    let (grid, root) = root_of(alloc, region, model.names(), depth)?;
-    let case = case_of(model, &root, grid)?;
-    case_told(alloc, &case, asked)
 }
 
 struct Refined;
@@ -289,16 +308,11 @@ impl Teller for Refined {
     fn tell(&self, alloc: Global, asked: &str) -> Result<String, Untold> {
         let (region, depth, rest) = cut_two(asked);
         let (from, cut) = cells::cut(rest);
-        let depth = count(depth);
-        if depth > 20 {
-            return Err(Untold::Cell);
-        }
         let asked = Asked {
             from: count(from),
             depth: count(cut),
         };
-        let model = model_of(alloc, COIN)?;
-        told_over(alloc, &model, region.as_bytes(), depth, asked)
+        ask_coin(alloc, region, count(depth), &asked)
     }
 }
 

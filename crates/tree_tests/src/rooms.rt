@@ -3,12 +3,12 @@
 ghost use Rattle.lift_model.specs.Links.{AreLinks};
 ghost use Rattle.region_tree.specs.Rooms.{IsMadeFor};
 
-use crate::cases::{COIN, bound_of, case_of, model_of, root_of};
+use crate::cases::{Asker, ask_coin, bound_of};
 use crate::cells::{Teller, Untold, cut, each_row, number};
 use corner_lift::Case;
 use lift_base::MemSink;
 use lift_cert::Bound;
-use lift_model::{Links, Model};
+use lift_model::Links;
 use plift_top::write_report;
 use region_tree::Room;
 use std::alloc::{AllocError, Global};
@@ -48,6 +48,7 @@ fn are_written(
     let is_first = is_written(case, &links, bounds[0], &mut room, first);
     let is_second = is_written(case, &links, bounds[1], &mut room, second);
     drop(room);
+    drop(links);
     Ok((is_first, is_second))
 }
 
@@ -86,17 +87,17 @@ fn case_told(
     written_told(alloc, case, bounds, &mut first, &mut second)
 }
 
-/// The same of a model over a region, at depth 2.
-fn told_over(
-    alloc: Global,
-    model: &Model,
-    region: &[u8],
+/// The bounds of two reports, and which call of the first one's sink fails.
+#[derive(Clone, Copy)]
+struct Reports {
     bounds: [Bound; 2],
     failing: u64,
-) -> Result<String, Untold> {
-    let (grid, root) = root_of(alloc, region, model.names(), 2)?;
-    let case = case_of(model, &root, grid)?;
-    case_told(alloc, &case, bounds, failing)
+}
+
+impl Asker for Reports {
+    fn ask(&self, alloc: Global, case: &Case) -> Result<String, Untold> {
+        case_told(alloc, case, self.bounds, self.failing)
+    }
 }
 
 /// The bound of a first report and which call of its sink fails, none where it is 0; and in turn of the first report and of
@@ -116,8 +117,11 @@ impl Teller for Rooms {
     fn tell(&self, alloc: Global, asked: &str) -> Result<String, Untold> {
         let (bound, failing) = cut(asked);
         let bounds = [bound_of(bound)?, bound_of("1/2")?];
-        let model = model_of(alloc, COIN)?;
-        told_over(alloc, &model, b"1/10<=p<=9/10", bounds, number(failing))
+        let reports = Reports {
+            bounds,
+            failing: number(failing),
+        };
+        ask_coin(alloc, "1/10<=p<=9/10", 2, &reports)
     }
 }
 

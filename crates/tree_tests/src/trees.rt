@@ -1,14 +1,13 @@
 //! Trees that are built.
 
 ghost use Rattle.std.specs.Prelude.{◌≤◌};
-ghost use Rattle.lift_grid.specs.Rectangle.{most_halvings};
 ghost use Rattle.lift_model.specs.Links.{AreLinks};
 
-use crate::cases::{COIN, bound_of, case_of, model_of, root_of};
+use crate::cases::{Asker, ask_coin, bound_of};
 use crate::cells::{Teller, Untold, count, cut_two, each_row};
 use corner_lift::Case;
 use lift_cert::Bound;
-use lift_model::{Links, Model};
+use lift_model::Links;
 use region_tree::{Branch, build};
 use std::alloc::{AllocError, Global};
 use std::fmt::Write;
@@ -87,37 +86,34 @@ fn tree_told(
     links: &Links,
     bound: Bound,
     from: u32,
-) -> Result<String, Untold>
+) -> Result<String, AllocError>
     requires links { AreLinks case.now.model links.now }
     requires from { (1 ≤ from) × (from ≤ case.now.w) }
 {
     let tree = build(alloc, case, links, bound, from)?;
-    Ok(shown(alloc, tree.top())?)
+    let told = shown(alloc, tree.top());
+    drop(tree);
+    told
 }
 
-/// The same for the bound 1/2.
-fn case_told(alloc: Global, case: &Case, from: u32) -> Result<String, Untold> {
-    if from < 1 || from > case.w() {
-        return Err(Untold::Cell);
-    }
-    let bound = bound_of("1/2")?;
-    let links = Links::build(alloc, case.model())?;
-    tree_told(alloc, case, &links, bound, from)
-}
-
-/// The same of a model over a region, at a depth.
-fn told_over(
-    alloc: Global,
-    model: &Model,
-    region: &[u8],
-    depth: u32,
+/// The bound 1/2, and the least precision.
+#[derive(Clone, Copy)]
+struct Least {
     from: u32,
-) -> Result<String, Untold>
-    requires { depth ≤ most_halvings }
-{
-    let (grid, root) = root_of(alloc, region, model.names(), depth)?;
-    let case = case_of(model, &root, grid)?;
-    case_told(alloc, &case, from)
+}
+
+impl Asker for Least {
+    fn ask(&self, alloc: Global, case: &Case) -> Result<String, Untold> {
+        let from = self.from;
+        if from < 1 || from > case.w() {
+            return Err(Untold::Cell);
+        }
+        let bound = bound_of("1/2")?;
+        let links = Links::build(alloc, case.model())?;
+        let told = tree_told(alloc, case, &links, bound, from);
+        drop(links);
+        Ok(told?)
+    }
 }
 
 struct Trees;
@@ -129,12 +125,7 @@ impl Teller for Trees {
 
     fn tell(&self, alloc: Global, asked: &str) -> Result<String, Untold> {
         let (region, depth, from) = cut_two(asked);
-        let depth = count(depth);
-        if depth > 20 {
-            return Err(Untold::Cell);
-        }
-        let model = model_of(alloc, COIN)?;
-        told_over(alloc, &model, region.as_bytes(), depth, count(from))
+        ask_coin(alloc, region, count(depth), &Least { from: count(from) })
     }
 }
 

@@ -3,9 +3,9 @@
 ghost use Rattle.std.specs.Prelude.{◌≤◌};
 ghost use Rattle.corner_lift.specs.Case.{most_precision};
 
-use crate::cells::{Teller, Untold, count, cut_three, each_row};
-use crate::engine::roots::{Engine, Lanes, Root, find_on};
-use crate::example::{case_of, lines_of, root_of};
+use crate::cells::{Teller, Untold, count, cut_three, each_row, first_word};
+use crate::engine::roots::{Engine, Lanes, Root, find_over};
+use crate::example::lines_of;
 use corner_lift::Lifted;
 use drn_read::read_costs;
 use float_guess::Tolls;
@@ -55,32 +55,34 @@ impl Engine for Priced {
             costs: &self.costs,
             cap: self.cap,
         };
-        if least_priced(&rows, &tolls, &mut lanes.numbers, &mut lanes.work) {
-            Ok(format!(in alloc; "{:?}", lanes.numbers)?)
-        } else {
-            Ok(format!(in alloc; "none")?)
-        }
+        let is_found = least_priced(&rows, &tolls, &mut lanes.numbers, &mut lanes.work);
+        shown(alloc, is_found, &lanes.numbers)
     }
+}
+
+/// A vector as it is shown, where one was found.
+fn shown(alloc: Global, is_found: bool, numbers: &[i64]) -> Result<String, Untold> {
+    if !is_found {
+        return Ok(format!(in alloc; "none")?);
+    }
+    Ok(format!(in alloc; "{numbers:?}")?)
 }
 
 /// The text of a process with rewards, of the choices of its initial state 0 and those of a state 3, if there is one, and of
 /// their costs. State 1 is the goal, and state 2 is never left.
 fn text_of(alloc: Global, choices: &str, costs: &str) -> Result<String, AllocError> {
     let (first, last) = choices.split_once(" / ").unwrap_or((choices, ""));
-    let mut costs = costs.split(' ');
-    let zero = costs.next().unwrap_or("");
-    let one = costs.next().unwrap_or("");
-    let two = costs.next().unwrap_or("");
-    let mut text = format!(in alloc;
-        "@type: MDP;@parameters;p;@reward_models;steps;@model;state 0 [{zero}] init;{first};state 1 [{one}] goal;action a;1 : 1;state 2 [{two}];action a;2 : 1"
-    )?;
-    if let Some(three) = costs.next() {
-        text.push_str(";state 3 [")?;
-        text.push_str(three)?;
-        text.push_str("];")?;
-        text.push_str(last)?;
-    }
-    Ok(text)
+    let (zero, costs) = first_word(costs);
+    let (one, costs) = first_word(costs);
+    let (two, three) = first_word(costs);
+    let (open, close) = if three.is_empty() {
+        ("", "")
+    } else {
+        (";state 3 [", "];")
+    };
+    format!(in alloc;
+        "@type: MDP;@parameters;p;@reward_models;steps;@model;state 0 [{zero}] init;{first};state 1 [{one}] goal;action a;1 : 1;state 2 [{two}];action a;2 : 1{open}{three}{close}{last}"
+    )
 }
 
 /// A model and its costs, as far as the text is short enough to be read.
@@ -94,14 +96,17 @@ fn read(alloc: Global, text: &[u8]) -> Result<(Model, Costs), Untold> {
     }
 }
 
-/// What is found for a model at that precision.
-fn priced_over(alloc: Global, model: &Model, w: u32, priced: &Priced) -> Result<String, Untold>
+/// What is found for a text and that cap, at that precision.
+fn priced_of(alloc: Global, text: &[u8], w: u32, cap: u32) -> Result<String, Untold>
     requires low { 1 ≤ w }
     requires high { w ≤ most_precision }
 {
-    let (grid, root) = root_of(alloc, b"2/5<=p<=3/5", model.names(), 0)?;
-    let case = case_of(model, &root, grid, w)?;
-    find_on(alloc, &case, priced)
+    let (model, costs) = read(alloc, text)?;
+    let priced = Priced { costs, cap };
+    let found = find_over(alloc, &model, b"2/5<=p<=3/5", w, &priced);
+    drop(priced);
+    drop(model);
+    found
 }
 
 struct ByCost;
@@ -114,12 +119,7 @@ impl Teller for ByCost {
     fn tell(&self, alloc: Global, asked: &str) -> Result<String, Untold> {
         let (choices, costs, w, cap) = cut_three(asked);
         let text = lines_of(alloc, &text_of(alloc, choices, costs)?)?;
-        let (model, costs) = read(alloc, &text)?;
-        let priced = Priced {
-            costs,
-            cap: count(cap),
-        };
-        priced_over(alloc, &model, count(w).clamp(1, 20), &priced)
+        priced_of(alloc, &text, count(w).clamp(1, 20), count(cap))
     }
 }
 

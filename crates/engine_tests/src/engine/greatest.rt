@@ -1,13 +1,8 @@
 //! Tests of greatest lower vectors.
 
-ghost use Rattle.std.specs.Prelude.{◌≤◌};
-ghost use Rattle.corner_lift.specs.Case.{most_precision};
-
 use crate::cells::{Teller, Untold, each_row};
-use crate::engine::roots::{Engine, Lanes, Root, find_on};
-use crate::example::{case_of, model_of, process_of, root_of};
-use corner_lift::Case;
-use lift_model::Model;
+use crate::engine::roots::{Engine, Lanes, Root, find_text};
+use crate::example::process_of;
 use lower_cert::{Rate, greatest_reject, greatest_reject_above};
 use std::alloc::Global;
 use std::string::String;
@@ -63,10 +58,10 @@ impl Engine for Above {
 }
 
 /// The greatest of the limits from -1 to 16 that the initial state's number is found above.
-fn greatest_limit(alloc: Global, case: &Case) -> Result<i64, Untold> {
+fn greatest_limit(alloc: Global, lines: &str) -> Result<i64, Untold> {
     let mut greatest = -2;
     for limit in -1..17 {
-        if find_on(alloc, case, &Above { limit })? {
+        if find_text(alloc, lines, REGION, 4, &Above { limit })? {
             greatest = limit;
         }
     }
@@ -106,27 +101,10 @@ fn shown(alloc: Global, lanes: &Lanes, rate: Rate) -> Result<String, Untold> {
     Ok(format!(in alloc; "{numbers:?}; {picks:?}; {ranks:?}; e {e} k {k}")?)
 }
 
-/// The greatest lower vector of a model at that precision.
-fn vector_over(alloc: Global, model: &Model, w: u32) -> Result<String, Untold>
-    requires low { 1 ≤ w }
-    requires high { w ≤ most_precision }
-{
-    let (grid, root) = root_of(alloc, REGION, model.names(), 0)?;
-    let case = case_of(model, &root, grid, w)?;
-    find_on(alloc, &case, &Greatest)
-}
-
-/// The greatest limit of a model at precision 4.
-fn limit_over(alloc: Global, model: &Model) -> Result<i64, Untold> {
-    let (grid, root) = root_of(alloc, REGION, model.names(), 0)?;
-    let case = case_of(model, &root, grid, 4)?;
-    greatest_limit(alloc, &case)
-}
-
-/// Both of a model.
-fn both_over(alloc: Global, model: &Model) -> Result<String, Untold> {
-    let limit = limit_over(alloc, model)?;
-    let vector = vector_over(alloc, model, 4)?;
+/// The greatest lower vector and the greatest limit, at precision 4.
+fn both_of(alloc: Global, lines: &str) -> Result<String, Untold> {
+    let limit = greatest_limit(alloc, lines)?;
+    let vector = find_text(alloc, lines, REGION, 4, &Greatest)?;
     Ok(format!(in alloc; "{vector}; {limit}")?)
 }
 
@@ -139,8 +117,7 @@ impl Teller for GreatestLower {
 
     fn tell(&self, alloc: Global, asked: &str) -> Result<String, Untold> {
         let text = process_of(alloc, "p", asked)?;
-        let model = model_of(alloc, &text)?;
-        both_over(alloc, &model)
+        both_of(alloc, &text)
     }
 }
 
@@ -174,8 +151,7 @@ impl Teller for SlowCycles {
 
     fn tell(&self, alloc: Global, asked: &str) -> Result<String, Untold> {
         let text = process_of(alloc, "p", asked)?;
-        let model = model_of(alloc, &text)?;
-        vector_over(alloc, &model, 20)
+        find_text(alloc, &text, REGION, 20, &Greatest)
     }
 }
 

@@ -69,11 +69,20 @@ fn tell_all(told: &mut String, model: &Model, links: &Links, s: u32) -> Result<(
 }
 
 /// The same as a text.
+fn told_by(alloc: Global, model: &Model, links: &Links, s: u32) -> Result<String, Untold>
+    requires { AreLinks model.now links.now }
+{
+    let mut told = String::new(alloc);
+    tell_all(&mut told, model, links, s)?;
+    Ok(told)
+}
+
+/// The same by links that are built.
 fn told_of(alloc: Global, model: &Model, s: u32) -> Result<String, Untold> {
     let links = Links::build(alloc, model)?;
-    let mut told = String::new(alloc);
-    tell_all(&mut told, model, &links, s)?;
-    Ok(told)
+    let told = told_by(alloc, model, &links, s);
+    drop(links);
+    told
 }
 
 struct Linked;
@@ -85,7 +94,9 @@ impl Teller for Linked {
 
     fn tell(&self, alloc: Global, asked: &str) -> Result<String, Untold> {
         let model = model_of(alloc, LINKED)?;
-        told_of(alloc, &model, count(asked))
+        let told = told_of(alloc, &model, count(asked));
+        drop(model);
+        told
     }
 }
 
@@ -96,11 +107,20 @@ fn are_whole(links: &Links) -> bool {
     has_sizes && is_ordered && links.component_ends() == [1, 2, 4, 4, 5].as_slice()
 }
 
-/// The same for the model.
+/// The same for a model.
+fn builds_for(alloc: Global, model: &Model) -> Result<bool, Untold> {
+    let links = Links::build(alloc, model)?;
+    let are_whole = are_whole(&links);
+    drop(links);
+    Ok(are_whole)
+}
+
+/// The same for the model of the text.
 fn builds_whole(alloc: Global) -> Result<bool, Untold> {
     let model = model_of(alloc, LINKED)?;
-    let links = Links::build(alloc, &model)?;
-    Ok(are_whole(&links))
+    let answer = builds_for(alloc, &model);
+    drop(model);
+    answer
 }
 
 #[test]

@@ -1,9 +1,7 @@
 //! Tests of ranks by stages.
 
 use crate::cells::{Teller, Untold, each_row};
-use crate::engine::roots::{Engine, Lanes, Root, find_on};
-use crate::example::{case_of, model_of, root_of};
-use lift_model::Model;
+use crate::engine::roots::{Engine, Lanes, Root, find_text};
 use robust_rank::attract;
 use std::alloc::Global;
 use std::string::String;
@@ -50,13 +48,6 @@ fn shown(alloc: Global, ranks: &[u32], picks: &[u32]) -> Result<String, Untold> 
     Ok(format!(in alloc; "{ranks:?}; {picks:?}")?)
 }
 
-/// The ranks and the picks of a model.
-fn ranked_over(alloc: Global, model: &Model) -> Result<String, Untold> {
-    let (grid, root) = root_of(alloc, b"1/4<=p<=3/4", model.names(), 0)?;
-    let case = case_of(model, &root, grid, 4)?;
-    find_on(alloc, &case, &ByStages)
-}
-
 struct Stages;
 
 impl Teller for Stages {
@@ -66,8 +57,7 @@ impl Teller for Stages {
 
     fn tell(&self, alloc: Global, asked: &str) -> Result<String, Untold> {
         let text = format!(in alloc; "{HEAD};state 2;{asked}")?;
-        let model = model_of(alloc, &text)?;
-        ranked_over(alloc, &model)
+        find_text(alloc, &text, b"1/4<=p<=3/4", 4, &ByStages)
     }
 }
 

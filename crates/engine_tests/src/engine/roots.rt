@@ -1,14 +1,15 @@
 //! What is found on the table of a case's root, in lanes that are made once and lent.
 
-ghost use Rattle.std.specs.Prelude.{◌≡◌, ℕ, length, OnOk};
+ghost use Rattle.std.specs.Prelude.{◌≡◌, ◌≤◌, ℕ, length, OnOk};
 ghost use Rattle.lift_grid.specs.Rectangle.{spans_of, sides_of};
 ghost use Rattle.lift_model.specs.Model.{row_count};
 ghost use Rattle.lift_model.specs.Links.{AreLinks};
+ghost use Rattle.corner_lift.specs.Case.{most_precision};
 ghost use Rattle.corner_lift.specs.Table.{IsTable};
 ghost use Rattle.engine_tests.specs.Lane.{AreLanes};
 
 use crate::cells::Untold;
-use crate::example::table_of;
+use crate::example::{Asker, ask_over, ask_text, table_of};
 use corner_lift::Case;
 use lift_model::{Links, Model};
 use std::alloc::{AllocError, Global};
@@ -80,29 +81,91 @@ fn rows_of(model: &Model, links: &Links) -> usize
     links.row_place(last, model.choices(last) - 1) + 1
 }
 
-/// What is found in lanes that are made.
-fn find_over<E: Engine>(alloc: Global, root: Root, engine: &E) -> Result<E::Found, Untold>
+/// What is found in lanes that are laid out.
+fn find_in_lanes<E: Engine>(
+    alloc: Global,
+    root: Root,
+    engine: &E,
+    lanes: &mut Lanes,
+) -> Result<E::Found, Untold>
     requires links { AreLinks root.case.now.model root.links.now }
     requires table { IsTable root.case.now root.links.now (spans_of (sides_of root.case.now.root)) root.weights.now }
 {
     let model = root.case.model();
-    let mut lanes = no_lanes(alloc);
-    lay_out(&mut lanes, model.states(), rows_of(model, root.links))?;
-    engine.find(alloc, root, &mut lanes)
+    lay_out(lanes, model.states(), rows_of(model, root.links))?;
+    engine.find(alloc, root, lanes)
 }
 
-/// What is found on the root of a case.
-pub(crate) fn find_on<E: Engine>(
+/// What is found in lanes that are made.
+fn find_on_root<E: Engine>(alloc: Global, root: Root, engine: &E) -> Result<E::Found, Untold>
+    requires links { AreLinks root.case.now.model root.links.now }
+    requires table { IsTable root.case.now root.links.now (spans_of (sides_of root.case.now.root)) root.weights.now }
+{
+    let mut lanes = no_lanes(alloc);
+    let found = find_in_lanes(alloc, root, engine, &mut lanes);
+    drop(lanes);
+    found
+}
+
+/// What is found by the links of a case.
+fn find_by_links<E: Engine>(
     alloc: Global,
     case: &Case,
+    links: &Links,
     engine: &E,
-) -> Result<E::Found, Untold> {
-    let links = Links::build(alloc, case.model())?;
-    let weights = table_of(alloc, case, &links)?;
+) -> Result<E::Found, Untold>
+    requires { AreLinks case.now.model links.now }
+{
+    let weights = table_of(alloc, case, links)?;
     let root = Root {
         case: &*case,
-        links: &links,
+        links: &*links,
         weights: &weights,
     };
-    find_over(alloc, root, engine)
+    find_on_root(alloc, root, engine)
+}
+
+/// An engine that is asked on the root of a case.
+#[derive(Drop)]
+struct OnRoot<'e, E> {
+    engine: &'e E,
+}
+
+impl<E: Engine> Asker for OnRoot<'_, E> {
+    type Told = E::Found;
+
+    fn ask(&self, alloc: Global, case: &Case) -> Result<E::Found, Untold> {
+        let links = Links::build(alloc, case.model())?;
+        let found = find_by_links(alloc, case, &links, self.engine);
+        drop(links);
+        found
+    }
+}
+
+/// What is found on the root of a model over a region, at that precision.
+pub(crate) fn find_over<E: Engine>(
+    alloc: Global,
+    model: &Model,
+    region: &[u8],
+    w: u32,
+    engine: &E,
+) -> Result<E::Found, Untold>
+    requires low { 1 ≤ w }
+    requires high { w ≤ most_precision }
+{
+    ask_over(alloc, model, region, w, &OnRoot { engine })
+}
+
+/// The same of the model of a text.
+pub(crate) fn find_text<E: Engine>(
+    alloc: Global,
+    lines: &str,
+    region: &[u8],
+    w: u32,
+    engine: &E,
+) -> Result<E::Found, Untold>
+    requires low { 1 ≤ w }
+    requires high { w ≤ most_precision }
+{
+    ask_text(alloc, lines, region, w, &OnRoot { engine })
 }

@@ -6,11 +6,10 @@ ghost use Rattle.corner_lift.specs.Case.{most_precision};
 ghost use Rattle.rounded_iter.specs.Watching.{CanIterate};
 
 use crate::cells::{Teller, Untold, count, cut_three, each_row, signed};
-use crate::engine::roots::{Engine, Lanes, Root, find_on};
-use crate::example::{case_of, model_of, process_of, root_of};
+use crate::engine::roots::{Engine, Lanes, Root, find_text};
+use crate::example::process_of;
 use corner_lift::Lifted;
 use float_guess::{Ends, Extreme, Rule};
-use lift_model::Model;
 use rounded_iter::least_bound;
 use std::alloc::{AllocError, Global};
 use std::fmt::Write;
@@ -150,14 +149,13 @@ fn ranks_of(alloc: Global, cell: &str) -> Result<Vec<u32>, AllocError> {
     Ok(ranks)
 }
 
-/// The bounds of a model at that precision.
-fn bounds_over(alloc: Global, model: &Model, w: u32, bounds: &Bounds) -> Result<String, Untold>
+/// The bounds of a process with these choices.
+fn bounds_for(alloc: Global, choices: &str, w: u32, bounds: &Bounds) -> Result<String, Untold>
     requires low { 1 ≤ w }
     requires high { w ≤ most_precision }
 {
-    let (grid, root) = root_of(alloc, b"2/5<=p<=3/5", model.names(), 0)?;
-    let case = case_of(model, &root, grid, w)?;
-    find_on(alloc, &case, bounds)
+    let text = process_of(alloc, "p", choices)?;
+    find_text(alloc, &text, b"2/5<=p<=3/5", w, bounds)
 }
 
 struct ByRule;
@@ -173,9 +171,7 @@ impl Teller for ByRule {
             ranks: ranks_of(alloc, ranks)?,
             limit: signed(limit),
         };
-        let text = process_of(alloc, "p", choices)?;
-        let model = model_of(alloc, &text)?;
-        bounds_over(alloc, &model, count(w).clamp(1, 20), &bounds)
+        bounds_for(alloc, choices, count(w).clamp(1, 20), &bounds)
     }
 }
 

@@ -4,15 +4,15 @@ ghost use Rattle.std.specs.Prelude.{◌≡◌, length};
 ghost use Rattle.lift_grid.specs.Rectangle.{spans_of, sides_of};
 ghost use Rattle.lift_model.specs.Links.{HasChoice};
 ghost use Rattle.lift_model.specs.OnlyRow.{IsPairRow};
-ghost use Rattle.lift_model.specs.Model.{choices};
 ghost use Rattle.corner_lift.specs.Case.{corner_count};
 ghost use Rattle.corner_lift.specs.Certificate.{AreNumbers};
 ghost use Rattle.corner_lift.specs.Lifted.{IsLiftedTo};
 
 use crate::cells::{Teller, Untold, cut, each_row};
-use crate::example::{case_of, chain_of, model_of, root_of, table_of};
-use corner_lift::{Case, LaneSum, Lifted, has_short_sums, rows_at_corners};
-use lift_model::{Links, Model, OnlyRow, PairRow};
+use crate::engine::roots::{Engine, Lanes, Root, find_text};
+use crate::example::chain_of;
+use corner_lift::{LaneSum, Lifted, has_short_sums, rows_at_corners};
+use lift_model::{OnlyRow, PairRow};
 use std::alloc::{AllocError, Global};
 use std::fmt::Write;
 use std::string::String;
@@ -233,37 +233,36 @@ fn tell_table(told: &mut String, rows: &Lifted) -> Result<(), AllocError>
     tell_leaving(told, leaving(rows, &[5, 16, 0]))
 }
 
-/// The same as a text, by a table that is made.
-fn table_told(alloc: Global, case: &Case, told: &mut String) -> Result<(), AllocError>
-    requires states { length case.now.model.states ≡ 3 }
-    requires choice { length (choices case.now.model 0) ≡ 1 }
-    requires corners { corner_count case.now 0 0 ≡ 4 }
-    requires precision { case.now.w ≡ 4 }
+/// The same as a text.
+fn table_told(alloc: Global, rows: &Lifted) -> Result<String, Untold>
+    requires lifted { IsLiftedTo rows.now (spans_of (sides_of rows.now.case.root)) }
+    requires row { HasChoice rows.now.case.model 0 0 }
+    requires states { length rows.now.case.model.states ≡ 3 }
+    requires corners { corner_count rows.now.case 0 0 ≡ 4 }
+    requires precision { rows.now.case.w ≡ 4 }
 {
-    let links = Links::build(alloc, case.model())?;
-    let weights = table_of(alloc, case, &links)?;
-    tell_table(told, &Lifted::new(case, &links, &weights))
+    let mut told = String::new(alloc);
+    tell_table(&mut told, rows)?;
+    Ok(told)
 }
 
 /// The same where the case has three states, and one row of both parameters at state 0.
-fn case_told(alloc: Global, case: &Case, told: &mut String) -> Result<(), Untold> {
-    rows_at_corners();
-    if case.w() != 4 || case.model().states() != 3 || case.model().choices(0) != 1 {
-        return Err(Untold::Cell);
-    }
-    if case.model().row(0, 0).support().count_ones() != 2 {
-        return Err(Untold::Cell);
-    }
-    Ok(table_told(alloc, case, told)?)
-}
+struct RowOfBoth;
 
-/// The same for a model.
-fn told_over(alloc: Global, model: &Model, region: &[u8]) -> Result<String, Untold> {
-    let (grid, root) = root_of(alloc, region, model.names(), 0)?;
-    let case = case_of(model, &root, grid, 4)?;
-    let mut told = String::new(alloc);
-    case_told(alloc, &case, &mut told)?;
-    Ok(told)
+impl Engine for RowOfBoth {
+    type Found = String;
+
+    fn find(&self, alloc: Global, root: Root, _lanes: &mut Lanes) -> Result<String, Untold> {
+        rows_at_corners();
+        let case = root.case;
+        if case.w() != 4 || case.model().states() != 3 || case.model().choices(0) != 1 {
+            return Err(Untold::Cell);
+        }
+        if case.model().row(0, 0).support().count_ones() != 2 {
+            return Err(Untold::Cell);
+        }
+        table_told(alloc, &Lifted::new(case, root.links, root.weights))
+    }
 }
 
 struct Tables;
@@ -276,8 +275,7 @@ impl Teller for Tables {
     fn tell(&self, alloc: Global, asked: &str) -> Result<String, Untold> {
         let (row, region) = cut(asked);
         let text = chain_of(alloc, row)?;
-        let model = model_of(alloc, &text)?;
-        told_over(alloc, &model, region.as_bytes())
+        find_text(alloc, &text, region.as_bytes(), 4, &RowOfBoth)
     }
 }
 

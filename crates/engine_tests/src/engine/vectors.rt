@@ -1,12 +1,8 @@
 //! Tests of least vectors.
 
-ghost use Rattle.std.specs.Prelude.{◌≤◌};
-ghost use Rattle.corner_lift.specs.Case.{most_precision};
-
 use crate::cells::{Teller, Untold, each_row};
-use crate::engine::roots::{Engine, Lanes, Root, find_on};
-use crate::example::{case_of, model_of, process_of, root_of};
-use lift_model::Model;
+use crate::engine::roots::{Engine, Lanes, Root, find_text};
+use crate::example::process_of;
 use rounded_iter::{least_upper, least_value};
 use std::alloc::Global;
 use std::string::String;
@@ -69,16 +65,6 @@ action a;3 : 1-1e-17;1 : 1e-17/2;2 : 1e-17/2 / action a;0 : 1-1e-17;1 : 1e-17/2;
     [524288, 1048576, 0, 524288]; [524288, 1048576, 0, 524288]
 action a;3 : 4095/4096;2 : 1/4096 / action a;0 : 4095/4096;1 : 1/4096 | [524288, 1048576, 0, 524416]; [524288, 1048576, 0, 524416]";
 
-/// The least vectors of a model at that precision.
-fn least_over(alloc: Global, model: &Model, w: u32) -> Result<String, Untold>
-    requires low { 1 ≤ w }
-    requires high { w ≤ most_precision }
-{
-    let (grid, root) = root_of(alloc, REGION, model.names(), 0)?;
-    let case = case_of(model, &root, grid, w)?;
-    find_on(alloc, &case, &Least)
-}
-
 struct LeastVectors;
 
 impl Teller for LeastVectors {
@@ -88,8 +74,7 @@ impl Teller for LeastVectors {
 
     fn tell(&self, alloc: Global, asked: &str) -> Result<String, Untold> {
         let text = process_of(alloc, "p q", asked)?;
-        let model = model_of(alloc, &text)?;
-        least_over(alloc, &model, 4)
+        find_text(alloc, &text, REGION, 4, &Least)
     }
 }
 
@@ -107,8 +92,7 @@ impl Teller for SlowCycles {
 
     fn tell(&self, alloc: Global, asked: &str) -> Result<String, Untold> {
         let text = process_of(alloc, "p q", asked)?;
-        let model = model_of(alloc, &text)?;
-        least_over(alloc, &model, 20)
+        find_text(alloc, &text, REGION, 20, &Least)
     }
 }
 

@@ -3,12 +3,11 @@
 ghost use Rattle.std.specs.Prelude.{◌≡◌, length, All, IfOk};
 ghost use Rattle.engine_tests.specs.Lane.{IsInLane};
 
-use crate::cells::{Teller, Untold, cut, each_row, signed};
-use crate::example::{case_of, model_of, root_of};
+use crate::cells::{Teller, Untold, cut, each_row, first_word, signed};
+use crate::example::{Asker, ask_text};
 use corner_lift::Case;
 use lift_cert::{Bound, Miss, meets_accept};
 use lift_frac::{Frac, read_ratio};
-use lift_model::Model;
 use std::alloc::Global;
 use std::string::String;
 
@@ -86,8 +85,8 @@ fn number_of(word: &str) -> Result<i64, Untold>
 
 /// The three words of a cell.
 fn words_of(cell: &str) -> (&str, &str, &str) {
-    let (first, rest) = cell.split_once(' ').unwrap_or((cell, ""));
-    let (second, third) = rest.split_once(' ').unwrap_or((rest, ""));
+    let (first, rest) = first_word(cell);
+    let (second, third) = first_word(rest);
     (first, second, third)
 }
 
@@ -127,18 +126,20 @@ fn answer_told(alloc: Global, case: &Case, asked: &str) -> Result<String, Untold
 }
 
 /// The same, where the case is at precision 4 and has three states.
-fn answer_on(alloc: Global, case: &Case, asked: &str) -> Result<String, Untold> {
-    if case.w() != 4 || case.model().states() != 3 {
-        return Err(Untold::Cell);
-    }
-    answer_told(alloc, case, asked)
+#[derive(Clone, Copy)]
+struct Acceptance<'a> {
+    asked: &'a str,
 }
 
-/// The same for a model.
-fn answer_over(alloc: Global, model: &Model, asked: &str) -> Result<String, Untold> {
-    let (grid, root) = root_of(alloc, b"1/10<=p<=2/5", model.names(), 0)?;
-    let case = case_of(model, &root, grid, 4)?;
-    answer_on(alloc, &case, asked)
+impl Asker for Acceptance<'_> {
+    type Told = String;
+
+    fn ask(&self, alloc: Global, case: &Case) -> Result<String, Untold> {
+        if case.w() != 4 || case.model().states() != 3 {
+            return Err(Untold::Cell);
+        }
+        answer_told(alloc, case, self.asked)
+    }
 }
 
 struct Acceptances;
@@ -149,8 +150,7 @@ impl Teller for Acceptances {
     type Error = Untold;
 
     fn tell(&self, alloc: Global, asked: &str) -> Result<String, Untold> {
-        let model = model_of(alloc, COIN)?;
-        answer_over(alloc, &model, asked)
+        ask_text(alloc, COIN, b"1/10<=p<=2/5", 4, &Acceptance { asked })
     }
 }
 

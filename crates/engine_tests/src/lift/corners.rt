@@ -116,7 +116,9 @@ impl Teller for Weights {
             return Err(Untold::Cell);
         }
         let model = model_of(alloc, PRODUCTS)?;
-        weighed_over(alloc, &model, depth)
+        let told = weighed_over(alloc, &model, depth);
+        drop(model);
+        told
     }
 }
 

@@ -34,7 +34,9 @@ impl Teller for States {
 
     fn tell(&self, alloc: Global, asked: &str) -> Result<String, Untold> {
         let model = model_of(alloc, TURNED)?;
-        state_told(alloc, &model, count(asked))
+        let told = state_told(alloc, &model, count(asked));
+        drop(model);
+        told
     }
 }
 
@@ -60,7 +62,9 @@ fn has_parts(model: &Model) -> bool {
 /// The same of the model and its row.
 fn has_all(alloc: Global) -> Result<bool, Untold> {
     let model = model_of(alloc, TURNED)?;
-    Ok(has_parts(&model) && has_row(&model))
+    let has_all = has_parts(&model) && has_row(&model);
+    drop(model);
+    Ok(has_all)
 }
 
 #[test]

@@ -41,7 +41,9 @@ impl Teller for Added {
 
     fn tell(&self, alloc: Global, asked: &str) -> Result<bool, AllocError> {
         let mut names = Names::new(alloc);
-        add(&mut names, asked)
+        let is_new = add(&mut names, asked);
+        drop(names);
+        is_new
     }
 }
 
@@ -68,7 +70,9 @@ impl Teller for Found {
     type Error = AllocError;
 
     fn tell(&self, alloc: Global, asked: &str) -> Result<String, AllocError> {
-        let place = names_of(alloc, NAMES)?.find(asked.as_bytes());
+        let names = names_of(alloc, NAMES)?;
+        let place = names.find(asked.as_bytes());
+        drop(names);
         format!(in alloc; "{place:?}")
     }
 }
@@ -95,7 +99,9 @@ impl Teller for Kept {
     fn tell(&self, alloc: Global, asked: &str) -> Result<bool, AllocError> {
         let (place, name) = cut(asked);
         let names = names_of(alloc, NAMES)?;
-        Ok(has_name(&names, count(place), name.as_bytes()))
+        let has_name = has_name(&names, count(place), name.as_bytes());
+        drop(names);
+        Ok(has_name)
     }
 }
 

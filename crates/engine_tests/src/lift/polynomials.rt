@@ -69,14 +69,34 @@ fn shared(alloc: Global) -> Result<MultiAffine, PolyError> {
     MultiAffine::parameter(alloc, 15)?.mul(alloc, &next(alloc, 15)?)
 }
 
+/// A polynomial less itself.
+fn nothing(alloc: Global, p: &MultiAffine) -> Result<MultiAffine, PolyError> {
+    let opposite = p.scale(alloc, -1)?;
+    p.add(alloc, &opposite)
+}
+
+/// One more than the first parameter times one more than the second.
+fn product(alloc: Global) -> Result<MultiAffine, PolyError> {
+    let left = next(alloc, 0)?;
+    let right = next(alloc, 1)?;
+    left.mul(alloc, &right)
+}
+
 /// What the first parameter is computed with.
-fn small(alloc: Global, name: &str) -> Result<MultiAffine, PolyError> {
-    let p = MultiAffine::parameter(alloc, 0)?;
+fn small(alloc: Global, p: &MultiAffine, name: &str) -> Result<MultiAffine, PolyError> {
     match name {
-        "p + p" => p.add(alloc, &p),
-        "p - p" => p.add(alloc, &p.scale(alloc, -1)?),
-        _ => next(alloc, 0)?.mul(alloc, &next(alloc, 1)?),
+        "p + p" => p.add(alloc, p),
+        "p - p" => nothing(alloc, p),
+        _ => product(alloc),
     }
+}
+
+/// The same with that parameter made.
+fn small_of(alloc: Global, name: &str) -> Result<MultiAffine, PolyError> {
+    let p = MultiAffine::parameter(alloc, 0)?;
+    let computed = small(alloc, &p, name);
+    drop(p);
+    computed
 }
 
 /// What the greatest coefficient is computed with.
@@ -90,13 +110,21 @@ fn great(alloc: Global, name: &str) -> Result<MultiAffine, PolyError> {
     }
 }
 
+/// A copy of what is given.
+fn copied(alloc: Global) -> Result<MultiAffine, PolyError> {
+    let given = given(alloc)?;
+    let copy = given.copy(alloc);
+    drop(given);
+    Ok(copy?)
+}
+
 fn computed(alloc: Global, name: &str) -> Result<MultiAffine, PolyError> {
     match name {
         "(4*p*q - 6) / 2" => Ok(given(alloc)?.divide(alloc, 2)?),
-        "4*p*q - 6" => Ok(given(alloc)?.copy(alloc)?),
+        "4*p*q - 6" => copied(alloc),
         "r * (r + 1)" => shared(alloc),
         _ if name.starts_with("greatest") => great(alloc, name),
-        _ => small(alloc, name),
+        _ => small_of(alloc, name),
     }
 }
 

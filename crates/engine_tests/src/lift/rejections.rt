@@ -6,11 +6,10 @@ ghost use Rattle.corner_lift.specs.Certificate.{unmarked};
 ghost use Rattle.engine_tests.specs.Lane.{IsInLane};
 
 use crate::cells::{Teller, Untold, count, cut_three, each_row};
-use crate::example::{case_of, model_of, root_of};
+use crate::example::{Asker, ask_text};
 use crate::lift::certificates::{COIN, bound_of, numbers_of, shown};
 use corner_lift::Case;
 use lift_cert::{Bound, Miss, meets_reject};
-use lift_model::Model;
 use std::alloc::Global;
 use std::string::String;
 
@@ -72,22 +71,24 @@ fn answer_told(alloc: Global, case: &Case, asked: &str) -> Result<String, Untold
 }
 
 /// The same, where the case is at precision 4 and has three states, of which the second alone is a goal state.
-fn answer_on(alloc: Global, case: &Case, asked: &str) -> Result<String, Untold> {
-    let model = case.model();
-    if case.w() != 4 || model.states() != 3 {
-        return Err(Untold::Cell);
-    }
-    if model.is_goal(0) || !model.is_goal(1) || model.is_goal(2) {
-        return Err(Untold::Cell);
-    }
-    answer_told(alloc, case, asked)
+#[derive(Clone, Copy)]
+struct Rejection<'a> {
+    asked: &'a str,
 }
 
-/// The same for a model.
-fn answer_over(alloc: Global, model: &Model, asked: &str) -> Result<String, Untold> {
-    let (grid, root) = root_of(alloc, b"3/5<=p<=9/10", model.names(), 0)?;
-    let case = case_of(model, &root, grid, 4)?;
-    answer_on(alloc, &case, asked)
+impl Asker for Rejection<'_> {
+    type Told = String;
+
+    fn ask(&self, alloc: Global, case: &Case) -> Result<String, Untold> {
+        let model = case.model();
+        if case.w() != 4 || model.states() != 3 {
+            return Err(Untold::Cell);
+        }
+        if model.is_goal(0) || !model.is_goal(1) || model.is_goal(2) {
+            return Err(Untold::Cell);
+        }
+        answer_told(alloc, case, self.asked)
+    }
 }
 
 struct Rejections;
@@ -98,8 +99,7 @@ impl Teller for Rejections {
     type Error = Untold;
 
     fn tell(&self, alloc: Global, asked: &str) -> Result<String, Untold> {
-        let model = model_of(alloc, COIN)?;
-        answer_over(alloc, &model, asked)
+        ask_text(alloc, COIN, b"3/5<=p<=9/10", 4, &Rejection { asked })
     }
 }
 

@@ -43,6 +43,14 @@ fn fault_over(alloc: Global, model: &Model, region: &[u8]) -> Result<String, Unt
     shown(alloc, first_fault(model, &root, grid))
 }
 
+/// The same of the model of a text.
+fn fault_of(alloc: Global, lines: &str, region: &[u8]) -> Result<String, Untold> {
+    let model = model_of(alloc, lines)?;
+    let fault = fault_over(alloc, &model, region);
+    drop(model);
+    fault
+}
+
 struct FirstFaults;
 
 impl Teller for FirstFaults {
@@ -53,8 +61,7 @@ impl Teller for FirstFaults {
     fn tell(&self, alloc: Global, asked: &str) -> Result<String, Untold> {
         let (entries, region) = cut(asked);
         let text = chain_of(alloc, entries)?;
-        let model = model_of(alloc, &text)?;
-        fault_over(alloc, &model, region.as_bytes())
+        fault_of(alloc, &text, region.as_bytes())
     }
 }
 

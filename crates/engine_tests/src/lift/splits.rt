@@ -62,6 +62,17 @@ fn halves_over(alloc: Global, names: &Names, region: &[u8], live: u16) -> Result
     }
 }
 
+/// The same of a row's cells.
+fn halves_told(alloc: Global, names: &Names, asked: &str) -> Result<String, Untold> {
+    let (region, live) = cut(asked);
+    match live.parse::<u16>() {
+        Ok(live) if live < 8 && names.len() == 3 => {
+            halves_over(alloc, names, region.as_bytes(), live)
+        }
+        _ => Err(Untold::Cell),
+    }
+}
+
 struct Splits;
 
 impl Teller for Splits {
@@ -70,14 +81,10 @@ impl Teller for Splits {
     type Error = Untold;
 
     fn tell(&self, alloc: Global, asked: &str) -> Result<String, Untold> {
-        let (region, live) = cut(asked);
         let names = names_of(alloc, "p q r")?;
-        match live.parse::<u16>() {
-            Ok(live) if live < 8 && names.len() == 3 => {
-                halves_over(alloc, &names, region.as_bytes(), live)
-            }
-            _ => Err(Untold::Cell),
-        }
+        let told = halves_told(alloc, &names, asked);
+        drop(names);
+        told
     }
 }
 

@@ -15,7 +15,9 @@ COIN | 198 | Summary { accept: 1, reject: 0, unknown: 0, version: 1 }
 // What is answered to a text, where so many bytes may be taken.
 fn answer_within(alloc: Global, text: Vec<u8>, limit: u64) -> Result<String, AllocError> {
     let mut source = MemSource::new(text, 7, Vec::new(alloc));
-    shown(alloc, check_within(alloc, &mut source, limit.min(1 << 32)))
+    let answer = check_within(alloc, &mut source, limit.min(1 << 32));
+    drop(source);
+    shown(alloc, answer)
 }
 
 struct Limited;

@@ -75,5 +75,7 @@ fn source_of(alloc: Global, text: Vec<u8>, failing: u64) -> Result<MemSource, Al
 /// What is answered to a text, a call of whose source may fail: none where it is 0.
 pub fn answer_of(alloc: Global, text: Vec<u8>, failing: u64) -> Result<String, Untold> {
     let mut source = source_of(alloc, text, failing)?;
-    Ok(shown(alloc, check(alloc, &mut source))?)
+    let answer = check(alloc, &mut source);
+    drop(source);
+    Ok(shown(alloc, answer)?)
 }

@@ -91,7 +91,12 @@ fn costs_told(alloc: Global, text: &[u8], reward: &str) -> Result<String, Untold
         return Err(Untold::Cell);
     }
     match read_costs(alloc, text, b"heads", reward.as_bytes()) {
-        Ok((_, costs)) => told(alloc, &costs),
+        Ok((model, costs)) => {
+            drop(model);
+            let told = told(alloc, &costs);
+            drop(costs);
+            told
+        }
         Err(error) => Ok(refusal_told(alloc, error)?),
     }
 }

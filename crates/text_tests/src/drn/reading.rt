@@ -241,7 +241,11 @@ fn model_told(alloc: Global, text: &[u8], label: &str) -> Result<String, Untold>
         return Err(Untold::Cell);
     }
     match read_model(alloc, text, label.as_bytes()) {
-        Ok(model) => told(alloc, &model),
+        Ok(model) => {
+            let told = told(alloc, &model);
+            drop(model);
+            told
+        }
         Err(_) => Err(Untold::Cell),
     }
 }
@@ -270,10 +274,8 @@ fn refusal(alloc: Global, text: &[u8], label: &str) -> Option<(u32, &'static str
     if text.len() >= 1 << 31 {
         return None;
     }
-    match read_model(alloc, text, label.as_bytes()) {
-        Ok(_) => None,
-        Err(error) => Some((error.line, error.cause.name())),
-    }
+    let error = read_model(alloc, text, label.as_bytes()).err()?;
+    Some((error.line, error.cause.name()))
 }
 
 // The same as it is shown.

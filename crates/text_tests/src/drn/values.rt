@@ -8,14 +8,19 @@ use std::alloc::{AllocError, Global};
 use std::fmt::Write;
 use std::string::String;
 
-/// The value of a text over the names `p` and `q`.
-fn read(alloc: Global, text: &[u8]) -> Result<RatPoly, ExprError> {
-    let mut names = Names::new(alloc);
+/// Adds the names `p` and `q`.
+fn push_names(names: &mut Names) -> Result<(), AllocError> {
     for name in ["p", "q"] {
         if names.len() < 16 {
             names.push(name.as_bytes())?;
         }
     }
+    Ok(())
+}
+
+/// The value of a text over these names and `p` and `q`.
+fn read_over(alloc: Global, text: &[u8], names: &mut Names) -> Result<RatPoly, ExprError> {
+    push_names(names)?;
     let line = Line {
         from: 0,
         to: text.len(),
@@ -24,7 +29,15 @@ fn read(alloc: Global, text: &[u8]) -> Result<RatPoly, ExprError> {
     if names.len() > 16 {
         return Err(ExprError::Memory);
     }
-    read_value(alloc, text, line, 0, &names)
+    read_value(alloc, text, line, 0, names)
+}
+
+/// The value of a text over the names `p` and `q`.
+fn read(alloc: Global, text: &[u8]) -> Result<RatPoly, ExprError> {
+    let mut names = Names::new(alloc);
+    let value = read_over(alloc, text, &mut names);
+    drop(names);
+    value
 }
 
 /// Writes each term as its set and its coefficient, and the denominator.
@@ -49,7 +62,11 @@ fn terms_shown(alloc: Global, value: &RatPoly) -> Result<String, AllocError> {
 /// A value with its terms, or why there is none.
 fn shown(alloc: Global, answer: Result<RatPoly, ExprError>) -> Result<String, AllocError> {
     match answer {
-        Ok(value) => terms_shown(alloc, &value),
+        Ok(value) => {
+            let shown = terms_shown(alloc, &value);
+            drop(value);
+            shown
+        }
         Err(cause) => format!(in alloc; "{cause:?}"),
     }
 }

@@ -266,12 +266,27 @@ fn shown_rows(alloc: Global, head: &Head) -> Result<String, AllocError> {
     Ok(told)
 }
 
+// The rows of a head's model, or what it tells beside them.
+fn told_of(alloc: Global, head: &Head, line: u64, rows: bool) -> Result<String, AllocError> {
+    if rows {
+        shown_rows(alloc, head)
+    } else {
+        shown(alloc, head, line)
+    }
+}
+
 // What is read of a text's head, or its rows alone.
 fn answer_of(alloc: Global, text: &[u8], rows: bool) -> Result<String, AllocError> {
     let mut lines = fresh_lines(alloc)?;
-    match read_head(alloc, &mut lines, &mut TextSource::new(text)) {
-        Ok(head) if rows => shown_rows(alloc, &head),
-        Ok(head) => shown(alloc, &head, line_due(&lines)),
+    let read = read_head(alloc, &mut lines, &mut TextSource::new(text));
+    let line = line_due(&lines);
+    drop(lines);
+    match read {
+        Ok(head) => {
+            let told = told_of(alloc, &head, line, rows);
+            drop(head);
+            told
+        }
         Err(error) => shown_fault(alloc, error),
     }
 }

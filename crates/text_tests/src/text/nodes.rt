@@ -194,7 +194,24 @@ impl FirstNode {
         head: &Head,
     ) -> Result<String, AllocError> {
         match read_node(alloc, lines, source, head) {
-            Ok(node) => self.shown(alloc, head, &node, line_due(lines)),
+            Ok(node) => {
+                let shown = self.shown(alloc, head, &node, line_due(lines));
+                drop(node);
+                shown
+            }
+            Err(error) => shown_fault(alloc, error),
+        }
+    }
+
+    // What is read of the first node of a text, by lines of which none was read.
+    fn of_lines(self, alloc: Global, lines: &mut Lines, text: &[u8]) -> Result<String, AllocError> {
+        let mut source = TextSource::new(text);
+        match read_head(alloc, lines, &mut source) {
+            Ok(head) => {
+                let told = self.behind(alloc, lines, &mut source, &head);
+                drop(head);
+                told
+            }
             Err(error) => shown_fault(alloc, error),
         }
     }
@@ -202,11 +219,9 @@ impl FirstNode {
     // What is read of a text's first node.
     fn of_text(self, alloc: Global, text: &[u8]) -> Result<String, AllocError> {
         let mut lines = fresh_lines(alloc)?;
-        let mut source = TextSource::new(text);
-        match read_head(alloc, &mut lines, &mut source) {
-            Ok(head) => self.behind(alloc, &mut lines, &mut source, &head),
-            Err(error) => shown_fault(alloc, error),
-        }
+        let told = self.of_lines(alloc, &mut lines, text);
+        drop(lines);
+        told
     }
 }
 

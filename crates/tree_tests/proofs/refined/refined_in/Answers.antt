@@ -1,5 +1,5 @@
 use Rattle.tree_tests.proofs.Cutting.{offered}
-use Rattle.tree_tests.proofs.refined.refined_told.Goals as goal
+use Rattle.tree_tests.proofs.refined.refined_in.Goals as goal
 
 pub refine-requires-clause-base : goal.refine-requires-clause-base
 refine-requires-clause-base c =
