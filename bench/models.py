@@ -12,6 +12,29 @@
 
 import random
 import sys
+from dataclasses import dataclass
+
+
+@dataclass
+class Job:
+    """A model, by its family and sizes, and what is asked of it."""
+
+    family: str
+    sizes: tuple
+    goal: str
+    bound: str
+    region: str
+    depth: int = 4
+    precision: int = 24
+
+    def name(self):
+        return " ".join([self.family] + [str(size) for size in self.sizes])
+
+    def options(self):
+        return ["--region", self.region, "--depth", str(self.depth), "--precision", str(self.precision)]
+
+    def verify(self):
+        return ["verify", "--goal", self.goal, "--bound", self.bound] + self.options()
 
 
 def text(kind, parameters, states):

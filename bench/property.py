@@ -11,7 +11,6 @@ reaches the least. Seconds of the processor, the least of three runs.
 import argparse
 import os
 import sys
-from dataclasses import dataclass
 from typing import List
 
 import atva
@@ -21,25 +20,11 @@ import models
 FAMILIES = {**models.FAMILIES, "consensus": atva.consensus}
 
 
-@dataclass
-class Job:
-    """A model, by its family and sizes, and what is asked of it."""
-
-    family: str
-    sizes: tuple
-    goal: str
-    bound: str
-    region: str
-    depth: int
-
-    def verify(self) -> List[str]:
-        return ["verify", "--goal", self.goal, "--bound", self.bound, *self.options()]
+class Job(models.Job):
+    """A model, and what is asked of it, also by a formula."""
 
     def property(self, op: str) -> List[str]:
         return ["property", "--formula", f'P{op}{self.bound} [F "{self.goal}"]', *self.options()]
-
-    def options(self) -> List[str]:
-        return ["--region", self.region, "--depth", str(self.depth), "--precision", "24"]
 
     def text(self) -> bytes:
         text = FAMILIES[self.family](*self.sizes)
@@ -91,7 +76,7 @@ def row(job: Job, folder: str, program: str, limit: int) -> str:
     for op in ("<=", ">="):
         found += cells([program, *job.property(op)], [b"holds", b"fails"], folder, limit)
     wrong = "" if found[0] == found[2] or not (found[0] and found[2]) else " not the leaves of verify"
-    front = [" ".join(map(str, [job.family, *job.sizes])), str(text.count(b"\nstate ")), f"{job.goal} {job.bound}", str(job.depth)]
+    front = [job.name(), str(text.count(b"\nstate ")), f"{job.goal} {job.bound}", str(job.depth)]
     return "| " + " | ".join(front + found) + " |" + wrong
 
 

@@ -12,33 +12,13 @@ import os
 import platform
 import subprocess
 import sys
-from dataclasses import dataclass
 
 import measure
 import models
+from models import Job
 
 PAGE = os.path.join(measure.TOP, "docs", "PERFORMANCE.md")
 BEGIN, END = "<!-- tables: begin -->", "<!-- tables: end -->"
-
-
-@dataclass
-class Job:
-    """A model, by its family and sizes, and the words that it is verified with."""
-
-    family: str
-    sizes: tuple
-    goal: str
-    bound: str
-    region: str
-    depth: int = 4
-    precision: int = 24
-
-    def words(self):
-        words = ["verify", "--goal", self.goal, "--bound", self.bound, "--region", self.region]
-        return words + ["--depth", str(self.depth), "--precision", str(self.precision)]
-
-    def name(self):
-        return " ".join([self.family] + [str(size) for size in self.sizes])
 
 
 def decimals(number):
@@ -119,7 +99,7 @@ def row(job, folder, program, limit):
     write_model(job, source, program)
     states = count_lines(source, b"state ")
     front = "| %s | %d | %d | %d |" % (job.name(), states, job.depth, job.precision)
-    verify = measure.least([program] + job.words(), source, report, limit)
+    verify = measure.least([program] + job.verify(), source, report, limit)
     if verify.status != 0:
         return front + " | %s | | | |%s" % (shown(verify), "" if verify.stopped else " status %d: %s" % (verify.status, verify.note))
     size = os.path.getsize(report)

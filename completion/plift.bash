@@ -20,20 +20,21 @@ _plift() {
     [[ ${COMP_WORDS[1]} == --quick && COMP_CWORD -gt 1 ]] && at=2
     COMPREPLY=()
     if ((COMP_CWORD == at)); then
-        _plift_offer "verify bounded property lumped check migrate refine generate selftest --help --version $( ((at == 1)) && echo --quick)"
+        _plift_offer "verify bounded property cost lumped check migrate refine generate selftest --help --version $( ((at == 1)) && echo --quick)"
         return
     fi
     case ${COMP_WORDS[at]} in
     --help | -h | help)
-        ((COMP_CWORD == at + 1)) && _plift_offer 'verify bounded property lumped check migrate refine generate selftest'
+        ((COMP_CWORD == at + 1)) && _plift_offer 'verify bounded property cost lumped check migrate refine generate selftest'
         ;;
-    verify | bounded | property | lumped)
+    verify | bounded | property | cost | lumped)
         local options='--goal --bound --region --depth --precision --help'
         [[ ${COMP_WORDS[at]} == verify ]] && options="--from $options"
         [[ ${COMP_WORDS[at]} == bounded ]] && options="--steps $options"
         [[ ${COMP_WORDS[at]} == property ]] && options='--formula --region --depth --precision --help'
+        [[ ${COMP_WORDS[at]} == cost ]] && options='--goal --reward --budget --cap --region --depth --precision --help'
         case ${COMP_WORDS[COMP_CWORD - 1]} in
-        --goal | --bound | --steps | --formula | --region | --depth | --precision | --from | =) ;;
+        --goal | --bound | --steps | --formula | --reward | --budget | --cap | --region | --depth | --precision | --from | =) ;;
         *) _plift_offer "$(_plift_unused $options)" ;;
         esac
         ;;

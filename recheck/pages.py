@@ -5,7 +5,7 @@ Every command of README.md and of the pages in PAGES runs in a folder with a cop
 has to print what stands below it: a block marked `text` right behind it, in which a line `..` stands for any lines;
 nothing where there is no such block. A command marked `sh not-run` isn't run. A picture that a page makes has to be
 the one in docs/pictures, and each of these has to be made by a page; the reports that docs/FORMATS.md tells of have
-to come out, and the lines that it shows of one of version 2; each page that is named has to be there, and recheck.py
+to come out, and the lines that it shows of one of version 2, of properties and of costs; each page that is named has to be there, and recheck.py
 has to have as many lines as pages say.
 
 The lines that docs/STORM.md speaks of are put into small models and have to be read, or refused with the note that
@@ -205,6 +205,15 @@ def property_nodes(folder: Path) -> Iterator[Tried]:
     yield Tried('docs/FORMATS.md: properties', '' if len(told) == 2 else f'{len(told)} are told of')
 
 
+def cost_lines(folder: Path) -> Iterator[Tried]:
+    """The end of a text for a budget that docs/FORMATS.md shows: whether the words that it names give it."""
+    form = r'^With `(--goal [^`]+ --budget [^`]+)` .*? `(examples/\S+)`.*?:\n\n```text\n(.*?)^```'
+    told = re.search(form, page_text('docs/FORMATS.md'), re.S | re.M)
+    options, model, shown = told.groups() if told else ('', '', '')
+    said = bash(f"./plift cost {options} < {model} | sed -n '/^cost/,$p'", folder)
+    yield Tried('docs/FORMATS.md: a text for a budget', '' if told and said == shown else said)
+
+
 def lengths() -> Iterator[Tried]:
     """What pages say of the lengths of recheck.py and lumped.py."""
     count, other = (len((TOP / 'recheck' / name).read_text().splitlines()) for name in ('recheck.py', 'lumped.py'))
@@ -270,6 +279,7 @@ def tried(place: Path, programs: dict[str, Path]) -> Iterator[Tried]:
     yield from examples(folders[0])
     yield from second_version(folders[0])
     yield from property_nodes(folders[0])
+    yield from cost_lines(folders[0])
     yield from lengths()
     yield from references()
     storm = prepared(place / 'STORM', programs)

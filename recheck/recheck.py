@@ -1,8 +1,8 @@
-"""Checks a report of plift by itself, of `verify`, `bounded` or `property`:  python3 recheck.py < report
+"""Checks a report of plift by itself, of `verify`, `bounded`, `property` or `cost`:  python3 recheck.py < report
 
-Writes `sound accept A reject B unknown C`, of `property` `sound holds A fails B unknown C`, or tells the first fault on
-standard error and ends with 1. Written from docs/FORMATS.md, it shares nothing with plift's code; docs/CHECKING.md
-tells why its tests show what they show.
+Writes `sound accept A reject B unknown C`, of `property` `sound holds A fails B unknown C`, of `cost` `sound accept A
+unknown B`, or tells the first fault on standard error and ends with 1. Written from docs/FORMATS.md, it shares nothing
+with plift's code; docs/CHECKING.md tells why its tests show what they show.
 """
 import re, sys
 from collections import Counter
@@ -11,7 +11,8 @@ from operator import mul
 
 NONE = 2 ** 32  # for a choice or a rank that is `-`
 MOST_BYTES, MOST_LINE = 2 ** 32, 2 ** 20  # of a report, and of one of its lines
-REPORT, BOUNDED, PROPERTY = FORMS = b'plift', b'plift-bounded', b'plift-property'  # by the first word
+PART, COST_PART = 2 ** 32 - 1, 2 ** 62 - 1  # the greatest denominator of a bound, and the greatest part of a cost
+REPORT, BOUNDED, PROPERTY, COST = FORMS = b'plift', b'plift-bounded', b'plift-property', b'plift-cost'  # the first word
 NUMBER, NAME = re.compile(rb'0|-?[1-9][0-9]*'), re.compile(rb'[A-Za-z_][A-Za-z0-9_]*')
 getattr(sys, 'set_int_max_str_digits', int)(0)  # a line may hold a number of any length
 
@@ -32,6 +33,14 @@ def numbers(words, count=None):
 
 def pair(word, mark):
     return tuple(numbers(word.split(mark, 1), 2))
+
+def lowest(fraction, above, below):
+    """A fraction in lowest terms of at least 0, neither part of which is above its limit."""
+    n, d = fraction
+    need(0 <= n <= above and d > 0, 'Limit')
+    need(gcd(n, d) == 1)
+    need(d <= below, 'Limit')
+    return fraction
 
 class Text:
     """A report, and how far it was read: which line is due, and how many bytes came before it."""
@@ -102,23 +111,30 @@ class Report:
             within(s, 0, self.size - 1)
         self.goals, self.shapes, self.states = set(goals), {}, []
         self.read_states(kind == [b'mdp'])
-        words = text.take(b'property' if form == PROPERTY else b'bound')
+        costs = self.read_costs() if form == COST else []
+        self.cap = text.single(b'cap', 1, PART) if form == COST else 1  # what 2^W stands for
+        words = text.take({PROPERTY: b'property', COST: b'budget'}.get(form, b'bound'))
         self.op = words.pop(0) if form == PROPERTY and words else b'<='  # how probabilities have to compare with it
         need(self.op in (b'<=', b'<', b'>=', b'>'))
-        n, d = self.bound = pair(b' '.join(words), b'/')
-        need(0 <= n < 2 ** 32 and d > 0, 'Limit')
-        need(gcd(n, d) == 1)
-        need(n <= d < 2 ** 32, 'Limit')
+        n, d = self.bound = lowest(pair(b' '.join(words), b'/'), self.cap * PART, PART)
+        need(n <= self.cap * d, 'Limit')
         self.steps = range(1, text.single(b'steps', 1, 64) + 1) if form == BOUNDED else None  # None: any number
         self.most = text.single(b'precision', 1, 40)
         self.least = text.single(b'from', 1, self.most) if version == [2] else None  # of the leaves' precisions
-        self.one, self.depth = 2 ** self.most, text.single(b'depth', 0, 20)  # one: probability 1
+        self.one, self.depth = 2 ** self.most, text.single(b'depth', 0, 20)  # one: probability 1, or the cap
+        self.prices = [-(-n * self.one // (d * self.cap)) for n, d in costs]  # of a visit of each state, rounded up
         self.grid, ends = text.single(b'grid', 1, 2 ** 62 - 1), numbers(text.take(b'box'), 2 * self.parameters)
         for i, end in enumerate(ends):
             need(end % 2 ** self.depth == 0 and (i % 2 == 1 or end < ends[i + 1]))
             need(abs(end) < 2 ** 62, 'Limit')
         self.box = list(zip(ends[::2], ends[1::2]))
         self.live = [i for i in range(16) if any(i in shape.parameters for shape in self.shapes.values())]
+
+    def read_costs(self):
+        """What a visit of each state costs."""
+        costs = [pair(word, b'/') for word in self.text.take(b'cost')]
+        need(len(costs) == self.size)
+        return [lowest(cost, COST_PART, COST_PART) for cost in costs]
 
     def read_states(self, is_mdp, choices=2 ** 17, transitions=2 ** 18):
         """For each state its choices, each with its targets and its shape. Of each at most so many are left."""
@@ -173,6 +189,8 @@ class Report:
             return {b'holds': self.test_holds, b'fails': self.test_fails}
         if self.form == BOUNDED:
             return {b'accept': self.test_accept_within, b'reject': self.test_reject_within}
+        if self.form == COST:
+            return {b'accept': self.test_affordable}
         return {b'accept': self.test_above, b'reject': self.test_below}
 
     def corners_in(self, box):
@@ -193,7 +211,7 @@ class Report:
     def test_upper(self, x, z, picks, corners):
         """No state's number in z is below the mean of its targets' numbers in x, for each choice that counts."""
         for s in range(self.size):
-            need(s not in self.goals or z[s] == self.one, f'goal state {s} value {z[s]}')
+            need(s not in self.goals or z[s] == (0 if self.form == COST else self.one), f'goal state {s} value {z[s]}')
             for a, (targets, shape) in [] if s in self.goals else self.rows_of(s, picks):
                 values, whole = [x[target] for target in targets], self.common * self.grid ** len(shape.parameters)
                 for corner, weights in enumerate(corners[shape]):
@@ -203,9 +221,9 @@ class Report:
 
     def test_bound(self, x, is_low):
         """The initial state's number lies on its side of the bound, which itself is low for `<=` and `>`, else high."""
-        left, right = x[self.init] * self.bound[1], self.bound[0] * self.one
+        left, right = x[self.init] * self.cap * self.bound[1], self.bound[0] * self.one
         low, high, found = ('<=', '>', left <= right) if self.op in (b'<=', b'>') else ('<', '>=', left < right)
-        need(found == is_low, f'bound: {left} {high if is_low else low} {right}')
+        need(found == is_low, f'{"budget" if self.form == COST else "bound"}: {left} {high if is_low else low} {right}')
 
     def test_below(self, box, place, key=b'reject', has_picks=True):
         """No number is above the mean for a choice that counts, and enough weight of each leads to lower ranks."""
@@ -223,6 +241,13 @@ class Report:
                     if down * 2 ** e < whole:
                         raise Fault(f'state {s} choice {a} corner {corner}: weight {down} times 2^{e} < {whole}')
         self.test_bound(y, False)
+
+    def test_affordable(self, box, place):
+        """Of `cost`: behind the price of a visit each number has the mean of its targets' numbers left."""
+        z, corners, self.text.place = self.read_values(b'accept'), self.corners_in(box), place
+        left = [n if s in self.goals else n - price for s, (n, price) in enumerate(zip(z, self.prices))]
+        self.test_upper(z, left, None, corners)
+        self.test_bound(z, True)
 
     # of `property`: `<=` and `<` ask about the scheduler that reaches the most, `>=` and `>` about that of the least
 

@@ -82,6 +82,19 @@ PROPERTIES = {
 }
 PROPERTIES = {name: text.replace('\n', '').replace(';', '\n').encode() for name, text in PROPERTIES.items()}
 
+# Texts of costs. A coin that is tossed again in half of the cases, at 1 for each toss; heads with p, else it is left alone.
+TOSSES = '''plift-cost 1;kind dtmc;parameters 1 p;common 2;states 3;init 0;goal 1 1;row 0 0 3;to 0 0:1;to 1 1:1;to 2 0:1 1:-1;
+row 1 0 1;to 1 0:2;row 2 0 1;to 2 0:2;cost %s;cap %d;budget %s;precision 4;depth 0;grid 5;box 1 2;%s'''
+# Either the goal at once, for 1/3 with p, else once more at the other state, for 3/4; or there at once.
+WAYS = '''plift-cost 1;kind mdp;parameters 1 p;common 1;states 3;init 0;goal 1 1;row 0 0 2;to 1 1:1;to 2 0:1 1:-1;row 0 1 1;to 2 0:1;
+row 1 0 1;to 1 0:1;row 2 0 1;to 1 0:1;cost 1/3 7/2 3/4;cap 2;budget %s;precision 6;depth 1;grid 4;box 0 4;%s'''
+COSTS = {
+    'TOSSES': TOSSES % ('1/1 0/1 0/1', 4, '2/1', 'accept 8 0 0;'),
+    'ROUNDED': TOSSES % ('5/3 1/1 0/1', 4, '7/2', 'accept 14 0 0;'),
+    'WAYS': WAYS % ('35/32', 'split 0;accept 35 0 24;accept 35 0 24;'),
+}
+COSTS = {name: text.replace('\n', '').replace(';', '\n').encode() for name, text in COSTS.items()}
+
 # The coin again, in the second version: over halves of a region from 1/10 to 9/10, each leaf at its own precision.
 RANGE = b'''plift 2;kind dtmc;parameters 1 p;common 1;states 3;init 0;goal 1 1;row 0 0 2;to 1 1:1;to 2 0:1 1:-1;row 1 0 1;
 to 1 0:1;row 2 0 1;to 2 0:1;bound 1/2;precision 4;from 1;depth 2;grid 40;box 4 36;split 0;at 1;accept 1 2 0;split 0;unknown;
@@ -560,6 +573,93 @@ HALVES | 18=property <= 1/2 | node 2 bound: 16 <= 16
 '''
 
 
+# The same of costs.
+COST_TABLE = '''
+TOSSES | | sound accept 1 unknown 0
+TOSSES | 1=plift-cost 2 | line 1: Version
+TOSSES | 1=plift-cost 1 1 | line 1: Syntax
+TOSSES | 1=plift-costs 1 | line 1: Syntax
+TOSSES | 1=plift 1 | line 16: Syntax
+TOSSES | 16=- | line 16: Syntax
+TOSSES | 16=bound 1/2 | line 16: Syntax
+TOSSES | 16=cost 1/1 0/1 | line 16: Syntax
+TOSSES | 16=cost 1/1 0/1 0/1 0/1 | line 16: Syntax
+TOSSES | 16=cost 1 0/1 0/1 | line 16: Syntax
+TOSSES | 16=cost 01/1 0/1 0/1 | line 16: Syntax
+TOSSES | 16=cost 1/1/1 0/1 0/1 | line 16: Syntax
+TOSSES | 16=cost 2/2 0/1 0/1 | line 16: Syntax
+TOSSES | 16=cost 1/1 0/2 0/1 | line 16: Syntax
+TOSSES | 16=cost 1/1 0/1 0 | line 16: Syntax
+TOSSES | 16=cost -1/1 0/1 0 | line 16: Syntax
+TOSSES | 16=cost -1/1 0/1 0/1 | line 16: Limit
+TOSSES | 16=cost 1/0 0/1 0/1 | line 16: Limit
+TOSSES | 16=cost 1/-1 0/1 0/1 | line 16: Limit
+TOSSES | 16=cost 4611686018427387904/1 0/1 0/1 | line 16: Limit
+TOSSES | 16=cost 1/4611686018427387904 0/1 0/1 | line 16: Limit
+TOSSES | 16=cost 1/4611686018427387903 0/1 0/1 / 23=accept 2 0 0 | sound accept 1 unknown 0
+TOSSES | 16=cost 4611686018427387903/1 0/1 0/1 / 23=unknown | sound accept 0 unknown 1
+TOSSES | 17=- | line 17: Syntax
+TOSSES | 17=cap 0 | line 17: Limit
+TOSSES | 17=cap -4 | line 17: Limit
+TOSSES | 17=cap 4294967296 | line 17: Limit
+TOSSES | 17=cap 04 | line 17: Syntax
+TOSSES | 17=cap 4 4 | line 17: Syntax
+TOSSES | 17=cap 4/1 | line 17: Syntax
+TOSSES | 17=cap 4294967295 / 23=accept 2 0 0 | node 0 budget: 8589934590 > 32
+TOSSES | 17=cap 4294967295 / 18=budget 4294967295/1 / 23=accept 2 0 0 | sound accept 1 unknown 0
+TOSSES | 17=cap 1 / 18=budget 1/1 | node 0 state 0 choice 0 corner 0: 40 > -80
+TOSSES | 18=bound 1/2 | line 18: Syntax
+TOSSES | 18=budget 2 | line 18: Syntax
+TOSSES | 18=budget <= 2/1 | line 18: Syntax
+TOSSES | 18=budget 4/2 | line 18: Syntax
+TOSSES | 18=budget 4/1 | sound accept 1 unknown 0
+TOSSES | 18=budget 5/1 | line 18: Limit
+TOSSES | 18=budget 9/2 | line 18: Limit
+TOSSES | 18=budget -1/2 | line 18: Limit
+TOSSES | 18=budget 1/0 | line 18: Limit
+TOSSES | 18=budget 1/4294967296 | line 18: Limit
+TOSSES | 18=budget 17179869179/4294967295 / 23=unknown | sound accept 0 unknown 1
+TOSSES | 18=budget 17179869181/4294967295 | line 18: Limit
+TOSSES | 18=budget 0/1 | node 0 budget: 32 > 0
+TOSSES | 18=budget 1/1 | node 0 budget: 32 > 16
+TOSSES | 18=budget 1/1 / 23=unknown | sound accept 0 unknown 1
+TOSSES | 23=reject e 1 k 1 m 1 b 8/16 | line 23: Syntax
+TOSSES | 23=holds | line 23: Syntax
+TOSSES | 23=at 4;accept 8 0 0 | line 23: Syntax
+TOSSES | 23=accept 8 0 | line 23: Syntax
+TOSSES | 23=accept 17 0 0 | line 23: Limit
+TOSSES | 23=accept 8 0 -1 | line 23: Limit
+TOSSES | 23=accept 8 16 0 | node 0 state 0 choice 0 corner 0: 56 > 40
+TOSSES | 23=accept 10 1 0 | node 0 goal state 1 value 1
+TOSSES | 23=accept 7 0 0 | node 0 state 0 choice 0 corner 0: 35 > 30
+TOSSES | 23=accept 3 0 0 | node 0 state 0 choice 0 corner 0: 15 > -10
+TOSSES | 23=accept 0 0 0 | node 0 state 0 choice 0 corner 0: 0 > -40
+TOSSES | 23=accept 8 0 1 | node 0 state 0 choice 0 corner 0: 44 > 40
+TOSSES | 23=accept 9 0 0 | node 0 budget: 36 > 32
+TOSSES | 23=accept 9 0 1 / 18=budget 9/4 | sound accept 1 unknown 0
+TOSSES | 23=accept 16 0 16 / 18=budget 4/1 / 16=cost 1/1 0/1 1/1 | node 0 state 0 choice 0 corner 0: 144 > 120
+TOSSES | 23=accept 0 0 16 / 16=cost 0/1 0/1 1/1 | node 0 state 0 choice 0 corner 0: 64 > 0
+TOSSES | 23=accept 16 0 16 / 16=cost 0/1 0/1 1/1 / 18=budget 4/1 | node 0 state 2 choice 0 corner 0: 32 > 24
+TOSSES | 23=accept 0 0 0 / 16=cost 0/1 5/1 0/1 / 18=budget 0/1 | sound accept 1 unknown 0
+TOSSES | 11=to 2 0:1 1:-2 | state 0 choice 0: set 1 sums to -1
+TOSSES | 23=accept 8 0 0;unknown | rest
+ROUNDED | | sound accept 1 unknown 0
+ROUNDED | 23=accept 12 0 0 | node 0 state 0 choice 0 corner 0: 60 > 50
+ROUNDED | 23=accept 13 0 0 | node 0 state 0 choice 0 corner 0: 65 > 60
+ROUNDED | 23=accept 13 0 0 / 16=cost 3/2 1/1 0/1 | sound accept 1 unknown 0
+ROUNDED | 18=budget 10/3 | node 0 budget: 168 > 160
+WAYS | | sound accept 2 unknown 0
+WAYS | 17=cost 1/3 7/2 1/2 | sound accept 2 unknown 0
+WAYS | 26=unknown | sound accept 1 unknown 1
+WAYS | 24=unknown | node 0 depth
+WAYS | 26=split 0 | node 2 depth
+WAYS | 25=accept 35 0 23 | node 1 state 2 choice 0 corner 0: 0 > -1
+WAYS | 25=accept 35 0 25 | node 1 state 0 choice 0 corner 0: 100 > 96
+WAYS | 26=accept 36 0 24 | node 2 budget: 2304 > 2240
+WAYS | 26=accept 34 0 24 | node 2 state 0 choice 1 corner 0: 24 > 23
+'''
+
+
 class Answer(NamedTuple):
     """How a check ends: its status, and what it writes to standard output and standard error."""
     status: int
@@ -569,7 +669,7 @@ class Answer(NamedTuple):
 
 def changed(report: str, changes: str) -> bytes:
     """A report's text with changes, as a row tells them."""
-    lines = {**REPORTS, **STEPS, **PROPERTIES}[report].decode().splitlines()
+    lines = {**REPORTS, **STEPS, **PROPERTIES, **COSTS}[report].decode().splitlines()
     for change in filter(None, changes.split(' / ')):
         number, line = change.split('=', 1)
         lines[int(number) - 1] = None if line == '-' else line.replace(';', '\n')
@@ -667,9 +767,9 @@ class Comparison:
         return is_right
 
 
-def compare_table(tests: Comparison) -> None:
-    """The rows of the table."""
-    for row in filter(None, TABLE.split('\n')):
+def compare_table(tests: Comparison, table: str) -> None:
+    """The rows of a table."""
+    for row in filter(None, table.split('\n')):
         report, changes, said = [cell.strip(' ') if i != 1 else cell[1:-1] for i, cell in enumerate(row.split('|'))]
         tests.compare(row[:100], changed(report, changes), answer(said), is_started=not changes)
 
@@ -677,9 +777,7 @@ def compare_table(tests: Comparison) -> None:
 def compare_alone(table: str, texts: dict[str, bytes]) -> Comparison:
     """The rows of a table of texts that recheck.py alone reads, and the prefixes of these texts."""
     alone = Comparison(None)
-    for row in filter(None, table.split('\n')):
-        report, changes, said = [cell.strip(' ') if i != 1 else cell[1:-1] for i, cell in enumerate(row.split('|'))]
-        alone.compare(row[:100], changed(report, changes), answer(said), is_started=not changes)
+    compare_table(alone, table)
     for name, text in texts.items():
         for size in range(len(text)):
             line = text[:size].count(b'\n') + 1
@@ -773,11 +871,13 @@ def main() -> int:
     plift = needed('plift', given.program) if given.program else program('plift', None)
     print(f'asked: recheck.py and {plift}' if plift else 'no plift is built; asked: recheck.py alone')
     tests = Comparison(plift)
-    compare_table(tests)
+    compare_table(tests, TABLE)
     print(f'{tests.count} reports of the table')
     compare_prefixes(tests)
     print(f'{tests.count} with prefixes of a report')
-    for what, table, texts in (('for a number of steps', STEPS_TABLE, STEPS), ('of properties', PROPERTY_TABLE, PROPERTIES)):
+    for what, table, texts in (
+        ('for a number of steps', STEPS_TABLE, STEPS), ('of properties', PROPERTY_TABLE, PROPERTIES), ('of costs', COST_TABLE, COSTS),
+    ):
         alone = compare_alone(table, texts)
         print(f'{alone.count} {what}, and their prefixes')
         tests.wrong += alone.wrong

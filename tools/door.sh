@@ -46,7 +46,7 @@ answer() {
 is_command() {
     [ "$name" = plift ] || return 1
     case $1 in
-    verify | bounded | property | lumped | check | migrate | refine | generate | selftest) ;;
+    verify | bounded | property | cost | lumped | check | migrate | refine | generate | selftest) ;;
     *) return 1 ;;
     esac
 }
@@ -66,7 +66,8 @@ refuse_plain_faults() {
 announce_input() {
     case "$name $*" in
     'plift verify '*--goal*--bound* | 'plift verify '*--bound*--goal* | 'plift bounded '*--goal* | \
-        'plift property '*--formula* | 'plift lumped '*--goal*--bound* | 'plift lumped '*--bound*--goal*)
+        'plift property '*--formula* | 'plift cost '*--budget* | 'plift lumped '*--goal*--bound* | \
+        'plift lumped '*--bound*--goal*)
         say 'reading the model from standard input; give a file by < model.drn'
         ;;
     'plift check' | 'plift migrate' | 'plift refine --depth'* | plift-view*)
@@ -153,7 +154,7 @@ keep_pipe() {
     exec <&9 8>&- 9<&-
 }
 
-# Shows a text of `bounded` or `property`, which the program doesn't read: a script judges it and draws it. Its first line
+# Shows a text of `bounded`, `property` or `cost`, which the program doesn't read: a script judges it and draws it. Its first line
 # tells which text it is.
 show_other_text() {
     case " $* " in
@@ -163,7 +164,7 @@ show_other_text() {
     [ ! -p /dev/stdin ] || keep_pipe || return 0
     [ -f /dev/stdin ] || return 0
     case $(head -c 17 </dev/stdin 2>/dev/null | head -n 1) in
-    'plift-bounded 1' | 'plift-property 1') exec python3 "$top/tools/draw.py" "$@" ;;
+    'plift-bounded 1' | 'plift-property 1' | 'plift-cost 1') exec python3 "$top/tools/draw.py" "$@" ;;
     esac
 }
 

@@ -1,5 +1,5 @@
 #!/usr/bin/env python3
-"""Shows a text of `bounded` or `property` as plift-view shows a report, once recheck.py has judged it:
+"""Shows a text of `bounded`, `property` or `cost` as plift-view shows a report, once recheck.py has judged it:
 
     tools/draw.py [--x NAME] [--y NAME] [--at NAME=VALUE].. < text > picture.svg
     tools/draw.py --summary < text

@@ -18,7 +18,7 @@ from typing import Dict, List, NamedTuple, Optional, Sequence, Tuple
 sys.dont_write_bytecode = True
 
 from hints.formula import cause_of, is_bound  # noqa: E402
-from hints.options import FLAGS, FORMULATED, RANGED, STEPPED, VALUED, VIEWED  # noqa: E402
+from hints.options import COSTED, FLAGS, FORMULATED, RANGED, STEPPED, VALUED, VIEWED  # noqa: E402
 
 TOOLS = Path(__file__).resolve().parent
 USAGE = 2
@@ -40,14 +40,19 @@ class Grammar(NamedTuple):
 VERIFY = Grammar(RANGED, needed=("--goal", "--bound"))
 BOUNDED = Grammar(STEPPED, needed=("--goal", "--bound", "--steps"))
 PROPERTY = Grammar(FORMULATED, needed=("--formula",))
+COST = Grammar(COSTED, needed=("--goal", "--reward", "--budget", "--cap"))
 LUMPED = Grammar(VALUED, needed=("--goal", "--bound"))
 REFINE = Grammar(("--depth",), needed=("--depth",))
-GRAMMARS = {"verify": VERIFY, "bounded": BOUNDED, "property": PROPERTY, "lumped": LUMPED, "refine": REFINE}
+GRAMMARS = {
+    "verify": VERIFY, "bounded": BOUNDED, "property": PROPERTY, "cost": COST, "lumped": LUMPED, "refine": REFINE,
+}
 VIEW = Grammar(VIEWED, flags=FLAGS, often=("--at",), takes_any=True)
 # How many words stand behind a command that has no options.
 COUNTS = {"check": 0, "migrate": 0, "generate": 1, "selftest": 1}
-# Numbers in the order of their tests: the most digits, and the range. That of `--from` also ends at the precision.
+# Numbers: the most digits, and the range. That of `--from` also ends at the precision.
 RANGES = {"--depth": (3, 0, 20), "--precision": (3, 1, 40), "--from": (3, 1, 40), "--steps": (2, 1, 64)}
+FIRST = tuple(RANGES)  # the order of their tests, which come before those of a cost
+RANGES["--cap"] = (10, 1, 2**32 - 1)
 RANGES["N"] = (5, 1, 32767)
 # The depth that a report is gone on to.
 RANGES["H"] = (3, 1, 20)
@@ -93,10 +98,23 @@ def bad_question(values: Dict[str, str]) -> Optional[str]:
     if "--formula" in values:
         cause = cause_of(values["--formula"])
         return f"--formula {cause}" if cause else None
-    goal = values["--goal"]
-    if not goal or any(not " " <= letter <= "~" for letter in goal):
+    if not is_printed(values["--goal"], " "):
         return "--goal"
-    return None if is_bound(values["--bound"]) else "--bound"
+    return None if is_bound(values.get("--bound", "0")) else "--bound"
+
+
+def is_printed(text: str, least: str) -> bool:
+    """Whether a text isn't empty, and of printable ASCII from that character on."""
+    return text != "" and all(least <= letter <= "~" for letter in text)
+
+
+def bad_cost(values: Dict[str, str]) -> Optional[str]:
+    """Returns what is at fault with the name of a reward, a cap or a budget."""
+    if not is_printed(values["--reward"], "!"):
+        return "--reward"
+    if not is_number(values["--cap"], "--cap"):
+        return "--cap"
+    return None if is_bound(values["--budget"], int(values["--cap"])) else "--budget"
 
 
 def first_bad_value(values: Dict[str, str]) -> Optional[str]:
@@ -105,10 +123,10 @@ def first_bad_value(values: Dict[str, str]) -> Optional[str]:
     question = bad_question(values)
     if question:
         return question
-    bad = next((name for name in RANGES if name in values and not is_number(values[name], name)), None)
+    bad = next((name for name in FIRST if name in values and not is_number(values[name], name)), None)
     if bad is None and int(values.get("--from", 1)) > int(values.get("--precision", USUAL_PRECISION)):
         return "--from"
-    return bad
+    return bad or (bad_cost(values) if "--budget" in values else None)
 
 
 def plift_note(words: Sequence[str]) -> Optional[str]:

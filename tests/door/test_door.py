@@ -44,7 +44,7 @@ class Answers(Door):
                 self.assertEqual(self.run_door(*words, shell=shell).stdout, texts["plift"], words)
                 view = self.run_door(*words, shell=shell, door=self.top / "plift-view")
                 self.assertEqual(view.stdout, texts["plift-view"], words)
-        for command in ("verify", "bounded", "property", "lumped", "check", "migrate", "refine", "generate", "selftest"):
+        for command in ("verify", "bounded", "property", "cost", "lumped", "check", "migrate", "refine", "generate", "selftest"):
             asked = (["help", command], ["--help", command], [command, "--help"], [command, "-h"], [command, "--goal", "x", "--help"])
             for words in asked:
                 ran = self.run_door(*words)

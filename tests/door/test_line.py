@@ -10,9 +10,11 @@ from common import TOP, quick_program, tool
 line = tool("line")
 
 WORDS = [
-    "verify", "bounded", "property", "lumped", "check", "migrate", "refine", "generate", "selftest", "--goal", "--bound",
+    "verify", "bounded", "property", "cost", "lumped", "check", "migrate", "refine", "generate", "selftest", "--goal", "--bound",
     "--region", "--depth", "--formula", '--formula=P<=1/2[F"a"]', '--formula=P>=0.5 [ "a b" U "c" ]', "--formula=P", "--formula=",
     '--formula=P>2[F"a"]',
+    "--reward", "--reward=a", "--reward=", "--reward=a b", "--reward=\u00fc", "--budget", "--budget=1/2", "--budget=3", "--budget=1e-19", "--cap",
+    "--cap=1", "--cap=2", "--cap=0", "--cap=4294967295", "--cap=4294967296", "--cap=0000000002", "--cap=00000000002",
     "--precision", "--from", "--from=1", "--from=024", "--from=25", "--from=0", "--precision=40", "--steps", "--steps=64", "--steps=65", "--steps=064", "--steps=0", "--goal=a",
     "--bound=1/2", "--bound=", "--depth=3", "--depth=21", "--precision=0", "--precision=040", "-1", "", " ", "a", "1/2",
     "3%", "1e-3", "0.5", "2", "1/4294967295", "1/4294967296", "9223372036854775808/9223372036854775809", "1e-19", "20",
@@ -64,6 +66,34 @@ PLIFT = {
     "property --formula=P<=1/0[F\"a\"] --depth 21": "usage: --formula Bound",
     "property --precision 0 --depth 21 --formula=P<=1[F\"a\"]": "usage: --depth",
     "property --precision 0 --formula=P<=1[F\"a\"]": "usage: --precision",
+    "cost": "usage: words",
+    "cost --goal a --reward b --budget 1": "usage: words",
+    "cost --goal a --reward b --cap 1": "usage: words",
+    "cost --goal a --budget 1 --cap 1": "usage: words",
+    "cost --reward b --budget 1 --cap 1": "usage: words",
+    "cost --goal a --reward b --budget 1 --cap 1 --bound 1": "usage: words",
+    "cost --goal a --reward b --budget 1 --cap 1 --steps 1": "usage: words",
+    "cost --goal a --reward b --budget 1 --cap 1 --from 1": "usage: words",
+    "cost --goal a --reward b --budget 1 --cap 1 --formula P": "usage: words",
+    "cost --goal a --reward b --budget 1 --cap 1 --cap 1": "usage: words",
+    "cost --goal a --reward b --budget": "usage: words",
+    "cost --goal a --reward b --budget=": "usage: words",
+    "cost --goal \u00fc --reward \u00fc --budget 2 --cap 0 --depth 21": "usage: --goal",
+    "cost --goal a --reward \u00fc --budget 2 --cap 0 --depth 21": "usage: --depth",
+    "cost --goal a --reward \u00fc --budget 2 --cap 0 --precision 41": "usage: --precision",
+    "cost --goal a --reward \u00fc --budget 2 --cap 0": "usage: --reward",
+    "cost --goal a --reward b --budget 2 --cap 0": "usage: --cap",
+    "cost --goal a --reward b --budget 2 --cap 4294967296": "usage: --cap",
+    "cost --goal a --reward b --budget 2 --cap 00000000001": "usage: --cap",
+    "cost --goal a --reward b --budget 2 --cap 1.0": "usage: --cap",
+    "cost --goal a --reward b --budget 2 --cap 1": "usage: --budget",
+    "cost --goal a --reward b --budget 1/0 --cap 1": "usage: --budget",
+    "cost --goal a --reward b --budget 1/4294967296 --cap 1": "usage: --budget",
+    "cost --goal a --reward b --budget 4611686018427387905/4294967295 --cap 4294967295": "usage: --budget",
+    "cost --goal a --reward b --budget 1e-19 --cap 1": "usage: --budget",
+    "verify --goal a --bound 1/2 --reward b": "usage: words",
+    "bounded --goal a --bound 1/2 --steps 3 --budget 1": "usage: words",
+    "property --formula P --cap 1": "usage: words",
     "lumped --goal a": "usage: words",
     "lumped --goal a --bound 1/2 --steps 3": "usage: words",
     "lumped --goal a --bound 1/2 --from 1": "usage: words",
@@ -94,6 +124,9 @@ PLAIN = [
     "check", "migrate", "refine --depth 1", "refine --depth=020", "generate 1", "selftest 32767", "verify --bound=1/2 --goal=a",
     "verify --goal a --bound 1/2 --region x --depth 020 --precision 1", "bounded --steps=64 --bound=1/2 --goal=a",
     'property --formula=P<=1[F"a"]', 'property --depth 020 --formula P<=1[F"a"] --region x --precision=40',
+    "cost --goal a --reward b --budget 2 --cap 2", "cost --cap=0000000001 --budget 0 --reward=[b] --goal=a --region x",
+    "cost --depth 20 --precision 1 --goal a --reward ! --budget 4294967295 --cap 4294967295",
+    "cost --goal a --reward ~ --budget 4611686018427387903/4294967295 --cap 4294967295",
     "lumped --depth 20 --bound=1/2 --goal=a", "verify --from 24 --bound=1/2 --goal=a",
     "verify --from=004 --bound=1/2 --goal=a --precision 4",
 ]
@@ -213,7 +246,8 @@ class AgainstTheProgram(unittest.TestCase):
     def test_plift(self):
         fronts = ["", "verify", "verify --goal a", "verify --goal a --bound 1/2", "verify --goal=a --bound", "generate",
                   "lumped --goal a --bound 1/2", "bounded --goal a --bound 1/2", "bounded --goal a --bound 1/2 --steps",
-                  "property", "property --formula", 'property --formula P<=1[F"a"]']
+                  "property", "property --formula", 'property --formula P<=1[F"a"]', "cost --goal a --reward b --budget 1",
+                  "cost --goal a --reward b --budget 1 --cap", "cost --goal a --cap 2 --budget", "cost --goal a --budget 1 --cap 2 --reward"]
         self.compare("plift", lambda chance: chance.choice(fronts).split(), line.plift_note)
 
     def test_formulas(self):

@@ -14,9 +14,9 @@ line = tool("line")
 OPTION = re.compile(r"(?<![\w-])--[a-z]+")
 # What the launchers answer themselves.
 DOOR = {"--help", "--version", "--quick"}
-COMMANDS = ["verify", "bounded", "property", "lumped", "check", "migrate", "refine", "generate", "selftest"]
+COMMANDS = ["verify", "bounded", "property", "cost", "lumped", "check", "migrate", "refine", "generate", "selftest"]
 # The options of all commands.
-ASKED = {*line.VERIFY.valued, *line.BOUNDED.valued, *line.PROPERTY.valued, *line.LUMPED.valued}
+ASKED = {*line.VERIFY.valued, *line.BOUNDED.valued, *line.PROPERTY.valued, *line.COST.valued, *line.LUMPED.valued}
 
 
 def help_of(name):
@@ -51,24 +51,27 @@ class Named(unittest.TestCase):
 
     def test_the_ranges(self):
         values = part_of(self.formats, "| Value | Grammar and range |", "\n\n")
-        for name, row in (("--depth", "`--depth`"), ("--precision", "`--precision`"), ("--steps", "`--steps`"), ("N", "the number of blocks")):
+        for name, row in (("--depth", "`--depth`"), ("--precision", "`--precision`"), ("--steps", "`--steps`"), ("--cap", "`--cap`"), ("N", "the number of blocks")):
             digits, low, high = line.RANGES[name]
             self.assertIn(f"| {row} | 1 to {digits} digits, {low} to {high:,} |", values)
         digits, low, _ = line.RANGES["--from"]
         self.assertIn(f"| `--from` | 1 to {digits} digits, {low} to the precision |", values)
-        for text in (help_of("verify"), help_of("property"), help_of("lumped"), re.sub(r"\s+", " ", man_of("plift"))):
+        for text in (help_of("verify"), help_of("property"), help_of("cost"), help_of("lumped"), re.sub(r"\s+", " ", man_of("plift"))):
             for name in ("--depth", "--precision"):
                 self.assertRegex(text, rf"{name} \S+[^-]*{line.RANGES[name][1]} to {line.RANGES[name][2]}\b")
         for text in (help_of("bounded"), re.sub(r"\s+", " ", man_of("plift"))):
             for name in ("--depth", "--precision", "--steps"):
                 self.assertRegex(text, rf"{name} \S+[^-]*{line.RANGES[name][1]} to {line.RANGES[name][2]}\b")
         self.assertIn(f"1 to {line.RANGES['N'][2]}", help_of("generate"))
+        for text in (help_of("cost"), re.sub(r"\s+", " ", man_of("plift"))):
+            self.assertRegex(text, rf"--cap \S+[^-]*1 to {line.RANGES['--cap'][2]}\b")
 
     def test_help(self):
         self.assertEqual(set(OPTION.findall(help_of("verify"))), set(line.VERIFY.valued))
         self.assertEqual(set(OPTION.findall(help_of("lumped"))), set(line.LUMPED.valued))
         self.assertEqual(set(OPTION.findall(help_of("bounded"))), set(line.BOUNDED.valued))
         self.assertEqual(set(OPTION.findall(help_of("property"))), set(line.PROPERTY.valued))
+        self.assertEqual(set(OPTION.findall(help_of("cost"))), set(line.COST.valued))
         view = set(OPTION.findall(help_of("plift-view"))) - set(line.VERIFY.valued)
         self.assertEqual(view, {*line.VIEW.valued, *line.VIEW.flags, *DOOR})
         self.assertEqual(set(OPTION.findall(help_of("plift"))), {*ASKED, *DOOR})
@@ -132,6 +135,9 @@ class Completed(unittest.TestCase):
         self.assertEqual(self.offered("plift", "property", ""), {*line.PROPERTY.valued, "--help"})
         self.assertEqual(self.offered("plift", "property", "--formula", ""), set())
         self.assertEqual(self.offered("plift", "property", "--formula=P", "--"), {"--region", "--depth", "--precision", "--help"})
+        self.assertEqual(self.offered("plift", "cost", ""), {*line.COST.valued, "--help"})
+        self.assertEqual(self.offered("plift", "cost", "--reward", ""), set())
+        self.assertEqual(self.offered("plift", "cost", "--goal", "x", "--c"), {"--cap"})
         left = {"--bound", "--region", "--precision", "--from", "--help"}
         self.assertEqual(self.offered("plift", "verify", "--goal", "x", "--depth=3", "--"), left)
         self.assertEqual(self.offered("plift", "--quick", "verify", "--b"), {"--bound"})

@@ -1,5 +1,5 @@
-"""Tests of what draws texts of `bounded` and `property`: its pictures of reports have the bytes of plift-view, and its
-answers to texts for a number of steps and to those of properties are those that were worked out by hand."""
+"""Tests of what draws texts of `bounded`, `property` and `cost`: its pictures of reports have the bytes of plift-view, and
+its answers to texts for a number of steps, of properties and of costs are those that were worked out by hand."""
 
 import os
 import subprocess
@@ -33,6 +33,13 @@ PROPERTY = TWIN % ("< 3/4", "split 0;split 0;fails;lower e 1 k 1 m 1 b 6/8;y 6 8
                    "split 0;unknown;fails;lower e 1 k 1 m 1 b 6/8;y 6 8 0;choice 0 - -;rank 1 0 -;")
 ALWAYS = TWIN % (">= 1/4", "split 0;split 0;fails;x 2 8 0;choice 0 - 0;holds;lower e 2 k 1 m 2 b 2/8;y 2 8 0;rank 1 0 -;"
                  "split 0;holds;lower e 2 k 1 m 2 b 2/8;y 2 8 0;rank 1 0 -;unknown;")
+
+
+# The first coin again, at 1 for each throw: two throws on average, whatever p is.
+COST = """plift-cost 1;kind dtmc;parameters 1 p;common 2;states 3;init 0;goal 1 1;row 0 0 3;to 0 0:1;to 1 1:1;to 2 0:1 1:-1;
+row 1 0 1;to 1 0:2;row 2 0 1;to 2 0:2;cost 1/1 0/1 0/1;cap 4;budget %s;precision 4;depth 1;grid 20;box 4 16;
+split 0;%s;accept 8 0 0;"""
+AFFORDABLE, HALF = COST % ("2/1", "accept 8 0 0"), COST % ("9/4", "unknown")
 
 
 class Answer(NamedTuple):
@@ -144,6 +151,41 @@ class Properties(unittest.TestCase):
         self.assertEqual(draw(["--summary"], text(ALWAYS)).note, "not sound: node 2 bound: 8 >= 8\n")
 
 
+class Costs(unittest.TestCase):
+    """Texts of costs have leaves within the budget, and unknown ones, with the look that these have in a report."""
+
+    def test_a_bar(self):
+        answer = draw([], text(HALF))
+        self.assertEqual((answer.status, answer.note), (0, ""))
+        low, high = "M0 1048576H524288V0H0z", "M524288 1048576H1048576V0H524288z"
+        self.assertEqual(field_of(answer.out), [high, low, low + high])
+        self.assertIn(">expected cost at most 9/4, cap 4, numbers over 2^4, depth 1</text>", answer.out)
+        self.assertIn("<desc>within budget 50.0000 %, unknown 50.0000 % of the volume, rounded down</desc>", answer.out)
+        self.assertIn('<text x="54" y="98">within budget</text>\n<text x="194" y="98">unknown</text>', answer.out)
+        self.assertNotIn("rejected", answer.out)
+
+    def test_the_look_is_that_of_a_report(self):
+        report = draw([], (TOP / "examples" / "coin.report").read_bytes()).out
+        accepted, _, unknown = (line for line in report.splitlines() if line.startswith("<pattern"))
+        self.assertEqual([line for line in draw([], text(HALF)).out.splitlines() if line.startswith("<pattern")], [accepted, unknown])
+
+    def test_a_table(self):
+        self.assertEqual(draw(["--summary"], text(HALF)).out.splitlines(), [
+            "leaves accept 1 unknown 1", "share accept 1/2 50.0000 %", "share unknown 1/2 50.0000 %",
+            "greatest accept depth 1 p 1/2 4/5", "least accept depth 1 p 1/2 4/5", "depth 0 accept 0 unknown 0", "depth 1 accept 1 unknown 1",
+        ])
+
+    def test_refusals(self):
+        table = [
+            ([], AFFORDABLE.replace("cost 1/1", "cost 3/2"), 1, "not sound: node 1 state 0 choice 0 corner 0: 160 > 80\n"),
+            ([], AFFORDABLE.replace("budget 2/1", "budget 1/1"), 1, "not sound: node 1 budget: 32 > 16\n"),
+            (["--x", "q"], AFFORDABLE, 2, "usage: --x UnknownName\n"),
+        ]
+        for words, given, status, note in table:
+            with self.subTest(words=words, note=note):
+                self.assertEqual(draw(words, text(given)), Answer(status, "", note))
+
+
 class Door(unittest.TestCase):
     """plift-view takes each kind of text, from a file and through a pipe."""
 
@@ -165,9 +207,10 @@ class Door(unittest.TestCase):
                 with self.subTest(words=words, by_file=by_file):
                     self.assertEqual(self.ask_door(words, text(HALVES), by_file), draw(words, text(HALVES)))
                     self.assertEqual(self.ask_door(words, text(PROPERTY), by_file), draw(words, text(PROPERTY)))
+                    self.assertEqual(self.ask_door(words, text(HALF), by_file), draw(words, text(HALF)))
                     self.assertEqual(self.ask_door(words, report, by_file), ask([str(VIEW)], words, report))
             self.assertEqual(self.ask_door(["--follow"], text(HALVES), by_file).out.encode(), text(HALVES))
-            for front in (b"plift-bounded 10\n", b"plift-property 10\n", b"plift-propert 1\n", b"plift-bounde"):
+            for front in (b"plift-bounded 10\n", b"plift-property 10\n", b"plift-cost 10\n", b"plift-propert 1\n", b"plift-bounde"):
                 self.assertEqual(self.ask_door([], front, by_file), ask([str(VIEW)], [], front))
             self.assertEqual(self.ask_door([], b"", by_file), Answer(1, "", "not sound: line 1: Truncated\n"))
 

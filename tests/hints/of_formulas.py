@@ -2,14 +2,10 @@
 
 import shlex
 
-from table import REGION, RETRY, Mistake
+from table import REGION, RETRY, Mistake, words
 
 FORMULA = "--formula 'P<=3/100 [F \"lost\"]'"
 ASKED = f"property {FORMULA} {REGION}"
-
-
-def words(line: str, *told: str) -> Mistake:
-    return Mistake(line, RETRY, 2, "usage: words", told)
 
 
 def formula(text: str, *told: str, cause: str = "Syntax") -> Mistake:
@@ -84,7 +80,8 @@ FORMULAS = [
     formula('P>=1/2 ["lost" W "lost"]', "U is wanted here", "there is no W"),
     formula('P<=1/2 [!"lost" U "lost"]', "a label stands alone"),
     formula('P<=1/2 [F "lost" | "init"]', "] is wanted here", "a label stands alone"),
-    formula('R<=5 [F "lost"]', "about a probability"),
+    formula('R<=5 [F "lost"]', "an expected cost", "plift cost"),
+    formula('S<=1/2 ["lost"]', "about a probability"),
     formula('P<=1/2 [F ""]', "a label is wanted here"),
     formula('P<=1/2 [F "größe"]', "printable ASCII"),
     bound("3", "3 is above 1", "3 percent are 3/100"),

@@ -1,10 +1,6 @@
 """Mistakes on the command line of plift: its words, and the values of its options."""
 
-from table import ASKED, PLAIN, REGION, RETRY, Mistake
-
-
-def words(line: str, *told: str) -> Mistake:
-    return Mistake(line, RETRY, 2, "usage: words", told)
+from table import ASKED, PLAIN, REGION, RETRY, Mistake, words
 
 
 def bound(value: str, *told: str) -> Mistake:
@@ -25,7 +21,7 @@ WORDS = [
     words("help verify", "plift --help verify"),
     words("--goal lost --bound 3/100", "the command stands first: plift verify --goal"),
     words("retry.drn", "the file behind <", "< retry.drn"),
-    words("model verify", "is no command", "verify, bounded, property, lumped, check, migrate, refine, generate, selftest"),
+    words("model verify", "is no command", "verify, bounded, property, cost, lumped, check, migrate, refine, generate, selftest"),
     words("verify", "--goal LABEL is missing", "--bound B is missing"),
     words("verify --help", "help stands alone"),
     words(PLAIN + " --help", "help stands alone", "plift --help verify"),

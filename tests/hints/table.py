@@ -50,6 +50,11 @@ class Mistake(NamedTuple):
         return shlex.split(self.words)
 
 
+def words(line: str, *told: str) -> Mistake:
+    """A line that isn't one of plift."""
+    return Mistake(line, RETRY, 2, "usage: words", told)
+
+
 @lru_cache(maxsize=None)
 def told_of(mistake: Mistake) -> List[str]:
     """The hints for a mistake, as they are made."""

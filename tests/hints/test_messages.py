@@ -17,7 +17,6 @@ from hints import model  # noqa: E402
 from hints.advice import PAGE, advice_on, rows_of  # noqa: E402
 
 UNTOLD = {"Memory"}  # told as `out of memory`
-OF_REWARDS = {"UnknownReward", "RewardSyntax", "RewardWide", "ActionReward"}  # of a call that no command makes
 UNREACHED = {"not read"}  # kept for faults that have statuses of their own
 
 
@@ -38,7 +37,7 @@ def variants(text: str, kind: str) -> List[str]:
 
 
 def causes() -> List[str]:
-    return [name for name in names_in(source("drn_read/src/error.rt"), "DrnCause") if name not in OF_REWARDS]
+    return names_in(source("drn_read/src/error.rt"), "DrnCause")
 
 
 def region_causes() -> List[str]:
@@ -126,7 +125,7 @@ def without_front(section: str, note: str) -> str:
 class Messages(unittest.TestCase):
     def test_sources(self) -> None:
         """What the sources are read for was found: the lists are those of the enums."""
-        self.assertEqual(set(causes()) | UNTOLD | OF_REWARDS, set(variants(source("drn_read/src/error.rt"), "DrnCause")))
+        self.assertEqual(set(causes()) | UNTOLD, set(variants(source("drn_read/src/error.rt"), "DrnCause")))
         self.assertEqual(set(region_causes()) | UNTOLD, set(variants(source("lift_grid/src/error.rt"), "RegionError")))
         self.assertEqual(set(text_causes()) | UNTOLD, set(variants(source("line_text/src/error.rt"), "TextCause")))
         self.assertEqual(set(view_causes()), set(variants(source("view_words/src/job.rt"), "Cause")))

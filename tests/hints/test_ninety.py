@@ -17,6 +17,7 @@ sys.dont_write_bytecode = True
 sys.path[:0] = [str(Path(__file__).resolve().parent), str(Path(__file__).resolve().parent.parent.parent / "tools")]
 
 import hints  # noqa: E402
+import of_costs  # noqa: E402
 import of_formulas  # noqa: E402
 import of_lines  # noqa: E402
 import of_models  # noqa: E402
@@ -25,7 +26,8 @@ import of_reports  # noqa: E402
 import of_rows  # noqa: E402
 from table import Mistake, program, told_of  # noqa: E402
 
-TABLES = {module.__name__: module.MISTAKES for module in (of_formulas, of_lines, of_models, of_regions, of_reports, of_rows)}
+MODULES = (of_costs, of_formulas, of_lines, of_models, of_regions, of_reports, of_rows)
+TABLES = {module.__name__: module.MISTAKES for module in MODULES}
 LEAST = 200  # mistakes in all tables
 
 

@@ -95,6 +95,8 @@ def renamed(given: Given, match: "re.Match[str]", mistake: Mistake) -> Given:
     """The near name in the place of the one that was meant."""
     if mistake.note == "usage: words" and match[1].startswith("--") and match[1] not in ("--summary", "--follow"):
         return renamed_options(given, mistake)
+    if mistake.note.endswith("UnknownReward"):
+        return with_option(given, "--reward", match[1])
     whole = "\n".join(told_of(mistake))
     old = re.search(r'"([^"]*)"|no parameter (\w+);|(\w+) isn\'t declared', whole)
     name = next(part for part in old.groups() if part) if old else ""
@@ -112,11 +114,11 @@ PROPOSALS = [
     (r"needs quotes, as in --goal (.+)$", lambda g, m, _: Given(["verify", "--goal", shlex.split(m[1])[0], "--bound", "1/2"], g.text)),
     (r"the lower end stands first: (.+)$", lambda g, m, _: with_option(g, "--region", m[1] + ",1/20<=q<=1/5")),
     (r"leave --region out", lambda g, m, _: Given([w for w in g.words if w != "--region" and "<=" not in w], g.text)),
-    (r"--bound \".*\": write ([0-9/]+);", lambda g, m, _: with_option(g, "--bound", m[1])),
-    (r"'at most': --bound (\S+)$", lambda g, m, _: with_option(g, "--bound", m[1])),
+    (r"(--bound|--budget) \".*\": write ([0-9/]+);", lambda g, m, _: with_option(g, m[1], m[2])),
+    (r"'at most': (--bound|--budget) (\S+)$", lambda g, m, _: with_option(g, m[1], m[2])),
     (r"percent are ([0-9/]+)$", lambda g, m, _: with_option(g, "--bound", m[1])),
-    (r"2\^32 or more: take (\S+) or", lambda g, m, _: with_option(g, "--bound", m[1])),
-    (r"2\^32 or more: take \S+ or (\S+)$", lambda g, m, _: with_option(g, "--bound", m[1])),
+    (r"(--bound|--budget) .* 2\^32 or more: take (\S+) or", lambda g, m, _: with_option(g, m[1], m[2])),
+    (r"(--bound|--budget) .* 2\^32 or more: take \S+ or (\S+)$", lambda g, m, _: with_option(g, m[1], m[2])),
     (r"(?:is at most \S+|is the finest): --precision (\d+)$", lambda g, m, _: with_option(g, "--precision", m[1])),
     (r"this row fits with --precision (\d+)", lambda g, m, _: with_option(g, "--precision", m[1])),
     (r"this row fits with .*--depth (\d+)", lambda g, m, _: with_option(g, "--depth", m[1])),
@@ -138,7 +140,7 @@ PROPOSALS = [
     (r"^(tr .* < FILE|tail -c \+4 FILE|iconv -f UTF-16 -t UTF-8 FILE|gzip -dc FILE)", lambda g, m, _: by_command(g, m[1])),
 ]
 LEAST = 60  # proposals that are taken
-OTHERS = ("is verify meant?", "is bounded meant?", "is lumped meant?", "is property meant?")  # proposals of a command, whose words may need more
+OTHERS = ("is verify meant?", "is bounded meant?", "is lumped meant?", "is property meant?", "is cost meant?")  # proposals of a command, whose words may need more
 
 
 class Truth(unittest.TestCase):

@@ -4,8 +4,8 @@
     tests/memory/run.py [--bin PATH]
 
 Each request is refused twice: with all behind it, and alone. Refused alone it may be made again at once, as where a list
-asks for more than it needs and then for what it needs; the answer is then the whole one. What verify, lumped,
-bounded and property ask for last is their room, so none comes while rectangles are decided and the report is written.
+asks for more than it needs and then for what it needs; the answer is then the whole one. What verify, lumped, bounded,
+property and cost ask for last is their room, so none comes while rectangles are decided and the report is written.
 
 Needs the built program (./plift builds it) and a C compiler, for a small library that is loaded before the C library
 and stands between the two. Prints how many requests each run makes. The last line is 'N passed, M failed'.
@@ -40,7 +40,7 @@ class Case:
     words: str
     reads: str = os.devnull
     report_of: "Case" = None
-    # What is asked for last, in bytes: the room of verify, lumped, bounded or property.
+    # What is asked for last, in bytes: the room of verify, lumped, bounded, property or cost.
     last: tuple = ()
 
 
@@ -72,6 +72,11 @@ def bounded_room(steps, depth, parameters, states, weights):
     return (*sides, weights * 16, *numbers, *picks, states * 8, states * 4)
 
 
+def cost_room(depth, parameters, states, weights):
+    """The same for a budget: the sides, the table, the numbers, and what they are found in."""
+    return ((depth + 1) * 2 * parameters * 8, (depth + 1) * 8, weights * 16, states * 8, 2 * states * 4)
+
+
 # Different rows have weights of their own, one for each entry at each corner: five for the coin, nine for the ladder.
 COIN_ROOM = {"parameters": 1, "states": 3, "rows": 3, "weights": 5}
 COIN_STEPS = {"parameters": 1, "states": 3, "weights": 5}
@@ -87,6 +92,8 @@ PROPERTY_JOB = "--region 1/10<=p<=9/10 --precision 24 --depth 12"
 PROPERTY = Case("property --formula P>=1/2[F\"heads\"] " + PROPERTY_JOB, COIN, last=property_room(12, **COIN_ROOM))
 # The text is read twice, and the model is cut: state 2 leads to itself before and after.
 UNTIL = Case("property --formula P<1/2[\"init\"U\"heads\"] " + PROPERTY_JOB, COIN, last=property_room(12, **COIN_ROOM))
+SENDS_JOB = "--goal done --reward seconds --budget 2 --cap 4 --region 1/10<=p<=1/2,1/10<=q<=1/2 --depth 12"
+COST = Case("cost " + SENDS_JOB, "examples/sends.drn", last=cost_room(12, parameters=2, states=5, weights=9))
 # No two states of the coin behave alike.
 LUMPED = Case("lumped " + COIN_JOB, COIN, last=room(0, **COIN_ROOM))
 GENERATE = Case("generate 1")
@@ -99,7 +106,7 @@ LADDER_CHECK = Case("check", report_of=LADDER_VERIFY)
 SELFTEST = Case("selftest 1")
 
 # Each of these runs is tried with each of its requests refused in turn.
-CASES = [ACCEPT, DEEP, RANGED, LUMPED, BOUNDED, FAR, PROPERTY, UNTIL, CHECK, MIGRATE, REFINE, GENERATE, LADDER_VERIFY, LADDER_CHECK, SELFTEST]
+CASES = [ACCEPT, DEEP, RANGED, LUMPED, BOUNDED, FAR, PROPERTY, UNTIL, COST, CHECK, MIGRATE, REFINE, GENERATE, LADDER_VERIFY, LADDER_CHECK, SELFTEST]
 
 # What selftest does in one run: it asks for memory at least as often as these do behind their words.
 SELFTEST_PARTS = [LADDER_VERIFY, LADDER_CHECK]

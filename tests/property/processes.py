@@ -4,8 +4,9 @@ from __future__ import annotations
 
 import random
 from fractions import Fraction
+from itertools import product
 from math import lcm
-from typing import Dict, List, NamedTuple, Sequence, Set, Tuple
+from typing import Dict, Iterator, List, NamedTuple, Sequence, Set, Tuple
 
 Poly = Dict[int, Fraction]  # coefficients by the set of parameters, bit i for parameter i; each parameter at most once
 Row = List[Tuple[int, Poly]]  # targets with their probabilities
@@ -78,9 +79,21 @@ class Question(NamedTuple):
 
     def words(self) -> List[str]:
         """The program's words."""
-        region = ",".join(f"{low}<={name}<={high}" for name, (low, high) in zip(NAMES, self.box))
         words = ["property", "--formula", self.formula(), "--depth", str(self.depth), "--precision", str(self.precision)]
-        return words + (["--region", region] if self.box else [])
+        return words + region_words(self.box)
+
+
+def region_words(box: Box) -> List[str]:
+    """The words that ask about a region."""
+    region = ",".join(f"{low}<={name}<={high}" for name, (low, high) in zip(NAMES, box))
+    return ["--region", region] if box else []
+
+
+def samples(chance: random.Random, box: Box) -> Iterator[List[Fraction]]:
+    """A rectangle's corners, its middle and a valuation inside."""
+    yield from (list(ends) for ends in product(*box))
+    yield [Fraction(low + high) / 2 for low, high in box]
+    yield [low + (high - low) * Fraction(chance.randrange(101), 100) for low, high in box]
 
 
 def value(poly: Poly, at: Valuation) -> Fraction:

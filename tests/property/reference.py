@@ -186,16 +186,16 @@ def live_parameters(process: Process) -> List[int]:
             if any(mask >> i & 1 for rows in process.states for row in rows for _, poly in row for mask in poly)]
 
 
-def tree_of(process: Process, question: Question, box: Box, depth: int, live: List[int]) -> Union[Split, Leaf]:
-    """The tree over a rectangle, in which so many halvings are left."""
-    leaf = verdict(process, question, box)
+def tree_of(decide: Callable[[Box], Leaf], box: Box, depth: int, live: List[int]) -> Union[Split, Leaf]:
+    """The tree over a rectangle, in which so many halvings are left, by who decides a rectangle."""
+    leaf = decide(box)
     if leaf.kind != "unknown" or depth == 0 or not live:
         return leaf
     axis = max(live, key=lambda i: box[i][1] - box[i][0])
     low, high = box[axis]
     halves = []
     for half in ((low, (low + high) / 2), ((low + high) / 2, high)):
-        halves.append(tree_of(process, question, [*box[:axis], half, *box[axis + 1 :]], depth - 1, live))
+        halves.append(tree_of(decide, [*box[:axis], half, *box[axis + 1 :]], depth - 1, live))
     return Split(axis, halves)
 
 
@@ -221,11 +221,11 @@ def leaf_lines(process: Process, question: Question, leaf: Leaf) -> List[str]:
     return [leaf.kind, first, words("y", found.numbers), *choices, words("rank", found.ranks)]
 
 
-def node_lines(process: Process, question: Question, tree: Union[Split, Leaf]) -> List[str]:
-    """The lines of a tree's nodes."""
+def node_lines(tree: Union[Split, Leaf], lines_of: Callable[[Leaf], List[str]]) -> List[str]:
+    """The lines of a tree's nodes, by those of a leaf."""
     if isinstance(tree, Leaf):
-        return leaf_lines(process, question, tree)
-    return [f"split {tree.axis}", *(line for half in tree.halves for line in node_lines(process, question, half))]
+        return lines_of(tree)
+    return [f"split {tree.axis}", *(line for half in tree.halves for line in node_lines(half, lines_of))]
 
 
 def model_lines(process: Process, common: int) -> List[str]:
@@ -242,15 +242,29 @@ def model_lines(process: Process, common: int) -> List[str]:
     return lines
 
 
+def box_lines(box: Box, depth: int, precision: int) -> List[str]:
+    """The lines from the precision to the region."""
+    grid = lcm(*(Fraction(end).denominator for span in box for end in span)) * 2**depth
+    ends = " ".join(map(str, ["box", *(int(end * grid) for span in box for end in span)]))
+    return [f"precision {precision}", f"depth {depth}", f"grid {grid}", ends]
+
+
+def root_of(box: Box) -> Box:
+    """The region in fractions."""
+    return [(Fraction(low), Fraction(high)) for low, high in box]
+
+
+def text_of(lines: Iterable[str]) -> bytes:
+    """The text of these lines."""
+    return "".join(f"{line}\n" for line in lines).encode()
+
+
 def answer(process: Process, question: Question) -> Tuple[bytes, Union[Split, Leaf]]:
     """The text and its tree."""
     common, cut = process.common(), process.cut() if question.is_until else process
-    grid = lcm(*(Fraction(end).denominator for span in question.box for end in span)) * 2**question.depth
-    box = [(Fraction(low), Fraction(high)) for low, high in question.box]
-    tree = tree_of(cut, question, box, question.depth, live_parameters(cut))
+    tree = tree_of(lambda box: verdict(cut, question, box), root_of(question.box), question.depth, live_parameters(cut))
     bound = question.bound
     lines = ["plift-property 1", *model_lines(cut, common), f"property {question.op} {bound.numerator}/{bound.denominator}"]
-    lines += [f"precision {question.precision}", f"depth {question.depth}", f"grid {grid}"]
-    lines.append(" ".join(map(str, ["box", *(int(end * grid) for span in box for end in span)])))
-    lines += node_lines(cut, question, tree)
-    return "".join(f"{line}\n" for line in lines).encode(), tree
+    lines += box_lines(question.box, question.depth, question.precision)
+    lines += node_lines(tree, lambda leaf: leaf_lines(cut, question, leaf))
+    return text_of(lines), tree

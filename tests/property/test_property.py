@@ -11,41 +11,19 @@ reach it (exact.py). Where no program is built, the reference's own texts are tr
 
 from __future__ import annotations
 
-import argparse
-import io
 import random
-import sys
 import unittest
 from fractions import Fraction
-from itertools import product
-from typing import Iterator, List, Optional
+from typing import List, Optional
 
 import asking
-from asking import Answer, ask, has_program
+from asking import wrong_text
 from exact import extremes, reached
-from processes import Box, Process, Question, model_text, random_process, random_question
+from processes import Process, Question, model_text, random_process, random_question, samples
 from reference import Leaf, Upper, answer, leaves_of
 
-import recheck
-
-COUNT, SEED = 120, 1
+COUNT = 120
 MOST_LEAVES = 6  # of a tree, that are sampled
-
-
-def checked(text: bytes) -> str:
-    """What recheck.py says of a text."""
-    read = recheck.Text(io.BytesIO(text))
-    try:
-        return recheck.check(read)
-    except recheck.Fault as fault:
-        return f"not sound: {read.place}{fault}"
-
-
-def samples(chance: random.Random, box: Box) -> Iterator[List[Fraction]]:
-    """A rectangle's corners, its middle and a valuation inside."""
-    yield from (list(ends) for ends in product(*box))
-    yield [Fraction(low + high) / 2 for low, high in box]
-    yield [low + (high - low) * Fraction(chance.randrange(101), 100) for low, high in box]
 
 
 def is_true(op: str, number: Fraction, bound: Fraction) -> bool:
@@ -94,22 +72,18 @@ def question_of(chance: random.Random) -> tuple[Process, Question]:
 def fault_of(chance: random.Random) -> str:
     """What is wrong with one question, nothing where nothing is."""
     process, question = question_of(chance)
-    told = f"\n{model_text(process).decode()}{question.words()}"
     wanted, tree = answer(process, question)
-    if has_program():
-        got = ask(question.words(), model_text(process))
-        if got != Answer(0, wanted, b""):
-            return f"status {got.status}, {got.note!r}, {got.out.decode()}\nand not {wanted.decode()}{told}"
     leaves = leaves_of(tree)
     counts = " ".join(f"{kind} {sum(leaf.kind == kind for leaf in leaves)}" for kind in ("holds", "fails", "unknown"))
-    if checked(wanted) != f"sound {counts}":
-        return f"{checked(wanted)}{told}\n{wanted.decode()}"
+    wrong = wrong_text(question.words(), model_text(process), wanted, f"sound {counts}")
+    if wrong:
+        return wrong
     decided = [leaf for leaf in leaves if leaf.certificate]
     for leaf in chance.sample(decided, min(len(decided), MOST_LEAVES)):
         for at in samples(chance, leaf.box):
             lie = lie_of(process, question, leaf, at)
             if lie:
-                return f"at {at}: {lie}{told}\n{wanted.decode()}"
+                return f"at {at}: {lie}\n{model_text(process).decode()}{question.words()}\n{wanted.decode()}"
     return ""
 
 
@@ -117,15 +91,11 @@ class Properties(unittest.TestCase):
     """Questions made at random."""
 
     def test_random_questions(self) -> None:
-        chance = random.Random(SEED)
-        for number in range(COUNT):
-            with self.subTest(number=number, seed=SEED):
-                self.assertEqual(fault_of(chance), "")
-
+        asking.each_question(self, fault_of, COUNT)
 
     def test_lies_are_seen(self) -> None:
         """The other verdict, and numbers that bound nothing, are told of."""
-        chance, seen = random.Random(SEED), set()
+        chance, seen = random.Random(asking.SEED), set()
         while len(seen) < 4:
             process, question = question_of(chance)
             for leaf in leaves_of(answer(process, question)[1]):
@@ -140,17 +110,5 @@ class Properties(unittest.TestCase):
                 seen.add((type(found), found.picks is None))
 
 
-def main() -> None:
-    global COUNT, SEED
-    words = argparse.ArgumentParser(description="Random questions of property.")
-    words.add_argument("--count", type=int, default=COUNT, help="how many questions")
-    words.add_argument("--seed", type=int, default=SEED)
-    words.add_argument("--program", metavar="PATH", default=asking.PROGRAM, help="a built plift")
-    given = words.parse_args()
-    COUNT, SEED, asking.PROGRAM = given.count, given.seed, given.program
-    print(f"asked: {given.program}" if has_program() else "no program is built: the reference's own texts are tried")
-    unittest.main(argv=sys.argv[:1])
-
-
 if __name__ == "__main__":
-    main()
+    asking.main("Random questions of property.")

@@ -1,12 +1,9 @@
 """Texts and refusals of `property` that were worked out by hand, and what it says of the examples, beside `verify`."""
 
-import io
 import re
 import unittest
 
-from asking import TOP, Answer, ask, has_program
-
-import recheck
+from asking import TOP, Answer, ask, checked, has_program
 
 COIN = (TOP / "examples" / "coin.drn").read_bytes()
 # Either of two choices shows heads with p, or with the rest.
@@ -151,7 +148,7 @@ class Table(unittest.TestCase):
         for model, formula, region, depth, precision, nodes in NODES:
             words = ["property", "--formula", formula, "--region", region, "--depth", depth, "--precision", precision]
             counts = " ".join(f"{kind} {nodes.split(';').count(kind)}" for kind in ("holds", "fails", "unknown"))
-            self.assertEqual(recheck.check(recheck.Text(io.BytesIO(ask(words, model).out))), f"sound {counts}")
+            self.assertEqual(checked(ask(words, model).out), f"sound {counts}")
 
     def test_at_most_is_what_verify_asks(self) -> None:
         """With `<=` and `F` the tree and its numbers are those of `verify`, in other words."""

@@ -84,7 +84,7 @@ def words_of(line: str, separator: str = " ") -> list[str]:
 def runs() -> Iterator[Case]:
     """Models with the words that they are verified by."""
     models = named(constants("plift_tests", "models")["MODELS"])
-    for module in ("decided", "lumped", "properties", "ranges", "refused", "regions", "rows", "trees", "within"):
+    for module in ("costs", "decided", "lumped", "properties", "ranges", "refused", "regions", "rows", "trees", "within"):
         for name, table in constants("plift_tests", module).items():
             for row in rows(table) if name not in ("REGION", "REPORT") else []:
                 words, model, status, end, notes = row.split(" | ")

@@ -2,12 +2,14 @@
 
 import re
 from collections.abc import Iterator
+from itertools import product
 
 from cases import Case
 from tables import TOP
 
 SHAPES = [("1/2", "0", "24"), ("1/4", "3", "10"), ("1/50", "5", "7"), ("0", "1", "40")]
 OPS = ["<=", "<", ">=", ">"]
+BUDGETS = [("7/5", "3", "0", "24"), ("13/10", "4", "4", "10"), ("0", "1", "0", "40")]
 VIEWS = [[], ["--summary"], ["--follow"], ["--x", "p"], ["--at", "q=1/8"]]
 
 
@@ -20,6 +22,11 @@ def labels(text: str) -> list[str]:
     return sorted({name for line in re.findall(r"^state \d+ (.*)$", text, re.M) for name in re.findall(r"[a-z]\w*", line)})
 
 
+def rewards(text: str) -> list[str]:
+    found = re.search(r"^@reward_models\n(.*)\n", text, re.M)
+    return found[1].split() if found else []
+
+
 def models() -> Iterator[Case]:
     for path in sorted((TOP / "examples").glob("*.drn")):
         text = path.read_text()
@@ -30,6 +37,10 @@ def models() -> Iterator[Case]:
                     words = [*command, "--goal", goal, "--bound", bound, "--depth", depth, "--precision", precision]
                     words += ["--region", region] if region else []
                     yield Case(f"{path.name}: {' '.join(words)}", "plift", words, path.read_bytes())
+            for reward, (budget, cap, depth, precision) in product(rewards(text), BUDGETS):
+                words = ["cost", "--goal", goal, "--reward", reward, "--budget", budget, "--cap", cap, "--depth", depth]
+                words += ["--precision", precision, *(["--region", region] if region else [])]
+                yield Case(f"{path.name}: {' '.join(words)}", "plift", words, path.read_bytes())
             for op, (bound, depth, precision) in zip(OPS, SHAPES):
                 for route in (f'F "{goal}"', f'"init" U "{goal}"'):
                     words = ["property", "--formula", f"P{op}{bound} [{route}]", "--depth", depth, "--precision", precision]

@@ -90,6 +90,20 @@ property|--formula|P<=50 [F "lost"]|--region|{REGION} | usage: --formula Bound
 property|--formula|P<=1/2 [F "lost"] | usage: --region Missing
 property|--formula|P<=1/2 [F "lots"]|--region|{REGION} | model: line 31: UnknownLabel
 property|--formula|P<=1/2 ["lots" U "lost"]|--region|{REGION} | model: line 31: UnknownLabel
+cost|--goal|{GOAL}|--region|{REGION} | usage: words
+cost|--goal|{GOAL}|--reward|sends|--budget|2|--region|{REGION} | usage: words
+cost|--goal|{GOAL}|--reward|sends|--bound|1/2|--cap|4|--region|{REGION} | usage: words
+cost|--goal|{GOAL}|--reward|sends|--budget|2|--cap|4|--region|{REGION}|--steps|3 | usage: words
+cost|R<=2 [F "lost"]|--reward|sends|--budget|2|--cap|4|--region|{REGION} | usage: words
+cost|--goal|{GOAL}|--reward|my sends|--budget|2|--cap|4|--region|{REGION} | usage: --reward
+cost|--goal|{GOAL}|--reward|sends|--budget|2|--cap|2.5|--region|{REGION} | usage: --cap
+cost|--goal|{GOAL}|--reward|sends|--budget|2|--cap|99999999999|--region|{REGION} | usage: --cap
+cost|--goal|{GOAL}|--reward|sends|--budget|5|--cap|4|--region|{REGION} | usage: --budget
+cost|--goal|{GOAL}|--reward|sends|--budget|<=2|--cap|4|--region|{REGION} | usage: --budget
+cost|--goal|{GOAL}|--reward|sends|--budget|2|--cap|4|--region|{REGION} | model: line 31: UnknownReward
+cost|--goal|lots|--reward|sends|--budget|2|--cap|4|--region|{REGION} | model: line 31: UnknownLabel
+verify|--goal|{GOAL}|--bound|{BOUND}|--region|{REGION}|--reward|sends | usage: words
+property|--formula|R<=2 [F "lost"]|--region|{REGION} | usage: --formula Syntax
 verify|--goal|{GOAL}|--bound|{BOUND}|--region|{REGION}|--from|25 | usage: --from
 verify|--goal|{GOAL}|--bound|{BOUND}|--region|{REGION}|--from|1|--from|2 | usage: words
 verify|--goal|lots|--bound|{BOUND}|--region|{REGION}|--from|1 | model: line 31: UnknownLabel
@@ -129,6 +143,22 @@ state 0 init | state 0 "init | model: line 7: OpenQuote
 // A | // Ä | Done
 """
 
+# The same of a text with rewards, by `cost`.
+REWARDS = """
+sends seconds | seconds,sends | model: line 10: RewardSyntax
+sends seconds | seconds sends | Done
+@reward_models;sends seconds; |  | model: line 8: RewardSyntax
+[1,1] init | init [1,1] | model: line 10: Syntax
+[1,2] | 1,2 | Done
+[1,2] | [1] | model: line 17: RewardSyntax
+[1,2] | [1 2] | model: line 17: RewardSyntax
+[1,2] | [-1,2] | model: line 17: RewardSyntax
+[1,2] | [1,p] | model: line 17: RewardSyntax
+[1,2] | [1,2 | model: line 17: Syntax
+[1,2] | [1e30,2] | model: line 17: RewardWide
+action radio;1 | action radio [1,0];1 | model: line 11: ActionReward
+"""
+
 # Each row: a part of the report's text, what stands in its place, and what is told by `check` and by `migrate`.
 REPORTS = """
 28 93 308 0 1024 | 27 93 308 0 1024 | not sound: node 0 state 0 choice 0 corner 1: 558 > 540
@@ -136,6 +166,7 @@ REPORTS = """
 plift 1 | plift 3 | not sound: line 1: Version
 plift 1 | plift-bounded 1 | not sound: line 1: Syntax
 plift 1 | plift-property 1 | not sound: line 1: Syntax
+plift 1 | plift-cost 1 | not sound: line 1: Syntax
 precision 10; | precision 10;from 10; | not sound: line 32: Syntax
 accept 28 | at 10;accept 28 | not sound: line 35: Syntax
 """
@@ -166,6 +197,11 @@ def verify(**changes: str) -> list[str]:
     """The words of the example, with other values."""
     values = {"--goal": GOAL, "--bound": BOUND, "--region": REGION, "--precision": "10", **changes}
     return ["verify", *(word for option in values.items() for word in option)]
+
+
+def cost() -> list[str]:
+    """The words that ask about the example with rewards."""
+    return ["cost", "--goal", "done", "--reward", "sends", "--budget", "7/5", "--cap", "3", "--region", REGION, "--precision", "10"]
 
 
 def rows(table: str) -> list[str]:
@@ -210,6 +246,10 @@ def cases() -> Iterator[Case]:
     for row in rows(TEXTS):
         old, new, note = row.split(" | ")
         yield case(row, verify(), replaced(model, old, new), note)
+    sends = (TOP / "examples" / "sends.drn").read_bytes()
+    for row in rows(REWARDS):
+        old, new, note = row.split(" | ")
+        yield case(row, cost(), replaced(sends, old, new), note)
     for row in rows(REPORTS):
         old, new, note = row.split(" | ")
         for command in READING:

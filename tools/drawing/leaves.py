@@ -39,12 +39,14 @@ class Map:
     root: Sequence[Span]
     op: str
     bound: Tuple[int, int]
+    cap: Optional[int]
+    """The cost that stands for 1, where the bound is a budget for costs."""
     steps: Optional[int]
     least: int
     precision: int
     depth: int
     kinds: Sequence[str]
-    """Those of leaves that say yes, of those that say no, and of those that tell nothing."""
+    """Those of leaves that say yes, of those that say no, if there may be any, and of those that tell nothing."""
     leaves: List[Leaf]
 
     def of_kind(self, kind: str) -> List[Leaf]:
@@ -70,6 +72,7 @@ def read_map(text: recheck.Text) -> Map:
         root=report.box,
         op=report.op.decode(),
         bound=report.bound,
+        cap=report.cap if report.form == recheck.COST else None,
         steps=len(report.steps) if report.steps else None,
         least=report.least or report.most,
         precision=report.most,

@@ -13,14 +13,15 @@ BORDERED = 2**14  # a side of a leaf with a border is at least so long
 LONGEST = 24  # bytes of a name that is shown whole
 WORDS = {ACCEPT: "accepted", REJECT: "rejected", HOLDS: HOLDS, FAILS: FAILS, UNKNOWN: UNKNOWN}
 SIDES = {"<=": "at most", "<": "below", ">=": "at least", ">": "above"}
-# Of what says yes, of what says no, and of what tells nothing: the colour, what is drawn over it, and its place in the legend.
-COLOURS = ("#56b4e9", "#b04a00", "#fff")
-MARKS = (
-    "",
+# Of what says yes, of what says no, and of what tells nothing: the colour, and what is drawn over it.
+YES = ("#56b4e9", "")
+NO = (
+    "#b04a00",
     '<path d="M0 20000L20000 0M-5000 5000L5000 -5000M15000 25000L25000 15000" stroke="#fff" stroke-width="3000"/>',
-    '<circle cx="10000" cy="10000" r="2500" fill="#555"/>',
 )
-PLACES = (20, 160, 300)
+OPEN = ("#fff", '<circle cx="10000" cy="10000" r="2500" fill="#555"/>')
+LOOKS = {ACCEPT: YES, HOLDS: YES, REJECT: NO, FAILS: NO, UNKNOWN: OPEN}
+PLACES = (20, 160, 300)  # in the legend
 ACROSS, UPRIGHT = 0, 1
 NAME = ('<text x="400" y="42" text-anchor="middle">', '<text x="20" y="126">')
 ENDS = ('<text x="400" y="60" font-size="11" text-anchor="middle">', '<text x="20" y="144" font-size="11">')
@@ -42,12 +43,19 @@ def asked(map_: Map) -> str:
     """What was asked."""
     within = "" if map_.steps is None else f" within {map_.steps} step{'s' * (map_.steps > 1)}"
     precisions = f"2^{map_.precision}" if map_.least == map_.precision else f"2^{map_.least} to 2^{map_.precision}"
-    return f"{SIDES[map_.op]} {map_.bound[0]}/{map_.bound[1]}{within}, numbers over {precisions}, depth {map_.depth}"
+    what, cap = ("", "") if map_.cap is None else ("expected cost ", f", cap {map_.cap}")
+    bound = f"{SIDES[map_.op]} {map_.bound[0]}/{map_.bound[1]}{within}{cap}"
+    return f"{what}{bound}, numbers over {precisions}, depth {map_.depth}"
+
+
+def word(map_: Map, kind: str) -> str:
+    """What is said of a kind."""
+    return "within budget" if map_.cap is not None and kind == ACCEPT else WORDS[kind]
 
 
 def shares(map_: Map) -> str:
     """The share of each kind."""
-    return ", ".join(f"{WORDS[kind]} {percent(map_.share(kind))}" for kind in map_.kinds) + " of the volume, rounded down"
+    return ", ".join(f"{word(map_, kind)} {percent(map_.share(kind))}" for kind in map_.kinds) + " of the volume, rounded down"
 
 
 def height(slice_: Slice) -> int:
@@ -62,7 +70,8 @@ def start(map_: Map, slice_: Slice) -> List[str]:
         ' font-family="sans-serif" font-size="14">',
         f"<title>{asked(map_)}</title>", f"<desc>{shares(map_)}</desc>", "<defs>",
     ]
-    for kind, colour, mark in zip(map_.kinds, COLOURS, MARKS):
+    for kind in map_.kinds:
+        colour, mark = LOOKS[kind]
         lines.append(
             f'<pattern id="{WORDS[kind]}" width="20000" height="20000" patternUnits="userSpaceOnUse">'
             f'<path d="M0 0h20000v20000H0z" fill="{colour}"/>{mark}</pattern>'
@@ -79,7 +88,7 @@ def legend(map_: Map) -> List[str]:
             f'<path d="M0 0h52429v36298H0z" fill="url(#{WORDS[kind]})"/></svg>'
         )
     lines.append("</g>")
-    return lines + [f'<text x="{place + 34}" y="98">{WORDS[kind]}</text>' for kind, place in zip(map_.kinds, PLACES)]
+    return lines + [f'<text x="{place + 34}" y="98">{word(map_, kind)}</text>' for kind, place in zip(map_.kinds, PLACES)]
 
 
 def title(map_: Map) -> List[str]:

@@ -33,7 +33,7 @@ STATUSES = {
     "out of memory": 8,
 }
 FRONTS = tuple(STATUSES)
-MENDED = ("usage: --bound", "usage: --depth")  # notes whose details tell what to do, too
+MENDED = ("usage: --bound", "usage: --depth", "usage: --budget")  # notes whose details tell what to do, too
 VALUES = {
     "--goal": amounts.goal_hints,
     "--bound": amounts.bound_hints,
@@ -41,6 +41,9 @@ VALUES = {
     "--precision": amounts.precision_hints,
     "--from": amounts.from_hints,
     "--steps": amounts.steps_hints,
+    "--reward": amounts.reward_hints,
+    "--cap": amounts.cap_hints,
+    "--budget": amounts.budget_hints,
     "N": amounts.blocks_hints,
     "words": line.words_hints,
 }

@@ -1,10 +1,10 @@
-"""Hints for the values of plift's line: label, bound, depth, precisions, the numbers of steps and of blocks."""
+"""Hints for the values of plift's line: label, bound, depth, precisions, numbers of steps and of blocks, costs."""
 
 from __future__ import annotations
 
 import re
 from fractions import Fraction
-from typing import List, Optional
+from typing import List, NamedTuple, Optional
 
 from hints.numbers import Wide, about, ratio
 from hints.refusal import Refusal
@@ -24,57 +24,117 @@ def goal_hints(refusal: Refusal) -> List[str]:
     place = next((i for i, c in enumerate(label) if not " " <= c <= "~"), None)
     if place is None:
         return []
-    front = f"--goal {shown(label)}: its character number {place + 1} (U+{ord(label[place]):04X}) isn't printable ASCII"
+    front = odd_character("--goal", label, place)
     return [front if label[place] == "\t" else front + ", and no label of a model holds it"]
+
+
+def odd_character(name: str, word: str, place: int) -> str:
+    """Which character of a word isn't printable ASCII."""
+    return f"{name} {shown(word)}: its character number {place + 1} (U+{ord(word[place]):04X}) isn't printable ASCII"
+
+
+def reward_hints(refusal: Refusal) -> List[str]:
+    """Why a text is no reward's name."""
+    word = refusal.option("--reward")
+    if word is None:
+        return []
+    if word == "":
+        return ['--reward "": the name is empty']
+    place = next((i for i, c in enumerate(word) if not "!" <= c <= "~"), None)
+    if place is None:
+        return []
+    if word[place] == " ":
+        return [f"--reward {shown(word)} holds a blank, and no reward's name does"]
+    return [odd_character("--reward", word, place)]
 
 
 def decimals_around(value: Fraction) -> str:
     """The two numbers with nine decimals around a bound."""
-    low = value * 10**9 // 1
-    lower = f"0.{low:09d}" if low else "0"
-    return f"{lower} or " + (f"0.{low + 1:09d}" if low + 1 < 10**9 else "1")
+    low = int(value * 10**9)
+    return f"{nine_decimals(low)} or {nine_decimals(low + 1)}"
 
 
-def of_number(value: Fraction, word: str) -> Optional[str]:
-    """Why a number that plift can read is no bound."""
-    if value > 1:
-        percent = f"; {word} percent are {fraction(value / 100)}" if value <= 100 else ""
-        return f"--bound {shown(word)}: {fraction(value)} is above 1, and a probability isn't{percent}"
+def nine_decimals(billionths: int) -> str:
+    """So many billionths."""
+    whole, rest = divmod(billionths, 10**9)
+    return f"{whole}.{rest:09d}" if rest else str(whole)
+
+
+class Limit(NamedTuple):
+    """An option whose value bounds what is asked about, what that is, and the most that the value may be."""
+
+    option: str
+    what: str
+    most: int
+
+    def front(self, word: str) -> str:
+        """The option with its value."""
+        return f"{self.option} {shown(word)}"
+
+
+def above(limit: Limit, value: Fraction, word: str) -> str:
+    """What is told of a value above the most."""
+    if limit.option == "--budget":
+        return f"{limit.front(word)}: {fraction(value)} is above the cap {limit.most}: raise --cap, or lower the budget"
+    percent = f"; {word} percent are {fraction(value / 100)}" if value <= 100 else ""
+    return f"{limit.front(word)}: {fraction(value)} is above 1, and a probability isn't{percent}"
+
+
+def of_number(limit: Limit, value: Fraction, word: str) -> Optional[str]:
+    """Why a number that plift can read is no such value."""
+    if value > limit.most:
+        return above(limit, value, word)
     if value.denominator >= PART:
-        front = f"--bound {shown(word)} has the denominator {value.denominator:,} in lowest terms, 2^32 or more"
+        front = f"{limit.front(word)} has the denominator {value.denominator:,} in lowest terms, 2^32 or more"
         return f"{front}: take {decimals_around(value)}"
     return None
 
 
-def of_text(word: str) -> Optional[str]:
+def of_text(limit: Limit, word: str) -> str:
     """Why a text is no number for plift, and what was meant."""
-    match = re.match(r"\s*(?:P(?:max|min)?\s*)?(<=|<|>=|>|==?|≤|≥)\s*(.*)", word, re.S)
+    match = re.match(r"\s*(?:[PRE](?:max|min)?\s*)?(<=|<|>=|>|==?|≤|≥)\s*(.*)", word, re.S)
     if match:
         value = about(match[2])
-        told = f": --bound {fraction(value)}" if value is not None and 0 <= value <= 1 else ""
-        return f"--bound {shown(word)}: the bound is a number alone, and the question is always 'at most'{told}"
+        told = f": {limit.option} {fraction(value)}" if value is not None and 0 <= value <= limit.most else ""
+        return f"{limit.front(word)}: the {limit.option[2:]} is a number alone, and the question is always 'at most'{told}"
     if re.search(r"/\s*0+(\.0*)?\s*$", word):
-        return f"--bound {shown(word)} divides by 0"
+        return f"{limit.front(word)} divides by 0"
     value = about(word)
-    if value is not None and 0 <= value <= 1:
+    if value is not None and 0 <= value <= limit.most:
         form = "a number has digits on both sides of its point, no sign, no blank, no %"
-        return f"--bound {shown(word)}: write {fraction(value)}; {form}"
+        return f"{limit.front(word)}: write {fraction(value)}; {form}"
     if value is not None:
-        return f"--bound {shown(word)}: {fraction(value)} is no probability, which is from 0 to 1"
-    return f"--bound {shown(word)} is no number: write a fraction as 3/100, or a decimal as 0.03 or 3e-2"
+        return f"{limit.front(word)}: {fraction(value)} is no {limit.what}, which is from 0 to {limit.most}"
+    return f"{limit.front(word)} is no number: write a fraction as 3/100, or a decimal as 0.03 or 3e-2"
 
 
-def bound_hints(refusal: Refusal) -> List[str]:
-    """Why a bound isn't one."""
-    word = refusal.option("--bound")
+def limit_hints(limit: Limit, word: Optional[str]) -> List[str]:
+    """Why the value of an option isn't one."""
     if word is None:
         return []
     try:
         value = ratio(word)
     except Wide as why:
-        return [f"--bound {shown(word)} is too wide: {why}"]
-    told = of_text(word) if value is None else of_number(value, word)
+        return [f"{limit.front(word)} is too wide: {why}"]
+    told = of_text(limit, word) if value is None else of_number(limit, value, word)
     return [told] if told else []
+
+
+def bound_hints(refusal: Refusal) -> List[str]:
+    """Why a bound isn't one."""
+    return limit_hints(Limit("--bound", "probability", 1), refusal.option("--bound"))
+
+
+def budget_hints(refusal: Refusal) -> List[str]:
+    """Why a budget isn't one: the cap is known to be a number."""
+    cap = refusal.option("--cap")
+    return limit_hints(Limit("--budget", "budget under that cap", int(cap)), refusal.option("--budget")) if cap else []
+
+
+def cap_hints(refusal: Refusal) -> List[str]:
+    """Why a cap isn't one."""
+    word = refusal.option("--cap")
+    return [whole_hint("--cap", word, 1, PART - 1, 10)] if word is not None else []
 
 
 def whole_hint(name: str, word: str, low: int, high: int, digits: int) -> str:

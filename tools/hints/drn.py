@@ -48,6 +48,8 @@ class Model:
         self.sections: Dict[str, int] = {}  # the line of each
         self.parameters: List[str] = []
         self.parameters_line = 0
+        self.rewards: List[str] = []
+        self.rewards_line = 0
         self.placeholders: Dict[str, Tuple[int, bytes]] = {}  # the line and the value of each
         self.numbers: Dict[str, Tuple[int, bytes]] = {}  # the line and the text of what a section announces
         self.states: List[State] = []
@@ -76,6 +78,19 @@ def lines_of(text: bytes) -> Iterator[Tuple[int, bytes]]:
 def words_of(content: bytes) -> List[bytes]:
     """The words of a line."""
     return WORD.findall(content)
+
+
+def without_quotes(word: bytes) -> bytes:
+    """What a word says, be it plain or quoted."""
+    return word.strip(b'"') if word[:1] == b'"' else word
+
+
+def group_of(content: bytes) -> Optional[Tuple[int, bytes]]:
+    """What stands in the group on the line of a state, behind its number, or of an action, and where that begins."""
+    words = list(WORD.finditer(content))
+    behind = {b"state": words[2:3], b"action": words[1:3]}.get(words[0][0] if words else b"", [])
+    group = next((word for word in behind if word[0].startswith(b"[")), None)
+    return (group.start() + 1, group[0][1:].rstrip(b"]")) if group else None
 
 
 def read_section(model: Model, number: int, content: bytes) -> None:
@@ -107,6 +122,9 @@ def read_front(model: Model, number: int, content: bytes) -> None:
     if due == "@parameters":
         model.parameters = [word.decode("latin-1") for word in content.split()]
         model.parameters_line = number
+    elif due == "@reward_models":
+        model.rewards = [without_quotes(word).decode("latin-1") for word in words_of(content)]
+        model.rewards_line = number
     elif due in ("@nr_states", "@nr_choices"):
         model.numbers[due] = (number, content)
 
@@ -173,4 +191,4 @@ def parameters_of(text: bytes) -> List[str]:
 
 def labels_of(state: State) -> List[bytes]:
     """The labels of a state's line, without quotes."""
-    return [word.strip(b'"') if word[:1] == b'"' else word for word in words_of(state.content)[2:] if word[:1] != b"["]
+    return [without_quotes(word) for word in words_of(state.content)[2:] if word[:1] != b"["]

@@ -91,13 +91,13 @@ def read_formula(text: str) -> Formula:
     return Formula(op, bound, safe, goal)
 
 
-def is_bound(text: str) -> bool:
-    """Whether the text of a number or a fraction may be a bound."""
+def is_bound(text: str, most: int = 1) -> bool:
+    """Whether the text of a number or a fraction may be a bound on what is from 0 to the most."""
     try:
         value = ratio(text)
     except Wide:
         return False
-    return value is not None and 0 <= value <= 1 and value.denominator < PART
+    return value is not None and 0 <= value <= most and value.denominator < PART
 
 
 def cause_of(text: str) -> Optional[str]:
@@ -149,6 +149,7 @@ FOREIGN = [
     (r"(\[|\(|\s)X\b", "there is no X: plift bounded --steps 1 asks what is reached within one step"),
     (r"(\[|\(|\s)G\b", "there is no G: ask how likely the opposite is reached, as P<=B [F \"bad\"], with a label on those states"),
     (r"(\[|\(|\s|\")(W|R)(\s|\")", "there is no W and no R: of until there is U, and F alone"),
+    (r"^\s*(R|E)\s*(max|min|\{|<|>|=|\[)", "an expected cost is asked for by plift cost --goal LABEL --reward NAME --budget B --cap C"),
     (r"^\s*(R|S|E|A|T|filter|multi)\b", "a formula is about a probability: it begins with P"),
     (r"[!&|∧∨¬]|\b(and|or|not)\b", "a label stands alone: put another label on the states that are meant"),
 ]

@@ -7,18 +7,19 @@ import shlex
 from typing import Dict, List, Optional, Sequence, Set
 
 from hints.formula import A_FORMULA, cause_of
-from hints.options import FORMULATED, NAMED, RANGED, STEPPED, VALUED
+from hints.options import COSTED, FORMULATED, NAMED, RANGED, STEPPED, VALUED
 from hints.refusal import Refusal
 from hints.told import listed, near, shown
 from hints.words import HELP, LONG_DASHES, PROPERTY, VERSION
 from hints.words import about_help, about_odd, asks_for_help, is_dashed, is_file
 
-COMMANDS = ["verify", "bounded", "property", "lumped", "check", "migrate", "refine", "generate", "selftest"]
-ASKING = {"verify": RANGED, "bounded": STEPPED, "property": FORMULATED, "lumped": VALUED}
+COMMANDS = ["verify", "bounded", "property", "cost", "lumped", "check", "migrate", "refine", "generate", "selftest"]
+ASKING = {"verify": RANGED, "bounded": STEPPED, "property": FORMULATED, "cost": COSTED, "lumped": VALUED}
 FORMS = {
     "verify": "plift verify --goal LABEL --bound B [--region R] [--depth H] [--precision W] [--from V] < model.drn",
     "bounded": "plift bounded --goal LABEL --bound B --steps S [--region R] [--depth H] [--precision W] < model.drn",
     "property": "plift property --formula 'P<=B [F \"LABEL\"]' [--region R] [--depth H] [--precision W] < model.drn",
+    "cost": "plift cost --goal LABEL --reward NAME --budget B --cap C [--region R] [--depth H] [--precision W] < model.drn",
     "lumped": "plift lumped --goal LABEL --bound B [--region R] [--depth H] [--precision W] < model.drn",
     "check": "plift check < report",
     "migrate": "plift migrate < report > new.report",
@@ -46,6 +47,10 @@ OTHER_NAMES = {
     "--prop": "--formula",
     "--property": "--formula",
     "--spec": "--formula",
+    "--cost": "--reward",
+    "--reward-model": "--reward",
+    "--maximum": "--cap",
+    "--ceiling": "--cap",
     "-f": "--formula",
     "-g": "--goal",
     "-b": "--bound",
@@ -61,12 +66,18 @@ MISSING = {
     "--bound": "--bound B is missing: the greatest probability that is allowed, as 1/2 or 0.5",
     "--steps": "--steps S is missing: within how many steps, from 1 to 64; plift verify asks for any number",
     "--formula": f"--formula T is missing: what is asked, as '{A_FORMULA}'",
+    "--reward": "--reward NAME is missing: one of the names behind @reward_models, whose numbers are the costs of states",
+    "--budget": "--budget B is missing: the greatest expected cost that is allowed, from 0 to the cap",
+    "--cap": "--cap C is missing: a whole number that no state's expected cost is above, as ten times the budget",
 }
 # Of options of one command: which command takes them.
 ELSEWHERE = {
     "--steps": "--steps stands for a number of steps: that is asked by plift bounded",
     "--from": "--from begins a range of precisions: that is asked by plift verify alone",
     "--formula": "--formula holds label and bound: it is taken by plift property alone",
+    "--reward": "--reward names what states cost: that is asked by plift cost, with --budget and --cap",
+    "--budget": "--budget bounds an expected cost: that is asked by plift cost, with --reward and --cap",
+    "--cap": "--cap is of costs: that is asked by plift cost, with --reward and --budget",
 }
 CLAUSE = re.compile(r"[^<>=,]+<=[^<>=,]+<=[^<>=,]+")
 REGION = re.compile(r"<=|>=|<|>|\.\.|≤")
@@ -97,6 +108,8 @@ def about_property(command: str, word: str) -> str:
     if command == "property":
         return f"{shown(word)}: a formula is given by --formula, in single quotes: --formula {shlex.quote(word)}"
     asks = f"{command} asks whether --goal LABEL is reached with at most --bound B"
+    if command == "cost":
+        asks = "cost asks whether --reward NAME before --goal LABEL is expected to be at most --budget B"
     return f"{shown(word)}: a formula is taken by plift property --formula alone; {asks}"
 
 
@@ -243,7 +256,7 @@ class Walk:
 
 def is_about_formula(command: str, words: Sequence[str]) -> bool:
     """Whether words of a command are about a formula, which another one takes."""
-    return command != "property" and any(word.startswith("--formula") or PROPERTY.search(word) for word in words)
+    return command not in ("property", "cost") and any(word.startswith("--formula") or PROPERTY.search(word) for word in words)
 
 
 def about_asking(command: str, words: Sequence[str]) -> List[str]:
@@ -256,6 +269,8 @@ def about_asking(command: str, words: Sequence[str]) -> List[str]:
     others = [told for name, told in ELSEWHERE.items() if name in walk.values and name not in ASKING[command]]
     if command == "property" and {"--goal", "--bound"} & set(walk.values):
         others.append(f"label and bound stand in the formula: --formula '{A_FORMULA}'")
+    if command == "cost" and "--bound" in walk.values:
+        others.append("--bound is of a probability: an expected cost is bounded by --budget B, from 0 to --cap C")
     named = walk.meant | set(walk.values) | ({"--goal", "--bound"} if is_about_formula(command, words) else set())
     missing = [told for name, told in MISSING.items() if name in ASKING[command] and name not in named]
     return faults + missing[:2] + others + missing[2:]

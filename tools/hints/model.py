@@ -5,7 +5,7 @@ from __future__ import annotations
 import re
 from typing import Callable, Dict, List
 
-from hints import causes, states, transitions
+from hints import causes, rewards, states, transitions
 from hints.drn import read_model
 from hints.place import Place
 from hints.refusal import Refusal
@@ -47,11 +47,15 @@ CAUSES: Dict[str, Told] = {
     "TargetRange": states.target_range,
     "InitCount": states.init_count,
     "UnknownLabel": states.unknown_label,
+    "UnknownReward": rewards.unknown_reward,
+    "RewardSyntax": rewards.reward_syntax,
+    "RewardWide": rewards.reward_wide,
+    "ActionReward": rewards.action_reward,
     "CommonDenominator": states.common_denominator,
 }
 
 # Causes that speak of the whole text.
-WHOLE = ("NoState", "CountMismatch", "InitCount", "UnknownLabel", "CommonDenominator")
+WHOLE = ("NoState", "CountMismatch", "InitCount", "UnknownLabel", "UnknownReward", "CommonDenominator")
 
 # Causes whose details tell what to do, too.
 MENDED = ("Syntax", "UnsupportedType", "UnknownSection", "RepeatedSection")

@@ -10,7 +10,8 @@ VALUED = ["--goal", "--bound", "--region", "--depth", "--precision"]
 RANGED = [*VALUED, "--from"]  # of `verify`
 STEPPED = [*VALUED, "--steps"]  # of `bounded`
 FORMULATED = ["--formula", "--region", "--depth", "--precision"]  # of `property`
-NAMED = [*RANGED, "--steps", "--formula"]  # of all commands
+COSTED = ["--goal", "--reward", "--budget", "--cap", "--region", "--depth", "--precision"]  # of `cost`
+NAMED = [*RANGED, "--steps", "--formula", "--reward", "--budget", "--cap"]  # of all commands
 VIEWED = ["--x", "--y", "--at"]
 FLAGS = ["--summary", "--follow"]
 

@@ -63,7 +63,7 @@ def size_hints(refusal: Refusal) -> List[str]:
 def memory_hints(refusal: Refusal) -> List[str]:
     """What takes less memory."""
     told = ["no memory was found: look at ulimit -v, and at what else runs"]
-    if refusal.command() in ("verify", "bounded", "property", "lumped", "refine"):
+    if refusal.command() in ("verify", "bounded", "property", "cost", "lumped", "refine"):
         told.append("a lower --depth or a smaller model takes less")
     return told
 

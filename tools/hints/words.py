@@ -12,7 +12,7 @@ VERSION = ("--version", "-V", "-version", "version")
 LONG_DASHES = "–—−"
 PROPERTY = re.compile(r"P(?:max|min)?\s*(?:<=|<|>=|>|=\?)|\[\s*F\b|^\s*F\s")
 FILE = re.compile(r"[/\\]|\.(?:drn|report|prism|pm|nm|jani|txt|gz|svg|out|log|json|tra)$|^\.{1,2}$")
-SEVERAL = re.compile(r"(verify|bounded|property|lumped|check|migrate|refine|generate|selftest|--[a-z]+)\s+\S")
+SEVERAL = re.compile(r"(verify|bounded|property|cost|lumped|check|migrate|refine|generate|selftest|--[a-z]+)\s+\S")
 
 
 def is_file(word: str) -> bool:
