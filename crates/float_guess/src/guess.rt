@@ -21,6 +21,10 @@ const LEAST_MARGIN: i64 = 1 << 32;
 /// of a step on average.
 const SHARE: f64 = 0.390625;
 
+/// The share of what rounding adds to a state's number that is noted, which a guess adds for each expected step: further
+/// numbers are less far from where rounding lets them be.
+const ROUNDED_SHARE: f64 = 0.6;
+
 /// On which side of what the floats say a guess lies.
 #[derive(Clone, Copy)]
 pub enum Rounding {
@@ -63,7 +67,7 @@ impl Way {
     fn extra(self, rounding: Rounding, top: i64) -> f64 {
         let share = match self {
             Way::MovedElimination => SHARE,
-            Way::RoundedElimination => 1.0,
+            Way::RoundedElimination => ROUNDED_SHARE,
             Way::Elimination | Way::Sweeps(_) | Way::Nothing => 0.0,
         };
         let extra = share / nearest_i64_to_f64(top);
@@ -114,7 +118,7 @@ impl Part<'_> {
     {
         match way {
             Way::Elimination | Way::MovedElimination | Way::RoundedElimination => {
-                self.eliminate(lane, means, noted)
+                self.eliminate(lane, means, noted) || self.eliminate_rows(lane, noted)
             }
             Way::Sweeps(most) => self.approach(lane, means, most) || self.take_most(lane),
             Way::Nothing => {

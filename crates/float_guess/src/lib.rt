@@ -8,6 +8,7 @@ mod guess;
 mod notes;
 mod part;
 mod rule;
+mod sparse;
 mod step;
 mod sweep;
 mod toll;

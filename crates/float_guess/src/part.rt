@@ -101,9 +101,10 @@ impl Part<'_> {
     pub(crate) fn worth(&self, lane: &[i64], s: u32) -> f64
         requires { AreLinks self.now.case.now.model self.now.links.now }
     {
+        let number = lane.get(s as usize).copied().unwrap_or(0);
         match self.position_of(s) {
-            Some(position) => self.worth_at(lane, position),
-            None => self.worth_beyond(lane, s),
+            Some(_) => probability_of(number),
+            None => nearest_i64_to_f64(number) / nearest_i64_to_f64(self.top),
         }
     }
 

@@ -77,7 +77,7 @@ impl Sweeping {
 impl Part<'_> {
     /// The weighted mean of a row at a corner, of the states but its own, with the toll of each visit.
     #[inline(always)]
-    fn mean(&self, lane: &[i64], s: u32, a: u32, corner: u32, toll: f64) -> f64
+    pub(crate) fn mean(&self, lane: &[i64], s: u32, a: u32, corner: u32, toll: f64) -> f64
         requires links { AreLinks self.now.case.now.model self.now.links.now }
         requires row { HasChoice self.now.case.now.model s a }
     {
