@@ -204,7 +204,7 @@ module _ (ranges : NumbersAreInRange) (k : CaseData) (l : LinksData) (spans : Sp
   pub guess_high : IsHighUnder k (from_guess spans new) new
   guess_high = record { numbers = kept.numbers; goal = λ s g. kept.others s (goal_is_not_open s g) ∙ high_old.goal s g; above = λ y h under. under }
 
-  -- where each state of the part fell below the guess, what it fell to is at or above every lower vector
+  -- where each state of the part fell below the guess, or stands at 2 ^ w, what it fell to is at or above every lower vector
   pub fallen_high : GuessIsAbove → (z : List ℤ) (noted : List ℕ) → IsHighUnder k (from_guess spans new) z → AtMost z new → IsNotedPart k l new noted low high → AreOther k l z noted low high → IsHigh k spans z
   fallen_high guess z noted fallen below notes others = record {
     numbers = fallen.numbers;
@@ -215,8 +215,12 @@ module _ (ranges : NumbersAreInRange) (k : CaseData) (l : LinksData) (spans : Sp
         fallen.above
         (λ s. either_way (is_open k l low high s)
         (λ e. let o = of_open k l low high s e in
-        let differs : number z s ≡ number new s → ⊥ = λ same. others (position l s) o.from o.to s o.at (notes (position l s) o.from o.to s o.at ∙ ap low_word (sym same)) in
+        ⊎_elim
+        (λ (other : noted_word (slice_index_or noted s 0) ≢ low_word (number z s)).
+        let differs : number z s ≡ number new s → ⊥ = λ same. other (notes (position l s) o.from o.to s o.at ∙ ap low_word (sym same)) in
         inl (by_lt_z (number z s) (number new s) (λ lt. lt) (λ le. absurd (differs (omega (arith, linear, le, below s))))))
+        (λ (full : number z s ≡ pos (2 ^ k.w)). inr (λ q lower. omega (arith, linear, (ranges k q.numbers s lower.numbers).1, below s, full)))
+        (others (position l s) o.from o.to s o.at))
         (λ e. inr (λ q lower. omega (arith, linear, high_old.above q lower (most q lower) s, kept.others s e))))
         y h;
   }

@@ -1,5 +1,5 @@
 -- Where the lowering of a part of the states begins: from 1, from a guess, or from a vector that no choice lets rise. A part has the positions from one on and before another.
-use Rattle.std.specs.Prelude.{◌≡◌, ◌≢◌, ℕ, ◌<◌, ◌≤◌, ◌⊎◌, List, ℤ, ◌*ℤ◌, ◌≤ℤ◌, length, slice_index_or}
+use Rattle.std.specs.Prelude.{◌≡◌, ◌≢◌, ℕ, ◌^◌, ◌<◌, ◌≤◌, ◌⊎◌, List, ℤ, pos, ◌*ℤ◌, ◌≤ℤ◌, length, slice_index_or}
 use Rattle.lift_grid.specs.Rectangle.{Spans}
 use Rattle.lift_model.specs.Model.{choices, row_at}
 use Rattle.lift_model.specs.Links.{LinksData}
@@ -44,9 +44,9 @@ pub record IsNotedAt (k : CaseData) (l : LinksData) (x : List ℤ) (at : ℕ) (o
 abbrev pub IsNotedPart : CaseData → LinksData → List ℤ → List ℕ → ℕ → ℕ → Type 0
 IsNotedPart k l x noted low high = (at : ℕ) → low ≤ at → at < high → (s : ℕ) → StandsAt k l at s → noted_word (slice_index_or noted s 0) ≡ low_word (number x s)
 
--- the state at a position has another number than the one of which that was noted
+-- the state at a position has another number than the one of which that was noted, or 2 ^ w, above which there is none
 abbrev pub IsOtherAt : CaseData → LinksData → List ℤ → List ℕ → ℕ → Type 0
-IsOtherAt k l x noted at = (s : ℕ) → StandsAt k l at s → noted_word (slice_index_or noted s 0) ≢ low_word (number x s)
+IsOtherAt k l x noted at = (s : ℕ) → StandsAt k l at s → (noted_word (slice_index_or noted s 0) ≢ low_word (number x s)) ⊎ (number x s ≡ pos (2 ^ k.w))
 
 -- so has each state of a part
 abbrev pub AreOther : CaseData → LinksData → List ℤ → List ℕ → ℕ → ℕ → Type 0

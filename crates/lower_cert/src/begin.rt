@@ -40,6 +40,11 @@ const GUESS_PASSES: u32 = 64;
 /// How many passes lower it first from one that isn't moved.
 const FEW_PASSES: u32 = 32;
 
+/// How many more do so where at most one state of so many is flagged then.
+const MORE_PASSES: u32 = 256;
+
+const FEW_FLAGS: u32 = 2;
+
 /// How many more passes there are for each state behind one that didn't fall whose share was made less.
 const SPREAD_PASSES: u32 = 8;
 
@@ -90,7 +95,7 @@ fn visit_first(rows: &Lifted, lane: &mut [i64], work: &mut [u32], part: Part)
     }
 }
 
-/// Whether the state at a position has another number than the one that was noted.
+/// Whether the state at a position has another number than the one that was noted, or the greatest that there is.
 fn is_other_at(rows: &Lifted, lane: &[i64], noted: &[u32], position: u32) -> bool
     requires numbers { AreNumbers rows.now.case lane.now }
     requires notes { length noted.now ≡ length rows.now.case.model.states }
@@ -99,10 +104,14 @@ fn is_other_at(rows: &Lifted, lane: &[i64], noted: &[u32], position: u32) -> boo
 {
     match rows.open_state(position) {
         Some(s) => {
+            let number = lane[s as usize];
+            if number == rows.top() {
+                return true;
+            }
             let note = Note {
                 bits: noted[s as usize],
             };
-            !note.is_of(lane[s as usize])
+            !note.is_of(number)
         }
         None => true,
     }
@@ -140,6 +149,17 @@ fn lessen_shares(rows: &Lifted, lane: &[i64], noted: &mut [u32], part: Part, spr
             lessen_share(noted, position);
         }
     }
+}
+
+/// Whether only few states of a part are flagged: most have settled.
+fn has_few_flags(flags: &[u32], part: Part) -> bool {
+    let mut count: u32 = 0;
+    for position in part.low..part.high {
+        if flags.get(position as usize).copied().unwrap_or(0) != 0 {
+            count = count.saturating_add(1);
+        }
+    }
+    count <= part.len() / FEW_FLAGS
 }
 
 /// What came of a guess.
@@ -366,6 +386,9 @@ impl Descent<'_> {
             return true;
         }
         if self.rows.top() > FEW_NUMBERS {
+            if has_few_flags(flags, part) && self.settle_within(lane, flags, part, MORE_PASSES) {
+                return true;
+            }
             return self.lower_from_moved(lane, flags, noted, part);
         }
         self.settle_within(lane, flags, part, GUESS_PATIENCE)
