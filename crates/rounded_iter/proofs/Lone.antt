@@ -1,10 +1,11 @@
 -- What a number must be to be enough for a row without a self loop, with a toll.
-use Rattle.std.proofs.Common.{◌≡◌, ◌⊎◌, ⊎_elim, ℕ, ◌^◌, ◌<◌, ◌≤◌, true, List, set, ℤ, pos, negsuc, unsigned_abs, SFits, w64, ◌+ℤ◌, ◌-ℤ◌, ◌*ℤ◌, ◌≤ℤ◌, ◌<ℤ◌, ap, ap₂, sym, subst, ◌∙◌, arith, Contains}
+use Rattle.std.proofs.Common.{◌≡◌, ◌≢◌, ◌⊎◌, ⊎_elim, ℕ, zero, suc, ◌^◌, ◌<◌, ◌≤◌, true, List, [], ◌∷◌, set, ℤ, pos, negsuc, unsigned_abs, SFits, w64, ◌+ℤ◌, ◌-ℤ◌, ◌*ℤ◌, ◌≤ℤ◌, ◌<ℤ◌, refl, ap, ap₂, sym, subst, ◌∙◌, arith, get_or-set_other, Contains}
 use Rattle.std.proofs.lemmas.Int.{ints, by_lt_z, fits_signed_from_abs}
-use Rattle.lift_poly.proofs.Ring.{linear, mul-comm, mul-add, mul-zero, mul-le_cancel}
+use Rattle.lift_poly.proofs.Ring.{linear, mul-comm, mul-add, mul-zero, mul-le, mul-le_cancel}
 use Rattle.lift_grid.specs.Rectangle.{Spans}
-use Rattle.lift_model.specs.Model.{row_at, support, moves_at}
+use Rattle.lift_model.specs.Model.{ModelData, row_at, support, moves_at}
 use Rattle.lift_model.specs.Links.{HasChoice, targets_of}
+use Rattle.lift_model.specs.OnlyRow.{IsSingleRow}
 use Rattle.lift_model.specs.Process.{weighted_sum}
 use Rattle.corner_lift.specs.Dot.{only_at}
 use Rattle.corner_lift.specs.Laws.{HasRow}
@@ -13,12 +14,13 @@ use Rattle.corner_lift.specs.Corner.{corner}
 use Rattle.corner_lift.specs.Case.{CaseData, IsCase, IsInside, number, row_value, row_whole, corner_count}
 use Rattle.corner_lift.specs.Quotient.{IsRoundedUp, IsRoundedUpFrom}
 use Rattle.float_guess.specs.declared.rule.Extreme.{Extreme}
+use Rattle.float_guess.specs.declared.rule.Extreme.TheVariants.{Greatest, Least}
 use Rattle.float_guess.specs.declared.rule.Ends.{Ends}
 use Rattle.float_guess.specs.declared.rule.Ends.TheVariants.{Goals, Unranked, Tolled}
 use Rattle.float_guess.specs.Rule.{added, has_tolls}
-use Rattle.rounded_iter.specs.Rising.{Across, IsExtreme, IsEnoughWith, IsSolvedFor}
+use Rattle.rounded_iter.specs.Rising.{Across, IsExtreme, IsMoreExtreme, IsEnoughWith, IsSolvedFor}
 use Rattle.rounded_iter.specs.Toll.{IsBefore, IsAfter}
-use Rattle.rounded_iter.proofs.Solving.{RowLaws, mul-lt_cancel, less-mul, own_none, value_set, n_range, across_map, extreme_holds, extreme_from, extreme_least}
+use Rattle.rounded_iter.proofs.Solving.{RowLaws, mul-lt_cancel, less-mul, own_none, value_set, n_range, some_corner, some_at, only_value, across_map, extreme_holds, extreme_from, extreme_least}
 
 -- what is left of a number is no larger
 pub before_small : (w : ℕ) (n toll left : ℤ) → n ≤ℤ pos (2 ^ w) → IsBefore n toll left → unsigned_abs left ≤ 2 ^ w
@@ -37,6 +39,17 @@ from_least left z full q positive found = ⊎_elim
     let less : left <ℤ q = mul-lt_cancel full left q positive (omega (arith, linear, rose.0, rose.1.0)) in
     omega (arith, linear, less))
     found
+
+-- the least number that is enough with what is added, by a rule with tolls
+solved_with : (k : CaseData) (spans : Spans) (s a : ℕ) (x : List ℤ) (e : Extreme) (all : ℕ) (paid v : ℤ) → number x s ≤ℤ v → v ≤ℤ pos (2 ^ k.w) → Across e all (IsEnoughWith paid k spans (set x s v) s a v) → ((y : List ℤ) → AtMost x y → Across e all (λ c. IsEnoughWith paid k spans y s a (number y s) c) → v ≤ℤ number y s) → (ends : Ends) → has_tolls ends ≡ true → paid ≡ added k ends s → IsSolvedFor ends e k spans x s a all v
+solved_with k spans s a x e all paid v grown most enough least Goals tolls same = cc
+solved_with k spans s a x e all paid v grown most enough least (Unranked ranks) tolls same = cc
+solved_with k spans s a x e all paid v grown most enough least (Tolled t) tolls same = record {
+  grown = grown;
+  most = most;
+  enough = subst (λ m. Across e all (IsEnoughWith m k spans (set x s v) s a v)) same enough;
+  least = λ y at h. least y at (subst (λ m. Across e all (λ c. IsEnoughWith m k spans y s a (number y s) c)) (sym same) h);
+}
 
 module _ (laws : RowLaws) (k : CaseData) (spans : Spans) (is : IsCase k) (within : IsInside k.root spans) (s a : ℕ) (has : HasChoice k.model s a) (x : List ℤ) (numbers : AreNumbers k x) (e : Extreme) (z : ℤ) (extreme : IsExtreme e (row_value k spans s a x) (corner_count k s a) z) (none : Contains (targets_of (row_at k.model s a)) s → ⊥) (positive : pos 1 ≤ℤ row_whole k s a) where
   abbrev top : ℤ
@@ -114,11 +127,60 @@ module _ (laws : RowLaws) (k : CaseData) (spans : Spans) (is : IsCase k) (within
 
     -- the least number that is enough, by a rule with tolls
     pub lone_tolled : (ends : Ends) → has_tolls ends ≡ true → paid ≡ added k ends s → IsSolvedFor ends e k spans x s a all v
-    lone_tolled Goals tolls same = cc
-    lone_tolled (Unranked ranks) tolls same = cc
-    lone_tolled (Tolled t) tolls same = record {
-      grown = grown;
-      most = after.most;
-      enough = subst (λ m. Across e all (IsEnoughWith m k spans (set x s v) s a v)) same enough;
-      least = λ y at h. least y at (subst (λ m. Across e all (λ c. IsEnoughWith m k spans y s a (number y s) c)) (sym same) h);
-    }
+    lone_tolled ends tolls same = solved_with k spans s a x e all paid v grown after.most enough least ends tolls same
+
+-- ---- rows with one entry, which leads to another state
+
+pub single_others : (m : ModelData) (s t : ℕ) → IsSingleRow m s t → Contains (targets_of (row_at m s 0)) s → ⊥
+single_others m s t one at = neither t one.other (subst (λ list. Contains list s) one.targets at)
+  where
+    neither : (t : ℕ) → t ≢ s → Contains (t ∷ []) s → ⊥
+    neither t a (zero, lt, e) = a e
+    neither t a (suc i, lt, e) = absurd (omega (arith, lt))
+
+target_other : (targets : List ℕ) (s t : ℕ) → targets ≡ t ∷ [] → (Contains targets s → ⊥) → t ≢ s
+target_other targets s t only none e = none (subst (λ list. Contains list s) (sym only) (zero, omega arith, e))
+
+module _ (laws : RowLaws) (k : CaseData) (spans : Spans) (is : IsCase k) (within : IsInside k.root spans) (s a : ℕ) (has : HasChoice k.model s a) (x : List ℤ) (numbers : AreNumbers k x) (e : Extreme) (target : ℕ) (only : targets_of (row_at k.model s a) ≡ target ∷ []) (none : Contains (targets_of (row_at k.model s a)) s → ⊥) (positive : pos 1 ≤ℤ row_whole k s a) (paid q v : ℤ) (after : IsAfter (number x target) paid (pos (2 ^ k.w)) q) (more : IsMoreExtreme Greatest (number x s) q v) where
+  abbrev W : ℤ
+  W = row_whole k s a
+
+  abbrev corners : ℕ
+  corners = corner_count k s a
+
+  most : v ≤ℤ pos (2 ^ k.w)
+  most = ⊎_elim
+      (λ (same : v ≡ number x s). omega (arith, linear, same, (n_range laws k spans is within s a has x numbers).1))
+      (λ (same : v ≡ q). omega (arith, linear, same, after.most))
+      more.2
+
+  value : (y : List ℤ) (c : ℕ) → c < corners → row_value k spans s a y c ≡ W *ℤ number y target
+  value y c lt = only_value laws k spans is within s a has x numbers e target only c lt (number y)
+
+  at_corner : (c : ℕ) → c < corners → IsEnoughWith paid k spans (set x s v) s a v c
+  at_corner c lt = λ below.
+      let ne : target ≢ s = target_other (targets_of (row_at k.model s a)) s target only none in
+      let same : number (set x s v) target ≡ number x target = rw get_or-set_other refl in
+      let due : q ≡ number x target +ℤ paid = after.all (omega (arith, linear, below, more.1)) in
+      let le : (number x target +ℤ paid) ≤ℤ v = omega (arith, linear, due, more.1) in
+      omega (arith, linear, value (set x s v) c lt, ap (λ m. W *ℤ m) same, mul-add W (number x target) paid, mul-le W (number x target +ℤ paid) v (omega (arith, linear, positive)) le, mul-comm W v, mul-comm W paid)
+
+  enough_at : (d : Extreme) → Across d corners (IsEnoughWith paid k spans (set x s v) s a v)
+  enough_at Greatest = λ c lt. at_corner c lt
+  enough_at Least = (0, (some_corner laws k spans is within s a has, at_corner 0 (some_corner laws k spans is within s a has)))
+
+  least_one : (y : List ℤ) → AtMost x y → Across e corners (λ c. IsEnoughWith paid k spans y s a (number y s) c) → v ≤ℤ number y s
+  least_one y at h = by_lt_z (number y s) (pos (2 ^ k.w))
+      (λ below.
+      let one = some_at e corners (IsEnoughWith paid k spans y s a (number y s)) (some_corner laws k spans is within s a has) h in
+      let sum : (row_value k spans s a y one.0 +ℤ paid *ℤ W) ≤ℤ (number y s *ℤ W) = one.1.1 below in
+      let le : (number y target +ℤ paid) ≤ℤ number y s = mul-le_cancel W (number y target +ℤ paid) (number y s) (omega (arith, linear, positive)) (omega (arith, linear, sum, value y one.0 one.1.0, mul-add W (number y target) paid, mul-comm W paid, mul-comm W (number y s))) in
+      ⊎_elim
+      (λ (same : v ≡ number x s). omega (arith, linear, same, at s))
+      (λ (same : v ≡ q). omega (arith, linear, same, after.within, at target, le))
+      more.2)
+      (λ le. omega (arith, linear, le, most))
+
+  -- the target's number with the toll, if it is greater than the state's own
+  pub single_tolled : (ends : Ends) → has_tolls ends ≡ true → paid ≡ added k ends s → IsSolvedFor ends e k spans x s a corners v
+  single_tolled ends tolls same = solved_with k spans s a x e corners paid v more.0 most (enough_at e) least_one ends tolls same

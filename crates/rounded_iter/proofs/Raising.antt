@@ -24,7 +24,7 @@ use Rattle.float_guess.specs.Rule.{is_given, given, has_tolls}
 use Rattle.rounded_iter.specs.Value.{IsValue, IsLeastValue, SomeMeanAtMost}
 use Rattle.rounded_iter.specs.Rising.{TableData, Run, IsBelow, IsEnoughEverywhere, IsLeastBound, IsLeastBoundWithin, IsEnough, HasEnough, IsEnoughFor, IsEnoughBy, IsMoreExtreme, IsSolvedFor, IsSolved, IsSolvedBy, Across, room, untolled}
 use Rattle.rounded_iter.specs.Watching.{from_zero, first_number, HasGoals, CanRaise, IsRaisedState, IsBelowUppers, IsLeastWithin}
-use Rattle.rounded_iter.proofs.Solving.{RowLaws, across_map, same_or_not, sum_moved, only_same, only_other, own_none, same_whole, at_root, at_spans, enough_same, in_lane, set_numbers, n_least, risen}
+use Rattle.rounded_iter.proofs.Solving.{RowLaws, across_map, same_or_not, sum_moved, only_same, only_other, own_none, same_whole, at_root, at_spans, enough_same, in_lane, set_numbers, n_least, risen, some_corner, top_enough}
 
 abbrev Range : ℕ → ℤ → Type 0
 Range w n = (pos 0 ≤ℤ n) × (n ≤ℤ pos (2 ^ w))
@@ -102,6 +102,36 @@ module _ (laws : RowLaws) (r : Rule) (k : CaseData) (spans : Spans) (is : IsCase
     enough = first_enough r.choice (λ a. With v a) h.enough;
     least = λ y at all. h.least y at (first_only r.choice (λ a. IsEnoughFor r k spans y s a) all);
   }
+
+  -- a number that is 2 ^ w is enough
+  pub solved_by_top : 1 ≤ length (choices k.model s) → number x s ≡ pos (2 ^ k.w) → IsSolvedBy r k spans x s (length (choices k.model s)) (number x s)
+  solved_by_top some top = record {
+    grown = omega (arith, linear);
+    most = omega (arith, linear, top);
+    enough = each r.choice;
+    least = λ y at all. at s;
+  }
+    where
+      at_choice : (d : Extreme) (a : ℕ) → a < length (choices k.model s) → Across d (corner_count k s a) (IsEnoughBy r.ends k spans (set x s (number x s)) s a (number x s))
+      at_choice d a choice = at_corners d
+        where
+          has : HasChoice k.model s a
+          has = record { state = state; choice = choice }
+
+          at_corner : (c : ℕ) → IsEnoughBy r.ends k spans (set x s (number x s)) s a (number x s) c
+          at_corner c = top_enough laws k spans is within s a has (set x s (number x s)) (set_numbers laws k spans is within s a has x numbers (number x s) (omega (arith, linear, top)) (omega (arith, linear, top))) r.ends (number x s) c top
+
+          at_corners : (d : Extreme) → Across d (corner_count k s a) (IsEnoughBy r.ends k spans (set x s (number x s)) s a (number x s))
+          at_corners Greatest = λ c lt. at_corner c
+          at_corners Least = (0, (some_corner laws k spans is within s a has, at_corner 0))
+
+      each : (d : Extreme) → Across d (length (choices k.model s)) (λ a. With (number x s) a)
+      each Greatest = λ a choice. at_choice e a choice
+      each Least = (0, (omega (arith, some), at_choice e 0 (omega (arith, some))))
+
+  -- the only choice is each of those that count
+  pub solved_by_only : length (choices k.model s) ≡ 1 → (v : ℤ) → IsSolvedFor r.ends e k spans x s 0 (corner_count k s 0) v → IsSolvedBy r k spans x s (length (choices k.model s)) v
+  solved_by_only one v h = subst (λ n. IsSolvedBy r k spans x s n v) (sym one) (solved_by_first v h)
 
   -- one choice more
   module _ (i : ℕ) (lt : i < length (choices k.model s)) (u v : ℤ) (h : IsSolvedBy r k spans x s i u) (g : IsSolvedFor r.ends e k spans x s i (corner_count k s i) v) where
@@ -232,7 +262,7 @@ solved_plain r k spans x s n v none h = by_ends r.ends refl none
 
 -- the only choice of a state is each of those that count
 pub solved_only : RowLaws → (r : Rule) (k : CaseData) (spans : Spans) → IsCase k → IsInside k.root spans → (x : List ℤ) → AreNumbers k x → (s : ℕ) → s < length k.model.states → length (choices k.model s) ≡ 1 → (v : ℤ) → IsSolved r.corner k spans x s 0 (corner_count k s 0) v → IsSolvedBy (untolled r) k spans x s (length (choices k.model s)) v
-solved_only laws r k spans is within x numbers s state one v h = subst (λ n. IsSolvedBy (untolled r) k spans x s n v) (sym one) (solved_by_first laws (untolled r) k spans is within x numbers s state v h)
+solved_only laws r k spans is within x numbers s state one v h = solved_by_only laws (untolled r) k spans is within x numbers s state one v h
 
 -- ---- other states
 

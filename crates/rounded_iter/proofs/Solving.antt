@@ -170,7 +170,7 @@ pub extreme_from : (e : Extreme) (value more : ℕ → ℤ) (n : ℕ) (z b : ℤ
 extreme_from Greatest value more n z b is rise h = omega (arith, linear, is.attained.1.1, rise is.attained.0, h is.attained.0 is.attained.1.0)
 extreme_from Least value more n z b is rise h = omega (arith, linear, is.least h.0 h.1.0, rise h.0, h.1.1)
 
-some_at : (e : Extreme) (n : ℕ) (P : ℕ → Type 0) → 1 ≤ n → Across e n P → (c : ℕ) × ((c < n) × P c)
+pub some_at : (e : Extreme) (n : ℕ) (P : ℕ → Type 0) → 1 ≤ n → Across e n P → (c : ℕ) × ((c < n) × P c)
 some_at Greatest n P some h = (0, (some, h 0 some))
 some_at Least n P some h = h
 

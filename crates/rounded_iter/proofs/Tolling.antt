@@ -121,12 +121,12 @@ module _ (laws : RowLaws) (k : CaseData) (spans : Spans) (is : IsCase k) (within
             (λ le. omega (arith, linear, le, less_top));
       }
 
-  pub least_over_solves : (v : ℤ) → IsLeastOver n paid top S full own v → Solves v
-  least_over_solves v h = by_lt_z (n *ℤ full) (S +ℤ paid *ℤ full)
+  pub least_over_solves : (v : ℤ) → IsLeastOver n top rest left v → Solves v
+  least_over_solves v h = by_lt_z (n *ℤ left) rest
       (λ short. by_lt_z (top *ℤ left) rest
       (λ over. subst Solves (sym (h.capped short over)) (capped over))
-      (λ under. let found = h.solved short under in quotient v short found.1 under found.0))
-      (λ le. subst Solves (sym (h.still le)) (still le))
+      (λ under. let found = h.solved short under in quotient v (omega (arith, linear, short, mul-less n full own)) found.1 under found.0))
+      (λ le. subst Solves (sym (h.still le)) (still (omega (arith, linear, le, mul-less n full own))))
 
   -- the same by a rule with tolls
   pub solves_by : (ends : Ends) → has_tolls ends ≡ true → paid ≡ added k ends s → (v : ℤ) → Solves v → SolvesBy ends k spans x s a c v

@@ -31,8 +31,16 @@ pub record IsAfter (left toll top v : ℤ) : Type 0 where
   pub all : v <ℤ top → v ≡ left +ℤ toll
   pub cut : (v ≡ top) ⊎ (v ≡ left +ℤ toll)
 
+-- A number up to `top`, and a rest and what leaves the state, both not below 0. `top` times what leaves is below the engine's limit.
+pub record CanPay (number top rest left : ℤ) : Type 0 where
+  pub number_in : (pos 0 ≤ℤ number) × (number ≤ℤ top)
+  pub top_in : top ≤ℤ pos (2 ^ most_precision)
+  pub rest_in : pos 0 ≤ℤ rest
+  pub left_in : pos 0 ≤ℤ left
+  pub room : (top *ℤ left) <ℤ pos engine_limit
+
 -- the number, where it is enough; else `top`, where the rest is above `top` times what leaves the state; else the rest over what leaves, rounded up
-pub record IsLeastOver (number toll top sum whole own v : ℤ) : Type 0 where
-  pub still : (sum +ℤ toll *ℤ whole) ≤ℤ (number *ℤ whole) → v ≡ number
-  pub capped : (number *ℤ whole) <ℤ (sum +ℤ toll *ℤ whole) → (top *ℤ (whole -ℤ own)) <ℤ rest_of number toll sum whole own → v ≡ top
-  pub solved : (number *ℤ whole) <ℤ (sum +ℤ toll *ℤ whole) → rest_of number toll sum whole own ≤ℤ (top *ℤ (whole -ℤ own)) → IsRoundedUp (rest_of number toll sum whole own) (whole -ℤ own) v × (pos 1 ≤ℤ (whole -ℤ own))
+pub record IsLeastOver (number top rest left v : ℤ) : Type 0 where
+  pub still : rest ≤ℤ (number *ℤ left) → v ≡ number
+  pub capped : (number *ℤ left) <ℤ rest → (top *ℤ left) <ℤ rest → v ≡ top
+  pub solved : (number *ℤ left) <ℤ rest → rest ≤ℤ (top *ℤ left) → IsRoundedUp rest left v × (pos 1 ≤ℤ left)

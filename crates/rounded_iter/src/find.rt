@@ -16,7 +16,7 @@ use float_guess::{
 };
 
 /// How many passes over a component are made before the first guess.
-const FIRST_PATIENCE: u32 = 32;
+const FIRST_PATIENCE: u32 = 24;
 
 /// As many passes are made at first as there are numbers, where these are no more: no state rises more often.
 const FEW_NUMBERS: i64 = 1024;
@@ -44,6 +44,9 @@ const ROUNDED_TRIES: u32 = 16;
 
 const MORE_RAISES: u32 = 256;
 
+/// As many raise one that isn't moved further where at most one state of so many is flagged.
+const FEW_FLAGS: usize = 2;
+
 /// How many passes test a guess that was given.
 const TEST_RAISES: u32 = 32;
 
@@ -52,6 +55,9 @@ const SPREAD_RAISES: u32 = 8;
 
 /// How many passes are made before it is asked whether a guess was no fault.
 const FEW_RAISES: [u32; 3] = [8, 16, 32];
+
+/// By how much the initial state's number in a guess is more than the limit, where all numbers are made less.
+const MARGIN: i64 = 4;
 
 /// How many guesses are made.
 const GUESSES: u32 = 3;
@@ -90,6 +96,24 @@ fn note(lane: &[i64], noted: &mut [u32])
     for s in 0..lane.len() {
         noted[s] = Note { bits: noted[s] }.with_number(lane[s]).bits;
     }
+}
+
+/// So many parts of a number of which there are that many in all. Nothing is promised of it.
+fn part_of(number: i64, parts: i64, all: i64) -> i64 {
+    let product = i128::from(number).saturating_mul(i128::from(parts));
+    let part = product.checked_div(i128::from(all)).unwrap_or(0);
+    i64::try_from(part).unwrap_or(0)
+}
+
+/// Whether only few states are flagged: most have settled.
+fn has_few_flags(flags: &[u32]) -> bool {
+    let mut count: usize = 0;
+    for flag in flags {
+        if *flag != 0 {
+            count = count.saturating_add(1);
+        }
+    }
+    count <= flags.len() / FEW_FLAGS
 }
 
 impl Table<'_, '_> {
@@ -163,6 +187,39 @@ impl Table<'_, '_> {
         }
     }
 
+    /// The number of a state in a guess that is made less, so that of the initial state `init` becomes a little more than the
+    /// limit, unless the state's number is given.
+    fn lessened_number(&self, number: i64, init: i64, s: u32) -> i64
+        requires case { IsCase self.now.case }
+        requires state { s < length self.now.case.model.states }
+        ensures given { is_given self.now.case.model self.now.rule.ends s ≡ true
+            → result ≡ given self.now.case self.now.rule.ends s }
+        ensures range { (pos 0 ≤ℤ result) × (result ≤ℤ pos (2 ^ self.now.case.w)) }
+    {
+        if self.rule.ends.has(self.rows.model(), s) {
+            return self.first_number(s);
+        }
+        let number = part_of(number, self.limit.saturating_add(MARGIN), init);
+        if number < 0 {
+            return 0;
+        }
+        number.min(self.top)
+    }
+
+    /// Makes all numbers of a guess less by the same share, so that the initial state's is a little more than the limit:
+    /// tolls aren't made less, so each number soon rises, and so shows that it lies below each bound.
+    fn lessen_guess(&self, lane: &mut [i64])
+        requires { CanStart self.now lane.old }
+        ensures { IsGuess self.now.rule self.now.case lane.new }
+    {
+        rows_at_corners();
+        let model = self.rows.model();
+        let init = lane[model.init() as usize];
+        for s in 0..model.states() {
+            lane[s as usize] = self.lessened_number(lane[s as usize], init, s);
+        }
+    }
+
     /// Whether the guess at a state, of which that was noted, is no fault.
     fn is_sure_at(&self, lane: &[i64], noted: &[u32], s: u32) -> bool
         requires can { CanTest self.now lane.now noted.now }
@@ -218,6 +275,20 @@ impl Table<'_, '_> {
         }
     }
 
+    /// Raises a vector in so few passes. Where there are tolls, a pass is one over all states: each has something to add to
+    /// its number, whatever its component's others wait for.
+    fn try_few(&self, lane: &mut [i64], flags: &mut [u32], few: u32) -> Ended
+        ghost run: { Run }
+        requires { CanClimb self.now run lane.old flags.old }
+        ensures { IsClimbed self.now run lane.new (Some few) result }
+    {
+        if self.has_tolls() {
+            self.settle_all(lane, flags, Some(few))
+        } else {
+            self.climb(lane, flags, Some(few))
+        }
+    }
+
     /// Raises a vector, of which that was noted, in so many passes at most, or some more. A few are made first: a
     /// guess that lies well below each bound is soon seen to.
     fn climb_noted(&self, lane: &mut [i64], flags: &mut [u32], noted: &[u32], passes: u32) -> Ended
@@ -232,7 +303,7 @@ impl Table<'_, '_> {
             if few >= passes {
                 break;
             }
-            match self.climb(lane, flags, Some(few)) {
+            match self.try_few(lane, flags, few) {
                 Ended::Settled => return Ended::Settled,
                 Ended::Past => return Ended::Past,
                 Ended::Slow => {
@@ -423,7 +494,11 @@ impl Table<'_, '_> {
         ensures below { result ≡ Raised.Certain → IsBelow self.now.rule self.now.case (from_zero spans) lane.new }
         ensures guess { IsGuess self.now.rule self.now.case lane.new }
     {
-        match self.guess(lane, flags, noted, way) {
+        let guessed = self.guess(lane, flags, noted, way);
+        if self.has_tolls() && self.is_past(lane) {
+            self.lessen_guess(lane);
+        }
+        match guessed {
             Guessed::Nothing => Raised::Nothing,
             Guessed::Some => match self.confirm(lane, flags, noted, RAISES) {
                 Raised::Least => Raised::Least,
@@ -550,6 +625,11 @@ impl Table<'_, '_> {
             Raised::Certain => {
                 if self.is_past(lane) {
                     return Some(false);
+                }
+                if has_few_flags(flags) {
+                    if let Some(found) = self.rise(lane, flags, Some(MORE_RAISES)) {
+                        return Some(found);
+                    }
                 }
                 if let Some(found) = self.find_from_moved(lane, flags, noted) {
                     return Some(found);

@@ -13,6 +13,7 @@ ghost use Rattle.rounded_iter.specs.Watching.{CanIterate};
 use crate::least::least_bound;
 use corner_lift::{Lifted, Weighed, corners_bound_weights, one_at, rows_at_corners, times};
 use float_guess::{Ends, Extreme, Rule, Tolls};
+use lift_model::OnlyRow;
 
 /// What is left of a number without a toll, or none if the toll is more.
 fn left_of(top: i64, toll: u128) -> Option<i64>
@@ -119,6 +120,17 @@ fn is_endless(rows: &Lifted, tolls: &Tolls, s: u32, a: u32) -> bool
     0 < toll
 }
 
+/// Whether a state has one row, which leads to other states: then none is so.
+#[inline(always)]
+fn has_way_on(rows: &Lifted, s: u32) -> bool
+    requires { s < length rows.now.case.model.states }
+{
+    match rows.only_row(s) {
+        OnlyRow::Single(_) | OnlyRow::Pair(_) => true,
+        OnlyRow::Other => false,
+    }
+}
+
 /// Whether a choice of a state is so.
 fn has_endless_choice(rows: &Lifted, tolls: &Tolls, s: u32) -> bool
     ghost spans: { Spans }
@@ -126,7 +138,7 @@ fn has_endless_choice(rows: &Lifted, tolls: &Tolls, s: u32) -> bool
     requires state { s < length rows.now.case.model.states }
     ensures { IsTrue result → (z : List ℤ) → IsPriced rows.now.case spans (price rows.now.case.w tolls.now) z → ⊥ }
 {
-    if rows.model().is_goal(s) {
+    if rows.model().is_goal(s) || has_way_on(rows, s) {
         return false;
     }
     for a in 0..rows.choice_count(s) {

@@ -60,7 +60,7 @@ impl Table<'_, '_> {
 
     /// The same of the only row of a state, which has two entries.
     #[inline(always)]
-    fn weigh_only_pair(&self, lane: &[i64], s: u32, row: PairRow) -> Option<LaneSum>
+    pub(crate) fn weigh_only_pair(&self, lane: &[i64], s: u32, row: PairRow) -> Option<LaneSum>
         ghost spans: { Spans }
         requires can { CanTry self.now spans lane.now s 0 }
         requires row { IsPairRow self.now.case.model self.now.links s row }

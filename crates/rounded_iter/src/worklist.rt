@@ -55,6 +55,16 @@ pub(crate) fn write_number(lane: &mut [i64], s: u32, number: i64) -> bool
     is_other
 }
 
+/// Flags all positions.
+fn flag_all(work: &mut [u32])
+    ensures size { length work.new ≡ length work.old }
+    ensures flagged { (j : ℕ) → j < length work.new → flag work.new j ≢ 0 }
+{
+    for place in 0..work.len() {
+        work[place] = 1;
+    }
+}
+
 /// Whether no position is flagged.
 #[inline(always)]
 fn is_clear(work: &[u32]) -> bool
@@ -318,5 +328,21 @@ impl Table<'_, '_> {
             return Ended::Settled;
         }
         self.settle(lane, work, 0, states, patience)
+    }
+
+    /// Raises a vector, all states in each pass and not component by component: so a component that takes long doesn't keep
+    /// others waiting. Stops where the initial state's number passed the limit, and where `patience` passes didn't do.
+    pub(crate) fn settle_all(
+        &self,
+        lane: &mut [i64],
+        work: &mut [u32],
+        patience: Option<u32>,
+    ) -> Ended
+        ghost run: { Run }
+        requires { CanClimb self.now run lane.old work.old }
+        ensures { IsClimbed self.now run lane.new patience result }
+    {
+        flag_all(work);
+        self.settle(lane, work, 0, self.rows.model().states(), patience)
     }
 }

@@ -1,4 +1,4 @@
-use Rattle.std.proofs.Common.{rules, ◌<ℤ◌, ◌-ℤ◌, ◌≡◌, SFits, w64, to_z, of_z, to_z-of_z, ◌∙◌, ap₂, refl, arith, inr}
+use Rattle.std.proofs.Common.{rules, SFits, w64, to_z, of_z, to_z-of_z, refl, arith, inr}
 use Rattle.lift_poly.proofs.Ring.{linear}
 use Rattle.rounded_iter.proofs.Solving.{lt_from_test}
 use Rattle.rounded_iter.proofs.Lone.{sum_fits}

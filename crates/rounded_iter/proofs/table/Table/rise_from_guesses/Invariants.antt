@@ -8,3 +8,6 @@ ghost-find_from_moved g a = g.spans
 
 abbrev pub ghost-find_from_guess : goal.ghost-find_from_guess
 ghost-find_from_guess g a = g.spans
+
+abbrev pub ghost-rise : goal.ghost-rise
+ghost-rise g a = g.spans

@@ -1,8 +1,11 @@
 use Rattle.rounded_iter.specs.Rising.{IsSolvedFor}
 use Rattle.rounded_iter.proofs.table.Table.tolled_corners.Given as goal
 
-abbrev pub ghost-solve_tolled : goal.ghost-solve_tolled
-ghost-solve_tolled g a = g.spans
+abbrev pub ghost-solve_tolled_either : goal.ghost-solve_tolled_either
+ghost-solve_tolled_either g a = g.spans
+
+abbrev pub ghost-short_price : goal.ghost-short_price
+ghost-short_price g a = g.spans
 
 -- the corners so far were taken
 abbrev pub invariant-loop-corner : goal.invariant-loop-corner
