@@ -1,5 +1,5 @@
 // The choices of a state, and one more choice or transition.
-ghost use Rattle.std.specs.Prelude.{◌≡◌, ◌∷◌, [], OnOk, OnErr};
+ghost use Rattle.std.specs.Prelude.{◌≡◌, ◌∷◌, [], IfOk, OnOk, OnErr};
 ghost use Rattle.drn_read.specs.Parts.{is_empty};
 ghost use Rattle.drn_read.specs.Keeping.{with_choice, with_transitions};
 
@@ -8,6 +8,13 @@ use std::alloc::{AllocError, Global};
 
 /// How many transitions a choice has room for at first.
 const FIRST_ROOM: usize = 2;
+
+/// A choice without transitions, with room for its first ones.
+fn empty_choice(alloc: Global) -> Result<Vec<Transition>, AllocError>
+    ensures { IfOk result (λ choice. choice.items ≡ []) }
+{
+    Vec::with_capacity(alloc, FIRST_ROOM)
+}
 
 impl State {
     /// Whether there is no choice yet.
@@ -23,7 +30,7 @@ impl State {
         ensures ok { OnOk result (self.new ≡ with_choice self.old) }
         ensures err { OnErr result (self.new ≡ self.old) }
     {
-        self.choices.push(Vec::new(alloc))?;
+        self.choices.push(empty_choice(alloc)?)?;
         Ok(())
     }
 
@@ -40,7 +47,7 @@ impl State {
         match self.choices.last_mut() {
             Some(choice) => choice.push(transition)?,
             None => {
-                let mut choice = Vec::with_capacity(alloc, FIRST_ROOM)?;
+                let mut choice = empty_choice(alloc)?;
                 choice.push(transition)?;
                 self.choices = Vec::from_array(alloc, [choice])?;
             }
