@@ -112,15 +112,15 @@ reject_parts init u r a b c d e = ap concat e ∙ ap (λ (rest : List ℕ). a ++
 pub rate_line : (e k : ℕ) (y : ℤ) (z : ℕ) → line (reject_words e k y z) ≡ codes "reject e " ++ (decimal e ++ (codes " k " ++ (decimal k ++ (codes " m " ++ (decimal (e * k) ++ (codes " b " ++ (signed_decimal y ++ (codes "/" ++ (decimal z ++ codes "\n")))))))))
 rate_line e k y z = ap (λ (rest : List ℕ). codes "reject e " ++ (decimal e ++ (codes " k " ++ (decimal k ++ (codes " m " ++ (decimal (e * k) ++ (codes " b " ++ rest))))))) (append_assoc (signed_decimal y) (codes "/" ++ decimal z) (codes "\n"))
 
--- what is made of a list with one item
-pub map-one : {X Y : Type 0} (f : X → Y) (xs : List X) (x : X) → length xs ≡ 1 → slice_get xs 0 ≡ Some x → map f xs ≡ (f x ∷ [])
-map-one f [] x l e = absurd (cc)
-map-one f (y ∷ []) x l e = let same : y ≡ x = cc in rw same refl
-map-one f (y ∷ z ∷ ys) x l e = absurd (omega arith)
+-- a list with one item
+pub one-item : {A : Type 0} (xs : List A) (x : A) → length xs ≡ 1 → slice_get xs 0 ≡ Some x → (x ∷ []) ≡ xs
+one-item [] x l e = absurd (cc)
+one-item (y ∷ []) x l e = let same : y ≡ x = cc in rw same refl
+one-item (y ∷ z ∷ ys) x l e = absurd (omega arith)
 
--- of one with two
-pub map-two : {X Y : Type 0} (f : X → Y) (xs : List X) (x y : X) → length xs ≡ 2 → slice_get xs 0 ≡ Some x → slice_get xs 1 ≡ Some y → map f xs ≡ (f x ∷ f y ∷ [])
-map-two f [] x y l d e = absurd (cc)
-map-two f (u ∷ []) x y l d e = absurd (omega arith)
-map-two f (u ∷ v ∷ []) x y l d e = let first : u ≡ x = cc in let second : v ≡ y = cc in rw first (rw second refl)
-map-two f (u ∷ v ∷ w ∷ ys) x y l d e = absurd (omega arith)
+-- one with two
+pub two-items : {A : Type 0} (xs : List A) (x y : A) → length xs ≡ 2 → slice_get xs 0 ≡ Some x → slice_get xs 1 ≡ Some y → (x ∷ y ∷ []) ≡ xs
+two-items [] x y l d e = absurd (cc)
+two-items (u ∷ []) x y l d e = absurd (omega arith)
+two-items (u ∷ v ∷ []) x y l d e = let first : u ≡ x = cc in let second : v ≡ y = cc in rw first (rw second refl)
+two-items (u ∷ v ∷ w ∷ ys) x y l d e = absurd (omega arith)

@@ -11,5 +11,6 @@ pub mod Rows
 pub mod HeadParts
 pub mod Left
 pub mod Recent
+pub mod Terms
 pub mod Migrated
 pub mod Cut

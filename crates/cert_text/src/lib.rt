@@ -20,8 +20,11 @@ mod node_text;
 mod number_line;
 mod parameters;
 mod precisions;
+mod recent_terms;
 mod rejected;
 mod rows;
+mod short_text;
+mod terms;
 mod values;
 
 pub use head::{write_box, write_head, write_head_below};

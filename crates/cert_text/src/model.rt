@@ -5,13 +5,14 @@ ghost use Rattle.std.specs.Fmt.{decimal};
 ghost use Rattle.lift_base.specs.Outside.{Wrote};
 ghost use Rattle.lift_model.specs.Model.{choices};
 ghost use Rattle.cert_text.specs.Report.{line, spaced, kind_name, kind_words, parameters_words, size_lines};
-ghost use Rattle.cert_text.specs.Report.{goal_states, goal_words, term_word, entry_line, row_line};
+ghost use Rattle.cert_text.specs.Report.{goal_states, goal_words, entry_line, row_line};
 ghost use Rattle.cert_text.specs.Report.{row_lines, state_lines, rows_lines, model_lines};
 
+use crate::recent_terms::RecentTerms;
+use crate::terms::write_terms;
 use lift_base::{Sink, Word, WriteFault, write_all, write_words, writes_in_turn};
 use lift_model::{Entry, Kind, Model, Row};
 use lift_names::Names;
-use lift_poly::MultiAffine;
 
 fn kind_name(kind: Kind) -> &'static [u8]
     ensures { result.now ≡ kind_name kind }
@@ -126,80 +127,6 @@ fn write_goal<K: Sink>(out: &mut K, model: &Model) -> Result<(), WriteFault>
     write_all(out, b"\n")
 }
 
-fn write_term<K: Sink>(out: &mut K, term: (u16, i128)) -> Result<(), WriteFault>
-    ensures { Wrote K.taken K.faults out.old out.new result (spaced (term_word term)) }
-{
-    let (set, coefficient) = term;
-    write_words(
-        out,
-        &[
-            Word::Text(b" "),
-            Word::Count(u64::from(set)),
-            Word::Text(b":"),
-            Word::Number(coefficient),
-        ],
-    )
-}
-
-fn write_terms<K: Sink>(out: &mut K, poly: &MultiAffine) -> Result<(), WriteFault>
-    ensures { Wrote K.taken K.faults out.old out.new result
-        (flat_map (λ term. spaced (term_word term)) poly.now) }
-{
-    writes_in_turn::<K>();
-    for index in 0..poly.len() {
-        write_term(out, poly.term(index))?;
-    }
-    Ok(())
-}
-
-// The line of an entry with one term.
-fn write_single<K: Sink>(out: &mut K, target: u32, term: (u16, i128)) -> Result<(), WriteFault>
-    ensures { Wrote K.taken K.faults out.old out.new result
-        (line (codes "to" ∷ decimal target ∷ term_word term ∷ [])) }
-{
-    let (set, coefficient) = term;
-    write_words(
-        out,
-        &[
-            Word::Text(b"to "),
-            Word::Count(u64::from(target)),
-            Word::Text(b" "),
-            Word::Count(u64::from(set)),
-            Word::Text(b":"),
-            Word::Number(coefficient),
-            Word::Text(b"\n"),
-        ],
-    )
-}
-
-// The line of an entry with two terms.
-fn write_pair<K: Sink>(
-    out: &mut K,
-    target: u32,
-    first: (u16, i128),
-    second: (u16, i128),
-) -> Result<(), WriteFault>
-    ensures { Wrote K.taken K.faults out.old out.new result
-        (line (codes "to" ∷ decimal target ∷ term_word first ∷ term_word second ∷ [])) }
-{
-    write_words(
-        out,
-        &[
-            Word::Text(b"to "),
-            Word::Count(u64::from(target)),
-            Word::Text(b" "),
-            Word::Count(u64::from(first.0)),
-            Word::Text(b":"),
-            Word::Number(first.1),
-            Word::Text(b" "),
-            Word::Count(u64::from(second.0)),
-            Word::Text(b":"),
-            Word::Number(second.1),
-            Word::Text(b"\n"),
-        ],
-    )
-}
-
 fn write_long<K: Sink>(out: &mut K, entry: &Entry) -> Result<(), WriteFault>
     ensures { Wrote K.taken K.faults out.old out.new result (entry_line entry.now) }
 {
@@ -212,24 +139,38 @@ fn write_long<K: Sink>(out: &mut K, entry: &Entry) -> Result<(), WriteFault>
     write_all(out, b"\n")
 }
 
-// Most entries have one term or two, and are written at once.
-fn write_entry<K: Sink>(out: &mut K, entry: &Entry) -> Result<(), WriteFault>
+// Most entries have one term or two, as one before them has, and are written at once.
+fn write_entry<K: Sink>(
+    out: &mut K,
+    entry: &Entry,
+    recent: &mut RecentTerms,
+) -> Result<(), WriteFault>
     ensures { Wrote K.taken K.faults out.old out.new result (entry_line entry.now) }
 {
-    let poly = &*entry.poly;
-    match poly.len() {
-        1 => write_single(out, entry.target, poly.term(0)),
-        2 => write_pair(out, entry.target, poly.term(0), poly.term(1)),
-        _ => write_long(out, entry),
+    match recent.text_of(&entry.poly) {
+        Some(text) => write_words(
+            out,
+            &[
+                Word::Text(b"to "),
+                Word::Count(u64::from(entry.target)),
+                Word::Text(text),
+                Word::Text(b"\n"),
+            ],
+        ),
+        None => write_long(out, entry),
     }
 }
 
-fn write_entries<K: Sink>(out: &mut K, entries: &[Entry]) -> Result<(), WriteFault>
+fn write_entries<K: Sink>(
+    out: &mut K,
+    entries: &[Entry],
+    recent: &mut RecentTerms,
+) -> Result<(), WriteFault>
     ensures { Wrote K.taken K.faults out.old out.new result (flat_map entry_line entries.now) }
 {
     writes_in_turn::<K>();
     for entry in entries {
-        write_entry(out, entry)?;
+        write_entry(out, entry, recent)?;
     }
     Ok(())
 }
@@ -252,23 +193,34 @@ fn write_row_line<K: Sink>(out: &mut K, s: u32, a: u32, count: usize) -> Result<
     )
 }
 
-fn write_row<K: Sink>(out: &mut K, s: u32, a: u32, row: &Row) -> Result<(), WriteFault>
+fn write_row<K: Sink>(
+    out: &mut K,
+    s: u32,
+    a: u32,
+    row: &Row,
+    recent: &mut RecentTerms,
+) -> Result<(), WriteFault>
     ensures { Wrote K.taken K.faults out.old out.new result (concat (row_lines s a row.now)) }
 {
     writes_in_turn::<K>();
     let entries = row.entries();
     write_row_line(out, s, a, entries.len())?;
-    write_entries(out, entries)
+    write_entries(out, entries, recent)
 }
 
-fn write_state_rows<K: Sink>(out: &mut K, model: &Model, s: u32) -> Result<(), WriteFault>
+fn write_state_rows<K: Sink>(
+    out: &mut K,
+    model: &Model,
+    s: u32,
+    recent: &mut RecentTerms,
+) -> Result<(), WriteFault>
     requires { s < length model.now.states }
     ensures { Wrote K.taken K.faults out.old out.new result
         (concat (state_lines s (choices model.now s))) }
 {
     writes_in_turn::<K>();
     for a in 0..model.choices(s) {
-        write_row(out, s, a, model.row(s, a))?;
+        write_row(out, s, a, model.row(s, a), recent)?;
     }
     Ok(())
 }
@@ -277,8 +229,9 @@ fn write_rows<K: Sink>(out: &mut K, model: &Model) -> Result<(), WriteFault>
     ensures { Wrote K.taken K.faults out.old out.new result (concat (rows_lines model.now.states)) }
 {
     writes_in_turn::<K>();
+    let mut recent = RecentTerms::new();
     for s in 0..model.states() {
-        write_state_rows(out, model, s)?;
+        write_state_rows(out, model, s, &mut recent)?;
     }
     Ok(())
 }

@@ -5,3 +5,4 @@ mod heads;
 mod nodes;
 mod reports;
 mod versions;
+mod written;
