@@ -186,16 +186,18 @@ impl Part<'_> {
         let position = self.links.position(s);
         let mut at = first_weight(place, corner);
         let mut outlook = Outlook::NONE;
+        let mut whole = 0.0;
         for target in self.links.targets(place) {
             let weight = float_of(self.weights.get(at).copied().unwrap_or(0));
             if weight > 0.0 {
+                whole += weight;
                 let ahead = self.look_at(lane, means, noted, position, *target);
                 outlook = outlook.with(weight, ahead);
             }
             at = at.wrapping_add(1);
         }
         if self.tolled {
-            outlook = outlook.plus(self.toll_of(s) * self.whole(place, corner));
+            outlook = outlook.plus(self.toll_of(s) * whole);
         }
         outlook
     }
@@ -308,9 +310,29 @@ impl Part<'_> {
         }
     }
 
+    /// Finds what the states are worth by elimination, with the choices and corners that count now. False: that didn't do.
+    pub(crate) fn eliminate_once(
+        &self,
+        lane: &mut [i64],
+        means: &mut [u32],
+        noted: &mut [u32],
+    ) -> bool
+        requires links { AreLinks self.now.case.now.model self.now.links.now }
+        requires size { length lane.old ≡ length self.now.case.now.model.states }
+        ensures { IsSameBeyond self.now.rule.ends self.now.case.now self.now.links.now self.now.low self.now.high
+            lane.old lane.new }
+    {
+        let (done, end) = match self.put_in(lane, means, noted) {
+            Eliminated::All(_) => (true, self.high),
+            Eliminated::Before(end) => (false, end),
+        };
+        self.take_out(lane, means, noted, end);
+        done
+    }
+
     /// Finds what the states are worth by elimination, with the choices and corners that count anew in each
-    /// round, until the same count again. False: that didn't do. Without tolls, a guess that is moved up follows one
-    /// that isn't, or a lesser one, by which the same count mostly.
+    /// round, until the same count again. False: that didn't do. A guess that is moved up follows one that isn't, or a lesser
+    /// one, by which the same count mostly, so one round is enough for it.
     pub(crate) fn eliminate(&self, lane: &mut [i64], means: &mut [u32], noted: &mut [u32]) -> bool
         requires links { AreLinks self.now.case.now.model self.now.links.now }
         requires size { length lane.old ≡ length self.now.case.now.model.states }
@@ -323,7 +345,7 @@ impl Part<'_> {
             match self.put_in(lane, means, noted) {
                 Eliminated::All(marks) => {
                     self.take_out(lane, means, noted, self.high);
-                    if marks == last || (self.extra > 0.0 && !self.tolled) {
+                    if marks == last || self.extra > 0.0 {
                         return true;
                     }
                     last = marks;

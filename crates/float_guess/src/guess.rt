@@ -39,6 +39,8 @@ pub enum Rounding {
 pub enum Way {
     /// By elimination.
     Elimination,
+    /// The same, but with the choices and corners that count by what the lane holds.
+    FirstElimination,
     /// The same, and beyond what it says on the side of the rounding's opposite, by a share of a unit for each
     /// expected step: the lesser the higher the level that is noted.
     MovedElimination,
@@ -68,7 +70,7 @@ impl Way {
         let share = match self {
             Way::MovedElimination => SHARE,
             Way::RoundedElimination => ROUNDED_SHARE,
-            Way::Elimination | Way::Sweeps(_) | Way::Nothing => 0.0,
+            Way::Elimination | Way::FirstElimination | Way::Sweeps(_) | Way::Nothing => 0.0,
         };
         let extra = share / nearest_i64_to_f64(top);
         match rounding {
@@ -120,6 +122,7 @@ impl Part<'_> {
             Way::Elimination | Way::MovedElimination | Way::RoundedElimination => {
                 self.eliminate(lane, means, noted) || self.eliminate_rows(lane, noted)
             }
+            Way::FirstElimination => self.eliminate_once(lane, means, noted),
             Way::Sweeps(most) => self.approach(lane, means, most) || self.take_most(lane),
             Way::Nothing => {
                 self.scale(lane, 0);

@@ -18,6 +18,9 @@ use float_guess::{
 /// How many passes over a component are made before the first guess.
 const FIRST_PATIENCE: u32 = 24;
 
+/// How many where there are tolls and most states lie in one component: a guess of that is one of nearly all.
+const LARGE_PATIENCE: u32 = 4;
+
 /// As many passes are made at first as there are numbers, where these are no more: no state rises more often.
 const FEW_NUMBERS: i64 = 1024;
 
@@ -44,6 +47,12 @@ const ROUNDED_TRIES: u32 = 16;
 
 const MORE_RAISES: u32 = 256;
 
+/// After so many it is asked whether they come near: none is tried any more where the last one may have been a fault at more
+/// than one of so many states.
+const LAST_FAR_TRY: u32 = 4;
+
+const FAR_FAULTS: u32 = 5;
+
 /// As many raise one that isn't moved further where at most one state of so many is flagged.
 const FEW_FLAGS: usize = 2;
 
@@ -54,7 +63,7 @@ const TEST_RAISES: u32 = 32;
 const SPREAD_RAISES: u32 = 8;
 
 /// How many passes are made before it is asked whether a guess was no fault.
-const FEW_RAISES: [u32; 3] = [8, 16, 32];
+const FEW_RAISES: [u32; 4] = [4, 8, 16, 32];
 
 /// By how much the initial state's number in a guess is more than the limit, where all numbers are made less.
 const MARGIN: i64 = 4;
@@ -249,6 +258,20 @@ impl Table<'_, '_> {
             }
         }
         true
+    }
+
+    /// Whether the guess may be a fault at many states.
+    fn has_many_faults(&self, lane: &[i64], noted: &[u32]) -> bool
+        requires { CanTest self.now lane.now noted.now }
+    {
+        let states = self.rows.model().states();
+        let mut count: u32 = 0;
+        for s in 0..states {
+            if !self.is_sure_at(lane, noted, s) {
+                count = count.saturating_add(1);
+            }
+        }
+        count > states / FAR_FAULTS
     }
 
     /// Makes the share of each state less at which the guess may be a fault, and of so many at later positions.
@@ -448,6 +471,31 @@ impl Table<'_, '_> {
         }
     }
 
+    /// The same. Where there are tolls, what it would come to in a first round is enough if the initial state's number is
+    /// above the limit then: further rounds find choices and corners that bring more.
+    fn guess_enough(
+        &self,
+        lane: &mut [i64],
+        flags: &mut [u32],
+        noted: &mut [u32],
+        way: Way,
+    ) -> Guessed
+        ghost spans: { Spans }
+        requires { CanConfirm self.now spans lane.old flags.old noted.old }
+        ensures { IsGuess self.now.rule self.now.case lane.new }
+    {
+        match way {
+            Way::Elimination if self.has_tolls() => {
+                let guessed = self.guess(lane, flags, noted, Way::FirstElimination);
+                if matches!(guessed, Guessed::All) && self.is_past(lane) {
+                    return guessed;
+                }
+            }
+            _ => {}
+        }
+        self.guess(lane, flags, noted, way)
+    }
+
     /// Raises a guess of all components. The limit is no matter, since states above it may not have been
     /// raised where it is passed.
     fn confirm_all(
@@ -494,7 +542,7 @@ impl Table<'_, '_> {
         ensures below { result ≡ Raised.Certain → IsBelow self.now.rule self.now.case (from_zero spans) lane.new }
         ensures guess { IsGuess self.now.rule self.now.case lane.new }
     {
-        let guessed = self.guess(lane, flags, noted, way);
+        let guessed = self.guess_enough(lane, flags, noted, way);
         if self.has_tolls() && self.is_past(lane) {
             self.lessen_guess(lane);
         }
@@ -552,7 +600,7 @@ impl Table<'_, '_> {
         corners_bound_weights();
         self.note_all_roundings(lane, noted);
         let mut spread: u32 = 0;
-        for _ in 0..ROUNDED_TRIES {
+        for tried in 1..=ROUNDED_TRIES {
             let passes = TRY_RAISES.saturating_add(SPREAD_RAISES.saturating_mul(spread));
             match self.rise_from_guess(lane, flags, noted, Way::RoundedElimination, passes) {
                 Raised::Least => return Some(!self.is_past(lane)),
@@ -565,6 +613,9 @@ impl Table<'_, '_> {
                     spread = 0;
                 }
                 Raised::High | Raised::Slow | Raised::Nothing => {
+                    if tried == LAST_FAR_TRY && self.has_many_faults(lane, noted) {
+                        return None;
+                    }
                     self.lessen_shares(lane, noted, spread);
                     spread = spread.saturating_mul(2).max(1);
                 }
@@ -669,9 +720,27 @@ impl Table<'_, '_> {
         }
     }
 
+    /// Whether most states lie in one component.
+    fn has_large_component(&self) -> bool {
+        let states = self.rows.model().states();
+        let mut low: u32 = 0;
+        for position in 1..=states {
+            if self.is_end(position) {
+                if position.saturating_sub(low) > states / 2 {
+                    return true;
+                }
+                low = position;
+            }
+        }
+        false
+    }
+
     /// How many passes are made before the first guess.
     fn first_patience(&self) -> u32 {
         if self.top > FEW_NUMBERS {
+            if self.has_tolls() && self.has_large_component() {
+                return LARGE_PATIENCE;
+            }
             return FIRST_PATIENCE;
         }
         u32::try_from(self.top).unwrap_or(FIRST_PATIENCE)

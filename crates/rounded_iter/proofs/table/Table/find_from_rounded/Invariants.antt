@@ -8,5 +8,5 @@ abbrev pub ghost-rise : goal.ghost-rise
 ghost-rise g a = g.spans
 
 -- the vector may be guessed anew
-abbrev pub invariant-loop : goal.invariant-loop
-invariant-loop g l = IsGuess l.self.rule l.self.case l.lane
+abbrev pub invariant-loop-tried : goal.invariant-loop-tried
+invariant-loop-tried g l = IsGuess l.self.rule l.self.case l.lane

@@ -5,3 +5,6 @@ ghost-confirm g a = g.spans
 
 abbrev pub ghost-confirm_all : goal.ghost-confirm_all
 ghost-confirm_all g a = g.spans
+
+abbrev pub ghost-guess_enough : goal.ghost-guess_enough
+ghost-guess_enough g a = g.spans
