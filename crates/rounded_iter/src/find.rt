@@ -702,6 +702,11 @@ impl Table<'_, '_> {
         if let Some(found) = self.rise_from_guesses(lane, flags, noted) {
             return found;
         }
+        if self.first_patience() < FIRST_PATIENCE {
+            if let Some(found) = self.rise_from_zero(lane, flags, Some(FIRST_PATIENCE)) {
+                return found;
+            }
+        }
         let mut patience = FIRST_PATIENCE;
         for _ in 0..GUESSES {
             let way = Way::Sweeps(patience.saturating_mul(SWEEPS_A_PASS));
@@ -720,19 +725,25 @@ impl Table<'_, '_> {
         }
     }
 
-    /// Whether most states lie in one component.
+    /// Whether most states lie in one component, which is that of the state at the middle position then.
     fn has_large_component(&self) -> bool {
         let states = self.rows.model().states();
-        let mut low: u32 = 0;
-        for position in 1..=states {
+        let middle = states / 2;
+        let mut low = 0;
+        for position in (0..=middle).rev() {
             if self.is_end(position) {
-                if position.saturating_sub(low) > states / 2 {
-                    return true;
-                }
                 low = position;
+                break;
             }
         }
-        false
+        let mut high = states;
+        for position in middle..states {
+            if low < position && self.is_end(position) {
+                high = position;
+                break;
+            }
+        }
+        high.saturating_sub(low) > middle
     }
 
     /// How many passes are made before the first guess.
