@@ -33,15 +33,17 @@ impl FewTerms {
         }
     }
 
-    /// Where their text is kept, by how many they are and the last one's set.
+    /// Where their text is kept, by how many they are and the last one.
     fn place(self) -> usize
         ensures { result < PLACES }
     {
-        match self {
-            FewTerms::No => 0,
-            FewTerms::One((set, _)) => (2 * usize::from(set) + 1) % PLACES,
-            FewTerms::Two(_, (set, _)) => 2 * usize::from(set) % PLACES,
-        }
+        let (count, (set, coefficient)) = match self {
+            FewTerms::No => return 0,
+            FewTerms::One(term) => (1, term),
+            FewTerms::Two(_, term) => (2, term),
+        };
+        let low = (coefficient.unsigned_abs() % PLACES as u128) as usize;
+        (2 * usize::from(set) + count + 5 * low) % PLACES
     }
 }
 
