@@ -1,8 +1,11 @@
 //! Least vectors over a table of corner weights, by an iteration from below that rounds up.
 #![tactic(auto)]
 
+mod below;
 mod find;
+mod guess;
 mod least;
+mod moved;
 mod priced;
 mod solve;
 mod table;

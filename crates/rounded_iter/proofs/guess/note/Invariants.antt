@@ -1,5 +1,5 @@
 use Rattle.rounded_iter.specs.Watching.{AreNoted}
-use Rattle.rounded_iter.proofs.find.note.Given as goal
+use Rattle.rounded_iter.proofs.guess.note.Given as goal
 
 -- the numbers so far were noted
 abbrev pub invariant-loop-s : goal.invariant-loop-s
