@@ -586,9 +586,11 @@ pub fn table_others(
     vec: &[i64],
 ) -> Others
     ghost spans: { Spans }
-    requires read { CanRead case.now links.now spans weights.now s a × AreNumbers case.now vec.now × (corner < corner_count case.now s a) }
+    requires read { CanRead case.now links.now spans weights.now s a
+        × AreNumbers case.now vec.now × (corner < corner_count case.now s a) }
     requires narrow { HasShortSums case.now s a }
-    ensures sum { result.sum ≡ row_value case.now spans s a vec.now corner -ℤ (number vec.now s *ℤ loop_weight case.now spans s a corner) }
+    ensures sum { result.sum ≡ row_value case.now spans s a vec.now corner
+        -ℤ (number vec.now s *ℤ loop_weight case.now spans s a corner) }
     ensures whole { result.whole ≡ row_whole case.now s a -ℤ loop_weight case.now spans s a corner }
     ensures least { (pos 0 ≤ℤ result.sum) × (pos 0 ≤ℤ result.whole) }
 {
