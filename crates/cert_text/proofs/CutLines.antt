@@ -81,11 +81,11 @@ pub no_feed_at : (t : List ℕ) → NoFeed t → position_or_len is_feed t ≡ l
 no_feed_at [] h = refl
 no_feed_at (b ∷ t) h = rw (h.0, no_feed_at t h.1) (omega arith)
 
-take_here : (t : List ℕ) (b : ℕ) (rest : List ℕ) → take (length t) (t ++ b ∷ rest) ≡ t
+pub take_here : (t : List ℕ) (b : ℕ) (rest : List ℕ) → take (length t) (t ++ b ∷ rest) ≡ t
 take_here [] b rest = refl
 take_here (a ∷ t) b rest = ap (λ x. a ∷ x) (take_here t b rest)
 
-drop_here : (t : List ℕ) (b : ℕ) (rest : List ℕ) → drop (length t + 1) (t ++ b ∷ rest) ≡ rest
+pub drop_here : (t : List ℕ) (b : ℕ) (rest : List ℕ) → drop (length t + 1) (t ++ b ∷ rest) ≡ rest
 drop_here [] b rest = refl
 drop_here (a ∷ t) b rest = let e : length (a ∷ t) + 1 ≡ suc (length t + 1) = omega arith in ap (λ k. drop k (a ∷ (t ++ b ∷ rest))) e ∙ drop_here t b rest
 

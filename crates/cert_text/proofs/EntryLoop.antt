@@ -17,10 +17,7 @@ use Rattle.cert_text.specs.Lines.{entry_of, most_terms, terms_in}
 use Rattle.cert_text.specs.Head.{entries_at}
 use Rattle.cert_text.specs.Recent.{ReadsEntries}
 use Rattle.cert_text.specs.Shown.{entry_in, entry_by, terms_of, has_mark, AreMarked, targets_back}
-
-and_right : (a b : Bool) → (a && b) ≡ true → b ≡ true
-and_right true b e = e
-and_right false b e = absurd cc
+use Rattle.cert_text.proofs.Decimals.{and_right}
 
 -- the entry of a target and what was read of its terms
 with_target : (ℕ → Bool) → Read (List Term) → ℕ → Read Entry

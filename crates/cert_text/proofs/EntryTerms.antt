@@ -18,7 +18,7 @@ use Rattle.line_text.specs.Parts.{Words, Read, must, each, between, is_above}
 use Rattle.line_text.specs.Shown.{first_of, is_none_left}
 use Rattle.cert_text.specs.Lines.{most_terms, terms_in}
 use Rattle.cert_text.specs.Shown.{next_term, term_first, terms_of, term_in}
-use Rattle.cert_text.proofs.LineLoops.{first_map, first_shorter, map_none, each_first, each_none, each_end, regroup}
+use Rattle.cert_text.proofs.LineLoops.{first_map, first_shorter, map_none, each_first, each_none, each_end, regroup, then_same, same_read}
 use Rattle.cert_text.proofs.FirstLines.{reads_terms, AreTerms}
 use Rattle.cert_text.proofs.ModelOf.{polynomial_of, all_low, all_small}
 
@@ -62,14 +62,6 @@ few_in fault done parameters seen before zs = must (nat_le (length done + length
 -- what is made of words that are left
 abbrev pub terms_left : Option TextCause → List Term → ℕ → ℕ → Option ℕ → Words → Read (Read (List Term))
 terms_left fault done parameters seen before ws = each (pair_of 58) ws >>= few_in fault done parameters seen before
-
-then_same : {A B : Type 0} (r : Read A) (f g : A → Read B) → ((x : A) → f x ≡ g x) → (r >>= f) ≡ (r >>= g)
-then_same (Ok x) f g same = same x
-then_same (Err e) f g same = refl
-
-same_read : {A : Type 0} (r : Read A) → (r >>= λ x. Ok x) ≡ r
-same_read (Ok x) = refl
-same_read (Err e) = refl
 
 pub terms_begin : (parameters : ℕ) (ws : Words) → terms_left None [] parameters 0 None ws ≡ terms_of parameters ws
 unfolding kept

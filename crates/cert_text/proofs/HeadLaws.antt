@@ -171,7 +171,7 @@ inverts_steps =
     (inverts_done Anything (head_of kind names common init goal rows bound w from depth grid root)))))))))))))))
     (λ rows all last (bound, first, end, (ws, (is, t), one), _, whole). opens_bound bound first end last ws is t one whole))))))))))))))))
 
-put : (ls f l x r : Lines) → ls ≡ f ++ l → f ≡ x → l ≡ r → ls ≡ x ++ r
+pub put : (ls f l x r : Lines) → ls ≡ f ++ l → f ≡ x → l ≡ r → ls ≡ x ++ r
 put ls f l x r e a b = e ∙ ap (λ t. t ++ l) a ∙ ap (λ t. x ++ t) b
 
 abbrev lines_of : HeadData → Lines

@@ -134,11 +134,11 @@ value_end count u done fit rest e = ap (λ r. r >>= finish_with count u done fit
 abbrev marks_with : List ℕ → List ℕ → Bool → List (Option ℤ) → Read (List ℕ)
 marks_with ends done fit ms = must (length done + length ms == length ends) Syntax >>= λ _. must fit Limit >>= λ _. marks_in (drop (length done) ends) ms >>= λ more. Ok (done ++ more)
 
-same_read : {A : Type 0} (r : Read A) → (r >>= λ x. Ok x) ≡ r
+pub same_read : {A : Type 0} (r : Read A) → (r >>= λ x. Ok x) ≡ r
 same_read (Ok x) = refl
 same_read (Err e) = refl
 
-then_same : {A B : Type 0} (r : Read A) (f g : A → Read B) → ((x : A) → f x ≡ g x) → (r >>= f) ≡ (r >>= g)
+pub then_same : {A B : Type 0} (r : Read A) (f g : A → Read B) → ((x : A) → f x ≡ g x) → (r >>= f) ≡ (r >>= g)
 then_same (Ok x) f g same = same x
 then_same (Err e) f g same = refl
 

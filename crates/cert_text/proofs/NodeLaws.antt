@@ -44,7 +44,7 @@ use Rattle.cert_text.proofs.RowLaws.{begins_words, AreRows, AreStates}
 use Rattle.cert_text.proofs.FirstLines.{map_len}
 use Rattle.lift_model.specs.declared.entry.Entry.{Entry}
 use Rattle.lift_model.specs.declared.kind.Kind.{Kind}
-use Rattle.cert_text.proofs.HeadLaws.{HeadForm, NumberLine, number_step}
+use Rattle.cert_text.proofs.HeadLaws.{HeadForm, NumberLine, number_step, put}
 
 -- ---- the first line of a rejecting leaf
 
@@ -261,9 +261,6 @@ first_words h r ws y picks ranks k l v (m, (n, (z, _))) =
     l.is
     ∙ ap (λ t. codes "reject" ∷ codes "e" ∷ decimal r.e ∷ codes "k" ∷ decimal r.k ∷ codes "m" ∷ t ∷ codes "b" ∷ l.bw ∷ []) (sym one)
     ∙ ap (λ t. codes "reject" ∷ codes "e" ∷ decimal r.e ∷ codes "k" ∷ decimal r.k ∷ codes "m" ∷ decimal (r.e * r.k) ∷ codes "b" ∷ t ∷ []) two
-
-put : (ls f l x r : Lines) → ls ≡ f ++ l → f ≡ x → l ≡ r → ls ≡ x ++ r
-put ls f l x r e a b = e ∙ ap (λ t. t ++ l) a ∙ ap (λ t. x ++ t) b
 
 wider : (k m : ℕ) (w : List ℕ) → Fits k w → k ≤ m → Fits m w
 wider k m w f h = record { word = f.word; len = omega (arith, f.len, h) }

@@ -1,5 +1,5 @@
 -- How words look that write numbers: their bytes and their lengths.
-use Rattle.std.proofs.Common.{◌≡◌, ℕ, suc, ◌+◌, ◌*◌, ◌^◌, ◌<◌, ◌≤◌, Bool, true, false, not, List, [], ◌∷◌, ◌++◌, length, get_or, take, drop, Option, Some, None, refl, sym, ap, ◌∙◌, arith}
+use Rattle.std.proofs.Common.{◌≡◌, ℕ, suc, ◌+◌, ◌*◌, ◌^◌, ◌<◌, ◌≤◌, Bool, true, false, not, List, [], ◌∷◌, ◌++◌, length, get_or, Option, Some, None, refl, sym, ap, ◌∙◌, arith}
 use Rattle.std.specs.Prelude.{ℤ, pos, negsuc, unsigned_abs, ◌==◌}
 use Rattle.std.specs.List.{AllByRecursion, join_with_byte, position_or_len, before_first, after_first}
 use Rattle.std.specs.Int.{IsInRange}
@@ -12,7 +12,7 @@ use Rattle.std.proofs.lemmas.Bool.{eqb-true, eq-eqb}
 use Rattle.std.proofs.lemmas.List.{length-append, length-drop}
 use Rattle.std.proofs.lemmas.List.Sums.{split_at_first, prefix_len_stops}
 use Rattle.line_text.specs.Words.{number_of, pair_of}
-use Rattle.cert_text.proofs.CutLines.{IsPlain, IsWord}
+use Rattle.cert_text.proofs.CutLines.{IsPlain, IsWord, take_here, drop_here}
 use Rattle.cert_text.proofs.Decimals.{number_back, number_again}
 use Rattle.cert_text.proofs.Fields.{IsSmall}
 
@@ -61,14 +61,6 @@ join_len (w ∷ v ∷ ws) k h =
 first_at : (p : ℕ → Bool) (t : List ℕ) (b : ℕ) (rest : List ℕ) → AllByRecursion (λ x. p x ≡ false) t → p b ≡ true → position_or_len p (t ++ b ∷ rest) ≡ length t
 first_at p [] b rest h e = rw e refl
 first_at p (a ∷ t) b rest h e = rw (h.0, first_at p t b rest h.1 e) (omega arith)
-
-take_here : (t : List ℕ) (b : ℕ) (rest : List ℕ) → take (length t) (t ++ b ∷ rest) ≡ t
-take_here [] b rest = refl
-take_here (a ∷ t) b rest = ap (λ x. a ∷ x) (take_here t b rest)
-
-drop_here : (t : List ℕ) (b : ℕ) (rest : List ℕ) → drop (length t + 1) (t ++ b ∷ rest) ≡ rest
-drop_here [] b rest = refl
-drop_here (a ∷ t) b rest = let e : length (a ∷ t) + 1 ≡ suc (length t + 1) = omega arith in ap (λ k. drop k (a ∷ (t ++ b ∷ rest))) e ∙ drop_here t b rest
 
 zip_is : {A B : Type 0} (p : Option A) (q : Option B) (a : A) (b : B) → option_zip p q ≡ Some (a, b) → (p ≡ Some a) × (q ≡ Some b)
 zip_is None q a b e = absurd cc

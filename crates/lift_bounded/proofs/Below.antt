@@ -18,6 +18,7 @@ use Rattle.lift_bounded.specs.Steps.{nth, LowersData, AreLowers, AreRejecting}
 use Rattle.lift_bounded.specs.Within.{FollowsTimed}
 use Rattle.lift_bounded.specs.Laws.{RejectingReachesWithin}
 use Rattle.lift_bounded.proofs.Cases.{chosen-least, chosen_is, chosen_past, total-positive, power-least, power-positive}
+use Rattle.lift_bounded.proofs.Inside.{in_or_past}
 
 record IsSupported (process : Process) (top : ℤ) (h : ℕ) (y : ℕ → ℕ → ℤ) (choice : ℕ → ℕ → ℕ) : Type 0 where
   total : pos 0 ≤ℤ process.total
@@ -56,9 +57,6 @@ module _ (rise : WeightedSumsRise) (process : Process) (top : ℤ) (h : ℕ) (y 
       let second : weighted_sum (λ t. y n t *ℤ c) row ≤ℤ weighted_sum (λ t. reached t *ℤ top) row =
       rise (λ t. y n t *ℤ c) (λ t. reached t *ℤ top) row (λ t. omega (arith, linear, timed_bound n t before, mul-comm (reached t) top)) (is.weights (suc n) s) in
       omega (arith, linear, first, second, sum-times c (y n) row, sum-times top reached row, mul-comm (weighted_sum reached row) top, mul-comm c (weighted_sum (y n) row), mul-comm c (y (suc n) s *ℤ process.total), mul-assoc (y (suc n) s) process.total c))
-
-in_or_past : (s n : ℕ) → (s < n) ⊎ (n ≤ s)
-in_or_past s n = grind arith
 
 swapped : (a c b : ℤ) → c *ℤ (a *ℤ b) ≡ b *ℤ (a *ℤ c)
 swapped a c b = rw (as_diff a, as_diff c, as_diff b) (simp diffs (diff-same _ _ _ _ (omega arith)))

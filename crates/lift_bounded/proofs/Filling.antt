@@ -14,9 +14,7 @@ use Rattle.corner_lift.specs.Laws.{SumsRise}
 use Rattle.corner_lift.specs.Case.{IsInside}
 use Rattle.lift_bounded.specs.Lanes.{HasVectors, HaveRisen, HasPicks, HaveSunk}
 use Rattle.lift_bounded.proofs.Making.{start_rises, next_rises}
-
-in_or_past : (s n : ℕ) → (s < n) ⊎ (n ≤ s)
-in_or_past s n = grind arith
+use Rattle.lift_bounded.proofs.Inside.{in_or_past}
 
 same_or_not : (i j : ℕ) → (i ≡ j) ⊎ (i ≢ j)
 same_or_not i j = grind arith

@@ -1,3 +1,4 @@
+pub mod Inside
 pub mod Cases
 pub mod Above
 pub mod Below

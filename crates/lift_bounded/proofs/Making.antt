@@ -1,10 +1,9 @@
 -- How certificates by steps are made, step by step.
-use Rattle.std.proofs.Common.{◌≡◌, ℕ, zero, suc, ◌+◌, ◌<◌, ◌≤◌, ◌^◌, true, false, cond, List, [], length, get_or, ℤ, pos, ◌≤ℤ◌, refl, ap, ◌∙◌, arith, ◌⊎◌, inl, inr, ⊎_elim, Bool, subst}
+use Rattle.std.proofs.Common.{◌≡◌, ℕ, zero, suc, ◌+◌, ◌<◌, ◌≤◌, ◌^◌, true, false, cond, List, [], length, ℤ, pos, ◌≤ℤ◌, ap, ◌∙◌, arith, ◌⊎◌, ⊎_elim, subst}
 use Rattle.std.proofs.lemmas.List.{get_or_past}
 use Rattle.std.proofs.lemmas.List.Elements.{All-from_get_or}
 use Rattle.lift_poly.proofs.Ring.{linear, mul-comm, mul-le}
 use Rattle.lift_grid.specs.Rectangle.{Spans}
-use Rattle.lift_model.specs.declared.entry.Entry.{Entry}
 use Rattle.lift_model.specs.Model.{choices, is_goal}
 use Rattle.corner_lift.specs.Case.{CaseData, IsCase, IsInside, number}
 use Rattle.corner_lift.specs.Certificate.{AreNumbers, AtMost, MeansAtMost, mark}
@@ -12,23 +11,11 @@ use Rattle.corner_lift.specs.Laws.{SumsRise, HasRow}
 use Rattle.lift_bounded.specs.Steps.{nth, IsStart, IsUpperStep, AreUppers, IsHeldBy, IsLowerStep, LowersData, AreLowers, IsLeastStep, IsGreatestStep}
 use Rattle.lift_bounded.specs.Stepping.{StepsRise}
 use Rattle.lift_bounded.specs.Laws.{LeastStepsAreLeast, GreatestStepsAreGreatest, LeastUppersRefute, GreatestLowersRefute}
-
-in_or_past : (s n : ℕ) → (s < n) ⊎ (n ≤ s)
-in_or_past s n = grind arith
+use Rattle.lift_bounded.proofs.Inside.{in_or_past, state_of, true_or_false}
 
 -- a state with a choice is one of the model
-state_of : (states : List (List (List Entry))) (s a : ℕ) → a < length (get_or states s []) → s < length states
-state_of states s a lt = ⊎_elim
-    (λ (inside : s < length states). inside)
-    (λ (past : length states ≤ s). absurd (let none = get_or_past states s [] past in omega (arith, lt, ap (length {A = List Entry}) none)))
-    (in_or_past s (length states))
-
 starts_alike : (k : CaseData) (x y : List ℤ) → IsStart k x → IsStart k y → AtMost x y
 starts_alike k x y first second s = omega (arith, linear, first.value s, second.value s)
-
-true_or_false : (b : Bool) → (b ≡ true) ⊎ (b ≡ false)
-true_or_false true = inl refl
-true_or_false false = inr refl
 
 least_number : (k : CaseData) (z : List ℤ) (s : ℕ) → AreNumbers k z → pos 0 ≤ℤ number z s
 least_number k z s numbers = ⊎_elim

@@ -1,5 +1,5 @@
 -- There is at most one list of least upper vectors, one of greatest lower ones with their picks, and so one right tree.
-use Rattle.std.proofs.Common.{◌≡◌, ℕ, zero, suc, ◌+◌, ◌<◌, ◌≤◌, ◌⊎◌, inl, inr, ⊎_elim, Bool, true, false, List, [], length, ℤ, pos, refl, sym, ap, ◌∙◌, subst, arith, ext_get_or}
+use Rattle.std.proofs.Common.{◌≡◌, ℕ, zero, suc, ◌+◌, ◌<◌, ◌≤◌, ◌⊎◌, ⊎_elim, true, false, List, [], length, ℤ, pos, refl, sym, ap, ◌∙◌, subst, arith, ext_get_or}
 use Rattle.lift_poly.proofs.Ring.{linear}
 use Rattle.lift_grid.specs.Rectangle.{Spans}
 use Rattle.lift_grid.specs.Tree.{lower_half, upper_half}
@@ -12,13 +12,10 @@ use Rattle.lift_walk.specs.Halved.{Halved}
 use Rattle.lift_bounded.specs.Steps.{nth, AreUppers, LowersData, AreLowers, AreGreatestLowers, IsHeldBy}
 use Rattle.lift_bounded.specs.Decided.{BoundedLeaf, DecidesWithin, IsOpenWithin, IsRightWithin}
 use Rattle.lift_bounded.specs.Laws.{LeastUppersAreOne, GreatestLowersAreOne}
+use Rattle.lift_bounded.proofs.Inside.{true_or_false}
 
 numbers_same : (x y : List ℤ) → length x ≡ length y → AtMost x y → AtMost y x → x ≡ y
 numbers_same x y size a b = ext_get_or (pos 0) x y size (λ i lt. omega (arith, linear, a i, b i))
-
-true_or_false : (b : Bool) → (b ≡ true) ⊎ (b ≡ false)
-true_or_false true = inl refl
-true_or_false false = inr refl
 
 in_order : (a b : ℕ) → (a < b) ⊎ ((a ≡ b) ⊎ (b < a))
 in_order a b = grind arith

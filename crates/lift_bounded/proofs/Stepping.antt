@@ -1,11 +1,10 @@
 -- What a choice needs and what it holds, and how the choices of a state are gone through.
-use Rattle.std.proofs.Common.{◌≡◌, ◌≢◌, ℕ, zero, suc, ◌+◌, ◌*◌, ◌^◌, ◌<◌, ◌≤◌, ◌⊎◌, inl, inr, ⊎_elim, Bool, true, false, List, [], length, get_or, ℤ, pos, negsuc, ◌+ℤ◌, ◌-ℤ◌, ◌*ℤ◌, ◌≤ℤ◌, ◌<ℤ◌, refl, sym, ap, subst, ◌∙◌, arith, pow_mono, set, get_or-set_same, get_or-set_other, unsigned_abs, Option, Some, None, IfSome}
+use Rattle.std.proofs.Common.{◌≡◌, ◌≢◌, ℕ, zero, suc, ◌+◌, ◌*◌, ◌^◌, ◌<◌, ◌≤◌, ◌⊎◌, inl, inr, ⊎_elim, true, false, List, [], length, ℤ, pos, negsuc, ◌+ℤ◌, ◌-ℤ◌, ◌*ℤ◌, ◌≤ℤ◌, ◌<ℤ◌, refl, sym, ap, subst, ◌∙◌, arith, pow_mono, set, get_or-set_same, get_or-set_other, unsigned_abs, Option, Some, None, IfSome}
 use Rattle.std.proofs.lemmas.Int.{by_lt_z}
 use Rattle.std.proofs.lemmas.List.{get_or_past, get_or_default}
 use Rattle.std.proofs.lemmas.List.Elements.{All-from_get_or}
 use Rattle.lift_poly.proofs.Ring.{linear, mul-comm, mul-le, mul-zero, zero-mul, one-mul, add-mul, mul-le_cancel}
 use Rattle.lift_grid.specs.Rectangle.{Spans}
-use Rattle.lift_model.specs.declared.entry.Entry.{Entry}
 use Rattle.lift_model.specs.Process.{power}
 use Rattle.lift_model.specs.Model.{is_goal, choices, row_at, support}
 use Rattle.lift_model.specs.Links.{HasChoice}
@@ -18,6 +17,7 @@ use Rattle.corner_lift.specs.Laws.{ParametersAreTheRoots, SumsAreInRange, HasRow
 use Rattle.lift_bounded.specs.Steps.{IsLeastStep, IsGreatestStep}
 use Rattle.lift_bounded.specs.Stepping.{Covers, IsNeeded, IsRaised, IsLeastFor, IsUpperAt, Holds, IsMostHeld, IsGreatestFor, IsLowerAt, IsBetter, StepsRise}
 use Rattle.lift_bounded.specs.declared.steps.Picked.{Picked}
+use Rattle.lift_bounded.proofs.Inside.{in_or_past, true_or_false, state_of}
 
 -- ---- order
 
@@ -225,24 +225,11 @@ one_more_held k spans y s n p r v h g b = by_lt_z p.number v
 
 -- ---- all states
 
-in_or_past : (s n : ℕ) → (s < n) ⊎ (n ≤ s)
-in_or_past s n = grind arith
-
-true_or_false : (b : Bool) → (b ≡ true) ⊎ (b ≡ false)
-true_or_false true = inl refl
-true_or_false false = inr refl
-
 goal_inside : (k : CaseData) → IsCase k → (s : ℕ) → is_goal k.model s ≡ true → s < length k.model.states
 goal_inside k is s g = ⊎_elim
     (λ (lt : s < length k.model.states). lt)
     (λ (past : length k.model.states ≤ s). absurd (let none : is_goal k.model s ≡ false = get_or_past k.model.goal s false (omega (arith, past, is.asked.model.goals)) in (let both : true ≡ false = sym g ∙ none in cc)))
     (in_or_past s (length k.model.states))
-
-state_of : (states : List (List (List Entry))) (s a : ℕ) → a < length (get_or states s []) → s < length states
-state_of states s a lt = ⊎_elim
-    (λ (inside : s < length states). inside)
-    (λ (past : length states ≤ s). absurd (let none = get_or_past states s [] past in omega (arith, lt, ap (length {A = List Entry}) none)))
-    (in_or_past s (length states))
 
 module _ (parameters : ParametersAreTheRoots) (k : CaseData) (spans : Spans) (is : IsCase k) (within : IsInside k.root spans) where
   same_width : (s a : ℕ) → parameter_count spans (support (row_at k.model s a)) ≡ parameter_count k.root (support (row_at k.model s a))

@@ -1,6 +1,5 @@
 -- The greatest lower vector for every scheduler, by its other side.
-use Rattle.std.proofs.Common.{◌≡◌, ℕ, zero, suc, ◌^◌, ◌<◌, ◌≤◌, Bool, true, false, List, [], ◌∷◌, length, All, ℤ, pos, ◌-ℤ◌, ◌*ℤ◌, ◌≤ℤ◌, ◌<ℤ◌, nat_lt, refl, sym, ap, subst, ◌∙◌, arith, ltb-true, ltb-false, ◌⊎◌, ⊎_elim}
-use Rattle.std.proofs.lemmas.Bool.{both_ways}
+use Rattle.std.proofs.Common.{◌≡◌, ℕ, zero, suc, ◌^◌, ◌<◌, ◌≤◌, true, false, List, [], ◌∷◌, length, All, ℤ, pos, ◌-ℤ◌, ◌*ℤ◌, ◌≤ℤ◌, ◌<ℤ◌, nat_lt, refl, sym, ap, subst, ◌∙◌, arith, ltb-true, ltb-false, ◌⊎◌, ⊎_elim}
 use Rattle.std.proofs.lemmas.Int.{by_lt_z}
 use Rattle.std.proofs.lemmas.List.{get_or_default, get_or_past}
 use Rattle.std.proofs.lemmas.List.Elements.{All-from_get_or, All-head, All-tail}
@@ -16,17 +15,11 @@ use Rattle.corner_lift.specs.Corner.{corner, parameter_count, corner_sum, whole}
 use Rattle.corner_lift.specs.Case.{CaseData, IsCase, IsInside, number, row_whole}
 use Rattle.corner_lift.specs.Certificate.{AreNumbers, AtMost, MeansAtMost, MeansAtLeast, unmarked, mark, ranked_below}
 use Rattle.corner_lift.specs.Stages.{LeadsBelow}
-use Rattle.corner_lift.specs.Laws.{NumbersAreInRange, ParametersAreTheRoots, SumsAreInRange, SumsRise, WeightsSumToWhole, HasRow}
+use Rattle.corner_lift.specs.Laws.{NumbersAreInRange, ParametersAreTheRoots, SumsAreInRange, SumsRise, WeightsSumToWhole}
 use Rattle.lift_dual.specs.Sides.{RowHolds, IsLowerAll}
 use Rattle.lift_dual.proofs.Joining.{listed, listed-length, listed-at}
 use Rattle.lift_dual.specs.Avoiding.{AreStagesOfAll, IsAvoiding, IsLeastAvoiding, IsRest, HasLeast, StagesAreLeast, RestIsAvoiding, RestIsGreatest}
-
-in_or_past : (s count : ℕ) → (s < count) ⊎ (count ≤ s)
-in_or_past s count = grind arith
-
-either_way : {P : Type 0} (b : Bool) → (b ≡ true → P) → (b ≡ false → P) → P
-either_way true f g = f refl
-either_way false f g = g refl
+use Rattle.lift_dual.proofs.Inside.{in_or_past, choice_inside, goal_inside, has_row, either_way}
 
 -- the sum of what is left of a number
 rest_sum : (v : ℤ) (f g : ℕ → ℤ) (row : List Move) → ((t : ℕ) → g t ≡ v -ℤ f t) → weighted_sum g row ≡ v *ℤ weighted_sum (λ t. pos 1) row -ℤ weighted_sum f row
@@ -40,10 +33,6 @@ rest_sum v f g (m ∷ row) h = omega (arith, linear, ap (λ z. m.1 *ℤ z) (h m.
     one v a = rw (as_diff a, as_diff v) (simp diffs (diff-same _ _ _ _ (omega arith)))
 
 -- the same where places past the last have number 0 in both
-sum-same : (f g : ℕ → ℤ) (row : List Move) → ((t : ℕ) → f t ≡ g t) → weighted_sum f row ≡ weighted_sum g row
-sum-same f g [] same = refl
-sum-same f g (m ∷ row) same = omega (arith, linear, ap (λ z. m.1 *ℤ z) (same m.0), sum-same f g row same)
-
 spread : (v z w : ℤ) → (v -ℤ z) *ℤ w ≡ v *ℤ w -ℤ z *ℤ w
 spread v z w = rw (as_diff v, as_diff z, as_diff w) (simp diffs (diff-same _ _ _ _ (omega arith)))
 
@@ -53,18 +42,6 @@ product-positive a b ha hb = omega (arith, linear, ha, mul-le a (pos 1) b (omega
 module _ (k : CaseData) (spans : Spans) (is : IsCase k) where
   abbrev n : ℕ
   n = length k.model.states
-
-  choice_inside : (s a : ℕ) → a < length (choices k.model s) → s < n
-  choice_inside s a lt = ⊎_elim
-      (λ (state : s < n). state)
-      (λ (past : n ≤ s). absurd (let none = get_or_past k.model.states s [] past in omega (arith, lt, ap (length {A = List Entry}) none)))
-      (in_or_past s n)
-
-  goal_inside : (s : ℕ) → is_goal k.model s ≡ true → s < n
-  goal_inside s g = ⊎_elim (λ (lt : s < n). lt) (λ (past : n ≤ s). absurd (both_ways (is_goal k.model s) (get_or_past k.model.goal s false (omega (arith, past, is.asked.model.goals))) g)) (in_or_past s n)
-
-  has_row : (s a : ℕ) → a < length (choices k.model s) → HasRow k s a
-  has_row s a lt = record { state = choice_inside s a lt; choice = lt }
 
   power-positive : (b : ℤ) (m : ℕ) → pos 1 ≤ℤ b → pos 1 ≤ℤ power b m
   power-positive b zero h = omega (arith, linear)
@@ -91,7 +68,7 @@ module _ (k : CaseData) (spans : Spans) (is : IsCase k) where
         let each : (t : ℕ) → old t ≤ℤ new t = λ t. either_way (nat_lt (mark o.ranks t) r)
         (λ yes_o. rw (yes_o, test_of_lt (rank t) r (below t (ltb-true (mark o.ranks t) r yes_o))) (omega (arith, linear)))
         (λ no_o. rw no_o (either_way (nat_lt (rank t) r) (λ e. rw e (omega (arith, linear))) (λ e. rw e (omega (arith, linear))))) in
-        omega (arith, linear, some, rise k spans s a c old new is within (has_row s a lt) each)
+        omega (arith, linear, some, rise k spans s a c old new is within (has_row k s a lt) each)
       where
         test_of_lt : (i j : ℕ) → i < j → nat_lt i j ≡ true
         test_of_lt i j lt = either_way (nat_lt i j) (λ e. e) (λ e. absurd (omega (arith, lt, ltb-false i j e)))
@@ -119,11 +96,11 @@ module _ (k : CaseData) (spans : Spans) (is : IsCase k) where
         → corner_sum k.d spans (row_at k.model s a) c g ≡ pos (2 ^ k.w) *ℤ whole k.model k.d spans (row_at k.model s a) -ℤ corner_sum k.d spans (row_at k.model s a) c f
     rest_at s a lt c at f g h =
         let row = row_at k.model s a in
-        omega (arith, linear, rest_sum (pos (2 ^ k.w)) f g (moves_at (corner k.d spans (support row) c) row) h, ap (λ z. pos (2 ^ k.w) *ℤ z) (sum k spans s a is within (has_row s a lt) c at ∙ sym (same_whole s a)))
+        omega (arith, linear, rest_sum (pos (2 ^ k.w)) f g (moves_at (corner k.d spans (support row) c) row) h, ap (λ z. pos (2 ^ k.w) *ℤ z) (sum k spans s a is within (has_row k s a lt) c at ∙ sym (same_whole s a)))
 
     -- targets are states
     on_targets : (s a : ℕ) → a < length (choices k.model s) → (c : ℕ) (f g : ℕ → ℤ) → ((t : ℕ) → t < n → f t ≡ g t) → corner_sum k.d spans (row_at k.model s a) c f ≡ corner_sum k.d spans (row_at k.model s a) c g
-    on_targets s a lt c f g same = sum_targets (corner k.d spans (support (row_at k.model s a)) c) (row_at k.model s a) f g (is.asked.model.rows s [] (choice_inside s a lt) a [] lt).entries same
+    on_targets s a lt c f g same = sum_targets (corner k.d spans (support (row_at k.model s a)) c) (row_at k.model s a) f g (is.asked.model.rows s [] (choice_inside k s a lt) a [] lt).entries same
       where
         sum_targets : (v : Valuation) (row : List Entry) (f g : ℕ → ℤ) → All (IsEntry n (length k.model.names)) row → ((t : ℕ) → t < n → f t ≡ g t) → weighted_sum f (moves_at v row) ≡ weighted_sum g (moves_at v row)
         sum_targets v [] f g h same = refl
@@ -164,7 +141,7 @@ module _ (k : CaseData) (spans : Spans) (is : IsCase k) where
           let row = row_at k.model s a in
           let full = whole k.model k.d spans row in
           let left : ℕ → ℤ = λ t. pos (2 ^ k.w) -ℤ number o.numbers t in
-          let state = choice_inside s a lt in
+          let state = choice_inside k s a lt in
           let sums = on_targets s a lt c (number other) left other_at in
           let value = ap (λ v. v *ℤ full) (other_at s state) in
           ⊎_elim
@@ -172,7 +149,7 @@ module _ (k : CaseData) (spans : Spans) (is : IsCase k) where
           let holds : RowHolds k spans o s row = (ho.held s g ranked).rows a [] lt in
           omega (arith, linear, sums, value, rest_at s a lt c at (number o.numbers) left (λ t. refl), holds.means c at, spread (pos (2 ^ k.w)) (number o.numbers s) full))
           (λ (off : unmarked ≤ mark o.ranks s).
-          let most = (range k spans s a c other is within (has_row s a lt) other_numbers).1 in
+          let most = (range k spans s a c other is within (has_row k s a lt) other_numbers).1 in
           let top : number other s ≡ pos (2 ^ k.w) = omega (arith, linear, other_at s state, ho.unranked s g off) in
           omega (arith, linear, most, ap (λ v. v *ℤ full) top, ap (λ v. pos (2 ^ k.w) *ℤ v) (same_whole s a)))
           (in_or_past (mark o.ranks s) unmarked)
@@ -180,7 +157,7 @@ module _ (k : CaseData) (spans : Spans) (is : IsCase k) where
       avoids : IsAvoiding k spans rank other
       avoids = record {
         numbers = other_numbers;
-        goal = λ s g. omega (arith, linear, other_at s (goal_inside s g), (ho.goal s g).0);
+        goal = λ s g. omega (arith, linear, other_at s (goal_inside k s is g), (ho.goal s g).0);
         lost = λ s lt g off. omega (arith, linear, other_at s lt, ho.unranked s g (none_of s lt off));
         means = λ s g ranked. rows_of (λ row. MeansAtMost k spans row other (number other s)) s (λ a lt. other_means s a lt g);
       }
@@ -211,7 +188,7 @@ module _ (k : CaseData) (spans : Spans) (is : IsCase k) where
             on_targets s a lt c (number r.numbers) left rest.each,
             rest_at s a lt c at (number z) left (λ t. refl),
             h.avoiding.means s g ranked a [] lt c at,
-            ap (λ v. v *ℤ full) (rest.each s (choice_inside s a lt)),
+            ap (λ v. v *ℤ full) (rest.each s (choice_inside k s a lt)),
             spread (pos (2 ^ k.w)) (number z s) full,
           )
 
@@ -221,7 +198,7 @@ module _ (k : CaseData) (spans : Spans) (is : IsCase k) where
         sizes = (none, size);
         marks = marks;
         bounds = (has.rate.0, has.height.0, has.height.1);
-        goal = λ s g. (let lt = goal_inside s g in omega (arith, linear, rest.each s lt, h.avoiding.goal s g), stages.goal s g);
+        goal = λ s g. (let lt = goal_inside k s is g in omega (arith, linear, rest.each s lt, h.avoiding.goal s g), stages.goal s g);
         unranked = λ s g off. ⊎_elim
             (λ (lt : s < n). omega (arith, linear, rest.each s lt, h.avoiding.lost s lt g off))
             (λ (past : n ≤ s). past_number r.numbers s rest.size past)

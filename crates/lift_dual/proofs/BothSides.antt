@@ -1,10 +1,10 @@
 -- No lower vector for every scheduler is above an upper one for one scheduler, where both speak of one valuation.
-use Rattle.std.proofs.Common.{◌≡◌, ℕ, zero, suc, ◌^◌, ◌<◌, ◌≤◌, Bool, true, false, List, [], ◌∷◌, length, map, get_or, ℤ, pos, ◌+ℤ◌, ◌*ℤ◌, ◌≤ℤ◌, ◌<ℤ◌, refl, sym, ap, arith, nat_lt, ltb-true, ltb-false, ◌⊎◌, ⊎_elim}
+use Rattle.std.proofs.Common.{◌≡◌, ℕ, zero, suc, ◌^◌, ◌<◌, ◌≤◌, true, false, List, [], ◌∷◌, length, map, get_or, ℤ, pos, ◌+ℤ◌, ◌*ℤ◌, ◌≤ℤ◌, ◌<ℤ◌, refl, sym, ap, arith, nat_lt, ltb-true, ltb-false, ◌⊎◌, ⊎_elim}
 use Rattle.std.specs.List.{AllByRecursion}
 use Rattle.std.proofs.lemmas.Int.{by_lt_z}
 use Rattle.std.proofs.lemmas.List.{get_or_past}
 use Rattle.lift_poly.specs.Polynomial.{Valuation, denominator}
-use Rattle.lift_poly.proofs.Ring.{linear, mul-comm, mul-assoc, mul-add, add-mul, mul-zero, zero-mul, one-mul, mul-le, mul-lt}
+use Rattle.lift_poly.proofs.Ring.{linear, mul-comm, mul-assoc, add-mul, zero-mul, one-mul, mul-le}
 use Rattle.lift_grid.specs.Rectangle.{Spans, Inside}
 use Rattle.lift_model.specs.Process.{Process, Move, weighted_sum}
 use Rattle.lift_model.specs.Memoryless.{chosen}
@@ -17,17 +17,8 @@ use Rattle.lift_dual.specs.Supported.{ranked_under, Supports, IsSupportedByAll}
 use Rattle.lift_dual.specs.Laws.{SupportedPlansReach}
 use Rattle.lift_dual.specs.Laws.{LowerAllIsBelowUpperOne}
 use Rattle.lift_dual.proofs.Saying.{supported, chosen-mean, chosen-weights}
-
-either_way : {P : Type 0} (b : Bool) → (b ≡ true → P) → (b ≡ false → P) → P
-either_way true f g = f refl
-either_way false f g = g refl
-
-in_or_past : (s count : ℕ) → (s < count) ⊎ (count ≤ s)
-in_or_past s count = grind arith
-
-sum-add : (f g : ℕ → ℤ) (row : List Move) → weighted_sum (λ t. f t +ℤ g t) row ≡ weighted_sum f row +ℤ weighted_sum g row
-sum-add f g [] = omega (arith, linear)
-sum-add f g (m ∷ row) = omega (arith, linear, sum-add f g row, mul-add m.1 (f m.0) (g m.0))
+use Rattle.lift_dual.proofs.Inside.{in_or_past, either_way}
+use Rattle.lift_dual.proofs.Sums.{sum-add, positive_part, product-positive}
 
 constant : (q : ℤ) (moves : List Move) → weighted_sum (λ t. q) moves ≡ weighted_sum (λ t. pos 1) moves *ℤ q
 constant q [] = sym (zero-mul q)
@@ -37,12 +28,6 @@ cancel-lt : (a b c : ℤ) → pos 0 <ℤ c → (a *ℤ c) <ℤ (b *ℤ c) → a 
 cancel-lt a b c h lt = by_lt_z a b (λ l. l) (λ le. let f = mul-le c b a (omega (arith, linear)) le in absurd (omega (arith, linear, f, lt, mul-comm c a, mul-comm c b)))
 
 -- a part of a whole above 0 is above 0
-positive_part : (a b q : ℤ) → pos 0 ≤ℤ q → pos 0 <ℤ b → b ≤ℤ (a *ℤ q) → pos 0 <ℤ a
-positive_part a b q h positive le = by_lt_z (pos 0) a (λ l. l) (λ n. let f = mul-le q a (pos 0) h n in absurd (omega (arith, linear, f, positive, le, mul-comm q a, mul-zero q)))
-
-product-positive : (a b : ℤ) → pos 0 <ℤ a → pos 0 <ℤ b → pos 0 <ℤ (a *ℤ b)
-product-positive a b f g = let lt = mul-lt a (pos 0) b f g in omega (arith, linear, lt, mul-zero a)
-
 denominator-positive : (d : ℤ) (ss : Spans) (v : Valuation) → Inside d ss v → pos 0 <ℤ denominator v
 denominator-positive d [] [] h = omega (arith, linear)
 denominator-positive d (s ∷ ss) (x ∷ v) h = product-positive x.1 (denominator v) h.0 (denominator-positive d ss v h.3)

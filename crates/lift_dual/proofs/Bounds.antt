@@ -1,12 +1,10 @@
 -- By which rules the least vectors of both kinds are least bounds.
 use Rattle.std.proofs.Common.{◌≡◌, ℕ, ◌^◌, ◌<◌, ◌≤◌, ◌||◌, ◌&&◌, not, nat_lt, Bool, true, false, List, [], length, ℤ, pos, ◌*ℤ◌, ◌≤ℤ◌, refl, sym, ap, subst, arith, ltb-true, ltb-false, lt-ltb, le-ltb, ◌⊎◌, ⊎_elim, if◌then◌else◌}
 use Rattle.std.proofs.lemmas.Bool.{both_ways}
-use Rattle.std.proofs.lemmas.List.{get_or_past}
 use Rattle.std.proofs.lemmas.List.Elements.{All-from_get_or}
 use Rattle.std.specs.Borrow.{Bor}
 use Rattle.lift_poly.proofs.Ring.{linear}
 use Rattle.lift_grid.specs.Rectangle.{Spans}
-use Rattle.lift_model.specs.declared.entry.Entry.{Entry}
 use Rattle.lift_model.specs.Process.{power}
 use Rattle.lift_model.specs.Model.{is_goal, choices, row_at}
 use Rattle.corner_lift.specs.Corner.{whole}
@@ -20,13 +18,7 @@ use Rattle.lift_dual.specs.Sides.{IsUpperOne}
 use Rattle.lift_dual.specs.Avoiding.{IsAvoiding, IsLeastAvoiding}
 use Rattle.lift_dual.specs.Picking.{IsMet, HasMet, AreLowestPicks, IsLeastUpperOne}
 use Rattle.lift_dual.specs.Bounds.{for_one, for_all, BoundsAreAvoiding, LeastBoundIsAvoiding, UpperOneIsBound, BoundIsMet, LeastBoundIsUpperOne}
-
-in_or_past : (s count : ℕ) → (s < count) ⊎ (count ≤ s)
-in_or_past s count = grind arith
-
-pub either_way : {P : Type 0} (b : Bool) → (b ≡ true → P) → (b ≡ false → P) → P
-either_way true f g = f refl
-either_way false f g = g refl
+use Rattle.lift_dual.proofs.Inside.{in_or_past, choice_inside, goal_inside, either_way}
 
 -- a choice is met where it is at each of its corners
 pub met_is : ParametersAreTheRoots → (k : CaseData) (spans : Spans) (x : List ℤ) (s a : ℕ) → IsInside k.root spans
@@ -41,15 +33,6 @@ met_is parameters k spans x s a within =
     )
 
 module _ (parameters : ParametersAreTheRoots) (k : CaseData) (spans : Spans) (is : IsCase k) (within : IsInside k.root spans) where
-  goal_inside : (s : ℕ) → is_goal k.model s ≡ true → s < length k.model.states
-  goal_inside s g = ⊎_elim (λ (lt : s < length k.model.states). lt) (λ (past : length k.model.states ≤ s). absurd (both_ways (is_goal k.model s) (get_or_past k.model.goal s false (omega (arith, past, is.asked.model.goals))) g)) (in_or_past s (length k.model.states))
-
-  choice_inside : (s a : ℕ) → a < length (choices k.model s) → s < length k.model.states
-  choice_inside s a lt = ⊎_elim
-      (λ (state : s < length k.model.states). state)
-      (λ (past : length k.model.states ≤ s). absurd (let none = get_or_past k.model.states s [] past in omega (arith, lt, ap (length {A = List Entry}) none)))
-      (in_or_past s (length k.model.states))
-
   -- ---- avoiding vectors
 
   module _ (ranks : Bor (List ℕ)) where
@@ -71,7 +54,7 @@ module _ (parameters : ParametersAreTheRoots) (k : CaseData) (spans : Spans) (is
       numbers = h.numbers;
       goal = λ s g. subst (λ v. number z s ≡ v) (let e : given k (Unranked ranks) s ≡ pos 0 = rw g refl in e) (h.given s (goal_given s g));
       lost = λ s lt g off. subst (λ v. number z s ≡ v) (let e : given k (Unranked ranks) s ≡ pos (2 ^ k.w) = rw g refl in e) (h.given s (lost_given s lt g off));
-      means = λ s g ranked. All-from_get_or (λ row. MeansAtMost k spans row z (number z s)) (choices k.model s) [] (λ a lt. (met_is parameters k spans z s a within).0 (h.enough s (choice_inside s a lt) (not_given s g ranked) a lt));
+      means = λ s g ranked. All-from_get_or (λ row. MeansAtMost k spans row z (number z s)) (choices k.model s) [] (λ a lt. (met_is parameters k spans z s a within).0 (h.enough s (choice_inside k s a lt) (not_given s g ranked) a lt));
     }
 
     bound_of : (z : List ℤ) → IsAvoiding k spans (mark ranks.now) z → IsEnoughEverywhere (for_all ranks) k spans z
@@ -112,7 +95,7 @@ module _ (parameters : ParametersAreTheRoots) (k : CaseData) (spans : Spans) (is
     upper = record {
       numbers = h.bound.numbers;
       size = picked.size;
-      goal = λ s g. (h.bound.given s g, (picked.each s (goal_inside s g)).none g);
+      goal = λ s g. (h.bound.given s g, (picked.each s (goal_inside k s is g)).none g);
       pick = λ s lt g. ((picked.each s lt).picked g).in_range;
       means = λ s lt g. ((picked.each s lt).picked g).holds;
     };

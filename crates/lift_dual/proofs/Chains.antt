@@ -1,6 +1,5 @@
 -- Certificates of a chain, each of whose states has one choice.
 use Rattle.std.proofs.Common.{◌≡◌, ℕ, ◌^◌, ◌<◌, ◌≤◌, true, false, cond, nat_lt, List, [], length, get_or, All, ℤ, pos, ◌*ℤ◌, ◌≤ℤ◌, refl, sym, ap, subst, ◌∙◌, arith, lt-ltb, le-ltb, ◌⊎◌, ⊎_elim}
-use Rattle.std.proofs.lemmas.Bool.{both_ways}
 use Rattle.std.proofs.lemmas.List.{get_or_past}
 use Rattle.std.proofs.lemmas.List.Elements.{All-from_get_or}
 use Rattle.lift_poly.proofs.Ring.{linear, mul-zero, mul-comm}
@@ -19,21 +18,8 @@ use Rattle.lift_dual.specs.Sides.{RowHolds, IsLowerAll, IsUpperOne}
 use Rattle.lift_dual.specs.Picking.{IsLowestMet, IsLeastUpperOne}
 use Rattle.lift_dual.specs.Avoiding.{AreStagesOfAll, IsRateOf, HasLeast, IsGreatestLowerAll}
 use Rattle.lift_dual.specs.Chains.{AreFirstPicks, LeastWithinIsForOne, GreatestAboveIsForAll, NoneAboveIsForAll}
-use Rattle.lift_dual.proofs.Picking.{in_or_past}
-use Rattle.lift_dual.proofs.Bounds.{either_way}
 use Rattle.lift_dual.proofs.Joining.{listed, listed-length, listed-at, listed-past}
-
-choice_inside : (k : CaseData) (s a : ℕ) → a < length (choices k.model s) → s < length k.model.states
-choice_inside k s a lt = ⊎_elim
-    (λ (state : s < length k.model.states). state)
-    (λ (past : length k.model.states ≤ s). absurd (let none = get_or_past k.model.states s [] past in omega (arith, lt, ap (length {A = List Entry}) none)))
-    (in_or_past s (length k.model.states))
-
-goal_inside : (k : CaseData) (s : ℕ) → IsCase k → is_goal k.model s ≡ true → s < length k.model.states
-goal_inside k s is g = ⊎_elim
-    (λ (lt : s < length k.model.states). lt)
-    (λ (past : length k.model.states ≤ s). absurd (both_ways (is_goal k.model s) (get_or_past k.model.goal s false (omega (arith, past, is.asked.model.goals))) g))
-    (in_or_past s (length k.model.states))
+use Rattle.lift_dual.proofs.Inside.{in_or_past, choice_inside, goal_inside, either_way}
 
 -- ---- an upper vector of any case
 

@@ -1,10 +1,9 @@
 -- Rates: how often a weight is doubled to be enough, at all corners of all choices.
 use Rattle.std.proofs.Common.{◌≡◌, ◌+◌, ◌-◌, ◌*◌, ◌^◌, ◌<◌, ◌≤◌, ℕ, zero, suc, false, List, [], ◌∷◌, length, get_or, All, ℤ, pos, ◌*ℤ◌, ◌≤ℤ◌, ◌<ℤ◌, ap, subst, sym, arith, ⊎_elim}
-use Rattle.std.proofs.lemmas.Int.{by_lt_z}
 use Rattle.std.proofs.lemmas.Nat.{pow_pos, pow-add}
 use Rattle.std.proofs.lemmas.List.{get_or_past}
 use Rattle.std.proofs.lemmas.List.Elements.{All-from_get_or, All-nil, All-cons}
-use Rattle.lift_poly.proofs.Ring.{linear, mul-comm, mul-zero, mul-le, mul-lt}
+use Rattle.lift_poly.proofs.Ring.{linear, mul-comm, mul-le}
 use Rattle.lift_grid.specs.Rectangle.{Spans}
 use Rattle.lift_grid.specs.Tree.{RejectData}
 use Rattle.lift_model.specs.declared.entry.Entry.{Entry}
@@ -18,7 +17,9 @@ use Rattle.robust_rank.specs.Rate.{IsRowRate, IsFirstFrom}
 use Rattle.lower_cert.specs.Lowering.{IsHeight}
 use Rattle.lift_dual.specs.Avoiding.{IsRateOf, HasLeast}
 use Rattle.lift_dual.specs.Rates.{IsRateOfChoices, IsRateOfState, IsRateOfStates}
-use Rattle.lift_dual.proofs.Picking.{in_or_past, one_more}
+use Rattle.lift_dual.proofs.Picking.{one_more}
+use Rattle.lift_dual.proofs.Inside.{in_or_past}
+use Rattle.lift_dual.proofs.Sums.{positive_part, product-positive}
 
 -- ---- the first from a given one on
 
@@ -35,12 +36,6 @@ joined P Q R first e next rise both apart p q = record {
 }
 
 -- ---- doublings
-
-positive_part : (a b q : ℤ) → pos 0 ≤ℤ q → pos 0 <ℤ b → b ≤ℤ (a *ℤ q) → pos 0 <ℤ a
-positive_part a b q h positive le = by_lt_z (pos 0) a (λ l. l) (λ n. let f = mul-le q a (pos 0) h n in absurd (omega (arith, linear, f, positive, le, mul-comm q a, mul-zero q)))
-
-product-positive : (a b : ℤ) → pos 0 <ℤ a → pos 0 <ℤ b → pos 0 <ℤ (a *ℤ b)
-product-positive a b f g = let lt = mul-lt a (pos 0) b f g in omega (arith, linear, lt, mul-zero a)
 
 power-positive : (b : ℤ) (n : ℕ) → pos 0 <ℤ b → pos 0 <ℤ power b n
 power-positive b zero h = omega (arith, linear)

@@ -1,7 +1,7 @@
 -- What is left of a vector, place by place.
 use Rattle.std.proofs.Common.{◌≡◌, ℕ, ◌+◌, ◌<◌, ◌≤◌, List, length, set, ℤ, ◌-ℤ◌, refl, sym, subst, ◌∙◌, arith, ◌⊎◌, ⊎_elim, get_or-set_same, get_or-set_other}
 use Rattle.corner_lift.specs.Case.{number}
-use Rattle.lift_dual.proofs.Picking.{in_or_past}
+use Rattle.lift_dual.proofs.Inside.{in_or_past}
 
 -- one more place
 pub done_more : (P : ℕ → ℤ → Type 0) (x : List ℤ) (s : ℕ) (v : ℤ) → s < length x → ((i : ℕ) → i < s → P i (number x i)) → P s v → (i : ℕ) → i < s + 1 → P i (number (set x s v) i)

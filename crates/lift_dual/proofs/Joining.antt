@@ -14,12 +14,10 @@ use Rattle.lift_model.specs.Model.{is_goal, choices, row_at, support, moves_at}
 use Rattle.corner_lift.specs.Corner.{AtCorners, corner, corner_sum, whole}
 use Rattle.corner_lift.specs.Case.{CaseData, IsCase, IsInside, number}
 use Rattle.corner_lift.specs.Certificate.{AreNumbers, MeansAtMost, MeansAtLeast, unmarked, mark, ranked_below}
-use Rattle.corner_lift.specs.Laws.{NumbersAreInRange, SumsRise, HasRow}
+use Rattle.corner_lift.specs.Laws.{NumbersAreInRange, SumsRise}
 use Rattle.lift_dual.specs.Sides.{RowHolds, IsHeldByAll, IsLowerAll, IsUpperOne}
 use Rattle.lift_dual.specs.Laws.{LowerAllsJoin, UpperOnesMeet}
-
-in_or_past : (s count : ℕ) → (s < count) ⊎ (count ≤ s)
-in_or_past s count = grind arith
+use Rattle.lift_dual.proofs.Inside.{in_or_past, has_row, either_way}
 
 -- ---- lists by their places
 
@@ -54,10 +52,6 @@ pub listed-past : {A : Type 0} (n : ℕ) (f : ℕ → A) (s : ℕ) (d : A) → n
 listed-past n f s d le = get_or_past (listed n f) s d (omega (arith, le, listed-length n f))
 
 -- ---- the greater and the lesser
-
-either_way : {P : Type 0} (b : Bool) → (b ≡ true → P) → (b ≡ false → P) → P
-either_way true f g = f refl
-either_way false f g = g refl
 
 lt_from_test : (a b : ℤ) → int_le a b ≡ false → b <ℤ a
 lt_from_test a b e = by_lt_z b a (λ lt. lt) (λ le. absurd (both_ways (int_le a b) e (test_from_le a b le)))
@@ -148,18 +142,6 @@ module _ (numbers : NumbersAreInRange) (rise : SumsRise) (k : CaseData) (spans :
   abbrev n : ℕ
   n = length k.model.states
 
-  goal_inside : (s : ℕ) → is_goal k.model s ≡ true → s < n
-  goal_inside s g = ⊎_elim (λ (lt : s < n). lt) (λ (past : n ≤ s). absurd (both_ways (is_goal k.model s) (get_or_past k.model.goal s false (omega (arith, past, is.asked.model.goals))) g)) (in_or_past s n)
-
-  choice_inside : (s a : ℕ) → a < length (choices k.model s) → s < n
-  choice_inside s a lt = ⊎_elim
-      (λ (state : s < n). state)
-      (λ (past : n ≤ s). absurd (let none = get_or_past k.model.states s [] past in omega (arith, lt, ap (length {A = List Entry}) none)))
-      (in_or_past s n)
-
-  has_row : (s a : ℕ) → a < length (choices k.model s) → HasRow k s a
-  has_row s a lt = record { state = choice_inside s a lt; choice = lt }
-
   rows_of : (P : List Entry → Type 0) (s : ℕ) → ((a : ℕ) → a < length (choices k.model s) → P (row_at k.model s a)) → All P (choices k.model s)
   rows_of P s h = All-from_get_or P (choices k.model s) [] h
 
@@ -209,14 +191,14 @@ module _ (numbers : NumbersAreInRange) (rise : SumsRise) (k : CaseData) (spans :
       held = row_of (RowHolds k spans o s) s i lt (ho.held s g ranked).rows
 
       join_means : number join.numbers s ≡ number o.numbers s → MeansAtLeast k spans (row_at k.model s i) (number join.numbers) (number join.numbers s)
-      join_means same c at = omega (arith, linear, held.means c at, rise k spans s i c (number o.numbers) (number join.numbers) is within (has_row s i lt) over, ap (λ z. z *ℤ whole k.model k.d spans (row_at k.model s i)) same)
+      join_means same c at = omega (arith, linear, held.means c at, rise k spans s i c (number o.numbers) (number join.numbers) is within (has_row k s i lt) over, ap (λ z. z *ℤ whole k.model k.d spans (row_at k.model s i)) same)
 
       join_rates : mark join.ranks s ≡ mark o.ranks s → AtCorners spans (row_at k.model s i) (λ c. whole k.model k.d spans (row_at k.model s i) ≤ℤ (corner_sum k.d spans (row_at k.model s i) c (ranked_below (mark join.ranks) (mark join.ranks s)) *ℤ pos (2 ^ join.e)))
       join_rates same c at =
           let row = row_at k.model s i in
           let old = ranked_below (mark o.ranks) (mark o.ranks s) in
           let new = ranked_below (mark join.ranks) (mark join.ranks s) in
-          let has = has_row s i lt in
+          let has = has_row k s i lt in
           let none : corner_sum k.d spans row c (λ t. pos 0) ≡ pos 0 = nothing (moves_at (corner k.d spans (support row) c) row) in
           let from = rise k spans s i c (λ t. pos 0) new is within has (λ t. below-least (mark join.ranks) (mark join.ranks s) t) in
           let more = rise k spans s i c old new is within has (λ t. subst (λ r. old t ≤ℤ ranked_below (mark join.ranks) r t) (sym same) (below-more (mark o.ranks) (mark join.ranks) (mark o.ranks s) t (earlier t))) in
@@ -368,7 +350,7 @@ module _ (numbers : NumbersAreInRange) (rise : SumsRise) (k : CaseData) (spans :
 
       means_at : s < n → is_goal k.model s ≡ false → MeansAtMost k spans (row_at k.model s (mark meet_picks s)) meet (number meet s)
       means_at lt g = subst (λ p. MeansAtMost k spans (row_at k.model s p) meet (number meet s)) (sym pick)
-          (λ i at. omega (arith, linear, ho.means s lt g i at, rise k spans s (mark c s) i (number meet) (number o) is within (has_row s (mark c s) (ho.pick s lt g)) under, ap (λ z. z *ℤ whole k.model k.d spans (row_at k.model s (mark c s))) same))
+          (λ i at. omega (arith, linear, ho.means s lt g i at, rise k spans s (mark c s) i (number meet) (number o) is within (has_row k s (mark c s) (ho.pick s lt g)) under, ap (λ z. z *ℤ whole k.model k.d spans (row_at k.model s (mark c s))) same))
 
     under_x : (t : ℕ) → number meet t ≤ℤ number x t
     under_x t = (meet_is t).left

@@ -1,3 +1,5 @@
+mod Inside
+mod Sums
 mod Planning
 mod Saying
 mod BothSides

@@ -1,9 +1,7 @@
 -- Picks, written one by one.
 use Rattle.std.proofs.Common.{◌≡◌, ◌≢◌, ℕ, ◌+◌, ◌<◌, ◌≤◌, List, length, set, refl, sym, subst, arith, ◌⊎◌, ⊎_elim, get_or-set_same, get_or-set_other}
 use Rattle.corner_lift.specs.Certificate.{mark}
-
-pub in_or_past : (s count : ℕ) → (s < count) ⊎ (count ≤ s)
-in_or_past s count = grind arith
+use Rattle.lift_dual.proofs.Inside.{in_or_past}
 
 -- what holds so far holds of one more
 pub one_more : (P : ℕ → Type 0) (n : ℕ) → ((b : ℕ) → b < n → P b) → P n → (b : ℕ) → b < n + 1 → P b

@@ -1,7 +1,7 @@
 -- What every plan reaches at least, where every choice supports a vector and leads to lower ranks.
 use Rattle.std.proofs.Common.{◌≡◌, ℕ, zero, suc, ◌+◌, ◌*◌, ◌<◌, ◌≤◌, Bool, true, false, List, [], ◌∷◌, ℤ, pos, ◌+ℤ◌, ◌-ℤ◌, ◌*ℤ◌, neg_ℤ, ◌≤ℤ◌, refl, sym, ap, subst, ◌∙◌, arith, nat_lt, ltb-true, ltb-false, ◌⊎◌, inl, inr, IsTrue}
 use Rattle.std.specs.List.{AllByRecursion}
-use Rattle.lift_poly.proofs.Ring.{linear, mul-assoc, mul-comm, mul-add, add-mul, mul-zero, zero-mul, one-mul, mul-le, mul-nonneg, as_diff, diff-mul, diff-same, diffs}
+use Rattle.lift_poly.proofs.Ring.{linear, mul-assoc, mul-comm, mul-zero, zero-mul, one-mul, mul-le, mul-nonneg, as_diff, diff-mul, diff-same, diffs}
 use Rattle.lift_model.specs.Process.{Process, Move, power, weighted_sum}
 use Rattle.lift_model.specs.Plan.{Plan, PlanFits, Fits}
 use Rattle.lift_model.specs.Reach.{plan_reach, reach}
@@ -9,10 +9,8 @@ use Rattle.lift_model.specs.Laws.{AreNonNegative, WeightedSumsRise}
 use Rattle.lift_model.specs.Tossing.{TossesAreBounded}
 use Rattle.lift_dual.specs.Supported.{ranked_under, Supports, IsSupportedByAll}
 use Rattle.lift_dual.specs.Laws.{SupportedPlansReach}
-
-either_way : {P : Type 0} (b : Bool) → (b ≡ true → P) → (b ≡ false → P) → P
-either_way true f g = f refl
-either_way false f g = g refl
+use Rattle.lift_dual.proofs.Inside.{either_way}
+use Rattle.lift_dual.proofs.Sums.{sum-add, sum-times}
 
 no_goal : {A : Type 0} (b : Bool) → b ≡ false → IsTrue b → A
 no_goal true e t = cc
@@ -56,14 +54,6 @@ power-one b zero h = omega (arith, linear)
 power-one b (suc n) h =
     let l : pos 0 ≤ℤ b = omega (arith, linear) in
     omega (arith, linear, h, mul-le b (pos 1) (power b n) l (power-one b n h), mul-comm b (pos 1), one-mul b)
-
-sum-times : (k : ℤ) (f : ℕ → ℤ) (row : List Move) → weighted_sum (λ t. f t *ℤ k) row ≡ weighted_sum f row *ℤ k
-sum-times k f [] = omega (arith, linear, zero-mul k)
-sum-times k f (m ∷ row) = omega (arith, linear, sum-times k f row, add-mul (m.1 *ℤ f m.0) (weighted_sum f row) k, mul-assoc m.1 (f m.0) k)
-
-sum-add : (f g : ℕ → ℤ) (row : List Move) → weighted_sum (λ t. f t +ℤ g t) row ≡ weighted_sum f row +ℤ weighted_sum g row
-sum-add f g [] = omega (arith, linear)
-sum-add f g (m ∷ row) = omega (arith, linear, sum-add f g row, mul-add m.1 (f m.0) (g m.0))
 
 -- i more steps than n
 abbrev after : ℕ → ℕ → ℕ

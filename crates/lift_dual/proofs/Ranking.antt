@@ -1,5 +1,5 @@
 -- Ranks over every choice, stage by stage, with a queue.
-use Rattle.std.proofs.Common.{◌≡◌, ℕ, zero, suc, ◌+◌, ◌^◌, ◌<◌, ◌≤◌, ◌⊎◌, inl, inr, ⊎_elim, Bool, true, false, cond, List, [], ◌∷◌, map, All, Contains, length, get_or, set, count_by, ℤ, pos, ◌*ℤ◌, ◌<ℤ◌, refl, sym, subst, ap, ◌∙◌, arith, nat_lt, nat_eq, eqb-true, le-ltb}
+use Rattle.std.proofs.Common.{◌≡◌, ℕ, zero, suc, ◌+◌, ◌^◌, ◌<◌, ◌≤◌, ◌⊎◌, inl, inr, ⊎_elim, true, false, cond, List, [], ◌∷◌, map, All, Contains, length, get_or, set, count_by, ℤ, pos, ◌<ℤ◌, refl, sym, subst, ◌∙◌, arith, nat_lt, nat_eq, eqb-true, le-ltb}
 use Rattle.std.specs.List.{concat}
 use Rattle.std.proofs.lemmas.Bool.{both_ways}
 use Rattle.std.proofs.lemmas.List.{length-set, get_or_past, get_or-set_same, get_or-set_other}
@@ -8,7 +8,6 @@ use Rattle.std.proofs.lemmas.List.Elements.{All-from_get_or, All-contains, Conta
 use Rattle.lift_poly.proofs.Ring.{linear}
 use Rattle.lift_grid.specs.Rectangle.{Spans}
 use Rattle.lift_model.specs.declared.entry.Entry.{Entry}
-use Rattle.lift_model.specs.Process.{Move, weighted_sum}
 use Rattle.lift_model.specs.Model.{ModelData, is_goal, choices, row_at, support, moves_at}
 use Rattle.lift_model.specs.Links.{LinksData, AreLinks, Leads, targets_of, states_before}
 use Rattle.corner_lift.specs.Corner.{corner, corner_sum, parameter_count, no_entry}
@@ -20,18 +19,11 @@ use Rattle.robust_rank.specs.Staging.{is_rank, IsQueuedIn, IsStarting, StageData
 use Rattle.lift_dual.specs.Avoiding.{AllLeadBelow, AreStagesOfAll}
 use Rattle.lift_dual.specs.StagesOfAll.{HasEntryInto, IsStagedOfAll, IsNextOfAll, StartOfAll, NextOfAll, EndOfAll}
 use Rattle.lift_dual.specs.Ranking.{HasPlaces, IsCompleteOfAll, HasLed, IsAddedOfAll, IsGatheringOfAll, IsLookedOfAll}
-use Rattle.lift_dual.proofs.Picking.{in_or_past}
-
-either_way : {P : Type 0} (b : Bool) → (b ≡ true → P) → (b ≡ false → P) → P
-either_way true f g = f refl
-either_way false f g = g refl
+use Rattle.lift_dual.proofs.Inside.{in_or_past, either_way}
+use Rattle.lift_dual.proofs.Sums.{sum-same}
 
 same_or_not : {P : Type 0} (i j : ℕ) → (i ≡ j → P) → ((i ≡ j → ⊥) → P) → P
 same_or_not i j f g = either_way (nat_eq i j) (λ e. f (eqb-true i j e)) (λ n. g (λ e. grind (arith, e, n)))
-
-sum-same : (f g : ℕ → ℤ) (moves : List Move) → ((t : ℕ) → f t ≡ g t) → weighted_sum f moves ≡ weighted_sum g moves
-sum-same f g [] same = refl
-sum-same f g (m ∷ moves) same = omega (arith, linear, sum-same f g moves same, ap (λ z. m.1 *ℤ z) (same m.0))
 
 mark_same : (xs : List ℕ) (i v : ℕ) → i < length xs → mark (set xs i v) i ≡ v
 mark_same xs i v lt = get_or-set_same xs i v unmarked lt

@@ -1,12 +1,12 @@
 -- What certificates over every choice, and over one, say at a valuation inside their rectangle.
-use Rattle.std.proofs.Common.{◌≡◌, ℕ, zero, suc, ◌-◌, ◌*◌, ◌^◌, ◌<◌, ◌≤◌, Bool, true, false, List, [], ◌∷◌, length, map, get_or, All, pos, ℤ, ◌+ℤ◌, ◌-ℤ◌, ◌*ℤ◌, ◌≤ℤ◌, refl, sym, ap, ap₂, ◌∙◌, arith, pow-suc, pow-add, mul-suc, mul_comm, mul-zero as mul-zero_nat, ◌⊎◌, ⊎_elim}
+use Rattle.std.proofs.Common.{◌≡◌, ℕ, zero, suc, ◌-◌, ◌*◌, ◌^◌, ◌<◌, ◌≤◌, false, List, [], ◌∷◌, length, map, get_or, All, pos, ℤ, ◌-ℤ◌, ◌*ℤ◌, ◌≤ℤ◌, refl, sym, ap, ◌∙◌, arith, pow-suc, pow-add, mul-suc, mul_comm, mul-zero as mul-zero_nat, ◌⊎◌, ⊎_elim}
 use Rattle.std.specs.List.{AllByRecursion}
 use Rattle.std.proofs.lemmas.List.{get_or_past}
 use Rattle.std.proofs.lemmas.List.Elements.{All-head, All-tail}
 use Rattle.std.proofs.lemmas.Nat.{pow_pos}
 use Rattle.std.proofs.Math.Nat.{pow-zero}
 use Rattle.lift_poly.specs.Polynomial.{Valuation, weight, denominator}
-use Rattle.lift_poly.proofs.Ring.{linear, mul-comm, mul-assoc, add-mul, one-mul, zero-mul, mul-le, mul-nonneg}
+use Rattle.lift_poly.proofs.Ring.{linear, mul-comm, mul-assoc, one-mul, zero-mul, mul-le, mul-nonneg}
 use Rattle.lift_grid.specs.Rectangle.{Spans, Inside}
 use Rattle.lift_grid.specs.Tree.{RejectData}
 use Rattle.lift_model.specs.declared.entry.Entry.{Entry}
@@ -23,6 +23,8 @@ use Rattle.lift_dual.specs.Supported.{ranked_under, Supports, IsSupportedByAll}
 use Rattle.lift_dual.specs.Laws.{SupportedPlansReach}
 use Rattle.lift_dual.specs.Sides.{RowHolds, IsLowerAll, IsUpperOne}
 use Rattle.lift_dual.specs.Laws.{LowerAllReaches, UpperOneBounds}
+use Rattle.lift_dual.proofs.Inside.{in_or_past, either_way}
+use Rattle.lift_dual.proofs.Sums.{sum-same, sum-times}
 
 power-pos_is : (b n : ℕ) → power (pos b) n ≡ pos (b ^ n)
 power-pos_is b zero = ap pos (sym (pow-zero b))
@@ -31,14 +33,6 @@ power-pos_is b (suc n) = ap (λ z. pos b *ℤ z) (power-pos_is b n) ∙ ap pos (
 pow-times : (a n : ℕ) → 2 ^ (a * n) ≡ (2 ^ a) ^ n
 pow-times a zero = rw (mul-zero_nat, pow-zero (2 ^ a)) refl
 pow-times a (suc n) = rw mul-suc (pow-add 2 (a * n) a ∙ ap (λ z. z * 2 ^ a) (pow-times a n) ∙ sym (pow-suc (2 ^ a) n))
-
-sum-times : (k : ℤ) (f : ℕ → ℤ) (row : List Move) → weighted_sum (λ t. f t *ℤ k) row ≡ weighted_sum f row *ℤ k
-sum-times k f [] = omega (arith, linear, zero-mul k)
-sum-times k f (m ∷ row) = omega (arith, linear, sum-times k f row, add-mul (m.1 *ℤ f m.0) (weighted_sum f row) k, mul-assoc m.1 (f m.0) k)
-
-sum-same : (f g : ℕ → ℤ) (row : List Move) → ((t : ℕ) → f t ≡ g t) → weighted_sum f row ≡ weighted_sum g row
-sum-same f g [] same = refl
-sum-same f g (m ∷ row) same = ap₂ (λ a b. m.1 *ℤ a +ℤ b) (same m.0) (sum-same f g row same)
 
 denominator-least : (d : ℤ) (ss : Spans) (v : Valuation) → Inside d ss v → pos 0 ≤ℤ denominator v
 denominator-least d [] [] h = omega (arith, linear)
@@ -60,9 +54,6 @@ at_place : (P : List (List Entry) → Type 0) (states : List (List (List Entry))
 at_place P [] s none h = none
 at_place P (state ∷ states) zero none h = All-head P state states h
 at_place P (state ∷ states) (suc s) none h = at_place P states s none (All-tail P state states h)
-
-in_or_past : (s count : ℕ) → (s < count) ⊎ (count ≤ s)
-in_or_past s count = grind arith
 
 -- P holds of a row of a list, or of no moves beyond the last
 row_of_list : (P : List Move → Type 0) (v : Valuation) (rows : List (List Entry)) (i : ℕ) → P [] → ((d : List Entry) → i < length rows → P (moves_at v (get_or rows i d))) → P (get_or (map (moves_at v) rows) i [])
@@ -169,10 +160,6 @@ module _ (k : CaseData) (spans : Spans) (is : IsCase k) (within : IsInside k.roo
         let none : chosen process choice s ≡ [] = ap (λ rows. get_or (map (moves_at v) rows) (choice s) []) (get_or_past k.model.states s [] past) in
         rw none (mul-nonneg (number x s) process.total ((numbers k x s h.numbers).0) total-least))
         (in_or_past s (length k.model.states))
-
-    either_way : {P : Type 0} (b : Bool) → (b ≡ true → P) → (b ≡ false → P) → P
-    either_way true f g = f refl
-    either_way false f g = g refl
 
     step : (n s : ℕ) → is_goal k.model s ≡ false → ((t : ℕ) → (memoryless_reach process choice n t *ℤ top) ≤ℤ (number x t *ℤ power process.total n)) → (weighted_sum (memoryless_reach process choice n) (chosen process choice s) *ℤ top) ≤ℤ (number x s *ℤ power process.total (suc n))
     step n s g before =

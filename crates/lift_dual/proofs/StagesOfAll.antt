@@ -1,5 +1,5 @@
 -- Stages over every choice.
-use Rattle.std.proofs.Common.{◌≡◌, ℕ, zero, suc, ◌<◌, ◌≤◌, Bool, true, false, List, [], ◌∷◌, length, ℤ, pos, ◌*ℤ◌, ◌<ℤ◌, refl, sym, ap, subst, ◌∙◌, arith, nat_lt, ltb-true, ltb-false, ◌⊎◌, ⊎_elim, inl, inr}
+use Rattle.std.proofs.Common.{◌≡◌, ℕ, zero, suc, ◌<◌, ◌≤◌, false, List, [], ◌∷◌, length, ℤ, pos, ◌*ℤ◌, ◌<ℤ◌, refl, sym, ap, subst, ◌∙◌, arith, nat_lt, ltb-true, ltb-false, ◌⊎◌, ⊎_elim, inl, inr}
 use Rattle.std.proofs.lemmas.Nat.{pow_pos}
 use Rattle.lift_poly.proofs.Ring.{linear, mul-zero}
 use Rattle.lift_grid.specs.Rectangle.{Spans}
@@ -12,17 +12,8 @@ use Rattle.corner_lift.specs.Stages.{LeadsBelow}
 use Rattle.robust_rank.specs.Attracting.{FrontierLeads, GapLeads}
 use Rattle.lift_dual.specs.Avoiding.{AllLeadBelow}
 use Rattle.lift_dual.specs.StagesOfAll.{HasEntryInto, StartOfAll, NextOfAll, EndOfAll}
-
-in_or_past : (s count : ℕ) → (s < count) ⊎ (count ≤ s)
-in_or_past s count = grind arith
-
-either_way : {P : Type 0} (b : Bool) → (b ≡ true → P) → (b ≡ false → P) → P
-either_way true f g = f refl
-either_way false f g = g refl
-
-sum-same : (f g : ℕ → ℤ) (row : List Move) → ((t : ℕ) → f t ≡ g t) → weighted_sum f row ≡ weighted_sum g row
-sum-same f g [] same = refl
-sum-same f g (m ∷ row) same = omega (arith, linear, ap (λ z. m.1 *ℤ z) (same m.0), sum-same f g row same)
+use Rattle.lift_dual.proofs.Inside.{in_or_past, either_way}
+use Rattle.lift_dual.proofs.Sums.{sum-same}
 
 nothing : (f : ℕ → ℤ) (row : List Move) → ((t : ℕ) → f t ≡ pos 0) → weighted_sum f row ≡ pos 0
 nothing f [] none = refl

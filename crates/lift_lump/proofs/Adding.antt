@@ -16,12 +16,7 @@ use Rattle.lift_lump.specs.Quotient.{one_entry, entries_into}
 use Rattle.lift_lump.specs.Search.{number_at}
 use Rattle.lift_lump.specs.Summing.{sum_at, entries_of, AreMetBlocks}
 use Rattle.lift_lump.proofs.Keeping.{coefficient-append}
-
-same_or_not : (i j : ℕ) → (i ≡ j) ⊎ (i ≢ j)
-same_or_not i j = grind arith
-
-side : (i j : ℕ) → (i < j) ⊎ (j ≤ i)
-side i j = grind arith
+use Rattle.lift_lump.proofs.Sides.{side, same_or_not}
 
 none_or_some : (ts : List Term) → (ts ≡ []) ⊎ (ts ≢ [])
 none_or_some [] = inl refl

@@ -7,12 +7,7 @@ use Rattle.lift_lump.specs.Search.{marked, number_at, AreMet, AreMarked, AreNumb
 use Rattle.lift_lump.specs.declared.rename.Touched.{Touched}
 use Rattle.lift_lump.specs.Renaming.{AreTouched, AreAllTouched, no_touched, state_at}
 use Rattle.lift_lump.specs.Splitting.{list_of, AreListed, AreGathered, labelled, AreTelling, IsKeptAbove, IsBegun}
-
-same_or_not : (i j : ℕ) → (i ≡ j) ⊎ (i ≢ j)
-same_or_not i j = grind arith
-
-side : (i j : ℕ) → (i < j) ⊎ (j ≤ i)
-side i j = grind arith
+use Rattle.lift_lump.proofs.Sides.{side, same_or_not}
 
 -- ---- marks
 

@@ -4,12 +4,7 @@ use Rattle.std.proofs.lemmas.List.{get_or-set_same, get_or-set_other, get_or_app
 use Rattle.lift_lump.specs.Quotient.{AreNumbered}
 use Rattle.lift_lump.specs.Search.{number_at}
 use Rattle.lift_lump.specs.Splitting.{AreNumberedSo, AreSameBlocks}
-
-same_or_not : (i j : ℕ) → (i ≡ j) ⊎ (i ≢ j)
-same_or_not i j = grind arith
-
-side : (i j : ℕ) → (i < j) ⊎ (j ≤ i)
-side i j = grind arith
+use Rattle.lift_lump.proofs.Sides.{side, same_or_not}
 
 same_some : (a b : ℕ) → ◌≡◌ {A = Option ℕ} (Some a) (Some b) → a ≡ b
 same_some a b e = cc

@@ -14,12 +14,7 @@ use Rattle.lift_lump.proofs.Holding.{weight-append}
 use Rattle.lift_lump.proofs.Raising.{marks-append}
 use Rattle.lift_lump.proofs.Telling.{entries_to, to-append}
 use Rattle.lift_lump.proofs.Marking.{sum_congruent}
-
-same_or_not : (i j : ℕ) → (i ≡ j) ⊎ (i ≢ j)
-same_or_not i j = grind arith
-
-side : (i j : ℕ) → (i < j) ⊎ (j ≤ i)
-side i j = grind arith
+use Rattle.lift_lump.proofs.Sides.{side, same_or_not}
 
 pub entered_none : (v : Valuation) (s : ℕ) (row : List Entry) (old : List (List Arrow)) → AreEntered v s (take 0 row) old old
 entered_none v s row old = record {

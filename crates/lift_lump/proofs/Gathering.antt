@@ -11,6 +11,7 @@ use Rattle.lift_lump.specs.declared.arrows.Arrow.{Arrow}
 use Rattle.lift_lump.specs.Lumping.{terms_into}
 use Rattle.lift_lump.specs.Search.{modulus, marks_from, IsCongruent, AreNumbersOf, AreRaised, AreMarked, marked, IsCountedIn}
 use Rattle.lift_lump.proofs.Holding.{weight-append}
+use Rattle.lift_lump.proofs.Sides.{side, same_or_not}
 
 -- ---- congruence
 
@@ -83,9 +84,6 @@ numbers_more into old new a b t t_in without grows are raised m v count arrows =
           (congruent_sum (get_or a s 0) (marks_from s (into t)) (weight v (terms_into (marked old) (row_at m s 0))) (weight v (terms_into (λ u. nat_eq u t) (row_at m s 0))) (before.numbers s lt not) (arrows.marks s t in_model not)));
     }
   where
-    side : (i j : ℕ) → (i < j) ⊎ (j ≤ i)
-    side i j = grind arith
-
     by : (s : ℕ) → (s < length a) ⊎ (length a ≤ s) → get_or a s 0 ≡ 0 → marks_from s (into t) ≡ 0 → get_or b s 0 ≡ 0
     by s (inl lt) x y = raised.numbers s lt ∙ ap₂ (λ i j. (i + j) % modulus) x y
     by s (inr past) x y = get_or_past b s 0 (omega (arith, past, raised.count))
@@ -96,9 +94,6 @@ numbers_more into old new a b t t_in without grows are raised m v count arrows =
 pub marked_more : (marks : List Bool) (t : ℕ) → t < length marks → (u : ℕ) → marked (set marks t true) u ≡ cond (nat_eq u t) true (marked marks u)
 marked_more marks t t_in u = by (same_or_not u t)
   where
-    same_or_not : (i j : ℕ) → (i ≡ j) ⊎ (i ≢ j)
-    same_or_not i j = grind arith
-
     by : (u ≡ t) ⊎ (u ≢ t) → get_or (set marks t true) u false ≡ cond (nat_eq u t) true (get_or marks u false)
     by (inl e) =
         let test : nat_eq u t ≡ true = grind (arith, nat_tests) in
@@ -116,9 +111,6 @@ looked_more labels b states i old new i_in are only kept here = record {
   all = λ k k_in of_block. at k k_in of_block (side k i);
 }
   where
-    side : (i j : ℕ) → (i < j) ⊎ (j ≤ i)
-    side i j = grind arith
-
     at : (k : ℕ) → k < length (take (i + 1) states) → get_or labels (get_or (take (i + 1) states) k 0) 0 ≡ b → (k < i) ⊎ (i ≤ k) → marked new (get_or (take (i + 1) states) k 0) ≡ true
     at k k_in of_block (inl before) =
         let same : get_or (take (i + 1) states) k 0 ≡ get_or (take i states) k 0 = get_or-take (i + 1) states k 0 (omega (arith, before)) ∙ sym (get_or-take i states k 0 before) in
@@ -159,9 +151,6 @@ counted_more into labels b t marks before after t_in n_in of_block without raise
   numbers = λ are. numbers_more into marks (set marks t true) before after t n_in without (marked_more marks t t_in) are raised;
 }
   where
-    same_or_not : (i j : ℕ) → (i ≡ j) ⊎ (i ≢ j)
-    same_or_not i j = grind arith
-
     only : (u : ℕ) → marked (set marks t true) u ≡ true → (u ≡ t) ⊎ (u ≢ t) → (marked marks u ≡ true) ⊎ (get_or labels u 0 ≡ b)
     only u is_set (inl e) = inr (ap (λ i. get_or labels i 0) e ∙ of_block)
     only u is_set (inr ne) = inl (sym (get_or-set_other marks t u true false ne) ∙ is_set)

@@ -13,6 +13,7 @@ use Rattle.lift_lump.specs.Lumping.{Partition, terms_into, sum_into, in_block, A
 use Rattle.lift_lump.specs.Laws.{SplitsKeep}
 use Rattle.lift_lump.proofs.Grouping.{IsAdditive, flat, grouped, grouped-flat}
 use Rattle.lift_lump.proofs.Holding.{targets_inside}
+use Rattle.lift_lump.proofs.Sides.{same_or_not}
 
 pub coefficient-append : (set : ℕ) (ts us : List Term) → coefficient set (ts ++ us) ≡ coefficient set ts +ℤ coefficient set us
 coefficient-append set [] us = omega (arith, linear)
@@ -20,9 +21,6 @@ coefficient-append set (t ∷ ts) us = omega (arith, linear, coefficient-append 
 
 pub coefficients-add : (set : ℕ) → IsAdditive (coefficient set)
 coefficients-add set = record { none = refl; append = coefficient-append set }
-
-pub same_or_not : (i j : ℕ) → (i ≡ j) ⊎ (i ≢ j)
-same_or_not i j = grind arith
 
 module _ (m : ModelData) (block : Partition) (inside : ℕ → Bool) (union : IsUnion m block inside) where
   -- whether the states of a block are inside, by the last of the first states that is in the block

@@ -1,3 +1,4 @@
+mod Sides
 mod Grouping
 mod Holding
 mod Keeping

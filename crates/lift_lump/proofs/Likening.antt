@@ -15,12 +15,7 @@ use Rattle.lift_lump.specs.Splitting.{AreSameBlocks, labelled}
 use Rattle.lift_lump.specs.Comparing.{IsLike, AreCompared, AreDifferent}
 use Rattle.lift_lump.proofs.Holding.{targets_inside}
 use Rattle.lift_lump.proofs.Keeping.{sums_agree}
-
-same_or_not : (i j : ℕ) → (i ≡ j) ⊎ (i ≢ j)
-same_or_not i j = grind arith
-
-side : (i j : ℕ) → (i < j) ⊎ (j ≤ i)
-side i j = grind arith
+use Rattle.lift_lump.proofs.Sides.{side, same_or_not}
 
 pub like_first : (m : ModelData) (p : Blocks) (s : ℕ) → first p (block p s) ≡ s → IsLike m p s
 like_first m p s e = record { goal = ap (is_goal m) (sym e); row = ap (quotient_row m p) (sym e) }

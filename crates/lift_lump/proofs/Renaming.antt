@@ -4,9 +4,7 @@ use Rattle.std.proofs.lemmas.List.{get_or-set_same, get_or-set_other, length-set
 use Rattle.lift_lump.specs.Search.{IsByNumber}
 use Rattle.lift_lump.specs.declared.rename.Touched.{Touched}
 use Rattle.lift_lump.specs.Renaming.{key_of, no_touched, key_at, state_at, StandsIn, AreTouched, AreSortedKeys, HaveOneKey, AreRenamed}
-
-same_or_not : (i j : ℕ) → (i ≡ j) ⊎ (i ≢ j)
-same_or_not i j = grind arith
+use Rattle.lift_lump.proofs.Sides.{same_or_not}
 
 below_or_last : (j i : ℕ) → j < i + 1 → (j < i) ⊎ (j ≡ i)
 below_or_last j i lt = grind (arith, lt)

@@ -6,9 +6,7 @@ use Rattle.lift_lump.specs.declared.rename.Touched.{Touched}
 use Rattle.lift_lump.specs.Renaming.{no_touched, StandsIn, state_at, AreRenamed}
 use Rattle.lift_lump.specs.Splitting.{AreInside, AreListed, AreListedBut, AreSettled, AreOpened}
 use Rattle.lift_lump.proofs.Renaming.{stands}
-
-same_or_not : (i j : ℕ) → (i ≡ j) ⊎ (i ≢ j)
-same_or_not i j = grind arith
+use Rattle.lift_lump.proofs.Sides.{side, same_or_not}
 
 -- ---- labels that are opened
 
@@ -35,9 +33,6 @@ opened_one old = record {
   kept = λ l s there. by l s there (side l (length old));
 }
   where
-    side : (i j : ℕ) → (i < j) ⊎ (j ≤ i)
-    side i j = grind arith
-
     by : (l s : ℕ) → Contains (get_or old l []) s → (l < length old) ⊎ (length old ≤ l) → Contains (get_or (old ++ [] ∷ []) l []) s
     by l s there (inl lt) = subst (λ (xs : List ℕ). Contains xs s) (sym (get_or_append_left old ([] ∷ []) [] l lt)) there
     by l s there (inr past) = nothing s (subst (λ (xs : List ℕ). Contains xs s) (get_or_past old l [] past) there)

@@ -7,9 +7,7 @@ use Rattle.lift_lump.specs.Lumping.{IsAboveRight}
 use Rattle.lift_lump.specs.Laws.{StartsAbove}
 use Rattle.lift_lump.specs.Search.{number_at}
 use Rattle.lift_lump.specs.Splitting.{list_of, AreInside, AreSettled, AreFirstLabels, labelled}
-
-side : (i j : ℕ) → (i < j) ⊎ (j ≤ i)
-side i j = grind arith
+use Rattle.lift_lump.proofs.Sides.{side}
 
 -- the labels of the first states, so many
 pub record AreLabelsOf (m : ModelData) (count : ℕ) (list : List ℕ) : Type 0 where

@@ -9,6 +9,7 @@ use Rattle.lift_model.specs.declared.entry.Entry.{Entry}
 use Rattle.lift_lump.specs.Lumping.{Partition, terms_into, sum_into, in_block}
 use Rattle.lift_lump.specs.Quotient.{one_entry, entries_into}
 use Rattle.lift_lump.specs.Laws.{EntriesTellSums}
+use Rattle.lift_lump.proofs.Sides.{side}
 
 -- the entries to one target
 abbrev pub entries_to : ℕ → List Entry → List Term
@@ -44,9 +45,6 @@ module _ (block : Partition) (row : List Entry) where
       to-append b (entries_into block row count) (one_entry count (sum_into (in_block block count) row))
       ∙ by (side b count) (λ less. to-sum b count less)
     where
-      side : (i j : ℕ) → (i < j) ⊎ (j ≤ i)
-      side i j = grind arith
-
       by : (b < count) ⊎ (count ≤ b) → (b < count → entries_to b (entries_into block row count) ≡ sum_into (in_block block b) row)
           → entries_to b (entries_into block row count) ++ entries_to b (one_entry count (sum_into (in_block block count) row)) ≡ sum_into (in_block block b) row
       by (inl less) rest =
@@ -68,9 +66,6 @@ module _ (block : Partition) (row : List Entry) where
 pub entries_tell : EntriesTellSums
 entries_tell block left right count b lefts rights same = by (side b count)
   where
-    side : (i j : ℕ) → (i < j) ⊎ (j ≤ i)
-    side i j = grind arith
-
     by : (b < count) ⊎ (count ≤ b) → sum_into (in_block block b) left ≡ sum_into (in_block block b) right
     by (inl less) = sym (to-sum block left b count less) ∙ ap (entries_to b) same ∙ to-sum block right b count less
     by (inr past) = ap collected (terms-past block left b count past left lefts ∙ sym (terms-past block right b count past right rights))

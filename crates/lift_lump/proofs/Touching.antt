@@ -8,6 +8,7 @@ use Rattle.lift_lump.specs.Search.{AreMet}
 use Rattle.lift_lump.specs.declared.rename.Touched.{Touched}
 use Rattle.lift_lump.specs.Renaming.{key_of, no_touched, key_at, state_at, IsTouched, StandsIn, AreTouched, IsLookedAt, AreLookedAt, AreAllTouched}
 use Rattle.lift_lump.specs.Splitting.{AreAdded, AreGathered}
+use Rattle.lift_lump.proofs.Sides.{side, same_or_not}
 
 abbrev HasNumber : List ℕ → Touched → Type 0
 HasNumber numbers t = get_or numbers t.state 0 ≢ 0
@@ -33,9 +34,6 @@ looked_more labels numbers met i old new i_in are more = record {
   all = λ k k_in inside some. at k k_in inside some (side k i);
 }
   where
-    side : (i j : ℕ) → (i < j) ⊎ (j ≤ i)
-    side i j = grind arith
-
     at : (k : ℕ) → k < length (take (i + 1) met) → get_or (take (i + 1) met) k 0 < length labels → get_or numbers (get_or (take (i + 1) met) k 0) 0 ≢ 0 → (k < i) ⊎ (i ≤ k) → StandsIn new (get_or (take (i + 1) met) k 0)
     at k k_in inside some (inl before) =
         let same : get_or (take (i + 1) met) k 0 ≡ get_or (take i met) k 0 = get_or-take (i + 1) met k 0 (omega (arith, before)) ∙ sym (get_or-take i met k 0 before) in
@@ -151,9 +149,6 @@ gathered_rest labels numbers members b old new b_in are added = record {
   listed = λ s lt. listed s lt (same_or_not (get_or labels s 0) b);
 }
   where
-    same_or_not : (i j : ℕ) → (i ≡ j) ⊎ (i ≢ j)
-    same_or_not i j = grind arith
-
     -- a state of the block is touched, whatever its number
     of_block : (s : ℕ) → s < length labels → get_or labels s 0 ≡ b → StandsIn new s
     of_block s lt block = by (same_or_not (get_or numbers s 0) 0)

@@ -24,10 +24,7 @@ use Rattle.float_guess.specs.Rule.{is_given, given, has_tolls}
 use Rattle.rounded_iter.specs.Value.{IsValue, IsLeastValue, SomeMeanAtMost}
 use Rattle.rounded_iter.specs.Rising.{TableData, Run, IsBelow, IsEnoughEverywhere, IsLeastBound, IsLeastBoundWithin, IsEnough, HasEnough, IsEnoughFor, IsEnoughBy, IsMoreExtreme, IsSolvedFor, IsSolved, IsSolvedBy, Across, room, untolled}
 use Rattle.rounded_iter.specs.Watching.{from_zero, first_number, HasGoals, CanRaise, IsRaisedState, IsBelowUppers, IsLeastWithin}
-use Rattle.rounded_iter.proofs.Solving.{RowLaws, across_map, same_or_not, sum_moved, only_same, only_other, own_none, same_whole, at_root, at_spans, enough_same, in_lane, set_numbers, n_least, risen, some_corner, top_enough}
-
-abbrev Range : ℕ → ℤ → Type 0
-Range w n = (pos 0 ≤ℤ n) × (n ≤ℤ pos (2 ^ w))
+use Rattle.rounded_iter.proofs.Solving.{RowLaws, across_map, same_or_not, sum_moved, only_same, only_other, own_none, same_whole, at_root, at_spans, enough_same, in_lane, set_numbers, n_least, risen, some_corner, top_enough, one_more, Range}
 
 room-set : (w : ℕ) (x : List ℤ) (s : ℕ) (v : ℤ) → s < length x → number x s <ℤ v → v ≤ℤ pos (2 ^ w) → room w (set x s v) < room w x
 room-set w [] s v lt higher most = absurd (omega arith)
@@ -37,9 +34,6 @@ room-set w (n ∷ x) (suc s) v lt higher most = omega (arith, room-set w x s v (
 -- whether a state is one of so many
 pub in_or_past : (s count : ℕ) → (s < count) ⊎ (count ≤ s)
 in_or_past s count = grind arith
-
-pub one_more : (b a : ℕ) → b < a + 1 → (b < a) ⊎ (b ≡ a)
-one_more b a lt = grind arith
 
 -- ---- numbers that are given
 

@@ -157,7 +157,7 @@ pub across_map : (e : Extreme) (n : ℕ) (P Q : ℕ → Type 0) → ((c : ℕ) �
 across_map Greatest n P Q f h = λ c lt. f c lt (h c lt)
 across_map Least n P Q f h = (h.0, (h.1.0, f h.0 h.1.0 h.1.1))
 
-one_more : (b a : ℕ) → b < a + 1 → (b < a) ⊎ (b ≡ a)
+pub one_more : (b a : ℕ) → b < a + 1 → (b < a) ⊎ (b ≡ a)
 one_more b a lt = grind arith
 
 -- a bound of the value that counts bounds the values that count
@@ -200,7 +200,7 @@ pub record RowLaws : Type 0 where
 pub laws_of : ParametersAreTheRoots → NumbersAreInRange → SumsAreInRange → SumsRise → WeightsSumToWhole → RowLaws
 laws_of parameters numbers range rise sum = record { parameters = parameters; numbers = numbers; range = range; rise = rise; sum = sum }
 
-abbrev Range : ℕ → ℤ → Type 0
+abbrev pub Range : ℕ → ℤ → Type 0
 Range w n = (pos 0 ≤ℤ n) × (n ≤ℤ pos (2 ^ w))
 
 module _ (laws : RowLaws) (k : CaseData) (spans : Spans) (is : IsCase k) (within : IsInside k.root spans) (s a : ℕ) (has : HasChoice k.model s a) where

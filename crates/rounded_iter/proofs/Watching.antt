@@ -8,8 +8,8 @@ use Rattle.lift_model.specs.Links.{LinksData, Leads, IsLone, position, states_be
 use Rattle.corner_lift.specs.Laws.{NumbersAreInRange}
 use Rattle.rounded_iter.specs.Rising.{TableData, IsRead, Run, IsBelow, IsLeastBound, HasEnough, room}
 use Rattle.rounded_iter.specs.Watching.{count, flag, IsRaisedState, IsWatched, IsWatchedBut, CanFlag, IsFlagged, IsKept, CanVisit, IsVisited, IsTurned, IsPassed, IsLeastFrom, IsFound}
-use Rattle.rounded_iter.proofs.Solving.{same_or_not}
-use Rattle.rounded_iter.proofs.Raising.{one_more, leads_inside, enough_kept}
+use Rattle.rounded_iter.proofs.Solving.{same_or_not, one_more}
+use Rattle.rounded_iter.proofs.Raising.{leads_inside, enough_kept}
 
 -- ---- flags
 

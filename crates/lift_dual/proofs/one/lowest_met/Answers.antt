@@ -1,7 +1,8 @@
 use Rattle.std.proofs.Common.{◌≡◌, ◌-◌, ◌<◌, ◌≤◌, length, true, false, subst, arith, ⊎_elim}
 use Rattle.lift_model.specs.Model.{choices}
 use Rattle.lift_dual.specs.Picking.{IsMet}
-use Rattle.lift_dual.proofs.Picking.{in_or_past, one_more}
+use Rattle.lift_dual.proofs.Inside.{in_or_past}
+use Rattle.lift_dual.proofs.Picking.{one_more}
 use Rattle.lift_dual.proofs.one.lowest_met.Goals as goal
 
 pub loop-choice-preserved : goal.loop-choice-preserved

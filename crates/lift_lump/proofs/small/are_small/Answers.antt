@@ -4,9 +4,7 @@ use Rattle.lift_model.specs.declared.row.Row.{Row}
 use Rattle.lift_model.specs.declared.entry.Entry.{Entry}
 use Rattle.lift_lump.specs.Lumped.{IsSmallEntry}
 use Rattle.lift_lump.proofs.small.are_small.Goals as goal
-
-side : (i j : ℕ) → (i < j) ⊎ (j ≤ i)
-side i j = grind arith
+use Rattle.lift_lump.proofs.Sides.{side}
 
 items_at : (states : List (Vec Row Global)) (i : ℕ) (v : Vec Row Global) (d : List (List Entry)) → i < length states → v ≡ get_or states i v → get_or (map (λ v. v.items) states) i d ≡ v.items
 items_at states i v d lt is = get_or-map (λ (v : Vec Row Global). v.items) states i v d lt ∙ ap (λ (v : Vec Row Global). v.items) (sym is)

@@ -1,7 +1,7 @@
 use Rattle.std.proofs.Common.{◌≡◌, ◌<◌, ⊎_elim, sym, subst, arith}
 use Rattle.rounded_iter.specs.Priced.{IsPaidFor, price}
-use Rattle.rounded_iter.proofs.Raising.{one_more}
 use Rattle.rounded_iter.proofs.priced.pays.Goals as goal
+use Rattle.rounded_iter.proofs.Solving.{one_more}
 
 pub loop-a-preserved : goal.loop-a-preserved
 loop-a-preserved g c =

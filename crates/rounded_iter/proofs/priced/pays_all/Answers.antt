@@ -1,8 +1,8 @@
 use Rattle.std.proofs.Common.{◌≡◌, ◌<◌, ⊎_elim, sym, ap, subst, length, arith}
 use Rattle.lift_model.specs.Model.{ModelData}
 use Rattle.rounded_iter.specs.Priced.{IsCutOff, IsPaid, price}
-use Rattle.rounded_iter.proofs.Raising.{one_more}
 use Rattle.rounded_iter.proofs.priced.pays_all.Goals as goal
+use Rattle.rounded_iter.proofs.Solving.{one_more}
 
 pub loop-s-preserved : goal.loop-s-preserved
 loop-s-preserved g c =
