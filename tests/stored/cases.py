@@ -86,7 +86,7 @@ def runs() -> Iterator[Case]:
     models = named(constants("plift_tests", "models")["MODELS"])
     for module in ("costs", "decided", "lumped", "properties", "ranges", "refused", "regions", "rows", "trees", "within"):
         for name, table in constants("plift_tests", module).items():
-            for row in rows(table) if name not in ("REGION", "REPORT") else []:
+            for row in rows(table) if name not in ("REGION", "REPORT", "TEXT") else []:
                 words, model, status, end, notes = row.split(" | ")
                 yield Case(f"{module}: {row}", "plift", words_of(words), models[model], answer(status, end, notes), Written.END)
 
@@ -180,4 +180,5 @@ def left_out() -> Iterator[str]:
     yield "reports_with_ranges_are_cut_off_anywhere in plift_tests/src/ranges.rt: an output that holds only so many bytes"
     yield "texts_for_steps_are_cut_off_anywhere in plift_tests/src/within.rt: an output that holds only so many bytes"
     yield "texts_for_properties_are_cut_off_anywhere in plift_tests/src/properties.rt: an output that holds only so many bytes"
+    yield "texts_for_costs_are_cut_off_anywhere in plift_tests/src/costs.rt: an output that holds only so many bytes"
     yield "unsound_reports_have_no_map in view_tests/src/pictures.rt, and the other crates of tests: they call parts of the programs"

@@ -2,8 +2,8 @@
 
 ghost use Rattle.std.specs.Prelude.{◌≡◌, ◌≤◌, length};
 
-use crate::cases::{Asker, ask_over, bound_of};
-use crate::cells::{Teller, Untold, count, cut, cut_three, each_row};
+use crate::cases::ask_over;
+use crate::cells::each_row;
 use corner_lift::Case;
 use drn_read::read_costs;
 use lift_cost::{Budget, CostBranch, CostTree, build};
@@ -12,6 +12,8 @@ use lift_model::{Links, Model};
 use std::alloc::{AllocError, Global};
 use std::fmt::Write;
 use std::string::String;
+use test_cases::{Asker, bound_of};
+use test_cells::{Teller, Untold, count, cut, cut_three};
 
 /// A coin that is tossed again in half of the cases, and one that is tossed until it shows heads with p. A toss costs 1.
 const TOSSED_AGAIN: &[u8] =
@@ -112,6 +114,8 @@ struct Within<'a> {
 }
 
 impl Asker for Within<'_> {
+    type Told = String;
+
     fn ask(&self, alloc: Global, case: &Case) -> Result<String, Untold> {
         let (cap, part) = cut(self.cells);
         let cap = count(cap);

@@ -1,74 +1,14 @@
-//! Tables of tests, a row a line, and the cells of their rows, which stand between bars. Nothing is promised of cells, so that no
-//! proof carries where a text is cut.
+//! The rows of a table, each held against what is told of it.
 
-use std::alloc::{AllocError, Global};
-use std::fmt::{Debug, Display};
+use std::alloc::Global;
 use std::process::Abort;
-
-/// What is told of the rows of a table.
-pub(crate) trait Teller {
-    type Told: Display + Debug + Drop;
-
-    type Error: Debug + Drop;
-
-    /// What is told of the cells of a row that ask.
-    fn tell(&self, alloc: Global, asked: &str) -> Result<Self::Told, Self::Error>;
-}
+use test_cells::{Teller, is_shown};
 
 /// Asserts that the last cell of each row says what is told of those before it.
 pub(crate) fn each_row<T: Teller>(rt: &impl Abort, alloc: Global, rows: &str, teller: &T) {
-    for row in rows.split('\n') {
+    for row in rows.lines() {
         let (asked, want) = row.rsplit_once(" | ").unwrap_or(("", row));
         let told = teller.tell(alloc, asked);
         assert!(rt; is_shown(alloc, &told, want), "{row}: {told:?}");
     }
-}
-
-/// Whether something is told, and shown so.
-fn is_shown<D: Display, E>(alloc: Global, told: &Result<D, E>, want: &str) -> bool {
-    match told {
-        Ok(told) => matches!(format!(in alloc; "{told}"), Ok(shown) if shown.as_str() == want),
-        Err(_) => false,
-    }
-}
-
-/// Why nothing is told.
-#[derive(Clone, Copy, Debug)]
-pub(crate) enum Untold {
-    /// There is no memory left.
-    NoMemory,
-    /// A cell of the row is none of its table.
-    Cell,
-    /// A text is refused, at this line where it is a model's.
-    Text(u32),
-}
-
-impl From<AllocError> for Untold {
-    fn from(_: AllocError) -> Self {
-        Untold::NoMemory
-    }
-}
-
-/// The first cell of a row, and the row's rest; nothing where it has no other.
-pub(crate) fn cut(row: &str) -> (&str, &str) {
-    row.split_once(" | ").unwrap_or((row, ""))
-}
-
-/// The first two cells of a row, and the row's rest.
-pub(crate) fn cut_two(row: &str) -> (&str, &str, &str) {
-    let (first, rest) = cut(row);
-    let (second, rest) = cut(rest);
-    (first, second, rest)
-}
-
-/// The first three cells of a row, and the row's rest.
-pub(crate) fn cut_three(row: &str) -> (&str, &str, &str, &str) {
-    let (first, second, rest) = cut_two(row);
-    let (third, rest) = cut(rest);
-    (first, second, third, rest)
-}
-
-/// The number of a cell; 99 where it writes none.
-pub(crate) fn count(cell: &str) -> u32 {
-    cell.parse::<u32>().unwrap_or(99)
 }

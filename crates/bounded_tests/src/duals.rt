@@ -5,13 +5,15 @@ ghost use Rattle.lift_grid.specs.Rectangle.{spans_of, sides_of};
 ghost use Rattle.lift_model.specs.Links.{AreLinks};
 ghost use Rattle.corner_lift.specs.Table.{IsTable};
 
-use crate::cases::{Asker, ask_named};
-use crate::cells::{Teller, Untold, cut, each_row};
+use crate::cases::ask_named;
+use crate::cells::each_row;
 use corner_lift::{Case, fill};
 use lift_dual::{greatest_all, least_one};
 use lift_model::Links;
 use std::alloc::{AllocError, Global};
 use std::string::String;
+use test_cases::Asker;
+use test_cells::{Teller, Untold, cut};
 
 /// The model and its region; and at precision 4 the least upper vector for one scheduler with its picks, and the
 /// greatest lower vector for every scheduler with its ranks, e and k.
@@ -114,6 +116,8 @@ fn both_by(alloc: Global, case: &Case, links: &Links) -> Result<String, AllocErr
 struct Both;
 
 impl Asker for Both {
+    type Told = String;
+
     fn ask(&self, alloc: Global, case: &Case) -> Result<String, Untold> {
         let links = Links::build(alloc, case.model())?;
         let both = both_by(alloc, case, &links);

@@ -2,8 +2,8 @@
 
 ghost use Rattle.lift_model.specs.Links.{AreLinks};
 
-use crate::cases::{Asker, ask_named, bound_of};
-use crate::cells::{Teller, Untold, count, cut_three, each_row};
+use crate::cases::ask_named;
+use crate::cells::each_row;
 use corner_lift::Case;
 use lift_cert::Bound;
 use lift_model::Links;
@@ -12,6 +12,8 @@ use property_tree::{DualBranch, build};
 use std::alloc::{AllocError, Global};
 use std::fmt::Write;
 use std::string::String;
+use test_cases::{Asker, bound_of};
+use test_cells::{Teller, Untold, count, cut_three};
 
 /// The model, its region, the depth, how what is reached is compared with 1/2, and the tree in preorder at precision 4,
 /// a bar behind it. Of a decided leaf e and k are shown, if it is a lower one, its numbers, its picks and its ranks, of
@@ -106,6 +108,8 @@ struct Comparison {
 }
 
 impl Asker for Comparison {
+    type Told = String;
+
     fn ask(&self, alloc: Global, case: &Case) -> Result<String, Untold> {
         let bound = bound_of("1/2")?;
         let links = Links::build(alloc, case.model())?;

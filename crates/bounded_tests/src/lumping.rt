@@ -4,12 +4,13 @@ ghost use Rattle.std.specs.Prelude.{◌≡◌, ◌<◌, ◌≤◌, ℕ, true, le
 ghost use Rattle.lift_model.specs.Model.{is_goal, row_at};
 ghost use Rattle.lift_lump.specs.Laws.{GoalsHaveEntries};
 
-use crate::cases::model_of;
-use crate::cells::{Teller, Untold, each_row};
+use crate::cells::each_row;
 use lift_lump::{Lumped, lump};
 use lift_model::Model;
 use std::alloc::{AllocError, Global};
 use std::string::String;
+use test_cases::model_of;
+use test_cells::{Teller, Untold};
 
 /// A die that is thrown with a coin: all its faces but one behave alike.
 const DIE: &[u8] = b"@type: DTMC\n@parameters\np\n@model\nstate 0 init\n1 : p\n2 : 1-p\n\

@@ -1,11 +1,13 @@
 //! Formulas, read or refused, and models that are cut for them.
 
-use crate::cases::{COIN, model_of};
-use crate::cells::{Teller, Untold, count, cut_three, each_row};
+use crate::cases::COIN;
+use crate::cells::each_row;
 use lift_model::{Model, Row};
 use property_text::{Formula, read_formula, restrict};
 use std::alloc::{AllocError, Global};
 use std::string::String;
+use test_cases::model_of;
+use test_cells::{Teller, Untold, count, cut_three};
 
 /// The comparison, the bound, the label of the safe states, `-` where there is none, and that of the goal states.
 fn formula_shown(alloc: Global, formula: &Formula) -> Result<String, AllocError> {

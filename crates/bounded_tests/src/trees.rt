@@ -4,8 +4,8 @@ ghost use Rattle.std.specs.Prelude.{◌≤◌};
 ghost use Rattle.lift_model.specs.Links.{AreLinks};
 ghost use Rattle.lift_bounded.specs.Rooms.{most_steps};
 
-use crate::cases::{Asker, ask_named, bound_of};
-use crate::cells::{Teller, Untold, count, cut, cut_three, each_row};
+use crate::cases::ask_named;
+use crate::cells::each_row;
 use corner_lift::Case;
 use lift_base::MemSink;
 use lift_bounded::{BoundedRoom, write_tree};
@@ -13,6 +13,8 @@ use lift_cert::Bound;
 use lift_model::Links;
 use std::alloc::{AllocError, Global};
 use std::string::String;
+use test_cases::{Asker, bound_of};
+use test_cells::{Teller, Untold, count, cut, cut_three};
 
 /// In each table: the model, its region, the depth, the bound, the number of steps, and the text of the tree at precision
 /// 4, in which a `;` stands for a line feed.
@@ -128,6 +130,8 @@ struct Within<'a> {
 }
 
 impl Asker for Within<'_> {
+    type Told = String;
+
     fn ask(&self, alloc: Global, case: &Case) -> Result<String, Untold> {
         let (bound, steps) = cut(self.cells);
         let (bound, steps) = (bound_of(bound)?, count(steps));

@@ -1,9 +1,10 @@
 // Reports that are checked, migrated or gone on from, and what comes of it.
-use crate::cells::{Claim, Untold, cut_two, each_row};
+use crate::cells::each_claim;
 use crate::models::{are_lines, lines_of};
 use crate::runs::{Sinks, wanted, words_of};
 use lift_base::SureSource;
 use std::alloc::{AllocError, Global};
+use test_cells::{Claim, Untold, cut_two};
 
 // The heads of reports, each by its name. A semicolon stands for the end of a line.
 const HEADS: &str = "\
@@ -150,17 +151,17 @@ impl Claim for Command {
 
 #[test]
 fn files_are_checked(rt: HostRuntime) {
-    each_row(&rt, rt.alloc(), FILES, &Command { name: "check" });
+    each_claim(&rt, rt.alloc(), FILES, &Command { name: "check" });
 }
 
 #[test]
 fn reports_are_migrated(rt: HostRuntime) {
-    each_row(&rt, rt.alloc(), MIGRATED, &Command { name: "migrate" });
+    each_claim(&rt, rt.alloc(), MIGRATED, &Command { name: "migrate" });
 }
 
 #[test]
 fn reports_are_gone_on_from(rt: HostRuntime) {
-    each_row(
+    each_claim(
         &rt,
         rt.alloc(),
         REFINED,

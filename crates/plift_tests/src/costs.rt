@@ -1,6 +1,6 @@
 // What is paid before the goal. The numbers of the leaves were worked out by hand.
-use crate::cells::each_row;
-use crate::runs::Answered;
+use crate::cells::each_claim;
+use crate::runs::{Answered, Job, each_front};
 
 // Each row: the words, the model, the status, how the output ends, and the notes.
 const COSTS: &str = "\
@@ -33,7 +33,27 @@ cost --goal heads --reward gain --budget 0 --cap 4294967295 --region 1/5<=p<=2/5
     ;cost 0/1 1/1 0/1;cap 4294967295;budget 0/1;precision 4;depth 0;grid 5;box 1 2;accept 0 0 0; | -
 ";
 
+// A job whose tree has two leaves, and its text.
+const REGION: &str =
+    "cost --goal heads --reward end --budget 2/8 --cap 1 --region 1/5<=p<=3/5 --depth 1 --precision 4";
+
+const TEXT: &str =
+    "plift-cost 1;kind dtmc;parameters 1 p;common 1;states 3;init 0;goal 1 1;row 0 0 2;to 1 1:1;to 2 0:1 1:-1;\
+    row 1 0 1;to 1 0:1;row 2 0 1;to 1 0:1;cost 0/1 5/2 1/3;cap 1;budget 1/4;precision 4;depth 1;grid 10;box 2 6;\
+    split 0;unknown;accept 4 0 6;";
+
+const JOB: Job<'static> = Job {
+    words: REGION,
+    model: "TOLLS",
+    text: TEXT,
+};
+
 #[test]
 fn costs_are_decided(rt: HostRuntime) {
-    each_row(&rt, rt.alloc(), COSTS, &Answered);
+    each_claim(&rt, rt.alloc(), COSTS, &Answered);
+}
+
+#[test]
+fn texts_for_costs_are_cut_off_anywhere(rt: HostRuntime) {
+    each_front(&rt, rt.alloc(), JOB);
 }

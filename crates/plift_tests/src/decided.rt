@@ -1,5 +1,5 @@
 // Models that are decided, without parameters and over a region.
-use crate::cells::each_row;
+use crate::cells::each_claim;
 use crate::runs::{Answered, Checked};
 
 // Each row: the words, the model, the status, how the output ends, and no notes.
@@ -84,16 +84,16 @@ verify --goal heads --bound 0 --precision 4 --depth 0 | APART | Done | plift 1;k
 
 #[test]
 fn models_are_decided(rt: HostRuntime) {
-    each_row(&rt, rt.alloc(), DECIDED, &Answered);
+    each_claim(&rt, rt.alloc(), DECIDED, &Answered);
 }
 
 #[test]
 fn models_are_decided_over_regions(rt: HostRuntime) {
-    each_row(&rt, rt.alloc(), OVER_REGIONS, &Answered);
+    each_claim(&rt, rt.alloc(), OVER_REGIONS, &Answered);
 }
 
 #[test]
 fn what_is_written_is_sound(rt: HostRuntime) {
-    each_row(&rt, rt.alloc(), DECIDED, &Checked);
-    each_row(&rt, rt.alloc(), OVER_REGIONS, &Checked);
+    each_claim(&rt, rt.alloc(), DECIDED, &Checked);
+    each_claim(&rt, rt.alloc(), OVER_REGIONS, &Checked);
 }

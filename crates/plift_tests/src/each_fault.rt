@@ -1,9 +1,10 @@
 // Runs in which one call after another fails.
-use crate::cells::{Claim, Untold, cut_two, each_row, number};
+use crate::cells::each_claim;
 use crate::models::{are_front, model_text};
 use crate::runs::{End, Sinks, sink, wanted, words_of};
 use lift_base::MemSource;
 use std::alloc::{AllocError, Global};
+use test_cells::{Claim, Untold, cut_two, number};
 
 // Each row: the words, the input, how many bytes a read takes, where calls fail, the first and the last
 // of the calls of which one fails, the status, how much is written, and the note. A write takes one byte.
@@ -105,5 +106,5 @@ impl Claim for EachFault {
 
 #[test]
 fn each_fault_is_told(rt: HostRuntime) {
-    each_row(&rt, rt.alloc(), FAULTS, &EachFault);
+    each_claim(&rt, rt.alloc(), FAULTS, &EachFault);
 }

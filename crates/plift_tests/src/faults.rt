@@ -1,9 +1,10 @@
 // Faults of the source, of the sink, and of the notes.
-use crate::cells::{Claim, Untold, cut_two, each_row, number};
+use crate::cells::each_claim;
 use crate::models::{are_lines, model_text};
 use crate::runs::{Sinks, sink, wanted, words_of};
 use lift_base::MemSource;
 use std::alloc::{AllocError, Global};
+use test_cells::{Claim, Untold, cut_two, number};
 
 // Each row: the words and the model; which call fails at the source, at the sink and at the notes,
 // none where it is 0; how many bytes the sink holds; the status, the output, and the note.
@@ -70,5 +71,5 @@ impl Claim for Faults {
 
 #[test]
 fn faults_are_told(rt: HostRuntime) {
-    each_row(&rt, rt.alloc(), FAULTS, &Faults);
+    each_claim(&rt, rt.alloc(), FAULTS, &Faults);
 }

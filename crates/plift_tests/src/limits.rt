@@ -1,10 +1,11 @@
 // How many bytes a text may have that is read whole; a report is read line by line.
 ghost use Rattle.std.specs.Prelude.{None};
 
-use crate::cells::{Claim, Untold, cut, cut_two, each_row, number};
+use crate::cells::each_claim;
 use crate::runs::{End, Sinks, words_of};
 use lift_base::{Got, Source};
 use std::alloc::Global;
+use test_cells::{Claim, Untold, cut, cut_two, number};
 
 // Each row: the words, how many line feeds the source gives, the status, and the note.
 const LIMITS: &str = "\
@@ -53,5 +54,5 @@ impl Claim for Limits {
 
 #[test]
 fn a_text_has_at_most_2_to_the_26_bytes(rt: HostRuntime) {
-    each_row(&rt, rt.alloc(), LIMITS, &Limits);
+    each_claim(&rt, rt.alloc(), LIMITS, &Limits);
 }

@@ -1,6 +1,6 @@
 // Chains that are verified by their quotients. The quotients and the numbers of the leaves were worked out by hand. Where no
 // parameter is left in the quotient, nothing is halved.
-use crate::cells::each_row;
+use crate::cells::each_claim;
 use crate::runs::{Answered, Checked};
 
 // Each row: the words, the model, the status, how the output ends, and the notes.
@@ -33,10 +33,10 @@ lumped | LESS | Usage | - | usage: words;
 
 #[test]
 fn chains_are_lumped(rt: HostRuntime) {
-    each_row(&rt, rt.alloc(), LUMPED, &Answered);
+    each_claim(&rt, rt.alloc(), LUMPED, &Answered);
 }
 
 #[test]
 fn reports_of_quotients_are_sound(rt: HostRuntime) {
-    each_row(&rt, rt.alloc(), LUMPED, &Checked);
+    each_claim(&rt, rt.alloc(), LUMPED, &Checked);
 }

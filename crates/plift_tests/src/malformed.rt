@@ -1,9 +1,10 @@
 // A model's text and a report, each with a few lines changed, and what is told of it.
-use crate::cells::{Claim, Untold, cut, each_row};
+use crate::cells::each_claim;
 use crate::models::are_lines;
 use crate::runs::{Sinks, wanted, words_of};
 use lift_base::SureSource;
 use std::alloc::{AllocError, Global};
+use test_cells::{Claim, Untold, cut};
 
 // The coin. A semicolon stands between two lines.
 const COIN: &str =
@@ -135,10 +136,10 @@ const ON_REPORT: Malformed = Malformed {
 
 #[test]
 fn malformed_models_are_told(rt: HostRuntime) {
-    each_row(&rt, rt.alloc(), MODELS, &ON_COIN);
+    each_claim(&rt, rt.alloc(), MODELS, &ON_COIN);
 }
 
 #[test]
 fn malformed_reports_are_told(rt: HostRuntime) {
-    each_row(&rt, rt.alloc(), REPORTS, &ON_REPORT);
+    each_claim(&rt, rt.alloc(), REPORTS, &ON_REPORT);
 }

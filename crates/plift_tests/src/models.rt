@@ -1,6 +1,6 @@
 // The models of the tests, each by its name. A semicolon stands for the end of a line.
-use crate::cells::Untold;
 use std::alloc::{AllocError, Global};
+use test_cells::Untold;
 
 // NOTED_COIN: the coin with a comment in front, a tab before each line, and a carriage return behind
 // it. LESS, DECIMALS: rows that sum to less than 1. APART_COIN: values of different parameters, which

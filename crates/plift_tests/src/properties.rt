@@ -1,6 +1,6 @@
 // Properties of models. The numbers of the leaves were worked out by hand.
-use crate::cells::each_row;
-use crate::runs::{Answered, CoinJob, each_front};
+use crate::cells::each_claim;
+use crate::runs::{Answered, Job, each_front};
 
 // Each row: the words, the model, the status, how the output ends, and the notes.
 const PROPERTIES: &str = "\
@@ -71,14 +71,15 @@ const REPORT: &str =
     row 1 0 1;to 1 0:1;row 2 0 1;to 2 0:1;property <= 1/2;precision 4;depth 1;grid 10;box 2 6;split 0;holds;\
     x 7 16 0;unknown;";
 
-const JOB: CoinJob<'static> = CoinJob {
+const JOB: Job<'static> = Job {
     words: REGION,
+    model: "COIN",
     text: REPORT,
 };
 
 #[test]
 fn properties_are_decided(rt: HostRuntime) {
-    each_row(&rt, rt.alloc(), PROPERTIES, &Answered);
+    each_claim(&rt, rt.alloc(), PROPERTIES, &Answered);
 }
 
 #[test]

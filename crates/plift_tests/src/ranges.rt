@@ -1,6 +1,6 @@
 // Ranges of precisions: each leaf at the least one that decides. The numbers of the leaves were worked out by hand.
-use crate::cells::each_row;
-use crate::runs::{Answered, Checked, CoinJob, each_front};
+use crate::cells::each_claim;
+use crate::runs::{Answered, Checked, Job, each_front};
 
 // Each row: the words, the model, the status, how the output ends, and the notes.
 const RANGES: &str = "\
@@ -39,19 +39,20 @@ const REPORT: &str =
     to 1 0:1;row 2 0 1;to 2 0:1;bound 1/2;precision 4;from 1;depth 2;grid 40;box 4 36;split 0;at 1;accept 1 2 0;\
     split 0;unknown;at 3;reject e 1 k 1 m 1 b 5/8;y 5 8 0;choice 0 - -;rank 1 0 -;";
 
-const JOB: CoinJob<'static> = CoinJob {
+const JOB: Job<'static> = Job {
     words: REGION,
+    model: "COIN",
     text: REPORT,
 };
 
 #[test]
 fn leaves_are_decided_within_ranges(rt: HostRuntime) {
-    each_row(&rt, rt.alloc(), RANGES, &Answered);
+    each_claim(&rt, rt.alloc(), RANGES, &Answered);
 }
 
 #[test]
 fn reports_with_ranges_are_sound(rt: HostRuntime) {
-    each_row(&rt, rt.alloc(), RANGES, &Checked);
+    each_claim(&rt, rt.alloc(), RANGES, &Checked);
 }
 
 #[test]

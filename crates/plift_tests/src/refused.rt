@@ -1,5 +1,5 @@
 // Words and texts that are refused.
-use crate::cells::each_row;
+use crate::cells::each_claim;
 use crate::runs::Answered;
 
 // Each row: the words, the model, the status, no output, and the note.
@@ -29,5 +29,5 @@ verify --goal heads --bound 1/2 --precision 41 | PLAIN | Usage | - | usage: --pr
 
 #[test]
 fn refusals_are_told(rt: HostRuntime) {
-    each_row(&rt, rt.alloc(), REFUSED, &Answered);
+    each_claim(&rt, rt.alloc(), REFUSED, &Answered);
 }

@@ -1,5 +1,5 @@
 // Regions that name no rectangle.
-use crate::cells::each_row;
+use crate::cells::each_claim;
 use crate::runs::Answered;
 
 // Each row: the words, the model, the status, no output, and the note. The last word of the last one
@@ -19,5 +19,5 @@ verify --goal heads --bound 1/2 --precision 4 --region  | COIN | Usage | - | usa
 
 #[test]
 fn regions_at_fault_are_told(rt: HostRuntime) {
-    each_row(&rt, rt.alloc(), REGIONS, &Answered);
+    each_claim(&rt, rt.alloc(), REGIONS, &Answered);
 }

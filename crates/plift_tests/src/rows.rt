@@ -1,5 +1,5 @@
 // Rows that are refused over a region.
-use crate::cells::each_row;
+use crate::cells::each_claim;
 use crate::runs::Answered;
 
 // Each row: the words, the model, the status, no output, and the note.
@@ -20,5 +20,5 @@ verify --goal heads --bound 1/2 --precision 4 --region 0<=a<=1,0<=b<=1,0<=c<=1,0
 
 #[test]
 fn rows_at_fault_are_told(rt: HostRuntime) {
-    each_row(&rt, rt.alloc(), REFUSED_ROWS, &Answered);
+    each_claim(&rt, rt.alloc(), REFUSED_ROWS, &Answered);
 }

@@ -1,11 +1,11 @@
 // Runs of the program, and what they are compared with.
-use crate::cells::{Claim, Untold, cut_two};
 use crate::models::{are_front, are_lines, end_with, model_text};
 use lift_base::{MemSink, Source, SureSource};
 use plift_top::{Status, run};
 use std::alloc::{AllocError, Global};
 use std::process::Abort;
 use std::string::String;
+use test_cells::{Claim, Untold, cut_two};
 
 /// The words of a line; none where it is empty.
 pub fn words_of(alloc: Global, line: &str, separator: char) -> Result<Vec<String>, AllocError> {
@@ -154,14 +154,15 @@ impl Claim for Checked {
     }
 }
 
-/// The words of a job on the coin, and what it writes.
+/// The words of a job, the name of its model, and what it writes.
 #[derive(Clone, Copy)]
-pub struct CoinJob<'a> {
+pub struct Job<'a> {
     pub words: &'a str,
+    pub model: &'a str,
     pub text: &'a str,
 }
 
-impl CoinJob<'_> {
+impl Job<'_> {
     /// Whether the job ends so, and that many bytes are taken from the front of what it writes.
     pub fn ends(
         self,
@@ -170,7 +171,7 @@ impl CoinJob<'_> {
         sinks: &mut Sinks,
         count: usize,
     ) -> Result<bool, Untold> {
-        let mut source = SureSource::new(model_text(alloc, "COIN")?);
+        let mut source = SureSource::new(model_text(alloc, self.model)?);
         let words = words_of(alloc, self.words, ' ')?;
         let comes = want.comes(alloc, &words, &mut source, sinks);
         Ok(comes && are_front(sinks.out.taken(), self.text, count))
@@ -189,7 +190,7 @@ impl CoinJob<'_> {
 }
 
 /// Asserts that a job is cut off wherever a sink's room ends, and is done where there is enough.
-pub fn each_front(rt: &impl Abort, alloc: Global, job: CoinJob<'_>) {
+pub fn each_front(rt: &impl Abort, alloc: Global, job: Job<'_>) {
     for room in 0..job.text.len() + 1 {
         let holds = job.is_cut_off(alloc, room);
         assert!(rt; matches!(holds, Ok(true)), "{room}: {holds:?}");

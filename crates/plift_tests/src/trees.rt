@@ -1,7 +1,8 @@
 // Trees: regions that are halved, and reports that are cut off.
-use crate::cells::{Untold, each_row};
-use crate::runs::{Answered, CUT_OFF, CoinJob, DONE, Sinks, each_front, sink};
+use crate::cells::each_claim;
+use crate::runs::{Answered, CUT_OFF, DONE, Job, Sinks, each_front, sink};
 use std::alloc::Global;
+use test_cells::Untold;
 
 // Each row: the words, the model, the status, how the output ends, and no notes. A parameter that no
 // row depends on is never split.
@@ -42,14 +43,15 @@ const REPORT: &str =
     to 1 0:1;row 2 0 1;to 2 0:1;bound 1/2;precision 4;depth 2;grid 40;box 4 36;split 0;accept 8 16 0;split 0;unknown;\
     reject e 1 k 1 m 1 b 11/16;y 11 16 0;choice 0 - -;rank 1 0 -;";
 
-const JOB: CoinJob<'static> = CoinJob {
+const JOB: Job<'static> = Job {
     words: REGION,
+    model: "COIN",
     text: REPORT,
 };
 
 #[test]
 fn regions_are_halved(rt: HostRuntime) {
-    each_row(&rt, rt.alloc(), TREES, &Answered);
+    each_claim(&rt, rt.alloc(), TREES, &Answered);
 }
 
 #[test]

@@ -1,6 +1,6 @@
 // Models that are decided for a number of steps. The numbers of the leaves were worked out by hand.
-use crate::cells::each_row;
-use crate::runs::{Answered, CoinJob, each_front};
+use crate::cells::each_claim;
+use crate::runs::{Answered, Job, each_front};
 
 // Each row: the words, the model, the status, how the output ends, and the notes.
 const WITHIN: &str = "\
@@ -51,14 +51,15 @@ const REPORT: &str =
     row 1 0 1;to 1 0:1;row 2 0 1;to 2 0:1;bound 1/2;steps 1;precision 4;depth 1;grid 10;box 2 6;split 0;accept;\
     x 1 7 16 0;unknown;";
 
-const JOB: CoinJob<'static> = CoinJob {
+const JOB: Job<'static> = Job {
     words: REGION,
+    model: "COIN",
     text: REPORT,
 };
 
 #[test]
 fn steps_are_bounded(rt: HostRuntime) {
-    each_row(&rt, rt.alloc(), WITHIN, &Answered);
+    each_claim(&rt, rt.alloc(), WITHIN, &Answered);
 }
 
 #[test]

@@ -1,9 +1,10 @@
 // Lines of words, where reading fails at once: whether they ask for a job, and else what is at fault.
-use crate::cells::{Claim, Untold, cut, each_row};
+use crate::cells::each_claim;
 use crate::models::are_lines;
 use crate::runs::{DONE, End, Sinks, words_of};
 use lift_base::MemSource;
 use std::alloc::{AllocError, Global};
+use test_cells::{Claim, Untold, cut};
 
 // Each row: the words between bars, and what is told.
 const LINES: &str = "\
@@ -201,7 +202,7 @@ impl Claim for Lines {
 
 #[test]
 fn words_are_read(rt: HostRuntime) {
-    each_row(&rt, rt.alloc(), LINES, &Lines);
+    each_claim(&rt, rt.alloc(), LINES, &Lines);
 }
 
 // The ladder of one block.
@@ -246,7 +247,7 @@ impl Claim for Tested {
 
 #[test]
 fn ladders_are_tested_and_nothing_read(rt: HostRuntime) {
-    each_row(&rt, rt.alloc(), TESTED, &Tested);
+    each_claim(&rt, rt.alloc(), TESTED, &Tested);
 }
 
 // Whether words write that ladder, and nothing is told.

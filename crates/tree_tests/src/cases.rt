@@ -1,109 +1,31 @@
-//! The cases that the tests are about, each made from texts.
+//! The case that the tests are about, made from texts.
 
-ghost use Rattle.std.specs.Prelude.{◌≤◌, length, IfOk};
-ghost use Rattle.lift_grid.specs.Rectangle.{IsOnGrid, most_halvings};
-
-use crate::cells::Untold;
-use corner_lift::Case;
-use drn_read::read_model;
-use lift_cert::Bound;
-use lift_frac::{Frac, read_ratio};
-use lift_grid::{Grid, Rect, read_region};
-use lift_model::Model;
-use lift_names::Names;
-use lift_rows::admit;
 use std::alloc::Global;
-use std::string::String;
+use test_cases::{Asker, Scope, ask_over, model_of};
+use test_cells::Untold;
 
 /// A coin that shows heads with p.
 const COIN: &[u8] = b"@type: DTMC\n@parameters\np\n@model\nstate 0 init\n1 : p\n2 : 1-p\n\
 state 1 heads\n1 : 1\nstate 2\n2 : 1\n";
 
-/// The model of a text; its goal states carry the label `heads`.
-fn model_of(alloc: Global, text: &[u8]) -> Result<Model, Untold> {
-    if text.len() >= 1 << 31 {
-        return Err(Untold::Text(0));
-    }
-    match read_model(alloc, text, b"heads") {
-        Ok(model) => Ok(model),
-        Err(error) => Err(Untold::Text(error.line)),
-    }
-}
-
-/// The rectangle that a region's text names, over its grid.
-fn root_of(alloc: Global, region: &[u8], names: &Names, depth: u32) -> Result<(Grid, Rect), Untold>
-    requires { depth ≤ most_halvings }
-    ensures on_grid { IfOk result (λ p. IsOnGrid p.0.d p.0.depth (length names.now) p.1) }
-    ensures depth { IfOk result (λ p. p.0.depth ≤ most_halvings) }
-{
-    match read_region(alloc, region, names, depth) {
-        Ok(root) => Ok(root),
-        Err(_) => Err(Untold::Text(0)),
-    }
-}
-
-/// The case of a model over a root, at precision 4.
-fn case_of<'m>(model: &'m Model, root: &'m Rect, grid: Grid) -> Result<Case<'m>, Untold>
-    requires grid { IsOnGrid grid.d grid.depth (length model.now.names) root.now }
-    requires depth { grid.depth ≤ most_halvings }
-{
-    match admit(model, root, grid, 4) {
-        Ok(case) => Ok(case),
-        Err(_) => Err(Untold::Cell),
-    }
-}
-
-/// What is asked of a case.
-pub(crate) trait Asker {
-    /// What is told of the case.
-    fn ask(&self, alloc: Global, case: &Case) -> Result<String, Untold>;
-}
-
-/// What is told of the case of a model over a region, at a depth.
-fn ask_over<A: Asker>(
-    alloc: Global,
-    model: &Model,
-    region: &[u8],
-    depth: u32,
-    asker: &A,
-) -> Result<String, Untold>
-    requires { depth ≤ most_halvings }
-{
-    let (grid, root) = root_of(alloc, region, model.names(), depth)?;
-    let case = case_of(model, &root, grid)?;
-    asker.ask(alloc, &case)
-}
-
-/// The same of the coin, where the depth is one of those that may be asked for.
+/// What is told of the case of the coin over a region at precision 4, where the depth is one of those that may be asked
+/// for.
 pub(crate) fn ask_coin<A: Asker>(
     alloc: Global,
     region: &str,
     depth: u32,
     asker: &A,
-) -> Result<String, Untold> {
+) -> Result<A::Told, Untold> {
     if depth > 20 {
         return Err(Untold::Cell);
     }
-    let model = model_of(alloc, COIN)?;
-    let told = ask_over(alloc, &model, region.as_bytes(), depth, asker);
+    let model = model_of(alloc, COIN, b"heads")?;
+    let scope = Scope {
+        region: region.as_bytes(),
+        depth,
+        w: 4,
+    };
+    let told = ask_over(alloc, &model, scope, asker);
     drop(model);
     told
-}
-
-/// The bound of a fraction from 0 to 1.
-fn bound_by(fraction: Frac) -> Option<Bound> {
-    let Frac { num, den } = fraction;
-    if 0 <= num && num <= den && den < 1 << 32 {
-        Some(Bound {
-            num: num as u32,
-            den: den as u32,
-        })
-    } else {
-        None
-    }
-}
-
-/// The bound that a cell writes.
-pub(crate) fn bound_of(cell: &str) -> Result<Bound, Untold> {
-    read_ratio(cell).and_then(bound_by).ok_or(Untold::Cell)
 }

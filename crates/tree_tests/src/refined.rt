@@ -7,8 +7,8 @@ ghost use Rattle.region_tree.specs.Built.{tree_of};
 ghost use Rattle.region_tree.specs.Rooms.{IsMadeFor};
 ghost use Rattle.tree_tests.specs.Cut.{AreGivenOfCut, cut, given_of, givens, letter_of};
 
-use crate::cases::{Asker, ask_coin, bound_of};
-use crate::cells::{self, Teller, Untold, count, cut_two, each_row};
+use crate::cases::ask_coin;
+use crate::cells::each_row;
 use crate::trees::{tell_marks, tell_numbers};
 use corner_lift::Case;
 use lift_cert::Bound;
@@ -17,6 +17,8 @@ use region_tree::{Base, Branch, Copier, Given, Room, Seen, Visitor, build, refin
 use std::alloc::{AllocError, Global};
 use std::fmt::Write;
 use std::string::String;
+use test_cases::{Asker, bound_of};
+use test_cells::{Teller, Untold, count, cut_two};
 
 /// The coin with the bound 1/2, at precision 4: p's interval, the depth, the least precision, the depth at which the tree is
 /// cut that is gone on from, and in preorder the tree that is shown. A leaf of the first tree has the letter of its kind after
@@ -278,6 +280,8 @@ struct Asked {
 }
 
 impl Asker for Asked {
+    type Told = String;
+
     /// The tree of a case that goes on from the one which is cut, for the bound 1/2.
     fn ask(&self, alloc: Global, case: &Case) -> Result<String, Untold> {
         if self.from < 1 || self.from > case.w() {
@@ -307,7 +311,7 @@ impl Teller for Refined {
 
     fn tell(&self, alloc: Global, asked: &str) -> Result<String, Untold> {
         let (region, depth, rest) = cut_two(asked);
-        let (from, cut) = cells::cut(rest);
+        let (from, cut) = test_cells::cut(rest);
         let asked = Asked {
             from: count(from),
             depth: count(cut),

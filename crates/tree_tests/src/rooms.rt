@@ -3,8 +3,8 @@
 ghost use Rattle.lift_model.specs.Links.{AreLinks};
 ghost use Rattle.region_tree.specs.Rooms.{IsMadeFor};
 
-use crate::cases::{Asker, ask_coin, bound_of};
-use crate::cells::{Teller, Untold, cut, each_row, number};
+use crate::cases::ask_coin;
+use crate::cells::each_row;
 use corner_lift::Case;
 use lift_base::MemSink;
 use lift_cert::Bound;
@@ -13,6 +13,8 @@ use plift_top::write_report;
 use region_tree::Room;
 use std::alloc::{AllocError, Global};
 use std::string::String;
+use test_cases::{Asker, bound_of};
+use test_cells::{Teller, Untold, cut, number};
 
 /// The report of the coin for p from 1/10 to 9/10, the bound 1/2, precision 4 and depth 2.
 const REPORT: &[u8] = b"plift 1\nkind dtmc\nparameters 1 p\ncommon 1\nstates 3\ninit 0\ngoal 1 1\n\
@@ -95,6 +97,8 @@ struct Reports {
 }
 
 impl Asker for Reports {
+    type Told = String;
+
     fn ask(&self, alloc: Global, case: &Case) -> Result<String, Untold> {
         case_told(alloc, case, self.bounds, self.failing)
     }

@@ -3,8 +3,8 @@
 ghost use Rattle.std.specs.Prelude.{◌≤◌};
 ghost use Rattle.lift_model.specs.Links.{AreLinks};
 
-use crate::cases::{Asker, ask_coin, bound_of};
-use crate::cells::{Teller, Untold, count, cut_two, each_row};
+use crate::cases::ask_coin;
+use crate::cells::each_row;
 use corner_lift::Case;
 use lift_cert::Bound;
 use lift_model::Links;
@@ -12,6 +12,8 @@ use region_tree::{Branch, build};
 use std::alloc::{AllocError, Global};
 use std::fmt::Write;
 use std::string::String;
+use test_cases::{Asker, bound_of};
+use test_cells::{Teller, Untold, count, cut_two};
 
 /// The coin with the bound 1/2, at precision 4: p's interval, the depth, the least precision, and the tree in preorder.
 /// A decided leaf has its precision before it. One that accepts has the numbers of the states, and one that rejects e
@@ -103,6 +105,8 @@ struct Least {
 }
 
 impl Asker for Least {
+    type Told = String;
+
     fn ask(&self, alloc: Global, case: &Case) -> Result<String, Untold> {
         let from = self.from;
         if from < 1 || from > case.w() {

@@ -3,8 +3,8 @@
 #![tactic(auto)]
 
 #[cfg(test)]
-mod pictures;
+mod cells;
 #[cfg(test)]
-mod rows;
+mod pictures;
 #[cfg(test)]
 mod views;

@@ -1,7 +1,8 @@
 // The rectangles of pictures.
-use crate::rows::{Judge, each_row};
+use crate::cells::each_claim;
 use lift_base::{MemSink, Text};
 use std::alloc::{AllocError, Global};
+use test_cells::{Claim, Untold};
 use view_map::{ReportMap, read_map, slice_of};
 use view_text::Picture;
 
@@ -109,13 +110,13 @@ fn is_drawn(alloc: Global, text: &[u8], part: &str) -> Result<bool, AllocError> 
 
 struct Drawn;
 
-impl Judge for Drawn {
-    fn holds(&self, alloc: Global, row: &str) -> Result<bool, AllocError> {
+impl Claim for Drawn {
+    fn holds(&self, alloc: Global, row: &str) -> Result<bool, Untold> {
         let Some((name, part)) = row.split_once(" | ") else {
             return Ok(false);
         };
         match find_report(name) {
-            Some(report) => is_drawn(alloc, &lines_of(alloc, report)?, part),
+            Some(report) => Ok(is_drawn(alloc, &lines_of(alloc, report)?, part)?),
             None => Ok(false),
         }
     }
@@ -123,7 +124,7 @@ impl Judge for Drawn {
 
 #[test]
 fn pictures_have_rectangles(rt: HostRuntime) {
-    each_row(&rt, rt.alloc(), PICTURES, &Drawn);
+    each_claim(&rt, rt.alloc(), PICTURES, &Drawn);
 }
 
 // Whether the report of that name, which has to be short, has no map.

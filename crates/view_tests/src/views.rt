@@ -1,9 +1,10 @@
 // Runs of the program that shows reports, and what they are compared with.
+use crate::cells::each_claim;
 use crate::pictures::{find_report, is_within, lines_of};
-use crate::rows::{Judge, each_row};
 use check_notes::Status;
 use lift_base::{MemSink, MemSource};
 use std::alloc::{AllocError, Global};
+use test_cells::{Claim, Untold};
 use view_follow::Lines;
 use view_top::run;
 
@@ -205,26 +206,26 @@ fn is_answered(alloc: Global, want: Option<Want<'_>>) -> Result<bool, AllocError
 
 struct Shown;
 
-impl Judge for Shown {
-    fn holds(&self, alloc: Global, row: &str) -> Result<bool, AllocError> {
-        is_answered(alloc, view_of(row))
+impl Claim for Shown {
+    fn holds(&self, alloc: Global, row: &str) -> Result<bool, Untold> {
+        Ok(is_answered(alloc, view_of(row))?)
     }
 }
 
 #[test]
 fn views_are_written(rt: HostRuntime) {
-    each_row(&rt, rt.alloc(), VIEWS, &Shown);
+    each_claim(&rt, rt.alloc(), VIEWS, &Shown);
 }
 
 struct Faulty;
 
-impl Judge for Faulty {
-    fn holds(&self, alloc: Global, row: &str) -> Result<bool, AllocError> {
-        is_answered(alloc, fault_of(row))
+impl Claim for Faulty {
+    fn holds(&self, alloc: Global, row: &str) -> Result<bool, Untold> {
+        Ok(is_answered(alloc, fault_of(row))?)
     }
 }
 
 #[test]
 fn faults_are_told(rt: HostRuntime) {
-    each_row(&rt, rt.alloc(), FAULTS, &Faulty);
+    each_claim(&rt, rt.alloc(), FAULTS, &Faulty);
 }

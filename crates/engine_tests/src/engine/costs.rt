@@ -3,7 +3,7 @@
 ghost use Rattle.std.specs.Prelude.{◌≤◌};
 ghost use Rattle.corner_lift.specs.Case.{most_precision};
 
-use crate::cells::{Teller, Untold, count, cut_three, each_row, first_word};
+use crate::cells::each_row;
 use crate::engine::roots::{Engine, Lanes, Root, find_over};
 use crate::example::lines_of;
 use corner_lift::Lifted;
@@ -14,6 +14,7 @@ use lift_model::Model;
 use rounded_iter::least_priced;
 use std::alloc::{AllocError, Global};
 use std::string::String;
+use test_cells::{Teller, Untold, count, cut_three, first_word};
 
 /// The choices of state 0 and of a state 3, if there is one; the costs of the states 0, 1, 2, the goal being 1, and that
 /// of state 3 with its line; the precision; the cap; and the least priced vector for p from 2/5 to 3/5, or `none`.

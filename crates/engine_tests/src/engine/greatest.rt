@@ -1,11 +1,12 @@
 //! Tests of greatest lower vectors.
 
-use crate::cells::{Teller, Untold, each_row};
+use crate::cells::each_row;
 use crate::engine::roots::{Engine, Lanes, Root, find_text};
 use crate::example::process_of;
 use lower_cert::{Rate, greatest_reject, greatest_reject_above};
 use std::alloc::Global;
 use std::string::String;
+use test_cells::{Teller, Untold};
 
 /// The region of the tables.
 const REGION: &[u8] = b"2/5<=p<=3/5";

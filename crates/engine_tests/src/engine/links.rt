@@ -3,12 +3,13 @@
 ghost use Rattle.std.specs.Prelude.{◌<◌};
 ghost use Rattle.lift_model.specs.Links.{AreLinks, HasChoice, state_count};
 
-use crate::cells::{Teller, Untold, count, each_row};
+use crate::cells::each_row;
 use crate::example::model_of;
 use lift_model::{Links, Model};
 use std::alloc::{AllocError, Global};
 use std::fmt::Write;
 use std::string::String;
+use test_cells::{Teller, Untold, count};
 
 /// A process with rows that have the same polynomials, one that differs in a coefficient of each entry,
 /// states with a self loop, and one that nothing leads to.

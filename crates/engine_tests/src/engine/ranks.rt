@@ -1,10 +1,11 @@
 //! Tests of ranks by stages.
 
-use crate::cells::{Teller, Untold, each_row};
+use crate::cells::each_row;
 use crate::engine::roots::{Engine, Lanes, Root, find_text};
 use robust_rank::attract;
 use std::alloc::Global;
 use std::string::String;
+use test_cells::{Teller, Untold};
 
 /// What stands before the choices of states 2 and 3: state 0 has two choices that lead to the goal
 /// state 1, and a third that stays.

@@ -8,11 +8,12 @@ ghost use Rattle.corner_lift.specs.Case.{most_precision};
 ghost use Rattle.corner_lift.specs.Table.{IsTable};
 ghost use Rattle.engine_tests.specs.Lane.{AreLanes};
 
-use crate::cells::Untold;
-use crate::example::{Asker, ask_over, ask_text, table_of};
+use crate::example::{ask_text, table_of};
 use corner_lift::Case;
 use lift_model::{Links, Model};
 use std::alloc::{AllocError, Global};
+use test_cases::{Asker, Scope, ask_over};
+use test_cells::Untold;
 
 /// A case with what is looked up of its model, and the table of its root.
 #[derive(Clone, Copy)]
@@ -153,7 +154,12 @@ pub(crate) fn find_over<E: Engine>(
     requires low { 1 ≤ w }
     requires high { w ≤ most_precision }
 {
-    ask_over(alloc, model, region, w, &OnRoot { engine })
+    let scope = Scope {
+        region,
+        depth: 0,
+        w,
+    };
+    ask_over(alloc, model, scope, &OnRoot { engine })
 }
 
 /// The same of the model of a text.

@@ -5,7 +5,7 @@ ghost use Rattle.lift_grid.specs.Rectangle.{spans_of, sides_of};
 ghost use Rattle.corner_lift.specs.Case.{most_precision};
 ghost use Rattle.rounded_iter.specs.Watching.{CanIterate};
 
-use crate::cells::{Teller, Untold, count, cut_three, each_row, signed};
+use crate::cells::each_row;
 use crate::engine::roots::{Engine, Lanes, Root, find_text};
 use crate::example::process_of;
 use corner_lift::Lifted;
@@ -14,6 +14,7 @@ use rounded_iter::least_bound;
 use std::alloc::{AllocError, Global};
 use std::fmt::Write;
 use std::string::String;
+use test_cells::{Teller, Untold, count, cut_three, signed};
 
 /// The choices of state 0 and of a state 3, if there is one; the ranks, `-` where a state has none; the precision and
 /// the limit; and four least bounds for p from 2/5 to 3/5, or `above` where the initial state's number is above the

@@ -8,7 +8,7 @@ ghost use Rattle.corner_lift.specs.Case.{corner_count};
 ghost use Rattle.corner_lift.specs.Certificate.{AreNumbers};
 ghost use Rattle.corner_lift.specs.Lifted.{IsLiftedTo};
 
-use crate::cells::{Teller, Untold, cut, each_row};
+use crate::cells::each_row;
 use crate::engine::roots::{Engine, Lanes, Root, find_text};
 use crate::example::chain_of;
 use corner_lift::{LaneSum, Lifted, has_short_sums, rows_at_corners};
@@ -16,6 +16,7 @@ use lift_model::{OnlyRow, PairRow};
 use std::alloc::{AllocError, Global};
 use std::fmt::Write;
 use std::string::String;
+use test_cells::{Teller, Untold, cut};
 
 /// A row of state 0 with both parameters, and a region; how many weights the table has; and of that row
 /// the whole, what the numbers 0, 16 and 0 sum to at the first and at the last corner, the least and the

@@ -3,13 +3,15 @@
 ghost use Rattle.std.specs.Prelude.{◌≡◌, length, All, IfOk};
 ghost use Rattle.engine_tests.specs.Lane.{IsInLane};
 
-use crate::cells::{Teller, Untold, cut, each_row, first_word, signed};
-use crate::example::{Asker, ask_text};
+use crate::cells::each_row;
+use crate::example::ask_text;
 use corner_lift::Case;
 use lift_cert::{Bound, Miss, meets_accept};
 use lift_frac::{Frac, read_ratio};
 use std::alloc::Global;
 use std::string::String;
+use test_cases::Asker;
+use test_cells::{Teller, Untold, cut, first_word, signed};
 
 /// The bound of a fraction from 0 to 1.
 fn bound_by(fraction: Frac) -> Option<Bound> {

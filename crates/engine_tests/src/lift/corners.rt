@@ -6,14 +6,16 @@ ghost use Rattle.lift_model.specs.Model.{choices};
 ghost use Rattle.corner_lift.specs.Case.{AreSidesInside, corner_count};
 ghost use Rattle.corner_lift.specs.Certificate.{AreNumbers};
 
-use crate::cells::{Teller, Untold, count, each_row};
-use crate::example::{case_of, model_of, root_of};
+use crate::cells::each_row;
+use crate::example::model_of;
 use corner_lift::{
     Case, corners_bound_weights, row_max, row_min, row_value, rows_at_corners, weight_into, whole,
 };
 use lift_model::Model;
 use std::alloc::Global;
 use std::string::String;
+use test_cases::{case_of, root_of};
+use test_cells::{Teller, Untold, count};
 
 /// p q, p - p q and 1 - p to the states 0, 1 and 2, of which 1 is the goal.
 const PRODUCTS: &str = "@type: DTMC;@parameters;p q;@model;state 0 init;0 : p*q;1 : p-p*q;2 : 1-p;\

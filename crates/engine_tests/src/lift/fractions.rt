@@ -1,10 +1,11 @@
 //! Tests of fractions, literals and common divisors.
 
-use crate::cells::{Teller, Untold, cut, cut_two, each_row};
+use crate::cells::each_row;
 use lift_frac::{Frac, FracError, gcd, lcm, literal_len, read_literal};
 use std::alloc::{AllocError, Global};
 use std::cmp::Ordering;
 use std::convert::Infallible;
+use test_cells::{Teller, Untold, cut, cut_two};
 
 /// The two parts of a fraction, or why there is none.
 fn shown(alloc: Global, answer: Result<Frac, FracError>) -> Result<String, AllocError> {

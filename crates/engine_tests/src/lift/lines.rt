@@ -1,10 +1,11 @@
 //! Tests of lines that are read one by one.
 
-use crate::cells::{Teller, cut, cut_three, each_row, number};
+use crate::cells::each_row;
 use lift_base::{LineError, Lines, MemSource, Piece};
 use std::alloc::{AllocError, Global};
 use std::fmt::Write;
 use std::string::String;
+use test_cells::{Teller, cut, cut_three, number};
 
 /// The bytes of a text, in which `/` stands for a line feed.
 fn bytes_of(alloc: Global, text: &str) -> Result<Vec<u8>, AllocError> {

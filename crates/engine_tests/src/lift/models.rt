@@ -1,10 +1,11 @@
 //! Tests of models.
 
-use crate::cells::{Teller, Untold, count, each_row};
+use crate::cells::each_row;
 use crate::example::model_of;
 use lift_model::{Kind, Model, plans_over_one_pick};
 use std::alloc::Global;
 use std::string::String;
+use test_cells::{Teller, Untold, count};
 
 /// A coin that may be turned: from state 0 to the goal 1 with p or with 1 - p.
 const TURNED: &str = "@type: MDP;@parameters;p;@model;state 0 init;action a;1 : p;2 : 1-p;\

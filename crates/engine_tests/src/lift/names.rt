@@ -1,9 +1,10 @@
 //! Tests of lists of names.
 
-use crate::cells::{Teller, count, cut, each_row};
+use crate::cells::each_row;
 use lift_names::Names;
 use std::alloc::{AllocError, Global};
 use std::string::String;
+use test_cells::{Teller, count, cut};
 
 /// Names that are added in turn, and whether the last one is new.
 const ADDED: &str = "\

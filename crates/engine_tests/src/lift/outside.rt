@@ -3,13 +3,14 @@ ghost use Rattle.std.specs.Prelude.{List, ℕ};
 ghost use Rattle.std.specs.List.{flat_map};
 ghost use Rattle.lift_base.specs.Word.{word_text};
 
-use crate::cells::{Teller, Untold, cut, each_row, number};
+use crate::cells::each_row;
 use lift_base::{
     MemSink, MemSource, ReadError, Sink, SureSink, SureSource, Text, Word, WriteFault, put_number,
     read_all, write_all, write_buffered, write_words,
 };
 use std::alloc::{AllocError, Global};
 use std::string::String;
+use test_cells::{Teller, Untold, cut, number};
 
 /// The number of the one call that fails.
 fn calls(alloc: Global, failing: u64) -> Result<Vec<u64>, AllocError> {

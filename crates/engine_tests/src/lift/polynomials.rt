@@ -3,11 +3,12 @@ ghost use Rattle.std.specs.Prelude.{◌≡◌, ◌<◌, [], ◌∷◌, pos, negs
 ghost use Rattle.lift_poly.specs.Arithmetic.{DividesEach};
 ghost use Rattle.lift_poly.specs.Limits.{parameter_limit};
 
-use crate::cells::{Teller, each_row};
+use crate::cells::each_row;
 use lift_poly::{MultiAffine, PolyError};
 use std::alloc::{AllocError, Global};
 use std::fmt::Write;
 use std::string::String;
+use test_cells::Teller;
 
 /// 2^125 - 1, the greatest coefficient.
 const GREATEST: i128 = 42535295865117307932921825928971026431;

@@ -3,12 +3,13 @@
 ghost use Rattle.std.specs.Prelude.{◌<◌, ◌≤◌, IsBitSet};
 ghost use Rattle.lift_grid.specs.Rectangle.{most_halvings};
 
-use crate::cells::{Teller, Untold, count, cut_two, each_row};
+use crate::cells::each_row;
 use crate::lift::names::names_of;
 use lift_grid::{Grid, Marks, Rect, Values, corner_side, read_region};
 use lift_names::Names;
 use std::alloc::{AllocError, Global};
 use std::string::String;
+use test_cells::{Teller, Untold, count, cut_two};
 
 /// A region of p and q at depth 20, and why it is refused. Each test of a clause stands before the next
 /// one, and before what stands behind the clause. 2199023255552 * 2^20 * 2 is 2^62, and so is

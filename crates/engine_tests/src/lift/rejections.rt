@@ -5,13 +5,15 @@ ghost use Rattle.lift_model.specs.Model.{is_goal};
 ghost use Rattle.corner_lift.specs.Certificate.{unmarked};
 ghost use Rattle.engine_tests.specs.Lane.{IsInLane};
 
-use crate::cells::{Teller, Untold, count, cut_three, each_row};
-use crate::example::{Asker, ask_text};
+use crate::cells::each_row;
+use crate::example::ask_text;
 use crate::lift::certificates::{COIN, bound_of, numbers_of, shown};
 use corner_lift::Case;
 use lift_cert::{Bound, Miss, meets_reject};
 use std::alloc::Global;
 use std::string::String;
+use test_cases::Asker;
+use test_cells::{Teller, Untold, count, cut_three};
 
 /// For p from 3/5 to 9/10 and at precision 4: the numbers, the pick and the rank of state 0, `e`, the
 /// bound, and the answer. State 1 is the goal, and state 2 has no rank. The weights of state 0 sum to

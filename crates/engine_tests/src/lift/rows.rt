@@ -3,13 +3,15 @@
 ghost use Rattle.std.specs.Prelude.{◌≤◌, length};
 ghost use Rattle.lift_grid.specs.Rectangle.{IsOnGrid, most_halvings};
 
-use crate::cells::{Teller, Untold, cut, each_row};
-use crate::example::{chain_of, model_of, root_of};
+use crate::cells::each_row;
+use crate::example::{chain_of, model_of};
 use lift_grid::{Grid, Rect};
 use lift_model::Model;
 use lift_rows::{RowError, admit, cases_have_distributions, first_fault_is_one};
 use std::alloc::Global;
 use std::string::String;
+use test_cases::root_of;
+use test_cells::{Teller, Untold, cut};
 
 /// The row of state 0, a region, and the first fault over it at depth 0 and precision 4.
 const FAULTS: &str = "\

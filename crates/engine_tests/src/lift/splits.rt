@@ -4,12 +4,13 @@ ghost use Rattle.std.specs.Prelude.{◌≡◌, ◌<◌, ◌^◌, length};
 ghost use Rattle.lift_grid.specs.Rectangle.{spans_of};
 ghost use Rattle.lift_grid.specs.Splitting.{HasHalvings, IsHalvable};
 
-use crate::cells::{Teller, Untold, cut, each_row};
+use crate::cells::each_row;
 use crate::lift::names::names_of;
 use lift_grid::{halves_stay_on_grid, members_are_below, narrow, read_region, split_axis};
 use lift_names::Names;
 use std::alloc::{AllocError, Global};
 use std::string::String;
+use test_cells::{Teller, Untold, cut};
 
 /// One half of a rectangle.
 fn half(alloc: Global, sides: &[i64], axis: u32, lower: bool) -> Result<Vec<i64>, AllocError>

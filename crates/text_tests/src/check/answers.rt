@@ -1,8 +1,9 @@
 // Reports with changes, and what is answered.
-use crate::cells::{Teller, Untold, cut, each_row};
+use crate::cells::each_row;
 use crate::check::reports::{answer_of, changed_report};
 use std::alloc::Global;
 use std::string::String;
+use test_cells::{Teller, Untold, cut};
 
 // Each row: the report, the changes of its lines, and the answer.
 const ANSWERS: &str = "\

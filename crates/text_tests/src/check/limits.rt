@@ -1,10 +1,11 @@
 // How many bytes may be taken, and a fault of the text before one of the source.
-use crate::cells::{Teller, Untold, cut, cut_two, each_row, number};
+use crate::cells::each_row;
 use crate::check::reports::{answer_of, changed_report, shown};
 use cert_check::check_within;
 use lift_base::MemSource;
 use std::alloc::{AllocError, Global};
 use std::string::String;
+use test_cells::{Teller, Untold, cut, cut_two, number};
 
 // Each row: the report, how many bytes may be taken, and the answer.
 const LIMITS: &str = "\

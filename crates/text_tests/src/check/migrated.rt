@@ -1,10 +1,10 @@
 // Reports of the first version, and what the second has in their place.
-use crate::cells::{Untold, cut_two};
 use crate::check::reports::changed_report;
 use cert_check::{check_text, sound_files_migrate};
 use cert_text::migrate_text;
 use lift_base::MemSink;
 use std::alloc::{AllocError, Global};
+use test_cells::{Untold, cut_two};
 
 // Each row: the report, its changes, and with them those that make its text of the second version.
 const MIGRATED: &str = "\

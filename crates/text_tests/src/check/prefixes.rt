@@ -1,8 +1,8 @@
 // Texts that are cut off, and sources that fail.
-use crate::cells::Untold;
 use crate::check::reports::{answer_of, changed_report};
 use std::alloc::{AllocError, Global};
 use std::string::String;
+use test_cells::Untold;
 
 // The answer to a text that ends too early: it is refused at the line that is due.
 fn truncated(alloc: Global, text: &[u8]) -> Result<String, AllocError> {

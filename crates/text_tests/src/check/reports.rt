@@ -1,11 +1,11 @@
 // The reports of the tests, each by its name, and what is answered to them. A semicolon stands between
 // two lines.
-use crate::cells::Untold;
 use crate::changes::changed;
 use cert_check::{CheckError, Summary, check};
 use lift_base::MemSource;
 use std::alloc::{AllocError, Global};
 use std::string::String;
+use test_cells::Untold;
 
 // COIN: a coin that is accepted. HIGH: one that is rejected. SPLIT: one whose region is halved twice,
 // with a leaf of each kind. MIDDLE: one that is left unknown. HALVED: the same, halved once. IDLE: a

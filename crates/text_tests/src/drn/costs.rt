@@ -1,10 +1,11 @@
 // Tests of the reading of model texts with rewards.
-use crate::cells::{Teller, Untold, cut, cut_two, each_row, number};
+use crate::cells::each_row;
 use crate::drn::{changed, text_of};
 use drn_read::{Costs, DrnError, read_costs};
 use lift_base::{MemSink, Word, WriteFault, write_words};
 use std::alloc::{AllocError, Global};
 use std::string::String;
+use test_cells::{Teller, Untold, cut, cut_two, number};
 
 // A loop with a reward, some of whose lines change.
 const LOOP: &[u8] =

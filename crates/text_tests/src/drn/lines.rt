@@ -2,13 +2,14 @@
 
 ghost use Rattle.std.specs.Prelude.{◌≡◌, length};
 
-use crate::cells::{Teller, Untold, cut, each_row, number};
+use crate::cells::each_row;
 use crate::drn::text_of;
 use drn_lexer::{
     LexError, Line, Place, Symbol, Word, WordForm, next_line, next_symbol, next_word, unquoted,
 };
 use std::alloc::{AllocError, Global};
 use std::string::String;
+use test_cells::{Teller, Untold, cut, number};
 
 /// Where a line begins and ends and its number, or why it is refused.
 fn shown_line(alloc: Global, answer: Result<Option<Line>, LexError>) -> Result<String, AllocError> {

@@ -1,11 +1,12 @@
 // Tests of the reading of model texts.
-use crate::cells::{Teller, Untold, cut, cut_two, each_row, number};
+use crate::cells::each_row;
 use crate::drn::{changed, text_of};
 use drn_read::read_model;
 use lift_base::{MemSink, Word, WriteFault, write_words};
 use lift_model::{Entry, Kind, Model};
 use std::alloc::{AllocError, Global};
 use std::string::String;
+use test_cells::{Teller, Untold, cut, cut_two, number};
 
 // A text, the goal's label, and the model. In order: a coin; the same with a comment, tabs and
 // carriage returns; another goal; a loop, over 2; two choices; a first choice without an action

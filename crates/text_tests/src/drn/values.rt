@@ -1,12 +1,13 @@
 //! Tests of values.
 
-use crate::cells::{Teller, cut_two, each_row, number};
+use crate::cells::each_row;
 use drn_expr::{ExprError, RatPoly, read_value};
 use drn_lexer::Line;
 use lift_names::Names;
 use std::alloc::{AllocError, Global};
 use std::fmt::Write;
 use std::string::String;
+use test_cells::{Teller, cut_two, number};
 
 /// Adds the names `p` and `q`.
 fn push_names(names: &mut Names) -> Result<(), AllocError> {

@@ -1,10 +1,11 @@
 //! Texts of ladders.
 ghost use Rattle.std.specs.Prelude.{◌≤◌};
 
-use crate::cells::{Teller, Untold, cut, each_row, number};
+use crate::cells::each_row;
 use lift_base::{MemSink, SureSink, write_buffered};
 use model_gen::{Ladder, generate};
 use std::alloc::{AllocError, Global};
+use test_cells::{Teller, Untold, cut, number};
 
 /// The ladder of one block.
 const ONE: &str = "\

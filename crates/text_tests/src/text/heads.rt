@@ -1,5 +1,5 @@
 // Heads with changes, and what is read of them.
-use crate::cells::{Teller, cut, each_row, number};
+use crate::cells::each_row;
 use crate::text::reports::{changed_report, fresh_lines, line_due, shown_fault};
 use cert_text::{Head, read_head};
 use lift_model::Row;
@@ -7,6 +7,7 @@ use line_text::TextSource;
 use std::alloc::{AllocError, Global};
 use std::fmt::Write;
 use std::string::String;
+use test_cells::{Teller, cut, number};
 
 // Each row: the report and the changes of its lines, and what the head tells. That is the parameters,
 // the states, the initial state, the bound, the precision, the depth, the grid, the root's sides, and

@@ -1,5 +1,5 @@
 // Nodes with changes, and what is read of them.
-use crate::cells::{Teller, each_row};
+use crate::cells::each_row;
 use crate::text::reports::{changed_report, fresh_lines, line_due, shown_fault};
 use cert_text::{Head, Node, read_head, read_node};
 use lift_base::Lines;
@@ -7,6 +7,7 @@ use line_text::TextSource;
 use std::alloc::{AllocError, Global};
 use std::fmt::Write;
 use std::string::String;
+use test_cells::Teller;
 
 // Each row: the report and the changes of its lines, and its first node, with the line behind it.
 const READ: &str = "\

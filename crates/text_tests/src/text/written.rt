@@ -1,5 +1,5 @@
 // Models that are read, and the lines of their entries as they are written.
-use crate::cells::{Teller, Untold, each_row};
+use crate::cells::each_row;
 use crate::changes::changed;
 use crate::text::reports::fresh_lines;
 use cert_text::{read_head, write_model};
@@ -7,6 +7,7 @@ use lift_base::MemSink;
 use lift_model::Model;
 use line_text::TextSource;
 use std::alloc::{AllocError, Global};
+use test_cells::{Teller, Untold};
 
 // A chain of five states with four parameters. A semicolon stands between two lines.
 const WIDE: &str = "plift 1;kind dtmc;parameters 4 p q r s;common 1;states 5;init 0;goal 1 1;\
