@@ -19,7 +19,7 @@ use Rattle.drn_read.proofs.Headers.{header_at, same_header, count_of, places_in,
 
 -- ---- a section that a line begins
 
-either : {A : Type 0} (c : Bool) (x : A) → (if c then x else x) ≡ x
+pub either : {A : Type 0} (c : Bool) (x : A) → (if c then x else x) ≡ x
 either true x = refl
 either false x = refl
 

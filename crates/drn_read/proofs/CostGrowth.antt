@@ -27,7 +27,7 @@ use Rattle.drn_read.specs.declared.section.Section.TheVariants.{ModelType, Value
 use Rattle.drn_read.proofs.Cuts.{longer, begun, onto_last, parts_new, parts_grow, Ends, nothing, ending, ends, onto_last-ends}
 use Rattle.drn_read.proofs.Declared.{first_none}
 use Rattle.drn_read.proofs.Headers.{flat_map-push, gather-push, phase-ends}
-use Rattle.drn_read.proofs.Bodies.{nothing_said, other_said, blank_said, more_said, known_section, no_section, known_phase, no_phase}
+use Rattle.drn_read.proofs.Bodies.{nothing_said, other_said, blank_said, more_said, known_section, no_section, known_phase, no_phase, either}
 use Rattle.drn_read.proofs.Growth.{plain, plain_more, plain_same, grows, skips}
 
 abbrev rewards : List ℕ → List (List ℕ) → List CostData → Rewards
@@ -52,10 +52,6 @@ rewards-ends reward front p =
     ∙ ap (rewards reward (reward_names front ++ reward_names_in p)) (gather-push (λ before part. costs_in reward before (state_lines part)) [] front p)
 
 -- ---- a line that begins a section
-
-either : {A : Type 0} (c : Bool) (x : A) → (if c then x else x) ≡ x
-either true x = refl
-either false x = refl
 
 no_names : (l : TextLine) → reward_names_in (begun l) ≡ []
 no_names l = either (is_section RewardModels (begun l)) []

@@ -28,6 +28,7 @@ use Rattle.drn_read.specs.declared.section.Phase.{Phase}
 use Rattle.drn_read.specs.declared.section.Phase.TheVariants as phase
 use Rattle.drn_read.proofs.CostGrowth.{tells, quiet}
 use Rattle.drn_read.proofs.Stated.{words_digit}
+use Rattle.drn_read.proofs.Declared.{told_none}
 
 alone : (o : Option DrnError) → first_of (o ∷ []) ≡ o
 alone None = refl
@@ -96,10 +97,6 @@ pub model_told : (s : CostSaid) (source : TextLine) (cursor : Cursor) → IsSour
     → told source.number (line_rewards_fault s source) ≡ told source.number (words_rewards_fault (length s.rewards.names) s.said.header s.said.states (words (rest cursor)))
 model_told s source cursor spans e =
     ap (told source.number) (in_model s source e ∙ ap (λ (text : List ℕ). words_rewards_fault (length s.rewards.names) s.said.header s.said.states (words text)) (sym spans.says))
-
-told_none : (number : ℕ) (cause : Option DrnCause) → told number cause ≡ None → cause ≡ None
-told_none number None e = refl
-told_none number (Some cause) e = cc
 
 pub model_calm : (s : CostSaid) (source : TextLine) (cursor : Cursor) → IsSource cursor source → s.said.header.phase ≡ phase.Model
     → told source.number (words_rewards_fault (length s.rewards.names) s.said.header s.said.states (words (rest cursor))) ≡ None → line_rewards_fault s source ≡ None

@@ -1,6 +1,5 @@
 -- Small texts with rewards, read by computation.
 use Rattle.std.specs.Prelude.{◌≡◌, refl, ℕ, pos, negsuc, true, false, List, [], ◌∷◌, ◌++◌, codes, Ok, Err}
-use Rattle.std.specs.List.{flat_map}
 use Rattle.lift_frac.specs.Gcd.{gcd}
 use Rattle.lift_model.specs.declared.kind.Kind.TheVariants.{Dtmc}
 use Rattle.drn_lexer.specs.Cutting.{pieces_behind}
@@ -10,9 +9,7 @@ use Rattle.drn_expr.specs.Expansion.{expansion}
 use Rattle.drn_read.specs.Reading.{said, end_fault, model}
 use Rattle.drn_read.specs.Costs.{Asked, cost_said, judge_costs, first_cost_fault, drn_costs}
 use Rattle.drn_read.specs.declared.error.DrnCause.TheVariants.{UnknownReward, RewardSyntax, ActionReward}
-
-abbrev joined : List (List ℕ) → List ℕ
-joined ls = flat_map (λ l. l ++ 10 ∷ []) ls
+use Rattle.drn_read.proofs.Samples.{joined}
 
 -- a coin with two rewards, the line of its first state, and the lines behind it
 abbrev coin : List ℕ → List (List ℕ) → List ℕ

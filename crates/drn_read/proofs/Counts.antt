@@ -22,7 +22,7 @@ both false b e = cc
 digit_below : (d : ℕ) → is_ascii_digit d ≡ true → digit_value d < 10
 digit_below d h = grind (arith, nat_tests)
 
-all_digits : (word : List ℕ) → list_all is_ascii_digit word ≡ true → AllDigits 10 word
+pub all_digits : (word : List ℕ) → list_all is_ascii_digit word ≡ true → AllDigits 10 word
 all_digits [] h = tt
 all_digits (d ∷ ds) h = let parts = both (is_ascii_digit d) (list_all is_ascii_digit ds) h in (digit_below d parts.0, all_digits ds parts.1)
 

@@ -3,13 +3,11 @@ use Prim.Native.Char.{code}
 use Rattle.std.proofs.Common.{◌≡◌, ◌==◌, ◌&&◌, ◌||◌, ◌≤◌, ◌<◌, ◌+◌, ◌^◌, ℕ, length-take-le, one-add, Bool, true, false, cond, List, [], ◌∷◌, length, take, drop, Option, Some, None, refl, sym, ◌∙◌, ap, arith}
 use Rattle.std.specs.Prelude.{is_some, nat_lt, not}
 use Rattle.std.specs.List.{list_all, prefix_len}
-use Rattle.std.specs.Char.{is_ascii_digit, digit_value}
-use Rattle.std.specs.Int.{IsInRange}
-use Rattle.std.specs.Str.Parse.{digits_value, AllDigits}
+use Rattle.std.specs.Char.{is_ascii_digit}
+use Rattle.std.specs.Str.Parse.{digits_value}
 use Rattle.std.proofs.Math.Nat.{pow-le-pow_right}
 use Rattle.std.proofs.lemmas.Bool.Decides.{nat_tests}
 use Rattle.std.proofs.lemmas.Int.Digits.{digits_value-lt}
-use Rattle.std.proofs.lemmas.Str.{digit_value_digit}
 use Rattle.lift_frac.specs.Parts.{capped}
 use Rattle.lift_bytes.specs.Bytes.{is_blank, first_passes, behind}
 use Rattle.drn_read.specs.Faults.{when}
@@ -20,19 +18,9 @@ use Rattle.drn_read.specs.Shown.{rest}
 use Rattle.drn_read.specs.ModelSteps.{IsTransitionFront}
 use Rattle.drn_read.specs.declared.front.TransitionFront.{TransitionFront}
 use Rattle.drn_read.specs.declared.error.DrnCause.TheVariants.{Syntax}
+use Rattle.drn_read.proofs.Counts.{all_digits}
 
 -- ---- digits
-
-digit_below : (d : ℕ) → is_ascii_digit d ≡ true → digit_value d < 10
-digit_below d is = let range : IsInRange 48 57 d = grind (arith, nat_tests) in omega (arith, digit_value_digit d range, range)
-
-all_digits : (digits : List ℕ) → list_all is_ascii_digit digits ≡ true → AllDigits 10 digits
-all_digits [] all = tt
-all_digits (d ∷ ds) all = by_first (is_ascii_digit d) refl all (all_digits ds)
-  where
-    by_first : (b : Bool) → is_ascii_digit d ≡ b → (b && list_all is_ascii_digit ds) ≡ true → (list_all is_ascii_digit ds ≡ true → AllDigits 10 ds) → AllDigits 10 (d ∷ ds)
-    by_first true is rest step = (digit_below d is, step rest)
-    by_first false is rest step = cc
 
 -- at most twenty digits write a number below 10^20
 pub few_digits : (digits : List ℕ) → list_all is_ascii_digit digits ≡ true → length digits ≤ most_digits → capped (10 ^ most_digits) (digits_value 10 digits) ≡ Some (digits_value 10 digits)

@@ -4,7 +4,6 @@ pub mod Choices
 pub mod CostEnds
 pub mod CostGrowth
 pub mod CostLines
-pub mod CostLoop
 pub mod CostRunning
 pub mod CostSame
 mod CostSamples
@@ -13,6 +12,7 @@ pub mod Cuts
 pub mod Declared
 pub mod Ends
 pub mod Entries
+pub mod FirstFault
 pub mod FirstWords
 pub mod Growth
 pub mod Headers

@@ -7,7 +7,7 @@ use Rattle.lift_bytes.specs.Bytes.{first_passes}
 use Rattle.std.specs.List.{list_all}
 use Rattle.std.specs.Char.{is_ascii_digit}
 use Rattle.drn_lexer.specs.Lines.{TextLine, content, is_blank_line}
-use Rattle.drn_read.specs.Faults.{when, first_of, told}
+use Rattle.drn_read.specs.Faults.{when, first_of}
 use Rattle.drn_read.specs.Sections.{section_of, is_same, is_head, kind_of, type_text}
 use Rattle.drn_read.specs.Judging.{Said, line_fault, head_fault, has}
 use Rattle.drn_read.specs.Keeping.{with_line, with_head, with_section, with_names, with_state_count, with_choice_count, with_placeholder, states_with}
@@ -17,6 +17,7 @@ use Rattle.drn_read.specs.declared.section.Phase.{Phase}
 use Rattle.drn_read.specs.declared.section.Phase.TheVariants as phase
 use Rattle.drn_read.specs.declared.section.Section.{Section}
 use Rattle.drn_read.specs.declared.section.Section.TheVariants.{ModelType, Model}
+use Rattle.drn_read.proofs.Declared.{told_none}
 
 pub step_sections : (label : List ℕ) (said : Said) (l : TextLine) → said.header.phase ≡ phase.Sections → is_head l ≡ false → with_line label said l ≡ said
 step_sections label said l e f = rw (e, f) refl
@@ -55,10 +56,6 @@ pub step_model : (label : List ℕ) (said : Said) (l : TextLine) → said.header
 step_model label said l e = rw e refl
 
 -- ---- lines without fault
-
-told_none : (number : ℕ) (cause : Option DrnCause) → told number cause ≡ None → cause ≡ None
-told_none number None e = refl
-told_none number (Some cause) e = cc
 
 -- between sections a line says nothing, or it begins one
 pub blank_between : (said : Said) (l : TextLine) → said.header.phase ≡ phase.Sections → is_head l ≡ false → line_fault said l ≡ None → is_blank_line l ≡ true

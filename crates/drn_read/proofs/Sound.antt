@@ -14,12 +14,13 @@ use Rattle.drn_read.specs.Keeping.{header_with, with_line}
 use Rattle.drn_read.specs.Reading.{said, judge, first_fault, end_fault, model, ended, last_number, drn}
 use Rattle.drn_read.specs.declared.section.Phase.{Phase}
 use Rattle.drn_read.specs.declared.section.Phase.TheVariants as phase
-use Rattle.drn_read.proofs.Declared.{Stays, header_stays}
-use Rattle.drn_read.proofs.Stated.{model_stays, told_none}
+use Rattle.drn_read.proofs.Declared.{Stays, header_stays, told_none}
+use Rattle.drn_read.proofs.Stated.{model_stays}
 use Rattle.drn_read.proofs.Kept.{Laws, IsValue, IsState, AreStates, IsSound}
 use Rattle.drn_read.proofs.Whole.{read_model_is}
 use Rattle.drn_read.proofs.Growth.{skips, grows}
-use Rattle.drn_read.proofs.Running.{goes_on as behind_calm, ends_at, judged_own, judged_plain}
+use Rattle.drn_read.proofs.FirstFault.{goes_on as behind_calm, ends_at, judged_own, judged_plain}
+use Rattle.drn_read.proofs.Running.{plain}
 
 no_states : (kind : Option Kind) (count : ℕ) → AreStates kind count []
 no_states kind count = record {
@@ -76,12 +77,12 @@ line_sound laws label before l e h = by_own (own_fault l) refl
     by_comment : (b : Bool) → own_fault l ≡ None → is_comment l ≡ b → IsSound (said label (before ++ l ∷ []))
     by_comment true own is = subst IsSound (sym (skips label before l is)) h
     by_comment false own is =
-        let calm : line_fault (said label before) l ≡ None = sym (judged_plain label before l own is) ∙ e in
+        let calm : line_fault (said label before) l ≡ None = sym (judged_plain (plain label) before l own is) ∙ e in
         subst IsSound (sym (grows label before l is calm)) (goes_on laws label (said label before) l h calm)
 
     by_own : (o : Option LexError) → own_fault l ≡ o → IsSound (said label (before ++ l ∷ []))
     by_own None own = by_comment (is_comment l) own refl
-    by_own (Some fault) own = let wrong = judged_own label before l fault own in cc
+    by_own (Some fault) own = let wrong = judged_own (plain label) before l fault own in cc
 
 lines_sound : (laws : Laws) (label : List ℕ) (before ls : List TextLine) → first_fault label before ls ≡ None → IsSound (said label before) → IsSound (said label (before ++ ls))
 lines_sound laws label before [] e h = subst (λ ls. IsSound (said label ls)) (sym (append-nil before)) h
@@ -90,8 +91,8 @@ lines_sound laws label before (l ∷ ls) e h = by_judge (judge label before l) r
     by_judge : (o : Option DrnError) → judge label before l ≡ o
         → (first_fault label (before ++ l ∷ []) ls ≡ None → IsSound (said label (before ++ l ∷ [])) → IsSound (said label ((before ++ l ∷ []) ++ ls))) → IsSound (said label (before ++ l ∷ ls))
     by_judge None is rest =
-        subst (λ ls. IsSound (said label ls)) (append_assoc before (l ∷ []) ls) (rest (sym (behind_calm label before l ls is) ∙ e) (line_sound laws label before l is h))
-    by_judge (Some fault) is rest = let wrong = ends_at label before l ls fault is in cc
+        subst (λ ls. IsSound (said label ls)) (append_assoc before (l ∷ []) ls) (rest (sym (behind_calm (plain label) before l ls is) ∙ e) (line_sound laws label before l is h))
+    by_judge (Some fault) is rest = let wrong = ends_at (plain label) before l ls fault is in cc
 
 ended_is : (laws : Laws) (number : ℕ) (kept : Said) (m : ModelData) → IsSound kept → ended number kept ≡ Ok m → IsReadModel m
 ended_is laws number kept m h e = by_end (end_fault number kept) refl e

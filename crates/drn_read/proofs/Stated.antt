@@ -32,10 +32,11 @@ use Rattle.drn_read.specs.declared.error.DrnCause.{DrnCause}
 use Rattle.drn_read.specs.declared.error.DrnCause.TheVariants.{Syntax, UnknownPlace, UnknownSection, StateOrder, ExtraChoice, NoChoice, RepeatedTarget, LimitStates, LimitChoices, LimitTransitions}
 use Rattle.drn_read.specs.declared.error.DrnError.{DrnError}
 use Rattle.drn_read.specs.declared.state.Transition.{Transition}
-use Rattle.drn_read.proofs.Declared.{first_none, when_none, fault_none, value_over}
+use Rattle.drn_read.proofs.Declared.{first_none, when_none, fault_none, value_over, told_none}
 use Rattle.drn_read.proofs.Kept.{Laws, IsValue, IsChoice, IsState, AreStates}
 use Rattle.drn_read.proofs.Lists.{split, last-push, on_last-push, All-front, All-end, any_false, find_keeps}
 use Rattle.lift_model.specs.Valid.{most_transitions, most_choices, most_states}
+use Rattle.drn_read.proofs.Tallies.{open_is}
 
 -- ---- a changed last state
 
@@ -52,9 +53,6 @@ changed kind count front s t h is few_choices few_transitions = record {
 
 the_last : (kind : Option Kind) (count : ℕ) (front : List StateText) (s : StateText) → AreStates kind count (front ++ s ∷ []) → IsState kind count s
 the_last kind count front s h = All-end (IsState kind count) front s h.each
-
-open_is : (front : List StateText) (s : StateText) → open_choice (front ++ s ∷ []) ≡ last s.choices
-open_is front s = ap (option_and_then (λ (u : StateText). last u.choices)) (last-push front s)
 
 none_last : {A : Type 0} (xs : List A) → is_some (last xs) ≡ false → length xs ≡ 0
 none_last [] e = refl
@@ -264,10 +262,6 @@ words_digit c name (b ∷ tail) above e =
     by_blank false is ne =
         let word : List ℕ = b ∷ take (word_front b tail).0 tail in
         false_from_ne_true (bytes_eq word (c ∷ name)) (λ t. let same = (bytes_eq-Decides word (c ∷ name)).0 t in ne (cc))
-
-pub told_none : (number : ℕ) (cause : Option DrnCause) → told number cause ≡ None → cause ≡ None
-told_none number None e = refl
-told_none number (Some cause) e = cc
 
 number_small : (before : ℕ) (w : Piece WordKind) (form : WordKind) → number_fault before (record w { form = form }) ≡ None → before < most_states
 number_small before w (Err fault) e = cc

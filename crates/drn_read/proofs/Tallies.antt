@@ -33,7 +33,7 @@ record Changed (old new : List StateText) (s t : StateText) (choices transitions
   pub was_open : open_choice old ≡ last s.choices
   pub is_open : open_choice new ≡ last t.choices
 
-open_is : (front : List StateText) (s : StateText) → open_choice (front ++ s ∷ []) ≡ last s.choices
+pub open_is : (front : List StateText) (s : StateText) → open_choice (front ++ s ∷ []) ≡ last s.choices
 open_is front s = ap (option_and_then (λ (u : StateText). last u.choices)) (last-push front s)
 
 changed : (front : List StateText) (s t : StateText) (a b : ℕ) → length t.choices ≡ length s.choices + a → sum_by length t.choices ≡ sum_by length s.choices + b

@@ -1,9 +1,5 @@
 -- How the code's pieces of a text with rewards are seen. No public clause rests on it.
-use Rattle.std.specs.Prelude.{◌≡◌, ◌≢◌, ◌≤◌, ℕ, pos, ◌≤ℤ◌, List, Result, Ok, Err, drop, Option, Some, None, if◌then◌else◌}
-use Rattle.lift_frac.specs.Frac.{answer_of}
-use Rattle.lift_frac.specs.Ratio.{Ratio}
-use Rattle.lift_frac.specs.declared.frac.Frac.{Frac}
-use Rattle.lift_frac.specs.declared.error.FracError.{FracError}
+use Rattle.std.specs.Prelude.{◌≡◌, ◌≢◌, ℕ, List, Result, Ok, Err, drop, Option, Some, None, if◌then◌else◌}
 use Rattle.drn_lexer.specs.Cutting.{Piece}
 use Rattle.drn_lexer.specs.Words.{WordKind}
 use Rattle.drn_read.specs.States.{begins_with}

@@ -100,23 +100,29 @@ first_at_bound k spans bound x (Row s a c left right) before miss = absurd miss
 first_at_bound k spans bound x (Unranked s value) before miss = absurd miss
 first_at_bound k spans bound x (Rate s a c weight e whole) before miss = absurd miss
 
-module _ (parameters : ParametersAreTheRoots) (k : CaseData) (spans : Spans) (within : Within spans k.root) (x : List ℤ) where
-  same_parameters : (s a : ℕ) → parameter_count spans (support (row_at k.model s a)) ≡ parameter_count k.root (support (row_at k.model s a))
+-- whether a state is one of so many
+pub in_or_past : (s count : ℕ) → (s < count) ⊎ (count ≤ s)
+in_or_past s count = grind arith
+
+-- a row has as many parameters over a rectangle inside the root as over the root
+module _ (parameters : ParametersAreTheRoots) (k : CaseData) (spans : Spans) (within : Within spans k.root) where
+  pub same_parameters : (s a : ℕ) → parameter_count spans (support (row_at k.model s a)) ≡ parameter_count k.root (support (row_at k.model s a))
   same_parameters s a = parameters k spans (row_at k.model s a) within
 
-  same_whole : (s a : ℕ) → whole k.model k.d spans (row_at k.model s a) ≡ row_whole k s a
+  pub same_whole : (s a : ℕ) → whole k.model k.d spans (row_at k.model s a) ≡ row_whole k s a
   same_whole s a = ap (λ n. k.model.common *ℤ power k.d n) (same_parameters s a)
 
+module _ (parameters : ParametersAreTheRoots) (k : CaseData) (spans : Spans) (within : Within spans k.root) (x : List ℤ) where
   -- at the corners of the rectangle, or of the root, which are as many
   pub row_from_means : (s a : ℕ) → MeansAtMost k spans (row_at k.model s a) x (number x s) → IsAcceptedRow k spans x s a
   row_from_means s a means c lt =
-      let here = means c (subst (λ n. c < 2 ^ n) (sym (same_parameters s a)) lt) in
-      omega (arith, linear, here, ap (λ n. number x s *ℤ n) (same_whole s a))
+      let here = means c (subst (λ n. c < 2 ^ n) (sym (same_parameters parameters k spans within s a)) lt) in
+      omega (arith, linear, here, ap (λ n. number x s *ℤ n) (same_whole parameters k spans within s a))
 
   pub means_from_row : (s a : ℕ) → IsAcceptedRow k spans x s a → MeansAtMost k spans (row_at k.model s a) x (number x s)
   means_from_row s a accepted c lt =
-      let here = accepted c (subst (λ n. c < 2 ^ n) (same_parameters s a) lt) in
-      omega (arith, linear, here, ap (λ n. number x s *ℤ n) (same_whole s a))
+      let here = accepted c (subst (λ n. c < 2 ^ n) (same_parameters parameters k spans within s a) lt) in
+      omega (arith, linear, here, ap (λ n. number x s *ℤ n) (same_whole parameters k spans within s a))
 
   misses_none : (bound : Bound) (m : Miss) → IsAccepting k spans bound x → IsFirstAcceptMiss k spans bound x m → ⊥
   misses_none bound (Goal s value) accepting miss = miss.1.wrong (miss.1.value_is ∙ accepting.upper.goal s miss.1.goal)
@@ -125,10 +131,6 @@ module _ (parameters : ParametersAreTheRoots) (k : CaseData) (spans : Spans) (wi
   misses_none bound (Limit left right) accepting miss = omega (arith, linear, accepting.limit, miss.1.left_is, miss.1.right_is, miss.1.wrong)
   misses_none bound (Unranked s value) accepting miss = miss
   misses_none bound (Rate s a c weight e whole) accepting miss = miss
-
-  -- whether a state is one of so many
-  in_or_past : (s count : ℕ) → (s < count) ⊎ (count ≤ s)
-  in_or_past s count = grind arith
 
   -- a vector whose states all pass is an upper vector
   pub upper_from_states : IsCase k → AreNumbers k x → AreAcceptedBefore k spans x (length k.model.states) → IsUpper k spans x

@@ -1,13 +1,13 @@
 -- The tests of a rejecting certificate: the first that fails is one, and a certificate that passes all is a rejecting one.
-use Rattle.std.proofs.Common.{◌≡◌, ◌^◌, ◌<◌, ◌≤◌, ℕ, Bool, true, false, List, [], ◌∷◌, length, All, ℤ, pos, ◌*ℤ◌, ◌≤ℤ◌, ◌<ℤ◌, nat_lt, cond, refl, sym, ap, subst, ◌∙◌, arith, ◌⊎◌, ⊎_elim, Result, Ok, Err}
+use Rattle.std.proofs.Common.{◌≡◌, ◌^◌, ◌<◌, ◌≤◌, ℕ, Bool, true, false, List, [], ◌∷◌, length, All, ℤ, pos, ◌*ℤ◌, ◌≤ℤ◌, ◌<ℤ◌, nat_lt, cond, refl, sym, ap, subst, ◌∙◌, arith, ⊎_elim, Result, Ok, Err}
 use Rattle.std.specs.Prelude.{◌↔◌, IsOk, IsErr, MatchResult}
 use Rattle.std.proofs.lemmas.List.{get_or_past, get_or_default}
 use Rattle.lift_poly.proofs.Ring.{linear, mul-zero}
 use Rattle.lift_grid.specs.Rectangle.{Spans}
 use Rattle.lift_grid.specs.Tree.{RejectData}
-use Rattle.lift_model.specs.Process.{Move, weighted_sum, power}
+use Rattle.lift_model.specs.Process.{Move, weighted_sum}
 use Rattle.lift_model.specs.Model.{support, is_goal, choices, row_at, moves_at}
-use Rattle.corner_lift.specs.Corner.{corner, corner_sum, parameter_count, whole}
+use Rattle.corner_lift.specs.Corner.{corner, corner_sum, parameter_count}
 use Rattle.corner_lift.specs.Case.{CaseData, IsCase, IsInside, Within, number, row_whole, corner_count}
 use Rattle.corner_lift.specs.Certificate.{unmarked, mark, ranked_below, IsLower, IsHeld}
 use Rattle.corner_lift.specs.Laws.{ParametersAreTheRoots, SumsRise, WeightsSumToWhole}
@@ -18,7 +18,8 @@ use Rattle.lift_cert.specs.RejectMiss.{HasRejectForm, IsUnmarked, IsMarked, IsSu
 use Rattle.lift_cert.specs.declared.bound.Bound.{Bound}
 use Rattle.lift_cert.specs.declared.miss.Miss.{Miss}
 use Rattle.lift_cert.specs.declared.miss.Miss.TheVariants.{Goal, Unranked, Row, Rate, Limit}
-use Rattle.lift_cert.proofs.Misses.{first_is_one}
+use Rattle.lift_cert.proofs.Misses.{first_is_one, in_or_past, same_parameters, same_whole}
+use Rattle.lift_cert.proofs.Holding.{either_way}
 
 -- ---- one first
 
@@ -156,40 +157,26 @@ form_marks k r form s d lt =
     (either_way (is_goal k.model s)
     (λ e. omega (arith, (form.goal s e).0))
     (λ e. ⊎_elim (λ (none : IsUnmarked r s). omega (arith, none.0)) (λ (is : IsMarked k r s). omega (arith, is.rank.1, form.bounds.2)) (form.others s e)))
-  where
-    either_way : {P : Type 0} (b : Bool) → (b ≡ true → P) → (b ≡ false → P) → P
-    either_way true f g = f refl
-    either_way false f g = g refl
-
--- whether a number is below another
-in_or_past : (s count : ℕ) → (s < count) ⊎ (count ≤ s)
-in_or_past s count = grind arith
 
 module _ (parameters : ParametersAreTheRoots) (k : CaseData) (spans : Spans) (within : Within spans k.root) (r : RejectData) where
-  same_parameters : (s a : ℕ) → parameter_count spans (support (row_at k.model s a)) ≡ parameter_count k.root (support (row_at k.model s a))
-  same_parameters s a = parameters k spans (row_at k.model s a) within
-
-  same_whole : (s a : ℕ) → whole k.model k.d spans (row_at k.model s a) ≡ row_whole k s a
-  same_whole s a = ap (λ n. k.model.common *ℤ power k.d n) (same_parameters s a)
-
   -- at the corners of the rectangle, or of the root, which are as many
   row_from_held : (s : ℕ) → IsHeld k spans r s → IsHeldRow k spans r s (mark r.picks s)
   row_from_held s held c lt =
       let a = mark r.picks s in
-      let in_range = subst (λ n. c < 2 ^ n) (sym (same_parameters s a)) lt in
+      let in_range = subst (λ n. c < 2 ^ n) (sym (same_parameters parameters k spans within s a)) lt in
       let mean = held.means c in_range in
       let rate = held.rates c in_range in
-      record { mean = omega (arith, linear, mean, ap (λ n. number r.numbers s *ℤ n) (same_whole s a)); rate = omega (arith, linear, rate, same_whole s a) }
+      record { mean = omega (arith, linear, mean, ap (λ n. number r.numbers s *ℤ n) (same_whole parameters k spans within s a)); rate = omega (arith, linear, rate, same_whole parameters k spans within s a) }
 
   held_from_row : (s : ℕ) → IsMarked k r s → IsHeldRow k spans r s (mark r.picks s) → IsHeld k spans r s
   held_from_row s marked row =
       let a = mark r.picks s in
-      let at : (c : ℕ) → c < 2 ^ parameter_count spans (support (row_at k.model s a)) → IsHeldCorner k spans r s a c = λ c lt. row c (subst (λ n. c < 2 ^ n) (same_parameters s a) lt) in
+      let at : (c : ℕ) → c < 2 ^ parameter_count spans (support (row_at k.model s a)) → IsHeldCorner k spans r s a c = λ c lt. row c (subst (λ n. c < 2 ^ n) (same_parameters parameters k spans within s a) lt) in
       record {
         rank = marked.rank;
         pick = marked.pick;
-        means = λ c lt. let mean = (at c lt).mean in omega (arith, linear, mean, ap (λ n. number r.numbers s *ℤ n) (same_whole s a));
-        rates = λ c lt. let rate = (at c lt).rate in omega (arith, linear, rate, same_whole s a);
+        means = λ c lt. let mean = (at c lt).mean in omega (arith, linear, mean, ap (λ n. number r.numbers s *ℤ n) (same_whole parameters k spans within s a));
+        rates = λ c lt. let rate = (at c lt).rate in omega (arith, linear, rate, same_whole parameters k spans within s a);
       }
 
   pub state_from_lower : IsLower k spans r → (s : ℕ) → IsHeldState k spans r s

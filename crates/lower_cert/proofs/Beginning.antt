@@ -1,5 +1,5 @@
 -- A part that is begun anew stays at or above every lower vector.
-use Rattle.std.proofs.Common.{slice_index_or, ◌≡◌, ◌≢◌, ℕ, ◌+◌, ◌^◌, ◌<◌, ◌≤◌, ◌⊎◌, inl, inr, ⊎_elim, Bool, true, false, not, ◌&&◌, List, Option, Some, None, length, set, ℤ, pos, ◌*ℤ◌, ◌≤ℤ◌, refl, sym, ap, subst, ◌∙◌, arith, nat_lt, true≢false, lt-ltb, ltb-true, ltb-false, length-set, get_or-set_same, get_or-set_other}
+use Rattle.std.proofs.Common.{slice_index_or, ◌≡◌, ◌≢◌, ℕ, ◌+◌, ◌^◌, ◌<◌, ◌≤◌, inl, inr, ⊎_elim, Bool, true, false, not, ◌&&◌, List, Option, Some, None, length, set, ℤ, pos, ◌*ℤ◌, ◌≤ℤ◌, refl, sym, ap, subst, ◌∙◌, arith, nat_lt, true≢false, lt-ltb, ltb-true, ltb-false, length-set, get_or-set_same, get_or-set_other}
 use Rattle.std.proofs.lemmas.List.Elements.{All-set}
 use Rattle.std.proofs.lemmas.Int.{by_lt_z}
 use Rattle.lift_poly.proofs.Ring.{linear}
@@ -17,14 +17,8 @@ use Rattle.lower_cert.specs.Laws.{ClosedIsAbove, GuessIsAbove}
 use Rattle.lower_cert.specs.Lowering.{IsHigh, IsHighUnder, from_guess}
 use Rattle.float_guess.specs.Notes.{low_word, noted_word}
 use Rattle.lower_cert.specs.Beginning.{IsNotedAt, IsNotedPart, IsOtherAt, AreOther, IsFilledAt, IsClosedChoice, IsClosedPosition, IsClosedPart, AreAll}
-use Rattle.lower_cert.proofs.Means.{either_way}
+use Rattle.lower_cert.proofs.Means.{either_way, same_or_less, same_or_not}
 use Rattle.lower_cert.proofs.Heights.{below-no}
-
-same_or_not : (i j : ℕ) → (i ≡ j) ⊎ (i ≢ j)
-same_or_not i j = grind arith
-
-same_or_less : (b a : ℕ) → b < a + 1 → (b < a) ⊎ (b ≡ a)
-same_or_less b a lt = grind arith
 
 -- ---- which states are those of a part
 

@@ -10,9 +10,8 @@ use Rattle.lower_cert.specs.Capping.{marked}
 use Rattle.lower_cert.specs.Lowering.{IsHigh, IsLowered, from_top}
 use Rattle.lower_cert.specs.Exits.{AreLevel, ExitsAtMost, ChoicesExitAtMost, StatesExitAtMost, AreLoweredTo}
 use Rattle.lower_cert.specs.Laws.{CappingKeepsUnder}
-use Rattle.lower_cert.proofs.Means.{Place, either_way}
+use Rattle.lower_cert.proofs.Means.{Place, either_way, same_or_less}
 use Rattle.lower_cert.proofs.Capped.{caps_more}
-use Rattle.lower_cert.proofs.Sweeping.{same_or_less}
 use Rattle.lower_cert.proofs.Lowering.{all_from, total_most}
 use Rattle.lower_cert.proofs.Heights.{mark-beyond}
 

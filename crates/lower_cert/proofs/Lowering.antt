@@ -16,7 +16,7 @@ use Rattle.corner_lift.specs.Laws.{NumbersAreInRange, ParametersAreTheRoots}
 use Rattle.corner_lift.specs.Stages.{IsAllowed}
 use Rattle.lower_cert.specs.Lowering.{IsHigh, IsRanked, AreToldBefore, IsTold, IsStuckLevel, IsLoweredAt, total}
 use Rattle.lower_cert.specs.Laws.{is_stuck, CappingKeepsUnder, StuckAreCapped}
-use Rattle.lower_cert.proofs.Means.{Place, either_way, level, mono, positive}
+use Rattle.lower_cert.proofs.Means.{Place, either_way, level, mono, positive, same_or_less, same_or_not}
 use Rattle.lower_cert.proofs.Stuck.{stuck_parts}
 use Rattle.lower_cert.proofs.Heights.{rank-fits, below-no, mark-beyond}
 
@@ -84,9 +84,6 @@ row_inside [] s a inside = absurd (omega (arith, inside))
 row_inside (x ∷ rows) zero a inside = let now = sum_by-cons length x rows in omega (arith, inside, now)
 row_inside (x ∷ rows) (suc s) a inside = let now = sum_by-cons length x rows in let old = first_more x rows s in omega (arith, now, old, row_inside rows s a inside)
 
-same_or_less : (b a : ℕ) → b < a + 1 → (b < a) ⊎ (b ≡ a)
-same_or_less b a lt = grind arith
-
 module _ (k : CaseData) (spans : Spans) (x : List ℤ) (allowed : List ℕ) (s a : ℕ) (told : AreToldBefore k spans x allowed s a) where
   -- the next row is told
   pub told_next : (v : ℕ) → row_number k.model s a < length allowed → ((nat_lt 0 v ≡ true → IsAllowed k spans (number x) s a) × (IsAllowed k spans (number x) s a → nat_lt 0 v ≡ true)) → AreToldBefore k spans x (set allowed (row_number k.model s a) v) s (a + 1)
@@ -138,9 +135,6 @@ number_same x s v lt = rw get_or-set_same refl
 
 number_other : (x : List ℤ) (s t : ℕ) (v : ℤ) → t ≢ s → number (set x s v) t ≡ number x t
 number_other x s t v ne = rw get_or-set_other refl
-
-same_or_not : (i j : ℕ) → (i ≡ j) ⊎ (i ≢ j)
-same_or_not i j = grind arith
 
 abbrev pub Rest : List ℤ → List ℤ → ℕ → Type 0
 Rest old new s = (t : ℕ) → s ≤ t → number new t ≡ number old t

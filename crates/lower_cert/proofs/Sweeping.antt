@@ -1,5 +1,5 @@
 -- What a choice holds, and how far a state is lowered to it.
-use Rattle.std.proofs.Common.{◌≡◌, ◌≢◌, ◌==◌, ℕ, zero, suc, ◌+◌, ◌^◌, ◌<◌, ◌≤◌, ◌⊎◌, inl, inr, ⊎_elim, Bool, true, false, List, [], ◌∷◌, length, set, ℤ, pos, ◌+ℤ◌, ◌-ℤ◌, ◌*ℤ◌, ◌≤ℤ◌, ◌<ℤ◌, refl, sym, ap, subst, ◌∙◌, arith, pow_mono, true≢false, length-set, get_or-set_same, get_or-set_other}
+use Rattle.std.proofs.Common.{◌≡◌, ◌≢◌, ◌==◌, ℕ, zero, suc, ◌+◌, ◌^◌, ◌<◌, ◌≤◌, inl, inr, ⊎_elim, Bool, true, false, List, [], ◌∷◌, length, set, ℤ, pos, ◌+ℤ◌, ◌-ℤ◌, ◌*ℤ◌, ◌≤ℤ◌, ◌<ℤ◌, refl, sym, ap, subst, ◌∙◌, arith, pow_mono, true≢false, length-set, get_or-set_same, get_or-set_other}
 use Rattle.std.proofs.lemmas.Int.{ints}
 use Rattle.std.proofs.lemmas.List.Elements.{All-set}
 use Rattle.std.proofs.lemmas.Nat.{pow_pos}
@@ -15,7 +15,7 @@ use Rattle.corner_lift.specs.Laws.{ParametersAreTheRoots, NumbersAreInRange, Sum
 use Rattle.lower_cert.specs.Lowering.{Run, IsHighUnder, HoldsNoMore, HoldNoMore, IsLowered, IsWrittenLower, total}
 use Rattle.lower_cert.specs.Capping.{CapsAt}
 use Rattle.lower_cert.specs.Laws.{CappingKeepsUnder}
-use Rattle.lower_cert.proofs.Means.{Place, only, only_inside, positive}
+use Rattle.lower_cert.proofs.Means.{Place, only, only_inside, positive, same_or_less, same_or_not}
 use Rattle.lower_cert.proofs.Capped.{caps_more}
 
 -- ---- what a choice holds
@@ -37,9 +37,6 @@ only_holds k spans place x s a t choice one low =
     let full = whole k.model k.d spans (row_at k.model s a) in
     let some = pow_pos (parameter_count spans (support (row_at k.model s a))) in
     (0, (some, inr (inr (omega (arith, linear, only k spans place s a choice 0 some t one (number x), positive k spans place s a choice, add-mul (number x t) (pos 1) full, one-mul full, mul-comm full (number x t))))))
-
-pub same_or_less : (b a : ℕ) → b < a + 1 → (b < a) ⊎ (b ≡ a)
-same_or_less b a lt = grind arith
 
 -- the only choice of a state stands for all
 pub hold_one : (k : CaseData) (spans : Spans) (x : List ℤ) (s : ℕ) (r : ℤ) → length (choices k.model s) ≡ 1 → pos 0 ≤ℤ r → HoldsNoMore k spans x s 0 r → HoldNoMore k spans x s (length (choices k.model s)) r
@@ -71,9 +68,6 @@ total_set : (x : List ℤ) (s : ℕ) (v : ℤ) → s < length x → pos 0 ≤ℤ
 total_set [] s v lt least less = absurd (omega arith)
 total_set (n ∷ x) zero v lt least less = omega (arith, ints, least, less)
 total_set (n ∷ x) (suc s) v lt least less = omega (arith, total_set x s v (omega (arith, lt)) least less)
-
-same_or_not : (i j : ℕ) → (i ≡ j) ⊎ (i ≢ j)
-same_or_not i j = grind arith
 
 pub is_same : (t s : ℕ) → (t == s) ≡ true → t ≡ s
 is_same t s e = grind (arith, e)

@@ -1,7 +1,7 @@
 -- What a number must be to be enough for a row without a self loop, with a toll.
-use Rattle.std.proofs.Common.{◌≡◌, ◌≢◌, ◌⊎◌, ⊎_elim, ℕ, zero, suc, ◌^◌, ◌<◌, ◌≤◌, true, List, [], ◌∷◌, set, ℤ, pos, negsuc, unsigned_abs, SFits, w64, ◌+ℤ◌, ◌-ℤ◌, ◌*ℤ◌, ◌≤ℤ◌, ◌<ℤ◌, refl, ap, ap₂, sym, subst, ◌∙◌, arith, get_or-set_other, Contains}
+use Rattle.std.proofs.Common.{◌≡◌, ◌≢◌, ⊎_elim, ℕ, zero, suc, ◌^◌, ◌<◌, ◌≤◌, true, List, [], ◌∷◌, set, ℤ, pos, negsuc, unsigned_abs, SFits, w64, ◌+ℤ◌, ◌-ℤ◌, ◌*ℤ◌, ◌≤ℤ◌, ◌<ℤ◌, refl, ap, sym, subst, ◌∙◌, arith, get_or-set_other, Contains}
 use Rattle.std.proofs.lemmas.Int.{ints, by_lt_z, fits_signed_from_abs}
-use Rattle.lift_poly.proofs.Ring.{linear, mul-comm, mul-add, mul-zero, mul-le, mul-le_cancel}
+use Rattle.lift_poly.proofs.Ring.{linear, mul-comm, mul-add, add-mul, mul-zero, mul-le, mul-le_cancel}
 use Rattle.lift_grid.specs.Rectangle.{Spans}
 use Rattle.lift_model.specs.Model.{ModelData, row_at, support, moves_at}
 use Rattle.lift_model.specs.Links.{HasChoice, targets_of}
@@ -74,9 +74,6 @@ module _ (laws : RowLaws) (k : CaseData) (spans : Spans) (is : IsCase k) (within
   value_same : (v : ℤ) (c : ℕ) → row_value k spans s a (set x s v) c ≡ S c
   value_same v c = omega (arith, linear, value_set laws k spans is within s a has x numbers v c, nothing c v, nothing c n)
 
-  split : (p q r : ℤ) → (p +ℤ q) *ℤ r ≡ p *ℤ r +ℤ q *ℤ r
-  split p q r = mul-comm (p +ℤ q) r ∙ mul-add r p q ∙ ap₂ ◌+ℤ◌ (mul-comm r p) (mul-comm r q)
-
   module _ (paid left q v : ℤ) (before : IsBefore n paid left) (found : IsRoundedUpFrom left z full q) (after : IsAfter q paid top v) where
     reached : z ≤ℤ (q *ℤ full)
     reached = ⊎_elim
@@ -95,7 +92,7 @@ module _ (laws : RowLaws) (k : CaseData) (spans : Spans) (is : IsCase k) (within
 
     enough : Across e all (IsEnoughWith paid k spans (set x s v) s a v)
     enough = across_map e all (λ c. S c ≤ℤ (q *ℤ full)) (IsEnoughWith paid k spans (set x s v) s a v)
-        (λ c lt h. λ below. omega (arith, linear, value_same v c, h, ap (λ i. i *ℤ full) (after.all below), split q paid full))
+        (λ c lt h. λ below. omega (arith, linear, value_same v c, h, ap (λ i. i *ℤ full) (after.all below), add-mul q paid full))
         (extreme_holds e S all z (q *ℤ full) extreme reached)
 
     -- what is left of a number that is enough is at least what was found

@@ -1,25 +1,20 @@
 -- The least bound with tolls is the least priced vector, where what was cut off is truly paid for.
-use Rattle.std.proofs.Common.{◌≡◌, ℕ, ◌+◌, ◌*◌, ◌^◌, ◌<◌, ◌≤◌, ◌⊎◌, ⊎_elim, min, Bool, true, false, List, [], ◌∷◌, length, All, ℤ, pos, negsuc, ◌+ℤ◌, ◌-ℤ◌, ◌*ℤ◌, ◌≤ℤ◌, ◌<ℤ◌, unsigned_abs, refl, sym, ap, subst, arith}
-use Rattle.std.proofs.lemmas.Int.{ints, by_lt_z}
-use Rattle.std.proofs.lemmas.List.{get_or_past}
-use Rattle.std.proofs.lemmas.List.Elements.{All-from_get_or}
+use Rattle.std.proofs.Common.{◌≡◌, ℕ, ◌^◌, ◌<◌, ◌≤◌, min, false, List, [], ◌∷◌, length, ℤ, pos, ◌-ℤ◌, ◌*ℤ◌, ◌≤ℤ◌, ◌<ℤ◌, sym, ap, subst, arith}
+use Rattle.std.proofs.lemmas.Int.{by_lt_z}
 use Rattle.lift_poly.proofs.Ring.{linear, mul-comm, mul-le, mul-le_cancel, mul-zero, one-mul}
 use Rattle.lift_grid.specs.Rectangle.{Spans}
-use Rattle.lift_model.specs.declared.entry.Entry.{Entry}
-use Rattle.lift_model.specs.Model.{choices, row_at, is_goal}
+use Rattle.lift_model.specs.Model.{row_at, is_goal}
 use Rattle.lift_model.specs.Links.{HasChoice, targets_of}
 use Rattle.corner_lift.specs.Corner.{AtCorners, corner_sum, whole}
 use Rattle.corner_lift.specs.Case.{CaseData, IsCase, IsInside, IsGreatest, number, row_value, row_whole, corner_count}
-use Rattle.corner_lift.specs.Certificate.{AreNumbers, AtMost, MeansAtMost}
+use Rattle.corner_lift.specs.Certificate.{AreNumbers}
 use Rattle.float_guess.specs.declared.rule.Extreme.TheVariants.{Greatest}
-use Rattle.float_guess.specs.declared.rule.Ends.TheVariants.{Tolled}
 use Rattle.float_guess.specs.declared.toll.Tolls.{Tolls}
-use Rattle.float_guess.specs.Rule.{added}
 use Rattle.float_guess.specs.Toll.{toll}
 use Rattle.rounded_iter.specs.Rising.{IsEnoughEverywhere, IsEnoughWith, IsLeastBound}
-use Rattle.rounded_iter.specs.Priced.{IsPriced, IsLeastPriced, IsPaidFor, IsBeyond, IsPaid, IsCutOff, ArePaid, SomeUnpaid, paying, price}
+use Rattle.rounded_iter.specs.Priced.{IsPriced, IsLeastPriced, IsPaidFor, IsBeyond, IsCutOff, ArePaid, SomeUnpaid, paying, price}
 use Rattle.rounded_iter.proofs.Solving.{RowLaws, less-mul, same_whole, at_root, at_spans, whole_positive, some_corner, value_range, only_value}
-use Rattle.rounded_iter.proofs.Raising.{in_or_past}
+use Rattle.rounded_iter.proofs.Raising.{all_rows}
 
 -- ---- the toll, cut off
 
@@ -91,12 +86,6 @@ module _ (laws : RowLaws) (k : CaseData) (spans : Spans) (is : IsCase k) (within
   abbrev cost : ℕ → ℕ
   cost s = toll k.w t.costs.now t.cap s
 
-  row_of : (Meets : List Entry → Type 0) (s : ℕ) → ((a : ℕ) → HasChoice k.model s a → Meets (row_at k.model s a)) → All Meets (choices k.model s)
-  row_of Meets s h = All-from_get_or Meets (choices k.model s) [] (λ a lt. ⊎_elim
-      (λ (state : s < length k.model.states). h a (record { state = state; choice = lt }))
-      (λ (past : length k.model.states ≤ s). absurd (let none = get_or_past k.model.states s [] past in omega (arith, lt, ap (length {A = List Entry}) none)))
-      (in_or_past s (length k.model.states)))
-
   -- a priced vector is a bound
   pub bound_of_priced : (y : List ℤ) → IsPriced k spans prices y → IsEnoughEverywhere (paying t) k spans y
   bound_of_priced y h = record {
@@ -113,7 +102,7 @@ module _ (laws : RowLaws) (k : CaseData) (spans : Spans) (is : IsCase k) (within
     priced = record {
       numbers = h.bound.numbers;
       goal = h.bound.given;
-      means = λ s g. row_of (λ row. AtCorners spans row (λ c. corner_sum k.d spans row c (number x) ≤ℤ ((number x s -ℤ prices s) *ℤ whole k.model k.d spans row))) s (λ a has c lt.
+      means = λ s g. all_rows k.model (λ row. AtCorners spans row (λ c. corner_sum k.d spans row c (number x) ≤ℤ ((number x s -ℤ prices s) *ℤ whole k.model k.d spans row))) s (λ a has c lt.
           let at = at_root laws k spans is within s a has c lt in
           omega (arith, linear, row_paid s g a has c at, product laws k spans is within s a has (number x s -ℤ prices s)));
     };

@@ -22,7 +22,7 @@ use Rattle.float_guess.specs.declared.rule.Ends.TheVariants.{Goals, Unranked, To
 use Rattle.float_guess.specs.declared.rule.Rule.{Rule}
 use Rattle.float_guess.specs.Rule.{is_given, given, has_tolls}
 use Rattle.rounded_iter.specs.Value.{IsValue, IsLeastValue, SomeMeanAtMost}
-use Rattle.rounded_iter.specs.Rising.{TableData, Run, IsBelow, IsEnoughEverywhere, IsLeastBound, IsLeastBoundWithin, IsEnough, HasEnough, IsEnoughFor, IsEnoughBy, IsMoreExtreme, IsSolvedFor, IsSolved, IsSolvedBy, Across, room, untolled}
+use Rattle.rounded_iter.specs.Rising.{TableData, Run, IsBelow, IsEnoughEverywhere, IsLeastBound, IsLeastBoundWithin, HasEnough, IsEnoughFor, IsEnoughBy, IsMoreExtreme, IsSolvedFor, IsSolved, IsSolvedBy, Across, room, untolled}
 use Rattle.rounded_iter.specs.Watching.{from_zero, first_number, HasGoals, CanRaise, IsRaisedState, IsBelowUppers, IsLeastWithin}
 use Rattle.rounded_iter.proofs.Solving.{RowLaws, across_map, same_or_not, sum_moved, only_same, only_other, own_none, same_whole, at_root, at_spans, enough_same, in_lane, set_numbers, n_least, risen, some_corner, top_enough, one_more, Range}
 
@@ -329,13 +329,14 @@ start_below numbers r k spans x goals size written = record {
 abbrev pub upper : Extreme → Rule
 upper e = record { choice = Greatest; corner = e; ends = Goals }
 
-module _ (laws : RowLaws) (k : CaseData) (spans : Spans) (is : IsCase k) (within : IsInside k.root spans) where
-  row_of : (Meets : List Entry → Type 0) (s : ℕ) → ((a : ℕ) → HasChoice k.model s a → Meets (row_at k.model s a)) → All Meets (choices k.model s)
-  row_of Meets s h = All-from_get_or Meets (choices k.model s) [] (λ a lt. ⊎_elim
-      (λ (state : s < length k.model.states). h a (record { state = state; choice = lt }))
-      (λ (past : length k.model.states ≤ s). absurd (let none = get_or_past k.model.states s [] past in omega (arith, lt, ap (length {A = List Entry}) none)))
-      (in_or_past s (length k.model.states)))
+-- what the row of each choice of a state meets, all its rows meet
+pub all_rows : (m : ModelData) (Meets : List Entry → Type 0) (s : ℕ) → ((a : ℕ) → HasChoice m s a → Meets (row_at m s a)) → All Meets (choices m s)
+all_rows m Meets s h = All-from_get_or Meets (choices m s) [] (λ a lt. ⊎_elim
+    (λ (state : s < length m.states). h a (record { state = state; choice = lt }))
+    (λ (past : length m.states ≤ s). absurd (let none = get_or_past m.states s [] past in omega (arith, lt, ap (length {A = List Entry}) none)))
+    (in_or_past s (length m.states)))
 
+module _ (laws : RowLaws) (k : CaseData) (spans : Spans) (is : IsCase k) (within : IsInside k.root spans) where
   product : (s a : ℕ) → HasChoice k.model s a → (n : ℤ) → n *ℤ whole k.model k.d spans (row_at k.model s a) ≡ n *ℤ row_whole k s a
   product s a has n = ap (λ w. n *ℤ w) (same_whole laws k spans is within s a has)
 
@@ -343,7 +344,7 @@ module _ (laws : RowLaws) (k : CaseData) (spans : Spans) (is : IsCase k) (within
   upper_of x h = record {
     numbers = h.numbers;
     goal = h.given;
-    means = λ s g. row_of (λ row. AtCorners spans row (λ c. corner_sum k.d spans row c (number x) ≤ℤ (number x s *ℤ whole k.model k.d spans row))) s (λ a has c lt. omega (arith, linear, h.enough s has.state g a has.choice c (at_root laws k spans is within s a has c lt), product s a has (number x s)));
+    means = λ s g. all_rows k.model (λ row. AtCorners spans row (λ c. corner_sum k.d spans row c (number x) ≤ℤ (number x s *ℤ whole k.model k.d spans row))) s (λ a has c lt. omega (arith, linear, h.enough s has.state g a has.choice c (at_root laws k spans is within s a has c lt), product s a has (number x s)));
   }
 
   bound_of : (y : List ℤ) → IsUpper k spans y → IsEnoughEverywhere (upper Greatest) k spans y
@@ -383,7 +384,7 @@ module _ (laws : RowLaws) (k : CaseData) (spans : Spans) (is : IsCase k) (within
   value_of x h = record {
     numbers = h.numbers;
     goal = h.given;
-    means = λ s g. row_of (λ row. SomeMeanAtMost k spans row x (number x s)) s (λ a has.
+    means = λ s g. all_rows k.model (λ row. SomeMeanAtMost k spans row x (number x s)) s (λ a has.
         let one = h.enough s has.state g a has.choice in
         (one.0, (at_spans laws k spans is within s a has one.0 one.1.0, omega (arith, linear, one.1.1, product s a has (number x s)))));
   }

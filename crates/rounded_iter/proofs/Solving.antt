@@ -5,7 +5,7 @@ use Rattle.std.proofs.lemmas.Bool.{both_ways}
 use Rattle.std.proofs.lemmas.Int.{ints, by_lt_z, fits_signed_from_abs}
 use Rattle.std.proofs.lemmas.List.Elements.{All-set}
 use Rattle.std.proofs.lemmas.Nat.{pow_pos, pow-add}
-use Rattle.lift_poly.proofs.Ring.{linear, mul-comm, mul-assoc, mul-add, mul-le, mul-le_cancel, mul-zero, zero-mul, one-mul, as_diff, diffs, diff-same, test_from_le}
+use Rattle.lift_poly.proofs.Ring.{linear, mul-comm, mul-assoc, mul-add, add-mul, mul-le, mul-le_cancel, mul-zero, zero-mul, one-mul, as_diff, diffs, diff-same, test_from_le}
 use Rattle.lift_grid.specs.Rectangle.{Spans}
 use Rattle.lift_model.specs.declared.entry.Entry.{Entry}
 use Rattle.lift_model.specs.Process.{Move, power, weighted_sum}
@@ -256,11 +256,8 @@ module _ (laws : RowLaws) (k : CaseData) (spans : Spans) (is : IsCase k) (within
       let up : corner_sum k.d spans row c (number y) ≤ℤ corner_sum k.d spans row c (λ t. number x t +ℤ d) = laws.rise k spans s a c (number y) (λ t. number x t +ℤ d) is within row_of le in
       let ones : corner_sum k.d spans row c (λ t. number x t +ℤ d) ≡ corner_sum k.d spans row c (number x) +ℤ d *ℤ corner_sum k.d spans row c (λ t. pos 1) =
       sum_moved (number x) (λ t. number x t +ℤ d) (λ t. pos 1) d (moves_at (corner k.d spans (support row) c) row) (λ t. omega (arith, linear, mul-comm d (pos 1), one-mul d)) in
-      let product : number y s *ℤ full ≡ number x s *ℤ full +ℤ d *ℤ full = ap (λ n. n *ℤ full) own_is ∙ split (number x s) d full in
+      let product : number y s *ℤ full ≡ number x s *ℤ full +ℤ d *ℤ full = ap (λ n. n *ℤ full) own_is ∙ add-mul (number x s) d full in
       omega (arith, linear, up, ones, ap (λ n. d *ℤ n) (full_sum c lt), product)
-    where
-      split : (p q r : ℤ) → (p +ℤ q) *ℤ r ≡ p *ℤ r +ℤ q *ℤ r
-      split p q r = mul-comm (p +ℤ q) r ∙ mul-add r p q ∙ ap₂ ◌+ℤ◌ (mul-comm r p) (mul-comm r q)
 
   enough_with_shifted : (toll : ℤ) (x y : List ℤ) (d : ℤ) → pos 0 ≤ℤ d → ((t : ℕ) → number y t ≤ℤ (number x t +ℤ d)) → number y s ≡ number x s +ℤ d → (c : ℕ) → c < corner_count k s a → IsEnoughWith toll k spans x s a (number x s) c → IsEnoughWith toll k spans y s a (number y s) c
   enough_with_shifted toll x y d least le own_is c lt h = λ below.

@@ -1,5 +1,5 @@
 -- What a number must be to be enough for a choice with a toll.
-use Rattle.std.proofs.Common.{◌≡◌, ℕ, ◌*◌, ◌^◌, ◌<◌, ◌≤◌, min, Bool, true, false, List, set, ℤ, pos, negsuc, unsigned_abs, ◌+ℤ◌, ◌-ℤ◌, ◌*ℤ◌, ◌≤ℤ◌, ◌<ℤ◌, refl, sym, subst, arith, pow_mono}
+use Rattle.std.proofs.Common.{◌≡◌, ℕ, ◌*◌, ◌^◌, ◌<◌, ◌≤◌, min, true, List, set, ℤ, pos, negsuc, unsigned_abs, ◌+ℤ◌, ◌-ℤ◌, ◌*ℤ◌, ◌≤ℤ◌, ◌<ℤ◌, refl, sym, subst, arith, pow_mono}
 use Rattle.std.proofs.lemmas.Int.{by_lt_z}
 use Rattle.lift_poly.proofs.Ring.{linear, mul-comm, mul-le, zero-mul}
 use Rattle.lift_grid.specs.Rectangle.{Spans}

@@ -1,5 +1,6 @@
 use Rattle.std.proofs.Common.{◌+◌, ◌-◌, ◌≤◌, length}
 use Rattle.drn_read.proofs.Loop.{AtPlace}
+use Rattle.drn_read.proofs.Running.{plain}
 use Rattle.drn_read.proofs.read_lines.Given as goal
 
 abbrev pub decreases-loop-line : goal.decreases-loop-line
@@ -9,5 +10,5 @@ abbrev pub invariant-loop-line : goal.invariant-loop-line
 invariant-loop-line l = record {
   at : l.place.at ≤ length l.text;
   number : l.place.number ≤ l.place.at + 1;
-  read : AtPlace l.label l.text l.place l.reader;
+  read : AtPlace (plain l.label) l.text l.place l.reader;
 }

@@ -1,4 +1,4 @@
-use Rattle.drn_read.proofs.Loop.{valid_at_end}
+use Rattle.drn_read.proofs.Running.{valid_at_end}
 use Rattle.drn_read.proofs.read_model.Goals as goal
 
 pub finish-requires : goal.finish-requires

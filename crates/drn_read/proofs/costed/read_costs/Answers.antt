@@ -1,7 +1,7 @@
 use Rattle.std.proofs.Common.{◌≡◌, [], rules, sym, ap, ◌∙◌, Err}
 use Rattle.drn_read.specs.Reading.{drn, ended}
 use Rattle.drn_read.specs.Costs.{Asked, Rewards, CostSaid, cost_said, cost_ended, drn_costs}
-use Rattle.drn_read.proofs.Loop.{valid_at_end}
+use Rattle.drn_read.proofs.Running.{valid_at_end}
 use Rattle.drn_read.proofs.CostEnds.{asks, costs_given, costs_refused}
 use Rattle.drn_read.proofs.costed.read_costs.Goals as goal
 

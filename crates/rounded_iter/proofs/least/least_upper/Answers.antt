@@ -1,4 +1,4 @@
-use Rattle.std.proofs.Common.{rules, arith, SFits, w64, to_z-of_z, ap, ◌∙◌, ◌≡◌, ◌≤ℤ◌, pos, ◌^◌}
+use Rattle.std.proofs.Common.{rules, arith, SFits, w64, to_z-of_z, ap, ◌∙◌, pos, ◌^◌}
 use Rattle.lift_poly.proofs.Ring.{linear}
 use Rattle.rounded_iter.proofs.Solving.{laws_of}
 use Rattle.rounded_iter.proofs.Raising.{least_upper_of}

@@ -1,4 +1,4 @@
-use Rattle.std.proofs.Common.{◌≡◌, ◌<◌, ◌∷◌, [], ℕ, IsTrue, nat_lt, subst, sym, ap, ◌∙◌, arith}
+use Rattle.std.proofs.Common.{◌≡◌, ◌<◌, ◌∷◌, [], ℕ, IsTrue, nat_lt, subst, ap, ◌∙◌, arith}
 use Rattle.lift_model.specs.Model.{row_at}
 use Rattle.lift_model.specs.Links.{targets_of}
 use Rattle.float_guess.specs.Toll.{toll}

@@ -1,12 +1,9 @@
-use Rattle.std.proofs.Common.{rules, ◌≡◌, ◌≤◌, ◌^◌, ◌*ℤ◌, SFits, w64, to_z-of_z, pow_mono, arith}
-use mir.Syntax.{w128}
+use Rattle.std.proofs.Common.{rules, ◌≤◌, ◌^◌, ◌*ℤ◌, SFits, w64, to_z-of_z, pow_mono, arith}
 use Rattle.lift_poly.proofs.Ring.{linear}
-use Rattle.corner_lift.specs.Case.{number, most_precision, corner_count}
-use Rattle.corner_lift.specs.Quotient.{IsRoundedUpFrom, AtEachScale}
-use Rattle.rounded_iter.specs.Rising.{IsSolvedFor}
-use Rattle.rounded_iter.proofs.Solving.{laws_of, n_range, extreme_least, extreme_most, scaled_least, map_some}
+use Rattle.corner_lift.specs.Case.{number, most_precision}
+use Rattle.rounded_iter.proofs.Solving.{laws_of, n_range, extreme_least, scaled_least}
 use Rattle.rounded_iter.proofs.Tolling.{added_range}
-use Rattle.rounded_iter.proofs.Lone.{before_small, from_least, lone_tolled}
+use Rattle.rounded_iter.proofs.Lone.{from_least, lone_tolled}
 use Rattle.rounded_iter.proofs.table.Table.tolled_sum.Goals as goal
 
 pub before_toll-before-requires-clause-number : goal.before_toll-before-requires-clause-number
