@@ -32,7 +32,7 @@ SOURCES = (".rt", ".antt")
 CANNOT_BUILD = 70
 # What the build of this program from nothing took, and where.
 USUAL_PROGRAM = "plift"
-USUAL_MINUTES = 82
+USUAL_MINUTES = 35
 USUAL_MACHINE = "four processors"
 # A crate's share of the work where the table of docs/ARCHITECTURE.md doesn't name it, and where its
 # library is kept, in minutes.
