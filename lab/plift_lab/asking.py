@@ -5,14 +5,16 @@ from __future__ import annotations
 import argparse
 import json
 import sys
+from fractions import Fraction
 from typing import Any, Dict, Iterable, List, Optional, TextIO
 
 from .evidence import read_file
+from .faults import Fault
 from .models import Model
 from .regions import Region
 from .report import Report
 from .session import MOST_BITS, Session
-from .values import read_count
+from .values import read_count, read_number
 
 
 def add_model(words: argparse.ArgumentParser) -> None:
@@ -54,6 +56,14 @@ def region_of(given: argparse.Namespace) -> Region:
 def precision_of(given: argparse.Namespace) -> Optional[int]:
     """The precision that was asked for, if any."""
     return read_count(given.precision, '--precision', 1, MOST_BITS) if given.precision is not None else None
+
+
+def width_of(given: argparse.Namespace) -> Optional[Fraction]:
+    """How close the answer has to be, if that was asked for."""
+    width = read_number(given.width) if given.width is not None else None
+    if width is not None and width <= 0:
+        raise Fault('--width is a number above 0, and not %s' % given.width)
+    return width
 
 
 def behind(report: Report) -> Dict[str, Any]:

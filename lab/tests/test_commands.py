@@ -212,6 +212,7 @@ class Mistakes(InFolder):
                 (('verify', *QUESTION, '--bound', '1/2', '--bound', '1/3', '--report', 'x'), '--keep'),
                 (('verify', *QUESTION, '--bnd', '1/2'), '--bound'), (('explain',), 'no note'),
                 (('explain', 'hello'), 'no note'),
+                (('threshold', *QUESTION, '--bound', '1/2', '--parameter', 'p', '--width', '0'), 'above 0'),
                 (('threshold', *QUESTION, '--bound', '1/2', '--parameter', 'z'), 'no interval for z')):
             self.wrong(*words, says=says)
 

@@ -15,10 +15,10 @@ from typing import Any, Dict, List
 from .. import asking
 from ..api import Bounds, find_bounds
 from ..brackets import End
-from ..faults import DONE, SHORT, Fault
+from ..faults import DONE, SHORT
 from ..search import Side
 from ..session import Session
-from ..values import above, below, exact, read_count, read_number
+from ..values import above, below, exact, read_count
 
 def add_words(words: argparse.ArgumentParser) -> None:
     """The words of the command."""
@@ -31,9 +31,7 @@ def add_words(words: argparse.ArgumentParser) -> None:
 
 def run(given: argparse.Namespace) -> int:
     """Does it."""
-    width = read_number(given.width) if given.width is not None else None
-    if width is not None and width <= 0:
-        raise Fault('--width is a number above 0, and not %s' % given.width)
+    width = asking.width_of(given)
     calls = read_count(given.calls, '--calls', 2, 10 ** 6)
     with asking.session(given) as session:
         found = find_bounds(session, asking.model_of(given), given.goal, asking.region_of(given),

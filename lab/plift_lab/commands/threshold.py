@@ -14,9 +14,9 @@ from typing import List
 from .. import asking
 from ..api import find_threshold
 from ..edge import Edge
-from ..faults import DONE, SHORT, Fault
+from ..faults import DONE, SHORT
 from ..session import MOST_DEPTH, Question, Session
-from ..values import above, below, exact, near, read_bound, read_count, read_number
+from ..values import above, below, exact, near, read_bound, read_count
 
 
 def add_words(words: argparse.ArgumentParser) -> None:
@@ -33,9 +33,7 @@ def add_words(words: argparse.ArgumentParser) -> None:
 
 def run(given: argparse.Namespace) -> int:
     """Does it."""
-    width = read_number(given.width) if given.width is not None else None
-    if width is not None and width <= 0:
-        raise Fault('--width is a number above 0, and not %s' % given.width)
+    width = asking.width_of(given)
     question = Question(asking.model_of(given), given.goal, read_bound(given.bound), asking.region_of(given),
                         read_count(given.depth, '--depth', 0, MOST_DEPTH), asking.precision_of(given), given.relative)
     with asking.session(given) as session:
