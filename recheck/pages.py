@@ -288,6 +288,7 @@ def tried(place: Path, programs: dict[str, Path]) -> Iterator[Tried]:
 
 
 def main() -> int:
+    """Tries what the pages say and prints what isn't so; 1 where anything wasn't."""
     words = argparse.ArgumentParser(description='Tests of what the pages say.')
     words.add_argument('--program', '--bin', metavar='PATH', help='a built plift')
     words.add_argument('--view', metavar='PATH', help='a built plift-view')

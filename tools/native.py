@@ -25,6 +25,7 @@ import workspace
 
 
 def main() -> None:
+    """Writes the workspace into the folder that is named."""
     if len(sys.argv) != 2 or sys.argv[1].startswith("-"):
         sys.exit(__doc__.strip())
     workspace.write_profiled(sys.argv[1])

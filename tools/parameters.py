@@ -84,6 +84,7 @@ def summary(found: list[Function]) -> str:
 
 
 def main() -> None:
+    """Prints the functions that are asked for, if any, and how many take many parameters."""
     parser = argparse.ArgumentParser(description=__doc__, formatter_class=argparse.RawDescriptionHelpFormatter)
     parser.add_argument("--most", type=int, metavar="N", help="list the functions that take N parameters or more")
     asked = parser.parse_args()

@@ -50,10 +50,12 @@ class Refused(Exception):
 
 
 def say(text: str) -> None:
+    """Tells the user a line, on standard error."""
     print("quick: " + text, file=sys.stderr, flush=True)
 
 
 def path_of(program: str) -> str:
+    """Where a program is kept."""
     return os.path.join(QUICK, program)
 
 
@@ -125,16 +127,20 @@ class Progress:
             threading.Thread(target=self.tell, daemon=True).start()
 
     def seconds(self) -> float:
+        """How long it has taken so far."""
         return time.monotonic() - self.start
 
     def tell(self) -> None:
+        """Tells how far it is, twice a second, until it is over."""
         while not self.is_over.wait(0.5):
             print(f"\rquick: compiling {self.begun} of {self.crates} crates, {self.seconds():.0f} s ", end="", file=sys.stderr, flush=True)
 
     def pass_line(self, line: str) -> None:
+        """Takes a line that cargo has written."""
         self.begun += line.strip().startswith("Compiling ")
 
     def end(self) -> None:
+        """Tells no more, and ends the line that is told."""
         self.is_over.set()
         if sys.stderr.isatty():
             print(file=sys.stderr)
@@ -185,6 +191,7 @@ def put(made: str, program: str, start: int) -> None:
 
 
 def build() -> None:
+    """Builds both programs anew and keeps them, or ends with what cargo said."""
     version = compiler()
     start = time.time_ns()
     source = os.path.join(QUICK, "source")
@@ -214,6 +221,7 @@ def ensure_built() -> None:
 
 
 def asked_program(words: list[str]) -> str:
+    """The program that the words name; ends here where they ask for help or are wrong."""
     program = words[0].replace("_", "-") if words else PROGRAMS[0]
     if len(words) > 1 or program not in PROGRAMS:
         print(__doc__.strip(), file=sys.stderr)
@@ -222,6 +230,7 @@ def asked_program(words: list[str]) -> str:
 
 
 def main() -> int:
+    """Builds the programs where need be and prints the path of the one that is asked for."""
     program = asked_program(sys.argv[1:])
     signal.signal(signal.SIGTERM, lambda *_: sys.exit(143))
     try:

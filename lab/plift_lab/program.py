@@ -11,7 +11,7 @@ import subprocess
 import tempfile
 import threading
 from pathlib import Path
-from typing import Callable, Iterator, List, Optional
+from typing import BinaryIO, Callable, Iterator, List, Optional, Union
 
 from .faults import LOST, Fault, Refused
 
@@ -81,7 +81,7 @@ class Program:
         return _line(line)
 
     @contextlib.contextmanager
-    def _running(self, words: List[str], source, sink) -> Iterator[subprocess.Popen]:
+    def _running(self, words: List[str], source: BinaryIO, sink: Union[BinaryIO, int]) -> Iterator[subprocess.Popen]:
         """The program at work, which is ended behind it, whatever happened."""
         process = None
         try:
@@ -92,7 +92,7 @@ class Program:
             if process is not None:
                 _end(process)
 
-    def _start(self, words: List[str], source, sink) -> subprocess.Popen:
+    def _start(self, words: List[str], source: BinaryIO, sink: Union[BinaryIO, int]) -> subprocess.Popen:
         try:
             return subprocess.Popen([str(self.path)] + words, stdin=source, stdout=sink, stderr=subprocess.PIPE)
         except (OSError, ValueError) as fault:

@@ -13,6 +13,7 @@ import time
 import unittest
 from fractions import Fraction
 from pathlib import Path
+from typing import Any, Dict, Tuple
 from unittest import mock
 
 from plift_lab.evidence import Evidence, write_file
@@ -28,7 +29,7 @@ QUESTION = (RETRY, '--goal', 'lost', '--region', REGION)
 
 class Verdict(InFolder):
 
-    def test_statuses(self):
+    def test_statuses(self) -> None:
         names = ('retry.report', 'coin.report', 'retry-tree.report')
         self.assertEqual([run('verdict', str(EXAMPLES / name))[0] for name in names], [10, 20, 30])
         unknown = str(self.folder / 'u.report')
@@ -37,17 +38,17 @@ class Verdict(InFolder):
         self.assertNotIn('kept nowhere', told)
         self.assertEqual(run('verdict', unknown, '--brief')[0], 40)
 
-    def test_brief_is_one_line(self):
+    def test_brief_is_one_line(self) -> None:
         self.assertEqual(run('verdict', TREE, '--brief')[1],
                          'mixed: P( reach goal ) <= 1/40 (accepted 6.25 %, rejected 75 %, unknown 18.75 %)\n')
 
-    def test_precision_in_the_way(self):
+    def test_precision_in_the_way(self) -> None:
         report = str(self.folder / 'a.report')
         run('verify', LINKS, '--goal', 'lost', '--bound', '7/250', '--region', 'p=1/10..1/5,q=1/10..1/5', '--precision', '10',
             '--report', report)
         self.assertIn('more precision decides it', run('verdict', report)[1])
 
-    def test_depth_in_the_way(self):
+    def test_depth_in_the_way(self) -> None:
         status, told, _ = run('verdict', TREE, '--json')
         found = json.loads(told)['unknown']
         self.assertEqual((status, len(found)), (30, 3))
@@ -55,7 +56,7 @@ class Verdict(InFolder):
             self.assertTrue(Fraction(one['least']) <= Fraction(1, 40) < Fraction(one['most']))
         self.assertIn('depth', [one['help'] for one in found])
 
-    def test_neither(self):
+    def test_neither(self) -> None:
         report = str(self.folder / 'a.report')
         run('verify', self.file('third.drn', THIRD), '--goal', 'a', '--bound', '1/3', '--report', report)
         status, told, _ = run('verdict', report)
@@ -66,32 +67,32 @@ class Verdict(InFolder):
 
 class Leaves(InFolder):
 
-    def test_csv(self):
+    def test_csv(self) -> None:
         rows = list(csv.DictReader(io.StringIO(run('leaves', TREE, '--csv')[1])))
         self.assertEqual([row['kind'] for row in rows], ['accepted'] + 3 * ['unknown'] + 2 * ['rejected'])
         columns = ('p_low', 'q_high', 'value', 'scheduler')
         self.assertEqual([rows[4][column] for column in columns], ['1/10', '1/2', '27/1024', '0'])
         self.assertEqual(sum(Fraction(row['share']) for row in rows), 1)
 
-    def test_each_leaf_has_its_precision(self):
+    def test_each_leaf_has_its_precision(self) -> None:
         rows = list(csv.DictReader(io.StringIO(run('leaves', self.file('range.report', RANGE), '--csv')[1])))
         self.assertEqual([(row['kind'], row['value'], row['precision']) for row in rows],
                          [('accepted', '1/2', '1'), ('unknown', '', '4'), ('rejected', '11/16', '4')])
 
-    def test_json_and_decimals(self):
+    def test_json_and_decimals(self) -> None:
         told = json.loads(run('leaves', TREE, '--json')[1])
         self.assertEqual((told['verdict'], len(told['leaves']), told['schedulers'][1]), ('mixed', 6, [0, 0, 0, None, None]))
         told = json.loads(run('leaves', TREE, '--json', '--decimals')[1])
         self.assertEqual(told['leaves'][0]['rectangle'], {'p': [0.1, 0.2], 'q': [0.1, 0.2]})
 
-    def test_unknown_can_be_asked_again(self):
+    def test_unknown_can_be_asked_again(self) -> None:
         regions = run('leaves', TREE, '--unknown')[1].splitlines()
         self.assertEqual(len(regions), 3)
         for region in regions:
             status, told, _ = run('verify', RETRY, '--goal', 'lost', '--bound', '1/40', '--region', region, '--depth', '3')
             self.assertEqual(status, 0, told)
 
-    def test_rescaled_leaves_are_told_in_the_users_numbers(self):
+    def test_rescaled_leaves_are_told_in_the_users_numbers(self) -> None:
         report = str(self.folder / 'a.report')
         run('verify', *QUESTION, '--bound', '1/40', '--depth', '4', '--relative', '--report', report)
         self.assertEqual(run('leaves', report, '--csv')[1].split('\n')[1].split(',')[:5], ['0', '1/10', '1/5', '1/10', '1/5'])
@@ -99,7 +100,7 @@ class Leaves(InFolder):
 
 class Verify(InFolder):
 
-    def test_several_bounds(self):
+    def test_several_bounds(self) -> None:
         keep = str(self.folder / 'k')
         bounds = ('--bound', '1/40', '--bound', '1/2000', '--bound', '1')
         status, told, _ = run('verify', *QUESTION, *bounds, '--depth', '2', '--keep', keep)
@@ -109,17 +110,17 @@ class Verify(InFolder):
             self.assertIn('%s/%d.report: sound ' % (keep, number), told)
             self.assertTrue((self.folder / ('k/%d.report' % number)).is_file())
 
-    def test_coverage_not_reached(self):
+    def test_coverage_not_reached(self) -> None:
         words = ('--goal', 'a', '--bound', '1/3', '--coverage', '90%')
         self.assertEqual(run('verify', self.file('third.drn', THIRD), *words)[0], 1)
 
-    def test_the_report_on_standard_output(self):
+    def test_the_report_on_standard_output(self) -> None:
         words = ('--bound', '1/40', '--depth', '4', '--precision', '10', '--report', '-')
         done = subprocess.run([str(TOP / 'plift-lab'), 'verify', *QUESTION, *words], stdout=subprocess.PIPE,
                               stderr=subprocess.PIPE)
         self.assertEqual((done.returncode, done.stdout), (0, Path(TREE).read_bytes()))
 
-    def test_bounds_and_threshold_as_json(self):
+    def test_bounds_and_threshold_as_json(self) -> None:
         told = json.loads(run('bounds', *QUESTION, '--width', '1/10', '--json')[1])
         self.assertLessEqual(Fraction(told['sup']['most']) - Fraction(told['sup']['least']), Fraction(1, 10))
         told = json.loads(run('threshold', RETRY, '--goal', 'lost', '--bound', '1/40', '--parameter', 'p', '--region',
@@ -129,12 +130,12 @@ class Verify(InFolder):
 
 class View(InFolder):
 
-    def data(self, *words):
+    def data(self, *words: str) -> Tuple[str, Dict[str, Any]]:
         status, page, _ = run('view', *words)
         self.assertEqual(status, 0)
         return page, json.loads(re.search('<script type="application/json" id="data">(.*)</script>', page).group(1))
 
-    def test_data(self):
+    def test_data(self) -> None:
         page, data = self.data(TREE)
         self.assertEqual((data['tree'], data['axes'], data['live']), ('010' '1AU' '1UUR' 'R', [0, 1], [0, 1]))
         self.assertEqual((data['values'], data['picks'], data['schedulers']), ([9, 27, 27], [0, 1], ['1 1 1 - -', '0 0 0 - -']))
@@ -143,27 +144,27 @@ class View(InFolder):
         self.assertNotIn('{{', page)
         self.assertEqual(re.findall(r'(?:src|href|url|@import|fetch\()\s*[=(]', page), [])
 
-    def test_a_range_of_precisions(self):
+    def test_a_range_of_precisions(self) -> None:
         data = self.data(self.file('range.report', RANGE))[1]
         self.assertEqual((data['tree'], data['values'], data['precision']), ('0A0UR', [8, 11], 4))
         self.assertEqual(data['precisions'], [1, 4])
         self.assertIn(['precision', '1 to 4 bits'], data['facts'])
         self.assertIsNone(self.data(TREE)[1]['precisions'])
 
-    def test_axes(self):
+    def test_axes(self) -> None:
         self.assertEqual(self.data(TREE, '--x', 'q')[1]['axes'], [1, 0])
         self.assertEqual(self.data(TREE, '--y', 'p')[1]['axes'], [1, 0])
         self.assertEqual(self.data(str(EXAMPLES / 'coin.report'))[1]['axes'], [0, -1])
         self.assertEqual(self.data(str(EXAMPLES / 'plain.report'))[1]['axes'], [-1, -1])
 
-    def test_a_title_can_hold_anything(self):
+    def test_a_title_can_hold_anything(self) -> None:
         title = '</script><b>&"{{DATA}}'
         page, _ = self.data(TREE, '--title', title)
         self.assertIn('<title>&lt;/script&gt;&lt;b&gt;&amp;&quot;{{DATA}}</title>', page)
         self.assertEqual(page.count('</script>'), 2)
 
     @unittest.skipUnless(shutil.which('node'), 'needs node')
-    def test_its_tree_finds_the_same_leaves(self):
+    def test_its_tree_finds_the_same_leaves(self) -> None:
         page, data = self.data(TREE)
         script = re.search(r'<script>\n(.*?)class Plot', page, re.S).group(1)
         told = json.loads(run('leaves', TREE, '--json')[1])
@@ -188,14 +189,14 @@ class View(InFolder):
 
 class Mistakes(InFolder):
 
-    def wrong(self, *words, status=2, says=''):
+    def wrong(self, *words: str, status: int = 2, says: str = '') -> None:
         """One line on standard error, nothing on standard output, and that status."""
         got, out, err = run(*words)
         self.assertEqual((got, out), (status, ''), (words, err))
         self.assertRegex(err, r'\Aplift-lab: [^\n]+\n(hint: [^\n]+\n)*\Z', words)
         self.assertIn(says, err, words)
 
-    def test_words(self):
+    def test_words(self) -> None:
         report = str(EXAMPLES / 'coin.report')
         self.wrong(says='name a command')
         for words, says in (
@@ -216,7 +217,7 @@ class Mistakes(InFolder):
                 (('threshold', *QUESTION, '--bound', '1/2', '--parameter', 'z'), 'no interval for z')):
             self.wrong(*words, says=says)
 
-    def test_regions(self):
+    def test_regions(self) -> None:
         many = ','.join('p%d=0..1' % number for number in range(99))
         for region, says in (
                 ('p=0..1', 'no interval for q'), ('p=0..1,q=0..1,z=0..1', 'no parameter z'), ('P=0..1,q=0..1', 'no parameter P'),
@@ -224,7 +225,7 @@ class Mistakes(InFolder):
                 ('', 'no interval for p, q'), (many, 'at most 16'), ('p=0..1,q=0..1,', 'no part'), ('p=0..2,q=0..1', 'rows: state 0')):
             self.wrong('bounds', RETRY, '--goal', 'lost', '--region', region, says=says)
 
-    def test_files(self):
+    def test_files(self) -> None:
         for name, says in (('nothing-there', 'No such file'), (str(self.folder), 'Is a directory'), ('', 'without a name'),
                            ('a\0b', 'read')):
             self.wrong('verdict', name, says=says)
@@ -238,7 +239,7 @@ class Mistakes(InFolder):
             for words in (('verdict', name), ('leaves', name, '--csv'), ('view', name)):
                 self.wrong(*words, says='not sound: ')
 
-    def test_models(self):
+    def test_models(self) -> None:
         for text, says in (
                 (b'', 'MissingSection'), (b'\0', 'NotText'), (b'@type: DTMC\n@parameters\np p\n@model\n', 'RepeatedName'),
                 (b'@type: DTMC\n@model\nstate 0 init g\n0 : 1/2\n', 'sums to'), (b'@type: CTMC\n', 'UnsupportedType')):
@@ -246,21 +247,21 @@ class Mistakes(InFolder):
             self.wrong('bounds', self.file('m.drn', text), '--goal', 'g', *region, says=says)
         self.wrong('bounds', RETRY, '--goal', 'lsot', '--region', REGION, says='UnknownLabel')
 
-    def test_folders(self):
+    def test_folders(self) -> None:
         self.file('mine.txt', b'')
         self.wrong('bounds', *QUESTION, '--keep', str(self.folder), says='holds other files')
         self.wrong('bounds', *QUESTION, '--keep', str(self.folder / 'mine.txt'), says='can\'t be used')
         self.wrong('verify', *QUESTION, '--bound', '1', '--report', str(self.folder), says='can\'t be written')
         self.assertEqual(os.listdir(str(self.folder)), ['mine.txt'])
 
-    def test_one_at_a_time_in_a_folder(self):
+    def test_one_at_a_time_in_a_folder(self) -> None:
         folder = str(self.folder / 'k')
         held = Evidence(folder)
         self.wrong('bounds', *QUESTION, '--keep', folder, says='in use by another')
         held.close()
         self.assertEqual(run('bounds', *QUESTION, '--keep', folder)[0], 0)
 
-    def test_no_program(self):
+    def test_no_program(self) -> None:
         with mock.patch.dict(os.environ, {'PLIFT_PROGRAM': '/nowhere/plift'}):
             self.wrong('verdict', TREE, status=70, says='is no program')
         text = self.file('text', b'no program\n')
@@ -272,7 +273,7 @@ class Mistakes(InFolder):
         with mock.patch.dict(os.environ, {'PLIFT_PROGRAM': liar}):
             self.wrong('verdict', RETRY, says='isn\'t in a form')
 
-    def test_the_first_program_that_is_there(self):
+    def test_the_first_program_that_is_there(self) -> None:
         places = {name: self.folder / name for name in ('BUILT', 'RELEASED', 'plift', 'QUICK')}
         for path in places.values():
             self.file(path.name, b'#!/bin/sh\n')
@@ -293,13 +294,13 @@ class Mistakes(InFolder):
             with self.assertRaises(Fault):
                 find_program()
 
-    def test_help(self):
+    def test_help(self) -> None:
         for words in ((), ('verify',), ('bounds',), ('threshold',), ('verdict',), ('leaves',), ('view',), ('explain',)):
             status, told, err = run(*words, '--help')
             self.assertEqual((status, err), (0, ''))
             self.assertIn('statuses: ', told)
 
-    def test_explain(self):
+    def test_explain(self) -> None:
         for note in ('usage: words', 'usage: --region Missing', 'model: line 3: Power',
                      'rows: state 0 choice 1: set 0 sums to 9999', 'not sound: node 0 axis', 'too long', 'plift-lab: plift refuses this: model: line 31: UnknownLabel'):
             status, told, _ = run('explain', *note.split(' '))
@@ -309,7 +310,7 @@ class Mistakes(InFolder):
 
 class Interrupted(InFolder):
 
-    def test_ends_cleanly(self):
+    def test_ends_cleanly(self) -> None:
         """A long job is interrupted: no trace, no process, no half report, and the folder can be used again."""
         slow = self.file('slow', b'#!/bin/sh\necho plift 1\nexec sleep 60\n')
         os.chmod(slow, 0o755)
@@ -329,12 +330,12 @@ class Interrupted(InFolder):
             self.assertEqual(list(keep.glob('*.part')) + list(keep.glob('*.report')), [])
         self.assertEqual(run('bounds', *QUESTION, '--keep', str(keep))[0], 0)
 
-    def test_a_file_that_was_not_written_whole_is_not_left(self):
+    def test_a_file_that_was_not_written_whole_is_not_left(self) -> None:
         with mock.patch('plift_lab.evidence.os.replace', side_effect=KeyboardInterrupt), self.assertRaises(KeyboardInterrupt):
             write_file(self.folder / 'a', b'text')
         self.assertEqual(os.listdir(str(self.folder)), [])
 
-    def test_in_a_part_that_is_asked_again(self):
+    def test_in_a_part_that_is_asked_again(self) -> None:
         keep, parts = self.folder / 'kept', ('--region', REGION, '--depth', '4', '--keep', str(self.folder / 'kept'))
         words = ('verify', RETRY, '--goal', 'lost', '--bound', '1/40', *parts)
         self.assertEqual(run(*words)[0], 0)
@@ -354,7 +355,7 @@ class Interrupted(InFolder):
         self.assertEqual([path.name for path in keep.glob('*.part')], [])
         self.assertEqual([path.name for path in keep.glob('*.report')], ['1.report'])
 
-    def test_a_reader_that_ends(self):
+    def test_a_reader_that_ends(self) -> None:
         command = '"%s" leaves "%s" --json | head -c 5; exit "${PIPESTATUS[0]}"' % (TOP / 'plift-lab', TREE)
         done = subprocess.run(['bash', '-c', command], stdout=subprocess.PIPE, stderr=subprocess.PIPE)
         self.assertIn(done.returncode, (0, 6))

@@ -4,6 +4,8 @@ import unittest
 from contextlib import contextmanager
 from dataclasses import replace
 from fractions import Fraction
+from pathlib import Path
+from typing import Any, Iterator, List
 from unittest import mock
 
 from plift_lab.cover import cover, levels_due
@@ -28,7 +30,7 @@ PRODUCT = (b'@type: DTMC\n@parameters\np q r s\n@model\nstate 0 init\n1 : p*q*r*
 NARROW = ','.join('%s=0.10001..0.9' % name for name in 'pqrs')
 
 
-def questions():
+def questions() -> Iterator[Question]:
     """Some of one version and some of the other, of chains and of decision processes."""
     for name, goal, bound, region, precision in (
             ('coin.drn', 'heads', '1/3', 'p=1/10..9/10', 10), ('links.drn', 'lost', '1/10', 'p=1/20..2/5,q=1/20..2/5', 16),
@@ -40,7 +42,7 @@ def questions():
 
 
 @contextmanager
-def costing(start, rectangle):
+def costing(start: float, rectangle: float) -> Iterator[None]:
     """A model that takes so long."""
     with mock.patch.object(Pace, 'costs', (start, rectangle)), mock.patch('plift_lab.deeper.COLD', 0):
         yield
@@ -48,7 +50,7 @@ def costing(start, rectangle):
 
 class Bytes(unittest.TestCase):
 
-    def test_whatever_is_asked_again(self):
+    def test_whatever_is_asked_again(self) -> None:
         for question in questions():
             with Session() as session:
                 due = {depth: session.ask(replace(question, depth=depth)).data for depth in (3, 6, 8)}
@@ -60,10 +62,10 @@ class Bytes(unittest.TestCase):
                         self.assertEqual(report.data, due[depth])
                         self.assertEqual(report.origin.words[report.origin.words.index('--depth') + 1], str(depth))
 
-    def test_what_is_decided_is_not_asked_again(self):
+    def test_what_is_decided_is_not_asked_again(self) -> None:
         asked = []
 
-        def verify(self, words, *others):
+        def verify(self: Program, words: List[str], *others: Any) -> float:
             asked.append((words[words.index('--bound') + 1], words[words.index('--region') + 1]))
             return real(self, words, *others)
 
@@ -77,7 +79,7 @@ class Bytes(unittest.TestCase):
         # First the whole, with the bound 1: has it room at this depth?
         self.assertEqual(asked, [('1', RETRY.region.text)] + [('1/40', region) for region in regions])
 
-    def test_fewer_bits_where_the_finer_grid_has_no_room(self):
+    def test_fewer_bits_where_the_finer_grid_has_no_room(self) -> None:
         question = Question(Model(PRODUCT), 'a', Fraction(1, 10), Region.read(NARROW))
         with Session() as session:
             base = session.ask(replace(question, depth=2))
@@ -85,8 +87,8 @@ class Bytes(unittest.TestCase):
             self.assertLess(deeper.precision, base.precision)
             self.assertEqual(deeper.data, session.ask(replace(question, depth=8)).data)
 
-    def test_an_answer_of_another_job_is_refused(self):
-        def ask(region, bound, depth, report):
+    def test_an_answer_of_another_job_is_refused(self) -> None:
+        def ask(region: Region, bound: Fraction, depth: int, report: Path) -> float:
             report.write_bytes(RANGE)
             return 0.0
 
@@ -99,7 +101,7 @@ class Bytes(unittest.TestCase):
 
 class Cover(unittest.TestCase):
 
-    def slowly(self, question, *shares):
+    def slowly(self, question: Question, *shares: Fraction) -> Iterator[Report]:
         """What is found by asking the whole at every second depth."""
         with Session() as session:
             depth, report = 0, session.ask(replace(question, depth=0))
@@ -109,7 +111,7 @@ class Cover(unittest.TestCase):
                     report = session.ask(replace(question, depth=depth))
                 yield report
 
-    def test_the_least_depth(self):
+    def test_the_least_depth(self) -> None:
         shares = Fraction(1, 2), Fraction(9, 10), Fraction(19, 20)
         for question in questions():
             for share, due in zip(shares, self.slowly(question, *shares)):
@@ -117,7 +119,7 @@ class Cover(unittest.TestCase):
                     found = cover(session, question, share, lambda report: None)
                     self.assertEqual((found.data, found.origin), (due.data, due.origin))
 
-    def test_a_report_that_went_too_far_is_cut(self):
+    def test_a_report_that_went_too_far_is_cut(self) -> None:
         question = replace(RETRY, bound=Fraction(1, 1000), depth=0)
         with Session() as session:
             asked = []
@@ -127,9 +129,9 @@ class Cover(unittest.TestCase):
         self.assertGreater(asked[-1], found.depth)
         self.assertEqual(found.data, next(self.slowly(question, Fraction(9, 10))).data)
 
-    def test_a_leap_that_is_refused(self):
+    def test_a_leap_that_is_refused(self) -> None:
         """Where a report is too long the next one may not be."""
-        def refuses(self, question, base):
+        def refuses(self: Session, question: Question, base: Report) -> Report:
             if question.depth > base.depth + 2 or question.depth > 8:
                 raise Refused(7, 'too long', [], b'')
             return deepen(self, question, base)
@@ -137,7 +139,7 @@ class Cover(unittest.TestCase):
         with Session() as session, mock.patch.object(Session, 'deepen', refuses):
             self.assertEqual(cover(session, replace(RETRY, depth=0), Fraction(1), lambda report: None).depth, 8)
 
-    def test_levels(self):
+    def test_levels(self) -> None:
         with Session() as session:
             first = session.ask(replace(RETRY, depth=0))
             later = session.ask(replace(RETRY, depth=8))
@@ -148,19 +150,19 @@ class Cover(unittest.TestCase):
 
 class Parts(unittest.TestCase):
 
-    def setUp(self):
+    def setUp(self) -> None:
         with Session() as session:
             self.report = session.ask(replace(RETRY, depth=8))
 
-    def test_starts_that_cost_nothing(self):
+    def test_starts_that_cost_nothing(self) -> None:
         self.assertEqual(cheapest_parts(self.report, 0.0, 1.0), unknown_parts(self.report))
         self.assertEqual(len(unknown_parts(self.report)), self.report.nodes.count('unknown'))
 
-    def test_starts_that_are_dear(self):
+    def test_starts_that_are_dear(self) -> None:
         # All that is unknown lies in a quarter of the region.
         self.assertEqual([part.depth for part in cheapest_parts(self.report, 10.0 ** 6, 1.0)], [2])
 
-    def test_in_between(self):
+    def test_in_between(self) -> None:
         """All that is unknown is in one part, and no part costs more than what it stands for."""
         parts = cheapest_parts(self.report, 4.0, 1.0)
         self.assertEqual([part.start for part in parts], sorted(part.start for part in parts))
@@ -168,12 +170,12 @@ class Parts(unittest.TestCase):
         self.assertEqual(left, [])
         self.assertTrue(1 < len(parts) < self.report.nodes.count('unknown'))
 
-    def test_nothing_is_unknown(self):
+    def test_nothing_is_unknown(self) -> None:
         with Session() as session:
             report = session.ask(replace(RETRY, bound=Fraction(1)))
         self.assertEqual(cheapest_parts(report, 1.0, 1.0), [])
 
-    def test_pace(self):
+    def test_pace(self) -> None:
         pace = Pace()
         self.assertIsNone(pace.costs)
         pace.note(1, 1, 3.0)
@@ -186,7 +188,7 @@ class Parts(unittest.TestCase):
 
 class Commands(InFolder):
 
-    def test_coverage(self):
+    def test_coverage(self) -> None:
         keep, report = str(self.folder / 'k'), str(self.folder / 'a.report')
         words = ('verify', str(EXAMPLES / 'retry.drn'), '--goal', 'lost', '--bound', '1/40', '--region', REGION)
         status, told, _ = run(*words, '--coverage', '95%', '--keep', keep, '--report', report)
@@ -196,7 +198,7 @@ class Commands(InFolder):
         with mock.patch.object(Program, 'verify', side_effect=AssertionError):  # all is there already
             self.assertEqual(run(*words, '--coverage', '95%', '--keep', keep, '--report', report)[:2], (0, told))
 
-    def test_a_range_of_precisions(self):
+    def test_a_range_of_precisions(self) -> None:
         report = str(self.folder / 'a.report')
         words = ('verify', str(EXAMPLES / 'retry.drn'), '--goal', 'lost', '--bound', '1/40', '--region', REGION,
                  '--precision', '12')
@@ -211,7 +213,7 @@ class Commands(InFolder):
             says = 'plift-lab: --from is a whole number from 1 to 12, and not %r\n' % wrong
             self.assertEqual((status, told, fault), (2, '', says))
 
-    def test_a_word_without_anything_in_it(self):
+    def test_a_word_without_anything_in_it(self) -> None:
         words = (str(EXAMPLES / 'retry.drn'), '--goal', 'lost', '--region', REGION)
         for command, option in (('verify', '--coverage'), ('verify', '--precision'), ('verify', '--report'),
                                 ('verify', '--keep'), ('bounds', '--width'), ('threshold', '--width')):
@@ -222,7 +224,7 @@ class Commands(InFolder):
 
 class Long(unittest.TestCase):
 
-    def test_a_report_may_be_longer_than_a_model(self):
+    def test_a_report_may_be_longer_than_a_model(self) -> None:
         with Session() as session, mock.patch('plift_lab.session.read_file', wraps=read_file) as read:
             session.read(TREE)
             session.ask(RETRY)
@@ -231,7 +233,7 @@ class Long(unittest.TestCase):
 
 class Texts(unittest.TestCase):
 
-    def test_where_nodes_begin(self):
+    def test_where_nodes_begin(self) -> None:
         for data in (RANGE, read_file(TREE)):
             report = Report(data, '')
             ends = [*report.starts[1:], len(data)]

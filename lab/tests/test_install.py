@@ -14,7 +14,7 @@ from .helpers import TOP, TREE, InFolder
 class Install(InFolder):
 
     @unittest.skipUnless(importlib.util.find_spec('pip'), 'needs pip')
-    def test_offline(self):
+    def test_offline(self) -> None:
         install = [sys.executable, '-m', 'pip', 'install', '--no-index', '--quiet', '--disable-pip-version-check', '--target']
         done = subprocess.run(install + [str(self.folder / 'there'), str(TOP / 'lab')], stdout=subprocess.PIPE,
                               stderr=subprocess.STDOUT)

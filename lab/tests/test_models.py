@@ -5,6 +5,7 @@ import operator
 import re
 import unittest
 from fractions import Fraction
+from typing import List, Mapping
 
 from plift_lab.models import Model
 from plift_lab.regions import Region
@@ -14,9 +15,9 @@ from .helpers import EXAMPLES
 OPERATIONS = {ast.Add: operator.add, ast.Sub: operator.sub, ast.Mult: operator.mul, ast.Div: operator.truediv}
 
 
-def worth(value, valuation):
+def worth(value: str, valuation: Mapping[str, Fraction]) -> Fraction:
     """A value at a valuation, by a reader that shares nothing with the tool."""
-    def of(node):
+    def of(node: ast.expr) -> Fraction:
         if isinstance(node, ast.BinOp):
             return OPERATIONS[type(node.op)](of(node.left), of(node.right))
         if isinstance(node, ast.UnaryOp):
@@ -26,7 +27,7 @@ def worth(value, valuation):
     return of(ast.parse(value.strip(), mode='eval').body)
 
 
-def values(model):
+def values(model: Model) -> List[str]:
     """The values behind colons, in their order; places of placeholders stay as they are."""
     lines = model.text.decode().split('@model')
     placed = re.findall(r'^\s*\$\w+\s*:(.*)$', lines[0], re.M)
@@ -52,7 +53,7 @@ state 1 p
 
 class Rescaled(unittest.TestCase):
 
-    def same(self, model, region):
+    def same(self, model: Model, region: Region) -> None:
         changed, units, scale = model.rescaled(region)
         self.assertEqual([(name, low, high) for name, low, high in units.intervals], [(name, 0, 1) for name in region.names])
         old, new = values(model), values(changed)
@@ -64,7 +65,7 @@ class Rescaled(unittest.TestCase):
                 self.assertEqual(worth(before, user), worth(after, own), (before, after))
         return changed
 
-    def test_all_examples(self):
+    def test_all_examples(self) -> None:
         tried = 0
         for path in sorted(EXAMPLES.glob('*.drn')):
             model = Model(path.read_bytes())
@@ -73,7 +74,7 @@ class Rescaled(unittest.TestCase):
             tried += 1
         self.assertGreater(tried, 8)
 
-    def test_only_values_are_changed(self):
+    def test_only_values_are_changed(self) -> None:
         model = Model(TEXT)
         self.assertEqual(model.parameters, ['p', 'q', 'e'])
         changed = self.same(model, Region.read('-1/2<=p<=1,0<=q<=1/3,0<=e<=2'))
@@ -83,12 +84,12 @@ class Rescaled(unittest.TestCase):
         self.assertIn(b'$p : 1-(-1/2+3/2*p)\n', changed.text)
         self.assertIn(b'3 : -(-1/2+3/2*p)+1e0*(2*e)\n', changed.text)
 
-    def test_a_value_is_written_in(self):
+    def test_a_value_is_written_in(self) -> None:
         changed = Model(TEXT).fixed(Region.read('p=-1/4,0<=q<=1,0<=e<=1'))
         self.assertEqual(changed.parameters, ['q', 'e'])
         self.assertIn(b'1 : 1/2*(-1/4)*q+5e-1*(1-(-1/4))\n', changed.text)
 
-    def test_no_parameters(self):
+    def test_no_parameters(self) -> None:
         self.assertEqual(Model(b'@type: DTMC\n@model\nstate 0 init\n0 : 1\n').parameters, [])
         self.assertEqual(Model(b'@parameters\n@model\n').parameters, [])
         self.assertEqual(Model(b'\xff\x00@parameters').parameters, [])

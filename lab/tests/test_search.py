@@ -4,11 +4,12 @@ import unittest
 from fractions import Fraction
 
 import plift_lab
+from plift_lab.regions import Region
 
 from .helpers import LINKS, RETRY
 
 
-def lost(p, q):
+def lost(p: Fraction, q: Fraction) -> Fraction:
     """What examples/links.drn loses: four attempts over two links."""
     total = Fraction(0)
     for first in range(1, 5):  # the first link succeeds at this attempt
@@ -18,12 +19,12 @@ def lost(p, q):
 
 class Bounds(unittest.TestCase):
 
-    def test_hull(self):
+    def test_hull(self) -> None:
         found = plift_lab.bounds(RETRY, 'lost', 'p=1/10..3/10,q=1/20..1/5')
         self.assertEqual((found.sup.most, found.inf.least, found.precision),
                          (Fraction(14843406975, 549755813888), Fraction(1099511627, 1099511627776), 40))
 
-    def test_width(self):
+    def test_width(self) -> None:
         width = Fraction(1, 1000)
         found = plift_lab.bounds(LINKS, 'lost', 'p=1/10..1/2,q=1/10..1/2', width)
         half, tenth = Fraction(1, 2), Fraction(1, 10)
@@ -35,7 +36,7 @@ class Bounds(unittest.TestCase):
         self.assertTrue(all(end.value <= found.sup.most for _, end in found.sup.cover))
         self.assertTrue(all(end.value >= found.inf.least for _, end in found.inf.cover))
 
-    def test_inside(self):
+    def test_inside(self) -> None:
         """p (1 - p), which is greatest in the middle: 1/4 at p = 1/2."""
         model = (b'@type: DTMC\n@parameters\np\n@model\nstate 0 init\n1 : p\n2 : 1-p\nstate 1\n2 : p\n3 : 1-p\n'
                  b'state 2\n2 : 1\nstate 3 both\n3 : 1\n')
@@ -44,22 +45,22 @@ class Bounds(unittest.TestCase):
         self.assertTrue(found.inf.least <= Fraction(9, 100) <= found.inf.most)
         self.assertLessEqual(found.sup.most - found.sup.least, Fraction(1, 100))
 
-    def test_stops_at_its_calls(self):
+    def test_stops_at_its_calls(self) -> None:
         found = plift_lab.bounds(LINKS, 'lost', 'p=1/10..1/2,q=1/10..1/2', '1e-12', calls=20)
         self.assertTrue(found.sup.is_short and found.inf.is_short)
 
-    def test_a_width_below_rounding(self):
+    def test_a_width_below_rounding(self) -> None:
         found = plift_lab.bounds(str(RETRY), 'lost', 'p=1/10..3/10,q=1/20', '1e-14', precision=8, calls=60)
         self.assertTrue(found.sup.is_short)
         self.assertLessEqual(found.sup.least, Fraction(27, 1000))
         self.assertGreaterEqual(found.sup.most, Fraction(27, 1000))
 
-    def test_unreachable(self):
+    def test_unreachable(self) -> None:
         found = plift_lab.bounds(b'@type: DTMC\n@model\nstate 0 init\n0 : 1\nstate 1 goal\n1 : 1\n', 'goal', width='1e-6')
         self.assertEqual((found.sup.most, found.inf.least), (0, 0))
 
 
-def share(region):
+def share(region: Region) -> Fraction:
     """Of the unit that the tests' regions of two sides of 2/5 have."""
     volume = Fraction(1)
     for _, low, high in region.intervals:
@@ -69,7 +70,7 @@ def share(region):
 
 class Threshold(unittest.TestCase):
 
-    def test_greatest(self):
+    def test_greatest(self) -> None:
         edge = plift_lab.threshold(LINKS, 'lost', '1/20', 'p', 'p=1/10..1/2,q=1/10..1/5', '1e-5')
         fifth = Fraction(1, 5)
         self.assertLessEqual(lost(edge.good, fifth), Fraction(1, 20))
@@ -77,14 +78,14 @@ class Threshold(unittest.TestCase):
         self.assertLess(edge.limit - edge.good, Fraction(1, 10 ** 4))
         self.assertEqual((edge.inside.verdict, edge.inside.region['p']), ('accepted', (Fraction(1, 10), edge.good)))
 
-    def test_least(self):
+    def test_least(self) -> None:
         edge = plift_lab.threshold(LINKS, 'delivered', '9/10', 'p', 'p=1/10..1/2,q=1/10..1/5', '1e-4', least=True)
         tenth = Fraction(1, 10)
         self.assertLessEqual(1 - lost(edge.good, tenth), Fraction(9, 10))
         self.assertGreater(1 - lost(edge.limit, tenth), Fraction(9, 10))
         self.assertLess(edge.good - edge.limit, Fraction(1, 1000))
 
-    def test_all_and_nothing(self):
+    def test_all_and_nothing(self) -> None:
         self.assertEqual(plift_lab.threshold(LINKS, 'lost', 1, 'p', 'p=1/10..1/2,q=1/10..1/5').good, Fraction(1, 2))
         nothing = plift_lab.threshold(LINKS, 'lost', 0, 'p', 'p=1/10..1/2,q=1/10..1/5')
         self.assertIsNone(nothing.inside)

@@ -19,15 +19,15 @@ def definitions() -> Iterator[Tuple[str, str, str]]:
 
 
 class Definitions(unittest.TestCase):
-    def test_each_has_a_comment(self):
+    def test_each_has_a_comment(self) -> None:
         bare = [place for place, line, above in definitions() if DEFINED.match(line) and not above.lstrip().startswith("--")]
         self.assertEqual(bare, [])
 
-    def test_none_cites_a_constant_of_code(self):
+    def test_none_cites_a_constant_of_code(self) -> None:
         citing = [place for place, line, _ in definitions() if line.startswith("use ") and "TheConstants" in line]
         self.assertEqual(citing, [])
 
-    def test_there_are_some(self):
+    def test_there_are_some(self) -> None:
         self.assertGreater(sum(1 for _, line, _ in definitions() if DEFINED.match(line)), 500)
 
 

@@ -9,7 +9,7 @@ import tempfile
 import unittest
 from pathlib import Path
 from types import ModuleType
-from typing import List, Mapping, Optional, Sequence, Union
+from typing import Any, List, Mapping, Optional, Sequence, Union
 
 sys.dont_write_bytecode = True
 TOP = Path(__file__).resolve().parents[2]
@@ -81,7 +81,7 @@ class DoorCase(unittest.TestCase):
     # What is copied from this checkout.
     PARTS = ("plift", "plift-view", "VERSION", "tools", "man", "completion", "install")
 
-    def setUp(self):
+    def setUp(self) -> None:
         self.room = Path(tempfile.mkdtemp(prefix="door test-"))
         self.addCleanup(shutil.rmtree, self.room, ignore_errors=True)
         self.top = self.room / "a checkout"
@@ -115,7 +115,8 @@ class DoorCase(unittest.TestCase):
         write_program(program, STAND_IN)
         return program
 
-    def run_door(self, *words: str, door: Union[Path, str] = "", shell: Sequence[str] = (), environment: Mapping[str, str] = {}, **how):
+    def run_door(self, *words: str, door: Union[Path, str] = "", shell: Sequence[str] = (), environment: Mapping[str, str] = {},
+                 **how: Any) -> subprocess.CompletedProcess:
         """Runs ./plift, or another launcher, on these words."""
         command = [*shell, str(door or self.top / "plift"), *words]
         how = {"input": b"", **how} if "stdin" not in how else how

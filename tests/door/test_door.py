@@ -7,6 +7,7 @@ import signal
 import subprocess
 import time
 import unittest
+from typing import Dict
 
 from common import DoorCase
 
@@ -28,7 +29,7 @@ NO_CARGO = "import sys; print('quick: no cargo', file=sys.stderr); sys.exit(70)\
 
 
 class Door(DoorCase):
-    def hinted(self):
+    def hinted(self) -> Dict[str, str]:
         """Puts hints in the place of the real ones: they tell what they are given."""
         (self.top / "tools/hints.py").write_text(HINTS)
         return {"PLIFT_HINTS": "1"}
@@ -37,7 +38,7 @@ class Door(DoorCase):
 class Answers(Door):
     """What is told without a program."""
 
-    def test_help(self):
+    def test_help(self) -> None:
         texts = {path.stem: path.read_bytes() for path in (self.top / "man/help").glob("*.txt")}
         for shell in SHELLS:
             for words in (["--help"], ["-h"], ["help"], ["--quick", "--help"]):
@@ -50,7 +51,7 @@ class Answers(Door):
                 ran = self.run_door(*words)
                 self.assertEqual((ran.returncode, ran.stdout, ran.stderr), (0, texts[command], b""), words)
 
-    def test_version(self):
+    def test_version(self) -> None:
         self.assertEqual(self.version(), "plift 0.9.0 (not built)\n")
         program = self.built()
         self.assertEqual(self.version(), "plift 0.9.0 (proved)\n")
@@ -59,7 +60,7 @@ class Answers(Door):
         self.assertEqual(self.version(), "plift 0.9.0 (proved, sources are newer)\n")
         self.assertEqual(self.version("--quick"), "plift 0.9.0 (not built)\n")
 
-    def test_version_tells_the_commit(self):
+    def test_version_tells_the_commit(self) -> None:
         git = ["git", "-C", str(self.top), "-c", "user.name=x", "-c", "user.email=x@example.org"]
         for words in (["init", "-q"], ["add", "."], ["commit", "-q", "-m", "x"]):
             subprocess.run([*git, *words], check=True)
@@ -68,7 +69,7 @@ class Answers(Door):
         (self.top / "crates/plift/src/lib.rt").write_text("changed\n")
         self.assertEqual(self.version(), f"plift 0.9.0 (commit {commit} with changes, not built)\n")
 
-    def test_plain_faults_are_told_before_a_build(self):
+    def test_plain_faults_are_told_before_a_build(self) -> None:
         for line in ("plift", "plift verfy", "plift help me", "plift verify --goal x", "plift-view x", "plift --quick"):
             name, *words = line.split()
             ran = self.run_door(*words, door=self.top / name, environment={"PLIFT_HINTS": "1"})
@@ -77,7 +78,7 @@ class Answers(Door):
             self.assertTrue(hints and all(hint.startswith("hint: ") for hint in hints), hints)
         self.assertEqual(self.lines(), [])
 
-    def test_a_program_that_is_built_answers_itself(self):
+    def test_a_program_that_is_built_answers_itself(self) -> None:
         self.built()
         self.assertEqual(self.run_door("verfy", environment={"STATUS": "2"}).stdout, b"<verfy>\n")
 
@@ -85,7 +86,7 @@ class Answers(Door):
 class Runs(Door):
     """What the program gets and gives."""
 
-    def test_words_and_streams_are_unchanged(self):
+    def test_words_and_streams_are_unchanged(self) -> None:
         self.built()
         told = "".join(f"<{word}>" for word in WORDS) + "\n"
         for environment in ({}, self.hinted()):
@@ -94,7 +95,7 @@ class Runs(Door):
                 ran = self.run_door(*WORDS, shell=shell, input=given, environment={**environment, "COPY": "1"})
                 self.assertEqual((ran.returncode, ran.stdout, ran.stderr), (0, told.encode() + given, b""), shell)
 
-    def test_statuses_and_notes(self):
+    def test_statuses_and_notes(self) -> None:
         self.built()
         for shell in SHELLS:
             for status in (0, 1, 2, 8, 70):
@@ -109,7 +110,7 @@ class Runs(Door):
                 self.assertTrue(ran.stderr.decode().startswith("a note  \\n\n" + hint), ran.stderr)
                 os.unlink(self.top / "tools/hints.py")
 
-    def test_hints_of_the_view(self):
+    def test_hints_of_the_view(self) -> None:
         self.built("plift_view")
         environment = {"STATUS": "2", "NOTE": "note", **self.hinted()}
         script = "import os, sys\nprint('hint:', os.environ['PLIFT_PROGRAM'], file=sys.stderr)\n"
@@ -119,7 +120,7 @@ class Runs(Door):
         self.assertEqual(ran.stderr, b"note\nhint: plift-view\n")
         self.assertEqual(self.run_door("--follow", door=view, environment=environment).stderr, b"note\n")
 
-    def test_no_hints_where_they_are_not_wanted_or_missing(self):
+    def test_no_hints_where_they_are_not_wanted_or_missing(self) -> None:
         self.built()
         environment = {"STATUS": "3", "NOTE": "note"}
         self.assertEqual(self.run_door(environment={**environment, "PLIFT_HINTS": "1"}).stderr, b"note\n")
@@ -130,7 +131,7 @@ class Runs(Door):
         ran = self.run_door(environment={**environment, "PLIFT_HINTS": "1"})
         self.assertEqual((ran.returncode, ran.stderr), (3, b"note\n"))
 
-    def test_closed_streams(self):
+    def test_closed_streams(self) -> None:
         self.built()
         for environment in ({}, self.hinted()):
             for shut in ("<&-", "2>&-", "<&- 2>&-"):
@@ -138,7 +139,7 @@ class Runs(Door):
                 ran = self.run_door("check", shell=shell, environment={**environment, "STATUS": "5"})
                 self.assertEqual((ran.returncode, ran.stdout), (5, b"<check>\n"), shut)
 
-    def test_a_program_that_dies_by_a_signal(self):
+    def test_a_program_that_dies_by_a_signal(self) -> None:
         self.built()
         for environment in ({}, self.hinted()):
             for shell in SHELLS:
@@ -147,7 +148,7 @@ class Runs(Door):
                     status = -getattr(signal, f"SIG{name}")
                     self.assertEqual((ran.returncode, ran.stderr), (status, b""), (shell, name, environment))
 
-    def test_a_signal_ends_the_program_too(self):
+    def test_a_signal_ends_the_program_too(self) -> None:
         self.built()
         slept = self.room / "slept"
         for environment in ({}, self.hinted()):
@@ -167,7 +168,7 @@ class Runs(Door):
                     self.assertFalse(os.path.exists(f"/proc/{program}"))
                     slept.unlink()
 
-    def test_a_terminal(self):
+    def test_a_terminal(self) -> None:
         self.built()
         self.hinted()
         try:
@@ -191,7 +192,7 @@ class Runs(Door):
 class Finds(Door):
     """How the program is found, or built."""
 
-    def test_through_a_link_and_with_cdpath(self):
+    def test_through_a_link_and_with_cdpath(self) -> None:
         self.built()
         link = self.room / "a link"
         link.symlink_to(self.top / "plift")
@@ -204,14 +205,14 @@ class Finds(Door):
         ran = self.run_door("y", door="a link", shell=["env"], cwd=empty, environment=path)
         self.assertEqual(ran.stdout, b"<y>\n", ran.stderr)
 
-    def test_its_folder_is_lost(self):
+    def test_its_folder_is_lost(self) -> None:
         alone = self.room / "alone/plift"
         alone.parent.mkdir()
         shutil.copy2(self.top / "plift", alone)
         ran = self.run_door("x", door=alone)
         self.assertEqual((ran.returncode, ran.stdout, ran.stderr), (70, b"", b"plift: its own folder isn't found\n"))
 
-    def test_builds_where_it_is_not_built(self):
+    def test_builds_where_it_is_not_built(self) -> None:
         ran = self.run_door("check", input=b"text", environment={"COPY": "1"})
         self.assertEqual((ran.returncode, ran.stdout), (0, b"<check>\ntext"), ran.stderr)
         told = ran.stderr.decode()
@@ -223,7 +224,7 @@ class Finds(Door):
         self.assertEqual(self.run_door("check").stderr, b"")
         self.assertEqual(len(self.lines()), count)
 
-    def test_sources_that_are_newer(self):
+    def test_sources_that_are_newer(self) -> None:
         program = self.built()
         os.utime(program, (2000, 2000))
         self.assertEqual(self.version(), "plift 0.9.0 (proved)\n")
@@ -243,14 +244,14 @@ class Finds(Door):
         self.assertIn(b"plift: the sources are newer than the proved program\n", ran.stderr)
         self.assertEqual(self.run_door("check").stderr, b"")
 
-    def test_a_start_takes_no_other_process(self):
+    def test_a_start_takes_no_other_process(self) -> None:
         self.built()
         self.assertEqual(self.run_door("check").stderr, b"")
         for environment in ({}, self.hinted()):
             ran = self.run_door("check", environment={**environment, "PATH": str(self.room / "nothing")})
             self.assertEqual((ran.returncode, ran.stdout, ran.stderr), (0, b"<check>\n", b""))
 
-    def test_without_python(self):
+    def test_without_python(self) -> None:
         alone = {"PATH": str(self.room / "nothing")}
         ran = self.run_door(environment=alone)
         self.assertEqual((ran.returncode, ran.stderr), (2, b"usage: words\n"))
@@ -259,7 +260,7 @@ class Finds(Door):
             self.assertEqual((ran.returncode, ran.stdout), (70, b""))
             self.assertIn(b"not on the PATH", ran.stderr)
 
-    def test_no_prover(self):
+    def test_no_prover(self) -> None:
         (self.room / "bin/rt").unlink()
         for name in ("plift", "plift-view"):
             words = ["check"] if name == "plift" else []
@@ -267,12 +268,12 @@ class Finds(Door):
             self.assertEqual((ran.returncode, ran.stdout), (70, b""))
             self.assertIn(f"{name}: the command rt of the Rattle kit is not on the PATH".encode(), ran.stderr)
 
-    def test_a_build_that_fails(self):
+    def test_a_build_that_fails(self) -> None:
         ran = self.run_door("check", environment={"BROKEN_CRATES": "lift_base"})
         self.assertEqual((ran.returncode, ran.stdout), (70, b""))
         self.assertIn(b"plift: lift_base was not built; see ", ran.stderr)
 
-    def test_logs_that_cannot_be_written(self):
+    def test_logs_that_cannot_be_written(self) -> None:
         (self.top / "build").mkdir()
         (self.top / "build/logs").write_text("a file\n")
         ran = self.run_door("check")
@@ -280,7 +281,7 @@ class Finds(Door):
         self.assertIn(b"plift: it was not built: ", ran.stderr)
         self.assertNotIn(b"Traceback", ran.stderr)
 
-    def test_quick(self):
+    def test_quick(self) -> None:
         (self.top / "tools/quick.py").write_text(QUICK)
         ran = self.run_door("--quick", "check", "--quick", environment={"STATUS": "1"})
         self.assertEqual((ran.returncode, ran.stderr), (2, b"usage: words\n"))

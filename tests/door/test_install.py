@@ -4,6 +4,8 @@ import os
 import shutil
 import subprocess
 import unittest
+from pathlib import Path
+from typing import Any, List
 
 from common import DoorCase, STAND_IN, TOP, write_program
 
@@ -13,26 +15,26 @@ COMMANDS = ["plift", "plift-recheck", "plift-view"]
 class Install(DoorCase):
     PARTS = DoorCase.PARTS + ("LICENSE", "CHANGELOG.md", "recheck", "examples")
 
-    def setUp(self):
+    def setUp(self) -> None:
         super().setUp()
         self.prefix = self.room / "it's a prefix"
 
-    def install(self, *words, **environment):
+    def install(self, *words: object, **environment: str) -> subprocess.CompletedProcess:
         environment = {**self.environment, **environment}
         command = [str(self.top / "install"), *map(str, words)]
         return subprocess.run(command, capture_output=True, text=True, env=environment, cwd=self.room)
 
-    def run_installed(self, name, *words, **how):
+    def run_installed(self, name: str, *words: str, **how: Any) -> subprocess.CompletedProcess:
         return self.run_door(*words, door=self.prefix / "bin" / name, **how)
 
-    def installed(self, root):
+    def installed(self, root: Path) -> List[str]:
         return sorted(str(path.relative_to(root)) for path in root.rglob("*") if not path.is_dir())
 
-    def both_built(self):
+    def both_built(self) -> None:
         self.built("plift")
         self.built("plift_view")
 
-    def test_what_is_installed_runs_without_the_checkout(self):
+    def test_what_is_installed_runs_without_the_checkout(self) -> None:
         self.both_built()
         ran = self.install(self.prefix)
         self.assertEqual((ran.returncode, ran.stdout), (0, ""), ran.stderr)
@@ -53,7 +55,7 @@ class Install(DoorCase):
         for page in (*pages, "bash-completion/completions/plift", "zsh/site-functions/_plift"):
             self.assertTrue((self.prefix / "share" / page).is_file(), page)
 
-    def test_installed_again_and_removed(self):
+    def test_installed_again_and_removed(self) -> None:
         self.both_built()
         (self.prefix / "bin").mkdir(parents=True)
         (self.prefix / "bin/other").write_text("not plift's\n")
@@ -67,7 +69,7 @@ class Install(DoorCase):
         ran = self.install("--uninstall", self.prefix)
         self.assertEqual((ran.returncode, ran.stderr.count("\n")), (1, 1))
 
-    def test_below_another_root(self):
+    def test_below_another_root(self) -> None:
         self.both_built()
         root = self.room / "root"
         self.assertEqual(self.install("/usr", DESTDIR=str(root)).returncode, 0)
@@ -75,18 +77,18 @@ class Install(DoorCase):
         self.assertEqual(self.install("--uninstall", "/usr", DESTDIR=str(root)).returncode, 0)
         self.assertEqual(self.installed(root), [])
 
-    def test_a_relative_prefix(self):
+    def test_a_relative_prefix(self) -> None:
         self.both_built()
         self.assertEqual(self.install("here").returncode, 0)
         self.assertEqual(self.run_door("x", door=self.room / "here/bin/plift", cwd="/").stdout, b"<x>\n")
 
-    def refused(self, *words, status=1):
+    def refused(self, *words: object, status: int = 1) -> str:
         ran = self.install(*words)
         self.assertEqual((ran.returncode, ran.stdout, ran.stderr.count("\n")), (status, "", 1), ran.stderr)
         self.assertTrue(ran.stderr.startswith("install: "), ran.stderr)
         return ran.stderr
 
-    def test_refusals(self):
+    def test_refusals(self) -> None:
         self.assertIn("isn't built", self.refused(self.prefix))
         self.assertFalse((self.prefix / "libexec/plift.new").exists())
         self.both_built()
@@ -98,7 +100,7 @@ class Install(DoorCase):
         os.utime(self.top / "crates/plift/out/plift", (900, 900))
         self.assertIn("newer", self.refused(self.prefix))
 
-    def test_further_commands_where_they_are_there(self):
+    def test_further_commands_where_they_are_there(self) -> None:
         self.both_built()
         write_program(self.top / "plift-lab", '#!/bin/sh\ncat "$(dirname "$0")/lab/words"; echo "$@"\n')
         (self.top / "lab").mkdir()
@@ -107,7 +109,7 @@ class Install(DoorCase):
         ran = self.run_installed("plift-lab", "x  y")
         self.assertEqual(ran.stdout, b"lab\nx  y\n")
 
-    def test_tiles_run_without_the_checkout(self):
+    def test_tiles_run_without_the_checkout(self) -> None:
         for part in ("plift-tiles", "tiles", "lab"):
             copy = shutil.copytree if (TOP / part).is_dir() else shutil.copy2
             copy(TOP / part, self.top / part)
@@ -121,7 +123,7 @@ class Install(DoorCase):
         ran = self.run_installed("plift-tiles", "split", "x", "--depth", "3", environment={"NOTE": "the installed", "STATUS": "1"}, cwd=self.room)
         self.assertEqual((ran.returncode, ran.stderr), (1, b"plift-tiles: plift refuses this: the installed\n"))
 
-    def test_quick_programs(self):
+    def test_quick_programs(self) -> None:
         quick = self.top / "tools/quick.py"
         quick.write_text("import sys; print('quick: no cargo', file=sys.stderr); sys.exit(70)\n")
         ran = self.install("--quick", self.prefix)

@@ -4,6 +4,8 @@ import os
 import random
 import subprocess
 import unittest
+from pathlib import Path
+from typing import Callable, List, Optional, Sequence, Union
 
 from common import TOP, quick_program, tool
 
@@ -183,41 +185,41 @@ VIEW = {
 
 
 class Line(unittest.TestCase):
-    def test_faults_of_plift(self):
+    def test_faults_of_plift(self) -> None:
         for words, note in PLIFT.items():
             self.assertEqual(line.plift_note(words.split()), note, words)
 
-    def test_plain_lines_pass(self):
+    def test_plain_lines_pass(self) -> None:
         for words in PLAIN:
             self.assertIsNone(line.plift_note(words.split()), words)
 
-    def test_formulas(self):
+    def test_formulas(self) -> None:
         for text, cause in FORMULAS.items():
             note = f"usage: --formula {cause}" if cause else None
             self.assertEqual(line.plift_note(["property", "--formula", text or " "]), note if text else "usage: --formula Syntax", text)
 
-    def test_faults_of_view(self):
+    def test_faults_of_view(self) -> None:
         for words, is_fault in VIEW.items():
             self.assertEqual(line.view_note(words.split()), "usage: words" if is_fault else None, words)
 
-    def told(self, word, hints):
+    def told(self, word: Union[str, bytes], hints: str) -> subprocess.CompletedProcess:
         """What is told of a word, where hints are asked for or not."""
         words = ["python3", TOP / "tools/line.py", "plift", word]
         return subprocess.run(words, env={**os.environ, "PLIFT_HINTS": hints}, capture_output=True)
 
-    def test_note_and_hint(self):
+    def test_note_and_hint(self) -> None:
         ran = self.told("verfy", "1")
         self.assertEqual((ran.returncode, ran.stdout), (2, b""))
         note, *hints = ran.stderr.splitlines()
         self.assertEqual(note, b"usage: words")
         self.assertTrue(hints and all(it.startswith(b"hint: ") for it in hints), hints)
 
-    def test_note_alone_where_no_hints_are_wanted(self):
+    def test_note_alone_where_no_hints_are_wanted(self) -> None:
         for hints in ("", "0"):
             ran = self.told("verfy", hints)
             self.assertEqual((ran.returncode, ran.stdout, ran.stderr), (2, b"", b"usage: words\n"))
 
-    def test_word_that_is_no_text_has_no_note(self):
+    def test_word_that_is_no_text_has_no_note(self) -> None:
         ran = self.told(b"\xff", "1")
         self.assertEqual(ran.returncode, 2)
         self.assertTrue(ran.stderr.startswith(b"hint: "), ran.stderr)
@@ -227,12 +229,12 @@ class Line(unittest.TestCase):
 class AgainstTheProgram(unittest.TestCase):
     """Lines made at random, asked of the program that isn't proved, where it is built."""
 
-    def asked(self, program, words):
+    def asked(self, program: Path, words: Sequence[str]) -> Optional[str]:
         ran = subprocess.run([program, *words], stdin=subprocess.DEVNULL, capture_output=True, text=True)
         note = ran.stderr.rstrip("\n")
         return note if note.startswith("usage: ") and ran.returncode == 2 else None
 
-    def compare(self, name, front, note_of):
+    def compare(self, name: str, front: Callable[[random.Random], List[str]], note_of: Callable[[List[str]], Optional[str]]) -> None:
         program, chance = quick_program(name), random.Random(1)
         if program is None:
             self.skipTest("build/quick has no program")
@@ -243,14 +245,14 @@ class AgainstTheProgram(unittest.TestCase):
                 continue
             self.assertEqual(note, self.asked(program, words), words)
 
-    def test_plift(self):
+    def test_plift(self) -> None:
         fronts = ["", "verify", "verify --goal a", "verify --goal a --bound 1/2", "verify --goal=a --bound", "generate",
                   "lumped --goal a --bound 1/2", "bounded --goal a --bound 1/2", "bounded --goal a --bound 1/2 --steps",
                   "property", "property --formula", 'property --formula P<=1[F"a"]', "cost --goal a --reward b --budget 1",
                   "cost --goal a --reward b --budget 1 --cap", "cost --goal a --cap 2 --budget", "cost --goal a --budget 1 --cap 2 --reward"]
         self.compare("plift", lambda chance: chance.choice(fronts).split(), line.plift_note)
 
-    def test_formulas(self):
+    def test_formulas(self) -> None:
         """Those of the table, and what is made of the pieces of formulas."""
         program, chance = quick_program("plift"), random.Random(1)
         if program is None:
@@ -267,7 +269,7 @@ class AgainstTheProgram(unittest.TestCase):
                 words = ["property", "--formula", text]
                 self.assertEqual(line.plift_note(words), self.asked(program, words), text)
 
-    def test_view(self):
+    def test_view(self) -> None:
         self.compare("plift-view", lambda chance: [], line.view_note)
 
 

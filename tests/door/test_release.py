@@ -5,6 +5,7 @@ import os
 import subprocess
 import tarfile
 import unittest
+from pathlib import Path
 
 from common import DoorCase, TOP, quick_program
 SUMS = ["sha256sum", "-c", "--quiet"]
@@ -15,7 +16,7 @@ class Release(DoorCase):
         "LICENSE", "CHANGELOG.md", "CITATION.cff", "README.md", "recheck", "examples", "docs", "lab", "plift-tiles", "tiles",
     )
 
-    def setUp(self):
+    def setUp(self) -> None:
         super().setUp()
         (self.top / ".gitignore").write_text("out/\nbuild/\n__pycache__/\n")
         (self.top / "HANDLES").write_text("Handles allowed: none.\n")
@@ -25,22 +26,22 @@ class Release(DoorCase):
         self.log.write_text("more\n" * 100 + "rt: all is well\n306 passed, 0 failed (1 note)\n")
         self.out = self.room / "out"
 
-    def git(self, *words):
+    def git(self, *words: str) -> None:
         who = ["-c", "user.name=x", "-c", "user.email=x@example.org"]
         subprocess.run(["git", "-C", str(self.top), *who, *words], check=True)
 
-    def release(self, *words):
+    def release(self, *words: object) -> subprocess.CompletedProcess:
         command = [str(self.top / "tools/release"), str(self.out), *map(str, words)]
         return subprocess.run(command, capture_output=True, text=True, env=self.environment)
 
-    def made(self, *words, name="plift-0.9.0-linux-x86_64"):
+    def made(self, *words: object, name: str = "plift-0.9.0-linux-x86_64") -> Path:
         ran = self.release(*words)
         self.assertEqual((ran.returncode, ran.stderr), (0, ""))
         archive = self.out / f"{name}.tar.gz"
         self.assertEqual(ran.stdout, f"{hashlib.sha256(archive.read_bytes()).hexdigest()}  {archive}\n")
         return archive
 
-    def unpacked(self, archive):
+    def unpacked(self, archive: Path) -> Path:
         empty = self.room / "empty"
         empty.mkdir()
         with tarfile.open(archive) as file:
@@ -49,7 +50,7 @@ class Release(DoorCase):
         self.assertEqual([path.name for path in empty.iterdir()], [archive.name[: -len(".tar.gz")]])
         return next(empty.iterdir())
 
-    def test_proved_programs(self):
+    def test_proved_programs(self) -> None:
         self.built("plift")
         self.built("plift_view")
         archive = self.made("--gate", self.log)
@@ -73,13 +74,13 @@ class Release(DoorCase):
         self.assertEqual(subprocess.run(install, capture_output=True).returncode, 0)
         self.assertIn(b", proved)", self.run_door("--version", door=self.room / "prefix/bin/plift-view").stdout)
 
-    def refused(self, *words):
+    def refused(self, *words: object) -> str:
         ran = self.release(*words)
         self.assertEqual((ran.returncode, ran.stdout, ran.stderr.count("\n")), (1, "", 1), ran.stderr)
         self.assertFalse(self.out.exists())
         return ran.stderr
 
-    def test_refusals(self):
+    def test_refusals(self) -> None:
         self.assertIn("not built", self.refused("--gate", self.log))
         self.built("plift")
         self.built("plift_view")
@@ -95,7 +96,7 @@ class Release(DoorCase):
         (self.top / "README.md").write_text("changed\n")
         self.assertIn("README.md", self.refused("--gate", self.log))
 
-    def test_quick_programs_verify_in_an_empty_folder(self):
+    def test_quick_programs_verify_in_an_empty_folder(self) -> None:
         if not all(quick_program(name) for name in ("plift", "plift-view")):
             self.skipTest("build/quick has no programs")
         for name in ("plift", "plift-view"):

@@ -7,6 +7,7 @@ import subprocess
 import tempfile
 import unittest
 from pathlib import Path
+from typing import Set
 
 from common import TOP, quick_program, tool
 
@@ -19,29 +20,29 @@ COMMANDS = ["verify", "bounded", "property", "cost", "lumped", "check", "migrate
 ASKED = {*line.VERIFY.valued, *line.BOUNDED.valued, *line.PROPERTY.valued, *line.COST.valued, *line.LUMPED.valued}
 
 
-def help_of(name):
+def help_of(name: str) -> str:
     return (TOP / f"man/help/{name}.txt").read_text()
 
 
-def part_of(text, begin, end):
+def part_of(text: str, begin: str, end: str) -> str:
     """Returns what stands between two pieces of a text."""
     return text.split(begin, 1)[1].split(end, 1)[0]
 
 
-def rows_of(text):
+def rows_of(text: str) -> Set[str]:
     """Returns the options in the first column of a table."""
     rows = [row for row in text.splitlines() if row.startswith("| `--")]
     return {option for row in rows for option in OPTION.findall(row.split("|")[1])}
 
 
-def man_of(name):
+def man_of(name: str) -> str:
     return (TOP / f"man/{name}.1").read_text().replace("\\-", "-")
 
 
 class Named(unittest.TestCase):
     formats = (TOP / "docs/FORMATS.md").read_text(encoding="utf-8")
 
-    def test_the_grammar(self):
+    def test_the_grammar(self) -> None:
         words = part_of(self.formats, "## The command line", "Any other line")
         self.assertEqual(set(OPTION.findall(words)) - {"--name"}, ASKED)
         view = part_of(self.formats, "## The view of a report", "## Notes")
@@ -49,7 +50,7 @@ class Named(unittest.TestCase):
         named = part_of(words, "The first word is", "\n")
         self.assertEqual(re.findall(r"`(\w+)`", named), COMMANDS)
 
-    def test_the_ranges(self):
+    def test_the_ranges(self) -> None:
         values = part_of(self.formats, "| Value | Grammar and range |", "\n\n")
         for name, row in (("--depth", "`--depth`"), ("--precision", "`--precision`"), ("--steps", "`--steps`"), ("--cap", "`--cap`"), ("N", "the number of blocks")):
             digits, low, high = line.RANGES[name]
@@ -66,7 +67,7 @@ class Named(unittest.TestCase):
         for text in (help_of("cost"), re.sub(r"\s+", " ", man_of("plift"))):
             self.assertRegex(text, rf"--cap \S+[^-]*1 to {line.RANGES['--cap'][2]}\b")
 
-    def test_help(self):
+    def test_help(self) -> None:
         self.assertEqual(set(OPTION.findall(help_of("verify"))), set(line.VERIFY.valued))
         self.assertEqual(set(OPTION.findall(help_of("lumped"))), set(line.LUMPED.valued))
         self.assertEqual(set(OPTION.findall(help_of("bounded"))), set(line.BOUNDED.valued))
@@ -81,7 +82,7 @@ class Named(unittest.TestCase):
         for path in (TOP / "man/help").glob("*.txt"):
             self.assertLessEqual(max(map(len, path.read_text().splitlines())), 80, path)
 
-    def test_man_pages(self):
+    def test_man_pages(self) -> None:
         plift, view = (set(OPTION.findall(man_of(name))) for name in ("plift", "plift-view"))
         self.assertEqual(plift, {*ASKED, *DOOR})
         self.assertEqual(view, {*line.VIEW.valued, *line.VIEW.flags, *DOOR})
@@ -89,7 +90,7 @@ class Named(unittest.TestCase):
         for name in ("plift", "plift-view"):
             self.assertIn(f'"plift {version}"', man_of(name))
 
-    def test_man_pages_are_well_formed(self):
+    def test_man_pages_are_well_formed(self) -> None:
         for name in ("plift", "plift-view"):
             try:
                 command = ["groff", "-man", "-ww", "-Tutf8", str(TOP / f"man/{name}.1")]
@@ -98,12 +99,12 @@ class Named(unittest.TestCase):
                 self.skipTest("groff isn't there")
             self.assertEqual((ran.returncode, ran.stderr), (0, b""))
 
-    def test_the_version_is_the_same_everywhere(self):
+    def test_the_version_is_the_same_everywhere(self) -> None:
         version = (TOP / "VERSION").read_text().strip()
         self.assertIn(f"\nversion: {version}\n", (TOP / "CITATION.cff").read_text())
         self.assertIn(f"\n## {version} - ", (TOP / "CHANGELOG.md").read_text())
 
-    def test_completion_for_zsh(self):
+    def test_completion_for_zsh(self) -> None:
         text = (TOP / "completion/_plift").read_text()
         self.assertEqual(set(OPTION.findall(text)), {*ASKED, *line.VIEW.valued, *line.VIEW.flags, *DOOR})
         self.assertTrue(all(f"'{command}:" in text for command in COMMANDS))
@@ -112,7 +113,7 @@ class Named(unittest.TestCase):
 class Completed(unittest.TestCase):
     """What bash offers for a front of a line."""
 
-    def offered(self, *words):
+    def offered(self, *words: str) -> Set[str]:
         lines = [
             f". {shlex.quote(str(TOP / 'completion/plift.bash'))}",
             f"COMP_WORDS=({' '.join(map(shlex.quote, words))})",
@@ -124,7 +125,7 @@ class Completed(unittest.TestCase):
         self.assertEqual(ran.stderr, "")
         return set(ran.stdout.split())
 
-    def test_plift(self):
+    def test_plift(self) -> None:
         self.assertEqual(self.offered("plift", ""), {*COMMANDS, *DOOR})
         self.assertEqual(self.offered("plift", "--quick", ""), {*COMMANDS, *DOOR} - {"--quick"})
         self.assertEqual(self.offered("plift", "--help", "s"), {"selftest"})
@@ -150,7 +151,7 @@ class Completed(unittest.TestCase):
         for command in ("check", "migrate"):
             self.assertEqual(self.offered("plift", command, ""), {"--help"})
 
-    def test_view(self):
+    def test_view(self) -> None:
         self.assertEqual(self.offered("plift-view", ""), {*line.VIEW.valued, *line.VIEW.flags, *DOOR})
         self.assertEqual(self.offered("plift-view", "--x", "p", ""), {"--y", "--at"})
         self.assertEqual(self.offered("plift-view", "--at", "p=1", "--at", "q=1", "-"), {"--x", "--y", "--at"})
@@ -158,7 +159,7 @@ class Completed(unittest.TestCase):
 
 
 class Examples(unittest.TestCase):
-    def test_examples_of_the_help(self):
+    def test_examples_of_the_help(self) -> None:
         if not all(quick_program(name) for name in ("plift", "plift-view")):
             self.skipTest("build/quick has no programs")
         with tempfile.TemporaryDirectory() as folder:

@@ -77,7 +77,7 @@ def field_of(picture: str) -> List[str]:
 class Steps(unittest.TestCase):
     """Texts for a number of steps."""
 
-    def test_a_bar(self):
+    def test_a_bar(self) -> None:
         answer = draw([], text(HALVES))
         self.assertEqual((answer.status, answer.note), (0, ""))
         low, high = "M0 1048576H524288V0H0z", "M524288 1048576H1048576V0H524288z"
@@ -88,14 +88,14 @@ class Steps(unittest.TestCase):
         self.assertIn(">from 1/5 to 4/5</text>", answer.out)
         self.assertIn('<text x="270" y="20">0.350</text>', answer.out)
 
-    def test_a_table(self):
+    def test_a_table(self) -> None:
         self.assertEqual(draw(["--summary"], text(ONE)).out.splitlines(), [
             "leaves accept 1 reject 0 unknown 0", "share accept 1 100.0000 %", "share reject 0 0.0000 %",
             "share unknown 0 0.0000 %", "greatest accept depth 0 p 1/5 3/10", "least accept depth 0 p 1/5 3/10",
             "depth 0 accept 1 reject 0 unknown 0",
         ])
 
-    def test_refusals(self):
+    def test_refusals(self) -> None:
         table = [
             ([], text(ONE.replace("x 2 4", "x 2 3")), 1, "not sound: node 0 step 2 state 0 choice 0 corner 0: 124 > 120\n"),
             ([], text(TREE), 1, "not sound: node 4 depth\n"),
@@ -116,7 +116,7 @@ class Properties(unittest.TestCase):
     """Texts of properties have the look of reports: what holds that of what is accepted, what fails that of what is
     rejected."""
 
-    def test_a_bar(self):
+    def test_a_bar(self) -> None:
         answer = draw([], text(PROPERTY))
         self.assertEqual((answer.status, answer.note), (0, ""))
         bars = [f"M{low} 1048576H{low + 262144}V0H{low}z" for low in range(0, 1048576, 262144)]
@@ -127,18 +127,18 @@ class Properties(unittest.TestCase):
         for word in ("holds", "fails", "unknown"):
             self.assertIn(f'y="98">{word}</text>', answer.out)
 
-    def test_the_look_is_that_of_a_report(self):
+    def test_the_look_is_that_of_a_report(self) -> None:
         report = draw([], (TOP / "examples" / "coin.report").read_bytes()).out
         patterns = [line.partition('"20000" height')[2] for line in report.splitlines() if line.startswith("<pattern")]
         shown = [line.partition('"20000" height')[2] for line in draw([], text(PROPERTY)).out.splitlines() if line.startswith("<pattern")]
         self.assertEqual((shown, len(shown)), (patterns, 3))
 
-    def test_the_comparisons(self):
+    def test_the_comparisons(self) -> None:
         for op, words in (("<=", "at most"), ("<", "below"), (">=", "at least"), (">", "above")):
             unknown = TWIN.replace("depth 2", "depth 0") % (f"{op} 1/3", "unknown;")
             self.assertIn(f">{words} 1/3, numbers over 2^3, depth 0</text>", draw([], text(unknown)).out)
 
-    def test_a_table(self):
+    def test_a_table(self) -> None:
         changed = ALWAYS.replace("fails;x 2 8 0;choice 0 - 0", "fails;x 1 8 0;choice 0 - 0")
         self.assertEqual(draw(["--summary"], text(changed)).note, "not sound: node 2 state 0 choice 0 corner 1: 8 > 4\n")
         wanted = [
@@ -154,7 +154,7 @@ class Properties(unittest.TestCase):
 class Costs(unittest.TestCase):
     """Texts of costs have leaves within the budget, and unknown ones, with the look that these have in a report."""
 
-    def test_a_bar(self):
+    def test_a_bar(self) -> None:
         answer = draw([], text(HALF))
         self.assertEqual((answer.status, answer.note), (0, ""))
         low, high = "M0 1048576H524288V0H0z", "M524288 1048576H1048576V0H524288z"
@@ -164,18 +164,18 @@ class Costs(unittest.TestCase):
         self.assertIn('<text x="54" y="98">within budget</text>\n<text x="194" y="98">unknown</text>', answer.out)
         self.assertNotIn("rejected", answer.out)
 
-    def test_the_look_is_that_of_a_report(self):
+    def test_the_look_is_that_of_a_report(self) -> None:
         report = draw([], (TOP / "examples" / "coin.report").read_bytes()).out
         accepted, _, unknown = (line for line in report.splitlines() if line.startswith("<pattern"))
         self.assertEqual([line for line in draw([], text(HALF)).out.splitlines() if line.startswith("<pattern")], [accepted, unknown])
 
-    def test_a_table(self):
+    def test_a_table(self) -> None:
         self.assertEqual(draw(["--summary"], text(HALF)).out.splitlines(), [
             "leaves accept 1 unknown 1", "share accept 1/2 50.0000 %", "share unknown 1/2 50.0000 %",
             "greatest accept depth 1 p 1/2 4/5", "least accept depth 1 p 1/2 4/5", "depth 0 accept 0 unknown 0", "depth 1 accept 1 unknown 1",
         ])
 
-    def test_refusals(self):
+    def test_refusals(self) -> None:
         table = [
             ([], AFFORDABLE.replace("cost 1/1", "cost 3/2"), 1, "not sound: node 1 state 0 choice 0 corner 0: 160 > 80\n"),
             ([], AFFORDABLE.replace("budget 2/1", "budget 1/1"), 1, "not sound: node 1 budget: 32 > 16\n"),
@@ -198,7 +198,7 @@ class Door(unittest.TestCase):
             done = subprocess.run(door, capture_output=True, env={**os.environ, "PLIFT_HINTS": "0"}, **how)
         return Answer(done.returncode, done.stdout.decode(), done.stderr.decode())
 
-    def test_each_kind(self):
+    def test_each_kind(self) -> None:
         if not os.access(VIEW, os.X_OK):
             self.skipTest("the quick program isn't built")
         report = (TOP / "examples" / "retry-tree.report").read_bytes()
@@ -238,7 +238,7 @@ class Reports(unittest.TestCase):
             found.append(done.stdout)
         return [*found, found[0][:-1], found[0].replace(b"accept", b"reject", 1), b"", b"plift 3\n"]
 
-    def test_same_bytes(self):
+    def test_same_bytes(self) -> None:
         if not os.access(VIEW, os.X_OK) or not os.access(PLIFT, os.X_OK):
             self.skipTest("the quick programs aren't built")
         for number, report in enumerate(self.reports()):

@@ -12,7 +12,7 @@ import sys
 import tempfile
 import unittest
 from pathlib import Path
-from typing import List, Optional
+from typing import Any, List, Optional, Union
 
 sys.dont_write_bytecode = True
 TOP = Path(__file__).resolve().parent.parent.parent
@@ -43,7 +43,7 @@ def processor_seconds() -> float:
 class Ended:
     """How a run ended, and what it wrote."""
 
-    def __init__(self, arguments: List, note, **streams):
+    def __init__(self, arguments: List, note: Union[str, bytes, None], **streams: Any):
         environment = {key: value for key, value in os.environ.items() if not key.startswith("PLIFT_")}
         environment = {os.fsencode(k): os.fsencode(v) for k, v in environment.items()}
         if note is not None:
@@ -57,7 +57,7 @@ class Ended:
 
 
 class Program(unittest.TestCase):
-    def ended(self, arguments: List, note: Optional[str] = UNKNOWN, **streams) -> List[str]:
+    def ended(self, arguments: List, note: Optional[str] = UNKNOWN, **streams: Any) -> List[str]:
         """The lines of a run, which ends well and says nothing else."""
         run = Ended(arguments, note, **streams)
         self.assertEqual((run.status, run.out), (0, b""))
@@ -66,7 +66,7 @@ class Program(unittest.TestCase):
             self.assertTrue(line.startswith("hint: ") and line.isprintable(), line)
         return run.lines
 
-    def with_text(self, text: bytes, arguments: List, note: Optional[str] = UNKNOWN, **streams) -> List[str]:
+    def with_text(self, text: bytes, arguments: List, note: Optional[str] = UNKNOWN, **streams: Any) -> List[str]:
         """The lines where standard input is a file with this text."""
         with tempfile.TemporaryFile() as file:
             file.write(text)

@@ -32,15 +32,15 @@ fn eight(&self, a: u8, b: u8, c: u8, d: u8, e: u8, f: u8, g: u8,) {}
 
 
 class Parameters(unittest.TestCase):
-    def test_each_function_is_counted(self):
+    def test_each_function_is_counted(self) -> None:
         found = [tuple(it) for it in parameters.functions(TEXT, "a.rt")]
         self.assertEqual(found, [("a.rt", 2, "none", 0), ("a.rt", 6, "map", 5), ("a.rt", 18, "six", 6), ("a.rt", 19, "eight", 8)])
 
-    def test_the_line(self):
+    def test_the_line(self) -> None:
         found = list(parameters.functions(TEXT))
         self.assertEqual(parameters.summary(found), "functions with 6 or more: 2, with 8 or more: 1")
 
-    def test_crates_of_tests_are_left_out(self):
+    def test_crates_of_tests_are_left_out(self) -> None:
         found = parameters.all_functions()
         self.assertGreater(len(found), 1000)
         self.assertEqual([it for it in found if "_tests/" in it.file], [])

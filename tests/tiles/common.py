@@ -8,7 +8,7 @@ import sys
 import tempfile
 import unittest
 from pathlib import Path
-from typing import List, NamedTuple, Optional
+from typing import Any, List, NamedTuple, Optional
 
 sys.dont_write_bytecode = True
 TOP = Path(__file__).resolve().parents[2]
@@ -57,7 +57,7 @@ class TilesCase(unittest.TestCase):
         self.folder = Path(holder.name)
         self.program = the_program()
 
-    def call(self, line: str, given: bytes = b"", program: Optional[Path] = None, **how) -> Answer:
+    def call(self, line: str, given: bytes = b"", program: Optional[Path] = None, **how: Any) -> Answer:
         """What `plift-tiles` answers to a line of words."""
         environment = {**os.environ, "PLIFT_PROGRAM": str(program or self.program.path)}
         if "stdin" not in how:

@@ -46,21 +46,21 @@ def faults_of(edit: Path, crate: Path) -> List[str]:
 
 
 class WrongBodies(unittest.TestCase):
-    def test_each_can_be_laid_in(self):
+    def test_each_can_be_laid_in(self) -> None:
         edits = [*HERE.glob("*/*.edit"), *run.TOP.glob("crates/*/must-fail/*.edit")]
         self.assertGreater(len(edits), 200)
         for edit in edits:
             crate = edit.parent.parent if edit.parent.name == "must-fail" else run.TOP / "crates" / edit.parent.name
             self.assertEqual(faults_of(edit, crate), [])
 
-    def test_few_stand_in_the_gate(self):
+    def test_few_stand_in_the_gate(self) -> None:
         folders = {it.parent for it in run.TOP.glob("crates/*/must-fail/*.edit")}
         self.assertLessEqual(len(folders), 15)
         self.assertLessEqual(max(len(list(it.glob("*.edit"))) for it in folders), 5)
 
 
 class Counting(unittest.TestCase):
-    def setUp(self):
+    def setUp(self) -> None:
         self.room = tempfile.TemporaryDirectory()
         self.addCleanup(self.room.cleanup)
         command = Path(self.room.name, "rt")
@@ -87,17 +87,17 @@ class Counting(unittest.TestCase):
             status = run.main(["--jobs", "1", *words])
         return [*said.getvalue().splitlines()[-2:], str(status)]
 
-    def test_all_are_refused(self):
+    def test_all_are_refused(self) -> None:
         self.write("one", "two")
         self.assertEqual(self.tried(), ["== lift_bytes: 2 of 2 refused", "2 refused, 0 passed, 0 noted before", "0"])
 
-    def test_one_passes(self):
+    def test_one_passes(self) -> None:
         self.write("one", "it_passes")
         told = ["== lift_bytes: 1 of 2 refused", "1 refused, 1 passed, 0 noted before", "1"]
         self.assertEqual(self.tried(), told)
         self.assertEqual(self.tried(), ["== lift_bytes: 0 of 1 refused", "0 refused, 1 passed, 1 noted before", "1"])
 
-    def test_what_was_refused_is_noted(self):
+    def test_what_was_refused_is_noted(self) -> None:
         self.write("one", "two")
         self.tried()
         self.assertEqual(self.tried(), ["0 refused, 0 passed, 2 noted before", "0"])
@@ -110,14 +110,14 @@ class Counting(unittest.TestCase):
         self.tried("--anew")
         self.assertEqual(len((run.HERE / "refused").read_text().splitlines()), 1)
 
-    def test_a_changed_crate_is_tried_again(self):
+    def test_a_changed_crate_is_tried_again(self) -> None:
         self.write("one")
         self.tried()
         self.addCleanup(setattr, run, "crate_sum", run.crate_sum)
         run.crate_sum = lambda crate: "another text"
         self.assertEqual(self.tried()[1], "1 refused, 0 passed, 0 noted before")
 
-    def test_a_sum_reads_what_a_proof_reads(self):
+    def test_a_sum_reads_what_a_proof_reads(self) -> None:
         room = Path(self.room.name, "top")
         self.addCleanup(setattr, run, "TOP", run.TOP)
         run.TOP = room
@@ -130,7 +130,7 @@ class Counting(unittest.TestCase):
             sums.append(run.crate_sum("some"))
             self.assertEqual(len(set(sums)), 1 if part.startswith("must-fail") else 2)
 
-    def test_a_crate_that_has_none(self):
+    def test_a_crate_that_has_none(self) -> None:
         with contextlib.redirect_stderr(io.StringIO()), self.assertRaises(SystemExit):
             run.main(["lift_bytes"])
 

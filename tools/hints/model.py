@@ -3,7 +3,7 @@
 from __future__ import annotations
 
 import re
-from typing import Callable, Dict, List
+from typing import Callable, Dict, List, Optional
 
 from hints import causes, rewards, states, transitions
 from hints.drn import read_model
@@ -72,6 +72,6 @@ def model_hints(refusal: Refusal, number: int, cause: str) -> List[str]:
     return CAUSES[cause](place)
 
 
-def cause_of(note: str):
+def cause_of(note: str) -> Optional[re.Match]:
     """The line and the cause of a note behind `model: `."""
     return re.fullmatch(r"line ([0-9]{1,10}): ([A-Za-z]+)", note)

@@ -19,6 +19,7 @@ class Unreadable(Exception):
 
 
 def read(path: str) -> str:
+    """The text of a file."""
     with open(path, encoding="utf-8") as file:
         return file.read()
 
@@ -53,6 +54,7 @@ def closure(crates: list[str]) -> list[str]:
 
 
 def package(name: str, crates: list[str]) -> str:
+    """A Cargo.toml for a crate that stands on these, each of which is a folder beside it."""
     lines = [f'{crate} = {{ path = "../{crate}" }}' for crate in crates]
     front = f'[package]\nname = "{name}"\nversion = "0.1.0"\nedition = "2021"\n\n[dependencies]\n'
     return front + "".join(line + "\n" for line in lines)
@@ -93,6 +95,7 @@ def translated(path: str) -> str:
 
 
 def write_crate(out: str, crate: str, below: list[str]) -> None:
+    """Writes a crate without its contracts, and what it stands on."""
     name = PROGRAMS.get(crate, crate)
     write(f"{out}/{crate}/Cargo.toml", package(name, ["rstd", *below]))
     source = os.path.join(ROOT, "crates", crate, "src")
@@ -108,6 +111,7 @@ def write_part(out: str, part: str, name: str, below: list[str]) -> None:
 
 
 def write_members(out: str, members: list[str], profile: str) -> None:
+    """Writes the Cargo.toml of the whole."""
     names = ", ".join(f'"{name}"' for name in members)
     write(f"{out}/Cargo.toml", f'[workspace]\nresolver = "2"\nmembers = [{names}]\n\n[profile.release]\n{profile}')
 
