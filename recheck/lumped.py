@@ -5,41 +5,47 @@ computed anew, by plain rounds: two states stay in a block while both are goal s
 into each block sum to the same polynomial. Goal states are those with the LABEL; without one each label of the model is
 tried, as a report doesn't tell it. Whether the report is sound, recheck.py tells. A chain of n states may take n rounds.
 """
+from __future__ import annotations
 import re
 import sys
 from fractions import Fraction
 from math import lcm
+from typing import Callable, Dict, Hashable, Iterable, TypeVar
 
 WORD = re.compile(r'"[^"]*"|\[[^]]*]|[^ \t]+')
 SYMBOL = re.compile(r'[A-Za-z_]\w*|(?:\d+\.?\d*|\.\d+)(?:[eE][+-]?\d+)?|[-+*/()]')
+Number = TypeVar('Number', int, Fraction)
+Poly = Dict[int, Number]  # the coefficient at each set of parameters
 
-def kept(poly):
+def kept(poly: Poly[Number]) -> Poly[Number]:
+    """The same polynomial, without coefficients that are 0."""
     return {m: c for m, c in poly.items() if c}
 
-def plus(a, b):
+def plus(a: Poly[Number], b: Poly[Number]) -> Poly[Number]:
     return kept({m: a.get(m, 0) + b.get(m, 0) for m in a.keys() | b.keys()})
 
-def times(a, b):  # no parameter is in both
+def times(a: Poly[Fraction], b: Poly[Fraction]) -> Poly[Fraction]:  # no parameter is in both
     return {m | n: c * d for m, c in a.items() for n, d in b.items()}
 
-OPERATIONS = {
+OPERATIONS: dict[str, Callable[[Poly[Fraction], Poly[Fraction]], Poly[Fraction]]] = {
     '+': plus, '*': times,
     '-': lambda a, b: plus(a, times(b, {0: Fraction(-1)})),
     '/': lambda a, b: times(a, {0: 1 / b[0]}),
 }
 
-def value(text, names):
+def value(text: str, names: list[str]) -> Poly[Fraction]:
     """A value as a polynomial: its coefficient at each set of parameters, bit i of a set being the i-th name."""
     left = SYMBOL.findall(text)[::-1]
 
-    def row(part, operators):  # parts with these between them, grouped from the left
+    def row(part: Callable[[], Poly[Fraction]], operators: str) -> Poly[Fraction]:
+        """Parts with these between them, grouped from the left."""
         result = part()
         while left and left[-1] in operators:
             operator = left.pop()
             result = OPERATIONS[operator](result, part())
         return result
 
-    def factor():
+    def factor() -> Poly[Fraction]:
         symbol = left.pop()
         if symbol == '-':
             return times(factor(), {0: Fraction(-1)})
@@ -49,7 +55,7 @@ def value(text, names):
             return inner
         return {1 << names.index(symbol): Fraction(1)} if symbol in names else kept({0: Fraction(symbol)})
 
-    def whole():
+    def whole() -> Poly[Fraction]:
         return row(lambda: row(factor, '*/'), '+-')
 
     return whole()
@@ -57,7 +63,7 @@ def value(text, names):
 class Chain:
     """A chain as its text tells it: its parameters, the labels of each state, and its transitions over C."""
 
-    def __init__(self, text):
+    def __init__(self, text: str) -> None:
         lines = [line.strip(' \t\r') for line in text.split('\n')]
         lines = [line for line in lines if not line.startswith('//')]
         head, body = lines[:lines.index('@model')], lines[lines.index('@model') + 1:]
@@ -84,17 +90,17 @@ class Chain:
                 row[target] = {m: int(c * self.common) for m, c in poly.items()}
         self.init = next(s for s, labels in enumerate(self.labels) if 'init' in labels)
 
-    def poly(self, text):
+    def poly(self, text: str) -> Poly[Fraction]:
         return value(text, self.names)
 
-    def into(self, s, block):
+    def into(self, s: int, block: list[int]) -> dict[int, Poly[int]]:
         """What the transitions of a state sum to, block by block; sums that are 0 are left out."""
         sums = {}
         for target, poly in self.rows[s].items():
             sums[block[target]] = plus(sums.get(block[target], {}), poly)
         return {b: poly for b, poly in sums.items() if poly}
 
-    def blocks(self, goals):
+    def blocks(self, goals: list[bool]) -> list[int]:
         """The block of each state in the coarsest right partition, numbered by the blocks' least states."""
         block, count = numbered(goals), 0
         while count < max(block) + 1:
@@ -104,7 +110,7 @@ class Chain:
             block = numbered(zip(block, behaviours))
         return block
 
-    def quotient(self, label):
+    def quotient(self, label: str) -> list[str]:
         """The lines of the quotient's chain, for the states with this label."""
         goals = [label in labels for labels in self.labels]
         block = self.blocks(goals)
@@ -118,15 +124,15 @@ class Chain:
             lines += [joined('to', target, *(f'{m}:{c}' for m, c in sorted(poly.items()))) for target, poly in sorted(row.items())]
         return lines
 
-def numbered(keys):
+def numbered(keys: Iterable[Hashable]) -> list[int]:
     """Numbers for keys, the same for the same key, in the order in which they come first."""
     names = {}
     return [names.setdefault(key, len(names)) for key in keys]
 
-def joined(*words):
+def joined(*words: str | int) -> str:
     return ' '.join(map(str, words))
 
-def chain_lines(report):
+def chain_lines(report: str) -> list[str]:
     """The lines of a report's chain."""
     lines = report.split('\n')
     end = next((at for at, line in enumerate(lines) if line.startswith('bound ')), 0)
@@ -134,13 +140,13 @@ def chain_lines(report):
         sys.exit('not a report of version 1')
     return lines[1:end]
 
-def difference(lines, wanted):
+def difference(lines: list[str], wanted: list[str]) -> str:
     """The first line that differs, and what it should be."""
     at = next((at for at, pair in enumerate(zip(lines, wanted)) if pair[0] != pair[1]), min(len(lines), len(wanted)))
     found, want = ((text[at:at + 1] or ['nothing'])[0] for text in (lines, wanted))
     return f'line {at + 2}: {found}, not {want}'
 
-def main():
+def main() -> None:
     if len(sys.argv) not in (2, 3):
         sys.exit(__doc__)
     with open(sys.argv[1], encoding='utf-8') as file:

@@ -4,37 +4,42 @@ Writes `sound accept A reject B unknown C`, of `property` `sound holds A fails B
 unknown B`, or tells the first fault on standard error and ends with 1. Written from docs/FORMATS.md, it shares nothing
 with plift's code; docs/CHECKING.md tells why its tests show what they show.
 """
+from __future__ import annotations
 import re, sys
 from collections import Counter
 from math import gcd, prod
 from operator import mul
+from typing import BinaryIO, Callable, Dict, Iterator, List, Tuple
 
 NONE = 2 ** 32  # for a choice or a rank that is `-`
 MOST_BYTES, MOST_LINE = 2 ** 32, 2 ** 20  # of a report, and of one of its lines
 PART, COST_PART = 2 ** 32 - 1, 2 ** 62 - 1  # the greatest denominator of a bound, and the greatest part of a cost
 REPORT, BOUNDED, PROPERTY, COST = FORMS = b'plift', b'plift-bounded', b'plift-property', b'plift-cost'  # the first word
 NUMBER, NAME = re.compile(rb'0|-?[1-9][0-9]*'), re.compile(rb'[A-Za-z_][A-Za-z0-9_]*')
+Box = List[Tuple[int, int]]  # a rectangle: for each parameter its two ends
+Poly = Tuple[Tuple[int, int], ...]  # terms (set of parameters, coefficient); bit i of a set is the i-th parameter
+Corners = Dict['Shape', List[List[int]]]  # for each shape and each of its corners, the weight of each transition
 getattr(sys, 'set_int_max_str_digits', int)(0)  # a line may hold a number of any length
 
 class Fault(Exception): """What is wrong. Where it is wrong, the text tells: its place."""
 class TooLong(Exception): """More bytes than a report may have."""
 
-def need(holds, cause='Syntax'):
+def need(holds: object, cause: str = 'Syntax') -> None:
     if not holds:
         raise Fault(cause)
 
-def within(n, low, high):
+def within(n: int, low: int, high: int) -> int:
     need(low <= n <= high, 'Limit')
     return n
 
-def numbers(words, count=None):
+def numbers(words: list[bytes], count: int | None = None) -> list[int]:
     need(count in (None, len(words)) and all(map(NUMBER.fullmatch, words)))
     return list(map(int, words))
 
-def pair(word, mark):
+def pair(word: bytes, mark: bytes) -> tuple[int, int]:
     return tuple(numbers(word.split(mark, 1), 2))
 
-def lowest(fraction, above, below):
+def lowest(fraction: tuple[int, int], above: int, below: int) -> tuple[int, int]:
     """A fraction in lowest terms of at least 0, neither part of which is above its limit."""
     n, d = fraction
     need(0 <= n <= above and d > 0, 'Limit')
@@ -44,51 +49,53 @@ def lowest(fraction, above, below):
 
 class Text:
     """A report, and how far it was read: which line is due, and how many bytes came before it."""
-    def __init__(self, source):
+    def __init__(self, source: BinaryIO) -> None:
         self.source, self.line, self.taken, self.held, self.place = source, 1, 0, b'', ''
 
-    def ahead(self):
+    def ahead(self) -> bytes:
         """The line that is due, as far as a line may go; nothing where nothing is left."""
         self.held = self.held or self.source.readline(MOST_LINE + 1)
         if self.taken + len(self.held) > MOST_BYTES:
             raise TooLong
         return self.held
 
-    def due(self):
+    def due(self) -> list[bytes]:
         """Its words."""
         self.place, line = f'line {self.line}: ', self.ahead()
         need(line.endswith(b'\n'), 'Limit' if len(line) > MOST_LINE else 'Truncated')
         return line[:-1].split(b' ')
 
-    def take(self, key):
+    def take(self, key: bytes) -> list[bytes]:
         """Those behind its first word, which has to be the key. Then the next line is due."""
         words = self.due()
         self.line, self.taken, self.held = self.line + 1, self.taken + len(self.held), b''
         need(words[0] == key)
         return words[1:]
 
-    def single(self, key, low, high):
+    def single(self, key: bytes, low: int, high: int) -> int:
         return within(numbers(self.take(key), 1)[0], low, high)
 
-    def counted(self, key):
+    def counted(self, key: bytes) -> list[bytes]:
+        """The words behind their number, which follows the key."""
         words = self.take(key)
         need(numbers(words[:1], 1)[0] == len(words) - 1)
         return words[1:]
 
 class Shape:
     """A row's polynomials, each of terms (set of parameters, coefficient). Rows with the same ones share a shape."""
-    def __init__(self, polys, first):
+    def __init__(self, polys: tuple[Poly, ...], first: tuple[int, int, list[int]]) -> None:
         self.polys, self.first, used = polys, first, {m for poly in polys for m, _ in poly}
         self.parameters = [i for i in range(16) if any(m >> i & 1 for m in used)]
 
-    def corners(self, box, grid):
+    def corners(self, box: Box, grid: int) -> Iterator[list[int]]:
         """For each corner in a rectangle, the weight of each transition."""
         for corner in range(2 ** len(self.parameters)):
             ends = [(1 << i, box[i][corner >> bit & 1]) for bit, i in enumerate(self.parameters)]
             yield [sum(c * prod([end if m & i else grid for i, end in ends]) for m, c in poly) for poly in self.polys]
 
 class Report:
-    def __init__(self, text):
+    """What the head of a report says; and the tests of its leaves, each of which reads its leaf."""
+    def __init__(self, text: Text) -> None:
         """Reads the head."""
         self.text, form = text, text.due()[0]
         self.form, version = form, numbers(text.take(form if form in FORMS else REPORT), 1)
@@ -130,13 +137,13 @@ class Report:
         self.box = list(zip(ends[::2], ends[1::2]))
         self.live = [i for i in range(16) if any(i in shape.parameters for shape in self.shapes.values())]
 
-    def read_costs(self):
+    def read_costs(self) -> list[tuple[int, int]]:
         """What a visit of each state costs."""
         costs = [pair(word, b'/') for word in self.text.take(b'cost')]
         need(len(costs) == self.size)
         return [lowest(cost, COST_PART, COST_PART) for cost in costs]
 
-    def read_states(self, is_mdp, choices=2 ** 17, transitions=2 ** 18):
+    def read_states(self, is_mdp: bool, choices: int = 2 ** 17, transitions: int = 2 ** 18) -> None:
         """For each state its choices, each with its targets and its shape. Of each at most so many are left."""
         for s in range(self.size):
             rows = []
@@ -153,7 +160,7 @@ class Report:
                 rows.append((targets, self.shapes[polys]))
             self.states.append(rows)
 
-    def read_transition(self, row):
+    def read_transition(self, row: dict[int, Poly]) -> None:
         words = self.text.take(b'to')
         target, poly = numbers(words[:1], 1)[0], tuple([pair(word, b':') for word in words[1:]])
         need(len(poly) <= 16)
@@ -166,7 +173,7 @@ class Report:
             need(c != 0)
             need(abs(c) < 2 ** 100, 'Limit')
 
-    def test_rows(self):
+    def test_rows(self) -> None:
         """Over the whole region each row's probabilities sum to 1 and none of them is below 0."""
         greatest = max([self.grid] + [abs(end) for ends in self.box for end in ends])
         for shape in self.shapes.values():  # by the first row that has it
@@ -183,7 +190,7 @@ class Report:
                 for corner, weight in enumerate(weights):
                     need(weight >= 0, f'target {target} at corner {corner} has weight {weight}')
 
-    def tests(self):
+    def tests(self) -> dict[bytes, Callable[[Box, str], None]]:
         """The test of each kind of decided leaf."""
         if self.form == PROPERTY:
             return {b'holds': self.test_holds, b'fails': self.test_fails}
@@ -193,22 +200,23 @@ class Report:
             return {b'accept': self.test_affordable}
         return {b'accept': self.test_above, b'reject': self.test_below}
 
-    def corners_in(self, box):
+    def corners_in(self, box: Box) -> Corners:
         """For each shape its corners in a rectangle."""
         return {shape: list(shape.corners(box, self.grid)) for shape in self.shapes.values()}
 
-    def rows_of(self, s, picks):
+    def rows_of(self, s: int, picks: list[int] | None) -> list[tuple[int, tuple[list[int], Shape]]]:
         """The rows of a state that count: that of its pick, where there are picks, else each."""
         rows = self.states[s]
         return list(enumerate(rows)) if picks is None else [] if picks[s] == NONE else [(picks[s], rows[picks[s]])]
 
-    def test_above(self, box, place, key=b'accept', has_picks=False):
+    def test_above(self, box: Box, place: str, key: bytes = b'accept', has_picks: bool = False) -> None:
+        """No number is below the mean for a choice that counts, and the initial state's is low enough."""
         x, picks = self.read_values(key), self.read_picks() if has_picks else None
         corners, self.text.place = self.corners_in(box), place
         self.test_upper(x, x, picks, corners)
         self.test_bound(x, True)
 
-    def test_upper(self, x, z, picks, corners):
+    def test_upper(self, x: list[int], z: list[int], picks: list[int] | None, corners: Corners) -> None:
         """No state's number in z is below the mean of its targets' numbers in x, for each choice that counts."""
         for s in range(self.size):
             need(s not in self.goals or z[s] == (0 if self.form == COST else self.one), f'goal state {s} value {z[s]}')
@@ -219,13 +227,13 @@ class Report:
                     if mean > z[s] * whole:
                         raise Fault(f'state {s} choice {a} corner {corner}: {mean} > {z[s] * whole}')
 
-    def test_bound(self, x, is_low):
+    def test_bound(self, x: list[int], is_low: bool) -> None:
         """The initial state's number lies on its side of the bound, which itself is low for `<=` and `>`, else high."""
         left, right = x[self.init] * self.cap * self.bound[1], self.bound[0] * self.one
         low, high, found = ('<=', '>', left <= right) if self.op in (b'<=', b'>') else ('<', '>=', left < right)
         need(found == is_low, f'{"budget" if self.form == COST else "bound"}: {left} {high if is_low else low} {right}')
 
-    def test_below(self, box, place, key=b'reject', has_picks=True):
+    def test_below(self, box: Box, place: str, key: bytes = b'reject', has_picks: bool = True) -> None:
         """No number is above the mean for a choice that counts, and enough weight of each leads to lower ranks."""
         (e, y, picks, ranks), corners, self.text.place = self.read_lower(key, has_picks), self.corners_in(box), place
         for s, rank in enumerate(ranks):
@@ -242,7 +250,7 @@ class Report:
                         raise Fault(f'state {s} choice {a} corner {corner}: weight {down} times 2^{e} < {whole}')
         self.test_bound(y, False)
 
-    def test_affordable(self, box, place):
+    def test_affordable(self, box: Box, place: str) -> None:
         """Of `cost`: behind the price of a visit each number has the mean of its targets' numbers left."""
         z, corners, self.text.place = self.read_values(b'accept'), self.corners_in(box), place
         left = [n if s in self.goals else n - price for s, (n, price) in enumerate(zip(z, self.prices))]
@@ -251,14 +259,14 @@ class Report:
 
     # of `property`: `<=` and `<` ask about the scheduler that reaches the most, `>=` and `>` about that of the least
 
-    def test_holds(self, box, place):
+    def test_holds(self, box: Box, place: str) -> None:
         need(self.text.take(b'holds') == [])
         if self.op in (b'<=', b'<'):
             self.test_above(box, place, b'x')
         else:
             self.test_below(box, place, b'lower', has_picks=False)
 
-    def test_fails(self, box, place):
+    def test_fails(self, box: Box, place: str) -> None:
         need(self.text.take(b'fails') == [])
         if self.op in (b'<=', b'<'):
             self.test_below(box, place, b'lower')
@@ -267,7 +275,7 @@ class Report:
 
     # of `bounded`: a vector for each number of steps, from that of no step, which is 1 on goal states and 0 elsewhere
 
-    def test_accept_within(self, box, place):
+    def test_accept_within(self, box: Box, place: str) -> None:
         need(self.text.take(b'accept') == [])
         upper, corners = [self.start(), *(self.read_values(b'x', n) for n in self.steps)], self.corners_in(box)
         for n in self.steps:
@@ -276,7 +284,7 @@ class Report:
         self.text.place = place
         self.test_bound(upper[-1], True)
 
-    def test_reject_within(self, box, place):
+    def test_reject_within(self, box: Box, place: str) -> None:
         (lower, picks), corners = self.read_reject_within(), self.corners_in(box)
         for n in self.steps:
             self.text.place = f'{place}step {n} '
@@ -284,7 +292,7 @@ class Report:
         self.text.place = place
         self.test_bound(lower[-1], False)
 
-    def test_lower(self, y, z, picks, corners):
+    def test_lower(self, y: list[int], z: list[int], picks: list[int], corners: Corners) -> None:
         """No state's number in z is above the mean of its targets' numbers in y, for the printed choice."""
         for s in range(self.size):
             need(s not in self.goals or z[s] == self.one, f'goal state {s} value {z[s]}')
@@ -295,10 +303,11 @@ class Report:
                     if z[s] * whole > mean:
                         raise Fault(f'state {s} choice {a} corner {corner}: {z[s] * whole} > {mean}')
 
-    def start(self):
+    def start(self) -> list[int]:
         return [self.one if s in self.goals else 0 for s in range(self.size)]
 
-    def read_reject_within(self):
+    def read_reject_within(self) -> tuple[list[list[int]], list[list[int] | None]]:
+        """By the number of steps, from 0: the numbers of the states; and their choices, which are None at 0."""
         line, words = self.text.line, self.text.take(b'reject')
         need(len(words) == 2 and words[0] == b'b')
         (b, z), lower, picks = pair(words[1], b'/'), [self.start()], [None]
@@ -311,30 +320,32 @@ class Report:
             need(all((mark == NONE) == (s in self.goals) for s, mark in enumerate(marks)))
         return lower, picks
 
-    def words_of(self, key, step):
+    def words_of(self, key: bytes, step: int | None) -> list[bytes]:
         """The words of a line of states, behind its number of steps where it has one."""
         words = self.text.take(key)
         need(step is None or words[:1] == [b'%d' % step])
         return words if step is None else words[1:]
 
-    def read_values(self, key, step=None):
+    def read_values(self, key: bytes, step: int | None = None) -> list[int]:
         values = numbers(self.words_of(key, step), self.size)
         need(min(values) >= 0 and max(values) <= self.one, 'Limit')
         return values
 
-    def read_marks(self, key, ends, step=None):
+    def read_marks(self, key: bytes, ends: list[int], step: int | None = None) -> list[int]:
+        """For each state a number below its end, or NONE."""
         words = self.words_of(key, step)
         marks = numbers([word if word != b'-' else b'%d' % NONE for word in words], self.size)
         need(all(0 <= mark < end or word == b'-' for mark, end, word in zip(marks, ends, words)), 'Limit')
         return marks
 
-    def read_picks(self):
+    def read_picks(self) -> list[int]:
         """A choice of each state that is no goal state."""
         picks = self.read_marks(b'choice', [len(rows) for rows in self.states])
         need(all((pick == NONE) == (s in self.goals) for s, pick in enumerate(picks)))
         return picks
 
-    def read_lower(self, key, has_picks):
+    def read_lower(self, key: bytes, has_picks: bool) -> tuple[int, list[int], list[int] | None, list[int]]:
+        """The number e; and for each state its number, its choice (None: there are no choices) and its rank."""
         line, words = self.text.line, self.text.take(key)
         need(len(words) == 8 and words[::2] == [b'e', b'k', b'm', b'b'])
         (e, k, m), (b, z) = numbers(words[1:6:2], 3), pair(words[7], b'/')
@@ -347,7 +358,7 @@ class Report:
             need((rank == 0) == (s in self.goals) and (picks is None or (picks[s] == NONE) == (rank in (0, NONE))))
         return e, y, picks, ranks
 
-def leaves(report):
+def leaves(report: Report) -> Iterator[tuple[bytes, Box, int]]:
     """Tests the nodes, and gives of each leaf its kind, its rectangle and how many splits lie above it."""
     text, node, most, tests = report.text, 0, report.depth if report.live else 0, report.tests()
     due = [(report.box, most)]  # rectangles whose nodes follow, the next one last, and how often they may be halved
@@ -375,14 +386,14 @@ def leaves(report):
     text.place = ''
     need(not text.ahead(), 'rest')
 
-def check(text):
+def check(text: Text) -> str:
     """What is said of a sound report: how many leaves of each kind it has."""
     report = Report(text)
     report.test_rows()
     kinds = Counter(kind for kind, _, _ in leaves(report))
     return 'sound ' + ' '.join(f'{kind.decode()} {kinds[kind]}' for kind in (*report.tests(), b'unknown'))
 
-def main():
+def main() -> None:
     text = Text(sys.stdin.buffer)
     try:
         print(check(text))
