@@ -74,16 +74,20 @@ Brp = namedtuple('Brp', 's told i again bit first last sent_bit r said got_first
 def brp(frames: int, most: int) -> bytes:
     """Goal `error`: the sender gives up."""
     def moves(v: Brp) -> List[Row]:
+        """The row of a state, if any: where several moves may come next, each has the same share of it."""
         found: List[Row] = []
 
         def step(**changes: int) -> None:
+            """Something that happens with certainty."""
             found.append([('1', v._replace(**changes))])
 
         def send(**changes: int) -> None:
+            """A frame goes onto its channel, which carries it with pK and else loses it."""
             sent = v._replace(s=2, first=int(v.i == 1), last=int(v.i == frames), sent_bit=v.bit, **changes)
             found.append([('pK', sent._replace(k=1)), ('1-pK', sent._replace(k=2))])
 
         def acknowledge(**changes: int) -> None:
+            """An answer goes onto the other channel, which carries it with pL and else loses it."""
             found.append([('pL', v._replace(r=4, l=1, **changes)), ('1-pL', v._replace(r=4, l=2, **changes))])
 
         if v.s == 0 and not v.started:
@@ -130,6 +134,7 @@ def crowds(members: int, runs: int) -> bytes:
     """A message goes from member to member, on with PF, and to a bad one with badC, which notes who handed it on. Goal
     `observed`: the sender (member 0) was noted more than once in so many runs."""
     def moves(state: Tuple[str, int, int, Tuple[int, ...]]) -> List[Row]:
+        """The row, if any, of a state: phase, runs left, who has the message, and how often each member was noted."""
         phase, left, holder, seen = state
         if phase == 'new':
             return [[('1', ('hold', left - 1, 0, seen))]] if left else []
@@ -155,6 +160,7 @@ def nand(wires: int, stages: int) -> bytes:
     last = 2 * stages + 1
 
     def moves(v: Nand) -> List[Row]:
+        """The row of a state, if any: one input of a gate, its result, or on to the next gate or stage."""
         left = wires - v.done
         if v.phase == 'choose':
             if left:
@@ -185,6 +191,7 @@ def zeroconf(probes: int) -> bytes:
     """A host takes an address, which is in use with q. It sends so many probes, each unanswered with p, and takes another
     address where one is answered. Goal `collision`: none was answered though the address is in use."""
     def moves(state: int) -> List[Row]:
+        """The row of a state, if any: an address is taken in 0, and a probe is sent in each from 1 to the number of probes."""
         if state == 0:
             return [[('q', 1), ('1-q', -1)]]
         if 0 < state <= probes:
@@ -200,10 +207,12 @@ def consensus(processes: int, bound: int) -> bytes:
     most = 2 * (bound + 1) * processes
 
     def moves(state: Tuple[int, Tuple[Tuple[str, int], ...]]) -> List[Row]:
+        """A row for each process that hasn't ended: what it does if it has the turn."""
         counter, all_of_them = state
         found: List[Row] = []
 
         def after(place: int, phase: str, value: int, moved: int = 0) -> Hashable:
+            """The state in which one process has this phase and value, and the counter has moved by so much."""
             return counter + moved, all_of_them[:place] + ((phase, value),) + all_of_them[place + 1:]
 
         for place, (phase, value) in enumerate(all_of_them):
@@ -253,6 +262,7 @@ class TimeUp(Exception):
 
 
 def end_of_time(number: int, frame: object) -> None:
+    """Ends the work on a model when its seconds are over."""
     raise TimeUp
 
 
@@ -297,6 +307,7 @@ def published(name: str) -> Dict[str, Dict[str, str]]:
 
 
 def main() -> int:
+    """Prints the table or writes one model, and gives the status."""
     words = argparse.ArgumentParser(description=__doc__, formatter_class=argparse.RawDescriptionHelpFormatter)
     words.add_argument('--only', metavar='FAMILIES', help='some families, with commas between')
     words.add_argument('--model', nargs='+', metavar='WORD', help='writes one model: family and numbers')

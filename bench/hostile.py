@@ -7,50 +7,60 @@
                                           runs the program on each, and prints a table
 """
 
+from __future__ import annotations
+
 import argparse
 import itertools
 import os
 import sys
 from dataclasses import dataclass
-from typing import Callable
+from typing import Callable, List, Tuple
 
 import measure
 
 MIB = 1 << 20
 LETTERS = "abcdefghijklmnop"
 
+# What writes an input; and a state: its labels, and the lines of its choices.
+Make = Callable[[], str]
+State = Tuple[List[str], List[str]]
+
 
 @dataclass
 class Kind:
-    make: Callable[[], str]
-    words: list
+    """What writes an input, the words of the run that reads it, and what is hostile about it."""
+
+    make: Make
+    words: list[str]
     about: str
 
 
-KINDS = {}
+KINDS: dict[str, Kind] = {}
 
 
-def kind(words):
+def kind(words: str) -> Callable[[Make], Make]:
     """Enters a function that writes an input; its first line tells what is hostile."""
 
-    def enter(make):
+    def enter(make: Make) -> Make:
+        """Enters it by its name, and gives it back."""
         KINDS[make.__name__.replace("_", "-")] = Kind(make, words.split(), make.__doc__.strip())
         return make
 
     return enter
 
 
-def verify(region="", bound="1/2", precision=24):
+def verify(region: str = "", bound: str = "1/2", precision: int = 24) -> str:
+    """The words of a run of verify, with blanks between."""
     words = "verify --goal goal --bound %s --precision %d" % (bound, precision)
     return words + (" --region " + region if region else "")
 
 
-def over(names, low="1/10", high="9/10"):
+def over(names: str, low: str = "1/10", high: str = "9/10") -> str:
     """A region that gives each parameter the same interval."""
     return ",".join("%s<=%s<=%s" % (low, name, high) for name in names)
 
 
-def model(states, parameters="", kind="DTMC"):
+def model(states: list[State], parameters: str = "", kind: str = "DTMC") -> str:
     """A model: for each state its labels, and the lines of its choices."""
     lines = ["@type: " + kind]
     if parameters:
@@ -62,7 +72,7 @@ def model(states, parameters="", kind="DTMC"):
     return "\n".join(lines) + "\n"
 
 
-def to_goal(rows):
+def to_goal(rows: list[list[str]]) -> list[State]:
     """States 0 and on with these lines; then the goal and a sink, whose numbers follow."""
     states = [(["init"] if number == 0 else [], lines) for number, lines in enumerate(rows)]
     goal = len(states)
@@ -75,9 +85,9 @@ def to_goal(rows):
 PRODUCT = "*".join("(1+%s)" % letter for letter in LETTERS)
 
 
-def values_model(value, size=MIB - 4096):
+def values_model(value: str, size: int = MIB - 4096) -> str:
     """States with a long value that is 1, each written with a number of its own: as many as fit."""
-    rows = []
+    rows: list[list[str]] = []
     used = 0
     while True:
         number = len(rows)
@@ -90,19 +100,19 @@ def values_model(value, size=MIB - 4096):
 
 
 @kind(verify(over(LETTERS)))
-def cancelling_products():
+def cancelling_products() -> str:
     """values of 40 products of 65,536 terms each, which cancel in pairs"""
     return values_model("+".join(["1"] + ["%s-%s" % (PRODUCT, PRODUCT)] * 20))
 
 
 @kind(verify(over(LETTERS)))
-def cancelling_steps():
+def cancelling_steps() -> str:
     """values that add 1 to 65,536 terms and take it away, 1,900 times"""
     return values_model("1+" + PRODUCT + "+1-1" * 950 + "-" + PRODUCT)
 
 
 @kind(verify(over(LETTERS)))
-def cancelling_steps_once():
+def cancelling_steps_once() -> str:
     """one such value"""
     return values_model("1+" + PRODUCT + "+1-1" * 950 + "-" + PRODUCT, 8192)
 
@@ -112,31 +122,31 @@ FACTORS = "1+" + PRODUCT + "*2*0.5" * 950 + "-" + PRODUCT
 
 
 @kind(verify(over(LETTERS)))
-def cancelling_tenths():
+def cancelling_tenths() -> str:
     """values that add a tenth to 65,536 terms and take it away, 1,840 times"""
     return values_model(TENTHS)
 
 
 @kind(verify(over(LETTERS)))
-def cancelling_tenths_once():
+def cancelling_tenths_once() -> str:
     """one such value"""
     return values_model(TENTHS, 8192)
 
 
 @kind(verify(over(LETTERS)))
-def cancelling_factors():
+def cancelling_factors() -> str:
     """values that double 65,536 terms and halve them, 1,900 times"""
     return values_model(FACTORS)
 
 
 @kind(verify(over(LETTERS)))
-def cancelling_factors_once():
+def cancelling_factors_once() -> str:
     """one such value"""
     return values_model(FACTORS, 8192)
 
 
 @kind(verify("0<=p<=1"))
-def deep_values():
+def deep_values() -> str:
     """values 64 deep, 21 in each sum"""
     parentheses = "(" * 64 + "p" + ")" * 64
     signs = "-" * 64 + "p"
@@ -146,14 +156,14 @@ def deep_values():
 
 
 @kind(verify())
-def long_literals():
+def long_literals() -> str:
     """numbers with a hundred thousand zeros behind the point"""
     rows = [["%d : 0.%s1e%d" % (number, "0" * 100000, 100001)] for number in range(10)]
     return model(to_goal(rows))
 
 
 @kind(verify("0<=p<=1"))
-def placeholders():
+def placeholders() -> str:
     """65,536 placeholders, of which the last is used"""
     lines = ["@type: DTMC", "@parameters", "p", "@placeholders"]
     lines += ["$%x : p" % number for number in range(65535)] + ["$rest : 1-p", "@model", "state 0 init"]
@@ -162,7 +172,7 @@ def placeholders():
 
 
 @kind(verify("0<=p<=1"))
-def placeholders_used():
+def placeholders_used() -> str:
     """16,000 placeholders, each used once"""
     count = 16000
     lines = ["@type: DTMC", "@parameters", "p", "@placeholders"]
@@ -177,18 +187,18 @@ def placeholders_used():
 
 
 @kind(verify())
-def line_feeds():
+def line_feeds() -> str:
     """a million line feeds"""
     return "\n" * MIB
 
 
 @kind(verify())
-def labels():
+def labels() -> str:
     """one state with half a million labels"""
     return "@type: DTMC\n@model\nstate 0 init goal" + " a" * 500000 + "\n0 : 1\n"
 
 
-def descending(count, states):
+def descending(count: int, states: int) -> str:
     """One choice with so many transitions, to the last state first; and the states behind."""
     lines = ["@type: DTMC", "@model", "state 0 init", "%d : 1" % (count - 1)]
     lines += ["%d : 0" % target for target in range(count - 2, -1, -1)]
@@ -198,13 +208,13 @@ def descending(count, states):
 
 
 @kind(verify())
-def descending_targets():
+def descending_targets() -> str:
     """one choice with 30,000 transitions, to the last state first"""
     return descending(30000, 30000)
 
 
 @kind(verify())
-def targets_without_states():
+def targets_without_states() -> str:
     """one choice with 90,000 transitions, to the last state first, which isn't there"""
     return descending(90000, 3)
 
@@ -213,7 +223,7 @@ def targets_without_states():
 
 
 @kind(verify())
-def idle_choices():
+def idle_choices() -> str:
     """one state with 65,536 choices, each of which leads back to it"""
     lines = ["@type: MDP", "@model", "state 0 init"] + ["action", "0 : 1"] * 65535 + ["action", "1 : 1/2", "2 : 1/2"]
     lines += ["state 1 goal", "action", "1 : 1", "state 2", "action", "2 : 1"]
@@ -221,7 +231,7 @@ def idle_choices():
 
 
 @kind(verify("1/10<=p<=9/10"))
-def idle_choices_over_p():
+def idle_choices_over_p() -> str:
     """one state with 40,000 choices, each of which stays with p and is lost else"""
     lines = ["@type: MDP", "@parameters", "p", "@model", "state 0 init"]
     lines += ["action", "0 : p", "2 : 1-p"] * 40000 + ["action", "1 : p", "2 : 1-p"]
@@ -232,7 +242,7 @@ def idle_choices_over_p():
 # ---- cycles
 
 
-def leaking(count, leak):
+def leaking(count: int, leak: str) -> str:
     """A ring of so many states; each is left with a small probability, in equal parts to the goal and the sink."""
     goal, sink = count, count + 1
     half = "%s/2" % leak
@@ -244,36 +254,37 @@ def leaking(count, leak):
 
 
 @kind(verify(bound="1"))
-def leaking_ring():
+def leaking_ring() -> str:
     """a ring of 16,000 states, each of which leaks a millionth"""
     return leaking(16000, "1e-6")
 
 
 @kind(verify(bound="0"))
-def leaking_ring_from_above():
+def leaking_ring_from_above() -> str:
     """the same, with a bound of 0"""
     return leaking(16000, "1e-6")
 
 
 @kind(verify(bound="0", precision=40))
-def leaking_pair_from_above():
+def leaking_pair_from_above() -> str:
     """two states that lead to each other but for 1e-7, at precision 40, with a bound of 0"""
     return leaking(2, "1e-7")
 
 
 @kind(verify(bound="1", precision=40))
-def tight_pair():
+def tight_pair() -> str:
     """two states that lead to each other but for 1e-17, at precision 40"""
     return leaking(2, "1e-17")
 
 
 @kind(verify(bound="0", precision=40))
-def tight_pair_from_above():
+def tight_pair_from_above() -> str:
     """the same, with a bound of 0"""
     return leaking(2, "1e-17")
 
 
-def walking(length, forth="1/2"):
+def walking(length: int, forth: str = "1/2") -> str:
+    """A walk over so many states from the lowest, with this probability of a step forth; the goal is above, the sink below."""
     goal, sink = length, length + 1
     rows = []
     for number in range(length):
@@ -284,31 +295,31 @@ def walking(length, forth="1/2"):
 
 
 @kind(verify(bound="1"))
-def fair_walk_300():
+def fair_walk_300() -> str:
     """a fair walk over 300 states"""
     return walking(300)
 
 
 @kind(verify(bound="1"))
-def fair_walk_3000():
+def fair_walk_3000() -> str:
     """a fair walk over 3,000 states"""
     return walking(3000)
 
 
 @kind(verify(bound="1"))
-def fair_walk_28000():
+def fair_walk_28000() -> str:
     """a fair walk over 28,000 states"""
     return walking(28000)
 
 
 @kind(verify(bound="0"))
-def fair_walk_300_from_above():
+def fair_walk_300_from_above() -> str:
     """a fair walk over 300 states, with a bound of 0"""
     return walking(300)
 
 
 @kind(verify(bound="0"))
-def fair_walk_3000_from_above():
+def fair_walk_3000_from_above() -> str:
     """a fair walk over 3,000 states, with a bound of 0"""
     return walking(3000)
 
@@ -317,7 +328,7 @@ def fair_walk_3000_from_above():
 
 
 @kind(verify(bound="0"))
-def end_components():
+def end_components() -> str:
     """8,000 pairs of states that lead back to each other; each pair may leave, with a probability of its own"""
     rows = []
     count = 8000
@@ -331,7 +342,7 @@ def end_components():
     return model(to_goal(rows), kind="MDP")
 
 
-def path_at_will(count):
+def path_at_will(count: int) -> str:
     """From each state back with certainty, or on at the risk to be lost, which grows; the goal is behind the last one."""
     goal, sink = count, count + 1
     rows = []
@@ -346,13 +357,13 @@ def path_at_will(count):
 
 
 @kind(verify(bound="0"))
-def nested_ends_1000():
+def nested_ends_1000() -> str:
     """a path of 1,000 states; each may go back, or on at the risk to be lost"""
     return path_at_will(1000)
 
 
 @kind(verify(bound="0"))
-def nested_ends_12000():
+def nested_ends_12000() -> str:
     """the same with 12,000 states"""
     return path_at_will(12000)
 
@@ -361,9 +372,9 @@ def nested_ends_12000():
 
 
 @kind(verify(over(LETTERS)))
-def parameter_sets():
+def parameter_sets() -> str:
     """rows over four of sixteen parameters, with all sixteen sets, at sixteen corners"""
-    rows = []
+    rows: list[list[str]] = []
     used = 0
     while used < MIB - 8192:
         number = len(rows)
@@ -381,7 +392,7 @@ def parameter_sets():
 
 
 @kind(verify(over(LETTERS)))
-def cancelling_rows():
+def cancelling_rows() -> str:
     """a row of 27,000 transitions over all sets of four of sixteen parameters, which cancel in pairs"""
     products = ["*".join(names) for names in itertools.combinations(LETTERS, 4)]
     lines = ["@type: DTMC", "@parameters", " ".join(LETTERS), "@model", "state 0 init", "0 : 1"]
@@ -396,7 +407,7 @@ def cancelling_rows():
 # ---- reports
 
 
-def head(depth=0):
+def head(depth: int = 0) -> str:
     """The head of a coin's report over the region from 0 to 1."""
     return (
         "plift 1\nkind dtmc\nparameters 1 p\ncommon 1\nstates 3\ninit 0\ngoal 1 1\nrow 0 0 2\nto 1 1:1\nto 2 0:1 1:-1\n"
@@ -406,22 +417,23 @@ def head(depth=0):
 
 
 @kind("check")
-def unknown_leaves():
+def unknown_leaves() -> str:
     """a report of 20 levels with a million unknown leaves"""
     return head(20) + tree(20, "unknown\n")
 
 
-def tree(depth, leaf, axes=1):
+def tree(depth: int, leaf: str, axes: int = 1) -> str:
     """A tree all of whose leaves are at that depth; the rectangles are halved on each parameter in turn."""
 
-    def nodes(level):
+    def nodes(level: int) -> str:
+        """The lines of a rectangle that many levels down, and of all in it."""
         return leaf if level == depth else "split %d\n" % (level % axes) + nodes(level + 1) * 2
 
     return nodes(0)
 
 
 @kind("check")
-def rows_times_leaves():
+def rows_times_leaves() -> str:
     """a report of 8,192 accepting leaves, for each of which 2,500 rows are tested at sixteen corners"""
     depth, choices, common = 13, 2500, 10007
     signs = [(-1) ** bin(subset).count("1") for subset in range(16)]
@@ -437,26 +449,26 @@ def rows_times_leaves():
 
 
 @kind("check")
-def long_numbers():
+def long_numbers() -> str:
     """a report whose bound is two numbers of half a million digits"""
     digits = "7" * (MIB // 2 - 512)
     return head().replace("bound 1/2", "bound %s/%s" % (digits, digits[:-1] + "9"))
 
 
 @kind("check")
-def long_denominator():
+def long_denominator() -> str:
     """a report whose bound has a denominator of a million digits"""
     return head().replace("bound 1/2", "bound 1234567/%s" % ("7" * (MIB - 1024)))
 
 
 @kind("check")
-def long_accept():
+def long_accept() -> str:
     """a report whose leaf has a million numbers too many"""
     return head() + "accept" + " 1" * (MIB // 2 - 512) + "\n"
 
 
 @kind("check")
-def long_box():
+def long_box() -> str:
     """a report whose region ends are numbers of half a million digits"""
     digits = "8" * (MIB // 2 - 512)
     return head().replace("box 0 1", "box %s %s" % (digits[:-1] + "0", digits))
@@ -465,7 +477,8 @@ def long_box():
 # ----
 
 
-def run(names, path, limit):
+def run(names: list[str], path: str, limit: int) -> int:
+    """Prints a line for each kind; 1 where one took longer than so many seconds of the processor, and else 0."""
     print("%-26s %9s %6s %10s %8s  %s" % ("kind", "bytes", "status", "seconds", "MB", "note"))
     slow = []
     with measure.scratch() as folder:
@@ -485,7 +498,8 @@ def run(names, path, limit):
     return 1 if slow else 0
 
 
-def main():
+def main() -> None:
+    """Lists the kinds, writes the inputs of some, or runs the program on them."""
     parser = argparse.ArgumentParser(description=__doc__, formatter_class=argparse.RawDescriptionHelpFormatter)
     parser.add_argument("what", choices=["list", "make", "run"])
     parser.add_argument("kinds", nargs="*")

@@ -1,6 +1,8 @@
 """Runs a program once or a few times, and tells its status, its seconds of the processor (user and system) and its peak
 memory."""
 
+from __future__ import annotations
+
 import os
 import resource
 import shutil
@@ -9,6 +11,7 @@ import subprocess
 import sys
 import tempfile
 from dataclasses import dataclass
+from typing import Optional
 
 TOP = os.path.dirname(os.path.dirname(os.path.abspath(__file__)))
 PROGRAM = os.path.join(TOP, "crates", "plift", "out", "plift")
@@ -34,24 +37,26 @@ class Run:
     note: str
 
     @property
-    def stopped(self):
+    def stopped(self) -> bool:
+        """Whether it reached its limit."""
         return self.status == STOPPED
 
 
-def scratch():
+def scratch() -> tempfile.TemporaryDirectory[str]:
     """A folder for models and reports, in memory where that can be had."""
     shared = "/dev/shm"
     place = shared if os.access(shared, os.W_OK) else None
     return tempfile.TemporaryDirectory(prefix="plift-bench.", dir=place)
 
 
-def once(words, source, target, limit):
+def once(words: list[str], source: str, target: str, limit: int) -> Run:
     """One run of the words, from one file to another, stopped after so many seconds of the processor."""
     figures = target + ".figures"
     notes = target + ".notes"
     around = [TIME, "-f", "%M", "-o", figures] if TIME else []
 
-    def limited():
+    def limited() -> None:
+        """Sets the limit, in seconds of the processor, in the child before it becomes the program."""
         resource.setrlimit(resource.RLIMIT_CPU, (limit, limit + 1))
 
     with open(source, "rb") as stdin, open(target, "wb") as stdout, open(notes, "wb") as stderr:
@@ -70,7 +75,7 @@ def once(words, source, target, limit):
     return Run(child.returncode, seconds, megabytes, note)
 
 
-def least(words, source, target, limit, count=3):
+def least(words: list[str], source: str, target: str, limit: int, count: int = 3) -> Run:
     """The run that took the least time of so many; one alone where it took longer than 5 seconds."""
     best = once(words, source, target, limit)
     for _ in range(count - 1):
@@ -82,7 +87,7 @@ def least(words, source, target, limit, count=3):
     return best
 
 
-def program(given=None):
+def program(given: Optional[str] = None) -> str:
     """The path of the program, or an end with a message where it isn't built."""
     path = given or PROGRAM
     if not os.access(path, os.X_OK):

@@ -10,9 +10,16 @@
     models.py component STATES      a chain in which nearly all states reach each other, from anywhere to anywhere
 """
 
+from __future__ import annotations
+
 import random
 import sys
 from dataclasses import dataclass
+from typing import Iterable, List, Tuple
+
+# The targets of a choice and their values; and a state: its labels and its choices.
+Row = List[Tuple[int, str]]
+State = Tuple[List[str], List[Row]]
 
 
 @dataclass
@@ -20,24 +27,27 @@ class Job:
     """A model, by its family and sizes, and what is asked of it."""
 
     family: str
-    sizes: tuple
+    sizes: tuple[int, ...]
     goal: str
     bound: str
     region: str
     depth: int = 4
     precision: int = 24
 
-    def name(self):
+    def name(self) -> str:
+        """Its family and its sizes, with blanks between."""
         return " ".join([self.family] + [str(size) for size in self.sizes])
 
-    def options(self):
+    def options(self) -> list[str]:
+        """The words for region, depth and precision."""
         return ["--region", self.region, "--depth", str(self.depth), "--precision", str(self.precision)]
 
-    def verify(self):
+    def verify(self) -> list[str]:
+        """The words that ask for it, without the program."""
         return ["verify", "--goal", self.goal, "--bound", self.bound] + self.options()
 
 
-def text(kind, parameters, states):
+def text(kind: str, parameters: list[str], states: list[State]) -> str:
     """The text of a model: for each state its labels, and its choices as lists of (target, value)."""
     lines = ["@type: " + kind]
     if parameters:
@@ -52,15 +62,15 @@ def text(kind, parameters, states):
     return "\n".join(lines) + "\n"
 
 
-def row_of(ends):
+def row_of(ends: Iterable[tuple[int, str]]) -> Row:
     """A row of (target, value), in order; values with the same target are added."""
-    sums = {}
+    sums: dict[int, str] = {}
     for end, value in ends:
         sums[end] = sums[end] + "+" + value if end in sums else value
     return sorted(sums.items())
 
 
-def relay(hops, tries):
+def relay(hops: int, tries: int) -> str:
     """State hop * tries + t: before that hop, after t losses. The last two states: delivered, and lost."""
     delivered, lost = hops * tries, hops * tries + 1
     states = []
@@ -75,7 +85,7 @@ def relay(hops, tries):
     return text("MDP", ["p", "q"], states)
 
 
-def robot(side):
+def robot(side: int) -> str:
     """The robot begins in one corner; the opposite one is the goal, and the middle a pit that it never leaves."""
     pit = (side // 2) * side + side // 2
     states = []
@@ -95,7 +105,7 @@ def robot(side):
     return text("MDP", ["p"], states)
 
 
-def walk(length):
+def walk(length: int) -> str:
     """From the middle; state 0 is a loss and the last state the goal."""
     states = [([], [[(0, "1")]])]
     for place in range(1, length):
@@ -105,7 +115,7 @@ def walk(length):
     return text("DTMC", ["p"], states)
 
 
-def dice(count):
+def dice(count: int) -> str:
     """Each die has seven states: three tosses, the second of which is thrown again where it shows nothing."""
     lost, won = count * 7, count * 7 + 1
     states = []
@@ -122,7 +132,7 @@ def dice(count):
     return text("DTMC", ["p"], states)
 
 
-def mixed(count):
+def mixed(count: int) -> str:
     """Each state leads to three of the next states and back to a lower one, over p, q, r, s; few are lost."""
     goal, sink = count, count + 1
     share = max(count // 4, 2)
@@ -138,7 +148,7 @@ def mixed(count):
     return text("DTMC", ["p", "q", "r", "s"], states)
 
 
-def deep(layers, width):
+def deep(layers: int, width: int) -> str:
     """Each choice leads to a state of the next layer with p or q, and else up to five layers back, a few to the loss."""
     draw = random.Random(1).randrange
     goal, lost = layers * width, layers * width + 1
@@ -158,7 +168,7 @@ def deep(layers, width):
     return text("MDP", ["p", "q"], states)
 
 
-def component(count):
+def component(count: int) -> str:
     """Each state leads to three others by chance, and with 3/100 of 1-p to an end, which is the goal for a third of them."""
     draw = random.Random(1).randrange
     goal, lost = count, count + 1

@@ -12,6 +12,8 @@ Needs Linux, the rights of root, perf, nm and readelf: it sets a probe at the fu
 cost some microseconds a call.
 """
 
+from __future__ import annotations
+
 import argparse
 import os
 import re
@@ -29,11 +31,12 @@ PARTS = (
 TRACING = "/sys/kernel/tracing"
 
 
-def output(*words):
+def output(*words: str) -> str:
+    """What a command prints; an error where it fails."""
     return subprocess.run(words, check=True, capture_output=True, text=True).stdout
 
 
-def addresses(program):
+def addresses(program: str) -> dict[str, int]:
     """The address of each symbol."""
     found = {}
     for line in output("nm", program).splitlines():
@@ -43,7 +46,7 @@ def addresses(program):
     return found
 
 
-def file_place(program, address):
+def file_place(program: str, address: int) -> int:
     """Where in the program's file an address stands."""
     for line in output("readelf", "-lW", program).splitlines():
         parts = line.split()
@@ -54,12 +57,13 @@ def file_place(program, address):
     sys.exit("an address stands in no part of the file")
 
 
-def write_probes(text):
+def write_probes(text: str) -> None:
+    """Sets these probes, one a line, in the place of all there are; none where the text is empty."""
     with open(f"{TRACING}/uprobe_events", "w") as events:
         events.write(text)
 
 
-def times(data):
+def times(data: str) -> dict[str, tuple[int, float]]:
     """Calls and milliseconds of each function in one run."""
     started, told = {}, {}
     script = output("perf", "script", "-i", data, "-F", "time,event", "--ns")
@@ -72,7 +76,8 @@ def times(data):
     return told
 
 
-def main():
+def main() -> None:
+    """Prints for each function its calls, and the milliseconds of the run in which they took least."""
     parser = argparse.ArgumentParser(description=__doc__, formatter_class=argparse.RawDescriptionHelpFormatter)
     parser.add_argument("--bin", required=True)
     parser.add_argument("--runs", type=int, default=5)
@@ -89,7 +94,7 @@ def main():
             probes += [f"{kind}:plift/{name}{number} {program}:0x{place:x}\n" for kind, name in (("p", "in"), ("r", "out"))]
     if not os.path.exists(f"{TRACING}/uprobe_events"):
         subprocess.run(["mount", "-t", "tracefs", "nodev", TRACING], check=True)
-    least = {}
+    least: dict[str, tuple[int, float]] = {}
     folder = tempfile.mkdtemp()
     write_probes("".join(probes))
     try:

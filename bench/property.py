@@ -24,9 +24,11 @@ class Job(models.Job):
     """A model, and what is asked of it, also by a formula."""
 
     def property(self, op: str) -> List[str]:
+        """The words that ask for it by a formula with <= or >=, without the program."""
         return ["property", "--formula", f'P{op}{self.bound} [F "{self.goal}"]', *self.options()]
 
     def text(self) -> bytes:
+        """The model, as the program reads it."""
         text = FAMILIES[self.family](*self.sizes)
         return text if isinstance(text, bytes) else text.encode()
 
@@ -81,6 +83,7 @@ def row(job: Job, folder: str, program: str, limit: int) -> str:
 
 
 def main() -> None:
+    """Prints the table, or the rows of one family."""
     parser = argparse.ArgumentParser(description=__doc__, formatter_class=argparse.RawDescriptionHelpFormatter)
     parser.add_argument("--bin", help="a built plift")
     parser.add_argument("--limit", type=int, default=60, help="seconds of a run; 60 if left out")

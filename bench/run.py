@@ -6,12 +6,15 @@
 With --write the tables also replace those of docs/PERFORMANCE.md. It takes about a minute.
 """
 
+from __future__ import annotations
+
 import argparse
 import datetime
 import os
 import platform
 import subprocess
 import sys
+from typing import Optional
 
 import measure
 import models
@@ -21,36 +24,40 @@ PAGE = os.path.join(measure.TOP, "docs", "PERFORMANCE.md")
 BEGIN, END = "<!-- tables: begin -->", "<!-- tables: end -->"
 
 
-def decimals(number):
+def decimals(number: float) -> str:
     """A probability in thousandths, as the command line takes it."""
     return "%d/1000" % min(999, max(1, round(number * 1000)))
 
 
-def relay(hops, tries, **more):
+def relay(hops: int, tries: int, **more: int) -> Job:
     """The bound is what is lost where each try is lost with 1/5."""
     lost = 1 - (1 - 0.2**tries) ** hops
     return Job("relay", (hops, tries), "lost", decimals(lost), "1/10<=p<=3/10,1/20<=q<=1/4", **more)
 
 
-def ladder(blocks, **more):
+def ladder(blocks: int, **more: int) -> Job:
     """Up to two of all blocks are expected to fail, so that the bound lies inside the region."""
     region = "%d/%d<=p<=1,9/10<=q<=1" % (blocks - 20, blocks) if blocks > 20 else "1/10<=p<=1,9/10<=q<=1"
     return Job("ladder", (blocks,), "done", "1/2", region, **more)
 
 
-def robot(side, **more):
+def robot(side: int, **more: int) -> Job:
+    """The bound is a chance of 9/10 to come home, where a step slips with 1/10 to 2/5."""
     return Job("robot", (side,), "home", "9/10", "1/10<=p<=2/5", **more)
 
 
-def walk(length, **more):
+def walk(length: int, **more: int) -> Job:
+    """From the middle, with steps forth that are about as likely as those back."""
     return Job("walk", (length,), "won", "1/2", "49/100<=p<=51/100", **more)
 
 
-def dice(count, **more):
+def dice(count: int, **more: int) -> Job:
+    """The bound is the chance of one fair die to show one."""
     return Job("dice", (count,), "won", "1/6", "1/10<=p<=9/10", **more)
 
 
-def mixed(states, **more):
+def mixed(states: int, **more: int) -> Job:
+    """All four parameters have the same interval around 1/2."""
     names = ("p", "q", "r", "s")
     return Job("mixed", (states,), "done", "1/2", ",".join("3/10<=%s<=7/10" % name for name in names), **more)
 
@@ -75,7 +82,8 @@ SERIES = {
 }
 
 
-def write_model(job, path, program):
+def write_model(job: Job, path: str, program: str) -> None:
+    """Writes the text of a job's model to a file; a ladder is written by the program itself."""
     if job.family == "ladder":
         with open(path, "wb") as file:
             subprocess.run([program, "generate", str(job.sizes[0])], stdout=file, check=True)
@@ -84,16 +92,18 @@ def write_model(job, path, program):
         file.write(models.FAMILIES[job.family](*job.sizes))
 
 
-def count_lines(path, *fronts):
+def count_lines(path: str, *fronts: bytes) -> int:
+    """How many lines of a file begin with one of these."""
     with open(path, "rb") as file:
         return sum(line.startswith(fronts) for line in file)
 
 
-def shown(run):
+def shown(run: measure.Run) -> str:
+    """Two cells of a table: seconds of the processor, and MB at the peak; that of a run that was stopped is empty."""
     return "> %d | " % run.seconds if run.stopped else "%.3f | %.0f" % (run.seconds, run.megabytes)
 
 
-def row(job, folder, program, limit):
+def row(job: Job, folder: str, program: str, limit: int) -> str:
     """One line of a table."""
     source, report, told = (os.path.join(folder, name) for name in ("model", "report", "told"))
     write_model(job, source, program)
@@ -117,7 +127,8 @@ HEADER = """| Model | States | Depth | Precision | Rectangles | verify: seconds 
 |---|---|---|---|---|---|---|---|---|---|"""
 
 
-def processor():
+def processor() -> str:
+    """What the machine calls its processor."""
     with open("/proc/cpuinfo") as file:
         for line in file:
             if line.startswith("model name"):
@@ -125,12 +136,13 @@ def processor():
     return platform.machine()
 
 
-def tables(program, limit, only):
+def tables(program: str, limit: int, only: Optional[str]) -> str:
     """The lines of the page, printed as they come."""
     loads = [os.getloadavg()[0]]
     lines = []
 
-    def say(line):
+    def say(line: str) -> None:
+        """Prints a line, and keeps it for the page."""
         print(line, flush=True)
         lines.append(line)
 
@@ -150,7 +162,8 @@ def tables(program, limit, only):
     return "\n".join(lines) + "\n"
 
 
-def write_page(text):
+def write_page(text: str) -> None:
+    """Puts the tables between the two marks of the page, in the place of those that are there."""
     with open(PAGE) as file:
         before, rest = file.read().split(BEGIN)
     after = rest.split(END)[1]
@@ -158,7 +171,8 @@ def write_page(text):
         file.write(before + BEGIN + "\n\n" + text + "\n" + END + after)
 
 
-def main():
+def main() -> None:
+    """Prints the tables that are asked for, and writes them to the page with --write."""
     parser = argparse.ArgumentParser(description=__doc__, formatter_class=argparse.RawDescriptionHelpFormatter)
     parser.add_argument("--bin")
     parser.add_argument("--limit", type=int, default=60)

@@ -6,15 +6,20 @@ and says what it tells then; with --pictures it also writes PNGs at three sizes,
 it isn't a part of the tests.
 """
 
+from __future__ import annotations
+
 import argparse
 import base64
+import contextlib
 import json
 import os
+import shutil
 import subprocess
 import sys
 import tempfile
 import time
 from pathlib import Path
+from typing import Any, Iterator, Union
 
 SLIDE = '''(() => {
     const slider = document.querySelectorAll("input[type=range]")[%d];
@@ -29,11 +34,13 @@ SIZES = (('wide', 1440, 900), ('middle', 900, 1100), ('narrow', 390, 844))
 class Browser:
     """Chromium, spoken to through two pipes."""
 
-    def __init__(self, folder):
+    def __init__(self, folder: str) -> None:
+        """Starts it with an empty page; what it keeps it keeps in the folder."""
         to_read, self._to = os.pipe()
         self._from, to_write = os.pipe()
 
-        def place_pipes():
+        def place_pipes() -> None:
+            """Puts the ends of the pipes where Chromium looks for them: it reads from 3 and writes to 4."""
             kept_read, kept_write = os.dup(to_read), os.dup(to_write)
             os.dup2(kept_read, 3)
             os.dup2(kept_write, 4)
@@ -48,7 +55,7 @@ class Browser:
         target = self.call('Target.createTarget', url='about:blank')['targetId']
         self._session = self.call('Target.attachToTarget', targetId=target, flatten=True)['sessionId']
 
-    def call(self, method, **parameters):
+    def call(self, method: str, **parameters: Any) -> dict[str, Any]:
         """One call of the DevTools protocol, and its answer."""
         self._count += 1
         message = {'id': self._count, 'method': method, 'params': parameters}
@@ -68,19 +75,19 @@ class Browser:
                     sys.exit('%s: %s' % (method, answer['error']))
                 return answer['result']
 
-    def tell(self, script):
+    def tell(self, script: str) -> Any:
         """What a script of the page comes to."""
         answer = self.call('Runtime.evaluate', expression=script, returnByValue=True)
         if 'exceptionDetails' in answer:
             sys.exit('the page: %s' % answer['exceptionDetails'].get('exception', {}).get('description'))
         return answer['result'].get('value')
 
-    def open(self, url):
+    def open(self, url: str) -> None:
         """Loads a page and waits for its picture."""
         self.call('Page.navigate', url=url)
         self.wait('document.documentElement && document.documentElement.dataset.drawn')
 
-    def wait(self, script):
+    def wait(self, script: str) -> None:
         """Until a script is true."""
         for _ in range(600):
             if self.tell('location.href !== "about:blank" && !!(%s)' % script):
@@ -88,34 +95,34 @@ class Browser:
             time.sleep(0.05)
         sys.exit('the page never drew its picture')
 
-    def key(self, key):
+    def key(self, key: str) -> None:
         """Presses a key."""
         for kind in ('keyDown', 'keyUp'):
             text = {'text': key} if len(key) == 1 and kind == 'keyDown' else {}
             self.call('Input.dispatchKeyEvent', type=kind, key=key, **text)
 
-    def mouse(self, kind, x, y, **more):
+    def mouse(self, kind: str, x: float, y: float, **more: Union[int, str]) -> None:
         """Moves or presses."""
         self.call('Input.dispatchMouseEvent', type=kind, x=x, y=y, **more)
 
-    def size(self, width, height, is_dark):
+    def size(self, width: int, height: int, is_dark: bool) -> None:
         """How large the window is, and whether the system is dark."""
         self.call('Emulation.setDeviceMetricsOverride', width=width, height=height, deviceScaleFactor=1, mobile=False)
         scheme = {'name': 'prefers-color-scheme', 'value': 'dark' if is_dark else 'light'}
         self.call('Emulation.setEmulatedMedia', features=[scheme])
 
-    def picture(self, path):
+    def picture(self, path: str) -> None:
         """Writes what is seen."""
         Path(path).write_bytes(base64.b64decode(self.call('Page.captureScreenshot', format='png')['data']))
 
-    def close(self):
+    def close(self) -> None:
         """Ends it."""
         self._session = None
         self.call('Browser.close')
         self._process.wait()
 
 
-def point(browser):
+def point(browser: Browser) -> tuple[float, float]:
     """Points at a leaf, and tells where."""
     box = json.loads(browser.tell('JSON.stringify(document.getElementById("picture").getBoundingClientRect())'))
     x, y = box['x'] + box['width'] * 0.6, box['y'] + box['height'] * 0.4
@@ -123,7 +130,7 @@ def point(browser):
     return x, y
 
 
-def use(browser):
+def use(browser: Browser) -> Iterator[tuple[str, Any]]:
     """Uses the page by keyboard and by pointer; each line tells what was done and what the page says."""
     leaf = 'document.getElementById("leaf-title").textContent'
     view = 'JSON.stringify(plot.view)'
@@ -150,13 +157,24 @@ def use(browser):
     yield 'asks for nothing', browser.tell('performance.getEntriesByType("resource").length')
 
 
-def main():
+@contextlib.contextmanager
+def scratch() -> Iterator[str]:
+    """A folder that is removed behind, as far as the browser has let go of it."""
+    folder = tempfile.mkdtemp()
+    try:
+        yield folder
+    finally:
+        shutil.rmtree(folder, ignore_errors=True)
+
+
+def main() -> None:
+    """Prints the milliseconds of three loads, and what the page says when it is used; writes the pictures if that is asked."""
     words = argparse.ArgumentParser(description=__doc__, formatter_class=argparse.RawDescriptionHelpFormatter)
     words.add_argument('page')
     words.add_argument('--pictures', metavar='PREFIX')
     given = words.parse_args()
     url = Path(given.page).resolve().as_uri()
-    with tempfile.TemporaryDirectory(ignore_cleanup_errors=True) as folder:
+    with scratch() as folder:
         browser = Browser(folder)
         browser.call('Page.enable')
         browser.size(1440, 900, False)

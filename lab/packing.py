@@ -1,11 +1,14 @@
 """Packs plift-lab for pip: the calls of a build backend, by the standard library alone."""
 
+from __future__ import annotations
+
 import base64
 import hashlib
 import re
 import tarfile
 import zipfile
 from pathlib import Path
+from typing import Any, Optional
 
 HERE = Path(__file__).resolve().parent
 PACKAGE = HERE / 'plift_lab'
@@ -20,16 +23,18 @@ TOLD = {
 }
 
 
-def _sources():
+def _sources() -> list[Path]:
     """The files of the package: modules, and what a page is made of."""
     return sorted(path for path in PACKAGE.rglob('*') if path.is_file() and path.suffix in ('.py', '.html', '.css', '.js'))
 
 
-def _hash(data):
+def _hash(data: bytes) -> str:
+    """The SHA-256 of these bytes, as RECORD takes it: base64 for URLs, without padding."""
     return base64.urlsafe_b64encode(hashlib.sha256(data).digest()).decode().rstrip('=')
 
 
-def _wheel(folder, files):
+def _wheel(folder: str, files: dict[str, bytes]) -> str:
+    """Writes a wheel with these files and what tells of it, and gives its name."""
     name = '%s-%s-py3-none-any.whl' % (NAME, VERSION)
     files = dict(files, **{'%s/%s' % (INFO, part): text.encode() for part, text in TOLD.items()})
     record = ''.join('%s,sha256=%s,%d\n' % (path, _hash(data), len(data)) for path, data in files.items())
@@ -40,17 +45,21 @@ def _wheel(folder, files):
     return name
 
 
-def build_wheel(wheel_directory, config_settings=None, metadata_directory=None):
+def build_wheel(
+    wheel_directory: str, config_settings: Optional[dict[str, Any]] = None, metadata_directory: Optional[str] = None
+) -> str:
     """A wheel with the package."""
     return _wheel(wheel_directory, {path.relative_to(HERE).as_posix(): path.read_bytes() for path in _sources()})
 
 
-def build_editable(wheel_directory, config_settings=None, metadata_directory=None):
+def build_editable(
+    wheel_directory: str, config_settings: Optional[dict[str, Any]] = None, metadata_directory: Optional[str] = None
+) -> str:
     """A wheel that only says where the package lies."""
     return _wheel(wheel_directory, {NAME + '.pth': (str(HERE) + '\n').encode()})
 
 
-def build_sdist(sdist_directory, config_settings=None):
+def build_sdist(sdist_directory: str, config_settings: Optional[dict[str, Any]] = None) -> str:
     """The sources."""
     base = '%s-%s' % (NAME, VERSION)
     with tarfile.open(str(Path(sdist_directory) / (base + '.tar.gz')), 'w:gz') as archive:

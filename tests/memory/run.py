@@ -11,6 +11,8 @@ Needs the built program (./plift builds it) and a C compiler, for a small librar
 and stands between the two. Prints how many requests each run makes. The last line is 'N passed, M failed'.
 """
 
+from __future__ import annotations
+
 import argparse
 import os
 import shutil
@@ -18,6 +20,7 @@ import subprocess
 import sys
 import tempfile
 from dataclasses import dataclass
+from typing import Optional, Union
 
 HERE = os.path.dirname(os.path.abspath(__file__))
 TOP = os.path.dirname(os.path.dirname(HERE))
@@ -39,12 +42,12 @@ class Case:
 
     words: str
     reads: str = os.devnull
-    report_of: "Case" = None
+    report_of: Optional[Case] = None
     # What is asked for last, in bytes: the room of verify, lumped, bounded, property or cost.
-    last: tuple = ()
+    last: tuple[int, ...] = ()
 
 
-def room(depth, parameters, states, rows, weights):
+def room(depth: int, parameters: int, states: int, rows: int, weights: int) -> tuple[int, ...]:
     """What a room asks for: nine pools, for each its words, and its list of lanes, a lane being a word; and what it takes
     to see whether states can be taken together, which here they can't."""
     pools = [(depth + 1, 2 * parameters * 8), (1, weights * 16), (1, states * 8), (1, rows * 4)]
@@ -53,18 +56,18 @@ def room(depth, parameters, states, rows, weights):
     return tuple(size for lanes, lane in pools for size in (lanes * lane, lanes * 8)) + taken(states)
 
 
-def taken(states):
+def taken(states: int) -> tuple[int, ...]:
     """What it takes to see whether so many states can be taken together."""
     return tuple(size * states for size in (1, 4, 1, 4, 4, 1, 4))
 
 
-def property_room(depth, parameters, states, rows, weights):
+def property_room(depth: int, parameters: int, states: int, rows: int, weights: int) -> tuple[int, ...]:
     """The same for a property, where states are looked at before the table."""
     sides, rest = 2, room(depth, parameters, states, rows, weights)
     return rest[:sides] + taken(states) + rest[sides : -len(taken(states))]
 
 
-def bounded_room(steps, depth, parameters, states, weights):
+def bounded_room(steps: int, depth: int, parameters: int, states: int, weights: int) -> tuple[int, ...]:
     """The same for a number of steps: the sides, the table, the vectors and the picks of each number of steps, and those
     that are made."""
     sides = ((depth + 1) * 2 * parameters * 8, (depth + 1) * 8)
@@ -72,7 +75,7 @@ def bounded_room(steps, depth, parameters, states, weights):
     return (*sides, weights * 16, *numbers, *picks, states * 8, states * 4)
 
 
-def cost_room(depth, parameters, states, weights):
+def cost_room(depth: int, parameters: int, states: int, weights: int) -> tuple[int, ...]:
     """The same for a budget: the sides, the table, the numbers, and what they are found in."""
     return ((depth + 1) * 2 * parameters * 8, (depth + 1) * 8, weights * 16, states * 8, 2 * states * 4)
 
@@ -114,16 +117,21 @@ SELFTEST_PARTS = [LADDER_VERIFY, LADDER_CHECK]
 
 @dataclass
 class Ending:
+    """How a run ended, what it wrote, and how many bytes each of its requests was for."""
+
     status: int
     written: bytes
     note: str
-    requests: list
+    requests: list[int]
     # How many requests were made before the first write to standard output; None where nothing was written.
-    before_writing: int
+    before_writing: Optional[int]
 
 
 class Bench:
-    def __init__(self, program, folder):
+    """Runs the program below the library that refuses, and counts what is as it should be and what isn't."""
+
+    def __init__(self, program: str, folder: str) -> None:
+        """Builds the library in the folder."""
         self.program = program
         self.folder = folder
         self.library = os.path.join(folder, "refuse.so")
@@ -133,7 +141,8 @@ class Bench:
         source = os.path.join(HERE, "refuse.c")
         subprocess.run([compiler, "-O1", "-shared", "-fPIC", "-o", self.library, source, "-ldl"], check=True)
 
-    def run(self, words, stdin, refused=0, and_all_behind=False):
+    def run(self, words: str, stdin: bytes, refused: int = 0, and_all_behind: bool = False) -> Ending:
+        """One run, with the request of that number refused, counted from 1; none where it is 0."""
         log = os.path.join(self.folder, "log")
         around = {"LD_PRELOAD": self.library, "PLIFT_REFUSE": str(refused), "PLIFT_LOG": log}
         if and_all_behind:
@@ -151,20 +160,22 @@ class Bench:
                     requests.append(int(size))
         return Ending(done.returncode, done.stdout, done.stderr.decode("ascii", "replace"), requests, before)
 
-    def input_of(self, case):
+    def input_of(self, case: Case) -> bytes:
+        """What a run reads: the bytes of its file, or of the report that another run writes."""
         if case.report_of:
             return self.run(case.report_of.words, self.input_of(case.report_of)).written
         with open(os.path.join(TOP, case.reads) if case.reads != os.devnull else os.devnull, "rb") as file:
             return file.read()
 
-    def expect(self, holds, what):
+    def expect(self, holds: Union[bool, bytes], what: str) -> None:
+        """Counts what holds; prints what doesn't."""
         if holds:
             self.passed += 1
         else:
             self.failed += 1
             print("FAILED: " + what)
 
-    def try_case(self, case):
+    def try_case(self, case: Case) -> None:
         """The run with enough memory, and then with each request refused."""
         stdin = self.input_of(case)
         whole = self.run(case.words, stdin)
@@ -187,22 +198,25 @@ class Bench:
             least = sum(self.work_of(part) for part in SELFTEST_PARTS)
             self.expect(count >= least, "%s: %d requests, and its parts make %d" % (case.words, count, least))
 
-    def work_of(self, case):
+    def work_of(self, case: Case) -> int:
         """How many requests a run makes more than one whose text is refused at its first byte."""
         stdin = self.input_of(case)
         whole, refused = self.run(case.words, stdin), self.run(case.words, b"x" * len(stdin))
         return len(whole.requests) - len(refused.requests)
 
 
-def is_out_of_memory(got):
+def is_out_of_memory(got: Ending) -> bool:
+    """Whether a run ended with status 8, wrote nothing, and said why or nothing."""
     return got.status == OUT_OF_MEMORY and not got.written and got.note in NOTES
 
 
-def told(case, number, count, got):
+def told(case: Case, number: int, count: int, got: Ending) -> str:
+    """The line for a run with one request refused."""
     return "%s: request %d of %d: status %d, %d bytes, %r" % (case.words, number, count, got.status, len(got.written), got.note)
 
 
-def main():
+def main() -> None:
+    """Tries each case; ends with status 1 where something isn't as it should be."""
     parser = argparse.ArgumentParser(description=__doc__, formatter_class=argparse.RawDescriptionHelpFormatter)
     parser.add_argument("--bin", default=PROGRAM)
     asked = parser.parse_args()
