@@ -3,7 +3,7 @@
 
     run.py [--bin PATH] [--limit SECONDS] [--only WORD] [--write]
 
-With --write the tables also replace those of docs/PERFORMANCE.md. It takes about a minute.
+With --write the tables also replace those of docs/PERFORMANCE.md. It takes less than a minute.
 """
 
 from __future__ import annotations
