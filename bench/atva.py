@@ -34,15 +34,20 @@ from plift_lab.api import find_verdict  # noqa: E402
 from plift_lab.session import Question, Session  # noqa: E402
 
 Row = List[Tuple[str, Hashable]]
-MOST_STATES, MOST_CHOICES, MOST_TRANSITIONS = 2 ** 16, 2 ** 17, 2 ** 18
+MOST_STATES, MOST_CHOICES, MOST_TRANSITIONS = 2**16, 2**17, 2**18
 
 
 class TooLarge(Exception):
     """A model that doesn't fit plift's limits."""
 
 
-def text(kind: str, parameters: List[str], first: Hashable, choices: Callable[[Any], List[Row]],
-         labels: Callable[[Any], List[str]]) -> bytes:
+def text(
+    kind: str,
+    parameters: List[str],
+    first: Hashable,
+    choices: Callable[[Any], List[Row]],
+    labels: Callable[[Any], List[str]],
+) -> bytes:
     """The states that can be reached, in the order in which they are met. A state without choices stays where it is."""
     number, todo, lines = {first: 0}, [first], []
     rows = transitions = 0
@@ -56,8 +61,10 @@ def text(kind: str, parameters: List[str], first: Hashable, choices: Callable[[A
                     todo.append(target)
                 values.setdefault(number[target], []).append(value)
             lines += ['action %d' % place] * (kind == 'MDP')
-            lines += ['%d : %s' % (target, '+'.join('(%s)' % one for one in several) if len(several) > 1 else several[0])
-                      for target, several in values.items()]
+            lines += [
+                '%d : %s' % (target, '+'.join('(%s)' % one for one in several) if len(several) > 1 else several[0])
+                for target, several in values.items()
+            ]
             rows, transitions = rows + 1, transitions + len(values)
         if len(todo) > MOST_STATES or rows > MOST_CHOICES or transitions > MOST_TRANSITIONS:
             raise TooLarge('%d states and more, %d choices, %d transitions' % (len(todo), rows, transitions))
@@ -73,6 +80,7 @@ Brp = namedtuple('Brp', 's told i again bit first last sent_bit r said got_first
 
 def brp(frames: int, most: int) -> bytes:
     """Goal `error`: the sender gives up."""
+
     def moves(v: Brp) -> List[Row]:
         """The row of a state, if any: where several moves may come next, each has the same share of it."""
         found: List[Row] = []
@@ -124,7 +132,13 @@ def brp(frames: int, most: int) -> bytes:
             acknowledge(due_bit=1 - v.due_bit)
         if len(found) > 1:
             share = '1/%d' % len(found)
-            return [[(share if value == '1' else '%s*(%s)' % (share, value), after) for row in found for value, after in row]]
+            return [
+                [
+                    (share if value == '1' else '%s*(%s)' % (share, value), after)
+                    for row in found
+                    for value, after in row
+                ]
+            ]
         return found
 
     return text('DTMC', ['pL', 'pK'], Brp(*[0] * len(Brp._fields)), moves, lambda v: ['error'] * (v.s == 5))
@@ -133,6 +147,7 @@ def brp(frames: int, most: int) -> bytes:
 def crowds(members: int, runs: int) -> bytes:
     """A message goes from member to member, on with PF, and to a bad one with badC, which notes who handed it on. Goal
     `observed`: the sender (member 0) was noted more than once in so many runs."""
+
     def moves(state: Tuple[str, int, int, Tuple[int, ...]]) -> List[Row]:
         """The row, if any, of a state: phase, runs left, who has the message, and how often each member was noted."""
         phase, left, holder, seen = state
@@ -147,7 +162,9 @@ def crowds(members: int, runs: int) -> bytes:
             return [[('1', ('new', left, 0, after))]]
         return [[('1/%d' % members, ('hold', left, member, seen)) for member in range(members)]]
 
-    return text('DTMC', ['PF', 'badC'], ('new', runs, 0, (0,) * members), moves, lambda state: ['observed'] * (state[3][0] > 1))
+    return text(
+        'DTMC', ['PF', 'badC'], ('new', runs, 0, (0,) * members), moves, lambda state: ['observed'] * (state[3][0] > 1)
+    )
 
 
 Nand = namedtuple('Nand', 'phase stage done good first second one other')
@@ -166,13 +183,17 @@ def nand(wires: int, stages: int) -> bytes:
             if left:
                 return [[('1', v._replace(phase='one'))]]
             if v.stage < last:
-                return [[('1', v._replace(phase='one', stage=v.stage + 1, done=0, good=0, first=v.good, second=v.good))]]
+                return [
+                    [('1', v._replace(phase='one', stage=v.stage + 1, done=0, good=0, first=v.good, second=v.good))]
+                ]
             return [[('1', v._replace(phase='end', first=0, second=0))]]
         if v.phase == 'one':
             hit, missed = v._replace(phase='other', one=1, first=max(v.first - 1, 0)), v._replace(phase='other', one=0)
             return [[('prob1', hit), ('1-prob1', missed)]] if v.stage == 1 else [[('1', hit if v.first else missed)]]
         if v.phase == 'other':
-            hit, missed = v._replace(phase='gate', other=1, second=max(v.second - 1, 0)), v._replace(phase='gate', other=0)
+            hit, missed = v._replace(phase='gate', other=1, second=max(v.second - 1, 0)), v._replace(
+                phase='gate', other=0
+            )
             if v.stage == 1:
                 return [[('prob1', hit), ('1-prob1', missed)]]
             if v.second in (0, left):
@@ -183,13 +204,19 @@ def nand(wires: int, stages: int) -> bytes:
             return [[('1-perr', after._replace(good=v.good + 1 - both)), ('perr', after._replace(good=v.good + both))]]
         return []
 
-    return text('DTMC', ['perr', 'prob1'], Nand('choose', 1, 0, 0, 0, 0, 0, 0), moves,
-                lambda v: ['reliable'] * (v.phase == 'end' and v.good * 10 < wires))
+    return text(
+        'DTMC',
+        ['perr', 'prob1'],
+        Nand('choose', 1, 0, 0, 0, 0, 0, 0),
+        moves,
+        lambda v: ['reliable'] * (v.phase == 'end' and v.good * 10 < wires),
+    )
 
 
 def zeroconf(probes: int) -> bytes:
     """A host takes an address, which is in use with q. It sends so many probes, each unanswered with p, and takes another
     address where one is answered. Goal `collision`: none was answered though the address is in use."""
+
     def moves(state: int) -> List[Row]:
         """The row of a state, if any: an address is taken in 0, and a probe is sent in each from 1 to the number of probes."""
         if state == 0:
@@ -213,21 +240,30 @@ def consensus(processes: int, bound: int) -> bytes:
 
         def after(place: int, phase: str, value: int, moved: int = 0) -> Hashable:
             """The state in which one process has this phase and value, and the counter has moved by so much."""
-            return counter + moved, all_of_them[:place] + ((phase, value),) + all_of_them[place + 1:]
+            return counter + moved, all_of_them[:place] + ((phase, value),) + all_of_them[place + 1 :]
 
         for place, (phase, value) in enumerate(all_of_them):
             if phase == 'toss':
-                found.append([('p%d' % (place + 1), after(place, 'move', 0)), ('1-p%d' % (place + 1), after(place, 'move', 1))])
+                found.append(
+                    [('p%d' % (place + 1), after(place, 'move', 0)), ('1-p%d' % (place + 1), after(place, 'move', 1))]
+                )
             elif phase == 'move':
                 found.append([('1', after(place, 'look', 0, 2 * value - 1))])
             elif phase == 'look':
                 is_out = counter <= processes or counter >= most - processes
-                found.append([('1', after(place, 'end', int(counter > processes)) if is_out else after(place, 'toss', 0))])
+                found.append(
+                    [('1', after(place, 'end', int(counter > processes)) if is_out else after(place, 'toss', 0))]
+                )
         return found
 
     first = ((bound + 1) * processes, (('toss', 0),) * processes)
-    return text('MDP', ['p%d' % (place + 1) for place in range(processes)], first, moves,
-                lambda state: ['agree'] * (set(state[1]) == {('end', 1)}))
+    return text(
+        'MDP',
+        ['p%d' % (place + 1) for place in range(processes)],
+        first,
+        moves,
+        lambda state: ['agree'] * (set(state[1]) == {('end', 1)}),
+    )
 
 
 FAMILIES: Dict[str, Callable[..., bytes]] = {one.__name__: one for one in (brp, crowds, nand, zeroconf, consensus)}
@@ -235,6 +271,7 @@ FAMILIES: Dict[str, Callable[..., bytes]] = {one.__name__: one for one in (brp, 
 
 class Job(NamedTuple):
     """A line of the table."""
+
     family: str
     arguments: Tuple[int, ...]
     goal: str
@@ -246,15 +283,31 @@ class Job(NamedTuple):
         return '%s (%s)' % (self.family, ','.join(map(str, self.arguments)))
 
 
-JOBS = [Job(family, arguments, goal, bound) for family, goal, bound, several in (
-    ('brp', 'error', '1/10', ((64, 4), (128, 5), (256, 5), (512, 5))),
-    ('crowds', 'observed', '1/10', ((5, 4), (5, 5), (8, 5), (10, 5))),
-    ('nand', 'reliable', '1/10', ((5, 5), (10, 2), (10, 5), (15, 5))),
-    ('zeroconf', 'collision', '1/2', ((100,), (1000,), (10000,))),
-    ('consensus', 'agree', '1/2', ((2, 2), (2, 8), (3, 2), (4, 2))),
-) for arguments in several]
-COLUMNS = ('model', 'parameters', 'states', 'transitions', 'bound', 'depth', 'regions', 'safe', 'unsafe', 'unknown', 'covered',
-           'seconds')
+JOBS = [
+    Job(family, arguments, goal, bound)
+    for family, goal, bound, several in (
+        ('brp', 'error', '1/10', ((64, 4), (128, 5), (256, 5), (512, 5))),
+        ('crowds', 'observed', '1/10', ((5, 4), (5, 5), (8, 5), (10, 5))),
+        ('nand', 'reliable', '1/10', ((5, 5), (10, 2), (10, 5), (15, 5))),
+        ('zeroconf', 'collision', '1/2', ((100,), (1000,), (10000,))),
+        ('consensus', 'agree', '1/2', ((2, 2), (2, 8), (3, 2), (4, 2))),
+    )
+    for arguments in several
+]
+COLUMNS = (
+    'model',
+    'parameters',
+    'states',
+    'transitions',
+    'bound',
+    'depth',
+    'regions',
+    'safe',
+    'unsafe',
+    'unknown',
+    'covered',
+    'seconds',
+)
 
 
 class TimeUp(Exception):
@@ -273,7 +326,7 @@ def ask(job: Job, share: Fraction, keep: str, limit: int) -> Dict[str, str]:
         model = Model(FAMILIES[job.family](*job.arguments))
     except TooLarge as large:
         return dict(line, covered='beyond the limits: %s' % large)
-    region = Region(tuple((name, Fraction(1, 10 ** 5), 1 - Fraction(1, 10 ** 5)) for name in model.parameters))
+    region = Region(tuple((name, Fraction(1, 10**5), 1 - Fraction(1, 10**5)) for name in model.parameters))
     begin = resource.getrusage(resource.RUSAGE_CHILDREN)
     signal.alarm(limit)
     try:
@@ -282,19 +335,32 @@ def ask(job: Job, share: Fraction, keep: str, limit: int) -> Dict[str, str]:
     except Fault as fault:
         return dict(line, covered=str(fault))
     except TimeUp:
-        return dict(line, parameters=str(len(model.parameters)), states=str(model.text.count(b'state ')),
-                    transitions=str(model.text.count(b' : ')), covered='stopped after %d s' % limit)
+        return dict(
+            line,
+            parameters=str(len(model.parameters)),
+            states=str(model.text.count(b'state ')),
+            transitions=str(model.text.count(b' : ')),
+            covered='stopped after %d s' % limit,
+        )
     finally:
         signal.alarm(0)
     spent = resource.getrusage(resource.RUSAGE_CHILDREN)
     counts = dict.fromkeys(('accept', 'reject', 'unknown'), 0)
     for (kind, _), count in report.counts.items():
         counts[kind] += count
-    return dict(line, parameters=str(len(report.parameters)), states=str(report.states),
-                transitions=str(model.text.count(b' : ')), depth=str(report.depth), regions=str(sum(counts.values())),
-                safe=str(counts['accept']), unsafe=str(counts['reject']),
-                unknown=str(counts['unknown']), covered='%.1f %%' % float(100 * (1 - report.shares['unknown'])),
-                seconds='%.2f' % (spent.ru_utime + spent.ru_stime - begin.ru_utime - begin.ru_stime))
+    return dict(
+        line,
+        parameters=str(len(report.parameters)),
+        states=str(report.states),
+        transitions=str(model.text.count(b' : ')),
+        depth=str(report.depth),
+        regions=str(sum(counts.values())),
+        safe=str(counts['accept']),
+        unsafe=str(counts['reject']),
+        unknown=str(counts['unknown']),
+        covered='%.1f %%' % float(100 * (1 - report.shares['unknown'])),
+        seconds='%.2f' % (spent.ru_utime + spent.ru_stime - begin.ru_utime - begin.ru_stime),
+    )
 
 
 def published(name: str) -> Dict[str, Dict[str, str]]:
@@ -314,7 +380,9 @@ def main() -> int:
     words.add_argument('--published', metavar='FILE', help='other figures, printed beside')
     words.add_argument('--coverage', default='95', metavar='PERCENT')
     words.add_argument('--keep', default='', metavar='FOLDER')
-    words.add_argument('--limit', default='60', metavar='SECONDS', help='a model that takes longer is stopped; 60 if left out')
+    words.add_argument(
+        '--limit', default='60', metavar='SECONDS', help='a model that takes longer is stopped; 60 if left out'
+    )
     given = words.parse_args()
     if given.model:
         if given.model[0] not in FAMILIES or not all(word.isdigit() for word in given.model[1:]):
@@ -328,7 +396,7 @@ def main() -> int:
     unknown = [name for name in only if name not in FAMILIES]
     if unknown or not given.coverage.isdigit() or int(given.coverage) > 100:
         words.error('no family %s' % ', '.join(unknown) if unknown else '--coverage is a whole number up to 100')
-    if not given.limit.isdigit() or not 0 < int(given.limit) < 10 ** 6:
+    if not given.limit.isdigit() or not 0 < int(given.limit) < 10**6:
         words.error('--limit is a number of seconds')
     signal.signal(signal.SIGALRM, end_of_time)
     signal.signal(signal.SIGTERM, signal.default_int_handler)
@@ -341,10 +409,14 @@ def main() -> int:
     begin = time.monotonic()
     for job in JOBS:
         if job.family in only:
-            row = dict(ask(job, Fraction(int(given.coverage), 100), given.keep, int(given.limit)), **others.get(job.name, {}))
+            row = dict(
+                ask(job, Fraction(int(given.coverage), 100), given.keep, int(given.limit)), **others.get(job.name, {})
+            )
             print('| %s |' % ' | '.join(row.get(column, '') for column in columns), flush=True)
-    print('\nSeconds are those of the processor, for all depths that were tried and for checking each report; '
-          '%d seconds passed in all.' % (time.monotonic() - begin))
+    print(
+        '\nSeconds are those of the processor, for all depths that were tried and for checking each report; '
+        '%d seconds passed in all.' % (time.monotonic() - begin)
+    )
     return 0
 
 

@@ -178,7 +178,11 @@ def placeholders_used() -> str:
     lines = ["@type: DTMC", "@parameters", "p", "@placeholders"]
     lines += ["$%d : 1-p" % number for number in range(count)] + ["@model"]
     for number in range(count):
-        lines += ["state %d%s" % (number, "" if number else " init"), "%d : $%d" % (number + 1, number), "%d : p" % number]
+        lines += [
+            "state %d%s" % (number, "" if number else " init"),
+            "%d : $%d" % (number + 1, number),
+            "%d : p" % number,
+        ]
     lines += ["state %d goal" % count, "%d : 1" % count]
     return "\n".join(lines) + "\n"
 
@@ -384,7 +388,11 @@ def parameter_sets() -> str:
             factors = ["%s" % name if corner >> bit & 1 else "(1-%s)" % name for bit, name in enumerate(names)]
             lines.append("*".join(factors))
         after = number + 1
-        sums = ["%d : %s" % (number, "+".join(lines[:5])), "%d : %s" % (after, "+".join(lines[5:11])), "SINK : " + "+".join(lines[11:])]
+        sums = [
+            "%d : %s" % (number, "+".join(lines[:5])),
+            "%d : %s" % (after, "+".join(lines[5:11])),
+            "SINK : " + "+".join(lines[11:]),
+        ]
         rows.append(sums)
         used += sum(len(line) + 1 for line in sums) + 12
     sink = str(len(rows) + 1)
@@ -442,7 +450,9 @@ def rows_times_leaves() -> str:
         terms = [(subset, sign * (choice + 1)) for subset, sign in enumerate(signs)]
         rest = [(0, common - choice - 1)] + [(subset, -number) for subset, number in terms[1:]]
         lines.append("row 0 %d 2" % choice)
-        lines += ["to %d " % target + " ".join("%d:%d" % term for term in row) for target, row in ((1, terms), (2, rest))]
+        lines += [
+            "to %d " % target + " ".join("%d:%d" % term for term in row) for target, row in ((1, terms), (2, rest))
+        ]
     lines += ["row 1 0 1", "to 1 0:%d" % common, "row 2 0 1", "to 2 0:%d" % common, "bound 1/1", "precision 4"]
     lines += ["depth %d" % depth, "grid %d" % 2**depth, "box" + " 0 %d" % 2**depth * 4]
     return "\n".join(lines) + "\n" + tree(depth, "accept 16 16 16\n", 4)
@@ -492,7 +502,10 @@ def run(names: list[str], path: str, limit: int) -> int:
                 slow.append(name)
             status = "-" if result.stopped else str(result.status)
             seconds = ("> %d" % limit) if result.stopped else "%.2f" % result.seconds
-            print("%-26s %9d %6s %10s %8.1f  %s" % (name, len(text), status, seconds, result.megabytes, result.note), flush=True)
+            print(
+                "%-26s %9d %6s %10s %8.1f  %s" % (name, len(text), status, seconds, result.megabytes, result.note),
+                flush=True,
+            )
     if slow:
         print("too slow: " + ", ".join(slow))
     return 1 if slow else 0

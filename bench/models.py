@@ -79,7 +79,9 @@ def relay(hops: int, tries: int) -> str:
             here = hop * tries + count
             over = delivered if hop + 1 == hops else (hop + 1) * tries
             again = lost if count + 1 == tries else here + 1
-            states.append((["init"] if here == 0 else [], [[(over, "1-p"), (again, "p")], [(over, "1-q"), (again, "q")]]))
+            states.append(
+                (["init"] if here == 0 else [], [[(over, "1-p"), (again, "p")], [(over, "1-q"), (again, "q")]])
+            )
     states.append((["delivered"], [[(delivered, "1")]]))
     states.append((["lost"], [[(lost, "1")]]))
     return text("MDP", ["p", "q"], states)

@@ -91,7 +91,9 @@ def main() -> None:
         names = sorted(name for name in known if name.startswith(part))
         if names:
             place = file_place(program, known[names[0]])
-            probes += [f"{kind}:plift/{name}{number} {program}:0x{place:x}\n" for kind, name in (("p", "in"), ("r", "out"))]
+            probes += [
+                f"{kind}:plift/{name}{number} {program}:0x{place:x}\n" for kind, name in (("p", "in"), ("r", "out"))
+            ]
     if not os.path.exists(f"{TRACING}/uprobe_events"):
         subprocess.run(["mount", "-t", "tracefs", "nodev", TRACING], check=True)
     least: dict[str, tuple[int, float]] = {}

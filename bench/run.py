@@ -111,7 +111,10 @@ def row(job: Job, folder: str, program: str, limit: int) -> str:
     front = "| %s | %d | %d | %d |" % (job.name(), states, job.depth, job.precision)
     verify = measure.least([program] + job.verify(), source, report, limit)
     if verify.status != 0:
-        return front + " | %s | | | |%s" % (shown(verify), "" if verify.stopped else " status %d: %s" % (verify.status, verify.note))
+        return front + " | %s | | | |%s" % (
+            shown(verify),
+            "" if verify.stopped else " status %d: %s" % (verify.status, verify.note),
+        )
     size = os.path.getsize(report)
     leaves = [count_lines(report, word) for word in (b"accept", b"reject", b"unknown")]
     nodes = sum(leaves) + count_lines(report, b"split")

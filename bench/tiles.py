@@ -78,10 +78,14 @@ def measure(program: str, words: List[str], depths: List[int], place: Path) -> s
     around = sum(one.around + sum(one.checks) for one in rounds)
     faster = []
     for count in PROCESSORS:
-        spans = [spread([tile + check for tile, check in zip(one.tiles, one.checks)], count) + one.around for one in rounds]
+        spans = [
+            spread([tile + check for tile, check in zip(one.tiles, one.checks)], count) + one.around for one in rounds
+        ]
         faster.append(f"{at_once / (first + sum(spans)):.1f}")
-    return (f"{at_once:.2f} | {first:.2f} | {len(tiles)}, {sum(tiles):.2f}, {max(tiles, default=0):.2f} | {around:.2f} | "
-            f"{(first + sum(tiles)) / at_once:.2f} | {', '.join(faster)} |")
+    return (
+        f"{at_once:.2f} | {first:.2f} | {len(tiles)}, {sum(tiles):.2f}, {max(tiles, default=0):.2f} | {around:.2f} | "
+        f"{(first + sum(tiles)) / at_once:.2f} | {', '.join(faster)} |"
+    )
 
 
 def main() -> None:

@@ -17,7 +17,7 @@ VERSION = re.search("^__version__ = '([^']+)'", (PACKAGE / '__init__.py').read_t
 INFO = '%s-%s.dist-info' % (NAME, VERSION)
 TOLD = {
     'METADATA': 'Metadata-Version: 2.1\nName: plift-lab\nVersion: %s\nLicense: MIT\nRequires-Python: >=3.8\n'
-                'Summary: Numbers, thresholds, leaves as data and pages to explore, over the proved program plift\n' % VERSION,
+    'Summary: Numbers, thresholds, leaves as data and pages to explore, over the proved program plift\n' % VERSION,
     'WHEEL': 'Wheel-Version: 1.0\nGenerator: plift-lab\nRoot-Is-Purelib: true\nTag: py3-none-any\n',
     'entry_points.txt': '[console_scripts]\nplift-lab = plift_lab.cli:main\n',
 }
@@ -25,7 +25,9 @@ TOLD = {
 
 def _sources() -> list[Path]:
     """The files of the package: modules, and what a page is made of."""
-    return sorted(path for path in PACKAGE.rglob('*') if path.is_file() and path.suffix in ('.py', '.html', '.css', '.js'))
+    return sorted(
+        path for path in PACKAGE.rglob('*') if path.is_file() and path.suffix in ('.py', '.html', '.css', '.js')
+    )
 
 
 def _hash(data: bytes) -> str:

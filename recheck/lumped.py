@@ -17,21 +17,27 @@ SYMBOL = re.compile(r'[A-Za-z_]\w*|(?:\d+\.?\d*|\.\d+)(?:[eE][+-]?\d+)?|[-+*/()]
 Number = TypeVar('Number', int, Fraction)
 Poly = Dict[int, Number]  # the coefficient at each set of parameters
 
+
 def kept(poly: Poly[Number]) -> Poly[Number]:
     """The same polynomial, without coefficients that are 0."""
     return {m: c for m, c in poly.items() if c}
 
+
 def plus(a: Poly[Number], b: Poly[Number]) -> Poly[Number]:
     return kept({m: a.get(m, 0) + b.get(m, 0) for m in a.keys() | b.keys()})
+
 
 def times(a: Poly[Fraction], b: Poly[Fraction]) -> Poly[Fraction]:  # no parameter is in both
     return {m | n: c * d for m, c in a.items() for n, d in b.items()}
 
+
 OPERATIONS: dict[str, Callable[[Poly[Fraction], Poly[Fraction]], Poly[Fraction]]] = {
-    '+': plus, '*': times,
+    '+': plus,
+    '*': times,
     '-': lambda a, b: plus(a, times(b, {0: Fraction(-1)})),
     '/': lambda a, b: times(a, {0: 1 / b[0]}),
 }
+
 
 def value(text: str, names: list[str]) -> Poly[Fraction]:
     """A value as a polynomial: its coefficient at each set of parameters, bit i of a set being the i-th name."""
@@ -60,13 +66,14 @@ def value(text: str, names: list[str]) -> Poly[Fraction]:
 
     return whole()
 
+
 class Chain:
     """A chain as its text tells it: its parameters, the labels of each state, and its transitions over C."""
 
     def __init__(self, text: str) -> None:
         lines = [line.strip(' \t\r') for line in text.split('\n')]
         lines = [line for line in lines if not line.startswith('//')]
-        head, body = lines[:lines.index('@model')], lines[lines.index('@model') + 1:]
+        head, body = lines[: lines.index('@model')], lines[lines.index('@model') + 1 :]
         if not any(re.fullmatch(r'@type:[ \t]*DTMC', line) for line in head):
             sys.exit('the model is no chain')
         at = head.index('@parameters') + 1 if '@parameters' in head else len(head)
@@ -105,8 +112,10 @@ class Chain:
         block, count = numbered(goals), 0
         while count < max(block) + 1:
             count = max(block) + 1
-            behaviours = [None if goals[s] else frozenset((b, frozenset(poly.items())) for b, poly in self.into(s, block).items())
-                          for s in range(len(block))]
+            behaviours = [
+                None if goals[s] else frozenset((b, frozenset(poly.items())) for b, poly in self.into(s, block).items())
+                for s in range(len(block))
+            ]
             block = numbered(zip(block, behaviours))
         return block
 
@@ -116,21 +125,33 @@ class Chain:
         block = self.blocks(goals)
         firsts = sorted({b: s for s, b in reversed(list(enumerate(block)))}.values())
         reached = [b for b, s in enumerate(firsts) if goals[s]]
-        lines = ['kind dtmc', joined('parameters', len(self.names), *self.names), f'common {self.common}', f'states {len(firsts)}',
-                 f'init {block[self.init]}', joined('goal', len(reached), *reached)]
+        lines = [
+            'kind dtmc',
+            joined('parameters', len(self.names), *self.names),
+            f'common {self.common}',
+            f'states {len(firsts)}',
+            f'init {block[self.init]}',
+            joined('goal', len(reached), *reached),
+        ]
         for b, s in enumerate(firsts):
             row = {b: {0: self.common}} if goals[s] else self.into(s, block)
             lines.append(f'row {b} 0 {len(row)}')
-            lines += [joined('to', target, *(f'{m}:{c}' for m, c in sorted(poly.items()))) for target, poly in sorted(row.items())]
+            lines += [
+                joined('to', target, *(f'{m}:{c}' for m, c in sorted(poly.items())))
+                for target, poly in sorted(row.items())
+            ]
         return lines
+
 
 def numbered(keys: Iterable[Hashable]) -> list[int]:
     """Numbers for keys, the same for the same key, in the order in which they come first."""
     names = {}
     return [names.setdefault(key, len(names)) for key in keys]
 
+
 def joined(*words: str | int) -> str:
     return ' '.join(map(str, words))
+
 
 def chain_lines(report: str) -> list[str]:
     """The lines of a report's chain."""
@@ -140,11 +161,13 @@ def chain_lines(report: str) -> list[str]:
         sys.exit('not a report of version 1')
     return lines[1:end]
 
+
 def difference(lines: list[str], wanted: list[str]) -> str:
     """The first line that differs, and what it should be."""
     at = next((at for at, pair in enumerate(zip(lines, wanted)) if pair[0] != pair[1]), min(len(lines), len(wanted)))
-    found, want = ((text[at:at + 1] or ['nothing'])[0] for text in (lines, wanted))
+    found, want = ((text[at : at + 1] or ['nothing'])[0] for text in (lines, wanted))
     return f'line {at + 2}: {found}, not {want}'
+
 
 def main() -> None:
     if len(sys.argv) not in (2, 3):
@@ -159,6 +182,7 @@ def main() -> None:
         sys.exit('\n'.join(['not the quotient'] + told))
     states = next(line for line in lines if line.startswith('states ')).split()[1]
     print(f'the quotient of {len(chain.rows)} states has {states}, for the goal {" or ".join(found)}')
+
 
 if __name__ == '__main__':
     main()

@@ -31,8 +31,15 @@ sys.dont_write_bytecode = True
 sys.path.insert(0, str(Path(__file__).resolve().parent))
 from programs import TOP, needed
 
-PAGES = ['README.md', 'docs/GUIDE.md', 'docs/TUTORIAL.md', 'docs/CHECKING.md', 'docs/PERFORMANCE.md', 'docs/LAB.md',
-         'docs/SCALE.md']
+PAGES = [
+    'README.md',
+    'docs/GUIDE.md',
+    'docs/TUTORIAL.md',
+    'docs/CHECKING.md',
+    'docs/PERFORMANCE.md',
+    'docs/LAB.md',
+    'docs/SCALE.md',
+]
 STORM = 'docs/STORM.md'
 LONGEST = 120  # seconds that a command may take
 BLOCK = re.compile(r'^( *)```(\w+)( not-run)?\n(.*?)^ *```\n', re.S | re.M)
@@ -49,7 +56,11 @@ LINES = [
     ('state 0 init', '\t// [x=1]\nstate 0 [1, 2] "all done" heads init', None),
     ('1 : p', '\taction a [0]\n\t\t1 : p', None),
     ('1 : p\n2 : 1-p', '1 : (1-p)*0.5\n2 : 1/2+5e-1*p', None),
-    ('@model\nstate 0 init\n1 : p\n2 : 1-p', '@placeholders\n$rest : 1-p\n@model\nstate 0 init\n1 : p\n2 : $rest', None),
+    (
+        '@model\nstate 0 init\n1 : p\n2 : 1-p',
+        '@placeholders\n$rest : 1-p\n@model\nstate 0 init\n1 : p\n2 : $rest',
+        None,
+    ),
     ('2 : 1-p', '2 : (-1)*(p+(-1))', None),
     ('2 : 1-p', '2 : ((-1)*p+1)/(1)', None),
     ('@model\nstate 0 init\n1 : p\n2 : 1-p', '@placeholders\n$0 : 1-p\n@model\nstate 0 init\n1 : p\n2 : $0', None),
@@ -73,15 +84,23 @@ LINES = [
     ('1 : p', '1 : p*p', 'model: line 6: SharedParameter'),
     ('1 : p', '1 : p*(1-p)', 'model: line 6: SharedParameter'),
     ('1 : p', '1 : 1/p', 'model: line 6: ParametricDivisor'),
-    ('@model\nstate 0 init\n1 : p\n2 : 1-p', '@placeholders\n$rest : p\n@model\nstate 0 init\n1 : p\n2 : 1-$rest', 'model: line 9: Syntax'),
+    (
+        '@model\nstate 0 init\n1 : p\n2 : 1-p',
+        '@placeholders\n$rest : p\n@model\nstate 0 init\n1 : p\n2 : 1-$rest',
+        'model: line 9: Syntax',
+    ),
     ('\np\n', '\np\'\n', 'model: line 3: Syntax'),
     ('\np\n', '\np a b c d e f g h i j k l m n o q\n', 'model: line 3: LimitParameters'),
     ('1 : p\n2 : 1-p', '0 : 0.3333\n1 : 0.3333\n2 : 0.3333', 'rows: state 0 choice 0: set 0 sums to 9999'),
     ('1 : p', '1 : 0.1234567890123456789', 'model: line 6: Wide'),
     ('@model', '@nr_states\n4\n@model', 'model: line 13: CountMismatch'),
     ('1 : p\n2 : 1-p', '1 : 1/4294967291\n2 : 1/4294967279', 'model: line 11: CommonDenominator'),
-    ('p\n@model\nstate 0 init\n1 : p', 'p a b c d\n@model\nstate 0 init\n1 : p+a+b+c+d', 'model: line 6: LimitValueParameters'),
-    ('1 : p', '1 : p' + ' ' * 2 ** 20, 'model: line 6: LongLine'),
+    (
+        'p\n@model\nstate 0 init\n1 : p',
+        'p a b c d\n@model\nstate 0 init\n1 : p+a+b+c+d',
+        'model: line 6: LimitValueParameters',
+    ),
+    ('1 : p', '1 : p' + ' ' * 2**20, 'model: line 6: LongLine'),
     ('state 2\n2 : 1\n', ''.join(f'state {s}\n{s} : 1\n' for s in range(2, 65537)), 'model: line 131078: LimitStates'),
     ('state 0 init', 'state 0 !3 init', 'model: line 5: ExitRate'),
 ]
@@ -117,12 +136,14 @@ MENDED = ['line 2: UnsupportedType', 'line 14: NoChoice', 'line 12: NoChoice', '
 
 class Command(NamedTuple):
     """A command of a page, and what it has to print."""
+
     text: str
     printed: str
 
 
 class Tried(NamedTuple):
     """What was tried, and what isn't as it should be: nothing where all is."""
+
     what: str
     fault: str
 
@@ -140,7 +161,7 @@ def page_commands(page: str) -> list[Command]:
     for block, after in zip(found, found[1:] + [None]):
         if block[2] != 'sh' or block[3]:
             continue
-        is_shown = after and after[2] == 'text' and not text[block.end():after.start()].strip()
+        is_shown = after and after[2] == 'text' and not text[block.end() : after.start()].strip()
         commands.append(Command(textwrap.dedent(block[4]), textwrap.dedent(after[4]) if is_shown else ''))
     return commands
 
@@ -188,7 +209,9 @@ def examples(folder: Path) -> Iterator[Tried]:
 
 def second_version(folder: Path) -> Iterator[Tried]:
     """The report of version 2 that docs/FORMATS.md shows from its precision on: whether the words that it names give it."""
-    told = re.search(r'^With `([^`]+)` the same coin gives .*?^```text\n(.*?)^```', page_text('docs/FORMATS.md'), re.S | re.M)
+    told = re.search(
+        r'^With `([^`]+)` the same coin gives .*?^```text\n(.*?)^```', page_text('docs/FORMATS.md'), re.S | re.M
+    )
     options, shown = told.groups() if told else ('', '')
     said = bash(f"./plift verify {options} < examples/coin.drn | sed '1,/^bound/d'", folder)
     yield Tried('docs/FORMATS.md: a report of version 2', '' if told and said == shown else said)
@@ -197,7 +220,11 @@ def second_version(folder: Path) -> Iterator[Tried]:
 def property_nodes(folder: Path) -> Iterator[Tried]:
     """The nodes of properties that docs/FORMATS.md shows: whether the words that it names give them."""
     page = page_text('docs/FORMATS.md')
-    told = re.findall(r'^With (?:`(--formula [^`]+)`|the same words) .*? `(examples/\S+)`.*?:\n\n```text\n(.*?)^```', page, re.S | re.M)
+    told = re.findall(
+        r'^With (?:`(--formula [^`]+)`|the same words) .*? `(examples/\S+)`.*?:\n\n```text\n(.*?)^```',
+        page,
+        re.S | re.M,
+    )
     options = told[0][0] if told else ''
     for _, model, shown in told:
         said = bash(f"./plift property {options} < {model} | sed '1,/^box/d'", folder)

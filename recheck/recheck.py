@@ -11,9 +11,9 @@ from math import gcd, prod
 from operator import mul
 from typing import BinaryIO, Callable, Dict, Iterator, List, Tuple
 
-NONE = 2 ** 32  # for a choice or a rank that is `-`
-MOST_BYTES, MOST_LINE = 2 ** 32, 2 ** 20  # of a report, and of one of its lines
-PART, COST_PART = 2 ** 32 - 1, 2 ** 62 - 1  # the greatest denominator of a bound, and the greatest part of a cost
+NONE = 2**32  # for a choice or a rank that is `-`
+MOST_BYTES, MOST_LINE = 2**32, 2**20  # of a report, and of one of its lines
+PART, COST_PART = 2**32 - 1, 2**62 - 1  # the greatest denominator of a bound, and the greatest part of a cost
 REPORT, BOUNDED, PROPERTY, COST = FORMS = b'plift', b'plift-bounded', b'plift-property', b'plift-cost'  # the first word
 NUMBER, NAME = re.compile(rb'0|-?[1-9][0-9]*'), re.compile(rb'[A-Za-z_][A-Za-z0-9_]*')
 Box = List[Tuple[int, int]]  # a rectangle: for each parameter its two ends
@@ -21,23 +21,33 @@ Poly = Tuple[Tuple[int, int], ...]  # terms (set of parameters, coefficient); bi
 Corners = Dict['Shape', List[List[int]]]  # for each shape and each of its corners, the weight of each transition
 getattr(sys, 'set_int_max_str_digits', int)(0)  # a line may hold a number of any length
 
-class Fault(Exception): """What is wrong. Where it is wrong, the text tells: its place."""
-class TooLong(Exception): """More bytes than a report may have."""
+
+class Fault(Exception):
+    """What is wrong. Where it is wrong, the text tells: its place."""
+
+
+class TooLong(Exception):
+    """More bytes than a report may have."""
+
 
 def need(holds: object, cause: str = 'Syntax') -> None:
     if not holds:
         raise Fault(cause)
 
+
 def within(n: int, low: int, high: int) -> int:
     need(low <= n <= high, 'Limit')
     return n
+
 
 def numbers(words: list[bytes], count: int | None = None) -> list[int]:
     need(count in (None, len(words)) and all(map(NUMBER.fullmatch, words)))
     return list(map(int, words))
 
+
 def pair(word: bytes, mark: bytes) -> tuple[int, int]:
     return tuple(numbers(word.split(mark, 1), 2))
+
 
 def lowest(fraction: tuple[int, int], above: int, below: int) -> tuple[int, int]:
     """A fraction in lowest terms of at least 0, neither part of which is above its limit."""
@@ -47,8 +57,10 @@ def lowest(fraction: tuple[int, int], above: int, below: int) -> tuple[int, int]
     need(d <= below, 'Limit')
     return fraction
 
+
 class Text:
     """A report, and how far it was read: which line is due, and how many bytes came before it."""
+
     def __init__(self, source: BinaryIO) -> None:
         self.source, self.line, self.taken, self.held, self.place = source, 1, 0, b'', ''
 
@@ -81,8 +93,10 @@ class Text:
         need(numbers(words[:1], 1)[0] == len(words) - 1)
         return words[1:]
 
+
 class Shape:
     """A row's polynomials, each of terms (set of parameters, coefficient). Rows with the same ones share a shape."""
+
     def __init__(self, polys: tuple[Poly, ...], first: tuple[int, int, list[int]]) -> None:
         self.polys, self.first, used = polys, first, {m for poly in polys for m, _ in poly}
         self.parameters = [i for i in range(16) if any(m >> i & 1 for m in used)]
@@ -93,8 +107,10 @@ class Shape:
             ends = [(1 << i, box[i][corner >> bit & 1]) for bit, i in enumerate(self.parameters)]
             yield [sum(c * prod([end if m & i else grid for i, end in ends]) for m, c in poly) for poly in self.polys]
 
+
 class Report:
     """What the head of a report says; and the tests of its leaves, each of which reads its leaf."""
+
     def __init__(self, text: Text) -> None:
         """Reads the head."""
         self.text, form = text, text.due()[0]
@@ -108,8 +124,8 @@ class Report:
         for i, name in enumerate(names):
             need(name not in names[:i])
             need(len(name) <= 64, 'Limit')
-        self.names, self.parameters, self.common = names, len(names), text.single(b'common', 1, 2 ** 62 - 1)
-        self.size = text.single(b'states', 1, 2 ** 16)
+        self.names, self.parameters, self.common = names, len(names), text.single(b'common', 1, 2**62 - 1)
+        self.size = text.single(b'states', 1, 2**16)
         self.init = text.single(b'init', 0, self.size - 1)
         goals = numbers(text.counted(b'goal'))
         need(goals)
@@ -128,12 +144,12 @@ class Report:
         self.steps = range(1, text.single(b'steps', 1, 64) + 1) if form == BOUNDED else None  # None: any number
         self.most = text.single(b'precision', 1, 40)
         self.least = text.single(b'from', 1, self.most) if version == [2] else None  # of the leaves' precisions
-        self.one, self.depth = 2 ** self.most, text.single(b'depth', 0, 20)  # one: probability 1, or the cap
+        self.one, self.depth = 2**self.most, text.single(b'depth', 0, 20)  # one: probability 1, or the cap
         self.prices = [-(-n * self.one // (d * self.cap)) for n, d in costs]  # of a visit of each state, rounded up
-        self.grid, ends = text.single(b'grid', 1, 2 ** 62 - 1), numbers(text.take(b'box'), 2 * self.parameters)
+        self.grid, ends = text.single(b'grid', 1, 2**62 - 1), numbers(text.take(b'box'), 2 * self.parameters)
         for i, end in enumerate(ends):
-            need(end % 2 ** self.depth == 0 and (i % 2 == 1 or end < ends[i + 1]))
-            need(abs(end) < 2 ** 62, 'Limit')
+            need(end % 2**self.depth == 0 and (i % 2 == 1 or end < ends[i + 1]))
+            need(abs(end) < 2**62, 'Limit')
         self.box = list(zip(ends[::2], ends[1::2]))
         self.live = [i for i in range(16) if any(i in shape.parameters for shape in self.shapes.values())]
 
@@ -143,7 +159,7 @@ class Report:
         need(len(costs) == self.size)
         return [lowest(cost, COST_PART, COST_PART) for cost in costs]
 
-    def read_states(self, is_mdp: bool, choices: int = 2 ** 17, transitions: int = 2 ** 18) -> None:
+    def read_states(self, is_mdp: bool, choices: int = 2**17, transitions: int = 2**18) -> None:
         """For each state its choices, each with its targets and its shape. Of each at most so many are left."""
         for s in range(self.size):
             rows = []
@@ -168,10 +184,10 @@ class Report:
         row[target], before, seen = poly, None, 0
         for m, c in poly:
             need(before is None or before < m)
-            before, seen = within(m, 0, 2 ** self.parameters - 1), seen | m
+            before, seen = within(m, 0, 2**self.parameters - 1), seen | m
             need(bin(seen).count('1') <= 4, 'Limit')
             need(c != 0)
-            need(abs(c) < 2 ** 100, 'Limit')
+            need(abs(c) < 2**100, 'Limit')
 
     def test_rows(self) -> None:
         """Over the whole region each row's probabilities sum to 1 and none of them is below 0."""
@@ -185,7 +201,7 @@ class Report:
             for m in sorted(sums):
                 need(sums[m] == (0 if m else self.common), f'set {m} sums to {sums[m]}')
             need(g <= 4, f'{g} parameters')
-            need(size * greatest ** g * self.one < 2 ** 126, 'too wide')
+            need(size * greatest**g * self.one < 2**126, 'too wide')
             for target, weights in zip(targets, zip(*shape.corners(self.box, self.grid))):
                 for corner, weight in enumerate(weights):
                     need(weight >= 0, f'target {target} at corner {corner} has weight {weight}')
@@ -246,7 +262,7 @@ class Report:
                     mean, down = sum(map(mul, weights, values)), sum(map(mul, weights, lower))
                     if y[s] * whole > mean:
                         raise Fault(f'state {s} choice {a} corner {corner}: {y[s] * whole} > {mean}')
-                    if down * 2 ** e < whole:
+                    if down * 2**e < whole:
                         raise Fault(f'state {s} choice {a} corner {corner}: weight {down} times 2^{e} < {whole}')
         self.test_bound(y, False)
 
@@ -358,6 +374,7 @@ class Report:
             need((rank == 0) == (s in self.goals) and (picks is None or (picks[s] == NONE) == (rank in (0, NONE))))
         return e, y, picks, ranks
 
+
 def leaves(report: Report) -> Iterator[tuple[bytes, Box, int]]:
     """Tests the nodes, and gives of each leaf its kind, its rectangle and how many splits lie above it."""
     text, node, most, tests = report.text, 0, report.depth if report.live else 0, report.tests()
@@ -386,12 +403,14 @@ def leaves(report: Report) -> Iterator[tuple[bytes, Box, int]]:
     text.place = ''
     need(not text.ahead(), 'rest')
 
+
 def check(text: Text) -> str:
     """What is said of a sound report: how many leaves of each kind it has."""
     report = Report(text)
     report.test_rows()
     kinds = Counter(kind for kind, _, _ in leaves(report))
     return 'sound ' + ' '.join(f'{kind.decode()} {kinds[kind]}' for kind in (*report.tests(), b'unknown'))
+
 
 def main() -> None:
     text = Text(sys.stdin.buffer)
@@ -402,6 +421,7 @@ def main() -> None:
     except TooLong:
         print('too long', file=sys.stderr)
         sys.exit(7)
+
 
 if __name__ == '__main__':
     main()

@@ -29,12 +29,20 @@ EXAMPLES = {path.stem.upper(): path.read_bytes() for path in sorted((HERE.parent
 
 # A coin that falls on heads with probability p, which is from 1/10 to 2/5: not more often than 1/2.
 LOW = b'''plift 1;kind dtmc;parameters 1 p;common 1;states 3;init 0;goal 1 1;row 0 0 2;to 1 1:1;to 2 0:1 1:-1;row 1 0 1;
-to 1 0:1;row 2 0 1;to 2 0:1;bound 1/2;precision 4;depth 0;grid 10;box 1 4;accept 7 16 0;'''.replace(b'\n', b'').replace(b';', b'\n')
+to 1 0:1;row 2 0 1;to 2 0:1;bound 1/2;precision 4;depth 0;grid 10;box 1 4;accept 7 16 0;'''.replace(
+    b'\n', b''
+).replace(
+    b';', b'\n'
+)
 
 # The quotient of examples/die.drn for the goal one.
 DIE = b'''plift 1;kind dtmc;parameters 1 p;common 1;states 5;init 0;goal 1 4;row 0 0 2;to 1 1:1;to 2 0:1 1:-1;row 1 0 2;to 2 0:1 1:-1;
 to 3 1:1;row 2 0 1;to 2 0:1;row 3 0 2;to 1 1:1;to 4 0:1 1:-1;row 4 0 1;to 4 0:1;bound 1/3;precision 4;depth 0;grid 5;box 2 3;
-accept 5 8 0 13 16;'''.replace(b'\n', b'').replace(b';', b'\n')
+accept 5 8 0 13 16;'''.replace(
+    b'\n', b''
+).replace(
+    b';', b'\n'
+)
 
 # Each row: a part of that report, what stands in its place, and what lumped.py tells.
 DIE_CHANGES = '''
@@ -50,16 +58,21 @@ to 4 0:1;bound | to 4 0:1;row 5 0 0;bound | line 21: row 5 0 0, not nothing
 
 # One that is tossed again where it doesn't fall on heads. No number bounds it from below where p may be 0.
 BACK = b'''plift 1;kind dtmc;parameters 1 p;common 1;states 2;init 0;goal 1 1;row 0 0 2;to 1 1:1;to 0 0:1 1:-1;row 1 0 1;
-to 1 0:1;bound 1/4;precision 4;depth 0;grid 2;box 0 1;reject e 1 k 1 m 1 b 16/16;y 16 16;choice 0 -;rank 1 0;''' \
-    .replace(b'\n', b'').replace(b';', b'\n')
+to 1 0:1;bound 1/4;precision 4;depth 0;grid 2;box 0 1;reject e 1 k 1 m 1 b 16/16;y 16 16;choice 0 -;rank 1 0;'''.replace(
+    b'\n', b''
+).replace(
+    b';', b'\n'
+)
 
 # Texts for two steps: a coin that is tossed again in half of the cases, and shows heads with p.
 AGAIN = '''plift-bounded 1;kind dtmc;parameters 1 p;common 2;states 3;init 0;goal 1 1;row 0 0 3;to 0 0:1;to 1 1:1;
 to 2 0:1 1:-1;row 1 0 1;to 1 0:2;row 2 0 1;to 2 0:2;bound %s;steps 2;precision 4;depth 0;grid 5;box 1 2;%s'''
 STEPS = {
     'WITHIN': (AGAIN % ('3/8', 'accept;x 1 4 16 0;x 2 6 16 0;')).replace('\n', '').replace(';', '\n').encode(),
-    'ABOVE': (AGAIN % ('1/10', 'reject b 2/16;y 1 1 16 0;choice 1 0 - 0;y 2 2 16 0;choice 2 0 - 0;')) \
-        .replace('\n', '').replace(';', '\n').encode(),
+    'ABOVE': (AGAIN % ('1/10', 'reject b 2/16;y 1 1 16 0;choice 1 0 - 0;y 2 2 16 0;choice 2 0 - 0;'))
+    .replace('\n', '')
+    .replace(';', '\n')
+    .encode(),
 }
 
 # Texts of properties. Either of two choices shows heads with p, or with the rest.
@@ -78,7 +91,8 @@ PROPERTIES = {
     'ABOVE-ALL': HANDS % '> 3/8',
     'ONE': TWIN % ('>= 1/2', 0, '12 16', 'fails;x 7 16 0;choice 1 - 0;'),
     'ONE-ABOVE': TWIN % ('> 7/16', 0, '12 16', 'fails;x 7 16 0;choice 1 - 0;'),
-    'HALVES': TWIN % ('< 1/2', 1, '4 16', 'split 0;unknown;fails;lower e 1 k 1 m 1 b 8/16;y 8 16 0;choice 0 - -;rank 1 0 -;'),
+    'HALVES': TWIN
+    % ('< 1/2', 1, '4 16', 'split 0;unknown;fails;lower e 1 k 1 m 1 b 8/16;y 8 16 0;choice 0 - -;rank 1 0 -;'),
 }
 PROPERTIES = {name: text.replace('\n', '').replace(';', '\n').encode() for name, text in PROPERTIES.items()}
 
@@ -98,7 +112,11 @@ COSTS = {name: text.replace('\n', '').replace(';', '\n').encode() for name, text
 # The coin again, in the second version: over halves of a region from 1/10 to 9/10, each leaf at its own precision.
 RANGE = b'''plift 2;kind dtmc;parameters 1 p;common 1;states 3;init 0;goal 1 1;row 0 0 2;to 1 1:1;to 2 0:1 1:-1;row 1 0 1;
 to 1 0:1;row 2 0 1;to 2 0:1;bound 1/2;precision 4;from 1;depth 2;grid 40;box 4 36;split 0;at 1;accept 1 2 0;split 0;unknown;
-at 4;reject e 1 k 1 m 1 b 11/16;y 11 16 0;choice 0 - -;rank 1 0 -;'''.replace(b'\n', b'').replace(b';', b'\n')
+at 4;reject e 1 k 1 m 1 b 11/16;y 11 16 0;choice 0 - -;rank 1 0 -;'''.replace(
+    b'\n', b''
+).replace(
+    b';', b'\n'
+)
 
 
 def ranged(text: bytes) -> bytes:
@@ -662,6 +680,7 @@ WAYS | 26=accept 34 0 24 | node 2 state 0 choice 1 corner 0: 24 > 23
 
 class Answer(NamedTuple):
     """How a check ends: its status, and what it writes to standard output and standard error."""
+
     status: int
     out: bytes
     notes: bytes
@@ -675,7 +694,7 @@ def changed(report: str, changes: str) -> bytes:
         lines[int(number) - 1] = None if line == '-' else line.replace(';', '\n')
     text = ''.join(line + '\n' for line in lines if line is not None)
     while '{' in text:  # a word of so many letters
-        size = text[text.index('{') + 1:text.index('}')]
+        size = text[text.index('{') + 1 : text.index('}')]
         text = text.replace('{' + size + '}', 'a' * int(size))
     return text.encode()
 
@@ -706,14 +725,14 @@ def with_byte(text: bytes, dice: random.Random) -> bytes:
     """A text in which a byte is changed, added or taken away."""
     at = dice.randrange(len(text)) if text else 0
     new = bytes([dice.choice(b'0123456789 -/:\nax\xff\0')])
-    return text[:at] + dice.choice([new, new + text[at:at + 1], b'']) + text[at + 1:]
+    return text[:at] + dice.choice([new, new + text[at : at + 1], b'']) + text[at + 1 :]
 
 
 def with_line(text: bytes, dice: random.Random) -> bytes:
     """A text in which a line is taken away, written twice, or another one."""
     lines = text.split(b'\n')
     at = dice.randrange(len(lines))
-    lines[at:at + 1] = dice.choice([[], [lines[at]] * 2, [dice.choice(lines)], [b'unknown'], [b'split 0']])
+    lines[at : at + 1] = dice.choice([[], [lines[at]] * 2, [dice.choice(lines)], [b'unknown'], [b'split 0']])
     return b'\n'.join(lines)
 
 
@@ -733,7 +752,7 @@ def with_leaf(text: bytes, dice: random.Random) -> bytes:
     leaf = dice.choice(found)
     e, k, y = [max(0, int(leaf[i]) + dice.choice([-1, 0, 0, 1])) for i in (1, 2, 3)]
     new = b'reject e %d k %d m %d b %d/%s\ny %d' % (e, k, e * k, y, leaf[4], y)
-    return text[:leaf.start()] + new + text[leaf.end():]
+    return text[: leaf.start()] + new + text[leaf.end() :]
 
 
 def mutant(text: bytes, dice: random.Random) -> bytes:
@@ -792,7 +811,7 @@ def compare_prefixes(tests: Comparison) -> None:
             text = REPORTS[name][:size]
             line = text.count(b'\n') + 1
             tests.compare(f'{size} bytes of {name}', text, answer(f'line {line}: Truncated'))
-    tests.compare('line feeds', b'\n' * (2 ** 26 + 1), answer('line 1: Syntax'), is_started=True)
+    tests.compare('line feeds', b'\n' * (2**26 + 1), answer('line 1: Syntax'), is_started=True)
 
 
 def compare_mutants(tests: Comparison, paths: list[str], count: int) -> None:
@@ -837,9 +856,18 @@ def random_chain(dice: random.Random) -> bytes:
     count = dice.randrange(3, 12)
     rows = []
     for s in range(count):
-        values = dice.choice([['1'], ['p', '1-p'], ['q', '1-q'], ['1/2*p', '1/2*p', '1-p'], ['p', '1/2-1/2*p', '1/2-1/2*p'], ['1/2', '0', '1/2']])
+        values = dice.choice(
+            [
+                ['1'],
+                ['p', '1-p'],
+                ['q', '1-q'],
+                ['1/2*p', '1/2*p', '1-p'],
+                ['p', '1/2-1/2*p', '1/2-1/2*p'],
+                ['1/2', '0', '1/2'],
+            ]
+        )
         targets = dice.sample(range(count), len(values))
-        rows += [f'state {s}' + ' init' * (s == 0) + ' goal' * (s == count - 1 or dice.random() < .2)]
+        rows += [f'state {s}' + ' init' * (s == 0) + ' goal' * (s == count - 1 or dice.random() < 0.2)]
         rows += [f'{target} : {text}' for target, text in zip(targets, values)]
     return '\n'.join(['@type: DTMC', '@parameters', 'p q', '@model', *rows, '']).encode()
 
@@ -850,7 +878,19 @@ def compare_chains(tests: Comparison, count: int) -> None:
     with tempfile.NamedTemporaryFile(suffix='.drn') as file:
         for number in range(count):
             Path(file.name).write_bytes(random_chain(dice))
-            words = ['lumped', '--goal', 'goal', '--bound', '1/2', '--precision', '6', '--depth', '1', '--region', '1/10<=p<=2/5,1/5<=q<=1/2']
+            words = [
+                'lumped',
+                '--goal',
+                'goal',
+                '--bound',
+                '1/2',
+                '--precision',
+                '6',
+                '--depth',
+                '1',
+                '--region',
+                '1/10<=p<=2/5,1/5<=q<=1/2',
+            ]
             report = asked([str(tests.plift), *words], Path(file.name).read_bytes())
             got = quotient_told(Path(file.name), report.out, 'goal')
             tests.count += 1
@@ -876,7 +916,9 @@ def main() -> int:
     compare_prefixes(tests)
     print(f'{tests.count} with prefixes of a report')
     for what, table, texts in (
-        ('for a number of steps', STEPS_TABLE, STEPS), ('of properties', PROPERTY_TABLE, PROPERTIES), ('of costs', COST_TABLE, COSTS),
+        ('for a number of steps', STEPS_TABLE, STEPS),
+        ('of properties', PROPERTY_TABLE, PROPERTIES),
+        ('of costs', COST_TABLE, COSTS),
     ):
         alone = compare_alone(table, texts)
         print(f'{alone.count} {what}, and their prefixes')

@@ -240,8 +240,13 @@ class Running:
                     return CANNOT_BUILD
                 # The locks are held by the command too, so that no other build comes before its end.
                 started = subprocess.Popen(
-                    ["sh", "-c", LEASH, "sh", *words], cwd=folder, stdin=subprocess.PIPE, stdout=out, stderr=out,
-                    start_new_session=True, pass_fds=self._locks,
+                    ["sh", "-c", LEASH, "sh", *words],
+                    cwd=folder,
+                    stdin=subprocess.PIPE,
+                    stdout=out,
+                    stderr=out,
+                    start_new_session=True,
+                    pass_fds=self._locks,
                 )
                 self._started[crate], self._since[crate] = started, time.monotonic()
             try:
@@ -434,6 +439,7 @@ def locked(build: Build) -> Iterator[List[int]]:
 
 def end_on_signals() -> None:
     """Makes the usual signals stop the build in order."""
+
     def end(*_: object) -> None:
         for number in (signal.SIGINT, signal.SIGTERM, signal.SIGHUP):
             signal.signal(number, signal.SIG_IGN)

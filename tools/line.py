@@ -28,7 +28,8 @@ Setting = Tuple[str, str]
 
 class Grammar(NamedTuple):
     """The options of a command: those that take a value, flags, those that may stand twice and those that must stand,
-    and whether any text behind `--name=` is a value, be it empty or with a dash in front, and a dash alone is one, too."""
+    and whether any text behind `--name=` is a value, be it empty or with a dash in front, and a dash alone is one, too.
+    """
 
     valued: Sequence[str]
     flags: Sequence[str] = ()
@@ -44,7 +45,12 @@ COST = Grammar(COSTED, needed=("--goal", "--reward", "--budget", "--cap"))
 LUMPED = Grammar(VALUED, needed=("--goal", "--bound"))
 REFINE = Grammar(("--depth",), needed=("--depth",))
 GRAMMARS = {
-    "verify": VERIFY, "bounded": BOUNDED, "property": PROPERTY, "cost": COST, "lumped": LUMPED, "refine": REFINE,
+    "verify": VERIFY,
+    "bounded": BOUNDED,
+    "property": PROPERTY,
+    "cost": COST,
+    "lumped": LUMPED,
+    "refine": REFINE,
 }
 VIEW = Grammar(VIEWED, flags=FLAGS, often=("--at",), takes_any=True)
 # How many words stand behind a command that has no options.
@@ -166,7 +172,9 @@ def hints_for(program: str, note: str, words: Sequence[str]) -> str:
     told = subprocess.run(
         [sys.executable, str(TOOLS / "hints.py"), str(USAGE), "--", *words],
         env={**os.environ, "PLIFT_PROGRAM": program, "PLIFT_NOTE": note},
-        stdin=subprocess.DEVNULL, stdout=subprocess.DEVNULL, stderr=subprocess.PIPE,
+        stdin=subprocess.DEVNULL,
+        stdout=subprocess.DEVNULL,
+        stderr=subprocess.PIPE,
     )
     text = told.stderr.decode(errors="replace")
     is_hint = told.returncode == 0 and text.startswith("hint: ")

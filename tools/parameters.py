@@ -68,7 +68,9 @@ def functions(text: str, file: str = "") -> Iterator[Function]:
 
 def sources() -> list[str]:
     """The paths of the code that isn't in a crate of tests."""
-    listed = subprocess.run(["git", "ls-files", "crates/*/src/*.rt"], cwd=TOP, check=True, capture_output=True, text=True)
+    listed = subprocess.run(
+        ["git", "ls-files", "crates/*/src/*.rt"], cwd=TOP, check=True, capture_output=True, text=True
+    )
     return [path for path in listed.stdout.splitlines() if not path.split("/")[1].endswith("_tests")]
 
 

@@ -133,7 +133,12 @@ class Progress:
     def tell(self) -> None:
         """Tells how far it is, twice a second, until it is over."""
         while not self.is_over.wait(0.5):
-            print(f"\rquick: compiling {self.begun} of {self.crates} crates, {self.seconds():.0f} s ", end="", file=sys.stderr, flush=True)
+            print(
+                f"\rquick: compiling {self.begun} of {self.crates} crates, {self.seconds():.0f} s ",
+                end="",
+                file=sys.stderr,
+                flush=True,
+            )
 
     def pass_line(self, line: str) -> None:
         """Takes a line that cargo has written."""
@@ -157,7 +162,9 @@ def run_cargo(source: str, log: TextIO, progress: Progress) -> dict[str, str]:
     command = ["cargo", "build", "--release", "--offline", "--message-format=json-render-diagnostics"]
     command += ["--target-dir", os.path.join(QUICK, "target")]
     with open(os.path.join(QUICK, "messages"), "w+") as messages:
-        with subprocess.Popen(command, cwd=source, stdout=messages, stderr=subprocess.PIPE, text=True, errors="replace") as cargo:
+        with subprocess.Popen(
+            command, cwd=source, stdout=messages, stderr=subprocess.PIPE, text=True, errors="replace"
+        ) as cargo:
             try:
                 for line in cargo.stderr:
                     log.write(line)

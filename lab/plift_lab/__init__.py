@@ -8,8 +8,20 @@ __version__ = '1.0'
 from importlib import import_module
 from typing import Any
 
-PLACES = {'Bounds': 'api', 'Edge': 'edge', 'Fault': 'faults', 'Leaf': 'report', 'Model': 'models', 'Refused': 'faults',
-          'Region': 'regions', 'Report': 'report', 'bounds': 'api', 'read': 'api', 'threshold': 'api', 'verify': 'api'}
+PLACES = {
+    'Bounds': 'api',
+    'Edge': 'edge',
+    'Fault': 'faults',
+    'Leaf': 'report',
+    'Model': 'models',
+    'Refused': 'faults',
+    'Region': 'regions',
+    'Report': 'report',
+    'bounds': 'api',
+    'read': 'api',
+    'threshold': 'api',
+    'verify': 'api',
+}
 """The library's parts, and the module of each, which is loaded once it is asked for: plift-tiles starts often."""
 __all__ = list(PLACES)
 

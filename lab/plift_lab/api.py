@@ -28,6 +28,7 @@ Source = Union[str, Path, bytes]
 @dataclass(frozen=True)
 class Bounds:
     """Supremum and infimum of a probability over a region."""
+
     sup: Side
     inf: Side
     precision: int
@@ -36,8 +37,15 @@ class Bounds:
     """Whether the model is a decision process: then both are of what the best choices reach."""
 
 
-def find_bounds(session: Session, model: Model, goal: str, region: Region, precision: Optional[int],
-                width: Optional[Fraction], calls: int) -> Bounds:
+def find_bounds(
+    session: Session,
+    model: Model,
+    goal: str,
+    region: Region,
+    precision: Optional[int],
+    width: Optional[Fraction],
+    calls: int,
+) -> Bounds:
     """Asks for numbers over rectangles until both sides are known to the width."""
     question = Question(model, goal, Fraction(1), region, 0, precision)
     first = session.ask(question)
@@ -56,8 +64,9 @@ def find_bounds(session: Session, model: Model, goal: str, region: Region, preci
     return Bounds(sup, inf, bits, sum(side.calls for side in sides), first.kind == 'mdp')
 
 
-def find_threshold(session: Session, question: Question, parameter: str, width: Optional[Fraction],
-                   is_greatest: bool) -> Edge:
+def find_threshold(
+    session: Session, question: Question, parameter: str, width: Optional[Fraction], is_greatest: bool
+) -> Edge:
     """The edge of what is accepted, along one parameter."""
     question.region.fit(question.model.parameters)
     low, high = question.region[parameter]
@@ -70,6 +79,7 @@ def find_threshold(session: Session, question: Question, parameter: str, width: 
 
 def find_verdict(session: Session, question: Question, share: Optional[Fraction]) -> Report:
     """The report of a question, or of one as deep as it takes to decide a share."""
+
     def tell(report: Report) -> None:
         session.progress.say('%s is decided at depth %d' % (percent(1 - report.shares[UNKNOWN]), report.depth))
 
@@ -90,30 +100,69 @@ def _region(region: Union[str, Region]) -> Region:
     return region if isinstance(region, Region) else Region.read(region)
 
 
-def verify(model: Source, goal: str, bound: Number, region: Union[str, Region] = '', depth: int = 0,
-           precision: Optional[int] = None, relative: bool = False, coverage: Optional[Number] = None,
-           keep: Optional[str] = None, least_precision: Optional[int] = None) -> Report:
+def verify(
+    model: Source,
+    goal: str,
+    bound: Number,
+    region: Union[str, Region] = '',
+    depth: int = 0,
+    precision: Optional[int] = None,
+    relative: bool = False,
+    coverage: Optional[Number] = None,
+    keep: Optional[str] = None,
+    least_precision: Optional[int] = None,
+) -> Report:
     """The report that answers whether the goal is reached with at most the bound, all over the region."""
-    question = Question(_model(model), goal, read_bound(exact(_number(bound))), _region(region), depth, precision, relative,
-                        least_precision)
-    share = None if coverage is None else read_share(coverage if isinstance(coverage, str) else exact(_number(coverage)))
+    question = Question(
+        _model(model),
+        goal,
+        read_bound(exact(_number(bound))),
+        _region(region),
+        depth,
+        precision,
+        relative,
+        least_precision,
+    )
+    share = (
+        None if coverage is None else read_share(coverage if isinstance(coverage, str) else exact(_number(coverage)))
+    )
     with Session(keep) as session:
         return find_verdict(session, question, share)
 
 
-def bounds(model: Source, goal: str, region: Union[str, Region] = '', width: Optional[Number] = None,
-           precision: Optional[int] = None, calls: int = 1000, keep: Optional[str] = None) -> Bounds:
+def bounds(
+    model: Source,
+    goal: str,
+    region: Union[str, Region] = '',
+    width: Optional[Number] = None,
+    precision: Optional[int] = None,
+    calls: int = 1000,
+    keep: Optional[str] = None,
+) -> Bounds:
     """Supremum and infimum over the region, to a width if one is given."""
     with Session(keep) as session:
-        return find_bounds(session, _model(model), goal, _region(region), precision,
-                           None if width is None else _number(width), calls)
+        return find_bounds(
+            session, _model(model), goal, _region(region), precision, None if width is None else _number(width), calls
+        )
 
 
-def threshold(model: Source, goal: str, bound: Number, parameter: str, region: Union[str, Region],
-              width: Optional[Number] = None, least: bool = False, depth: int = 8, precision: Optional[int] = None,
-              relative: bool = False, keep: Optional[str] = None) -> Edge:
+def threshold(
+    model: Source,
+    goal: str,
+    bound: Number,
+    parameter: str,
+    region: Union[str, Region],
+    width: Optional[Number] = None,
+    least: bool = False,
+    depth: int = 8,
+    precision: Optional[int] = None,
+    relative: bool = False,
+    keep: Optional[str] = None,
+) -> Edge:
     """Up to which value of a parameter the rest of the region is accepted."""
-    question = Question(_model(model), goal, read_bound(exact(_number(bound))), _region(region), depth, precision, relative)
+    question = Question(
+        _model(model), goal, read_bound(exact(_number(bound))), _region(region), depth, precision, relative
+    )
     with Session(keep) as session:
         return find_threshold(session, question, parameter, None if width is None else _number(width), not least)
 

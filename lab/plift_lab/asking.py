@@ -21,19 +21,31 @@ def add_model(words: argparse.ArgumentParser) -> None:
     """The model, the goal and the region."""
     words.add_argument('model', metavar='MODEL', help='a file with a model text; - for standard input')
     words.add_argument('--goal', required=True, metavar='LABEL', help='the label of the states to be reached')
-    words.add_argument('--region', default='', metavar='R',
-                       help='an interval for each parameter: 1/10<=p<=3/10,0<=q<=1 or p=1/10..3/10,q=0..1; '
-                            'p=1/10 writes a value into the model')
-    words.add_argument('--precision', metavar='W', help='bits of a certificate\'s numbers, 1 to 40; if left out 40, '
-                                                        'or as many as the rows leave room for')
+    words.add_argument(
+        '--region',
+        default='',
+        metavar='R',
+        help='an interval for each parameter: 1/10<=p<=3/10,0<=q<=1 or p=1/10..3/10,q=0..1; '
+        'p=1/10 writes a value into the model',
+    )
+    words.add_argument(
+        '--precision',
+        metavar='W',
+        help='bits of a certificate\'s numbers, 1 to 40; if left out 40, ' 'or as many as the rows leave room for',
+    )
 
 
 def add_session(words: argparse.ArgumentParser) -> None:
     """Where reports are kept, and what is told meanwhile."""
-    words.add_argument('--keep', metavar='FOLDER', help='keeps the reports behind the answer in a folder; the same words '
-                                                        'with the same folder go on where they stopped')
-    words.add_argument('--progress', action='store_true',
-                       help='tells how far it is also where standard error is no terminal')
+    words.add_argument(
+        '--keep',
+        metavar='FOLDER',
+        help='keeps the reports behind the answer in a folder; the same words '
+        'with the same folder go on where they stopped',
+    )
+    words.add_argument(
+        '--progress', action='store_true', help='tells how far it is also where standard error is no terminal'
+    )
     words.add_argument('--quiet', action='store_true', help='tells no progress')
     words.add_argument('--json', action='store_true', help='writes the answer as JSON')
 
@@ -68,8 +80,15 @@ def width_of(given: argparse.Namespace) -> Optional[Fraction]:
 
 def behind(report: Report) -> Dict[str, Any]:
     """A report as evidence, for JSON."""
-    return {'report': report.path, 'check': report.soundness, 'question': report.question, 'region': report.region.text,
-            'depth': report.depth, 'precision': report.precision, 'words': report.origin.words}
+    return {
+        'report': report.path,
+        'check': report.soundness,
+        'question': report.question,
+        'region': report.region.text,
+        'depth': report.depth,
+        'precision': report.precision,
+        'words': report.origin.words,
+    }
 
 
 def behind_lines(reports: Iterable[Report], asked: Session) -> List[str]:

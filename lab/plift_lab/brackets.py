@@ -16,6 +16,7 @@ Ask = Callable[[Region, Fraction], Report]
 @dataclass(frozen=True)
 class End:
     """One end of a bracket, and the report that shows it."""
+
     value: Fraction
     path: str
     soundness: str

@@ -13,8 +13,15 @@ from .commands import bounds, explain, leaves, threshold, verdict, verify, view
 from .faults import INTERRUPTED, LOST, WRONG, Fault, Refused
 from .words import Words
 
-COMMANDS = {'verify': verify, 'bounds': bounds, 'threshold': threshold, 'verdict': verdict, 'leaves': leaves,
-            'view': view, 'explain': explain}
+COMMANDS = {
+    'verify': verify,
+    'bounds': bounds,
+    'threshold': threshold,
+    'verdict': verdict,
+    'leaves': leaves,
+    'view': view,
+    'explain': explain,
+}
 ABOUT = """plift-lab asks plift for numbers, thresholds, leaves as data and pages to explore.
 
 Nothing in it is believed: each answer names the reports that stand behind it, and each of these was judged by
@@ -25,14 +32,25 @@ STATUSES = """statuses: 0 done; 1 stopped short of what was asked, and what is k
 
 def parser() -> Words:
     """All commands and their words."""
-    words = Words('plift-lab', description=ABOUT, epilog=STATUSES, formatter_class=argparse.RawDescriptionHelpFormatter,
-                  allow_abbrev=False)
+    words = Words(
+        'plift-lab',
+        description=ABOUT,
+        epilog=STATUSES,
+        formatter_class=argparse.RawDescriptionHelpFormatter,
+        allow_abbrev=False,
+    )
     words.add_argument('--version', action='version', version='plift-lab ' + __version__)
     commands = words.add_subparsers(dest='command', metavar='COMMAND', parser_class=Words)
     for name, module in COMMANDS.items():
         about = (module.__doc__ or '').strip()
-        command = commands.add_parser(name, help=about.splitlines()[0], description=about, epilog=STATUSES,
-                                      formatter_class=argparse.RawDescriptionHelpFormatter, allow_abbrev=False)
+        command = commands.add_parser(
+            name,
+            help=about.splitlines()[0],
+            description=about,
+            epilog=STATUSES,
+            formatter_class=argparse.RawDescriptionHelpFormatter,
+            allow_abbrev=False,
+        )
         module.add_words(command)
     return words
 
@@ -68,8 +86,10 @@ def main(words: Optional[List[str]] = None) -> int:
     except Exception as fault:  # a fault of this tool, told without a trace
         if os.environ.get('PLIFT_LAB_TRACE'):
             raise
-        sys.stderr.write('plift-lab: a fault of plift-lab itself (%s: %s); PLIFT_LAB_TRACE=1 shows where\n'
-                         % (type(fault).__name__, str(fault).replace('\n', ' ')))
+        sys.stderr.write(
+            'plift-lab: a fault of plift-lab itself (%s: %s); PLIFT_LAB_TRACE=1 shows where\n'
+            % (type(fault).__name__, str(fault).replace('\n', ' '))
+        )
         return LOST
 
 

@@ -27,8 +27,14 @@ def cover(session: Session, question: Question, share: Fraction, tell: Callable[
         if deeper is None:
             return report
         session.evidence.forget(report.path)
-        depth = next((depth for depth in range(report.depth + LEVELS, deeper.depth, LEVELS)
-                      if _open(deeper, depth) <= 1 - share), None)
+        depth = next(
+            (
+                depth
+                for depth in range(report.depth + LEVELS, deeper.depth, LEVELS)
+                if _open(deeper, depth) <= 1 - share
+            ),
+            None,
+        )
         report = deeper
         if depth is not None:
             report = session.shorten(replace(question, depth=depth), deeper)
@@ -62,4 +68,4 @@ def _open(report: Report, depth: int) -> Fraction:
     if depth == report.depth:
         return report.shares[UNKNOWN]
     halved = sum(below == depth and isinstance(node, int) for node, (below, _) in zip(report.nodes, report.walk()))
-    return Fraction(halved, 2 ** depth)
+    return Fraction(halved, 2**depth)

@@ -22,7 +22,8 @@ whose rectangles are dear, where it was two to five."""
 class Asker(Protocol):
     """Writes the program's report of a region, a bound and a depth to a file, and returns how many seconds that took."""
 
-    def __call__(self, region: Region, bound: Fraction, depth: int, report: Path) -> float: ...
+    def __call__(self, region: Region, bound: Fraction, depth: int, report: Path) -> float:
+        ...
 
 
 class Deepening:

@@ -18,6 +18,7 @@ BITS, DEPTH, CLOSER, NEITHER = 'bits', 'depth', 'closer', 'neither'
 @dataclass(frozen=True)
 class Finding:
     """What was found of one unknown leaf."""
+
     leaf: Leaf
     least: Fraction
     most: Fraction
@@ -40,8 +41,11 @@ class Finding:
         does = 'decides a part of it' if self.help == DEPTH else 'brings the two numbers closer together'
         if self.before is None:
             return 'halving %s %s; more depth does that' % (self.axis, does)
-        return ('halving %s %s, but the longest side is that of %s: --relative, and then more depth'
-                % (self.axis, does, self.before))
+        return 'halving %s %s, but the longest side is that of %s: --relative, and then more depth' % (
+            self.axis,
+            does,
+            self.before,
+        )
 
 
 def examine(session: Session, report: Report, most: int) -> List[Finding]:
@@ -76,7 +80,9 @@ def _examine(session: Session, report: Report, leaf: Leaf) -> Optional[Finding]:
     return best
 
 
-def _helped_by(session: Session, report: Report, halves: Tuple[Region, Region], whole: Tuple[Fraction, Fraction]) -> str:
+def _helped_by(
+    session: Session, report: Report, halves: Tuple[Region, Region], whole: Tuple[Fraction, Fraction]
+) -> str:
     """Whether a half is decided, or its two numbers are closer together, at the most bits that have room."""
     answer = NEITHER
     for half in halves:

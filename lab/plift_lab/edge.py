@@ -17,6 +17,7 @@ LEVELS, MOST_NODES = 4, 10000
 @dataclass(frozen=True)
 class Edge:
     """Where acceptance ends, as seen from one end of a parameter's interval."""
+
     parameter: str
     is_greatest: bool
     good: Fraction
@@ -32,13 +33,22 @@ class Edge:
     def limit(self) -> Optional[Fraction]:
         """The nearest value at which a rectangle of `outside` is rejected: acceptance goes no further than that."""
         place = 0 if self.is_greatest else 1
-        ends = [leaf.rectangle[self.parameter][place] for leaf in (self.outside.leaves() if self.outside else ())
-                if leaf.kind == REJECT]
+        ends = [
+            leaf.rectangle[self.parameter][place]
+            for leaf in (self.outside.leaves() if self.outside else ())
+            if leaf.kind == REJECT
+        ]
         return (min if self.is_greatest else max)(ends) if ends else None
 
 
-def find_edge(session: Session, question: Question, parameter: str, width: Fraction, is_greatest: bool,
-              tell: Callable[[Fraction, Fraction], None]) -> Edge:
+def find_edge(
+    session: Session,
+    question: Question,
+    parameter: str,
+    width: Fraction,
+    is_greatest: bool,
+    tell: Callable[[Fraction, Fraction], None],
+) -> Edge:
     """Halves the parameter's interval until what is accepted is known to the width."""
     low, high = question.region[parameter]
     near, far = (low, high) if is_greatest else (high, low)

@@ -74,8 +74,10 @@ def read_origin(path: Path, report: bytes) -> Optional[Origin]:
         told = json.loads(beside.read_text('utf-8'))
         return Origin.read(told) if told.get('sha256') == digest(report) else None
     except (Fault, OSError, ValueError, KeyError, TypeError, AttributeError, RecursionError) as fault:
-        raise Fault('%s isn\'t in the form that plift-lab writes (%s); move it away to read the report by itself'
-                    % (beside, fault)) from None
+        raise Fault(
+            '%s isn\'t in the form that plift-lab writes (%s); move it away to read the report by itself'
+            % (beside, fault)
+        ) from None
 
 
 class Evidence:
@@ -102,7 +104,7 @@ class Evidence:
         except OSError as fault:
             raise Fault('the folder %s can\'t be used: %s' % (self.folder, fault.strerror or fault)) from None
         for name in names:
-            number = name[:-len('.report')]
+            number = name[: -len('.report')]
             if name.endswith('.report') and number.isdigit():
                 self._count = max(self._count, int(number))
                 try:

@@ -14,6 +14,7 @@ from .report import Report
 @dataclass(frozen=True)
 class Head:
     """The lines of a report above its tree: the model, and what is asked of it."""
+
     model: bytes
     bound: Fraction
     precision: int
@@ -31,7 +32,7 @@ class Head:
 
     def at(self, depth: int) -> 'Head':
         """That of the same job at another depth: the grid is the finer the deeper it is."""
-        grid, *box = (end * 2 ** depth // 2 ** self.depth for end in (self.grid, *self.box))
+        grid, *box = (end * 2**depth // 2**self.depth for end in (self.grid, *self.box))
         return replace(self, depth=depth, grid=grid, box=tuple(box))
 
     def of_part(self, ends: Tuple[int, ...], depth: int) -> 'Head':

@@ -42,6 +42,7 @@ def _lines(text: bytes) -> Iterator[Tuple[str, bytes]]:
 @dataclass(frozen=True)
 class Model:
     """A model text."""
+
     text: bytes
 
     @property

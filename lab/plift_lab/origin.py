@@ -13,6 +13,7 @@ from .values import exact, read_number
 @dataclass(frozen=True)
 class Origin:
     """What was asked, in the user's own terms."""
+
     goal: str = 'goal'
     """The label of the states to be reached."""
     scale: Scale = field(default_factory=dict)
@@ -27,9 +28,13 @@ class Origin:
     @property
     def told(self) -> Dict[str, Any]:
         """For a file."""
-        return {'goal': self.goal, 'words': self.words, 'model': self.model,
-                'scale': {name: [exact(low), exact(high)] for name, (low, high) in self.scale.items()},
-                'fixed': {name: exact(value) for name, value in self.fixed.items()}}
+        return {
+            'goal': self.goal,
+            'words': self.words,
+            'model': self.model,
+            'scale': {name: [exact(low), exact(high)] for name, (low, high) in self.scale.items()},
+            'fixed': {name: exact(value) for name, value in self.fixed.items()},
+        }
 
     @classmethod
     def read(cls, told: Dict[str, Any]) -> 'Origin':
@@ -37,5 +42,10 @@ class Origin:
         scale = {str(name): (read_number(low), read_number(high)) for name, (low, high) in told['scale'].items()}
         if any(low >= high for low, high in scale.values()):
             raise ValueError('an interval is empty')
-        return cls(str(told['goal']), scale, {str(name): read_number(value) for name, value in told['fixed'].items()},
-                   [str(word) for word in told['words']], str(told['model']))
+        return cls(
+            str(told['goal']),
+            scale,
+            {str(name): read_number(value) for name, value in told['fixed'].items()},
+            [str(word) for word in told['words']],
+            str(told['model']),
+        )

@@ -23,6 +23,7 @@ class Unfit(Fault):
 class Part:
     """A rectangle of a report with all of its tree: where the tree begins in the report's text and where it ends, below how
     many splits it stands, and the rectangle's ends over the report's grid."""
+
     start: int
     stop: int
     depth: int
@@ -72,7 +73,7 @@ def joined(base: Report, depth: int, parts: Iterable[Part], trees: Iterable[Iter
     yield Head.of(base).at(depth).text
     place = base.tree_begin
     for part, tree in zip(parts, trees):
-        yield base.data[place:part.start]
+        yield base.data[place : part.start]
         yield from tree
         place = part.stop
     yield base.data[place:]

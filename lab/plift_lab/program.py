@@ -20,7 +20,7 @@ CHECKOUT = Path(__file__).resolve().parent.parent.parent
 BUILT, QUICK = CHECKOUT / 'crates/plift/out/plift', CHECKOUT / 'build/quick/plift'
 RELEASED = CHECKOUT / 'programs/plift'
 """Where it lies in an unpacked release, and where all of plift is installed."""
-MOST_BYTES, MOST_CHECKED_BYTES = 2 ** 26, 2 ** 32
+MOST_BYTES, MOST_CHECKED_BYTES = 2**26, 2**32
 """The longest text that it reads whole, and the longest report that it checks."""
 
 
@@ -53,7 +53,9 @@ class Program:
         """Who judges reports: this program's `check`, and whether it was built without proofs."""
         return '%s check%s' % (self.path, ', built without proofs' if self.path.parent.name == 'quick' else '')
 
-    def verify(self, words: List[str], model: Path, report: Path, watch: Optional[Callable[[Path], None]] = None) -> float:
+    def verify(
+        self, words: List[str], model: Path, report: Path, watch: Optional[Callable[[Path], None]] = None
+    ) -> float:
         """Writes the report of a model to a file, and returns how many seconds of the processor that took. While it runs,
         `watch` is called with that file now and then."""
         before = _spent()

@@ -19,6 +19,7 @@ FORMS = 'write 1/10<=p<=3/10, or p=1/10..3/10, or p=1/10 for a fixed value, with
 @dataclass(frozen=True)
 class Region:
     """Intervals by name, in the order in which they were written, and fixed values."""
+
     intervals: Tuple[Tuple[str, Fraction, Fraction], ...] = ()
     fixed: Tuple[Tuple[str, Fraction], ...] = ()
 
@@ -29,7 +30,9 @@ class Region:
         fixed: List[Tuple[str, Fraction]] = []
         clauses = text.split(',') if text.strip() else []
         if len(clauses) > MOST_PARAMETERS:
-            raise Fault('the region has %d clauses; a model has at most %d parameters' % (len(clauses), MOST_PARAMETERS))
+            raise Fault(
+                'the region has %d clauses; a model has at most %d parameters' % (len(clauses), MOST_PARAMETERS)
+            )
         for clause in clauses:
             name, low, high = _clause(clause.strip())
             if name in [one[0] for one in intervals] + [one[0] for one in fixed]:
@@ -62,8 +65,9 @@ class Region:
     def replaced(self, name: str, low: Fraction, high: Fraction) -> 'Region':
         """The same with another interval for one parameter."""
         self[name]
-        return Region(tuple((known, low, high) if known == name else (known, a, b) for known, a, b in self.intervals),
-                      self.fixed)
+        return Region(
+            tuple((known, low, high) if known == name else (known, a, b) for known, a, b in self.intervals), self.fixed
+        )
 
     def halves(self, name: str) -> Tuple['Region', 'Region']:
         """Both halves on one parameter; they share the midpoint."""

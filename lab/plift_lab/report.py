@@ -25,6 +25,7 @@ PAST = {ACCEPT: 'accepted', REJECT: 'rejected', UNKNOWN: 'unknown'}
 @dataclass(frozen=True)
 class Leaf:
     """A rectangle that wasn't halved further, and what is said of it."""
+
     report: 'Report' = field(repr=False)
     number: int
     kind: str
@@ -51,7 +52,7 @@ class Leaf:
     @property
     def share(self) -> Fraction:
         """Of the whole region's volume."""
-        return Fraction(1, 2 ** self.depth)
+        return Fraction(1, 2**self.depth)
 
 
 class Report:
@@ -64,15 +65,16 @@ class Report:
             self._read_head()
             self._read_tree()
         except (ValueError, IndexError, KeyError, AttributeError):
-            raise Fault('%s was called sound, but it isn\'t in a form that is known here'
-                        % (path or 'the report')) from None
+            raise Fault(
+                '%s was called sound, but it isn\'t in a form that is known here' % (path or 'the report')
+            ) from None
 
     def _read_head(self) -> None:
         box = self.data.index(b'\nbox') + 1
         head = self.data[:box].decode('ascii')
         self._model_begin = head.index('\nrow ') + 1
         self._model_end = head.index('\nbound ') + 1
-        around = head[:self._model_begin] + head[self._model_end:]
+        around = head[: self._model_begin] + head[self._model_end :]
         lines = dict(line.partition(' ')[::2] for line in around.splitlines())
         if lines['plift'] not in ('1', '2'):
             raise Fault('a report of version %s isn\'t read here; this reads versions 1 and 2' % lines['plift'])
@@ -84,8 +86,8 @@ class Report:
         self.least_precision = int(lines['from']) if self.version == 2 else self.precision
         self.depth, self.grid = int(lines['depth']), int(lines['grid'])
         self.tree_begin = self.data.index(b'\n', box) + 1
-        self.box = tuple(int(word) for word in self.data[box:self.tree_begin].split()[1:])
-        sets = _sets(self.data[self._model_begin:self._model_end])
+        self.box = tuple(int(word) for word in self.data[box : self.tree_begin].split()[1:])
+        sets = _sets(self.data[self._model_begin : self._model_end])
         self.live = [name for i, name in enumerate(self.parameters) if any(one >> i & 1 for one in sets)]
 
     def _read_tree(self) -> None:
@@ -118,7 +120,7 @@ class Report:
                 number = int(line.rpartition(b' ')[2].partition(b'/')[0])
                 stop = self.data.index(b'\n', stop + 1)
                 rank = self.data.index(b'\n', stop + 1)
-                choices = self.data[stop + 8:rank]
+                choices = self.data[stop + 8 : rank]
                 self._add(REJECT, number, self._schedulers.setdefault(choices, len(self._schedulers)), bits)
                 stop = self.data.index(b'\n', rank + 1)
             start = stop + 1
@@ -132,7 +134,7 @@ class Report:
     @property
     def model_lines(self) -> bytes:
         """The lines of the head down to the last row."""
-        return self.data[:self._model_end]
+        return self.data[: self._model_end]
 
     @property
     def question(self) -> str:
@@ -155,9 +157,13 @@ class Report:
     def region(self) -> Region:
         """The whole region, in the user's own numbers."""
         ends = [Fraction(end, self.grid) for end in self.box]
-        return Region(tuple((name, self.user(name, low), self.user(name, high))
-                            for name, low, high in zip(self.parameters, ends[::2], ends[1::2])),
-                      tuple(sorted(self.origin.fixed.items())))
+        return Region(
+            tuple(
+                (name, self.user(name, low), self.user(name, high))
+                for name, low, high in zip(self.parameters, ends[::2], ends[1::2])
+            ),
+            tuple(sorted(self.origin.fixed.items())),
+        )
 
     def own_rectangle(self, ends: Tuple[int, ...]) -> Dict[str, Interval]:
         """An interval for each parameter of the report's model, from ends over its grid."""
@@ -173,18 +179,26 @@ class Report:
             if isinstance(node, int):
                 low, high = ends[2 * node], ends[2 * node + 1]
                 middle = (low + high) // 2
-                due.append((depth + 1, ends[:2 * node] + (middle,) + ends[2 * node + 1:]))
-                due.append((depth + 1, ends[:2 * node + 1] + (middle,) + ends[2 * node + 2:]))
+                due.append((depth + 1, ends[: 2 * node] + (middle,) + ends[2 * node + 1 :]))
+                due.append((depth + 1, ends[: 2 * node + 1] + (middle,) + ends[2 * node + 2 :]))
 
     def leaves(self) -> Iterator[Leaf]:
         """The leaves, in the order of the report."""
-        one, number = 2 ** self.precision, 0
+        one, number = 2**self.precision, 0
         for node, (depth, ends) in zip(self.nodes, self.walk()):
             if isinstance(node, int):
                 continue
             value = self.values[number]
-            yield Leaf(self, number, node, depth, ends, None if value is None else Fraction(value, one),
-                       self._picks[number] if self.kind == 'mdp' else None, self._precisions[number])
+            yield Leaf(
+                self,
+                number,
+                node,
+                depth,
+                ends,
+                None if value is None else Fraction(value, one),
+                self._picks[number] if self.kind == 'mdp' else None,
+                self._precisions[number],
+            )
             number += 1
 
     @property
@@ -205,7 +219,7 @@ class Report:
         """Of the region's volume, by kind."""
         shares = dict.fromkeys(KINDS, Fraction(0))
         for (kind, depth), count in self.counts.items():
-            shares[kind] += Fraction(count, 2 ** depth)
+            shares[kind] += Fraction(count, 2**depth)
         return shares
 
     @property
@@ -252,7 +266,7 @@ class Report:
             lines += ['@parameters', ' '.join(self.parameters)]
         lines.append('@model')
         before, goals = -1, set(self.goals)
-        for line in self.data[self._model_begin:self._model_end].decode('ascii').splitlines():
+        for line in self.data[self._model_begin : self._model_end].decode('ascii').splitlines():
             words = line.split(' ')
             if words[0] == 'row':
                 state = int(words[1])

@@ -15,13 +15,14 @@ from .brackets import Ask, End, high, low
 from .faults import Refused
 from .regions import Region
 
-LEAST_SIDE = Fraction(1, 2 ** 40)
+LEAST_SIDE = Fraction(1, 2**40)
 Halves = List[Tuple[Region, End]]
 
 
 @dataclass(frozen=True)
 class Side:
     """Where the supremum (or the infimum) lies: not below `least`, not above `most`."""
+
     name: str
     least: Fraction
     most: Fraction
@@ -41,12 +42,14 @@ class Side:
 @dataclass(frozen=True)
 class Limits:
     """When a search ends."""
+
     width: Optional[Fraction]
     calls: int
 
 
 class Desk(NamedTuple):
     """Who is asked, who is told how far the search is, and who is told of reports that are needed no longer."""
+
     ask: Ask
     tell: Callable[[str, Fraction, Fraction, int], None]
     forget: Callable[[str], None]

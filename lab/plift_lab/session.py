@@ -29,6 +29,7 @@ MOST_DEPTH, MOST_BITS = 20, 40
 @dataclass(frozen=True)
 class Question:
     """What is asked of a model: whether a label is reached with at most the bound, all over the region."""
+
     model: Model
     goal: str
     bound: Fraction
@@ -156,6 +157,7 @@ def seconds_shown(seconds: float) -> str:
 @dataclass(frozen=True)
 class Job:
     """A question as the program gets it: a model's file, a region of that model's own numbers, and a precision."""
+
     question: Question
     model: Path
     region: Region
@@ -278,8 +280,9 @@ class Session:
             return Report(data, soundness)
         return Report(data, soundness, read_origin(Path(name), data) or Origin(), name)
 
-    def ask_again(self, report: Report, region: Region, bound: Fraction, depth: int = 0,
-                  precision: Optional[int] = None) -> Report:
+    def ask_again(
+        self, report: Report, region: Region, bound: Fraction, depth: int = 0, precision: Optional[int] = None
+    ) -> Report:
         """Asks of a part of a report's region, in the report's own numbers and of its own model."""
         return self.ask(Question(Model(report.model_text), 'goal', bound, region, depth, precision))
 

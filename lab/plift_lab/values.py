@@ -42,7 +42,7 @@ def read_share(text: str) -> Fraction:
 def read_bound(text: str) -> Fraction:
     """A bound on a probability."""
     bound = read_share(text)
-    if bound.denominator >= 2 ** 32:
+    if bound.denominator >= 2**32:
         raise Fault('the bound %s has a denominator of 2^32 or more: round it' % text)
     return bound
 

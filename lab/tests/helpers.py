@@ -18,9 +18,10 @@ LINKS = str(EXAMPLES / 'links.drn')
 TREE = str(EXAMPLES / 'retry-tree.report')
 COIN = (EXAMPLES / 'coin.report').read_bytes()
 # Of version 2: the coin over halves of a region, each decided leaf at its own precision.
-RANGE = COIN[:COIN.index(b'precision')].replace(b'plift 1', b'plift 2') + (
+RANGE = COIN[: COIN.index(b'precision')].replace(b'plift 1', b'plift 2') + (
     b'precision 4\nfrom 1\ndepth 2\ngrid 40\nbox 4 36\nsplit 0\nat 1\naccept 1 2 0\nsplit 0\nunknown\n'
-    b'at 4\nreject e 1 k 1 m 1 b 11/16\ny 11 16 0\nchoice 0 - -\nrank 1 0 -\n')
+    b'at 4\nreject e 1 k 1 m 1 b 11/16\ny 11 16 0\nchoice 0 - -\nrank 1 0 -\n'
+)
 
 
 def run(*words: str) -> Tuple[int, str, str]:

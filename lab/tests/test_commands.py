@@ -28,7 +28,6 @@ QUESTION = (RETRY, '--goal', 'lost', '--region', REGION)
 
 
 class Verdict(InFolder):
-
     def test_statuses(self) -> None:
         names = ('retry.report', 'coin.report', 'retry-tree.report')
         self.assertEqual([run('verdict', str(EXAMPLES / name))[0] for name in names], [10, 20, 30])
@@ -39,13 +38,27 @@ class Verdict(InFolder):
         self.assertEqual(run('verdict', unknown, '--brief')[0], 40)
 
     def test_brief_is_one_line(self) -> None:
-        self.assertEqual(run('verdict', TREE, '--brief')[1],
-                         'mixed: P( reach goal ) <= 1/40 (accepted 6.25 %, rejected 75 %, unknown 18.75 %)\n')
+        self.assertEqual(
+            run('verdict', TREE, '--brief')[1],
+            'mixed: P( reach goal ) <= 1/40 (accepted 6.25 %, rejected 75 %, unknown 18.75 %)\n',
+        )
 
     def test_precision_in_the_way(self) -> None:
         report = str(self.folder / 'a.report')
-        run('verify', LINKS, '--goal', 'lost', '--bound', '7/250', '--region', 'p=1/10..1/5,q=1/10..1/5', '--precision', '10',
-            '--report', report)
+        run(
+            'verify',
+            LINKS,
+            '--goal',
+            'lost',
+            '--bound',
+            '7/250',
+            '--region',
+            'p=1/10..1/5,q=1/10..1/5',
+            '--precision',
+            '10',
+            '--report',
+            report,
+        )
         self.assertIn('more precision decides it', run('verdict', report)[1])
 
     def test_depth_in_the_way(self) -> None:
@@ -66,7 +79,6 @@ class Verdict(InFolder):
 
 
 class Leaves(InFolder):
-
     def test_csv(self) -> None:
         rows = list(csv.DictReader(io.StringIO(run('leaves', TREE, '--csv')[1])))
         self.assertEqual([row['kind'] for row in rows], ['accepted'] + 3 * ['unknown'] + 2 * ['rejected'])
@@ -76,12 +88,16 @@ class Leaves(InFolder):
 
     def test_each_leaf_has_its_precision(self) -> None:
         rows = list(csv.DictReader(io.StringIO(run('leaves', self.file('range.report', RANGE), '--csv')[1])))
-        self.assertEqual([(row['kind'], row['value'], row['precision']) for row in rows],
-                         [('accepted', '1/2', '1'), ('unknown', '', '4'), ('rejected', '11/16', '4')])
+        self.assertEqual(
+            [(row['kind'], row['value'], row['precision']) for row in rows],
+            [('accepted', '1/2', '1'), ('unknown', '', '4'), ('rejected', '11/16', '4')],
+        )
 
     def test_json_and_decimals(self) -> None:
         told = json.loads(run('leaves', TREE, '--json')[1])
-        self.assertEqual((told['verdict'], len(told['leaves']), told['schedulers'][1]), ('mixed', 6, [0, 0, 0, None, None]))
+        self.assertEqual(
+            (told['verdict'], len(told['leaves']), told['schedulers'][1]), ('mixed', 6, [0, 0, 0, None, None])
+        )
         told = json.loads(run('leaves', TREE, '--json', '--decimals')[1])
         self.assertEqual(told['leaves'][0]['rectangle'], {'p': [0.1, 0.2], 'q': [0.1, 0.2]})
 
@@ -89,17 +105,20 @@ class Leaves(InFolder):
         regions = run('leaves', TREE, '--unknown')[1].splitlines()
         self.assertEqual(len(regions), 3)
         for region in regions:
-            status, told, _ = run('verify', RETRY, '--goal', 'lost', '--bound', '1/40', '--region', region, '--depth', '3')
+            status, told, _ = run(
+                'verify', RETRY, '--goal', 'lost', '--bound', '1/40', '--region', region, '--depth', '3'
+            )
             self.assertEqual(status, 0, told)
 
     def test_rescaled_leaves_are_told_in_the_users_numbers(self) -> None:
         report = str(self.folder / 'a.report')
         run('verify', *QUESTION, '--bound', '1/40', '--depth', '4', '--relative', '--report', report)
-        self.assertEqual(run('leaves', report, '--csv')[1].split('\n')[1].split(',')[:5], ['0', '1/10', '1/5', '1/10', '1/5'])
+        self.assertEqual(
+            run('leaves', report, '--csv')[1].split('\n')[1].split(',')[:5], ['0', '1/10', '1/5', '1/10', '1/5']
+        )
 
 
 class Verify(InFolder):
-
     def test_several_bounds(self) -> None:
         keep = str(self.folder / 'k')
         bounds = ('--bound', '1/40', '--bound', '1/2000', '--bound', '1')
@@ -116,20 +135,33 @@ class Verify(InFolder):
 
     def test_the_report_on_standard_output(self) -> None:
         words = ('--bound', '1/40', '--depth', '4', '--precision', '10', '--report', '-')
-        done = subprocess.run([str(TOP / 'plift-lab'), 'verify', *QUESTION, *words], stdout=subprocess.PIPE,
-                              stderr=subprocess.PIPE)
+        done = subprocess.run(
+            [str(TOP / 'plift-lab'), 'verify', *QUESTION, *words], stdout=subprocess.PIPE, stderr=subprocess.PIPE
+        )
         self.assertEqual((done.returncode, done.stdout), (0, Path(TREE).read_bytes()))
 
     def test_bounds_and_threshold_as_json(self) -> None:
         told = json.loads(run('bounds', *QUESTION, '--width', '1/10', '--json')[1])
         self.assertLessEqual(Fraction(told['sup']['most']) - Fraction(told['sup']['least']), Fraction(1, 10))
-        told = json.loads(run('threshold', RETRY, '--goal', 'lost', '--bound', '1/40', '--parameter', 'p', '--region',
-                              'p=1/10..1/2,q=1/20..1/5', '--json')[1])
+        told = json.loads(
+            run(
+                'threshold',
+                RETRY,
+                '--goal',
+                'lost',
+                '--bound',
+                '1/40',
+                '--parameter',
+                'p',
+                '--region',
+                'p=1/10..1/2,q=1/20..1/5',
+                '--json',
+            )[1]
+        )
         self.assertLess(Fraction(told['accepted_to']), Fraction(told['rejected_at']))
 
 
 class View(InFolder):
-
     def data(self, *words: str) -> Tuple[str, Dict[str, Any]]:
         status, page, _ = run('view', *words)
         self.assertEqual(status, 0)
@@ -138,7 +170,9 @@ class View(InFolder):
     def test_data(self) -> None:
         page, data = self.data(TREE)
         self.assertEqual((data['tree'], data['axes'], data['live']), ('010' '1AU' '1UUR' 'R', [0, 1], [0, 1]))
-        self.assertEqual((data['values'], data['picks'], data['schedulers']), ([9, 27, 27], [0, 1], ['1 1 1 - -', '0 0 0 - -']))
+        self.assertEqual(
+            (data['values'], data['picks'], data['schedulers']), ([9, 27, 27], [0, 1], ['1 1 1 - -', '0 0 0 - -'])
+        )
         self.assertEqual(data['counts'], [1, 2, 3])
         self.assertEqual([one['exact'] for one in data['shares']], ['1/16', '3/4', '3/16'])
         self.assertNotIn('{{', page)
@@ -169,26 +203,29 @@ class View(InFolder):
         script = re.search(r'<script>\n(.*?)class Plot', page, re.S).group(1)
         told = json.loads(run('leaves', TREE, '--json')[1])
         ends = [[Fraction(end) for end in leaf['rectangle'][name]] for leaf in told['leaves'] for name in ('p', 'q')]
-        units = [[int((end - Fraction(1, 10)) / Fraction(2, 5) * 2 ** 20) for end in pair] for pair in ends]
-        points = [[(low + high) / 2 for low, high in units[place:place + 2]] for place in range(0, len(units), 2)]
-        asked = script + '''
+        units = [[int((end - Fraction(1, 10)) / Fraction(2, 5) * 2**20) for end in pair] for pair in ends]
+        points = [[(low + high) / 2 for low, high in units[place : place + 2]] for place in range(0, len(units), 2)]
+        asked = (
+            script
+            + '''
             const tree = new Tree(%s, 2);
             const seen = [];
             const note = (node, low, high) => seen.push([[low[0], high[0]], [low[1], high[1]]]);
             tree.each([0, 0], {0: [0, UNIT], 1: [0, UNIT]}, note);
             const found = %s.map((point) => tree.find(point)).map((leaf) => leaf.number);
             console.log(JSON.stringify([found, seen, exactText(between('1/10', '1/2', UNIT / 4)), tree.depths()]));
-        ''' % (json.dumps(data['tree']), json.dumps(points))
+        '''
+            % (json.dumps(data['tree']), json.dumps(points))
+        )
         done = subprocess.run(['node', '-e', asked], stdout=subprocess.PIPE, check=True)
         found, seen, quarter, depths = json.loads(done.stdout)
         self.assertEqual(found, list(range(6)))
-        self.assertEqual(seen, [units[place:place + 2] for place in range(0, len(units), 2)])
+        self.assertEqual(seen, [units[place : place + 2] for place in range(0, len(units), 2)])
         self.assertEqual(quarter, '1/5')
         self.assertEqual(depths, [[0, 0, 0], [0, 1, 0], [0, 1, 0], [0, 0, 0], [1, 0, 3]])
 
 
 class Mistakes(InFolder):
-
     def wrong(self, *words: str, status: int = 2, says: str = '') -> None:
         """One line on standard error, nothing on standard output, and that status."""
         got, out, err = run(*words)
@@ -200,49 +237,83 @@ class Mistakes(InFolder):
         report = str(EXAMPLES / 'coin.report')
         self.wrong(says='name a command')
         for words, says in (
-                (('verfy',), 'invalid choice'), (('verify',), 'required'), (('verdict',), 'REPORT'),
-                (('leaves', report), '--csv'),
-                (('leaves', report, '--csv', '--json'), 'not allowed'), (('verdict', report, '--look', '-1'), '--look'),
-                (('view', report, '--x', 'z'), 'no parameter z; it has p'),
-                (('view', report, '--x', 'p', '--y', 'p'), 'both axes'),
-                (('bounds', *QUESTION, '--width', '0'), 'above 0'), (('bounds', *QUESTION, '--width', '-1'), 'above 0'),
-                (('bounds', *QUESTION, '--calls', '1'), '--calls'), (('bounds', *QUESTION, '--precision', '41'), '--precision'),
-                (('verify', *QUESTION, '--bound', '3'), 'no share'), (('verify', *QUESTION, '--bound', '<=0.03'), 'no number'),
-                (('verify', *QUESTION, '--bound', '1/2', '--depth', '21'), '--depth'),
-                (('verify', *QUESTION, '--bound', '1/2', '--coverage', '2'), 'no share'),
-                (('verify', *QUESTION, '--bound', '1/2', '--bound', '1/3', '--report', 'x'), '--keep'),
-                (('verify', *QUESTION, '--bnd', '1/2'), '--bound'), (('explain',), 'no note'),
-                (('explain', 'hello'), 'no note'),
-                (('threshold', *QUESTION, '--bound', '1/2', '--parameter', 'p', '--width', '0'), 'above 0'),
-                (('threshold', *QUESTION, '--bound', '1/2', '--parameter', 'z'), 'no interval for z')):
+            (('verfy',), 'invalid choice'),
+            (('verify',), 'required'),
+            (('verdict',), 'REPORT'),
+            (('leaves', report), '--csv'),
+            (('leaves', report, '--csv', '--json'), 'not allowed'),
+            (('verdict', report, '--look', '-1'), '--look'),
+            (('view', report, '--x', 'z'), 'no parameter z; it has p'),
+            (('view', report, '--x', 'p', '--y', 'p'), 'both axes'),
+            (('bounds', *QUESTION, '--width', '0'), 'above 0'),
+            (('bounds', *QUESTION, '--width', '-1'), 'above 0'),
+            (('bounds', *QUESTION, '--calls', '1'), '--calls'),
+            (('bounds', *QUESTION, '--precision', '41'), '--precision'),
+            (('verify', *QUESTION, '--bound', '3'), 'no share'),
+            (('verify', *QUESTION, '--bound', '<=0.03'), 'no number'),
+            (('verify', *QUESTION, '--bound', '1/2', '--depth', '21'), '--depth'),
+            (('verify', *QUESTION, '--bound', '1/2', '--coverage', '2'), 'no share'),
+            (('verify', *QUESTION, '--bound', '1/2', '--bound', '1/3', '--report', 'x'), '--keep'),
+            (('verify', *QUESTION, '--bnd', '1/2'), '--bound'),
+            (('explain',), 'no note'),
+            (('explain', 'hello'), 'no note'),
+            (('threshold', *QUESTION, '--bound', '1/2', '--parameter', 'p', '--width', '0'), 'above 0'),
+            (('threshold', *QUESTION, '--bound', '1/2', '--parameter', 'z'), 'no interval for z'),
+        ):
             self.wrong(*words, says=says)
 
     def test_regions(self) -> None:
         many = ','.join('p%d=0..1' % number for number in range(99))
         for region, says in (
-                ('p=0..1', 'no interval for q'), ('p=0..1,q=0..1,z=0..1', 'no parameter z'), ('P=0..1,q=0..1', 'no parameter P'),
-                ('p<1', 'no part of a region'), ('0.1,0.2', 'no part'), ('p=1..0,q=0..1', 'before it begins'),
-                ('', 'no interval for p, q'), (many, 'at most 16'), ('p=0..1,q=0..1,', 'no part'), ('p=0..2,q=0..1', 'rows: state 0')):
+            ('p=0..1', 'no interval for q'),
+            ('p=0..1,q=0..1,z=0..1', 'no parameter z'),
+            ('P=0..1,q=0..1', 'no parameter P'),
+            ('p<1', 'no part of a region'),
+            ('0.1,0.2', 'no part'),
+            ('p=1..0,q=0..1', 'before it begins'),
+            ('', 'no interval for p, q'),
+            (many, 'at most 16'),
+            ('p=0..1,q=0..1,', 'no part'),
+            ('p=0..2,q=0..1', 'rows: state 0'),
+        ):
             self.wrong('bounds', RETRY, '--goal', 'lost', '--region', region, says=says)
 
     def test_files(self) -> None:
-        for name, says in (('nothing-there', 'No such file'), (str(self.folder), 'Is a directory'), ('', 'without a name'),
-                           ('a\0b', 'read')):
+        for name, says in (
+            ('nothing-there', 'No such file'),
+            (str(self.folder), 'Is a directory'),
+            ('', 'without a name'),
+            ('a\0b', 'read'),
+        ):
             self.wrong('verdict', name, says=says)
             self.wrong('bounds', name, '--goal', 'g', says=says)
         self.wrong('verdict', RETRY, says='not sound: line 1: Syntax')
         self.wrong('bounds', TREE, '--goal', 'g', says='model: line 1: Syntax')
         good = (EXAMPLES / 'retry-tree.report').read_bytes()
-        for data in (b'', b'\0' * 1000, b'\xff\xfe', good[:-5], good + b'unknown\n', good.replace(b'9 41', b'8 41'),
-                     good.replace(b'\n', b'\r\n'), b'plift 2\n', b'plift 1\n' * 1000, b'\x1f\x8b\x08'):
+        for data in (
+            b'',
+            b'\0' * 1000,
+            b'\xff\xfe',
+            good[:-5],
+            good + b'unknown\n',
+            good.replace(b'9 41', b'8 41'),
+            good.replace(b'\n', b'\r\n'),
+            b'plift 2\n',
+            b'plift 1\n' * 1000,
+            b'\x1f\x8b\x08',
+        ):
             name = self.file('bad.report', data)
             for words in (('verdict', name), ('leaves', name, '--csv'), ('view', name)):
                 self.wrong(*words, says='not sound: ')
 
     def test_models(self) -> None:
         for text, says in (
-                (b'', 'MissingSection'), (b'\0', 'NotText'), (b'@type: DTMC\n@parameters\np p\n@model\n', 'RepeatedName'),
-                (b'@type: DTMC\n@model\nstate 0 init g\n0 : 1/2\n', 'sums to'), (b'@type: CTMC\n', 'UnsupportedType')):
+            (b'', 'MissingSection'),
+            (b'\0', 'NotText'),
+            (b'@type: DTMC\n@parameters\np p\n@model\n', 'RepeatedName'),
+            (b'@type: DTMC\n@model\nstate 0 init g\n0 : 1/2\n', 'sums to'),
+            (b'@type: CTMC\n', 'UnsupportedType'),
+        ):
             region = ('--region', 'p=0..1') if b'p p' in text else ()
             self.wrong('bounds', self.file('m.drn', text), '--goal', 'g', *region, says=says)
         self.wrong('bounds', RETRY, '--goal', 'lsot', '--region', REGION, says='UnknownLabel')
@@ -279,7 +350,9 @@ class Mistakes(InFolder):
             self.file(path.name, b'#!/bin/sh\n')
             path.chmod(0o755)
         patched = {name: path for name, path in places.items() if name != 'plift'}
-        with mock.patch.multiple('plift_lab.program', **patched), mock.patch.dict(os.environ, {'PATH': str(self.folder)}):
+        with mock.patch.multiple('plift_lab.program', **patched), mock.patch.dict(
+            os.environ, {'PATH': str(self.folder)}
+        ):
             os.environ.pop('PLIFT_PROGRAM', None)
             for path in places.values():
                 self.assertEqual(find_program().path, path.resolve())
@@ -301,15 +374,21 @@ class Mistakes(InFolder):
             self.assertIn('statuses: ', told)
 
     def test_explain(self) -> None:
-        for note in ('usage: words', 'usage: --region Missing', 'model: line 3: Power',
-                     'rows: state 0 choice 1: set 0 sums to 9999', 'not sound: node 0 axis', 'too long', 'plift-lab: plift refuses this: model: line 31: UnknownLabel'):
+        for note in (
+            'usage: words',
+            'usage: --region Missing',
+            'model: line 3: Power',
+            'rows: state 0 choice 1: set 0 sums to 9999',
+            'not sound: node 0 axis',
+            'too long',
+            'plift-lab: plift refuses this: model: line 31: UnknownLabel',
+        ):
             status, told, _ = run('explain', *note.split(' '))
             self.assertEqual(status, 0, note)
             self.assertGreater(len(told.splitlines()), 1, note)
 
 
 class Interrupted(InFolder):
-
     def test_ends_cleanly(self) -> None:
         """A long job is interrupted: no trace, no process, no half report, and the folder can be used again."""
         slow = self.file('slow', b'#!/bin/sh\necho plift 1\nexec sleep 60\n')
@@ -318,7 +397,10 @@ class Interrupted(InFolder):
         for number in (signal.SIGINT, signal.SIGTERM):
             process = subprocess.Popen(
                 [sys.executable, str(TOP / 'lab/plift_lab/__main__.py'), 'bounds', *QUESTION, '--keep', str(keep)],
-                env=dict(os.environ, PLIFT_PROGRAM=slow), stdout=subprocess.PIPE, stderr=subprocess.PIPE)
+                env=dict(os.environ, PLIFT_PROGRAM=slow),
+                stdout=subprocess.PIPE,
+                stderr=subprocess.PIPE,
+            )
             for _ in range(200):
                 if list(keep.glob('*.part')):
                     break
@@ -331,7 +413,9 @@ class Interrupted(InFolder):
         self.assertEqual(run('bounds', *QUESTION, '--keep', str(keep))[0], 0)
 
     def test_a_file_that_was_not_written_whole_is_not_left(self) -> None:
-        with mock.patch('plift_lab.evidence.os.replace', side_effect=KeyboardInterrupt), self.assertRaises(KeyboardInterrupt):
+        with mock.patch('plift_lab.evidence.os.replace', side_effect=KeyboardInterrupt), self.assertRaises(
+            KeyboardInterrupt
+        ):
             write_file(self.folder / 'a', b'text')
         self.assertEqual(os.listdir(str(self.folder)), [])
 
@@ -339,12 +423,18 @@ class Interrupted(InFolder):
         keep, parts = self.folder / 'kept', ('--region', REGION, '--depth', '4', '--keep', str(self.folder / 'kept'))
         words = ('verify', RETRY, '--goal', 'lost', '--bound', '1/40', *parts)
         self.assertEqual(run(*words)[0], 0)
-        slow = self.file('slow', b'#!/bin/sh\ncase "$*" in\n*"--bound 1 "*) ;;\n*verify*) exec sleep 60 ;;\nesac\n'
-                                 b'exec "%s" "$@"\n' % str(find_program().path).encode())
+        slow = self.file(
+            'slow',
+            b'#!/bin/sh\ncase "$*" in\n*"--bound 1 "*) ;;\n*verify*) exec sleep 60 ;;\nesac\n'
+            b'exec "%s" "$@"\n' % str(find_program().path).encode(),
+        )
         os.chmod(slow, 0o755)
         process = subprocess.Popen(
             [sys.executable, str(TOP / 'lab/plift_lab/__main__.py'), *words, '--coverage', '99%'],
-            env=dict(os.environ, PLIFT_PROGRAM=slow), stdout=subprocess.PIPE, stderr=subprocess.PIPE)
+            env=dict(os.environ, PLIFT_PROGRAM=slow),
+            stdout=subprocess.PIPE,
+            stderr=subprocess.PIPE,
+        )
         for _ in range(400):
             if list(keep.glob('part-of-*')):
                 break

@@ -25,18 +25,24 @@ deepen = Session.deepen
 REGION = 'p=1/10..1/2,q=1/10..1/2'
 RETRY = Question(Model((EXAMPLES / 'retry.drn').read_bytes()), 'lost', Fraction(1, 40), Region.read(REGION), 4, 10)
 # A product of four parameters, whose corners need the more room the finer the grid is.
-PRODUCT = (b'@type: DTMC\n@parameters\np q r s\n@model\nstate 0 init\n1 : p*q*r*s\n2 : 1-p*q*r*s\nstate 1 a\n1 : 1\n'
-           b'state 2\n2 : 1\n')
+PRODUCT = (
+    b'@type: DTMC\n@parameters\np q r s\n@model\nstate 0 init\n1 : p*q*r*s\n2 : 1-p*q*r*s\nstate 1 a\n1 : 1\n'
+    b'state 2\n2 : 1\n'
+)
 NARROW = ','.join('%s=0.10001..0.9' % name for name in 'pqrs')
 
 
 def questions() -> Iterator[Question]:
     """Some of one version and some of the other, of chains and of decision processes."""
     for name, goal, bound, region, precision in (
-            ('coin.drn', 'heads', '1/3', 'p=1/10..9/10', 10), ('links.drn', 'lost', '1/10', 'p=1/20..2/5,q=1/20..2/5', 16),
-            ('chain.drn', 'lost', '1/2', 'p=3/5..9/10,q=3/5..9/10,r=3/5..9/10', 16),
-            ('retry.drn', 'lost', '1/40', 'q=1/10..1/2,p=1/10..1/2', 40)):
-        question = Question(Model((EXAMPLES / name).read_bytes()), goal, Fraction(bound), Region.read(region), 0, precision)
+        ('coin.drn', 'heads', '1/3', 'p=1/10..9/10', 10),
+        ('links.drn', 'lost', '1/10', 'p=1/20..2/5,q=1/20..2/5', 16),
+        ('chain.drn', 'lost', '1/2', 'p=3/5..9/10,q=3/5..9/10,r=3/5..9/10', 16),
+        ('retry.drn', 'lost', '1/40', 'q=1/10..1/2,p=1/10..1/2', 40),
+    ):
+        question = Question(
+            Model((EXAMPLES / name).read_bytes()), goal, Fraction(bound), Region.read(region), 0, precision
+        )
         yield question
         yield replace(question, is_relative=True, least_precision=1)
 
@@ -49,13 +55,14 @@ def costing(start: float, rectangle: float) -> Iterator[None]:
 
 
 class Bytes(unittest.TestCase):
-
     def test_whatever_is_asked_again(self) -> None:
         for question in questions():
             with Session() as session:
                 due = {depth: session.ask(replace(question, depth=depth)).data for depth in (3, 6, 8)}
-            for costs in ((0.0, 1.0), (4.0, 1.0), (20.0, 1.0), (10.0 ** 6, 1.0)):
-                with self.subTest(words=question.words(question.region, 0), costs=costs), costing(*costs), Session() as session:
+            for costs in ((0.0, 1.0), (4.0, 1.0), (20.0, 1.0), (10.0**6, 1.0)):
+                with self.subTest(words=question.words(question.region, 0), costs=costs), costing(
+                    *costs
+                ), Session() as session:
                     report = session.ask(replace(question, depth=3))
                     for depth in (6, 8):
                         report = session.deepen(replace(question, depth=depth), report)
@@ -74,8 +81,11 @@ class Bytes(unittest.TestCase):
             base = session.ask(RETRY)
             with costing(0.0, 1.0), mock.patch.object(Program, 'verify', verify):
                 session.deepen(replace(RETRY, depth=6), base)
-        regions = [Region(tuple((name, *ends) for name, ends in leaf.rectangle.items())).text
-                   for leaf in base.leaves() if leaf.kind == 'unknown']
+        regions = [
+            Region(tuple((name, *ends) for name, ends in leaf.rectangle.items())).text
+            for leaf in base.leaves()
+            if leaf.kind == 'unknown'
+        ]
         # First the whole, with the bound 1: has it room at this depth?
         self.assertEqual(asked, [('1', RETRY.region.text)] + [('1/40', region) for region in regions])
 
@@ -100,7 +110,6 @@ class Bytes(unittest.TestCase):
 
 
 class Cover(unittest.TestCase):
-
     def slowly(self, question: Question, *shares: Fraction) -> Iterator[Report]:
         """What is found by asking the whole at every second depth."""
         with Session() as session:
@@ -123,14 +132,19 @@ class Cover(unittest.TestCase):
         question = replace(RETRY, bound=Fraction(1, 1000), depth=0)
         with Session() as session:
             asked = []
-            with mock.patch.object(Session, 'deepen', lambda self, *one: asked.append(one[0].depth) or deepen(self, *one)):
+            with mock.patch.object(
+                Session, 'deepen', lambda self, *one: asked.append(one[0].depth) or deepen(self, *one)
+            ):
                 found = cover(session, question, Fraction(9, 10), lambda report: None)
-            self.assertEqual([path.name for path in session.evidence.folder.glob('*.report')], [found.path.rpartition('/')[2]])
+            self.assertEqual(
+                [path.name for path in session.evidence.folder.glob('*.report')], [found.path.rpartition('/')[2]]
+            )
         self.assertGreater(asked[-1], found.depth)
         self.assertEqual(found.data, next(self.slowly(question, Fraction(9, 10))).data)
 
     def test_a_leap_that_is_refused(self) -> None:
         """Where a report is too long the next one may not be."""
+
         def refuses(self: Session, question: Question, base: Report) -> Report:
             if question.depth > base.depth + 2 or question.depth > 8:
                 raise Refused(7, 'too long', [], b'')
@@ -143,13 +157,14 @@ class Cover(unittest.TestCase):
         with Session() as session:
             first = session.ask(replace(RETRY, depth=0))
             later = session.ask(replace(RETRY, depth=8))
-        self.assertEqual([levels_due(first, share) for share in (Fraction(1, 2), Fraction(19, 20), Fraction(1))], [2, 6, 6])
+        self.assertEqual(
+            [levels_due(first, share) for share in (Fraction(1, 2), Fraction(19, 20), Fraction(1))], [2, 6, 6]
+        )
         self.assertEqual(levels_due(later, 1 - later.shares['unknown'] / 2), 2)
         self.assertEqual(levels_due(later, 1 - later.shares['unknown'] / 4), 4)
 
 
 class Parts(unittest.TestCase):
-
     def setUp(self) -> None:
         with Session() as session:
             self.report = session.ask(replace(RETRY, depth=8))
@@ -160,13 +175,15 @@ class Parts(unittest.TestCase):
 
     def test_starts_that_are_dear(self) -> None:
         # All that is unknown lies in a quarter of the region.
-        self.assertEqual([part.depth for part in cheapest_parts(self.report, 10.0 ** 6, 1.0)], [2])
+        self.assertEqual([part.depth for part in cheapest_parts(self.report, 10.0**6, 1.0)], [2])
 
     def test_in_between(self) -> None:
         """All that is unknown is in one part, and no part costs more than what it stands for."""
         parts = cheapest_parts(self.report, 4.0, 1.0)
         self.assertEqual([part.start for part in parts], sorted(part.start for part in parts))
-        left = [part for part in unknown_parts(self.report) if not any(one.start <= part.start < one.stop for one in parts)]
+        left = [
+            part for part in unknown_parts(self.report) if not any(one.start <= part.start < one.stop for one in parts)
+        ]
         self.assertEqual(left, [])
         self.assertTrue(1 < len(parts) < self.report.nodes.count('unknown'))
 
@@ -187,7 +204,6 @@ class Parts(unittest.TestCase):
 
 
 class Commands(InFolder):
-
     def test_coverage(self) -> None:
         keep, report = str(self.folder / 'k'), str(self.folder / 'a.report')
         words = ('verify', str(EXAMPLES / 'retry.drn'), '--goal', 'lost', '--bound', '1/40', '--region', REGION)
@@ -200,8 +216,18 @@ class Commands(InFolder):
 
     def test_a_range_of_precisions(self) -> None:
         report = str(self.folder / 'a.report')
-        words = ('verify', str(EXAMPLES / 'retry.drn'), '--goal', 'lost', '--bound', '1/40', '--region', REGION,
-                 '--precision', '12')
+        words = (
+            'verify',
+            str(EXAMPLES / 'retry.drn'),
+            '--goal',
+            'lost',
+            '--bound',
+            '1/40',
+            '--region',
+            REGION,
+            '--precision',
+            '12',
+        )
         status, told, _ = run(*words, '--from', '1', '--coverage', '95%', '--report', report)
         self.assertEqual((status, told.splitlines()[1]), (0, '  decided: 96.97 % at depth 10, and 95 % was asked'))
         with Session() as session:
@@ -215,15 +241,20 @@ class Commands(InFolder):
 
     def test_a_word_without_anything_in_it(self) -> None:
         words = (str(EXAMPLES / 'retry.drn'), '--goal', 'lost', '--region', REGION)
-        for command, option in (('verify', '--coverage'), ('verify', '--precision'), ('verify', '--report'),
-                                ('verify', '--keep'), ('bounds', '--width'), ('threshold', '--width')):
+        for command, option in (
+            ('verify', '--coverage'),
+            ('verify', '--precision'),
+            ('verify', '--report'),
+            ('verify', '--keep'),
+            ('bounds', '--width'),
+            ('threshold', '--width'),
+        ):
             asked = ('--bound', '1/40') * (command != 'bounds') + ('--parameter', 'p') * (command == 'threshold')
             status, told, fault = run(command, *words, *asked, option, '')
             self.assertEqual((status, told, fault.count('\n')), (2, '', 1), (command, option))
 
 
 class Long(unittest.TestCase):
-
     def test_a_report_may_be_longer_than_a_model(self) -> None:
         with Session() as session, mock.patch('plift_lab.session.read_file', wraps=read_file) as read:
             session.read(TREE)
@@ -232,13 +263,12 @@ class Long(unittest.TestCase):
 
 
 class Texts(unittest.TestCase):
-
     def test_where_nodes_begin(self) -> None:
         for data in (RANGE, read_file(TREE)):
             report = Report(data, '')
             ends = [*report.starts[1:], len(data)]
             nodes = [data[start:end] for start, end in zip(report.starts, ends)]
-            self.assertEqual(data[report.tree_begin:], b''.join(nodes))
+            self.assertEqual(data[report.tree_begin :], b''.join(nodes))
             self.assertEqual(len(nodes), len(report.nodes))
             for node, text in zip(report.nodes, nodes):
                 self.assertIn(b'split %d\n' % node if isinstance(node, int) else node.encode(), text)

@@ -12,17 +12,28 @@ from .helpers import TOP, TREE, InFolder
 
 
 class Install(InFolder):
-
     @unittest.skipUnless(importlib.util.find_spec('pip'), 'needs pip')
     def test_offline(self) -> None:
-        install = [sys.executable, '-m', 'pip', 'install', '--no-index', '--quiet', '--disable-pip-version-check', '--target']
-        done = subprocess.run(install + [str(self.folder / 'there'), str(TOP / 'lab')], stdout=subprocess.PIPE,
-                              stderr=subprocess.STDOUT)
+        install = [
+            sys.executable,
+            '-m',
+            'pip',
+            'install',
+            '--no-index',
+            '--quiet',
+            '--disable-pip-version-check',
+            '--target',
+        ]
+        done = subprocess.run(
+            install + [str(self.folder / 'there'), str(TOP / 'lab')], stdout=subprocess.PIPE, stderr=subprocess.STDOUT
+        )
         self.assertEqual(done.returncode, 0, done.stdout.decode())
         known = dict(os.environ, PYTHONPATH=str(self.folder / 'there'), PLIFT_PROGRAM=str(find_program().path))
         for words, says in ((('verdict', TREE, '--brief'), b'mixed'), (('view', TREE), b'<!DOCTYPE html>')):
             script = str(self.folder / 'there/bin/plift-lab')
-            told = subprocess.run([sys.executable, script, *words], env=known, cwd=str(self.folder), stdout=subprocess.PIPE)
+            told = subprocess.run(
+                [sys.executable, script, *words], env=known, cwd=str(self.folder), stdout=subprocess.PIPE
+            )
             self.assertTrue(told.stdout.startswith(says), told.stdout[:200])
 
 

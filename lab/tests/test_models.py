@@ -17,6 +17,7 @@ OPERATIONS = {ast.Add: operator.add, ast.Sub: operator.sub, ast.Mult: operator.m
 
 def worth(value: str, valuation: Mapping[str, Fraction]) -> Fraction:
     """A value at a valuation, by a reader that shares nothing with the tool."""
+
     def of(node: ast.expr) -> Fraction:
         if isinstance(node, ast.BinOp):
             return OPERATIONS[type(node.op)](of(node.left), of(node.right))
@@ -52,10 +53,11 @@ state 1 p
 
 
 class Rescaled(unittest.TestCase):
-
     def same(self, model: Model, region: Region) -> None:
         changed, units, scale = model.rescaled(region)
-        self.assertEqual([(name, low, high) for name, low, high in units.intervals], [(name, 0, 1) for name in region.names])
+        self.assertEqual(
+            [(name, low, high) for name, low, high in units.intervals], [(name, 0, 1) for name in region.names]
+        )
         old, new = values(model), values(changed)
         self.assertEqual(len(old), len(new))
         for place in (Fraction(0), Fraction(1), Fraction(3, 7)):
@@ -69,7 +71,9 @@ class Rescaled(unittest.TestCase):
         tried = 0
         for path in sorted(EXAMPLES.glob('*.drn')):
             model = Model(path.read_bytes())
-            intervals = tuple((name, Fraction(1, 1000 + place), Fraction(9, 10)) for place, name in enumerate(model.parameters))
+            intervals = tuple(
+                (name, Fraction(1, 1000 + place), Fraction(9, 10)) for place, name in enumerate(model.parameters)
+            )
             self.same(model, Region(intervals))
             tried += 1
         self.assertGreater(tried, 8)
@@ -78,8 +82,15 @@ class Rescaled(unittest.TestCase):
         model = Model(TEXT)
         self.assertEqual(model.parameters, ['p', 'q', 'e'])
         changed = self.same(model, Region.read('-1/2<=p<=1,0<=q<=1/3,0<=e<=2'))
-        for line in (b'// p, not a value: 1 : p', b'@type: DTMC\r', b'p q e', b'state 0 [p] "p" init', b' 2\t:\t$p',
-                     b'action p [2 : p]', b'state 1 p'):
+        for line in (
+            b'// p, not a value: 1 : p',
+            b'@type: DTMC\r',
+            b'p q e',
+            b'state 0 [p] "p" init',
+            b' 2\t:\t$p',
+            b'action p [2 : p]',
+            b'state 1 p',
+        ):
             self.assertIn(b'\n' + line + b'\n', b'\n' + changed.text)
         self.assertIn(b'$p : 1-(-1/2+3/2*p)\n', changed.text)
         self.assertIn(b'3 : -(-1/2+3/2*p)+1e0*(2*e)\n', changed.text)

@@ -11,20 +11,31 @@ from .helpers import EXAMPLES, LINKS, RANGE, RETRY, TREE, InFolder
 
 
 class Read(InFolder):
-
     def test_tree(self) -> None:
         report = plift_lab.read(TREE)
         self.assertEqual(report.soundness, 'sound accept 1 reject 2 unknown 3')
-        self.assertEqual((report.verdict, report.depth, report.precision, report.bound), ('mixed', 4, 10, Fraction(1, 40)))
-        self.assertEqual(report.shares, {'accept': Fraction(1, 16), 'reject': Fraction(3, 4), 'unknown': Fraction(3, 16)})
+        self.assertEqual(
+            (report.verdict, report.depth, report.precision, report.bound), ('mixed', 4, 10, Fraction(1, 40))
+        )
+        self.assertEqual(
+            report.shares, {'accept': Fraction(1, 16), 'reject': Fraction(3, 4), 'unknown': Fraction(3, 16)}
+        )
         leaves = list(report.leaves())
-        self.assertEqual([leaf.kind for leaf in leaves], ['accept', 'unknown', 'unknown', 'unknown', 'reject', 'reject'])
+        self.assertEqual(
+            [leaf.kind for leaf in leaves], ['accept', 'unknown', 'unknown', 'unknown', 'reject', 'reject']
+        )
         self.assertEqual([leaf.depth for leaf in leaves], [4, 4, 4, 4, 2, 1])
-        self.assertEqual(leaves[0].rectangle, {'p': (Fraction(1, 10), Fraction(1, 5)), 'q': (Fraction(1, 10), Fraction(1, 5))})
-        self.assertEqual(leaves[4].rectangle, {'p': (Fraction(1, 10), Fraction(3, 10)), 'q': (Fraction(3, 10), Fraction(1, 2))})
+        self.assertEqual(
+            leaves[0].rectangle, {'p': (Fraction(1, 10), Fraction(1, 5)), 'q': (Fraction(1, 10), Fraction(1, 5))}
+        )
+        self.assertEqual(
+            leaves[4].rectangle, {'p': (Fraction(1, 10), Fraction(3, 10)), 'q': (Fraction(3, 10), Fraction(1, 2))}
+        )
         self.assertEqual([leaf.value for leaf in leaves[3:]], [None, Fraction(27, 1024), Fraction(27, 1024)])
-        self.assertEqual([report.schedulers[leaves[place].scheduler] for place in (4, 5)],
-                         [[1, 1, 1, None, None], [0, 0, 0, None, None]])
+        self.assertEqual(
+            [report.schedulers[leaves[place].scheduler] for place in (4, 5)],
+            [[1, 1, 1, None, None], [0, 0, 0, None, None]],
+        )
         self.assertEqual(sum(leaf.share for leaf in leaves), 1)
 
     def test_a_range_of_precisions(self) -> None:
@@ -35,8 +46,10 @@ class Read(InFolder):
         self.assertEqual([leaf.kind for leaf in leaves], ['accept', 'unknown', 'reject'])
         self.assertEqual([leaf.precision for leaf in leaves], [1, 4, 4])
         self.assertEqual([leaf.value for leaf in leaves], [Fraction(1, 2), None, Fraction(11, 16)])
-        self.assertEqual([leaf.rectangle['p'] for leaf in leaves],
-                         [(Fraction(1, 10), Fraction(1, 2)), (Fraction(1, 2), Fraction(7, 10)), (Fraction(7, 10), Fraction(9, 10))])
+        self.assertEqual(
+            [leaf.rectangle['p'] for leaf in leaves],
+            [(Fraction(1, 10), Fraction(1, 2)), (Fraction(1, 2), Fraction(7, 10)), (Fraction(7, 10), Fraction(9, 10))],
+        )
         self.assertEqual(plift_lab.read(TREE).least_precision, 10)
 
     def test_other_versions(self) -> None:
@@ -51,8 +64,14 @@ class Read(InFolder):
     def test_verdicts(self) -> None:
         head = (EXAMPLES / 'coin.report').read_bytes().partition(b'reject')[0].replace(b'depth 0', b'depth 2')
         a, r, u = b'accept 1 2 3\n', b'reject e 1 k 1 m 1 b 1/16\ny 1 2 3\nchoice 0 - -\nrank 1 0 -\n', b'unknown\n'
-        for halves, verdict in ((a + a, 'accepted'), (r + r, 'rejected'), (a + r, 'mixed'), (r + u, 'mixed'), (a + u, 'unknown'),
-                                (u + u, 'unknown')):
+        for halves, verdict in (
+            (a + a, 'accepted'),
+            (r + r, 'rejected'),
+            (a + r, 'mixed'),
+            (r + u, 'mixed'),
+            (a + u, 'unknown'),
+            (u + u, 'unknown'),
+        ):
             self.assertEqual(Report(head + b'split 0\n' + halves, '').verdict, verdict)
 
     def test_live_parameters(self) -> None:
@@ -61,8 +80,13 @@ class Read(InFolder):
         self.assertEqual(plift_lab.verify(model, 'goal', 1, '0<=a<=1,0<=p<=1').live, ['p'])
 
     def test_its_model_is_the_one_that_was_read(self) -> None:
-        for name, goal, region in (('retry', 'lost', 'p=0..1,q=0..1'), ('relay', 'lost', 'p=0..1,q=0..1'), ('die', 'one', 'p=1/10..9/10'),
-                                   ('chain', 'lost', 'p=0..1,q=0..1,r=0..1'), ('plain', 'heads', '')):
+        for name, goal, region in (
+            ('retry', 'lost', 'p=0..1,q=0..1'),
+            ('relay', 'lost', 'p=0..1,q=0..1'),
+            ('die', 'one', 'p=1/10..9/10'),
+            ('chain', 'lost', 'p=0..1,q=0..1,r=0..1'),
+            ('plain', 'heads', ''),
+        ):
             first = plift_lab.verify(EXAMPLES / (name + '.drn'), goal, '1/3', region, precision=12)
             again = plift_lab.verify(first.model_text, 'goal', '1/3', region, precision=12)
             self.assertEqual(first.data, again.data, name)
@@ -79,14 +103,16 @@ class Read(InFolder):
 
 
 class Verify(InFolder):
-
     def test_as_the_program(self) -> None:
-        self.assertEqual(plift_lab.verify(RETRY, 'lost', '1/40', 'p=1/10..1/2,q=1/10..1/2', 4, 10).data,
-                         Path(TREE).read_bytes())
+        self.assertEqual(
+            plift_lab.verify(RETRY, 'lost', '1/40', 'p=1/10..1/2,q=1/10..1/2', 4, 10).data, Path(TREE).read_bytes()
+        )
 
     def test_relative_leaves_are_in_the_own_parameters(self) -> None:
-        model = (b'@type: DTMC\n@parameters\np s\n@model\nstate 0 init\n1 : p\n2 : 1-p\nstate 1\n3 : 1-s\n2 : s\n'
-                 b'state 2\n2 : 1\nstate 3 bad\n3 : 1\n')
+        model = (
+            b'@type: DTMC\n@parameters\np s\n@model\nstate 0 init\n1 : p\n2 : 1-p\nstate 1\n3 : 1-s\n2 : s\n'
+            b'state 2\n2 : 1\nstate 3 bad\n3 : 1\n'
+        )
         region = '1e-6<=p<=1e-4,0.5<=s<=0.9'
         plain = plift_lab.verify(model, 'bad', '1e-5', region, 8)
         scaled = plift_lab.verify(model, 'bad', '1e-5', region, 8, relative=True)
@@ -95,12 +121,12 @@ class Verify(InFolder):
         self.assertEqual(scaled.region, plift_lab.Region.read(region))
         for leaf in scaled.leaves():
             (p, up), (s, high) = leaf.rectangle['p'], leaf.rectangle['s']
-            self.assertTrue(Fraction(1, 10 ** 6) <= p < up <= Fraction(1, 10 ** 4))
+            self.assertTrue(Fraction(1, 10**6) <= p < up <= Fraction(1, 10**4))
             self.assertTrue(Fraction(1, 2) <= s < high <= Fraction(9, 10))
             if leaf.kind == 'accept':
-                self.assertLessEqual(up * (1 - s), Fraction(1, 10 ** 5))
+                self.assertLessEqual(up * (1 - s), Fraction(1, 10**5))
             if leaf.kind == 'reject':
-                self.assertGreater(p * (1 - high), Fraction(1, 10 ** 5))
+                self.assertGreater(p * (1 - high), Fraction(1, 10**5))
 
     def test_coverage(self) -> None:
         report = plift_lab.verify(LINKS, 'lost', '1/10', 'p=1/10..1/2,q=1/10..1/2', coverage='90%')

@@ -14,15 +14,16 @@ def lost(p: Fraction, q: Fraction) -> Fraction:
     total = Fraction(0)
     for first in range(1, 5):  # the first link succeeds at this attempt
         total += p ** (first - 1) * (1 - p) * q ** (4 - first)
-    return total + p ** 4
+    return total + p**4
 
 
 class Bounds(unittest.TestCase):
-
     def test_hull(self) -> None:
         found = plift_lab.bounds(RETRY, 'lost', 'p=1/10..3/10,q=1/20..1/5')
-        self.assertEqual((found.sup.most, found.inf.least, found.precision),
-                         (Fraction(14843406975, 549755813888), Fraction(1099511627, 1099511627776), 40))
+        self.assertEqual(
+            (found.sup.most, found.inf.least, found.precision),
+            (Fraction(14843406975, 549755813888), Fraction(1099511627, 1099511627776), 40),
+        )
 
     def test_width(self) -> None:
         width = Fraction(1, 1000)
@@ -38,8 +39,10 @@ class Bounds(unittest.TestCase):
 
     def test_inside(self) -> None:
         """p (1 - p), which is greatest in the middle: 1/4 at p = 1/2."""
-        model = (b'@type: DTMC\n@parameters\np\n@model\nstate 0 init\n1 : p\n2 : 1-p\nstate 1\n2 : p\n3 : 1-p\n'
-                 b'state 2\n2 : 1\nstate 3 both\n3 : 1\n')
+        model = (
+            b'@type: DTMC\n@parameters\np\n@model\nstate 0 init\n1 : p\n2 : 1-p\nstate 1\n2 : p\n3 : 1-p\n'
+            b'state 2\n2 : 1\nstate 3 both\n3 : 1\n'
+        )
         found = plift_lab.bounds(model, 'both', 'p=1/10..9/10', '1/100')
         self.assertTrue(found.sup.least <= Fraction(1, 4) <= found.sup.most)
         self.assertTrue(found.inf.least <= Fraction(9, 100) <= found.inf.most)
@@ -56,7 +59,9 @@ class Bounds(unittest.TestCase):
         self.assertGreaterEqual(found.sup.most, Fraction(27, 1000))
 
     def test_unreachable(self) -> None:
-        found = plift_lab.bounds(b'@type: DTMC\n@model\nstate 0 init\n0 : 1\nstate 1 goal\n1 : 1\n', 'goal', width='1e-6')
+        found = plift_lab.bounds(
+            b'@type: DTMC\n@model\nstate 0 init\n0 : 1\nstate 1 goal\n1 : 1\n', 'goal', width='1e-6'
+        )
         self.assertEqual((found.sup.most, found.inf.least), (0, 0))
 
 
@@ -69,13 +74,12 @@ def share(region: Region) -> Fraction:
 
 
 class Threshold(unittest.TestCase):
-
     def test_greatest(self) -> None:
         edge = plift_lab.threshold(LINKS, 'lost', '1/20', 'p', 'p=1/10..1/2,q=1/10..1/5', '1e-5')
         fifth = Fraction(1, 5)
         self.assertLessEqual(lost(edge.good, fifth), Fraction(1, 20))
         self.assertGreater(lost(edge.limit, fifth), Fraction(1, 20))
-        self.assertLess(edge.limit - edge.good, Fraction(1, 10 ** 4))
+        self.assertLess(edge.limit - edge.good, Fraction(1, 10**4))
         self.assertEqual((edge.inside.verdict, edge.inside.region['p']), ('accepted', (Fraction(1, 10), edge.good)))
 
     def test_least(self) -> None:

@@ -9,10 +9,15 @@ from plift_lab.values import above, below, exact, near, percent, read_bound, rea
 
 
 class Numbers(unittest.TestCase):
-
     def test_forms(self) -> None:
-        for text, value in (('1/10', Fraction(1, 10)), ('0.1', Fraction(1, 10)), ('1e-1', Fraction(1, 10)),
-                            ('-3/4', Fraction(-3, 4)), ('1e-6/3', Fraction(1, 3000000)), (' 2 ', Fraction(2))):
+        for text, value in (
+            ('1/10', Fraction(1, 10)),
+            ('0.1', Fraction(1, 10)),
+            ('1e-1', Fraction(1, 10)),
+            ('-3/4', Fraction(-3, 4)),
+            ('1e-6/3', Fraction(1, 3000000)),
+            (' 2 ', Fraction(2)),
+        ):
             self.assertEqual(read_number(text), value)
 
     def test_refused(self) -> None:
@@ -49,7 +54,6 @@ class Numbers(unittest.TestCase):
 
 
 class Regions(unittest.TestCase):
-
     def test_forms(self) -> None:
         region = Region.read('1/10<=p<=3/10, q=0.05..1/5 ,r=1/4')
         self.assertEqual(region.text, '1/10<=p<=3/10,1/20<=q<=1/5')
@@ -59,8 +63,19 @@ class Regions(unittest.TestCase):
         self.assertEqual(Region.read('').text, '')
 
     def test_refused(self) -> None:
-        for text in ('p', '1<p<2', 'p=1..', '0.3<=p<=0.1', '0<=p<=1,p=1/2', '0<=2p<=1', '0<=p<=1,', 'p in [0,1]', '0<=p', '=',
-                     'p=a..b'):
+        for text in (
+            'p',
+            '1<p<2',
+            'p=1..',
+            '0.3<=p<=0.1',
+            '0<=p<=1,p=1/2',
+            '0<=2p<=1',
+            '0<=p<=1,',
+            'p in [0,1]',
+            '0<=p',
+            '=',
+            'p=a..b',
+        ):
             with self.assertRaises(Fault, msg=text):
                 Region.read(text)
 

@@ -78,8 +78,13 @@ def random_asked(chance: random.Random, process: Process) -> Asked:
     if chance.random() < 0.1:
         costs = [cost * cap for cost in costs]
     return Asked(
-        costs=costs, budget=Fraction(cap), cap=cap, box=[chance.choice(SPANS) for _ in range(process.parameters)],
-        depth=chance.choice([0, 1, 2, 4]), precision=chance.choice([2, 4, 6, 8, 9]), reward=chance.choice(REWARDS),
+        costs=costs,
+        budget=Fraction(cap),
+        cap=cap,
+        box=[chance.choice(SPANS) for _ in range(process.parameters)],
+        depth=chance.choice([0, 1, 2, 4]),
+        precision=chance.choice([2, 4, 6, 8, 9]),
+        reward=chance.choice(REWARDS),
     )
 
 

@@ -21,7 +21,10 @@ def most_spent(process: Process, costs: Sequence[Fraction], at: Valuation, steps
     """The most that any plan is expected to spend in so many steps, from each state."""
     rows, spent = rows_at(process, at), [Fraction(0)] * len(process.states)
     for _ in range(steps):
-        means = [max(sum((weight * spent[target] for target, weight in row), Fraction(0)) for row in choices) for choices in rows]
+        means = [
+            max(sum((weight * spent[target] for target, weight in row), Fraction(0)) for row in choices)
+            for choices in rows
+        ]
         spent = [Fraction(0) if s in process.goals else costs[s] + mean for s, mean in enumerate(means)]
     return spent
 
@@ -33,7 +36,9 @@ def tossed(chance: random.Random, count: int) -> List[Fraction]:
     return [Fraction(weight, sum(weights)) for weight in weights]
 
 
-def spent_by_some(chance: random.Random, process: Process, costs: Sequence[Fraction], rows: Rows, s: int, steps: int) -> Fraction:
+def spent_by_some(
+    chance: random.Random, process: Process, costs: Sequence[Fraction], rows: Rows, s: int, steps: int
+) -> Fraction:
     """What a plan spends from a state in so many steps, which is made up on the way: it tosses anew after each history."""
     if steps == 0 or s in process.goals:
         return Fraction(0)

@@ -21,10 +21,27 @@ def groups(*values: str) -> bytes:
     return text
 
 
-def words(reward: str, budget: str, cap: str, region: str = ENDS, goal: str = "heads", depth: str = "0", precision: str = "4") -> List[str]:
+def words(
+    reward: str, budget: str, cap: str, region: str = ENDS, goal: str = "heads", depth: str = "0", precision: str = "4"
+) -> List[str]:
     """A line of `cost`."""
-    return ["cost", "--goal", goal, "--reward", reward, "--budget", budget, "--cap", cap, "--region", region, "--depth", depth,
-            "--precision", precision]
+    return [
+        "cost",
+        "--goal",
+        goal,
+        "--reward",
+        reward,
+        "--budget",
+        budget,
+        "--cap",
+        cap,
+        "--region",
+        region,
+        "--depth",
+        depth,
+        "--precision",
+        precision,
+    ]
 
 
 # A text, the words, and what stands behind the rows, but for precision, depth, grid and box.
@@ -34,11 +51,19 @@ TEXTS = [
     (PRICED, words("steps", "2.0", "0000000004"), "cost 1/1 0/1 0/1;cap 4;budget 2/1;accept 8 0 0"),
     (PRICED, words("steps", "18/9", "2"), "cost 1/1 0/1 0/1;cap 2;budget 2/1;accept 16 0 0"),
     (PRICED, words("steps", "1", "1"), "cost 1/1 0/1 0/1;cap 1;budget 1/1;unknown"),
-    (PRICED, words("steps", "4294967295", "4294967295"), "cost 1/1 0/1 0/1;cap 4294967295;budget 4294967295/1;accept 2 0 0"),
+    (
+        PRICED,
+        words("steps", "4294967295", "4294967295"),
+        "cost 1/1 0/1 0/1;cap 4294967295;budget 4294967295/1;accept 2 0 0",
+    ),
     (PRICED, words("steps", "536870911", "4294967295"), "cost 1/1 0/1 0/1;cap 4294967295;budget 536870911/1;unknown"),
     (PRICED.replace(b"steps", b'"steps"'), words("steps", "2", "4"), "cost 1/1 0/1 0/1;cap 4;budget 2/1;accept 8 0 0"),
     (PRICED.replace(b"steps", b"[a]"), words("[a]", "2", "4"), "cost 1/1 0/1 0/1;cap 4;budget 2/1;accept 8 0 0"),
-    (PRICED.replace(b"steps", b"no steps steps").replace(b"[1]", b"[0,1,7]"), words("steps", "2", "4"), "cost 1/1 0/1 0/1;cap 4;budget 2/1;accept 8 0 0"),
+    (
+        PRICED.replace(b"steps", b"no steps steps").replace(b"[1]", b"[0,1,7]"),
+        words("steps", "2", "4"),
+        "cost 1/1 0/1 0/1;cap 4;budget 2/1;accept 8 0 0",
+    ),
     (EXPORT, words("steps", "2", "4"), "cost 1/1 0/1 0/1;cap 4;budget 2/1;unknown"),
     # The goal's own cost counts for nothing; that of a state that is never left is paid for ever, reached or not.
     (groups("[1,0]", "[9,0]", "[0,0]"), words("steps", "2", "4"), "cost 1/1 9/1 0/1;cap 4;budget 2/1;accept 8 0 0"),
@@ -46,11 +71,26 @@ TEXTS = [
     (groups("[0,0]", "", "[0,1/1000]"), words("hops", "4", "4"), "cost 0/1 0/1 1/1000;cap 4;budget 4/1;unknown"),
     (groups("[0,1.5]"), words("hops", "7/2", "4"), "cost 3/2 0/1 0/1;cap 4;budget 7/2;accept 12 0 0"),
     (groups("[ 0\t,\t10/6 ]"), words("hops", "7/2", "4"), "cost 5/3 0/1 0/1;cap 4;budget 7/2;accept 14 0 0"),
-    (groups("[0,1e-18]"), words("hops", "1/2", "4"), "cost 1/1000000000000000000 0/1 0/1;cap 4;budget 1/2;accept 2 0 0"),
-    (SENDS, words("sends", "7/5", "3", RATES, "done", precision="10"), "cost 1/1 1/1 1/1 0/1 0/1;cap 3;budget 7/5;accept 476 445 342 0 0"),
-    (SENDS, words("seconds", "2", "4", RATES, "done", precision="10"), "cost 1/1 2/1 4/1 0/1 0/1;cap 4;budget 2/1;accept 502 820 1024 0 0"),
-    (SENDS, words("sends", "13/10", "3", RATES, "done", "1", "10"),
-     "cost 1/1 1/1 1/1 0/1 0/1;cap 3;budget 13/10;split 0;accept 425 411 342 0 0;unknown"),
+    (
+        groups("[0,1e-18]"),
+        words("hops", "1/2", "4"),
+        "cost 1/1000000000000000000 0/1 0/1;cap 4;budget 1/2;accept 2 0 0",
+    ),
+    (
+        SENDS,
+        words("sends", "7/5", "3", RATES, "done", precision="10"),
+        "cost 1/1 1/1 1/1 0/1 0/1;cap 3;budget 7/5;accept 476 445 342 0 0",
+    ),
+    (
+        SENDS,
+        words("seconds", "2", "4", RATES, "done", precision="10"),
+        "cost 1/1 2/1 4/1 0/1 0/1;cap 4;budget 2/1;accept 502 820 1024 0 0",
+    ),
+    (
+        SENDS,
+        words("sends", "13/10", "3", RATES, "done", "1", "10"),
+        "cost 1/1 1/1 1/1 0/1 0/1;cap 3;budget 13/10;split 0;accept 425 411 342 0 0;unknown",
+    ),
 ]
 
 ASKED = words("steps", "2", "4")
@@ -91,8 +131,16 @@ MODELS = [
     (PRICED, words("Steps", "2", "4"), "line 14: UnknownReward"),
     (LOOP, ASKED, "line 12: UnknownReward"),
     (PRICED, words("time", "2", "4", goal="tails"), "line 14: UnknownLabel"),
-    (PRICED.replace(b"1 : 1\n", b"1 : 1/4000000007\n").replace(b"2 : 1\n", b"2 : 1/4000000009\n"), words("time", "2", "4"), "line 14: UnknownReward"),
-    (PRICED.replace(b"1 : 1\n", b"1 : 1/4000000007\n").replace(b"2 : 1\n", b"2 : 1/4000000009\n"), ASKED, "line 14: CommonDenominator"),
+    (
+        PRICED.replace(b"1 : 1\n", b"1 : 1/4000000007\n").replace(b"2 : 1\n", b"2 : 1/4000000009\n"),
+        words("time", "2", "4"),
+        "line 14: UnknownReward",
+    ),
+    (
+        PRICED.replace(b"1 : 1\n", b"1 : 1/4000000007\n").replace(b"2 : 1\n", b"2 : 1/4000000009\n"),
+        ASKED,
+        "line 14: CommonDenominator",
+    ),
     (PRICED.replace(b"[1]", b"[1,2]"), ASKED, "line 7: RewardSyntax"),
     (PRICED.replace(b"[1]", b"[]"), ASKED, "line 7: RewardSyntax"),
     (PRICED.replace(b"[1]", b"[-1]"), ASKED, "line 7: RewardSyntax"),
@@ -157,7 +205,9 @@ class Table(unittest.TestCase):
             goal, region = line[line.index("--goal") + 1], line[line.index("--region") + 1]
             report = ask(["verify", "--goal", goal, "--bound", "1", "--region", region], model).out.decode()
             text = ask(line, model).out.decode()
-            self.assertEqual(text.split("\ncost ")[0], report.split("\nbound ")[0].replace("plift 1", "plift-cost 1", 1))
+            self.assertEqual(
+                text.split("\ncost ")[0], report.split("\nbound ")[0].replace("plift 1", "plift-cost 1", 1)
+            )
 
 
 if __name__ == "__main__":

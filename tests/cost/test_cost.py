@@ -66,7 +66,9 @@ def question_of(chance: random.Random) -> tuple[Process, Asked]:
         if budget is not None:
             return process, asked._replace(budget=budget)
     need = needed(process, asked, [high for _, high in asked.box]) or Fraction(asked.cap, 2)
-    return process, asked._replace(budget=chance.choice([Fraction(0), Fraction(asked.cap), min(need * 2, Fraction(asked.cap))]))
+    return process, asked._replace(
+        budget=chance.choice([Fraction(0), Fraction(asked.cap), min(need * 2, Fraction(asked.cap))])
+    )
 
 
 def fault_of(chance: random.Random) -> str:

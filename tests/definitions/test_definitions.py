@@ -20,7 +20,9 @@ def definitions() -> Iterator[Tuple[str, str, str]]:
 
 class Definitions(unittest.TestCase):
     def test_each_has_a_comment(self) -> None:
-        bare = [place for place, line, above in definitions() if DEFINED.match(line) and not above.lstrip().startswith("--")]
+        bare = [
+            place for place, line, above in definitions() if DEFINED.match(line) and not above.lstrip().startswith("--")
+        ]
         self.assertEqual(bare, [])
 
     def test_none_cites_a_constant_of_code(self) -> None:

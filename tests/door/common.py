@@ -75,8 +75,13 @@ class DoorCase(unittest.TestCase):
     """A test with a checkout of its own: launchers, crates that stand for the real ones, and a fake `rt`."""
 
     CRATES = {
-        "lift_base": [], "lift_poly": [], "plift_top": ["lift_base", "lift_poly", "clap"], "plift": ["plift_top"],
-        "view_top": ["lift_base"], "plift_view": ["view_top"], "other": [],
+        "lift_base": [],
+        "lift_poly": [],
+        "plift_top": ["lift_base", "lift_poly", "clap"],
+        "plift": ["plift_top"],
+        "view_top": ["lift_base"],
+        "plift_view": ["view_top"],
+        "other": [],
     }
     # What is copied from this checkout.
     PARTS = ("plift", "plift-view", "VERSION", "tools", "man", "completion", "install")
@@ -115,8 +120,14 @@ class DoorCase(unittest.TestCase):
         write_program(program, STAND_IN)
         return program
 
-    def run_door(self, *words: str, door: Union[Path, str] = "", shell: Sequence[str] = (), environment: Mapping[str, str] = {},
-                 **how: Any) -> subprocess.CompletedProcess:
+    def run_door(
+        self,
+        *words: str,
+        door: Union[Path, str] = "",
+        shell: Sequence[str] = (),
+        environment: Mapping[str, str] = {},
+        **how: Any,
+    ) -> subprocess.CompletedProcess:
         """Runs ./plift, or another launcher, on these words."""
         command = [*shell, str(door or self.top / "plift"), *words]
         how = {"input": b"", **how} if "stdin" not in how else how

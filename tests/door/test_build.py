@@ -60,7 +60,10 @@ class Parts(unittest.TestCase):
         self.assertEqual([build.lanes_for(4, it) for it in (None, 64 << 30, 5 << 30, 0)], [4, 4, 2, 1])
 
     def test_minutes_in_words(self) -> None:
-        self.assertEqual([build.in_minutes(it) for it in (0, 0.4, 0.9, 1.4, 2)], ["0 minutes", "0 minutes", "1 minute", "1 minute", "2 minutes"])
+        self.assertEqual(
+            [build.in_minutes(it) for it in (0, 0.4, 0.9, 1.4, 2)],
+            ["0 minutes", "0 minutes", "1 minute", "1 minute", "2 minutes"],
+        )
 
     def test_pace_goes_from_the_usual_to_the_seen(self) -> None:
         self.assertEqual(build.pace_of(0, 0, 0.5, 100), 0.5)

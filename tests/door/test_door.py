@@ -45,8 +45,25 @@ class Answers(Door):
                 self.assertEqual(self.run_door(*words, shell=shell).stdout, texts["plift"], words)
                 view = self.run_door(*words, shell=shell, door=self.top / "plift-view")
                 self.assertEqual(view.stdout, texts["plift-view"], words)
-        for command in ("verify", "bounded", "property", "cost", "lumped", "check", "migrate", "refine", "generate", "selftest"):
-            asked = (["help", command], ["--help", command], [command, "--help"], [command, "-h"], [command, "--goal", "x", "--help"])
+        for command in (
+            "verify",
+            "bounded",
+            "property",
+            "cost",
+            "lumped",
+            "check",
+            "migrate",
+            "refine",
+            "generate",
+            "selftest",
+        ):
+            asked = (
+                ["help", command],
+                ["--help", command],
+                [command, "--help"],
+                [command, "-h"],
+                [command, "--goal", "x", "--help"],
+            )
             for words in asked:
                 ran = self.run_door(*words)
                 self.assertEqual((ran.returncode, ran.stdout, ran.stderr), (0, texts[command], b""), words)
@@ -155,7 +172,9 @@ class Runs(Door):
             for shell in SHELLS:
                 for number in (signal.SIGTERM, signal.SIGINT, signal.SIGHUP):
                     started = subprocess.Popen(
-                        [*shell, str(self.top / "plift"), "check"], stdout=subprocess.DEVNULL, stderr=subprocess.PIPE,
+                        [*shell, str(self.top / "plift"), "check"],
+                        stdout=subprocess.DEVNULL,
+                        stderr=subprocess.PIPE,
                         env={**self.environment, **environment, "SLEEP": str(slept)},
                     )
                     while not (slept.exists() and slept.read_text()):
@@ -177,8 +196,12 @@ class Runs(Door):
             self.skipTest("no terminal can be opened here")
         environment = {**self.environment, "STATUS": "3", "NOTE": "note"}
         ran = subprocess.Popen(
-            [str(self.top / "plift"), "verify", "--goal", "a", "--bound=1"], env=environment, start_new_session=True,
-            stdin=follower, stdout=subprocess.DEVNULL, stderr=follower,
+            [str(self.top / "plift"), "verify", "--goal", "a", "--bound=1"],
+            env=environment,
+            start_new_session=True,
+            stdin=follower,
+            stdout=subprocess.DEVNULL,
+            stderr=follower,
         )
         os.close(follower)
         os.write(leader, b"\x04")
@@ -264,7 +287,9 @@ class Finds(Door):
         (self.room / "bin/rt").unlink()
         for name in ("plift", "plift-view"):
             words = ["check"] if name == "plift" else []
-            ran = self.run_door(*words, door=self.top / name, environment={"PATH": f"{self.room / 'bin'}:/usr/bin:/bin"})
+            ran = self.run_door(
+                *words, door=self.top / name, environment={"PATH": f"{self.room / 'bin'}:/usr/bin:/bin"}
+            )
             self.assertEqual((ran.returncode, ran.stdout), (70, b""))
             self.assertIn(f"{name}: the command rt of the Rattle kit is not on the PATH".encode(), ran.stderr)
 

@@ -116,11 +116,23 @@ class Install(DoorCase):
         self.both_built()
         self.assertEqual(self.install(self.prefix).returncode, 0)
         self.top.rename(self.room / "moved away")
-        for page in ("man/man1/plift-tiles.1", "bash-completion/completions/plift-tiles", "zsh/site-functions/_plift-tiles"):
+        for page in (
+            "man/man1/plift-tiles.1",
+            "bash-completion/completions/plift-tiles",
+            "zsh/site-functions/_plift-tiles",
+        ):
             self.assertTrue((self.prefix / "share" / page).is_file(), page)
         self.assertEqual(self.run_installed("plift-tiles", "--version").stdout, b"plift-tiles 1.0\n")
         # The program that is installed beside it is asked, whatever the PATH has.
-        ran = self.run_installed("plift-tiles", "split", "x", "--depth", "3", environment={"NOTE": "the installed", "STATUS": "1"}, cwd=self.room)
+        ran = self.run_installed(
+            "plift-tiles",
+            "split",
+            "x",
+            "--depth",
+            "3",
+            environment={"NOTE": "the installed", "STATUS": "1"},
+            cwd=self.room,
+        )
         self.assertEqual((ran.returncode, ran.stderr), (1, b"plift-tiles: plift refuses this: the installed\n"))
 
     def test_quick_programs(self) -> None:

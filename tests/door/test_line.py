@@ -12,16 +12,98 @@ from common import TOP, quick_program, tool
 line = tool("line")
 
 WORDS = [
-    "verify", "bounded", "property", "cost", "lumped", "check", "migrate", "refine", "generate", "selftest", "--goal", "--bound",
-    "--region", "--depth", "--formula", '--formula=P<=1/2[F"a"]', '--formula=P>=0.5 [ "a b" U "c" ]', "--formula=P", "--formula=",
+    "verify",
+    "bounded",
+    "property",
+    "cost",
+    "lumped",
+    "check",
+    "migrate",
+    "refine",
+    "generate",
+    "selftest",
+    "--goal",
+    "--bound",
+    "--region",
+    "--depth",
+    "--formula",
+    '--formula=P<=1/2[F"a"]',
+    '--formula=P>=0.5 [ "a b" U "c" ]',
+    "--formula=P",
+    "--formula=",
     '--formula=P>2[F"a"]',
-    "--reward", "--reward=a", "--reward=", "--reward=a b", "--reward=\u00fc", "--budget", "--budget=1/2", "--budget=3", "--budget=1e-19", "--cap",
-    "--cap=1", "--cap=2", "--cap=0", "--cap=4294967295", "--cap=4294967296", "--cap=0000000002", "--cap=00000000002",
-    "--precision", "--from", "--from=1", "--from=024", "--from=25", "--from=0", "--precision=40", "--steps", "--steps=64", "--steps=65", "--steps=064", "--steps=0", "--goal=a",
-    "--bound=1/2", "--bound=", "--depth=3", "--depth=21", "--precision=0", "--precision=040", "-1", "", " ", "a", "1/2",
-    "3%", "1e-3", "0.5", "2", "1/4294967295", "1/4294967296", "9223372036854775808/9223372036854775809", "1e-19", "20",
-    "32767", "32768", "000001", "p=1", "--x", "--y", "--at", "--x=", "--at=p=1", "--at=p", "--summary", "--follow",
-    "--summary=", "--help", "help", "--", "-", "\u00fc", "a\nb", "=", "--goal=--bound", "\u0663",
+    "--reward",
+    "--reward=a",
+    "--reward=",
+    "--reward=a b",
+    "--reward=\u00fc",
+    "--budget",
+    "--budget=1/2",
+    "--budget=3",
+    "--budget=1e-19",
+    "--cap",
+    "--cap=1",
+    "--cap=2",
+    "--cap=0",
+    "--cap=4294967295",
+    "--cap=4294967296",
+    "--cap=0000000002",
+    "--cap=00000000002",
+    "--precision",
+    "--from",
+    "--from=1",
+    "--from=024",
+    "--from=25",
+    "--from=0",
+    "--precision=40",
+    "--steps",
+    "--steps=64",
+    "--steps=65",
+    "--steps=064",
+    "--steps=0",
+    "--goal=a",
+    "--bound=1/2",
+    "--bound=",
+    "--depth=3",
+    "--depth=21",
+    "--precision=0",
+    "--precision=040",
+    "-1",
+    "",
+    " ",
+    "a",
+    "1/2",
+    "3%",
+    "1e-3",
+    "0.5",
+    "2",
+    "1/4294967295",
+    "1/4294967296",
+    "9223372036854775808/9223372036854775809",
+    "1e-19",
+    "20",
+    "32767",
+    "32768",
+    "000001",
+    "p=1",
+    "--x",
+    "--y",
+    "--at",
+    "--x=",
+    "--at=p=1",
+    "--at=p",
+    "--summary",
+    "--follow",
+    "--summary=",
+    "--help",
+    "help",
+    "--",
+    "-",
+    "\u00fc",
+    "a\nb",
+    "=",
+    "--goal=--bound",
+    "\u0663",
 ]
 PLIFT = {
     "": "usage: words",
@@ -123,13 +205,23 @@ PLIFT = {
     "selftest 1 2": "usage: words",
 }
 PLAIN = [
-    "check", "migrate", "refine --depth 1", "refine --depth=020", "generate 1", "selftest 32767", "verify --bound=1/2 --goal=a",
-    "verify --goal a --bound 1/2 --region x --depth 020 --precision 1", "bounded --steps=64 --bound=1/2 --goal=a",
-    'property --formula=P<=1[F"a"]', 'property --depth 020 --formula P<=1[F"a"] --region x --precision=40',
-    "cost --goal a --reward b --budget 2 --cap 2", "cost --cap=0000000001 --budget 0 --reward=[b] --goal=a --region x",
+    "check",
+    "migrate",
+    "refine --depth 1",
+    "refine --depth=020",
+    "generate 1",
+    "selftest 32767",
+    "verify --bound=1/2 --goal=a",
+    "verify --goal a --bound 1/2 --region x --depth 020 --precision 1",
+    "bounded --steps=64 --bound=1/2 --goal=a",
+    'property --formula=P<=1[F"a"]',
+    'property --depth 020 --formula P<=1[F"a"] --region x --precision=40',
+    "cost --goal a --reward b --budget 2 --cap 2",
+    "cost --cap=0000000001 --budget 0 --reward=[b] --goal=a --region x",
     "cost --depth 20 --precision 1 --goal a --reward ! --budget 4294967295 --cap 4294967295",
     "cost --goal a --reward ~ --budget 4611686018427387903/4294967295 --cap 4294967295",
-    "lumped --depth 20 --bound=1/2 --goal=a", "verify --from 24 --bound=1/2 --goal=a",
+    "lumped --depth 20 --bound=1/2 --goal=a",
+    "verify --from 24 --bound=1/2 --goal=a",
     "verify --from=004 --bound=1/2 --goal=a --precision 4",
 ]
 # Formulas, and the cause for which they are refused.
@@ -177,10 +269,44 @@ FORMULAS = {
     'P<=\u0661 [F"a"]': "Syntax",
 }
 # Pieces that formulas are made of at random.
-PIECES = ["P", "<=", "<", ">=", ">", "=", "1/2", "0.5", "2", "1/0", "1e-19", "[", "]", "F", "U", '"a"', '"b c"', '""', '"', " ", "\t", "a", "-", "/"]
+PIECES = [
+    "P",
+    "<=",
+    "<",
+    ">=",
+    ">",
+    "=",
+    "1/2",
+    "0.5",
+    "2",
+    "1/0",
+    "1e-19",
+    "[",
+    "]",
+    "F",
+    "U",
+    '"a"',
+    '"b c"',
+    '""',
+    '"',
+    " ",
+    "\t",
+    "a",
+    "-",
+    "/",
+]
 VIEW = {
-    "x": True, "--x": True, "--x p --x q": True, "--summary --follow": True, "--summary=": True,
-    "--summary": False, "": False, "--at p=1 --at=q=2 --x=": False, "--x -": False, "--x=-p": False, "--x -p": True,
+    "x": True,
+    "--x": True,
+    "--x p --x q": True,
+    "--summary --follow": True,
+    "--summary=": True,
+    "--summary": False,
+    "": False,
+    "--at p=1 --at=q=2 --x=": False,
+    "--x -": False,
+    "--x=-p": False,
+    "--x -p": True,
 }
 
 
@@ -196,7 +322,11 @@ class Line(unittest.TestCase):
     def test_formulas(self) -> None:
         for text, cause in FORMULAS.items():
             note = f"usage: --formula {cause}" if cause else None
-            self.assertEqual(line.plift_note(["property", "--formula", text or " "]), note if text else "usage: --formula Syntax", text)
+            self.assertEqual(
+                line.plift_note(["property", "--formula", text or " "]),
+                note if text else "usage: --formula Syntax",
+                text,
+            )
 
     def test_faults_of_view(self) -> None:
         for words, is_fault in VIEW.items():
@@ -234,7 +364,9 @@ class AgainstTheProgram(unittest.TestCase):
         note = ran.stderr.rstrip("\n")
         return note if note.startswith("usage: ") and ran.returncode == 2 else None
 
-    def compare(self, name: str, front: Callable[[random.Random], List[str]], note_of: Callable[[List[str]], Optional[str]]) -> None:
+    def compare(
+        self, name: str, front: Callable[[random.Random], List[str]], note_of: Callable[[List[str]], Optional[str]]
+    ) -> None:
         program, chance = quick_program(name), random.Random(1)
         if program is None:
             self.skipTest("build/quick has no program")
@@ -246,10 +378,24 @@ class AgainstTheProgram(unittest.TestCase):
             self.assertEqual(note, self.asked(program, words), words)
 
     def test_plift(self) -> None:
-        fronts = ["", "verify", "verify --goal a", "verify --goal a --bound 1/2", "verify --goal=a --bound", "generate",
-                  "lumped --goal a --bound 1/2", "bounded --goal a --bound 1/2", "bounded --goal a --bound 1/2 --steps",
-                  "property", "property --formula", 'property --formula P<=1[F"a"]', "cost --goal a --reward b --budget 1",
-                  "cost --goal a --reward b --budget 1 --cap", "cost --goal a --cap 2 --budget", "cost --goal a --budget 1 --cap 2 --reward"]
+        fronts = [
+            "",
+            "verify",
+            "verify --goal a",
+            "verify --goal a --bound 1/2",
+            "verify --goal=a --bound",
+            "generate",
+            "lumped --goal a --bound 1/2",
+            "bounded --goal a --bound 1/2",
+            "bounded --goal a --bound 1/2 --steps",
+            "property",
+            "property --formula",
+            'property --formula P<=1[F"a"]',
+            "cost --goal a --reward b --budget 1",
+            "cost --goal a --reward b --budget 1 --cap",
+            "cost --goal a --cap 2 --budget",
+            "cost --goal a --budget 1 --cap 2 --reward",
+        ]
         self.compare("plift", lambda chance: chance.choice(fronts).split(), line.plift_note)
 
     def test_formulas(self) -> None:

@@ -8,12 +8,22 @@ import unittest
 from pathlib import Path
 
 from common import DoorCase, TOP, quick_program
+
 SUMS = ["sha256sum", "-c", "--quiet"]
 
 
 class Release(DoorCase):
     PARTS = DoorCase.PARTS + (
-        "LICENSE", "CHANGELOG.md", "CITATION.cff", "README.md", "recheck", "examples", "docs", "lab", "plift-tiles", "tiles",
+        "LICENSE",
+        "CHANGELOG.md",
+        "CITATION.cff",
+        "README.md",
+        "recheck",
+        "examples",
+        "docs",
+        "lab",
+        "plift-tiles",
+        "tiles",
     )
 
     def setUp(self) -> None:

@@ -52,12 +52,24 @@ class Named(unittest.TestCase):
 
     def test_the_ranges(self) -> None:
         values = part_of(self.formats, "| Value | Grammar and range |", "\n\n")
-        for name, row in (("--depth", "`--depth`"), ("--precision", "`--precision`"), ("--steps", "`--steps`"), ("--cap", "`--cap`"), ("N", "the number of blocks")):
+        for name, row in (
+            ("--depth", "`--depth`"),
+            ("--precision", "`--precision`"),
+            ("--steps", "`--steps`"),
+            ("--cap", "`--cap`"),
+            ("N", "the number of blocks"),
+        ):
             digits, low, high = line.RANGES[name]
             self.assertIn(f"| {row} | 1 to {digits} digits, {low} to {high:,} |", values)
         digits, low, _ = line.RANGES["--from"]
         self.assertIn(f"| `--from` | 1 to {digits} digits, {low} to the precision |", values)
-        for text in (help_of("verify"), help_of("property"), help_of("cost"), help_of("lumped"), re.sub(r"\s+", " ", man_of("plift"))):
+        for text in (
+            help_of("verify"),
+            help_of("property"),
+            help_of("cost"),
+            help_of("lumped"),
+            re.sub(r"\s+", " ", man_of("plift")),
+        ):
             for name in ("--depth", "--precision"):
                 self.assertRegex(text, rf"{name} \S+[^-]*{line.RANGES[name][1]} to {line.RANGES[name][2]}\b")
         for text in (help_of("bounded"), re.sub(r"\s+", " ", man_of("plift"))):
@@ -135,7 +147,9 @@ class Completed(unittest.TestCase):
         self.assertEqual(self.offered("plift", "bounded", "--steps", "3", "--s"), set())
         self.assertEqual(self.offered("plift", "property", ""), {*line.PROPERTY.valued, "--help"})
         self.assertEqual(self.offered("plift", "property", "--formula", ""), set())
-        self.assertEqual(self.offered("plift", "property", "--formula=P", "--"), {"--region", "--depth", "--precision", "--help"})
+        self.assertEqual(
+            self.offered("plift", "property", "--formula=P", "--"), {"--region", "--depth", "--precision", "--help"}
+        )
         self.assertEqual(self.offered("plift", "cost", ""), {*line.COST.valued, "--help"})
         self.assertEqual(self.offered("plift", "cost", "--reward", ""), set())
         self.assertEqual(self.offered("plift", "cost", "--goal", "x", "--c"), {"--cap"})

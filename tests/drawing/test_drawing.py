@@ -29,10 +29,16 @@ HALVES = COIN % (1, "4 16", "split 0;unknown;reject b 6/16;y 1 4 16 0;choice 1 0
 # Either of two choices shows heads with p, or with the rest: one of them with 3/4 or more where p is far from 1/2.
 TWIN = """plift-property 1;kind mdp;parameters 1 p;common 1;states 3;init 0;goal 1 1;row 0 0 2;to 1 1:1;to 2 0:1 1:-1;
 row 0 1 2;to 1 0:1 1:-1;to 2 1:1;row 1 0 1;to 1 0:1;row 2 0 1;to 2 0:1;property %s;precision 3;depth 2;grid 4;box 0 4;%s"""
-PROPERTY = TWIN % ("< 3/4", "split 0;split 0;fails;lower e 1 k 1 m 1 b 6/8;y 6 8 0;choice 1 - -;rank 1 0 -;unknown;"
-                   "split 0;unknown;fails;lower e 1 k 1 m 1 b 6/8;y 6 8 0;choice 0 - -;rank 1 0 -;")
-ALWAYS = TWIN % (">= 1/4", "split 0;split 0;fails;x 2 8 0;choice 0 - 0;holds;lower e 2 k 1 m 2 b 2/8;y 2 8 0;rank 1 0 -;"
-                 "split 0;holds;lower e 2 k 1 m 2 b 2/8;y 2 8 0;rank 1 0 -;unknown;")
+PROPERTY = TWIN % (
+    "< 3/4",
+    "split 0;split 0;fails;lower e 1 k 1 m 1 b 6/8;y 6 8 0;choice 1 - -;rank 1 0 -;unknown;"
+    "split 0;unknown;fails;lower e 1 k 1 m 1 b 6/8;y 6 8 0;choice 0 - -;rank 1 0 -;",
+)
+ALWAYS = TWIN % (
+    ">= 1/4",
+    "split 0;split 0;fails;x 2 8 0;choice 0 - 0;holds;lower e 2 k 1 m 2 b 2/8;y 2 8 0;rank 1 0 -;"
+    "split 0;holds;lower e 2 k 1 m 2 b 2/8;y 2 8 0;rank 1 0 -;unknown;",
+)
 
 
 # The first coin again, at 1 for each throw: two throws on average, whatever p is.
@@ -71,7 +77,9 @@ def draw(words: List[str], given: bytes) -> Answer:
 
 def field_of(picture: str) -> List[str]:
     """The paths of the kinds, accepted, rejected and unknown, and that of the borders."""
-    return [line.partition(' d="')[2].partition('"')[0] for line in picture.splitlines() if line.startswith("<path fill")]
+    return [
+        line.partition(' d="')[2].partition('"')[0] for line in picture.splitlines() if line.startswith("<path fill")
+    ]
 
 
 class Steps(unittest.TestCase):
@@ -89,15 +97,27 @@ class Steps(unittest.TestCase):
         self.assertIn('<text x="270" y="20">0.350</text>', answer.out)
 
     def test_a_table(self) -> None:
-        self.assertEqual(draw(["--summary"], text(ONE)).out.splitlines(), [
-            "leaves accept 1 reject 0 unknown 0", "share accept 1 100.0000 %", "share reject 0 0.0000 %",
-            "share unknown 0 0.0000 %", "greatest accept depth 0 p 1/5 3/10", "least accept depth 0 p 1/5 3/10",
-            "depth 0 accept 1 reject 0 unknown 0",
-        ])
+        self.assertEqual(
+            draw(["--summary"], text(ONE)).out.splitlines(),
+            [
+                "leaves accept 1 reject 0 unknown 0",
+                "share accept 1 100.0000 %",
+                "share reject 0 0.0000 %",
+                "share unknown 0 0.0000 %",
+                "greatest accept depth 0 p 1/5 3/10",
+                "least accept depth 0 p 1/5 3/10",
+                "depth 0 accept 1 reject 0 unknown 0",
+            ],
+        )
 
     def test_refusals(self) -> None:
         table = [
-            ([], text(ONE.replace("x 2 4", "x 2 3")), 1, "not sound: node 0 step 2 state 0 choice 0 corner 0: 124 > 120\n"),
+            (
+                [],
+                text(ONE.replace("x 2 4", "x 2 3")),
+                1,
+                "not sound: node 0 step 2 state 0 choice 0 corner 0: 124 > 120\n",
+            ),
             ([], text(TREE), 1, "not sound: node 4 depth\n"),
             ([], text(ONE)[:-1], 1, "not sound: line 24: Truncated\n"),
             (["--x", "q"], text(ONE), 2, "usage: --x UnknownName\n"),
@@ -130,7 +150,11 @@ class Properties(unittest.TestCase):
     def test_the_look_is_that_of_a_report(self) -> None:
         report = draw([], (TOP / "examples" / "coin.report").read_bytes()).out
         patterns = [line.partition('"20000" height')[2] for line in report.splitlines() if line.startswith("<pattern")]
-        shown = [line.partition('"20000" height')[2] for line in draw([], text(PROPERTY)).out.splitlines() if line.startswith("<pattern")]
+        shown = [
+            line.partition('"20000" height')[2]
+            for line in draw([], text(PROPERTY)).out.splitlines()
+            if line.startswith("<pattern")
+        ]
         self.assertEqual((shown, len(shown)), (patterns, 3))
 
     def test_the_comparisons(self) -> None:
@@ -140,11 +164,19 @@ class Properties(unittest.TestCase):
 
     def test_a_table(self) -> None:
         changed = ALWAYS.replace("fails;x 2 8 0;choice 0 - 0", "fails;x 1 8 0;choice 0 - 0")
-        self.assertEqual(draw(["--summary"], text(changed)).note, "not sound: node 2 state 0 choice 0 corner 1: 8 > 4\n")
+        self.assertEqual(
+            draw(["--summary"], text(changed)).note, "not sound: node 2 state 0 choice 0 corner 1: 8 > 4\n"
+        )
         wanted = [
-            "leaves holds 2 fails 0 unknown 2", "share holds 1/2 50.0000 %", "share fails 0 0.0000 %", "share unknown 1/2 50.0000 %",
-            "greatest holds depth 2 p 1/4 1/2", "least holds depth 2 p 1/4 1/2", "depth 0 holds 0 fails 0 unknown 0",
-            "depth 1 holds 0 fails 0 unknown 0", "depth 2 holds 2 fails 0 unknown 2",
+            "leaves holds 2 fails 0 unknown 2",
+            "share holds 1/2 50.0000 %",
+            "share fails 0 0.0000 %",
+            "share unknown 1/2 50.0000 %",
+            "greatest holds depth 2 p 1/4 1/2",
+            "least holds depth 2 p 1/4 1/2",
+            "depth 0 holds 0 fails 0 unknown 0",
+            "depth 1 holds 0 fails 0 unknown 0",
+            "depth 2 holds 2 fails 0 unknown 2",
         ]
         undecided = ALWAYS.replace("fails;x 2 8 0;choice 0 - 0", "unknown")
         self.assertEqual(draw(["--summary"], text(undecided)).out.splitlines(), wanted)
@@ -167,17 +199,32 @@ class Costs(unittest.TestCase):
     def test_the_look_is_that_of_a_report(self) -> None:
         report = draw([], (TOP / "examples" / "coin.report").read_bytes()).out
         accepted, _, unknown = (line for line in report.splitlines() if line.startswith("<pattern"))
-        self.assertEqual([line for line in draw([], text(HALF)).out.splitlines() if line.startswith("<pattern")], [accepted, unknown])
+        self.assertEqual(
+            [line for line in draw([], text(HALF)).out.splitlines() if line.startswith("<pattern")], [accepted, unknown]
+        )
 
     def test_a_table(self) -> None:
-        self.assertEqual(draw(["--summary"], text(HALF)).out.splitlines(), [
-            "leaves accept 1 unknown 1", "share accept 1/2 50.0000 %", "share unknown 1/2 50.0000 %",
-            "greatest accept depth 1 p 1/2 4/5", "least accept depth 1 p 1/2 4/5", "depth 0 accept 0 unknown 0", "depth 1 accept 1 unknown 1",
-        ])
+        self.assertEqual(
+            draw(["--summary"], text(HALF)).out.splitlines(),
+            [
+                "leaves accept 1 unknown 1",
+                "share accept 1/2 50.0000 %",
+                "share unknown 1/2 50.0000 %",
+                "greatest accept depth 1 p 1/2 4/5",
+                "least accept depth 1 p 1/2 4/5",
+                "depth 0 accept 0 unknown 0",
+                "depth 1 accept 1 unknown 1",
+            ],
+        )
 
     def test_refusals(self) -> None:
         table = [
-            ([], AFFORDABLE.replace("cost 1/1", "cost 3/2"), 1, "not sound: node 1 state 0 choice 0 corner 0: 160 > 80\n"),
+            (
+                [],
+                AFFORDABLE.replace("cost 1/1", "cost 3/2"),
+                1,
+                "not sound: node 1 state 0 choice 0 corner 0: 160 > 80\n",
+            ),
             ([], AFFORDABLE.replace("budget 2/1", "budget 1/1"), 1, "not sound: node 1 budget: 32 > 16\n"),
             (["--x", "q"], AFFORDABLE, 2, "usage: --x UnknownName\n"),
         ]
@@ -210,7 +257,13 @@ class Door(unittest.TestCase):
                     self.assertEqual(self.ask_door(words, text(HALF), by_file), draw(words, text(HALF)))
                     self.assertEqual(self.ask_door(words, report, by_file), ask([str(VIEW)], words, report))
             self.assertEqual(self.ask_door(["--follow"], text(HALVES), by_file).out.encode(), text(HALVES))
-            for front in (b"plift-bounded 10\n", b"plift-property 10\n", b"plift-cost 10\n", b"plift-propert 1\n", b"plift-bounde"):
+            for front in (
+                b"plift-bounded 10\n",
+                b"plift-property 10\n",
+                b"plift-cost 10\n",
+                b"plift-propert 1\n",
+                b"plift-bounde",
+            ):
                 self.assertEqual(self.ask_door([], front, by_file), ask([str(VIEW)], [], front))
             self.assertEqual(self.ask_door([], b"", by_file), Answer(1, "", "not sound: line 1: Truncated\n"))
 
@@ -219,17 +272,39 @@ class Reports(unittest.TestCase):
     """Of reports the script's answers are those of plift-view, byte for byte."""
 
     WORDS = [
-        [], ["--summary"], ["--x", "q"], ["--y", "p"], ["--x", "q", "--y", "p"], ["--x", "p", "--y", "p"], ["--at", "q=1/2"],
-        ["--at", "r=9/10"], ["--at=r=0.9", "--x", "r"], ["--at", "p=1/4", "--at", "q=3/4"], ["--x", "r", "--at", "q=.5"],
-        ["--at", "q"], ["--at", "s=1/2"], ["--at", "r=2"], ["--at", "r=1/0"], ["--at", "r=-1"], ["--at", "r=9/10", "--at", "r=9/10"],
-        ["--at", "r=1e99"], ["--at", "r=1/2"], ["--at", "r=3/4"], ["--x="], ["--"], ["--", "p"], ["--summary", "--follow"], ["-x"],
+        [],
+        ["--summary"],
+        ["--x", "q"],
+        ["--y", "p"],
+        ["--x", "q", "--y", "p"],
+        ["--x", "p", "--y", "p"],
+        ["--at", "q=1/2"],
+        ["--at", "r=9/10"],
+        ["--at=r=0.9", "--x", "r"],
+        ["--at", "p=1/4", "--at", "q=3/4"],
+        ["--x", "r", "--at", "q=.5"],
+        ["--at", "q"],
+        ["--at", "s=1/2"],
+        ["--at", "r=2"],
+        ["--at", "r=1/0"],
+        ["--at", "r=-1"],
+        ["--at", "r=9/10", "--at", "r=9/10"],
+        ["--at", "r=1e99"],
+        ["--at", "r=1/2"],
+        ["--at", "r=3/4"],
+        ["--x="],
+        ["--"],
+        ["--", "p"],
+        ["--summary", "--follow"],
+        ["-x"],
     ]
 
     def reports(self) -> List[bytes]:
         """The examples, trees over one to three parameters, and reports that aren't sound."""
         found = [path.read_bytes() for path in sorted((TOP / "examples").glob("*.report"))]
         asked = [
-            ("coin.drn", "heads", "1/10<=p<=9/10", "6"), ("links.drn", "lost", "1/10<=p<=1/2,1/10<=q<=1/2", "6"),
+            ("coin.drn", "heads", "1/10<=p<=9/10", "6"),
+            ("links.drn", "lost", "1/10<=p<=1/2,1/10<=q<=1/2", "6"),
             ("chain.drn", "lost", "1/2<=p<=1,1/2<=q<=1,1/2<=r<=1", "9"),
         ]
         for model, goal, region, depth in asked:

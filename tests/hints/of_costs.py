@@ -28,11 +28,20 @@ def reward(name: str, *told: str, text: bytes = SENDS, line: int = 34) -> Mistak
 
 
 WORDS = [
-    words("cost", "--goal LABEL is missing", "--reward NAME is missing", "plift cost --goal LABEL --reward NAME --budget B --cap C"),
+    words(
+        "cost",
+        "--goal LABEL is missing",
+        "--reward NAME is missing",
+        "plift cost --goal LABEL --reward NAME --budget B --cap C",
+    ),
     words(f"cost --goal done --budget 7/5 --cap 3 {REGION}", "--reward NAME is missing", "behind @reward_models"),
     words(f"cost --goal done --reward sends --cap 3 {REGION}", "--budget B is missing", "from 0 to the cap"),
     words(f"cost --goal done --reward sends --budget 7/5 {REGION}", "--cap C is missing", "ten times the budget"),
-    words(f"cost --goal done --reward sends --bound 7/5 --cap 3 {REGION}", "--budget B is missing", "--bound is of a probability"),
+    words(
+        f"cost --goal done --reward sends --bound 7/5 --cap 3 {REGION}",
+        "--budget B is missing",
+        "--bound is of a probability",
+    ),
     words(ASKED + " --bound 1/2", "an expected cost is bounded by --budget B"),
     words(ASKED + " --budget", "--budget has no value"),
     words(f"cost --goal done --reward sends --budget -1 --cap 3 {REGION}", "--budget", "doesn't begin with -"),
@@ -41,7 +50,9 @@ WORDS = [
     words(ASKED + " --from 1", "plift verify alone"),
     words(ASKED + " --formula 'P<=1/2 [F \"done\"]'", "taken by plift property alone"),
     words(f"cost 'R<=7/5 [F \"done\"]' {COSTS} {REGION}", "--goal LABEL is missing", "--budget B"),
-    words(ASKED + " --jobs 4", "is no option of cost", "--goal, --reward, --budget, --cap, --region, --depth, --precision"),
+    words(
+        ASKED + " --jobs 4", "is no option of cost", "--goal, --reward, --budget, --cap, --region, --depth, --precision"
+    ),
     words(f"cost --goal done --rewards sends --budget 7/5 --cap 3 {REGION}", "is --reward meant?"),
     words(f"cost --goal done --cost sends --budget 7/5 --cap 3 {REGION}", "is --reward meant?"),
     words(f"cost --goal done --reward sends --budget 7/5 --maximum 3 {REGION}", "is --cap meant?"),
@@ -51,7 +62,9 @@ WORDS = [
     words("costs " + ASKED[5:], "is cost meant?"),
     words("'cost --goal done'", "is one word", "quotes"),
     words(f"verify --goal done --bound 1/2 --reward sends {REGION}", "asked by plift cost", "--budget and --cap"),
-    words(f"bounded --goal done --bound 1/2 --steps 3 --budget 2 {REGION}", "asked by plift cost", "--reward and --cap"),
+    words(
+        f"bounded --goal done --bound 1/2 --steps 3 --budget 2 {REGION}", "asked by plift cost", "--reward and --cap"
+    ),
     words(f"lumped --goal done --bound 1/2 --cap 2 {REGION}", "asked by plift cost", "--reward and --budget"),
 ]
 
@@ -81,7 +94,13 @@ VALUES = [
     Mistake(f"cost --goal '' {COSTS}", SENDS, 2, "usage: --goal", ("the label is empty",)),
     Mistake(ASKED + " --depth 21", SENDS, 2, "usage: --depth", ("from 0 to 20",)),
     Mistake(ASKED + " --precision 41", SENDS, 2, "usage: --precision", ("from 1 to 40",)),
-    Mistake(f"property --formula 'R<=7/5 [F \"done\"]' {REGION}", SENDS, 2, "usage: --formula Syntax", ("begins with P", "plift cost --goal LABEL")),
+    Mistake(
+        f"property --formula 'R<=7/5 [F \"done\"]' {REGION}",
+        SENDS,
+        2,
+        "usage: --formula Syntax",
+        ("begins with P", "plift cost --goal LABEL"),
+    ),
 ]
 
 REWARDS = [
@@ -89,11 +108,26 @@ REWARDS = [
     reward("time", "no reward model has the name", "sends, seconds"),
     reward('"sends"', "is sends meant?"),
     reward("sends,seconds", "no reward model has the name"),
-    reward("sends", "declares no reward models", "write @reward_models and a line sends", text=RETRY.replace(b"lost", b"done"), line=31),
-    sends("sends seconds\n", "sends\n", 10, "RewardSyntax", "the group holds 2 values", "line 8 declares 1 reward model, sends"),
+    reward(
+        "sends",
+        "declares no reward models",
+        "write @reward_models and a line sends",
+        text=RETRY.replace(b"lost", b"done"),
+        line=31,
+    ),
+    sends(
+        "sends seconds\n",
+        "sends\n",
+        10,
+        "RewardSyntax",
+        "the group holds 2 values",
+        "line 8 declares 1 reward model, sends",
+    ),
     sends("sends seconds\n", "\n", 10, "RewardSyntax", "no reward models are declared"),
     sends("@reward_models\nsends seconds\n", "", 8, "RewardSyntax", "no reward models are declared"),
-    sends("[1,2]", "[1]", 17, "RewardSyntax", "the group holds 1 value", "line 8 declares 2 reward models, sends, seconds"),
+    sends(
+        "[1,2]", "[1]", 17, "RewardSyntax", "the group holds 1 value", "line 8 declares 2 reward models, sends, seconds"
+    ),
     sends("[1,2]", "[1 2]", 17, "RewardSyntax", "the group holds 1 value", "a group has a value for each"),
     sends("[1,2]", "[]", 17, "RewardSyntax", "the group holds 1 value"),
     sends("[1,2]", "[1,-2]", 17, "RewardSyntax", "^", "0 or more"),
@@ -103,7 +137,14 @@ REWARDS = [
     sends("[1,2]", "[1,2/0]", 17, "RewardSyntax", "this divides by 0"),
     sends("[1,2]", "[1,1e30]", 17, "RewardWide", "this is too wide", "10^30"),
     sends("[1,2]", "[1e-40,1]", 17, "RewardWide", "this is too wide"),
-    sends("action radio\n1", "action radio [0,1]\n1", 11, "ActionReward", "an action's value is 0", "behind a state's number"),
+    sends(
+        "action radio\n1",
+        "action radio [0,1]\n1",
+        11,
+        "ActionReward",
+        "an action's value is 0",
+        "behind a state's number",
+    ),
     sends("action radio\n1", "action [1,0]\n1", 11, "ActionReward", "an action's value is 0"),
     sends("action radio\n1", "action \"radio\"[0]\n1", 11, "RewardSyntax", "the group holds 1 value"),
 ]

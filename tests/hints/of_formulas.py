@@ -29,13 +29,24 @@ WORDS = [
     words("property", "--formula T is missing", "plift property --formula"),
     words("property --formula", "--formula has no value"),
     # What a shell makes of P>=0.5 [F "lost"] without quotes: the comparison is taken for a file.
-    words("property --formula P [F lost] " + REGION, '"[F", "lost]" stand alone', "single quotes", "--formula 'P<=1/2 [F \"done\"]'"),
+    words(
+        "property --formula P [F lost] " + REGION,
+        '"[F", "lost]" stand alone',
+        "single quotes",
+        "--formula 'P<=1/2 [F \"done\"]'",
+    ),
     words("property --formula P '>=' 1/2 '[F \"lost\"]'", "single quotes"),
-    words("property 'P<=3/100 [F \"lost\"]' " + REGION, "a formula is given by --formula", "--formula 'P<=3/100 [F \"lost\"]'"),
+    words(
+        "property 'P<=3/100 [F \"lost\"]' " + REGION,
+        "a formula is given by --formula",
+        "--formula 'P<=3/100 [F \"lost\"]'",
+    ),
     words("property --prop 'P<=3/100 [F \"lost\"]' " + REGION, "is --formula meant?"),
     words("property --formulas 'P<=3/100 [F \"lost\"]' " + REGION, "is --formula meant?"),
     words(ASKED + " --goal lost", "label and bound stand in the formula"),
-    words("property --goal lost --bound 3/100 " + REGION, "--formula T is missing", "label and bound stand in the formula"),
+    words(
+        "property --goal lost --bound 3/100 " + REGION, "--formula T is missing", "label and bound stand in the formula"
+    ),
     words(ASKED + " --steps 3", "plift bounded"),
     words(ASKED + " --from 1", "plift verify alone"),
     words(ASKED + " --threads 4", "is no option of property", "--formula, --region, --depth, --precision"),

@@ -21,7 +21,11 @@ WORDS = [
     words("help verify", "plift --help verify"),
     words("--goal lost --bound 3/100", "the command stands first: plift verify --goal"),
     words("retry.drn", "the file behind <", "< retry.drn"),
-    words("model verify", "is no command", "verify, bounded, property, cost, lumped, check, migrate, refine, generate, selftest"),
+    words(
+        "model verify",
+        "is no command",
+        "verify, bounded, property, cost, lumped, check, migrate, refine, generate, selftest",
+    ),
     words("verify", "--goal LABEL is missing", "--bound B is missing"),
     words("verify --help", "help stands alone"),
     words(PLAIN + " --help", "help stands alone", "plift --help verify"),
@@ -49,8 +53,14 @@ WORDS = [
     words("verify --goal --bound 3/100", "--goal has no value", "--bound"),
     words(PLAIN + " --depth -1", "--depth", "doesn't begin with -"),
     words("verify --goal lost --bound -1/2", "isn't negative"),
-    words(ASKED + "--region -1<=p<=1,0<=q<=1".replace("<", "\\<"), "write a blank before it", "--region ' -1<=p<=1,0<=q<=1'"),
-    words(ASKED + "--region '1/10<=p<=3/10' --region '1/20<=q<=1/5'", "2 times", "--region '1/10<=p<=3/10,1/20<=q<=1/5'"),
+    words(
+        ASKED + "--region -1<=p<=1,0<=q<=1".replace("<", "\\<"),
+        "write a blank before it",
+        "--region ' -1<=p<=1,0<=q<=1'",
+    ),
+    words(
+        ASKED + "--region '1/10<=p<=3/10' --region '1/20<=q<=1/5'", "2 times", "--region '1/10<=p<=3/10,1/20<=q<=1/5'"
+    ),
     words(PLAIN + " --bound 1/2", "--bound stands 2 times"),
     words(ASKED + "--region 1/10 \\<= p \\<= 3/10", "needs quotes", "--region '1/10 <= p <= 3/10'"),
     words(ASKED + "'1/10<=p<=3/10'", "a region is given by --region"),
@@ -91,7 +101,9 @@ WORDS = [
     words("bounded --goal lost --bound 3/100 --horizon 3", "is --steps meant?"),
     words("bound --goal lost --bound 3/100 --steps 3 " + REGION, "is bounded meant?"),
     words("lumped --goal lost --bound 3/100 --from 1 " + REGION, "a range of precisions", "plift verify alone"),
-    words("bounded --goal lost --bound 3/100 --steps 3 --from 1 " + REGION, "a range of precisions", "plift verify alone"),
+    words(
+        "bounded --goal lost --bound 3/100 --steps 3 --from 1 " + REGION, "a range of precisions", "plift verify alone"
+    ),
     words(PLAIN + " --fro 1", "is --from meant?", "abbreviated"),
     words(PLAIN + " --least 1", "is --from meant?"),
     words(PLAIN + " --from", "--from has no value"),
@@ -146,11 +158,19 @@ VALUES = [
     number("--precision", "0", "from 1 to 40"),
     number("--precision", "0.001", "counts bits", "--precision 10"),
     number("--precision", "1e-15", "finest", "--precision 40"),
-    number("--from", "25", "from 1 to 24", "the precision where --precision is left out", "lower the one or raise the other"),
+    number(
+        "--from",
+        "25",
+        "from 1 to 24",
+        "the precision where --precision is left out",
+        "lower the one or raise the other",
+    ),
     number("--from", "0", "from 1 to 24"),
     number("--from", "one", "digits alone", "from 1 to 24"),
     number("--from", "0001", "more than 3 digits"),
-    Mistake(f"{PLAIN} --precision 10 --from 12", RETRY, 2, "usage: --from", ("from 1 to 10, the number behind --precision",)),
+    Mistake(
+        f"{PLAIN} --precision 10 --from 12", RETRY, 2, "usage: --from", ("from 1 to 10, the number behind --precision",)
+    ),
     Mistake("generate 32768", None, 2, "usage: N", ("from 1 to 32767",)),
     Mistake("generate ten", None, 2, "usage: N", ("digits alone", "from 1 to 32767")),
     Mistake("selftest 0", None, 2, "usage: N", ("from 1 to 32767",)),

@@ -101,7 +101,9 @@ STATES = [
     coin("state 0 init", "state 0 {1} init", 5, "Observation", '"{1}"'),
     coin("2 : 1\n", "", 10, "NoChoice", "no transition", "2 : 1"),
     coin("1 : 1\n", "", 8, "NoChoice", "no transition", "1 : 1"),
-    coin("1 : p", "action a\n1 : 1-p\n2 : p\naction b\n1 : p", 9, "ExtraChoice", "second choice of state 0", "@type: MDP"),
+    coin(
+        "1 : p", "action a\n1 : 1-p\n2 : p\naction b\n1 : p", 9, "ExtraChoice", "second choice of state 0", "@type: MDP"
+    ),
     retry("@type: MDP", "@type: DTMC", 11, "ExtraChoice", "second choice of state 0", "@type: MDP at line 3"),
     coin("2 : 1-p", "1 : 1-p", 7, "RepeatedTarget", "line 6 already", "1 : p+1-p"),
     coin("2 : 1-p", "3 : 1-p", 7, "TargetRange", "there is no state 3", "0 to 2"),
@@ -133,7 +135,13 @@ STATES = [
     asked("4", "state 4 carries lost"),
     asked("0", "state 0 carries init"),
     asked("2", "state 2 carries no label"),
-    Mistake("verify --goal x --bound 1/2", b"@type: DTMC\n@model\nstate 0 init\n0 : 1\n", 3, "model: line 4: UnknownLabel", ('"x"', "init")),
+    Mistake(
+        "verify --goal x --bound 1/2",
+        b"@type: DTMC\n@model\nstate 0 init\n0 : 1\n",
+        3,
+        "model: line 4: UnknownLabel",
+        ('"x"', "init"),
+    ),
 ]
 
 VALUES = [
@@ -194,15 +202,37 @@ VALUES = [
     coin("1 : p", "goto 1 with p", 6, "Syntax", "no line of a model begins so"),
     coin("1 : p", "1 : p \u2212 0", 6, "NotText", "minus", "write -"),
     coin("1 : 1", "1 : 1/4294967291\n2 : 1/4294967279\n0 : 1", 13, "CommonDenominator", "line 10", "2^62"),
-    coin("\np\n@model\nstate 0 init\n1 : p", "\np a b c d e\n@model\nstate 0 init\n1 : " + FIVE, 6, "LimitValueParameters", "a, b, c, d, e", "at most 4"),
+    coin(
+        "\np\n@model\nstate 0 init\n1 : p",
+        "\np a b c d e\n@model\nstate 0 init\n1 : " + FIVE,
+        6,
+        "LimitValueParameters",
+        "a, b, c, d, e",
+        "at most 4",
+    ),
     coin("1 : p", "1 : p" + " " * 2**20, 6, "LongLine", "1,048,576"),
 ]
 
 LIMITS = [
-    whole(b"@type: DTMC\n@model\n" + b"".join(b"state %d\n%d : 1\n" % (s, s) for s in range(65537)), 131075, "LimitStates", "65,536"),
+    whole(
+        b"@type: DTMC\n@model\n" + b"".join(b"state %d\n%d : 1\n" % (s, s) for s in range(65537)),
+        131075,
+        "LimitStates",
+        "65,536",
+    ),
     whole(b"@type: MDP\n@model\nstate 0 init\n" + b"action a\n0 : 1\n" * 131073, 262148, "LimitChoices", "131,072"),
-    whole(b"@type: MDP\n@model\nstate 0 init\n" + b"action a\n0 : 1\n1 : 0\n2 : 0\n" * 87382, 349530, "LimitTransitions", "262,144"),
-    whole(b"@type: MDP\n@placeholders\n" + b"".join(b"$a%d : 1\n" % i for i in range(65537)), 65539, "LimitPlaces", "65,536"),
+    whole(
+        b"@type: MDP\n@model\nstate 0 init\n" + b"action a\n0 : 1\n1 : 0\n2 : 0\n" * 87382,
+        349530,
+        "LimitTransitions",
+        "262,144",
+    ),
+    whole(
+        b"@type: MDP\n@placeholders\n" + b"".join(b"$a%d : 1\n" % i for i in range(65537)),
+        65539,
+        "LimitPlaces",
+        "65,536",
+    ),
 ]
 
 MISTAKES = KINDS + FRONT + STATES + VALUES + LIMITS

@@ -13,7 +13,13 @@ def region(value: str, cause: str, *told: str, options: str = "", text: bytes = 
 
 
 BARE = changed(changed(RETRY, "@parameters\np q\n", ""), "state 3", "state 3")
-CONSTANT = RETRY.replace(b"@parameters\np q\n", b"").replace(b"1-p", b"9/10").replace(b"1-q", b"9/10").replace(b": p", b": 1/10").replace(b": q", b": 1/10")
+CONSTANT = (
+    RETRY.replace(b"@parameters\np q\n", b"")
+    .replace(b"1-p", b"9/10")
+    .replace(b"1-q", b"9/10")
+    .replace(b": p", b": 1/10")
+    .replace(b": q", b": 1/10")
+)
 
 MISTAKES = [
     Mistake(ASKED, RETRY, 2, "usage: --region Missing", ("p, q", "--region 'LOW<=p<=HIGH,LOW<=q<=HIGH'")),
@@ -27,7 +33,9 @@ MISTAKES = [
     region("3/10>=p>=1/10,1/5>=q>=1/20", "Syntax", "'1/10<=p<=3/10,1/20<=q<=1/5'"),
     region("10%<=p<=30%,5%<=q<=20%", "Syntax", "'1/10<=p<=3/10,1/20<=q<=1/5'"),
     region(".1<=p<=.3,.05<=q<=.2", "Syntax", "'1/10<=p<=3/10,1/20<=q<=1/5'"),
-    region("1/10<=p<=3/10,1/20<=q<=1/5,", "Syntax", "a clause is wanted behind the comma", "'1/10<=p<=3/10,1/20<=q<=1/5'"),
+    region(
+        "1/10<=p<=3/10,1/20<=q<=1/5,", "Syntax", "a clause is wanted behind the comma", "'1/10<=p<=3/10,1/20<=q<=1/5'"
+    ),
     region("p=1/10..3/10,q=1/20..1/5", "Syntax", "'1/10<=p<=3/10,1/20<=q<=1/5'"),
     region("1/10≤p≤3/10,1/20≤q≤1/5", "Syntax", "'1/10<=p<=3/10,1/20<=q<=1/5'"),
     region("1/10=<p=<3/10,1/20=<q=<1/5", "Syntax", "'1/10<=p<=3/10,1/20<=q<=1/5'"),
@@ -46,6 +54,12 @@ MISTAKES = [
     region("0.3<=p<=0.1,1/20<=q<=1/5", "EmptyInterval", "3/10 is above 1/10", "1/10<=p<=3/10"),
     region("1e-20<=p<=1/2,0<=q<=1", "Wide", "too wide", "10^-20"),
     region("0.1234567890123456789<=p<=1/2,0<=q<=1", "Wide", "too wide", "10^-19"),
-    region("1/1000000007<=p<=1/2,1/999999937<=q<=1/2", "Wide", "least common denominator", "--depth 1 it fits", options=DEPTH),
+    region(
+        "1/1000000007<=p<=1/2,1/999999937<=q<=1/2",
+        "Wide",
+        "least common denominator",
+        "--depth 1 it fits",
+        options=DEPTH,
+    ),
     region("1/4294967291<=p<=1/2,1/4294967279<=q<=1/2", "Wide", "least common denominator"),
 ]

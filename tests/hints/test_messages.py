@@ -66,7 +66,9 @@ def written(text: str) -> List[str]:
     return notes
 
 
-ROW_FAULTS = written(re.search(r"fn write_row_fault.*?\n}\n", source("check_notes/src/rows.rt"), re.S)[0]) + ["too wide"]
+ROW_FAULTS = written(re.search(r"fn write_row_fault.*?\n}\n", source("check_notes/src/rows.rt"), re.S)[0]) + [
+    "too wide"
+]
 MISSES = written(re.search(r"fn write_miss.*?\n}\n", source("check_notes/src/unsound.rt"), re.S)[0])
 NODE_FAULTS = re.findall(r'write_node_fault\(notes, node, b" (\w+)"\)', source("check_notes/src/unsound.rt"))
 
@@ -100,7 +102,14 @@ def all_notes() -> List[Tuple[str, int, str, str]]:
     notes += [("4", 4, f"rows: state 7 choice 7: {numbered(fault)}", "plift") for fault in ROW_FAULTS]
     for program in ("plift", "plift-view"):
         notes += [("1", 1, f"not sound: {fault}", program) for fault in unsound_notes()]
-    statuses = {"lump: not a chain": 3, "lump: too wide": 4, "read fault": 5, "write fault": 6, "too long": 7, "out of memory": 8}
+    statuses = {
+        "lump: not a chain": 3,
+        "lump: too wide": 4,
+        "read fault": 5,
+        "write fault": 6,
+        "too long": 7,
+        "out of memory": 8,
+    }
     for name, program in (("plift_top", "plift"), ("view_top", "plift-view")):
         found = [note for note in whole_notes(f"{name}/src/notes.rt") if not note.startswith("usage: ")]
         notes += [(str(statuses[note]), statuses[note], note, program) for note in found]

@@ -55,7 +55,9 @@ class Mistakes(unittest.TestCase):
         def is_told(mistake: Mistake) -> None:
             path = programs[mistake.program]
             if path:
-                ran = subprocess.run([path] + mistake.split(), input=mistake.text or b"", capture_output=True, timeout=60)
+                ran = subprocess.run(
+                    [path] + mistake.split(), input=mistake.text or b"", capture_output=True, timeout=60
+                )
                 told = hints.note_in(ran.stderr.decode("utf-8", "replace"))
                 self.assertEqual((mistake.status, mistake.note), (ran.returncode, told))
 

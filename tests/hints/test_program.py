@@ -52,7 +52,9 @@ class Ended:
             environment[name.encode()] = value.encode()
         command = [sys.executable, "-B", str(streams.pop("program", PROGRAM))] + arguments
         streams.setdefault("stdin", subprocess.DEVNULL)
-        ran = subprocess.run(command, env=environment, stdout=subprocess.PIPE, stderr=subprocess.PIPE, timeout=60, **streams)
+        ran = subprocess.run(
+            command, env=environment, stdout=subprocess.PIPE, stderr=subprocess.PIPE, timeout=60, **streams
+        )
         self.status, self.out, self.lines = ran.returncode, ran.stdout, ran.stderr.decode("utf-8").splitlines()
 
 
@@ -110,7 +112,9 @@ class Program(unittest.TestCase):
         folder = "import os, runpy, sys; os.dup2(os.open('/', os.O_RDONLY), 0); sys.argv[:] = sys.argv[1:]; runpy.run_path(sys.argv[0], run_name='__main__')"
         run = subprocess.run(  # Python itself doesn't start with a folder there
             [sys.executable, "-B", "-c", folder, str(PROGRAM), "5", "--", "check"],
-            env={**os.environ, "PLIFT_NOTE": "read fault"}, stdin=subprocess.DEVNULL, stderr=subprocess.PIPE,
+            env={**os.environ, "PLIFT_NOTE": "read fault"},
+            stdin=subprocess.DEVNULL,
+            stderr=subprocess.PIPE,
         )
         self.assertIn(b"is a directory", run.stderr)
         self.assertIn("closed", self.ended(["5", "--", "check"], "read fault", preexec_fn=lambda: os.close(0))[0])
@@ -118,7 +122,10 @@ class Program(unittest.TestCase):
         with open("/dev/full", "wb") as full:
             run = subprocess.run(
                 [sys.executable, "-B", str(PROGRAM), "6", "--", "check"],
-                env={**os.environ, "PLIFT_NOTE": "write fault"}, stdin=subprocess.DEVNULL, stdout=full, stderr=subprocess.PIPE,
+                env={**os.environ, "PLIFT_NOTE": "write fault"},
+                stdin=subprocess.DEVNULL,
+                stdout=full,
+                stderr=subprocess.PIPE,
             )
         self.assertIn(b"/dev/full", run.stderr)
 
@@ -126,20 +133,36 @@ class Program(unittest.TestCase):
         """A closed standard error, or no stream at all, changes nothing."""
         for streams in ((2,), (0, 1, 2)):
             command = [sys.executable, "-B", str(PROGRAM), "3", "--"] + LABEL
-            ran = subprocess.run(command, env={**os.environ, "PLIFT_NOTE": UNKNOWN}, preexec_fn=lambda: [os.close(s) for s in streams])
+            ran = subprocess.run(
+                command, env={**os.environ, "PLIFT_NOTE": UNKNOWN}, preexec_fn=lambda: [os.close(s) for s in streams]
+            )
             self.assertEqual(ran.returncode, 0)
 
     def test_arguments(self) -> None:
         """Other arguments than STATUS -- WORDS have no hints, and neither has what is no note."""
         self.assertEqual(self.ended([]), [])
-        for arguments in (["3"], ["--"], ["x", "--"], ["3", "verify"], ["-1", "--"], ["9" * 5000, "--"], ["\u0663", "--"]):
+        for arguments in (
+            ["3"],
+            ["--"],
+            ["x", "--"],
+            ["3", "verify"],
+            ["-1", "--"],
+            ["9" * 5000, "--"],
+            ["\u0663", "--"],
+        ):
             self.assertEqual(STARTED.told(arguments), b"")
         for note in ("", "something else", "hint: usage: words"):
             self.assertEqual(hints.hints(3, note, ["check"], None), [])
 
     def test_unknown_cause(self) -> None:
         """A note that no program writes has no hint, or the rule of one that is like it; never a trace."""
-        for note in ("model: line 1: Nothing", "usage: --colour", "not sound: node 1", "rows: ", "model: line x: Syntax"):
+        for note in (
+            "model: line 1: Nothing",
+            "usage: --colour",
+            "not sound: node 1",
+            "rows: ",
+            "model: line x: Syntax",
+        ):
             for status in range(9):
                 hints.explained(hints.Refusal(status, note, ["verify"], RETRY))
 
@@ -158,7 +181,9 @@ class Program(unittest.TestCase):
 
     def test_view(self) -> None:
         """The program's name says which line of words it is."""
-        lines = self.with_text(REPORT, ["2", "--", "--x", "P"], "usage: --x UnknownName", more={"PLIFT_PROGRAM": "plift-view"})
+        lines = self.with_text(
+            REPORT, ["2", "--", "--x", "P"], "usage: --x UnknownName", more={"PLIFT_PROGRAM": "plift-view"}
+        )
         self.assertIn("its parameters are p, q; is p meant?", lines[1])
 
     def test_note_behind_progress(self) -> None:
@@ -171,7 +196,10 @@ class Program(unittest.TestCase):
         row = b"0 : 1\n"
         texts = {
             "lines": (RETRY + b"\n" * 2**23, "model: line 31: UnknownLabel"),
-            "states": (b"@type: DTMC\n@model\n" + b"".join(b"state %d l%d\n" % (s, s) + row for s in range(65536)), "model: line 131074: UnknownLabel"),
+            "states": (
+                b"@type: DTMC\n@model\n" + b"".join(b"state %d l%d\n" % (s, s) + row for s in range(65536)),
+                "model: line 131074: UnknownLabel",
+            ),
             "one line": (b"x" * 2**24, "model: line 1: LongLine"),
             "a long line": (b"@type: DTMC\n@parameters\n" + b"a " * 2**19 + b"\n", "model: line 3: LimitParameters"),
             "a deep value": (b"@type: DTMC\n@model\nstate 0\n0 : " + b"(" * 2**19 + b"\n", "model: line 4: Long"),
@@ -197,7 +225,9 @@ class Program(unittest.TestCase):
                 at = chance.randrange(len(text))
                 text[at : at + chance.randrange(3)] = bytes(chance.choices(range(256), k=chance.randrange(4)))
             changed = list(words)
-            changed[chance.randrange(len(words))] = "".join(chance.choices("-=<>pq1/0.,%~\u00fc\udcff \n", k=chance.randrange(9)))
+            changed[chance.randrange(len(words))] = "".join(
+                chance.choices("-=<>pq1/0.,%~\u00fc\udcff \n", k=chance.randrange(9))
+            )
             note = chance.choice(notes).replace("7", str(chance.randrange(40)))
             program = chance.choice(["plift", "plift-view"])
             refusal = hints.Refusal(chance.randrange(9), hints.note_in(note), changed, bytes(text), program)

@@ -63,7 +63,9 @@ def with_option(given: Given, name: str, value: str) -> Given:
 def by_command(given: Given, command: str) -> Given:
     """The text as a command of the shell makes it from the file FILE."""
     line = command.replace("< FILE", "").replace("FILE", "-").strip()
-    ran = subprocess.run(["sh", "-c", line], input=given.text, stdout=subprocess.PIPE, stderr=subprocess.DEVNULL, check=True)
+    ran = subprocess.run(
+        ["sh", "-c", line], input=given.text, stdout=subprocess.PIPE, stderr=subprocess.DEVNULL, check=True
+    )
     return given._replace(text=ran.stdout)
 
 
@@ -104,14 +106,19 @@ def renamed(given: Given, match: "re.Match[str]", mistake: Mistake) -> Given:
         number = number_of_line(mistake)
         line = given.text.split(b"\n")[number - 1].decode()
         return with_line(given, number, line.replace(name, match[1]))
-    return given._replace(words=[re.sub(rf"^{re.escape(name)}|\b{re.escape(name)}\b", match[1], word) for word in given.words])
+    return given._replace(
+        words=[re.sub(rf"^{re.escape(name)}|\b{re.escape(name)}\b", match[1], word) for word in given.words]
+    )
 
 
 PROPOSALS = [
     (r"is this meant\? --region (.+)$", region),
     (r"^write --formula (.+)$", lambda g, m, _: with_option(g, "--formula", shlex.split(m[1])[0])),
     (r"(?:one takes all clauses,|write a blank before it, as in|needs quotes, as in) --region (.+)$", region),
-    (r"needs quotes, as in --goal (.+)$", lambda g, m, _: Given(["verify", "--goal", shlex.split(m[1])[0], "--bound", "1/2"], g.text)),
+    (
+        r"needs quotes, as in --goal (.+)$",
+        lambda g, m, _: Given(["verify", "--goal", shlex.split(m[1])[0], "--bound", "1/2"], g.text),
+    ),
     (r"the lower end stands first: (.+)$", lambda g, m, _: with_option(g, "--region", m[1] + ",1/20<=q<=1/5")),
     (r"leave --region out", lambda g, m, _: Given([w for w in g.words if w != "--region" and "<=" not in w], g.text)),
     (r"(--bound|--budget) \".*\": write ([0-9/]+);", lambda g, m, _: with_option(g, m[1], m[2])),
@@ -131,16 +138,34 @@ PROPOSALS = [
     (r"is (\d+ : .+) meant\?", lambda g, m, mistake: with_line(g, number_of_line(mistake), m[1])),
     (r"if the others are right, line (\d+) is ([^;]+)", lambda g, m, _: with_line(g, int(m[1]), m[2])),
     (r"join them: (.+)$", joined),
-    (r"write (@type: \w+)(?:, in capitals.*|; parameters.*|, with a colon.*)?$", lambda g, m, mistake: with_line(g, number_of_line(mistake), m[1])),
+    (
+        r"write (@type: \w+)(?:, in capitals.*|; parameters.*|, with a colon.*)?$",
+        lambda g, m, mistake: with_line(g, number_of_line(mistake), m[1]),
+    ),
     (r"write (@type: MDP) at line (\d+)", lambda g, m, _: with_line(g, int(m[2]), m[1])),
     (r"write a line (\d+ : 1) behind it", behind),
-    (r"stands at line \d+ already: keep one of them", lambda g, m, mistake: with_line(with_line(g, number_of_line(mistake), None), number_of_line(mistake), None)),
-    (r"what follows (@\w+) stands on the next line: \"(.*)\"", lambda g, m, mistake: with_line(g, number_of_line(mistake), m[1] + "\n" + m[2])),
+    (
+        r"stands at line \d+ already: keep one of them",
+        lambda g, m, mistake: with_line(with_line(g, number_of_line(mistake), None), number_of_line(mistake), None),
+    ),
+    (
+        r"what follows (@\w+) stands on the next line: \"(.*)\"",
+        lambda g, m, mistake: with_line(g, number_of_line(mistake), m[1] + "\n" + m[2]),
+    ),
     (r"check one at a time, as by (head -n \d+ FILE)", lambda g, m, _: by_command(g, m[1])),
-    (r"^(tr .* < FILE|tail -c \+4 FILE|iconv -f UTF-16 -t UTF-8 FILE|gzip -dc FILE)", lambda g, m, _: by_command(g, m[1])),
+    (
+        r"^(tr .* < FILE|tail -c \+4 FILE|iconv -f UTF-16 -t UTF-8 FILE|gzip -dc FILE)",
+        lambda g, m, _: by_command(g, m[1]),
+    ),
 ]
 LEAST = 60  # proposals that are taken
-OTHERS = ("is verify meant?", "is bounded meant?", "is lumped meant?", "is property meant?", "is cost meant?")  # proposals of a command, whose words may need more
+OTHERS = (
+    "is verify meant?",
+    "is bounded meant?",
+    "is lumped meant?",
+    "is property meant?",
+    "is cost meant?",
+)  # proposals of a command, whose words may need more
 
 
 class Truth(unittest.TestCase):

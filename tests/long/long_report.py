@@ -140,8 +140,10 @@ def main() -> int:
         return 0
     came = check(given.bin, report)
     rate = len(report) / came.seconds / 10**6
-    print(f"{came.told}\n{len(report):,} bytes, {report.leaves:,} leaves, lines of {len(report.leaf):,} bytes: "
-          f"{came.seconds:.2f} seconds of the processor, {rate:.0f} MB/s, at most {came.peak / 2**20:.1f} MiB")
+    print(
+        f"{came.told}\n{len(report):,} bytes, {report.leaves:,} leaves, lines of {len(report.leaf):,} bytes: "
+        f"{came.seconds:.2f} seconds of the processor, {rate:.0f} MB/s, at most {came.peak / 2**20:.1f} MiB"
+    )
     return came.status
 
 

@@ -74,7 +74,10 @@ class LongReport(unittest.TestCase):
 
     def test_it_is_sound(self) -> None:
         report = Long(100_000, 40)
-        self.assertEqual(recheck.check(recheck.Text(io.BytesIO(b"".join(report.pieces())))), f"sound accept {report.leaves} reject 0 unknown 0")
+        self.assertEqual(
+            recheck.check(recheck.Text(io.BytesIO(b"".join(report.pieces())))),
+            f"sound accept {report.leaves} reject 0 unknown 0",
+        )
 
     def test_the_most_leaves(self) -> None:
         self.assertEqual(Long(2**32, 10).leaves, 2**MOST_DEPTH)

@@ -109,7 +109,24 @@ LADDER_CHECK = Case("check", report_of=LADDER_VERIFY)
 SELFTEST = Case("selftest 1")
 
 # Each of these runs is tried with each of its requests refused in turn.
-CASES = [ACCEPT, DEEP, RANGED, LUMPED, BOUNDED, FAR, PROPERTY, UNTIL, COST, CHECK, MIGRATE, REFINE, GENERATE, LADDER_VERIFY, LADDER_CHECK, SELFTEST]
+CASES = [
+    ACCEPT,
+    DEEP,
+    RANGED,
+    LUMPED,
+    BOUNDED,
+    FAR,
+    PROPERTY,
+    UNTIL,
+    COST,
+    CHECK,
+    MIGRATE,
+    REFINE,
+    GENERATE,
+    LADDER_VERIFY,
+    LADDER_CHECK,
+    SELFTEST,
+]
 
 # What selftest does in one run: it asks for memory at least as often as these do behind their words.
 SELFTEST_PARTS = [LADDER_VERIFY, LADDER_CHECK]
@@ -148,7 +165,12 @@ class Bench:
         if and_all_behind:
             around["PLIFT_ALL"] = "1"
         done = subprocess.run(
-            [self.program] + words.split(" "), input=stdin, stdout=subprocess.PIPE, stderr=subprocess.PIPE, env=around, timeout=60
+            [self.program] + words.split(" "),
+            input=stdin,
+            stdout=subprocess.PIPE,
+            stderr=subprocess.PIPE,
+            env=around,
+            timeout=60,
         )
         requests, before = [], None
         with open(log) as file:
@@ -212,7 +234,14 @@ def is_out_of_memory(got: Ending) -> bool:
 
 def told(case: Case, number: int, count: int, got: Ending) -> str:
     """The line for a run with one request refused."""
-    return "%s: request %d of %d: status %d, %d bytes, %r" % (case.words, number, count, got.status, len(got.written), got.note)
+    return "%s: request %d of %d: status %d, %d bytes, %r" % (
+        case.words,
+        number,
+        count,
+        got.status,
+        len(got.written),
+        got.note,
+    )
 
 
 def main() -> None:

@@ -34,7 +34,9 @@ fn eight(&self, a: u8, b: u8, c: u8, d: u8, e: u8, f: u8, g: u8,) {}
 class Parameters(unittest.TestCase):
     def test_each_function_is_counted(self) -> None:
         found = [tuple(it) for it in parameters.functions(TEXT, "a.rt")]
-        self.assertEqual(found, [("a.rt", 2, "none", 0), ("a.rt", 6, "map", 5), ("a.rt", 18, "six", 6), ("a.rt", 19, "eight", 8)])
+        self.assertEqual(
+            found, [("a.rt", 2, "none", 0), ("a.rt", 6, "map", 5), ("a.rt", 18, "six", 6), ("a.rt", 19, "eight", 8)]
+        )
 
     def test_the_line(self) -> None:
         found = list(parameters.functions(TEXT))

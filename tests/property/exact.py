@@ -16,7 +16,9 @@ def can_reach(goals: Set[int], rows: Dict[int, Weights]) -> Set[int]:
     """The states from which a goal state is reached at all."""
     found, grows = set(goals), True
     while grows:
-        more = {s for s, row in rows.items() if s not in found and any(weight and target in found for target, weight in row)}
+        more = {
+            s for s, row in rows.items() if s not in found and any(weight and target in found for target, weight in row)
+        }
         found, grows = found | more, bool(more)
     return found
 
@@ -40,7 +42,11 @@ def reached(process: Process, picks: Picks, at: Valuation, is_until: bool) -> Li
     safe states alone."""
     count = len(process.states)
     left = {s for s in range(count) if s not in process.goals and not (is_until and s not in process.safe)}
-    rows = {s: [(target, value(poly, at)) for target, poly in process.states[s][picks[s]]] for s in left if picks[s] is not None}
+    rows = {
+        s: [(target, value(poly, at)) for target, poly in process.states[s][picks[s]]]
+        for s in left
+        if picks[s] is not None
+    }
     sure = can_reach(process.goals, rows)
     open_states = sorted(s for s in left if s in sure)
     matrix = []

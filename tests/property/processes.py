@@ -27,8 +27,15 @@ ROWS: List[List[Poly]] = [
     [{0: 1}, {}],
     [{0: Fraction(1, 8), Q: Fraction(1, 4)}, {0: Fraction(7, 8), Q: Fraction(-1, 4)}],
 ]
-SPANS = [(0, 1), (0, Fraction(1, 2)), (Fraction(1, 10), Fraction(2, 5)), (Fraction(49, 100), Fraction(51, 100)),
-         (Fraction(2, 3), 1), (Fraction(1, 100), Fraction(9, 10)), (Fraction(3, 5), Fraction(3, 4))]
+SPANS = [
+    (0, 1),
+    (0, Fraction(1, 2)),
+    (Fraction(1, 10), Fraction(2, 5)),
+    (Fraction(49, 100), Fraction(51, 100)),
+    (Fraction(2, 3), 1),
+    (Fraction(1, 100), Fraction(9, 10)),
+    (Fraction(3, 5), Fraction(3, 4)),
+]
 BOUNDS = [Fraction(0), Fraction(1), Fraction(1, 2), Fraction(1, 3), Fraction(3, 4), Fraction(1, 16)]
 
 
@@ -44,7 +51,9 @@ class Process(NamedTuple):
 
     def common(self) -> int:
         """The least common denominator of all coefficients."""
-        return lcm(*(Fraction(c).denominator for rows in self.states for row in rows for _, poly in row for c in poly.values()))
+        return lcm(
+            *(Fraction(c).denominator for rows in self.states for row in rows for _, poly in row for c in poly.values())
+        )
 
     def cut(self) -> "Process":
         """The process in which a run that leaves the safe states without having reached the goal stays where it is."""
@@ -79,7 +88,15 @@ class Question(NamedTuple):
 
     def words(self) -> List[str]:
         """The program's words."""
-        words = ["property", "--formula", self.formula(), "--depth", str(self.depth), "--precision", str(self.precision)]
+        words = [
+            "property",
+            "--formula",
+            self.formula(),
+            "--depth",
+            str(self.depth),
+            "--precision",
+            str(self.precision),
+        ]
         return words + region_words(self.box)
 
 
@@ -108,13 +125,21 @@ def value(poly: Poly, at: Valuation) -> Fraction:
 
 def poly_text(poly: Poly) -> str:
     """A polynomial as a model has it."""
-    terms = ["*".join([str(Fraction(c)), *(name for i, name in enumerate(NAMES) if mask >> i & 1)]) for mask, c in poly.items()]
+    terms = [
+        "*".join([str(Fraction(c)), *(name for i, name in enumerate(NAMES) if mask >> i & 1)])
+        for mask, c in poly.items()
+    ]
     return "+".join(terms) or "0"
 
 
 def model_text(process: Process) -> bytes:
     """The text that plift reads."""
-    lines = [f"@type: {'DTMC' if process.is_chain else 'MDP'}", "@parameters", " ".join(NAMES[: process.parameters]), "@model"]
+    lines = [
+        f"@type: {'DTMC' if process.is_chain else 'MDP'}",
+        "@parameters",
+        " ".join(NAMES[: process.parameters]),
+        "@model",
+    ]
     for s, rows in enumerate(process.states):
         labels = {"init": s == process.init, "done": s in process.goals, '"all well"': s in process.safe}
         lines.append(" ".join([f"state {s}", *(label for label, has in labels.items() if has)]))
@@ -125,7 +150,11 @@ def model_text(process: Process) -> bytes:
 
 def random_row(chance: random.Random, parameters: int, count: int) -> Row:
     """A row to some of so many states."""
-    fit = [polys for polys in ROWS if len(polys) <= count and all(mask < 2**parameters for poly in polys for mask in poly)]
+    fit = [
+        polys
+        for polys in ROWS
+        if len(polys) <= count and all(mask < 2**parameters for poly in polys for mask in poly)
+    ]
     polys = chance.choice(fit)
     return list(zip(chance.sample(range(count), len(polys)), polys))
 
@@ -146,7 +175,11 @@ def random_question(chance: random.Random, process: Process) -> Question:
     """A question of a process."""
     pieces = tuple(chance.choice(["", "", " ", "  ", "\t"]) for _ in range(7))
     return Question(
-        op=chance.choice(["<=", "<", ">=", ">"]), bound=chance.choice(BOUNDS), is_until=chance.random() < 0.5, blanks=pieces,
-        box=[chance.choice(SPANS) for _ in range(process.parameters)], depth=chance.choice([0, 1, 2, 4]),
+        op=chance.choice(["<=", "<", ">=", ">"]),
+        bound=chance.choice(BOUNDS),
+        is_until=chance.random() < 0.5,
+        blanks=pieces,
+        box=[chance.choice(SPANS) for _ in range(process.parameters)],
+        depth=chance.choice([0, 1, 2, 4]),
         precision=chance.choice([1, 2, 4, 6, 8]),
     )

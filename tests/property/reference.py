@@ -70,7 +70,9 @@ class Rectangle:
 
     def means(self, corners: List[Corner], numbers: List[int]) -> List[Fraction]:
         """The mean at each corner."""
-        return [Fraction(sum(weight * numbers[target] for target, weight in weights), whole) for weights, whole in corners]
+        return [
+            Fraction(sum(weight * numbers[target] for target, weight in weights), whole) for weights, whole in corners
+        ]
 
     def from_goals(self) -> List[int]:
         """The whole on goal states, 0 elsewhere."""
@@ -95,7 +97,9 @@ class Rectangle:
         numbers = self.least(min)
         picks: List[Optional[int]] = [None] * self.count
         for s in self.others:
-            picks[s] = next(a for a, corners in enumerate(self.rows[s]) if max(self.means(corners, numbers)) <= numbers[s])
+            picks[s] = next(
+                a for a, corners in enumerate(self.rows[s]) if max(self.means(corners, numbers)) <= numbers[s]
+            )
         return Upper(numbers, picks)
 
     def below(self, corners: List[Corner], ranks: Ranks, stage: int) -> List[Fraction]:
@@ -115,7 +119,11 @@ class Rectangle:
         """For every scheduler: in each stage are the states all of whose choices lead into those before, at each corner."""
         ranks: Ranks = [0 if s in self.goals else None for s in range(self.count)]
         for stage in range(1, self.count):
-            new = [s for s in self.others if ranks[s] is None and all(min(self.below(c, ranks, stage)) > 0 for c in self.rows[s])]
+            new = [
+                s
+                for s in self.others
+                if ranks[s] is None and all(min(self.below(c, ranks, stage)) > 0 for c in self.rows[s])
+            ]
             for s in new:
                 ranks[s] = stage
         numbers, changed = [self.top if rank is not None else 0 for rank in ranks], True
@@ -132,7 +140,9 @@ class Rectangle:
         """The stages of states that have a choice whose means aren't below their number, and that leads into those before."""
         ranks: Ranks = [0 if s in self.goals else None for s in range(self.count)]
         picks: List[Optional[int]] = [None] * self.count
-        allowed = {s: [a for a, c in enumerate(self.rows[s]) if min(self.means(c, numbers)) >= numbers[s]] for s in self.others}
+        allowed = {
+            s: [a for a, c in enumerate(self.rows[s]) if min(self.means(c, numbers)) >= numbers[s]] for s in self.others
+        }
         for stage in range(1, self.count):
             new: Dict[int, int] = {}
             for s in (s for s in self.others if ranks[s] is None):
@@ -151,7 +161,9 @@ class Rectangle:
             while changed:
                 changed = False
                 for s in self.others:
-                    number = min(numbers[s], max(min(mean // 1 for mean in self.means(c, numbers)) for c in self.rows[s]))
+                    number = min(
+                        numbers[s], max(min(mean // 1 for mean in self.means(c, numbers)) for c in self.rows[s])
+                    )
                     changed, numbers[s] = changed or number != numbers[s], number
             ranks, picks = self.stages(numbers)
             highest = max([numbers[s] for s in self.others if ranks[s] is None], default=0)
@@ -182,8 +194,11 @@ def verdict(process: Process, question: Question, box: Box) -> Leaf:
 
 def live_parameters(process: Process) -> List[int]:
     """Those that a row depends on."""
-    return [i for i in range(process.parameters)
-            if any(mask >> i & 1 for rows in process.states for row in rows for _, poly in row for mask in poly)]
+    return [
+        i
+        for i in range(process.parameters)
+        if any(mask >> i & 1 for rows in process.states for row in rows for _, poly in row for mask in poly)
+    ]
 
 
 def tree_of(decide: Callable[[Box], Leaf], box: Box, depth: int, live: List[int]) -> Union[Split, Leaf]:
@@ -217,7 +232,9 @@ def leaf_lines(process: Process, question: Question, leaf: Leaf) -> List[str]:
     choices = [] if found.picks is None else [words("choice", found.picks)]
     if isinstance(found, Upper):
         return [leaf.kind, words("x", found.numbers), *choices]
-    first = f"lower e {found.e} k {found.k} m {found.e * found.k} b {found.numbers[process.init]}/{2**question.precision}"
+    first = (
+        f"lower e {found.e} k {found.k} m {found.e * found.k} b {found.numbers[process.init]}/{2**question.precision}"
+    )
     return [leaf.kind, first, words("y", found.numbers), *choices, words("rank", found.ranks)]
 
 
@@ -231,7 +248,11 @@ def node_lines(tree: Union[Split, Leaf], lines_of: Callable[[Leaf], List[str]]) 
 def model_lines(process: Process, common: int) -> List[str]:
     """The lines of a process over a denominator."""
     names, goals = NAMES[: process.parameters], sorted(process.goals)
-    lines = [f"kind {'dtmc' if process.is_chain else 'mdp'}", " ".join(["parameters", str(len(names)), *names]), f"common {common}"]
+    lines = [
+        f"kind {'dtmc' if process.is_chain else 'mdp'}",
+        " ".join(["parameters", str(len(names)), *names]),
+        f"common {common}",
+    ]
     lines += [f"states {len(process.states)}", f"init {process.init}", " ".join(map(str, ["goal", len(goals), *goals]))]
     for s, rows in enumerate(process.states):
         for a, row in enumerate(rows):
@@ -264,7 +285,11 @@ def answer(process: Process, question: Question) -> Tuple[bytes, Union[Split, Le
     common, cut = process.common(), process.cut() if question.is_until else process
     tree = tree_of(lambda box: verdict(cut, question, box), root_of(question.box), question.depth, live_parameters(cut))
     bound = question.bound
-    lines = ["plift-property 1", *model_lines(cut, common), f"property {question.op} {bound.numerator}/{bound.denominator}"]
+    lines = [
+        "plift-property 1",
+        *model_lines(cut, common),
+        f"property {question.op} {bound.numerator}/{bound.denominator}",
+    ]
     lines += box_lines(question.box, question.depth, question.precision)
     lines += node_lines(tree, lambda leaf: leaf_lines(cut, question, leaf))
     return text_of(lines), tree

@@ -60,11 +60,24 @@ NODES = [
     (COIN, 'P\t>= 0  ["heads" U  "heads" ]', ENDS, "0", "4", "holds;lower e 0 k 1 m 0 b 0/16;y 0 16 0;rank - 0 -"),
     (COIN, 'P<0 [F "heads"]', ENDS, "0", "1", "fails;lower e 1 k 1 m 1 b 1/2;y 1 2 0;choice 0 - -;rank 1 0 -"),
     (COIN, 'P>0.5 [F "heads"]', "0<=p<=1", "1", "2", "split 0;fails;x 2 4 0;choice 0 - 0;unknown"),
-    (TWIN, 'P<=1/2 [F "heads"]', "0<=p<=1", "2", "3",
-     "split 0;split 0;fails;lower e 1 k 1 m 1 b 6/8;y 6 8 0;choice 1 - -;rank 1 0 -;unknown;"
-     "split 0;unknown;fails;lower e 1 k 1 m 1 b 6/8;y 6 8 0;choice 0 - -;rank 1 0 -"),
+    (
+        TWIN,
+        'P<=1/2 [F "heads"]',
+        "0<=p<=1",
+        "2",
+        "3",
+        "split 0;split 0;fails;lower e 1 k 1 m 1 b 6/8;y 6 8 0;choice 1 - -;rank 1 0 -;unknown;"
+        "split 0;unknown;fails;lower e 1 k 1 m 1 b 6/8;y 6 8 0;choice 0 - -;rank 1 0 -",
+    ),
     # The initial state is a goal state.
-    (TWIN.replace(b"0 init", b"0 init heads"), 'P>=1 [ "tails" U "heads" ]', ENDS, "0", "4", "holds;lower e 0 k 1 m 0 b 16/16;y 16 16 0;rank 0 0 -"),
+    (
+        TWIN.replace(b"0 init", b"0 init heads"),
+        'P>=1 [ "tails" U "heads" ]',
+        ENDS,
+        "0",
+        "4",
+        "holds;lower e 0 k 1 m 0 b 16/16;y 16 16 0;rank 0 0 -",
+    ),
 ]
 
 FORMULA = 'P<=1/2 [F "heads"]'
@@ -95,22 +108,60 @@ REFUSED = [
     (["property", "--formula", 'P<=2 [F "heads"]'], COIN, 2, "usage: --formula Bound"),
     (["property", "--formula", 'P>1/4294967296 [F "heads"]'], COIN, 2, "usage: --formula Bound"),
     (["property", "--formula", 'P>1e-40 [F "heads"]'], COIN, 2, "usage: --formula Bound"),
-    (["property", "--depth", "21", "--precision", "0", "--formula", 'P<=1/0 [F "heads"]'], COIN, 2, "usage: --formula Bound"),
+    (
+        ["property", "--depth", "21", "--precision", "0", "--formula", 'P<=1/0 [F "heads"]'],
+        COIN,
+        2,
+        "usage: --formula Bound",
+    ),
     (["property", "--precision", "0", "--depth", "21", "--formula", FORMULA], COIN, 2, "usage: --depth"),
     (["property", "--precision", "0", "--formula", FORMULA], COIN, 2, "usage: --precision"),
     (["property", "--region", ENDS, "--formula", 'P<=1/2 [F "tails"]'], COIN, 3, "model: line {LAST}: UnknownLabel"),
-    (["property", "--region", ENDS, "--formula", 'P<=1/2 ["tails" U "heads"]'], COIN, 3, "model: line {LAST}: UnknownLabel"),
-    (["property", "--region", ENDS, "--formula", 'P<=1/2 ["heads" U "tails"]'], COIN, 3, "model: line {LAST}: UnknownLabel"),
-    (["property", "--region", "x", "--formula", 'P<=1/2 ["tails" U "heads"]'], COIN, 3, "model: line {LAST}: UnknownLabel"),
+    (
+        ["property", "--region", ENDS, "--formula", 'P<=1/2 ["tails" U "heads"]'],
+        COIN,
+        3,
+        "model: line {LAST}: UnknownLabel",
+    ),
+    (
+        ["property", "--region", ENDS, "--formula", 'P<=1/2 ["heads" U "tails"]'],
+        COIN,
+        3,
+        "model: line {LAST}: UnknownLabel",
+    ),
+    (
+        ["property", "--region", "x", "--formula", 'P<=1/2 ["tails" U "heads"]'],
+        COIN,
+        3,
+        "model: line {LAST}: UnknownLabel",
+    ),
     (["property", "--region", "x", "--formula", FORMULA], COIN, 2, "usage: --region Syntax"),
     (["property", "--formula", FORMULA], COIN, 2, "usage: --region Missing"),
-    (["property", "--region", "0<=p<=2", "--formula", FORMULA], COIN, 4, "rows: state 0 choice 0: target 2 at corner 1 has weight -1"),
-    (["property", "--region", "0<=p<=1,0<=q<=1/2", "--formula", 'P<=1/2 [F "home"]'], ROAD, 4, "rows: state 1 choice 0: set 0 sums to 1"),
-    (["property", "--region", "0<=p<=1,0<=q<=1", "--formula", 'P<=1/2 ["road" U "home"]'], ROAD, 4,
-     "rows: state 3 choice 0: target 3 at corner 1 has weight -1"),
+    (
+        ["property", "--region", "0<=p<=2", "--formula", FORMULA],
+        COIN,
+        4,
+        "rows: state 0 choice 0: target 2 at corner 1 has weight -1",
+    ),
+    (
+        ["property", "--region", "0<=p<=1,0<=q<=1/2", "--formula", 'P<=1/2 [F "home"]'],
+        ROAD,
+        4,
+        "rows: state 1 choice 0: set 0 sums to 1",
+    ),
+    (
+        ["property", "--region", "0<=p<=1,0<=q<=1", "--formula", 'P<=1/2 ["road" U "home"]'],
+        ROAD,
+        4,
+        "rows: state 3 choice 0: target 3 at corner 1 has weight -1",
+    ),
     # A row without entries stays, and is none.
-    (["property", "--region", "0<=p<=1,0<=q<=1/2", "--formula", 'P<=1/2 ["road" U "home"]'],
-     ROAD.replace(b"state 2", b"action none\nstate 2"), 4, "rows: state 1 choice 1: set 0 sums to 0"),
+    (
+        ["property", "--region", "0<=p<=1,0<=q<=1/2", "--formula", 'P<=1/2 ["road" U "home"]'],
+        ROAD.replace(b"state 2", b"action none\nstate 2"),
+        4,
+        "rows: state 1 choice 1: set 0 sums to 0",
+    ),
 ]
 
 
@@ -124,7 +175,17 @@ class Table(unittest.TestCase):
     def test_nodes(self) -> None:
         for model, formula, region, depth, precision, nodes in NODES:
             with self.subTest(formula=formula, region=region):
-                words = ["property", "--formula", formula, "--region", region, "--depth", depth, "--precision", precision]
+                words = [
+                    "property",
+                    "--formula",
+                    formula,
+                    "--region",
+                    region,
+                    "--depth",
+                    depth,
+                    "--precision",
+                    precision,
+                ]
                 answer = ask(words, model)
                 self.assertEqual((answer.status, answer.note), (0, b""))
                 self.assertEqual(answer.out.decode().split("\nbox ")[1].splitlines()[1:], nodes.split(";"))
@@ -133,16 +194,31 @@ class Table(unittest.TestCase):
         for words, model, status, note in REFUSED:
             with self.subTest(words=words):
                 last = len(model.splitlines())
-                self.assertEqual(ask(words, model), Answer(status, b"", f"{note}\n".replace("{LAST}", str(last)).encode()))
+                self.assertEqual(
+                    ask(words, model), Answer(status, b"", f"{note}\n".replace("{LAST}", str(last)).encode())
+                )
 
     def test_rows_are_those_after_the_cut(self) -> None:
         """The row of state 1, which is no distribution, is cut: there each choice stays."""
-        words = ["property", "--formula", 'P<=1/2 ["road" U "home"]', "--region", "0<=p<=1,0<=q<=1/2", "--precision", "3"]
+        words = [
+            "property",
+            "--formula",
+            'P<=1/2 ["road" U "home"]',
+            "--region",
+            "0<=p<=1,0<=q<=1/2",
+            "--precision",
+            "3",
+        ]
         answer = ask(words, ROAD)
         self.assertEqual((answer.status, answer.note), (0, b""))
         model = answer.out.decode().split("\nproperty ")[0]
-        self.assertTrue(model.endswith("row 1 0 1\nto 1 0:2\nrow 2 0 1\nto 2 0:2\nrow 3 0 2\nto 2 0:1 2:2\nto 3 0:1 2:-2"), model)
-        self.assertTrue(model.startswith("plift-property 1\nkind mdp\nparameters 2 p q\ncommon 2\nstates 4\ninit 0\ngoal 1 2\n"), model)
+        self.assertTrue(
+            model.endswith("row 1 0 1\nto 1 0:2\nrow 2 0 1\nto 2 0:2\nrow 3 0 2\nto 2 0:1 2:2\nto 3 0:1 2:-2"), model
+        )
+        self.assertTrue(
+            model.startswith("plift-property 1\nkind mdp\nparameters 2 p q\ncommon 2\nstates 4\ninit 0\ngoal 1 2\n"),
+            model,
+        )
 
     def test_each_text_is_sound(self) -> None:
         for model, formula, region, depth, precision, nodes in NODES:
@@ -156,7 +232,9 @@ class Table(unittest.TestCase):
             model = path.read_bytes()
             names = re.findall(rb"^@parameters\n(.*)$", model, re.M)
             region = ",".join(f"1/10<={name}<=2/5" for name in (names[0].decode().split() if names else []))
-            for goal in sorted(set(re.findall(r"[a-z]+", " ".join(re.findall(r"^state \d+ (.*)$", model.decode(), re.M))))):
+            for goal in sorted(
+                set(re.findall(r"[a-z]+", " ".join(re.findall(r"^state \d+ (.*)$", model.decode(), re.M))))
+            ):
                 for bound, depth, precision in (("1/2", "0", "24"), ("1/5", "4", "10"), ("1/50", "5", "7")):
                     options = ["--depth", depth, "--precision", precision] + (["--region", region] if region else [])
                     report = ask(["verify", "--goal", goal, "--bound", bound, *options], model)
@@ -168,7 +246,12 @@ class Table(unittest.TestCase):
 
 def in_words_of_property(report: bytes) -> bytes:
     """A report in the words of a property with `<=`."""
-    changes = [(b"plift 1", b"plift-property 1"), (b"bound ", b"property <= "), (b"accept ", b"holds\nx "), (b"reject ", b"fails\nlower ")]
+    changes = [
+        (b"plift 1", b"plift-property 1"),
+        (b"bound ", b"property <= "),
+        (b"accept ", b"holds\nx "),
+        (b"reject ", b"fails\nlower "),
+    ]
     for old, new in changes:
         report = re.sub(rb"^" + old, new, report, flags=re.M)
     return report

@@ -116,7 +116,18 @@ class Refines(unittest.TestCase):
 
     def coin(self, depth: int, *more: str) -> bytes:
         """A report of examples/coin.drn."""
-        words = ["verify", "--goal", "heads", "--bound", "1/2", "--region", "1/10<=p<=2/5", "--depth", str(depth), *more]
+        words = [
+            "verify",
+            "--goal",
+            "heads",
+            "--bound",
+            "1/2",
+            "--region",
+            "1/10<=p<=2/5",
+            "--depth",
+            str(depth),
+            *more,
+        ]
         return ask(self.program, words, (TOP / "examples" / "coin.drn").read_bytes()).out
 
     def test_a_report_that_is_not_right(self) -> None:
@@ -159,7 +170,9 @@ class Refines(unittest.TestCase):
 
     def test_a_grid_that_is_too_large(self) -> None:
         """The number of the grid, or an end over it, is 2^62 or more, or a row is too wide: `verify` refuses as well."""
-        model = b"@type: DTMC\n@parameters\np\n@model\nstate 0 init\n1 : p\n2 : 1-p\nstate 1 goal\n1 : 1\nstate 2\n2 : 1\n"
+        model = (
+            b"@type: DTMC\n@parameters\np\n@model\nstate 0 init\n1 : p\n2 : 1-p\nstate 1 goal\n1 : 1\nstate 2\n2 : 1\n"
+        )
         over = 2**58
         words = ["verify", "--goal", "goal", "--bound", "1/2", "--region", f"1/{over}<=p<=1/2", "--precision", "1"]
         report = ask(self.program, [*words, "--depth", "1"], model).out
@@ -174,7 +187,17 @@ class Refines(unittest.TestCase):
 
     def test_a_row_that_is_too_wide(self) -> None:
         model = b"@type: DTMC\n@parameters\np q\n@model\nstate 0 init\n1 : p*q\n2 : 1-p*q\nstate 1 goal\n1 : 1\nstate 2\n2 : 1\n"
-        words = ["verify", "--goal", "goal", "--bound", "1/2", "--precision", "30", "--region", "1/10^13<=p<=1/2,0<=q<=1/2"]
+        words = [
+            "verify",
+            "--goal",
+            "goal",
+            "--bound",
+            "1/2",
+            "--precision",
+            "30",
+            "--region",
+            "1/10^13<=p<=1/2,0<=q<=1/2",
+        ]
         words[-1] = f"1/{10**12}<=p<=1/2,0<=q<=1/2"
         seen = set()
         report = ask(self.program, [*words, "--depth", "1"], model).out

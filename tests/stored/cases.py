@@ -84,11 +84,24 @@ def words_of(line: str, separator: str = " ") -> list[str]:
 def runs() -> Iterator[Case]:
     """Models with the words that they are verified by."""
     models = named(constants("plift_tests", "models")["MODELS"])
-    for module in ("costs", "decided", "lumped", "properties", "ranges", "refused", "regions", "rows", "trees", "within"):
+    for module in (
+        "costs",
+        "decided",
+        "lumped",
+        "properties",
+        "ranges",
+        "refused",
+        "regions",
+        "rows",
+        "trees",
+        "within",
+    ):
         for name, table in constants("plift_tests", module).items():
             for row in rows(table) if name not in ("REGION", "REPORT", "TEXT") else []:
                 words, model, status, end, notes = row.split(" | ")
-                yield Case(f"{module}: {row}", "plift", words_of(words), models[model], answer(status, end, notes), Written.END)
+                yield Case(
+                    f"{module}: {row}", "plift", words_of(words), models[model], answer(status, end, notes), Written.END
+                )
 
 
 def lines() -> Iterator[Case]:
@@ -160,11 +173,21 @@ def stored_runs() -> Iterator[Case]:
     for folder in sorted((TOP / "crates").glob("plift*")):
         if not (folder / "src" / "main.rt").exists():
             continue
-        parts = {name: (folder / name).read_bytes() if (folder / name).exists() else b"" for name in ("args", "stdin", "stdout", "status")}
+        parts = {
+            name: (folder / name).read_bytes() if (folder / name).exists() else b""
+            for name in ("args", "stdin", "stdout", "status")
+        }
         words = parts["args"].decode().splitlines()
         program = "plift-view" if folder.name == "plift_view" else "plift"
         notes = re.compile(b"" if not parts["status"] else b"[^\n]+\n")
-        yield StoredRun(folder.name, program, words, parts["stdin"], Answer(int(parts["status"] or 0), parts["stdout"], b""), notes=notes)
+        yield StoredRun(
+            folder.name,
+            program,
+            words,
+            parts["stdin"],
+            Answer(int(parts["status"] or 0), parts["stdout"], b""),
+            notes=notes,
+        )
 
 
 def stored() -> list[Case]:

@@ -19,7 +19,9 @@ def parameters(text: str) -> list[str]:
 
 
 def labels(text: str) -> list[str]:
-    return sorted({name for line in re.findall(r"^state \d+ (.*)$", text, re.M) for name in re.findall(r"[a-z]\w*", line)})
+    return sorted(
+        {name for line in re.findall(r"^state \d+ (.*)$", text, re.M) for name in re.findall(r"[a-z]\w*", line)}
+    )
 
 
 def rewards(text: str) -> list[str]:
@@ -43,7 +45,15 @@ def models() -> Iterator[Case]:
                 yield Case(f"{path.name}: {' '.join(words)}", "plift", words, path.read_bytes())
             for op, (bound, depth, precision) in zip(OPS, SHAPES):
                 for route in (f'F "{goal}"', f'"init" U "{goal}"'):
-                    words = ["property", "--formula", f"P{op}{bound} [{route}]", "--depth", depth, "--precision", precision]
+                    words = [
+                        "property",
+                        "--formula",
+                        f"P{op}{bound} [{route}]",
+                        "--depth",
+                        depth,
+                        "--precision",
+                        precision,
+                    ]
                     words += ["--region", region] if region else []
                     yield Case(f"{path.name}: {' '.join(words)}", "plift", words, path.read_bytes())
 

@@ -183,7 +183,13 @@ precision 10; | precision 10; | accept 28 | at 10;accept 28 | not sound: line 32
 
 def told(note: str) -> Answer:
     """The answer of which this is told."""
-    names = {"usage": "Usage", "model": "ModelRefused", "lump": "ModelRefused", "rows": "RowsRefused", "not sound": "NotSound"}
+    names = {
+        "usage": "Usage",
+        "model": "ModelRefused",
+        "lump": "ModelRefused",
+        "rows": "RowsRefused",
+        "not sound": "NotSound",
+    }
     return Answer(STATUSES.index(names[note.partition(":")[0]]), b"", note.encode() + b"\n")
 
 
@@ -201,7 +207,21 @@ def verify(**changes: str) -> list[str]:
 
 def cost() -> list[str]:
     """The words that ask about the example with rewards."""
-    return ["cost", "--goal", "done", "--reward", "sends", "--budget", "7/5", "--cap", "3", "--region", REGION, "--precision", "10"]
+    return [
+        "cost",
+        "--goal",
+        "done",
+        "--reward",
+        "sends",
+        "--budget",
+        "7/5",
+        "--cap",
+        "3",
+        "--region",
+        REGION,
+        "--precision",
+        "10",
+    ]
 
 
 def rows(table: str) -> list[str]:
@@ -227,7 +247,9 @@ def texts(model: bytes, report: bytes) -> Iterator[tuple[str, list[str], bytes, 
     yield "a PRISM file", verify(), b"mdp\n\nconst double p;\n", "model: line 1: Syntax"
     for command in READING:
         cut = b"".join(report.splitlines(True)[:10])
-        yield f"{command}: a report with carriage returns", [command], report.replace(b"\n", b"\r\n"), "not sound: line 1: Syntax"
+        yield f"{command}: a report with carriage returns", [command], report.replace(
+            b"\n", b"\r\n"
+        ), "not sound: line 1: Syntax"
         yield f"{command}: a report that is cut", [command], cut, "not sound: line 11: Truncated"
         yield f"{command}: empty", [command], b"", "not sound: line 1: Truncated"
         yield f"{command}: compressed", [command], gzip.compress(report, mtime=0), "not sound: line 1: Truncated"

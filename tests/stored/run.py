@@ -129,7 +129,11 @@ def main() -> int:
     for path in [*programs.values(), *proved.values()]:
         if not os.access(path, os.X_OK):
             sys.exit(f"stored: {path} is no program")
-    parts = {"stored": stored(), "mistakes": list(mistakes.cases()), "examples": list(examples.cases()) if proved else []}
+    parts = {
+        "stored": stored(),
+        "mistakes": list(mistakes.cases()),
+        "examples": list(examples.cases()) if proved else [],
+    }
     wrong = 0
     for name, cases in parts.items():
         for case in cases:
@@ -142,7 +146,10 @@ def main() -> int:
         print(fault)
     for rows in left_out():
         print(f"left out: {rows}")
-    print(f"{sum(map(len, parts.values()))} runs, {wrong} wrong" + (", compared with " + ", ".join(proved.values()) if proved else ""))
+    print(
+        f"{sum(map(len, parts.values()))} runs, {wrong} wrong"
+        + (", compared with " + ", ".join(proved.values()) if proved else "")
+    )
     return 1 if wrong else 0
 
 

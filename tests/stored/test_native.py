@@ -47,7 +47,9 @@ MATCH = """\
 class Native(unittest.TestCase):
     def test_contracts_are_left_out(self) -> None:
         lines = [line for line in contracts.without_contracts(PROVED).splitlines() if line.strip()]
-        self.assertEqual(lines, ["// Adds.", "/// The sum.", "pub fn sum(a: u32, b: u32) -> u32", "{", "    a + b", "}"])
+        self.assertEqual(
+            lines, ["// Adds.", "/// The sum.", "pub fn sum(a: u32, b: u32) -> u32", "{", "    a + b", "}"]
+        )
 
     def test_claims_become_matches(self) -> None:
         self.assertEqual(rust.without_claims(CLAIM), MATCH)

@@ -38,7 +38,11 @@ class Quick(unittest.TestCase):
         self.tools.mkdir()
         self.top.mkdir()
         shutil.copytree(TOP / "tools", self.top / "tools", ignore=shutil.ignore_patterns("__pycache__"))
-        shutil.copytree(TOP / "crates", self.top / "crates", ignore=lambda _, names: {"out", "proofs", "specs", "must-fail"} & set(names))
+        shutil.copytree(
+            TOP / "crates",
+            self.top / "crates",
+            ignore=lambda _, names: {"out", "proofs", "specs", "must-fail"} & set(names),
+        )
         shutil.copy(TOP / "crates.txt", self.top)
         self.builds = self.top / "builds"
         self.environment = {"PATH": f"{self.tools}:/usr/bin:/bin", "BUILDS": str(self.builds)}
@@ -50,7 +54,9 @@ class Quick(unittest.TestCase):
 
     def start(self, *words: str) -> subprocess.Popen:
         command = [sys.executable, str(self.top / "tools" / "quick.py"), *words]
-        return subprocess.Popen(command, env=self.environment, stdout=subprocess.PIPE, stderr=subprocess.PIPE, text=True)
+        return subprocess.Popen(
+            command, env=self.environment, stdout=subprocess.PIPE, stderr=subprocess.PIPE, text=True
+        )
 
     def run_quick(self, *words: str) -> tuple[int, str, str]:
         started = self.start(*words)

@@ -25,7 +25,22 @@ class Tables(unittest.TestCase):
     def test_every_table_is_run_or_left_out(self) -> None:
         """No table is overlooked: each constant of more than one row is read by a case, or left out with a reason."""
         read = {"HEADS", "FILES", "DECIDED", "OVER_REGIONS", "LIMITS", "MODELS", "REPORTS", "REFUSED", "REGIONS"}
-        read |= {"REFUSED_ROWS", "TREES", "WITHIN", "LUMPED", "PROPERTIES", "COSTS", "RANGES", "MIGRATED", "REFINED", "LINES", "LADDER", "TESTED", "PICTURES", "VIEWS"}
+        read |= {
+            "REFUSED_ROWS",
+            "TREES",
+            "WITHIN",
+            "LUMPED",
+            "PROPERTIES",
+            "COSTS",
+            "RANGES",
+            "MIGRATED",
+            "REFINED",
+            "LINES",
+            "LADDER",
+            "TESTED",
+            "PICTURES",
+            "VIEWS",
+        }
         for crate in ("plift_tests", "view_tests"):
             for path in sorted((tables.TOP / "crates" / crate / "src").glob("*.rt")):
                 found = tables.CONSTANT.findall(path.read_text())

@@ -36,7 +36,17 @@ class Question(NamedTuple):
 
     def words(self, bound: Fraction, depth: int) -> List[str]:
         """The program's words."""
-        words = ["verify", "--goal", "goal", "--bound", str(bound), "--depth", str(depth), "--precision", str(self.precision)]
+        words = [
+            "verify",
+            "--goal",
+            "goal",
+            "--bound",
+            str(bound),
+            "--depth",
+            str(depth),
+            "--precision",
+            str(self.precision),
+        ]
         words += [] if self.least is None else ["--from", str(self.least)]
         return [*words, "--region", self.region] if self.region else words
 
@@ -119,7 +129,9 @@ def tried(chance: random.Random, program: Program, place: Path) -> Came:
             return Came(tiles, f"a tile to depth {depth} failed")
         report = joined(job)
         if report != written(program, asked.words(bound, depth), asked.model):
-            return Came(tiles, f"depth {first} to {depth}: other bytes\n{asked.model.decode()}\n{asked.words(bound, depth)}")
+            return Came(
+                tiles, f"depth {first} to {depth}: other bytes\n{asked.model.decode()}\n{asked.words(bound, depth)}"
+            )
         program.check(report)
     return Came(tiles, "")
 

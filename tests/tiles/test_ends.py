@@ -147,7 +147,10 @@ class Ends(TilesCase):
     def test_two_workers_at_one_tile(self) -> None:
         job = self.job(depth=9)
         environment = {**os.environ, "PLIFT_PROGRAM": str(self.program.path)}
-        workers = [subprocess.Popen([COMMAND, "work", "work", "1", "2", "3"], cwd=self.folder, env=environment) for _ in range(3)]
+        workers = [
+            subprocess.Popen([COMMAND, "work", "work", "1", "2", "3"], cwd=self.folder, env=environment)
+            for _ in range(3)
+        ]
         self.assertEqual([worker.wait() for worker in workers], [0, 0, 0])
         self.assertEqual((joined(job), self.parts()), (self.retry(9), []))
 

@@ -46,7 +46,9 @@ class Engines(TilesCase):
 
     @unittest.skipUnless(shutil.which("parallel"), "GNU parallel isn't installed")
     def test_parallel_tries_again(self) -> None:
-        line = "./plift-tiles left work | parallel --will-cite -j2 --retries 3 --joblog work/log ./plift-tiles work work"
+        line = (
+            "./plift-tiles left work | parallel --will-cite -j2 --retries 3 --joblog work/log ./plift-tiles work work"
+        )
         self.assertEqual((self.bash(line), self.made.left), (0, []))
         self.assertEqual(self.bash(line), 0)
         self.require_joined()

@@ -52,10 +52,15 @@ class Words(TilesCase):
         super().setUp()
         tree = (EXAMPLES / "retry-tree.report").read_bytes()
         fine = written(self.program, [*COIN, "--region", f"1/{2 ** 45}<=p<=1/2"], (EXAMPLES / "coin.drn").read_bytes())
-        texts = {"tree.report": tree, "cut.report": tree[:-1], "empty": b"", "fine.report": fine,
-                 "changed.report": tree.replace(b"\naccept 9 41 ", b"\naccept 9 40 ", 1),
-                 "steps.text": tree.replace(b"plift 1", b"plift-bounded 1", 1),
-                 "property.text": tree.replace(b"plift 1", b"plift-property 1", 1)}
+        texts = {
+            "tree.report": tree,
+            "cut.report": tree[:-1],
+            "empty": b"",
+            "fine.report": fine,
+            "changed.report": tree.replace(b"\naccept 9 41 ", b"\naccept 9 40 ", 1),
+            "steps.text": tree.replace(b"plift 1", b"plift-bounded 1", 1),
+            "property.text": tree.replace(b"plift 1", b"plift-property 1", 1),
+        }
         for name, data in texts.items():
             (self.folder / name).write_bytes(data)
         self.job()

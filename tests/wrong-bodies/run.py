@@ -89,8 +89,14 @@ def try_edits(crate: str, edits: List[str]) -> Trial:
         for edit in edits:
             shutil.copy(HERE / edit, room / "crates" / crate / "must-fail")
         ran = subprocess.run(
-            ["rt", "must-fail", crate], cwd=room, stdin=subprocess.DEVNULL, stdout=subprocess.PIPE,
-            stderr=subprocess.STDOUT, encoding="utf-8", errors="replace", check=False,
+            ["rt", "must-fail", crate],
+            cwd=room,
+            stdin=subprocess.DEVNULL,
+            stdout=subprocess.PIPE,
+            stderr=subprocess.STDOUT,
+            encoding="utf-8",
+            errors="replace",
+            check=False,
         )
     told = set(REFUSED.findall(ran.stdout))
     refused = [edit for edit in edits if edit in told]

@@ -32,18 +32,25 @@ A tile is an unknown leaf of the report. The joined report has the bytes of a si
 Nothing in it is believed: a tile counts once `plift check` has judged it. docs/SCALE.md tells more by example."""
 STATUSES = """statuses: 0 done; 1 to 8 as plift's own; 2 also folders at fault; 6 also no room; 9 a tile is missing, cut
 off or of another job; 70 no plift to ask; 128 and a signal's number where one ended it."""
-COMMANDS = {'split': 'makes the folder DIR from a report on standard input: the model, and a line for each tile',
-            'left': 'tells the numbers of the tiles without a report',
-            'work': 'decides tiles that are left: runs verify and check, and leaves DIR/done/N.report',
-            'join': 'writes the report of the whole region',
-            'status': 'tells how many tiles are done'}
+COMMANDS = {
+    'split': 'makes the folder DIR from a report on standard input: the model, and a line for each tile',
+    'left': 'tells the numbers of the tiles without a report',
+    'work': 'decides tiles that are left: runs verify and check, and leaves DIR/done/N.report',
+    'join': 'writes the report of the whole region',
+    'status': 'tells how many tiles are done',
+}
 SIGNALS = (signal.SIGHUP, signal.SIGINT, signal.SIGTERM)
 
 
 def parser() -> Words:
     """All commands and their words."""
-    words = Words('plift-tiles', description=ABOUT, epilog=STATUSES, allow_abbrev=False,
-                  formatter_class=argparse.RawDescriptionHelpFormatter)
+    words = Words(
+        'plift-tiles',
+        description=ABOUT,
+        epilog=STATUSES,
+        allow_abbrev=False,
+        formatter_class=argparse.RawDescriptionHelpFormatter,
+    )
     words.add_argument('--version', action='version', version='plift-tiles ' + __version__)
     commands = words.add_subparsers(dest='command', metavar='COMMAND', parser_class=Words)
     for name, about in COMMANDS.items():
@@ -85,8 +92,10 @@ def main(words: Optional[List[str]] = None) -> int:
     except Exception as fault:  # a fault of this tool, told without a trace
         if os.environ.get('PLIFT_TILES_TRACE'):
             raise
-        return _told('a fault of plift-tiles itself (%s: %s); PLIFT_TILES_TRACE=1 shows where'
-                     % (type(fault).__name__, fault), LOST)
+        return _told(
+            'a fault of plift-tiles itself (%s: %s); PLIFT_TILES_TRACE=1 shows where' % (type(fault).__name__, fault),
+            LOST,
+        )
 
 
 def _run_split(given: argparse.Namespace) -> int:
@@ -134,8 +143,8 @@ def _chosen(job: Job, numbers: List[str], part: Optional[str]) -> Iterable[int]:
     if not part:
         return [read_count(number, 'a tile', 1, len(job.regions)) for number in numbers]
     first, _, step = part.partition('/')
-    count = read_count(step, 'M in --part K/M', 1, 10 ** 9 - 1)
-    return job.numbers[read_count(first, 'K in --part K/M', 1, count) - 1::count]
+    count = read_count(step, 'M in --part K/M', 1, 10**9 - 1)
+    return job.numbers[read_count(first, 'K in --part K/M', 1, count) - 1 :: count]
 
 
 def _end_by_signal(number: int, _: object) -> NoReturn:

@@ -23,13 +23,18 @@ class Joining:
         self.job = job
         self.left = set(job.left)
         if self.left and not partial:
-            raise Fault('%d of %d tiles have no report, the first is tile %d; --partial leaves them unknown'
-                        % (len(self.left), len(job.regions), min(self.left)), UNFIT)
+            raise Fault(
+                '%d of %d tiles have no report, the first is tile %d; --partial leaves them unknown'
+                % (len(self.left), len(job.regions), min(self.left)),
+                UNFIT,
+            )
         self.base = Report(job.base.read_bytes(), '')
         self.parts = unknown_parts(self.base)
         if len(self.parts) != len(job.regions):
-            raise Fault('%s has %d unknown leaves, and there are %d tiles'
-                        % (job.base, len(self.parts), len(job.regions)), UNFIT)
+            raise Fault(
+                '%s has %d unknown leaves, and there are %d tiles' % (job.base, len(self.parts), len(job.regions)),
+                UNFIT,
+            )
         head = Head.of(self.base)
         self.heads = dict(zip(job.numbers, (head.of_part(part.ends, job.levels) for part in self.parts)))
         self.open_tree = _open_tree(self.base, self.parts[0].ends, job.levels) if self.left else []
@@ -64,8 +69,10 @@ def join(job: Job, partial: bool, out: BinaryIO) -> List[str]:
     if joining.left:
         told.append('%d of %d tiles are left, and stay unknown' % (len(joining.left), len(job.regions)))
     if length > MOST_CHECKED_BYTES:
-        told.append('the report has %d bytes, more than the %d that `plift check` reads; it has judged each tile: keep %s'
-                    % (length, MOST_CHECKED_BYTES, job.place))
+        told.append(
+            'the report has %d bytes, more than the %d that `plift check` reads; it has judged each tile: keep %s'
+            % (length, MOST_CHECKED_BYTES, job.place)
+        )
     return told
 
 
@@ -75,8 +82,10 @@ def _read_tile(job: Job, number: int, head: bytes) -> Iterator[bytes]:
         try:
             yield from tree_lines(file, head)
         except Unfit as fault:
-            raise Fault('tile %d %s: remove %s, and `plift-tiles work` makes it again'
-                        % (number, fault, job.report(number)), UNFIT) from None
+            raise Fault(
+                'tile %d %s: remove %s, and `plift-tiles work` makes it again' % (number, fault, job.report(number)),
+                UNFIT,
+            ) from None
 
 
 def _open_tree(report: Report, ends: Tuple[int, ...], levels: int) -> List[bytes]:
@@ -92,7 +101,7 @@ def _axes(report: Report, ends: Iterable[int], levels: int) -> Iterator[int]:
     """The axes on which a rectangle and its halves are halved: the longest one that a row depends on, the first of
     equally long ones."""
     low, high = list(ends)[::2], list(ends)[1::2]
-    lengths = [(end - begin) * 2 ** levels for begin, end in zip(low, high)]
+    lengths = [(end - begin) * 2**levels for begin, end in zip(low, high)]
     live = [report.parameters.index(name) for name in report.live]
     for _ in range(levels):
         axis = max(live, key=lambda each: lengths[each])

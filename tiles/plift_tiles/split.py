@@ -41,8 +41,12 @@ def _fill(program: Program, report: Report, place: Path, depth: int) -> int:
     """Writes all that the folder has."""
     head = Head.of(report)
     regions = [shown(report.own_rectangle(part.ends)) for part in unknown_parts(report)]
-    told = ['depth %d' % depth, 'levels %d' % (depth - head.depth), 'bound %s' % head.bound,
-            'precision %d' % head.precision]
+    told = [
+        'depth %d' % depth,
+        'levels %d' % (depth - head.depth),
+        'bound %s' % head.bound,
+        'precision %d' % head.precision,
+    ]
     told += [] if head.least is None else ['from %d' % head.least]
     (place / 'base.report').write_bytes(report.data)
     (place / 'model.drn').write_bytes(report.model_text)

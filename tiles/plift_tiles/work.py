@@ -48,5 +48,8 @@ def _decide(program: Program, job: Job, number: int) -> None:
 def _require_readable(report: Path) -> None:
     """Ends a tile that `plift check` won't read."""
     if report.stat().st_size > MOST_CHECKED_BYTES:
-        raise Fault('its report is longer than the %d bytes that `plift check` reads: split to a smaller depth'
-                    % MOST_CHECKED_BYTES, LONG)
+        raise Fault(
+            'its report is longer than the %d bytes that `plift check` reads: split to a smaller depth'
+            % MOST_CHECKED_BYTES,
+            LONG,
+        )

@@ -55,7 +55,10 @@ def word(map_: Map, kind: str) -> str:
 
 def shares(map_: Map) -> str:
     """The share of each kind."""
-    return ", ".join(f"{word(map_, kind)} {percent(map_.share(kind))}" for kind in map_.kinds) + " of the volume, rounded down"
+    return (
+        ", ".join(f"{word(map_, kind)} {percent(map_.share(kind))}" for kind in map_.kinds)
+        + " of the volume, rounded down"
+    )
 
 
 def height(slice_: Slice) -> int:
@@ -68,7 +71,9 @@ def start(map_: Map, slice_: Slice) -> List[str]:
     lines = [
         f'<svg xmlns="http://www.w3.org/2000/svg" viewBox="0 0 720 {height(slice_)}" role="img"'
         ' font-family="sans-serif" font-size="14">',
-        f"<title>{asked(map_)}</title>", f"<desc>{shares(map_)}</desc>", "<defs>",
+        f"<title>{asked(map_)}</title>",
+        f"<desc>{shares(map_)}</desc>",
+        "<defs>",
     ]
     for kind in map_.kinds:
         colour, mark = LOOKS[kind]
@@ -88,7 +93,9 @@ def legend(map_: Map) -> List[str]:
             f'<path d="M0 0h52429v36298H0z" fill="url(#{WORDS[kind]})"/></svg>'
         )
     lines.append("</g>")
-    return lines + [f'<text x="{place + 34}" y="98">{word(map_, kind)}</text>' for kind, place in zip(map_.kinds, PLACES)]
+    return lines + [
+        f'<text x="{place + 34}" y="98">{word(map_, kind)}</text>' for kind, place in zip(map_.kinds, PLACES)
+    ]
 
 
 def title(map_: Map) -> List[str]:
@@ -180,7 +187,11 @@ def axis_lines(map_: Map, side: int, axis: Optional[int]) -> List[str]:
     if axis is None:
         return []
     low, high = (Fraction(end, map_.grid) for end in map_.root[axis])
-    return [f"{NAME[side]}{label(map_.names[axis])}</text>", f"{ENDS[side]}from {low} to {high}</text>", *ticks(map_, side, axis)]
+    return [
+        f"{NAME[side]}{label(map_.names[axis])}</text>",
+        f"{ENDS[side]}from {low} to {high}</text>",
+        *ticks(map_, side, axis),
+    ]
 
 
 def cuts(map_: Map, slice_: Slice) -> List[str]:
@@ -193,6 +204,12 @@ def cuts(map_: Map, slice_: Slice) -> List[str]:
 
 def svg_text(map_: Map, slice_: Slice) -> str:
     """The picture: title, legend, field and axes."""
-    lines = [*start(map_, slice_), *title(map_), *legend(map_), *axis_lines(map_, UPRIGHT, slice_.y), *field(map_, slice_)]
+    lines = [
+        *start(map_, slice_),
+        *title(map_),
+        *legend(map_),
+        *axis_lines(map_, UPRIGHT, slice_.y),
+        *field(map_, slice_),
+    ]
     lines += [*axis_lines(map_, ACROSS, slice_.x), *cuts(map_, slice_), "</g>", "</svg>"]
     return "".join(f"{line}\n" for line in lines)

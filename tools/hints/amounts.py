@@ -96,7 +96,9 @@ def of_text(limit: Limit, word: str) -> str:
     if match:
         value = about(match[2])
         told = f": {limit.option} {fraction(value)}" if value is not None and 0 <= value <= limit.most else ""
-        return f"{limit.front(word)}: the {limit.option[2:]} is a number alone, and the question is always 'at most'{told}"
+        return (
+            f"{limit.front(word)}: the {limit.option[2:]} is a number alone, and the question is always 'at most'{told}"
+        )
     if re.search(r"/\s*0+(\.0*)?\s*$", word):
         return f"{limit.front(word)} divides by 0"
     value = about(word)
@@ -162,7 +164,9 @@ def deeper_hints(word: str, text: Optional[bytes]) -> List[str]:
     told = re.search(rb"^depth ([0-9]{1,2})$", text or b"", re.M)
     if told and int(word) <= int(told[1]):
         return [f"--depth {word}: the report goes to depth {int(told[1])} already, and refine goes on to a greater one"]
-    return [f"--depth {word}: the report's grid, made that much finer, has a number of 2^62 or more: take a smaller depth"]
+    return [
+        f"--depth {word}: the report's grid, made that much finer, has a number of 2^62 or more: take a smaller depth"
+    ]
 
 
 def bits_for(word: str) -> Optional[str]:

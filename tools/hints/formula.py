@@ -87,7 +87,9 @@ def read_formula(text: str) -> Formula:
     if reader.at < len(text):
         raise Fault("Syntax", reader.at, "nothing stands behind the ]")
     if not is_bound(bound):
-        raise Fault("Bound", BLANKS.match(text, start).end(), "this isn't from 0 to 1, divides by 0, or has too many digits")
+        raise Fault(
+            "Bound", BLANKS.match(text, start).end(), "this isn't from 0 to 1, divides by 0, or has too many digits"
+        )
     return Formula(op, bound, safe, goal)
 
 
@@ -142,18 +144,32 @@ def repaired(text: str) -> Optional[str]:
 
 # Forms of other languages that plift doesn't take: what to do in their place.
 FOREIGN = [
-    (r"P(max|min)?\s*=\s*\?", "P=? asks for a number, and a formula compares with a bound; ./plift-lab bounds looks for numbers"),
+    (
+        r"P(max|min)?\s*=\s*\?",
+        "P=? asks for a number, and a formula compares with a bound; ./plift-lab bounds looks for numbers",
+    ),
     (r"Pmax\s*(>|=>|≥)", "whether some scheduler reaches so much: ask P<B [..], which fails exactly where one does"),
     (r"Pmin\s*(<|=<|≤)", "whether some scheduler reaches so little: ask P>B [..], which fails exactly where one does"),
-    (r"(\[|\(|\s)(F|U)\s*(<=|<|\[|\{)\s*[0-9]", "steps aren't counted here: plift bounded --steps S asks what is reached within S steps"),
+    (
+        r"(\[|\(|\s)(F|U)\s*(<=|<|\[|\{)\s*[0-9]",
+        "steps aren't counted here: plift bounded --steps S asks what is reached within S steps",
+    ),
     (r"(\[|\(|\s)X\b", "there is no X: plift bounded --steps 1 asks what is reached within one step"),
-    (r"(\[|\(|\s)G\b", "there is no G: ask how likely the opposite is reached, as P<=B [F \"bad\"], with a label on those states"),
+    (
+        r"(\[|\(|\s)G\b",
+        "there is no G: ask how likely the opposite is reached, as P<=B [F \"bad\"], with a label on those states",
+    ),
     (r"(\[|\(|\s|\")(W|R)(\s|\")", "there is no W and no R: of until there is U, and F alone"),
-    (r"^\s*(R|E)\s*(max|min|\{|<|>|=|\[)", "an expected cost is asked for by plift cost --goal LABEL --reward NAME --budget B --cap C"),
+    (
+        r"^\s*(R|E)\s*(max|min|\{|<|>|=|\[)",
+        "an expected cost is asked for by plift cost --goal LABEL --reward NAME --budget B --cap C",
+    ),
     (r"^\s*(R|S|E|A|T|filter|multi)\b", "a formula is about a probability: it begins with P"),
     (r"[!&|∧∨¬]|\b(and|or|not)\b", "a label stands alone: put another label on the states that are meant"),
 ]
-TWO_SIDES = "<= and < speak of the scheduler that reaches the most, >= and > of the one that reaches the least: write P alone"
+TWO_SIDES = (
+    "<= and < speak of the scheduler that reaches the most, >= and > of the one that reaches the least: write P alone"
+)
 FORM = f"a formula is written {A_FORMULA} or P>=1/2 [\"safe\" U \"done\"], with labels of the model, in single quotes"
 
 

@@ -36,7 +36,10 @@ TOLD = {
     "bounded": ["that is a report of plift bounded", "recheck/recheck.py reads it, and plift doesn't"],
     "property": ["that is a text of plift property", "recheck/recheck.py reads it, and plift doesn't"],
     "cost": ["that is a text of plift cost", "recheck/recheck.py reads it, and plift doesn't"],
-    "answer": ["that is the line that plift check writes, or recheck.py", "the report is another file, which verify writes"],
+    "answer": [
+        "that is the line that plift check writes, or recheck.py",
+        "the report is another file, which verify writes",
+    ],
     "picture": ["that is a picture or another XML text", "is it the right file?"],
     "page": ["that is a page of the web, maybe a refused download", "is it the right file?"],
     "jani": ["that is a JSON text, maybe a JANI model", BUILT],

@@ -256,7 +256,9 @@ class Walk:
 
 def is_about_formula(command: str, words: Sequence[str]) -> bool:
     """Whether words of a command are about a formula, which another one takes."""
-    return command not in ("property", "cost") and any(word.startswith("--formula") or PROPERTY.search(word) for word in words)
+    return command not in ("property", "cost") and any(
+        word.startswith("--formula") or PROPERTY.search(word) for word in words
+    )
 
 
 def about_asking(command: str, words: Sequence[str]) -> List[str]:
@@ -293,7 +295,11 @@ def about_refining(words: Sequence[str]) -> List[str]:
         return [about_help(asks[0], "plift", "refine")]
     names = [word.split("=")[0] for word in words if is_dashed(word)]
     files = [word for word in words if is_file(word)]
-    faults = [f"{shown(name)}: refine takes --depth alone; a report holds its model, region and bound" for name in names if name != "--depth"]
+    faults = [
+        f"{shown(name)}: refine takes --depth alone; a report holds its model, region and bound"
+        for name in names
+        if name != "--depth"
+    ]
     faults += [f"{shown(word)}: refine reads a report from standard input, by < {shlex.quote(word)}" for word in files]
     if names.count("--depth") > 1:
         faults.append(f"--depth stands {names.count('--depth')} times: keep one")
@@ -341,7 +347,10 @@ def words_hints(refusal: Refusal) -> List[str]:
     """What is wrong with the words as a whole."""
     words = refusal.words
     if not words:
-        return ["there is no word: a command stands first, one of " + listed(COMMANDS, len(COMMANDS)), "plift --help shows them"]
+        return [
+            "there is no word: a command stands first, one of " + listed(COMMANDS, len(COMMANDS)),
+            "plift --help shows them",
+        ]
     command, behind = words[0], words[1:]
     if command not in COMMANDS:
         return [about_command(command), FORMS[near(command, COMMANDS) or "verify"]]

@@ -110,4 +110,7 @@ def unknown_reward(place: Place) -> List[str]:
         ]
     close = near(asked.strip("\"'[]"), names)
     meant = f"; is {close} meant?" if close else ""
-    return [f"no reward model has the name {shown(asked)}{meant}", f"the reward models of the text: {listed(names, 12)}"]
+    return [
+        f"no reward model has the name {shown(asked)}{meant}",
+        f"the reward models of the text: {listed(names, 12)}",
+    ]

@@ -23,8 +23,7 @@ def printable(text: Text) -> str:
     """The text without control characters; each of its characters is one here, too."""
     as_bytes = isinstance(text, bytes)
     return "".join(
-        " " if c == "\t" else c if c.isprintable() and not (as_bytes and c > "~") else "?"
-        for c in characters(text)
+        " " if c == "\t" else c if c.isprintable() and not (as_bytes and c > "~") else "?" for c in characters(text)
     )
 
 

@@ -42,6 +42,10 @@ def as_rust(text: str) -> str:
     text = re.sub(r"(?:, )?\b(?:Drop|Error)\b(?=[^(\n]*\)\])", "", text)
     text = text.replace("#[derive()]\n", "").replace("#[derive(, ", "#[derive(").replace("#[from] ", "")
     text = re.sub(r"\b(type \w+): Drop;", r"\1;", text)
-    text = text.replace("vec![in ", "rvec![in ").replace(".collect(alloc)", ".rcollect(alloc)").replace("Box::new(alloc, ", "rstd::boxed(")
+    text = (
+        text.replace("vec![in ", "rvec![in ")
+        .replace(".collect(alloc)", ".rcollect(alloc)")
+        .replace("Box::new(alloc, ", "rstd::boxed(")
+    )
     front = re.match(r"(?://![^\n]*\n)*", text).group()
     return f"{front}#[allow(unused_imports)]\nuse rstd::prelude::*;\n{without_claims(text[len(front):])}"

@@ -20,6 +20,7 @@ from ..search import Side
 from ..session import Session
 from ..values import above, below, exact, read_count
 
+
 def add_words(words: argparse.ArgumentParser) -> None:
     """The words of the command."""
     asking.add_model(words)
@@ -32,10 +33,17 @@ def add_words(words: argparse.ArgumentParser) -> None:
 def run(given: argparse.Namespace) -> int:
     """Does it."""
     width = asking.width_of(given)
-    calls = read_count(given.calls, '--calls', 2, 10 ** 6)
+    calls = read_count(given.calls, '--calls', 2, 10**6)
     with asking.session(given) as session:
-        found = find_bounds(session, asking.model_of(given), given.goal, asking.region_of(given),
-                            asking.precision_of(given), width, calls)
+        found = find_bounds(
+            session,
+            asking.model_of(given),
+            given.goal,
+            asking.region_of(given),
+            asking.precision_of(given),
+            width,
+            calls,
+        )
         session.progress.clear()
         if given.json:
             asking.put_json(_data(found, session))
@@ -50,10 +58,12 @@ def _lines(found: Bounds, is_split: bool, is_listed: bool, session: Session) -> 
     else:
         (_, upper), (_, lower) = found.sup.critical, found.inf.critical
         by, at_best = (', whatever is chosen', ' by the best choices') if found.is_process else ('', '')
-        lines = ['at most %s is reached%s, anywhere in the region' % (above(upper.value, 9), by),
-                 '  %s%s' % (exact(upper.value), _file(upper, session)),
-                 'at least %s is reached%s, everywhere in the region' % (below(lower.value, 9), at_best),
-                 '  %s%s' % (exact(lower.value), _file(lower, session))]
+        lines = [
+            'at most %s is reached%s, anywhere in the region' % (above(upper.value, 9), by),
+            '  %s%s' % (exact(upper.value), _file(upper, session)),
+            'at least %s is reached%s, everywhere in the region' % (below(lower.value, 9), at_best),
+            '  %s%s' % (exact(lower.value), _file(lower, session)),
+        ]
     return lines + ['%d bits' % found.precision] + asking.judge_lines(session, not session.evidence.is_kept)
 
 
@@ -80,12 +90,26 @@ def _side_lines(side: Side, found: Bounds, session: Session, is_listed: bool) ->
 
 def _data(found: Bounds, session: Session) -> Dict[str, Any]:
     def row(part: Any, end: Any) -> Dict[str, Any]:
-        return {'region': part.text.strip(), 'value': exact(end.value), 'check': end.soundness,
-                'report': end.path if session.evidence.is_kept else None}
+        return {
+            'region': part.text.strip(),
+            'value': exact(end.value),
+            'check': end.soundness,
+            'report': end.path if session.evidence.is_kept else None,
+        }
 
     def side(one: Side) -> Dict[str, Any]:
-        return {'least': exact(one.least), 'most': exact(one.most), 'short': one.is_short, 'witness': row(*one.witness),
-                'cover': [row(part, end) for part, end in one.cover]}
+        return {
+            'least': exact(one.least),
+            'most': exact(one.most),
+            'short': one.is_short,
+            'witness': row(*one.witness),
+            'cover': [row(part, end) for part, end in one.cover],
+        }
 
-    return {'sup': side(found.sup), 'inf': side(found.inf), 'precision': found.precision, 'questions': found.calls,
-            'program': str(session.program.path)}
+    return {
+        'sup': side(found.sup),
+        'inf': side(found.inf),
+        'precision': found.precision,
+        'questions': found.calls,
+        'program': str(session.program.path),
+    }

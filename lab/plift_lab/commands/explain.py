@@ -16,13 +16,23 @@ from ..program import CHECKOUT
 
 HINTS = CHECKOUT / 'tools/hints'
 MESSAGES = CHECKOUT / 'docs/MESSAGES.md'
-STATUSES = (('usage: ', 2), ('model: ', 3), ('rows: ', 4), ('read fault', 5), ('write fault', 6), ('too long', 7),
-            ('out of memory', 8), ('not sound: ', 1))
+STATUSES = (
+    ('usage: ', 2),
+    ('model: ', 3),
+    ('rows: ', 4),
+    ('read fault', 5),
+    ('write fault', 6),
+    ('too long', 7),
+    ('out of memory', 8),
+    ('not sound: ', 1),
+)
 
 
 def add_words(words: argparse.ArgumentParser) -> None:
     """The words of the command."""
-    words.add_argument('note', nargs=argparse.REMAINDER, metavar='NOTE', help='the line that plift wrote on standard error')
+    words.add_argument(
+        'note', nargs=argparse.REMAINDER, metavar='NOTE', help='the line that plift wrote on standard error'
+    )
 
 
 def run(given: argparse.Namespace) -> int:
@@ -46,7 +56,7 @@ def hints(status: int, note: str, words: List[str], text: Optional[bytes] = None
     sys.path.insert(0, str(HINTS.parent))
     try:
         told = importlib.import_module('hints').hints(status, note, words, text, 'plift')
-        return [str(line)[len('hint: '):] if str(line).startswith('hint: ') else str(line) for line in told]
+        return [str(line)[len('hint: ') :] if str(line).startswith('hint: ') else str(line) for line in told]
     except Exception as fault:  # hints are a help: a fault in them must not hide the note
         return ['the hints failed: %s' % type(fault).__name__]
     finally:
@@ -61,7 +71,7 @@ def _messages(note: str) -> List[str]:
         cells = [cell.strip() for cell in line.strip('| ').split(' | ')]
         place = 1 if cells[0].isdigit() else 0
         if line.startswith('| ') and any(_is_form(form, note) for form in re.findall('`([^`]+)`', cells[place])):
-            return [cell for cell in cells[place + 1:] if cell]
+            return [cell for cell in cells[place + 1 :] if cell]
     return []
 
 

@@ -69,8 +69,14 @@ class Told:
 
     def rest(self, leaf: Leaf) -> List[Any]:
         """Kind, value, precision, depth, share and scheduler."""
-        return [PAST[leaf.kind], None if leaf.value is None else self.number(leaf.value), leaf.precision, leaf.depth,
-                self.number(leaf.share), leaf.scheduler]
+        return [
+            PAST[leaf.kind],
+            None if leaf.value is None else self.number(leaf.value),
+            leaf.precision,
+            leaf.depth,
+            self.number(leaf.share),
+            leaf.scheduler,
+        ]
 
 
 REST = ('kind', 'value', 'precision', 'depth', 'share', 'scheduler')
@@ -85,10 +91,16 @@ def _write_csv(told: Told) -> None:
 
 def _write_json(told: Told, program: str) -> None:
     report = told.report
-    head = dict(asking.behind(report), verdict=report.verdict, goal=report.origin.goal, program=program,
-                bound=told.number(report.bound), parameters=report.parameters,
-                fixed={name: told.number(value) for name, value in report.origin.fixed.items()},
-                schedulers=report.schedulers if report.kind == 'mdp' else [])
+    head = dict(
+        asking.behind(report),
+        verdict=report.verdict,
+        goal=report.origin.goal,
+        program=program,
+        bound=told.number(report.bound),
+        parameters=report.parameters,
+        fixed={name: told.number(value) for name, value in report.origin.fixed.items()},
+        schedulers=report.schedulers if report.kind == 'mdp' else [],
+    )
     sys.stdout.write(json.dumps(head)[:-1] + ',\n"leaves": [')
     for leaf in report.leaves():
         ends = told.ends(leaf)

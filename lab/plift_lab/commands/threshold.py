@@ -34,16 +34,27 @@ def add_words(words: argparse.ArgumentParser) -> None:
 def run(given: argparse.Namespace) -> int:
     """Does it."""
     width = asking.width_of(given)
-    question = Question(asking.model_of(given), given.goal, read_bound(given.bound), asking.region_of(given),
-                        read_count(given.depth, '--depth', 0, MOST_DEPTH), asking.precision_of(given), given.relative)
+    question = Question(
+        asking.model_of(given),
+        given.goal,
+        read_bound(given.bound),
+        asking.region_of(given),
+        read_count(given.depth, '--depth', 0, MOST_DEPTH),
+        asking.precision_of(given),
+        given.relative,
+    )
     with asking.session(given) as session:
         edge = find_threshold(session, question, given.parameter, width, not given.least)
         session.progress.clear()
         if given.json:
-            asking.put_json({
-                'parameter': edge.parameter, 'accepted_to': exact(edge.good) if edge.inside else None,
-                'rejected_at': None if edge.limit is None else exact(edge.limit),
-                'reports': [asking.behind(report) for report in (edge.inside, edge.outside) if report]})
+            asking.put_json(
+                {
+                    'parameter': edge.parameter,
+                    'accepted_to': exact(edge.good) if edge.inside else None,
+                    'rejected_at': None if edge.limit is None else exact(edge.limit),
+                    'reports': [asking.behind(report) for report in (edge.inside, edge.outside) if report],
+                }
+            )
         else:
             print('\n'.join(_lines(edge, session)))
     is_known = edge.good == edge.bad or edge.limit is not None
@@ -59,7 +70,9 @@ def _lines(edge: Edge, session: Session) -> List[str]:
     else:
         lines = ['accepted nowhere, as far as is shown, from %s = %s on' % (name, exact(edge.good))]
     if edge.limit is not None:
-        lines.append('no further than %s: a part is rejected where %s = %s' % (near(edge.limit, 9), name, exact(edge.limit)))
+        lines.append(
+            'no further than %s: a part is rejected where %s = %s' % (near(edge.limit, 9), name, exact(edge.limit))
+        )
     elif edge.outside:
         lines.append('nothing is rejected beyond, so more depth or more bits may show more')
     return lines + asking.behind_lines([report for report in (edge.inside, edge.outside) if report], session)

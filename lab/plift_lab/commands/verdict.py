@@ -29,8 +29,9 @@ def add_words(words: argparse.ArgumentParser) -> None:
     """The words of the command."""
     words.add_argument('report', metavar='REPORT', help='a file with a report; - for standard input')
     words.add_argument('--brief', action='store_true', help='one line and no more')
-    words.add_argument('--look', default='3', metavar='N',
-                       help='looks at so many unknown leaves, the greatest first; 3 if left out')
+    words.add_argument(
+        '--look', default='3', metavar='N', help='looks at so many unknown leaves, the greatest first; 3 if left out'
+    )
     asking.add_session(words)
 
 
@@ -44,11 +45,24 @@ def run(given: argparse.Namespace) -> int:
         found = examine(session, report, most)
         session.progress.clear()
         if given.json:
-            asking.put_json({
-                'verdict': report.verdict, 'question': report.question, 'behind': asking.behind(report),
-                'shares': {kind: exact(share) for kind, share in report.shares.items()},
-                'unknown': [{'region': shown(one.leaf.rectangle).strip(), 'least': exact(one.least),
-                             'most': exact(one.most), 'help': one.help, 'axis': one.axis} for one in found]})
+            asking.put_json(
+                {
+                    'verdict': report.verdict,
+                    'question': report.question,
+                    'behind': asking.behind(report),
+                    'shares': {kind: exact(share) for kind, share in report.shares.items()},
+                    'unknown': [
+                        {
+                            'region': shown(one.leaf.rectangle).strip(),
+                            'least': exact(one.least),
+                            'most': exact(one.most),
+                            'help': one.help,
+                            'axis': one.axis,
+                        }
+                        for one in found
+                    ],
+                }
+            )
         elif not given.brief:
             print('\n'.join(_lines(report, found, session)))
     return STATUS[report.verdict]
@@ -58,8 +72,10 @@ def _lines(report: Report, found: List[Finding], session: Session) -> List[str]:
     lines = ['  %s, judged by %s' % (report.soundness, session.program.judge)]
     for one in found:
         lines.append('unknown%s' % _where(one))
-        lines.append('  between %s and %s at %d bits; the bound is %s'
-                     % (below(one.least, 9), above(one.most, 9), report.precision, report.bound))
+        lines.append(
+            '  between %s and %s at %d bits; the bound is %s'
+            % (below(one.least, 9), above(one.most, 9), report.precision, report.bound)
+        )
         if one.sharp != (one.least, one.most):
             lines.append('  between %s and %s at the most bits' % (below(one.sharp[0], 13), above(one.sharp[1], 13)))
         lines.append('  ' + one.advice)

@@ -26,15 +26,25 @@ from ..values import percent, read_bound, read_count, read_share
 def add_words(words: argparse.ArgumentParser) -> None:
     """The words of the command."""
     asking.add_model(words)
-    words.add_argument('--bound', required=True, action='append', metavar='B',
-                       help='the bound; as often as there are bounds')
+    words.add_argument(
+        '--bound', required=True, action='append', metavar='B', help='the bound; as often as there are bounds'
+    )
     words.add_argument('--depth', default='0', metavar='H', help='how often the region may be halved; 0 if left out')
-    words.add_argument('--from', metavar='V', dest='least',
-                       help='decides each part at the least precision from V on that does, in a report of version 2')
-    words.add_argument('--relative', action='store_true',
-                       help='rescales each parameter to its interval, so that sides are compared by what they are of it')
+    words.add_argument(
+        '--from',
+        metavar='V',
+        dest='least',
+        help='decides each part at the least precision from V on that does, in a report of version 2',
+    )
+    words.add_argument(
+        '--relative',
+        action='store_true',
+        help='rescales each parameter to its interval, so that sides are compared by what they are of it',
+    )
     words.add_argument('--coverage', metavar='SHARE', help='goes deeper until so much is decided, as 95%%')
-    words.add_argument('--report', metavar='FILE', help='writes the report of a single bound there; - for standard output')
+    words.add_argument(
+        '--report', metavar='FILE', help='writes the report of a single bound there; - for standard output'
+    )
     asking.add_session(words)
 
 
@@ -61,13 +71,21 @@ def run(given: argparse.Namespace) -> int:
             if given.report is not None:
                 _put(given.report, report)
             if given.json:
-                answers.append({'verdict': report.verdict, 'bound': str(bound), 'behind': asking.behind(report),
-                                'shares': {kind: str(part) for kind, part in report.shares.items()}})
+                answers.append(
+                    {
+                        'verdict': report.verdict,
+                        'bound': str(bound),
+                        'behind': asking.behind(report),
+                        'shares': {kind: str(part) for kind, part in report.shares.items()},
+                    }
+                )
                 continue
             told.write(report.verdict_line + '\n')
             if share is not None:
-                told.write('  decided: %s at depth %d, and %s was asked\n'
-                           % (percent(1 - report.shares[UNKNOWN]), report.depth, percent(Fraction(share))))
+                told.write(
+                    '  decided: %s at depth %d, and %s was asked\n'
+                    % (percent(1 - report.shares[UNKNOWN]), report.depth, percent(Fraction(share)))
+                )
             told.write('\n'.join(asking.behind_lines([report], session)) + '\n')
         if given.json:
             asking.put_json(answers, told)
