@@ -440,10 +440,9 @@ def tree(depth: int, leaf: str, axes: int = 1) -> str:
     return nodes(0)
 
 
-@kind("check")
-def rows_times_leaves() -> str:
-    """a report of 8,192 accepting leaves, for each of which 2,500 rows are tested at sixteen corners"""
-    depth, choices, common = 13, 2500, 10007
+def rows_by_leaves(depth: int, choices: int = 2500) -> str:
+    """A report of 2^depth accepting leaves, for each of which so many rows are tested at sixteen corners."""
+    common = 10007
     signs = [(-1) ** bin(subset).count("1") for subset in range(16)]
     lines = ["plift 1", "kind mdp", "parameters 4 a b c d", "common %d" % common, "states 3", "init 0", "goal 1 1"]
     for choice in range(choices):
@@ -456,6 +455,12 @@ def rows_times_leaves() -> str:
     lines += ["row 1 0 1", "to 1 0:%d" % common, "row 2 0 1", "to 2 0:%d" % common, "bound 1/1", "precision 4"]
     lines += ["depth %d" % depth, "grid %d" % 2**depth, "box" + " 0 %d" % 2**depth * 4]
     return "\n".join(lines) + "\n" + tree(depth, "accept 16 16 16\n", 4)
+
+
+@kind("check")
+def rows_times_leaves() -> str:
+    """a report of 8,192 accepting leaves, for each of which 2,500 rows are tested at sixteen corners"""
+    return rows_by_leaves(13)
 
 
 @kind("check")
