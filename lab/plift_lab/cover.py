@@ -15,7 +15,8 @@ LEVELS, MOST_LEVELS = 2, 6
 
 
 def cover(session: Session, question: Question, share: Fraction, tell: Callable[[Report], None]) -> Report:
-    """The report of the least depth at which so much is decided, of every second one; else the deepest that could be had.
+    """The report of the least depth at which so much is decided, of every second one; else the deepest that could be
+    had.
 
     Each goes on from the one before it, as far as so much is likely to be decided. Where that was too far the report is
     cut. One report of the whole question stands behind the answer.
@@ -64,7 +65,8 @@ def levels_due(report: Report, share: Fraction) -> int:
 
 
 def _open(report: Report, depth: int) -> Fraction:
-    """The share of the region that is unknown in the question's report at a depth, of this report's own or a smaller one."""
+    """The share of the region that is unknown in the question's report at a depth, of this report's own or a smaller
+    one."""
     if depth == report.depth:
         return report.shares[UNKNOWN]
     halved = sum(below == depth and isinstance(node, int) for node, (below, _) in zip(report.nodes, report.walk()))

@@ -8,6 +8,7 @@ from typing import Callable, Iterable, Iterator, List, Optional, Protocol
 
 from .faults import LOST, Fault
 from .head import Head
+from .outputs import fresh, writing
 from .pace import Pace
 from .parts import Part, Unfit, cheapest_parts, joined, tree_lines
 from .regions import Region
@@ -15,12 +16,13 @@ from .report import Report
 
 
 COLD = 8
-"""How many rectangles' time a part loses in which the program begins without what was found next to it; measured on models
-whose rectangles are dear, where it was two to five."""
+"""How many rectangles' time a part loses in which the program begins without what was found next to it; measured on
+models whose rectangles are dear, where it was two to five."""
 
 
 class Asker(Protocol):
-    """Writes the program's report of a region, a bound and a depth to a file, and returns how many seconds that took."""
+    """Writes the program's report of a region, a bound and a depth to a file, and returns how many seconds that
+    took."""
 
     def __call__(self, region: Region, bound: Fraction, depth: int, report: Path) -> float:
         ...
@@ -35,14 +37,14 @@ class Deepening:
         self._is_admitted = False
 
     def write(self, report: Path, tell: Callable[[float], None]) -> Optional[float]:
-        """Writes the report, and tells meanwhile which share of the work is done. Where all was asked at once it returns how
-        many seconds that took."""
+        """Writes the report, and tells meanwhile which share of the work is done. Where all was asked at once it
+        returns how many seconds that took."""
         parts = self._parts(report)
         if [part.depth for part in parts] == [0]:
             return self._ask(self._region, self.base.bound, self.depth, report)
         self._require_room(report)
         try:
-            with open(report, 'wb') as out:
+            with writing(report), fresh(report) as out:
                 out.writelines(joined(self.base, self.depth, parts, self._trees(parts, report, tell)))
         except Unfit as fault:
             raise Fault('what plift wrote of a part of the region %s' % fault, LOST) from None
@@ -56,8 +58,8 @@ class Deepening:
         return cheapest_parts(self.base, start + COLD * rectangle, rectangle)
 
     def _require_room(self, report: Path) -> None:
-        """Asks for the whole with the bound 1, which the first rectangle answers: where the rows have no room at this depth
-        that is refused before any part is asked."""
+        """Asks for the whole with the bound 1, which the first rectangle answers: where the rows have no room at this
+        depth that is refused before any part is asked."""
         if not self._is_admitted:
             self.pace.note(1, 1, self._ask(self._region, Fraction(1), self.depth, report))
             self._is_admitted = True

@@ -7,15 +7,17 @@ what its own numbers mean in the user's, and the report's hash. A job whose repo
 from __future__ import annotations
 
 import contextlib
+import errno
 import hashlib
 import json
 import os
 import shutil
+import stat
 import sys
 import tempfile
 from functools import lru_cache
 from pathlib import Path
-from typing import Dict, Optional, TextIO
+from typing import BinaryIO, Dict, Optional, TextIO
 
 try:
     import fcntl
@@ -24,6 +26,7 @@ except ImportError:  # a system without file locks
 
 from .faults import Fault
 from .origin import Origin
+from .outputs import is_regular, unwritten, write_file
 from .program import MOST_BYTES
 
 MARK = 'plift-lab.json'
@@ -33,25 +36,14 @@ def read_file(name: str, most: int = MOST_BYTES) -> bytes:
     """A file's bytes, or standard input's for `-`; one byte more than plift takes at most."""
     try:
         if name == '-':
-            return sys.stdin.buffer.read(most + 1)
+            if sys.stdin is None:
+                raise Fault('standard input can\'t be read: it is closed')
+            return _read(sys.stdin.buffer, most + 1)
         with open(name, 'rb') as source:
-            return source.read(most + 1)
+            return _read(source, most + 1)
     except (OSError, ValueError) as fault:
         cause = getattr(fault, 'strerror', None) or fault
         raise Fault('%s can\'t be read: %s' % (name or 'a file without a name', cause)) from None
-
-
-def write_file(path: Path, data: bytes) -> None:
-    """Writes a file as a whole: what stands there before is replaced at once, or stays."""
-    part = path.with_name(path.name + '.part')
-    try:
-        part.write_bytes(data)
-        os.replace(str(part), str(path))
-    except OSError as fault:
-        raise Fault('%s can\'t be written: %s' % (path, fault.strerror or fault)) from None
-    finally:  # what was interrupted isn't left
-        with contextlib.suppress(OSError):
-            part.unlink()
 
 
 @lru_cache(maxsize=4)
@@ -67,8 +59,8 @@ def digest(data: bytes) -> str:
 
 def read_origin(path: Path, report: bytes) -> Optional[Origin]:
     """What the file beside a report tells of it: nothing where there is none, or it is of another report."""
-    beside = path.with_name(path.name + '.json')
-    if not beside.is_file():
+    beside = _told_beside(path)
+    if beside is None:
         return None
     try:
         told = json.loads(beside.read_text('utf-8'))
@@ -80,6 +72,24 @@ def read_origin(path: Path, report: bytes) -> Optional[Origin]:
         ) from None
 
 
+def _told_beside(path: Path) -> Optional[Path]:
+    """The file that tells of a report: beside its name, or beside what the name is a link to."""
+    places = (path.with_name(path.name + '.json'), Path(os.path.realpath(path) + '.json'))
+    return next((place for place in places if place.is_file()), None)
+
+
+def _read(source: BinaryIO, most: int) -> bytes:
+    """At most so many bytes, for which no room is taken before they come."""
+    pieces = []
+    while most > 0:
+        piece = source.read(min(most, 2**20))
+        if not piece:
+            break
+        pieces.append(piece)
+        most -= len(piece)
+    return b''.join(pieces)
+
+
 class Evidence:
     """A folder that the user named, or one that is gone at the end."""
 
@@ -87,7 +97,7 @@ class Evidence:
         if named == '':
             raise Fault('--keep takes a folder, and this one has no name')
         self.is_kept = named is not None
-        self.folder = Path(named) if named is not None else Path(tempfile.mkdtemp(prefix='plift-lab.'))
+        self.folder = Path(named) if named is not None else _new_folder()
         self._jobs: Dict[str, str] = {}
         self._count = 0
         self._mark: Optional[TextIO] = None
@@ -102,7 +112,9 @@ class Evidence:
                 raise Fault('the folder %s holds other files: name one that is empty or new' % self.folder)
             self._lock()
         except OSError as fault:
-            raise Fault('the folder %s can\'t be used: %s' % (self.folder, fault.strerror or fault)) from None
+            cause = 'its %s is a link' % MARK if fault.errno == errno.ELOOP else fault.strerror or fault
+            status = unwritten(self.folder, fault).status
+            raise Fault('the folder %s can\'t be used: %s' % (self.folder, cause), status) from None
         for name in names:
             number = name[: -len('.report')]
             if name.endswith('.report') and number.isdigit():
@@ -114,9 +126,14 @@ class Evidence:
 
     def _lock(self) -> None:
         """Marks the folder as one of plift-lab, and keeps others out as long as this process lives."""
-        self._mark = open(str(self.folder / MARK), 'w', encoding='utf-8')
-        self._mark.write('{"what": "reports behind answers of plift-lab"}\n')
-        self._mark.flush()
+        flags = os.O_RDWR | os.O_CREAT | os.O_NOFOLLOW | os.O_NONBLOCK | os.O_CLOEXEC
+        self._mark = os.fdopen(os.open(self.folder / MARK, flags, 0o666), 'w', encoding='utf-8')
+        found = os.fstat(self._mark.fileno())
+        if not stat.S_ISREG(found.st_mode):
+            raise OSError(errno.EINVAL, 'its %s is no file' % MARK)
+        if not found.st_size:
+            self._mark.write('{"what": "reports behind answers of plift-lab"}\n')
+            self._mark.flush()
         if fcntl:
             try:
                 fcntl.flock(self._mark, fcntl.LOCK_EX | fcntl.LOCK_NB)
@@ -127,14 +144,14 @@ class Evidence:
     def model_file(self, text: bytes) -> Path:
         """A file with a model's text."""
         path = self.folder / _model_name(text)
-        if not path.is_file() or path.read_bytes() != text:
+        if not is_regular(path) or path.read_bytes() != text:
             write_file(path, text)
         return path
 
     def find(self, job: str) -> Optional[Path]:
         """The report of a job that was done before."""
         name = self._jobs.get(job)
-        return self.folder / name if name and (self.folder / name).is_file() else None
+        return self.folder / name if name and is_regular(self.folder / name) else None
 
     def next_report(self) -> Path:
         """Where the next report belongs."""
@@ -163,6 +180,15 @@ class Evidence:
     def close(self) -> None:
         """Removes a folder that nobody asked to keep, and lets go of one that is kept."""
         if self._mark:
-            self._mark.close()
+            with contextlib.suppress(OSError):
+                self._mark.close()
         if not self.is_kept:
             shutil.rmtree(str(self.folder), ignore_errors=True)
+
+
+def _new_folder() -> Path:
+    """A folder of our own among the system's temporary files."""
+    try:
+        return Path(tempfile.mkdtemp(prefix='plift-lab.'))
+    except OSError as error:
+        raise unwritten(error.filename or tempfile.gettempdir(), error) from None

@@ -4,8 +4,9 @@ from __future__ import annotations
 
 from typing import List
 
-DONE, SHORT, WRONG, LOST, INTERRUPTED = 0, 1, 2, 70, 130
-"""Statuses: done; stopped short of what was asked; wrong words or files; no program to ask; interrupted."""
+DONE, SHORT, WRONG, WRITING, MEMORY, LOST, INTERRUPTED = 0, 1, 2, 6, 8, 70, 130
+"""Statuses: done; stopped short of what was asked; wrong words or files; writing failed; out of memory; no program to
+ask; interrupted."""
 
 
 class Fault(Exception):
@@ -26,4 +27,5 @@ class Refused(Fault):
         elif status < 0:
             super().__init__('plift was stopped by signal %d' % -status, LOST)
         else:
-            super().__init__('plift ended with status %d: %s' % (status, note or 'without a note'), LOST)
+            known = status if status in (WRITING, MEMORY) else LOST
+            super().__init__('plift ended with status %d: %s' % (status, note or 'without a note'), known)

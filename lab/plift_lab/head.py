@@ -36,7 +36,8 @@ class Head:
         return replace(self, depth=depth, grid=grid, box=tuple(box))
 
     def of_part(self, ends: Tuple[int, ...], depth: int) -> 'Head':
-        """That of a job on a part of the region, whose ends are over this grid. Its own grid is made from them alone."""
+        """That of a job on a part of the region, whose ends are over this grid. Its own grid is made from them
+        alone."""
         common = reduce(gcd, ends, self.grid)
         part = replace(self, depth=0, grid=self.grid // common, box=tuple(end // common for end in ends))
         return part.at(depth)

@@ -11,6 +11,7 @@ from dataclasses import dataclass
 from fractions import Fraction
 from typing import Callable, Dict, Iterator, List, Tuple
 
+from .plain import plain
 from .regions import Region
 from .values import exact
 
@@ -50,7 +51,7 @@ class Model:
         """The names that it declares."""
         for what, line in _lines(self.text):
             if what == 'names':
-                return [name.decode('ascii', 'replace') for name in line.split()]
+                return [plain(name) for name in line.split()]
         return []
 
     def _changed(self, terms: Dict[bytes, bytes], is_kept: Callable[[bytes], bool]) -> 'Model':
@@ -82,4 +83,4 @@ class Model:
             terms[name.encode()] = b'(%s)' % (term if low == 0 else '%s+%s' % (exact(low), term)).encode()
             scale[name] = low, high
         units = tuple((name, Fraction(0), Fraction(1)) for name in region.names)
-        return self._changed(terms, lambda name: True), Region(units, region.fixed), scale
+        return (self._changed(terms, lambda name: True), Region(units, region.fixed), scale)

@@ -7,6 +7,7 @@ from fractions import Fraction
 from typing import Any, Dict, List
 
 from .models import Scale
+from .regions import NAME
 from .values import exact, read_number
 
 
@@ -40,12 +41,9 @@ class Origin:
     def read(cls, told: Dict[str, Any]) -> 'Origin':
         """From a file, which anybody may have written."""
         scale = {str(name): (read_number(low), read_number(high)) for name, (low, high) in told['scale'].items()}
+        fixed = {str(name): read_number(value) for name, value in told['fixed'].items()}
         if any(low >= high for low, high in scale.values()):
             raise ValueError('an interval is empty')
-        return cls(
-            str(told['goal']),
-            scale,
-            {str(name): read_number(value) for name, value in told['fixed'].items()},
-            [str(word) for word in told['words']],
-            str(told['model']),
-        )
+        if not all(map(NAME.fullmatch, [*scale, *fixed])):
+            raise ValueError('a parameter has no name')
+        return cls(str(told['goal']), scale, fixed, [str(word) for word in told['words']], str(told['model']))

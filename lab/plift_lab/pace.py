@@ -17,8 +17,8 @@ class Pace:
 
     @property
     def costs(self) -> Optional[Tuple[float, float]]:
-        """Seconds for a start, and for a rectangle: by the question with the fewest rectangles for a start and the one with
-        the most of all. None before two that differ were asked."""
+        """Seconds for a start, and for a rectangle: by the question with the fewest rectangles for a start and the one
+        with the most of all. None before two that differ were asked."""
         if not self._noted:
             return None
         few = min(self._noted, key=lambda one: one[1] / one[0])

@@ -1,8 +1,8 @@
 """Parts of a report that are asked again at a greater depth, and the report that their answers are joined to.
 
-Below a rectangle the tree of a report is the one that the rectangle has when it is asked by itself, to the depth that is
-left: what is asked of a certificate knows neither the root nor the grid. So the joined report has the bytes of a single
-`verify` at that depth, whichever parts were asked. `plift check` judges it as any other.
+Below a rectangle the tree of a report is the one that the rectangle has when it is asked by itself, to the depth that
+is left: what is asked of a certificate knows neither the root nor the grid. So the joined report has the bytes of a
+single `verify` at that depth, whichever parts were asked. `plift check` judges it as any other.
 """
 
 from __future__ import annotations
@@ -21,8 +21,8 @@ class Unfit(Fault):
 
 @dataclass(frozen=True)
 class Part:
-    """A rectangle of a report with all of its tree: where the tree begins in the report's text and where it ends, below how
-    many splits it stands, and the rectangle's ends over the report's grid."""
+    """A rectangle of a report with all of its tree: where the tree begins in the report's text and where it ends, below
+    how many splits it stands, and the rectangle's ends over the report's grid."""
 
     start: int
     stop: int
@@ -36,9 +36,9 @@ def unknown_parts(report: Report) -> List[Part]:
 
 
 def cheapest_parts(report: Report, start: float, rectangle: float) -> List[Part]:
-    """The parts that hold all unknown leaves and take the least time, when a question takes so long to start and so long for
-    each rectangle. Where starting is dear, neighbours are asked together, and what is decided between them is asked with
-    them."""
+    """The parts that hold all unknown leaves and take the least time, when a question takes so long to start and so
+    long for each rectangle. Where starting is dear, neighbours are asked together, and what is decided between them is
+    asked with them."""
     chosen = [False] * len(report.nodes)
     below: List[Tuple[int, float]] = []  # of trees behind the node: how many nodes they have, and what they cost
     for place in reversed(range(len(report.nodes))):

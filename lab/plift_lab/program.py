@@ -10,10 +10,13 @@ import signal
 import subprocess
 import tempfile
 import threading
+from functools import partial
 from pathlib import Path
-from typing import BinaryIO, Callable, Iterator, List, Optional, Union
+from typing import IO, BinaryIO, Callable, Iterator, List, Optional, Tuple, Union
 
-from .faults import LOST, Fault, Refused
+from .faults import LOST, WRITING, Fault, Refused
+from .outputs import fresh, unwritten
+from .plain import plain
 
 CHECKOUT = Path(__file__).resolve().parent.parent.parent
 """The repository's folder, where this package lies in one."""
@@ -56,34 +59,26 @@ class Program:
     def verify(
         self, words: List[str], model: Path, report: Path, watch: Optional[Callable[[Path], None]] = None
     ) -> float:
-        """Writes the report of a model to a file, and returns how many seconds of the processor that took. While it runs,
-        `watch` is called with that file now and then."""
+        """Writes the report of a model to a file, and returns how many seconds of the processor that took. While it
+        runs, `watch` is called with that file now and then."""
         before = _spent()
-        with open(model, 'rb') as source, open(report, 'wb') as sink, self._running(words, source, sink) as process:
-            while watch is not None:
-                try:
-                    process.wait(0.2)
-                    break
-                except subprocess.TimeoutExpired:
-                    watch(report)
-            note = process.communicate()[1]
+        with open(model, 'rb') as source, _new(report) as sink, self._running(words, source, sink) as process:
+            note = _ended(process, partial(watch, report) if watch else None)[1]
         if process.returncode:
-            raise Refused(process.returncode, _line(note), words, model.read_bytes())
+            raise Refused(process.returncode, _line(note) + _why_full(process, report), words, model.read_bytes())
         return _spent() - before
 
     def check(self, report: bytes) -> str:
         """The line that tells that a report is sound, and how many leaves of each kind it has."""
-        with tempfile.TemporaryFile() as source:  # a pipe is fed half a kilobyte at a time
-            source.write(report)
-            source.seek(0)
+        with _file_of(report) as source:  # a pipe is fed half a kilobyte at a time
             with self._running(['check'], source, subprocess.PIPE) as process:
-                line, note = process.communicate()
+                line, note = _ended(process)
         if process.returncode:
             raise Refused(process.returncode, _line(note), ['check'], report)
         return _line(line)
 
     @contextlib.contextmanager
-    def _running(self, words: List[str], source: BinaryIO, sink: Union[BinaryIO, int]) -> Iterator[subprocess.Popen]:
+    def _running(self, words: List[str], source: IO[bytes], sink: Union[BinaryIO, int]) -> Iterator[subprocess.Popen]:
         """The program at work, which is ended behind it, whatever happened."""
         process = None
         try:
@@ -94,7 +89,7 @@ class Program:
             if process is not None:
                 _end(process)
 
-    def _start(self, words: List[str], source: BinaryIO, sink: Union[BinaryIO, int]) -> subprocess.Popen:
+    def _start(self, words: List[str], source: IO[bytes], sink: Union[BinaryIO, int]) -> subprocess.Popen:
         try:
             return subprocess.Popen([str(self.path)] + words, stdin=source, stdout=sink, stderr=subprocess.PIPE)
         except (OSError, ValueError) as fault:
@@ -108,7 +103,7 @@ def _signals_held() -> Iterator[None]:
         yield  # only the main thread is told of signals
         return
     came: List[int] = []
-    handlers = {each: signal.getsignal(each) for each in (signal.SIGHUP, signal.SIGINT, signal.SIGTERM)}
+    handlers = {each: signal.getsignal(each) for each in (signal.SIGHUP, signal.SIGINT, signal.SIGQUIT, signal.SIGTERM)}
     held = {each: handler for each, handler in handlers.items() if handler not in (None, signal.SIG_IGN)}
     for each in held:
         signal.signal(each, lambda number, _: came.append(number))
@@ -119,6 +114,17 @@ def _signals_held() -> Iterator[None]:
             signal.signal(each, handler)
         for number in came:
             signal.raise_signal(number)
+
+
+def _ended(process: subprocess.Popen, watch: Optional[Callable[[], None]] = None) -> Tuple[bytes, bytes]:
+    """What a process writes until it ends. It is waited for by short times, for a signal that comes just before a wait
+    doesn't end that."""
+    while True:
+        try:
+            return process.communicate(timeout=0.2)
+        except subprocess.TimeoutExpired:
+            if watch:
+                watch()
 
 
 def _end(process: subprocess.Popen) -> None:
@@ -138,4 +144,36 @@ def _spent() -> float:
 
 
 def _line(text: bytes) -> str:
-    return text.decode('utf-8', 'replace').strip().replace('\n', '; ')
+    return plain(text.strip().replace(b'\n', b'; '))
+
+
+def _new(report: Path) -> BinaryIO:
+    """The file that a report is written to."""
+    try:
+        return fresh(report)
+    except OSError as error:
+        raise unwritten(report, error) from None
+
+
+def _why_full(process: subprocess.Popen, report: Path) -> str:
+    """What the system says where the program could write no more."""
+    if process.returncode == WRITING:
+        try:
+            with open(report, 'ab') as out:
+                out.write(bytes(2**16))
+        except OSError as error:
+            return ': %s' % (error.strerror or error)
+    return ''
+
+
+@contextlib.contextmanager
+def _file_of(data: bytes) -> Iterator[IO[bytes]]:
+    """A file without a name that has these bytes."""
+    try:
+        holder = tempfile.TemporaryFile()
+        holder.write(data)
+        holder.seek(0)
+    except OSError as error:
+        raise unwritten('a file in %s' % tempfile.gettempdir(), error) from None
+    with holder:
+        yield holder

@@ -8,6 +8,7 @@ from fractions import Fraction
 from typing import Dict, Iterable, List, Tuple
 
 from .faults import Fault
+from .plain import listed
 from .values import exact, read_number
 
 Interval = Tuple[Fraction, Fraction]
@@ -80,10 +81,10 @@ class Region:
         names, known = list(names), self.names + [name for name, _ in self.fixed]
         for name in known:
             if name not in names:
-                raise Fault('the model has no parameter %s; it has %s' % (name, ', '.join(names) or 'none'))
+                raise Fault('the model has no parameter %s; it has %s' % (name, listed(names)))
         missing = [name for name in names if name not in known]
         if missing:
-            raise Fault('the region has no interval for %s' % ', '.join(missing))
+            raise Fault('the region has no interval for %s' % listed(missing))
 
 
 def _clause(clause: str) -> Tuple[str, Fraction, Fraction]:

@@ -14,6 +14,7 @@ from typing import Any, Dict, FrozenSet, Iterator, List, Optional, Tuple
 
 from .faults import Fault
 from .origin import Origin
+from .plain import listed, plain
 from .regions import Interval, Region
 from .values import percent
 
@@ -59,7 +60,7 @@ class Report:
     """A sound report, with what `plift check` says of it and what is known of how it came to be."""
 
     def __init__(self, data: bytes, soundness: str, origin: Origin = Origin(), path: str = '') -> None:
-        self.data, self.soundness, self.origin, self.path = data, soundness, origin, path
+        self.data, self.soundness, self.origin, self.path = (data, soundness, origin, path)
         self._ends: Dict[Tuple[int, int], Fraction] = {}
         try:
             self._read_head()
@@ -68,6 +69,18 @@ class Report:
             raise Fault(
                 '%s was called sound, but it isn\'t in a form that is known here' % (path or 'the report')
             ) from None
+
+    def require_borne_out(self) -> None:
+        """Refuses what is told of a report's parameters that the report itself doesn't bear out: one that was rescaled
+        runs from 0 to 1 in it, and one that was fixed isn't there."""
+        ends = dict(zip(self.parameters, zip(self.box[::2], self.box[1::2])))
+        wrong = [name for name in self.origin.scale if ends.get(name) != (0, self.grid)]
+        wrong += [name for name in self.origin.fixed if name in ends]
+        if wrong:
+            raise Fault(
+                '%s.json tells of %s what the report\'s region doesn\'t bear out; move it away to read the report by '
+                'itself' % (self.path, listed(wrong))
+            )
 
     def _read_head(self) -> None:
         box = self.data.index(b'\nbox') + 1
@@ -80,7 +93,7 @@ class Report:
             raise Fault('a report of version %s isn\'t read here; this reads versions 1 and 2' % lines['plift'])
         self.version = int(lines['plift'])
         self.kind, self.parameters = lines['kind'], lines['parameters'].split()[1:]
-        self.common, self.states, self.init = int(lines['common']), int(lines['states']), int(lines['init'])
+        self.common, self.states, self.init = (int(lines['common']), int(lines['states']), int(lines['init']))
         self.goals = [int(word) for word in lines['goal'].split()[1:]]
         self.bound, self.precision = Fraction(lines['bound']), int(lines['precision'])
         self.least_precision = int(lines['from']) if self.version == 2 else self.precision
@@ -91,7 +104,7 @@ class Report:
         self.live = [name for i, name in enumerate(self.parameters) if any(one >> i & 1 for one in sets)]
 
     def _read_tree(self) -> None:
-        """Notes the nodes in their order: for a split its axis, for a leaf its kind, number, scheduler and precision."""
+        """Notes the nodes in their order: a split's axis; a leaf's kind, number, scheduler and precision."""
         self.nodes: List[Any] = []
         self.starts: List[int] = []
         """Where each node begins in the text."""
@@ -100,7 +113,7 @@ class Report:
         self._picks: List[Optional[int]] = []
         self._precisions: List[int] = []
         self._schedulers: Dict[bytes, int] = {}
-        start, end, line, bits, is_begun = self.tree_begin, len(self.data), b'', self.precision, False
+        start, end, line, bits, is_begun = (self.tree_begin, len(self.data), b'', self.precision, False)
         while start < end:
             if not is_begun:
                 self.starts.append(start)
@@ -139,7 +152,7 @@ class Report:
     @property
     def question(self) -> str:
         """What was asked, as a line."""
-        return 'P( reach %s ) <= %s' % (self.origin.goal, self.bound)
+        return 'P( reach %s ) <= %s' % (plain(self.origin.goal), self.bound)
 
     def user(self, name: str, value: Fraction) -> Fraction:
         """A parameter's value in the user's own numbers."""

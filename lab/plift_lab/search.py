@@ -1,7 +1,8 @@
 """The supremum and the infimum of a probability over a region, as closely as asked.
 
 The region is split where it helps: first the rectangle that keeps the answer open, on the axis that gains most. A step
-only asks plift for numbers over rectangles; what is said at the end follows from those that the rectangles at hand show.
+only asks plift for numbers over rectangles; what is said at the end follows from those that the rectangles at hand
+show.
 """
 
 from __future__ import annotations

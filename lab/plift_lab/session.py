@@ -2,6 +2,7 @@
 
 from __future__ import annotations
 
+import contextlib
 import json
 import sys
 import time
@@ -12,10 +13,12 @@ from pathlib import Path
 from typing import Any, Callable, Dict, List, Optional, Tuple
 
 from .deeper import Deepening
+from .ends import say
 from .evidence import Evidence, digest, read_file, read_origin
 from .faults import Refused
 from .models import Model, Scale
 from .origin import Origin
+from .outputs import fresh, writing
 from .pace import Pace
 from .parts import cut
 from .program import MOST_CHECKED_BYTES, find_program
@@ -102,8 +105,7 @@ class Progress:
     def clear(self) -> None:
         """Takes the line on a terminal away."""
         if self._width:
-            sys.stderr.write('\r' + ' ' * self._width + '\r')
-            sys.stderr.flush()
+            say('\r' + ' ' * self._width, '\r')
             self._width = 0
 
     def _is_due(self) -> bool:
@@ -113,8 +115,7 @@ class Progress:
         self._told = time.monotonic()
         if self.is_terminal:
             self._width = max(self._width, len(text))
-        sys.stderr.write('\r' + text.ljust(self._width) if self.is_terminal else text + '\n')
-        sys.stderr.flush()
+        say('\r' + text.ljust(self._width) if self.is_terminal else text, '' if self.is_terminal else '\n')
 
 
 class Follower:
@@ -170,6 +171,13 @@ class Job:
         words = self.question.words(self.region, self.bits)
         return Origin(self.question.goal, self.scale, dict(self.question.region.fixed), words, self.model.name)
 
+    def is_of(self, report: Report) -> bool:
+        """Whether a report that was kept speaks of this region, this bound and this depth."""
+        least, region = self.question.least_precision, {name: (low, high) for name, low, high in self.region.intervals}
+        head = report.bound, report.depth, report.precision, report.least_precision
+        due = (self.question.bound, self.question.depth, self.bits, self.bits if least is None else least)
+        return head == due and report.own_rectangle(report.box) == region
+
     @property
     def name(self) -> str:
         """A hash that names it."""
@@ -197,7 +205,7 @@ class Session:
         """The report that answers a question, once `plift check` has called it sound."""
         model, region, scale = question.prepared()
         path = self.evidence.model_file(model.text)
-        bits = question.precision or self._room.get(path.name, MOST_BITS)
+        bits = question.precision if question.precision else self._room.get(path.name, MOST_BITS)
         while True:
             try:
                 return self._run(Job(question, path, region, scale, bits))
@@ -208,8 +216,8 @@ class Session:
                 self._room[path.name] = bits
 
     def deepen(self, question: Question, base: Report) -> Report:
-        """The same, from a report of the same question at a smaller depth: what is decided there is asked again only where
-        that takes less time. The bytes are those of `ask`."""
+        """The same, from a report of the same question at a smaller depth: what is decided there is asked again only
+        where that takes less time. The bytes are those of `ask`."""
         model, region, scale = question.prepared()
         job = Job(question, self.evidence.model_file(model.text), region, scale, base.precision)
         try:
@@ -230,16 +238,19 @@ class Session:
         if known:
             data = read_file(str(known), MOST_CHECKED_BYTES)
             if read_origin(known, data) == origin:
-                return Report(data, self.program.check(data), origin, str(known))
+                report = Report(data, self.program.check(data), origin, str(known))
+                if job.is_of(report):
+                    return report
         path = self.evidence.next_report()
         part = path.with_name(path.name + '.part')
         try:
             seconds = self._write(job, base, part)
             data = read_file(str(part), MOST_CHECKED_BYTES)
             soundness = self.program.check(data)
-            part.replace(path)
+            with writing(path):
+                part.replace(path)
         finally:
-            if part.exists():
+            with contextlib.suppress(OSError):
                 part.unlink()
         self.evidence.note(path, name, data, origin)
         report = Report(data, soundness, origin, str(path))
@@ -248,19 +259,19 @@ class Session:
         return report
 
     def _write(self, job: Job, base: Optional[Report], report: Path) -> Optional[float]:
-        """Writes a job's report, from one at another depth if there is one. Returns how many seconds that took, where all was
-        asked at once."""
+        """Writes a job's report, from one at another depth if there is one. Returns how many seconds that took, where
+        all was asked at once."""
         if base is None:
             return self.program.verify(job.origin.words, job.model, report, self.progress.watcher())
         if base.depth >= job.question.depth:
-            with open(report, 'wb') as out:
+            with writing(report), fresh(report) as out:
                 out.writelines(cut(base, job.question.depth))
             return None
 
-        def ask(region: Region, bound: Fraction, depth: int, answer: Path) -> float:
+        def ask(region: Region, bound: Fraction, depth: int, report: Path) -> float:
             words = replace(job.question, bound=bound, depth=depth).words(region, job.bits)
             watch = self.progress.watcher() if depth == job.question.depth else None
-            return self.program.verify(words, job.model, answer, watch)
+            return self.program.verify(words, job.model, report, watch)
 
         deepening = Deepening(base, job.question.depth, self._pace(job), ask)
         return deepening.write(report, self.progress.teller('of what was unknown is asked again'))
@@ -278,7 +289,9 @@ class Session:
             raise
         if name == '-':
             return Report(data, soundness)
-        return Report(data, soundness, read_origin(Path(name), data) or Origin(), name)
+        report = Report(data, soundness, read_origin(Path(name), data) or Origin(), name)
+        report.require_borne_out()
+        return report
 
     def ask_again(
         self, report: Report, region: Region, bound: Fraction, depth: int = 0, precision: Optional[int] = None

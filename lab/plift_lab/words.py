@@ -1,7 +1,8 @@
 """Words of a command line."""
 
 import argparse
-from typing import NoReturn
+import sys
+from typing import IO, NoReturn, Optional
 
 from .faults import Fault
 
@@ -11,3 +12,7 @@ class Words(argparse.ArgumentParser):
 
     def error(self, message: str) -> NoReturn:
         raise Fault('%s; `%s --help` tells the words' % (message, self.prog))
+
+    def _print_message(self, message: str, file: Optional[IO[str]] = None) -> None:
+        """Writes a page. What can't be written is a fault, which the parser itself would pass over."""
+        (file or sys.stderr).write(message)

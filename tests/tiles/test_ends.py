@@ -10,7 +10,8 @@ import unittest
 from pathlib import Path
 from unittest import mock
 
-from common import COMMAND, EXAMPLES, Job, TilesCase, joined, work
+from common import COMMAND, EXAMPLES, Answer, Job, TilesCase, joined, work
+from plift_tiles.job import beside
 from plift_tiles.join import join
 
 # Sleeps in the first call of `verify`, as its file tells whom to wake; then it is the program.
@@ -61,7 +62,7 @@ class Ends(TilesCase):
 
     def test_a_signal_ends_a_worker_and_its_program(self) -> None:
         job = self.job()
-        for number in (signal.SIGTERM, signal.SIGHUP, signal.SIGINT):
+        for number in (signal.SIGTERM, signal.SIGHUP, signal.SIGINT, signal.SIGQUIT):
             process = self.begun("work work 1 2", self.stand_in(SLOW), "work/job.txt")
             self.assertTrue(self.end(process, number))
             self.assertEqual(process.returncode, 128 + number)
@@ -131,11 +132,44 @@ class Ends(TilesCase):
         job = self.done_job()
         with open("/dev/full", "wb") as full:
             came = self.call("join work", stdout=full)
-        self.assertEqual((came.status, came.told), (6, "plift-tiles: [Errno 28] No space left on device\n"))
+        self.assertEqual(
+            (came.status, came.told), (6, "plift-tiles: standard output can't be written: No space left on device\n")
+        )
         job.report(1).unlink()
         came = self.limited("work work 1")
         self.assertIn(came.status, (6, 128 + signal.SIGXFSZ), came.told)
         self.assertEqual((job.left, self.parts()), ([1], []))
+
+    def test_streams_that_are_closed_or_full(self) -> None:
+        job = self.done_job()
+        lines = "--help", "join --help", "--version", "left work", "status work", "join work"
+        job.report(1).unlink()
+        for line in (*lines, "join work --partial"):
+            for to, says in (("> /dev/full", "No space left on device"), (">&-", "is closed")):
+                due = 9 if line == "join work" and to != ">&-" else 6
+                came = self.shell(f"{line} {to}")
+                self.assertEqual((came.status, came.out, came.told.count("\n")), (due, b"", 1), (line, came.told))
+                self.assertRegex(came.told, f"plift-tiles: (standard output .*{says}|1 of 3 tiles .*)\n")
+        self.assertEqual(self.shell("work work 1 2>&-").status, 0)
+        self.assertEqual(self.shell("work none 1 2> /dev/full").status, 2)
+        came = self.shell("split new --depth 7 <&-")
+        self.assertEqual((came.status, came.told), (2, "plift-tiles: standard input can't be read: it is closed\n"))
+        self.assertEqual((self.parts(), job.left), ([], []))
+
+    def shell(self, line: str) -> Answer:
+        """What a line of the shell comes to."""
+        environment = {**os.environ, "PLIFT_PROGRAM": str(self.program.path)}
+        words = ["sh", "-c", f"exec '{COMMAND}' {line}"]
+        came = subprocess.run(words, cwd=self.folder, env=environment, capture_output=True)
+        return Answer(came.returncode, came.stdout, came.stderr.decode())
+
+    def test_a_link_that_somebody_laid_is_not_followed(self) -> None:
+        job, victim = self.job(), self.folder / "victim"
+        victim.write_bytes(b"precious")
+        part = beside(job.report(1))
+        part.symlink_to(victim)
+        self.assertEqual(work(self.program, job, job.numbers), 0)
+        self.assertEqual((victim.read_bytes(), self.parts(), job.left), (b"precious", [], []))
 
     def test_nobody_reads_what_is_told(self) -> None:
         self.job()

@@ -17,8 +17,8 @@ split new --depth 4 < tree.report           | 2  | --depth 4: the report has dep
 split new --depth 21 < tree.report          | 2  | --depth is a whole number from 1 to 20, and not '21'
 split work --depth 7 < tree.report          | 2  | work is there already
 split tree.report --depth 7 < tree.report   | 2  | tree.report is there already
-split none/new --depth 7 < tree.report      | 2  | No such file or directory
-split tree.report/x --depth 7 < tree.report | 2  | Not a directory
+split none/new --depth 7 < tree.report      | 2  | none/new can't be written: No such file or directory
+split tree.report/x --depth 7 < tree.report | 2  | tree.report/x can't be written: Not a directory
 split new --depth 7 < cut.report            | 1  | not sound: line 51: Truncated
 split new --depth 7 < empty                 | 1  | not sound: line 1: Truncated
 split new --depth 7 < changed.report        | 1  | not sound: node 4 state 1 choice 0 corner 1: 6560 > 6400
@@ -28,6 +28,9 @@ split new --depth 17 < fine.report          | 2  | usage: --region Wide
 left none                                   | 2  | none is no folder that `plift-tiles split` has made
 left tree.report                            | 2  | tree.report is no folder that `plift-tiles split` has made
 left other                                  | 2  | other has another job.txt or tiles.txt than `plift-tiles split` writes
+join strange --partial                      | 2  | strange has another job.txt or tiles.txt than `plift-tiles split` writes
+join deeper --partial                       | 9  | deeper/base.report has depth 4, which job.txt doesn't tell
+join loud --partial                         | 2  | loud has another job.txt or tiles.txt
 left short                                  | 9  | short/tiles.txt has 2 tiles, and job.txt tells 3
 left work more                              | 2  | unrecognized arguments: more
 work none 1                                 | 2  | none is no folder that `plift-tiles split` has made
@@ -64,8 +67,12 @@ class Words(TilesCase):
         for name, data in texts.items():
             (self.folder / name).write_bytes(data)
         self.job()
-        for name in ("other", "short"):
+        for name in ("other", "short", "strange", "deeper", "loud"):
             self.job(name=name)
+        told = (self.folder / "work/job.txt").read_text()
+        (self.folder / "strange/job.txt").write_text(told.replace("levels 3", "levels 40"))
+        (self.folder / "deeper/job.txt").write_text(told.replace("depth 7\nlevels 3", "depth 20\nlevels 18"))
+        (self.folder / "loud/job.txt").write_text(told.replace("levels 3", "levels \x1b[2J"))
         (self.folder / "other/job.txt").write_text("depth 7\n")
         lines = (self.folder / "short/tiles.txt").read_text().splitlines(keepends=True)
         (self.folder / "short/tiles.txt").write_text("".join(lines[:2]))

@@ -4,21 +4,23 @@ from __future__ import annotations
 
 import argparse
 import os
-import signal
 import sys
 from pathlib import Path
-from typing import Iterable, List, NoReturn, Optional
+from typing import Iterable, List, Optional
 
-from plift_lab.faults import LOST, Fault
-from plift_lab.program import find_program
+from plift_lab.ends import Tool, say
+from plift_lab.evidence import read_file
+from plift_lab.faults import Fault
+from plift_lab.plain import printable
+from plift_lab.program import MOST_CHECKED_BYTES, find_program
 from plift_lab.values import read_count
 from plift_lab.words import Words
 
 from . import __version__
-from .faults import DONE, MEMORY, SIGNAL, WRITING, fault_of, status_of
+from .faults import DONE, SIGNAL, status_of
 from .join import join
-from .job import Job
-from .split import GREATEST_DEPTH, split
+from .job import MOST_DEPTH, Job
+from .split import split
 from .work import work
 
 ABOUT = """plift-tiles takes a finished report of plift to a greater depth on many processors and machines.
@@ -39,7 +41,6 @@ COMMANDS = {
     'join': 'writes the report of the whole region',
     'status': 'tells how many tiles are done',
 }
-SIGNALS = (signal.SIGHUP, signal.SIGINT, signal.SIGTERM)
 
 
 def parser() -> Words:
@@ -68,43 +69,23 @@ def parser() -> Words:
 
 def main(words: Optional[List[str]] = None) -> int:
     """Runs one command and returns its status."""
-    try:
-        for each in SIGNALS:
-            signal.signal(each, _end_by_signal)
-        given = parser().parse_args(words)
-        if not given.command:
-            raise Fault('name a command: %s' % ', '.join(COMMANDS))
-        status = RUN[given.command](given)
-        sys.stdout.flush()
-        return status
-    except Fault as fault:
-        return _told(str(fault), status_of(fault))
-    except KeyboardInterrupt as end:
-        return _told('ended by a signal; what is done stays, and the same words go on', SIGNAL + int(end.args[0]))
-    except BrokenPipeError:
-        os.dup2(os.open(os.devnull, os.O_WRONLY), sys.stdout.fileno())
-        return WRITING
-    except OSError as error:
-        _drop_output()
-        return _told(str(error), fault_of(error).status)
-    except MemoryError:
-        return _told('out of memory', MEMORY)
-    except Exception as fault:  # a fault of this tool, told without a trace
-        if os.environ.get('PLIFT_TILES_TRACE'):
-            raise
-        return _told(
-            'a fault of plift-tiles itself (%s: %s); PLIFT_TILES_TRACE=1 shows where' % (type(fault).__name__, fault),
-            LOST,
-        )
+    return TOOL.run(lambda: _run(words))
+
+
+def _run(words: Optional[List[str]]) -> int:
+    given = parser().parse_args(words)
+    if not given.command:
+        raise Fault('name a command: %s' % ', '.join(COMMANDS))
+    return RUN[given.command](given)
 
 
 def _run_split(given: argparse.Namespace) -> int:
-    depth = read_count(given.depth, '--depth', 1, GREATEST_DEPTH)
+    depth = read_count(given.depth, '--depth', 1, MOST_DEPTH)
     if os.path.lexists(given.place):
         raise Fault('%s is there already; a job begins in a folder of its own' % given.place)
-    if sys.stdin.isatty():
+    if sys.stdin is not None and sys.stdin.isatty():
         _tell('reading the report from standard input; give a file by < report')
-    count = split(find_program(), sys.stdin.buffer.read(), given.place, depth)
+    count = split(find_program(), read_file('-', MOST_CHECKED_BYTES), given.place, depth)
     _tell('%d tiles' % count)
     return DONE
 
@@ -147,25 +128,13 @@ def _chosen(job: Job, numbers: List[str], part: Optional[str]) -> Iterable[int]:
     return job.numbers[read_count(first, 'K in --part K/M', 1, count) - 1 :: count]
 
 
-def _end_by_signal(number: int, _: object) -> NoReturn:
-    """Ends what runs, once: a second signal doesn't stop the tidying."""
-    for each in SIGNALS:
-        signal.signal(each, signal.SIG_IGN)
-    raise KeyboardInterrupt(number)
-
-
 def _tell(text: str) -> None:
-    sys.stderr.write('plift-tiles: %s\n' % text.replace('\n', ' '))
+    say('plift-tiles: %s' % printable(text))
 
 
-def _told(text: str, status: int) -> int:
-    _tell(text)
-    return status
-
-
-def _drop_output() -> None:
-    """Keeps what couldn't be written from being tried once more when Python ends."""
-    try:
-        sys.stdout.flush()
-    except OSError:
-        os.dup2(os.open(os.devnull, os.O_WRONLY), sys.stdout.fileno())
+TOOL = Tool(
+    'plift-tiles',
+    'ended by a signal; what is done stays, and the same words go on',
+    status_of,
+    lambda number: SIGNAL + number,
+)

@@ -1,7 +1,7 @@
 """The folder of a job: a report whose unknown leaves are the tiles, the model, and the reports of tiles that are done.
 
-    job.txt          depth of the whole, halvings of a tile, bound, precision, in version 2 the least one, number of tiles
-    base.report      the report whose unknown leaves are the tiles
+    job.txt          depth of the whole, halvings of a tile, bound, precision, in version 2 the least one, number of
+    tiles base.report      the report whose unknown leaves are the tiles
     model.drn        its model as a text; its goal states have the label `goal`
     tiles.txt        number and region of each tile
     done/N.report    the report of tile N, once `plift check` has judged it
@@ -17,6 +17,7 @@ from plift_lab.faults import Fault
 
 from .faults import UNFIT
 
+MOST_DEPTH = 20
 GOAL = 'goal'
 """The label of goal states in the model's text."""
 
@@ -28,7 +29,8 @@ class Job:
         self.place = place
         try:
             told = dict(line.split(' ', 1) for line in (place / 'job.txt').read_text('ascii').splitlines())
-            self.depth, self.levels, count = (int(told[key]) for key in ('depth', 'levels', 'tiles'))
+            self.depth = _whole(told['depth'], MOST_DEPTH)
+            self.levels, count = _whole(told['levels'], self.depth), _whole(told['tiles'], 2**MOST_DEPTH)
             self.bound, self.precision, self.least = told['bound'], told['precision'], told.get('from')
             lines = (place / 'tiles.txt').read_text('ascii').splitlines()
             self.regions = [line.split('\t', 1)[1] for line in lines]
@@ -36,6 +38,8 @@ class Job:
             raise Fault('%s is no folder that `plift-tiles split` has made' % place) from None
         except (ValueError, KeyError, IndexError):
             raise Fault('%s has another job.txt or tiles.txt than `plift-tiles split` writes' % place) from None
+        except OSError as error:
+            raise Fault('%s can\'t be read: %s' % (error.filename or place, error.strerror or error)) from None
         if len(self.regions) != count:
             raise Fault('%s/tiles.txt has %d tiles, and job.txt tells %d' % (place, len(self.regions), count), UNFIT)
 
@@ -70,6 +74,13 @@ class Job:
     def words(self, number: int) -> List[str]:
         """The program's words for a tile."""
         return words(self.bound, self.regions[number - 1], str(self.levels), self.precision, self.least)
+
+
+def _whole(text: str, most: int) -> int:
+    """A number that `split` may have written."""
+    if not (text.isdigit() and len(text) < 9 and int(text) <= most):
+        raise ValueError(text)
+    return int(text)
 
 
 def words(bound: str, region: str, depth: str, precision: str, least: Optional[str]) -> List[str]:

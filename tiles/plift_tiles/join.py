@@ -36,6 +36,8 @@ class Joining:
                 UNFIT,
             )
         head = Head.of(self.base)
+        if head.depth + job.levels != job.depth:
+            raise Fault('%s has depth %d, which job.txt doesn\'t tell' % (job.base, head.depth), UNFIT)
         self.heads = dict(zip(job.numbers, (head.of_part(part.ends, job.levels) for part in self.parts)))
         self.open_tree = _open_tree(self.base, self.parts[0].ends, job.levels) if self.left else []
 

@@ -10,6 +10,7 @@ from pathlib import Path
 
 from plift_lab.faults import Fault
 from plift_lab.head import Head
+from plift_lab.outputs import writing
 from plift_lab.parts import unknown_parts
 from plift_lab.program import Program
 from plift_lab.regions import shown
@@ -17,8 +18,6 @@ from plift_lab.report import Report
 
 from .faults import UNFIT
 from .job import beside, lay_out, words
-
-GREATEST_DEPTH = 20
 
 
 def split(program: Program, data: bytes, place: Path, depth: int) -> int:
@@ -28,10 +27,11 @@ def split(program: Program, data: bytes, place: Path, depth: int) -> int:
         raise Fault('--depth %d: the report has depth %d, and a greater one is due' % (depth, report.depth))
     part = beside(place)
     shutil.rmtree(part, ignore_errors=True)
-    part.mkdir()
     try:
-        count = _fill(program, report, part, depth)
-        part.rename(place)
+        with writing(place):
+            part.mkdir()
+            count = _fill(program, report, part, depth)
+            part.rename(place)
     finally:
         shutil.rmtree(part, ignore_errors=True)
     return count

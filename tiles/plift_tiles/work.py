@@ -2,14 +2,17 @@
 
 from __future__ import annotations
 
-import sys
+import contextlib
 from pathlib import Path
 from typing import Iterable
 
-from plift_lab.faults import LOST, Fault
+from plift_lab.ends import say
+from plift_lab.faults import LOST, WRITING, Fault
+from plift_lab.outputs import unwritten
+from plift_lab.plain import printable
 from plift_lab.program import MOST_CHECKED_BYTES, Program
 
-from .faults import DONE, LONG, WRITING, fault_of, status_of
+from .faults import DONE, LONG, status_of
 from .job import Job, beside
 
 
@@ -22,8 +25,8 @@ def work(program: Program, job: Job, numbers: Iterable[int]) -> int:
             if not job.is_done(number):
                 _decide(program, job, number)
         except (Fault, OSError) as error:
-            fault = fault_of(error) if isinstance(error, OSError) else error
-            sys.stderr.write('plift-tiles: tile %d: %s\n' % (number, fault))
+            fault = unwritten(job.report(number), error) if isinstance(error, OSError) else error
+            say('plift-tiles: tile %d: %s' % (number, printable(str(fault))))
             status = status_of(fault)
             if status in (WRITING, LOST):
                 break
@@ -33,15 +36,13 @@ def work(program: Program, job: Job, numbers: Iterable[int]) -> int:
 def _decide(program: Program, job: Job, number: int) -> None:
     """Leaves the report of a tile in its place, or nothing."""
     part = beside(job.report(number))
-    if part.exists():  # left by one that was killed and had this number
-        part.unlink()
     try:
         program.verify(job.words(number), job.model, part, _require_readable)
         _require_readable(part)
         program.check(part.read_bytes())
         part.replace(job.report(number))
     finally:
-        if part.exists():
+        with contextlib.suppress(OSError):
             part.unlink()
 
 

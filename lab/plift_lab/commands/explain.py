@@ -12,6 +12,7 @@ import sys
 from typing import List, Optional
 
 from ..faults import DONE, Fault
+from ..plain import printable
 from ..program import CHECKOUT
 
 HINTS = CHECKOUT / 'tools/hints'
@@ -45,7 +46,7 @@ def run(given: argparse.Namespace) -> int:
     lines = hints(status, note, []) or _messages(note)
     if not lines:
         raise Fault('nothing is known here of the note %r; docs/FORMATS.md of plift lists all' % note[:80])
-    sys.stdout.write('\n'.join([note] + ['  ' + line for line in lines]) + '\n')
+    sys.stdout.write('\n'.join([printable(note)] + ['  ' + printable(line) for line in lines]) + '\n')
     return DONE
 
 

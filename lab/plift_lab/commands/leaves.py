@@ -1,8 +1,8 @@
 """The leaves of a report as data: rectangle, kind, number of the initial state, precision, depth, scheduler.
 
 Rectangles are told in the user's own numbers, also those of a rescaled model. An accepted leaf's number is not exceeded
-inside it by any scheduler; a rejected leaf's is reached by its scheduler. --unknown prints the unknown leaves as regions
-that can be asked again, a line each.
+inside it by any scheduler; a rejected leaf's is reached by its scheduler. --unknown prints the unknown leaves as
+regions that can be asked again, a line each.
 
     plift-lab leaves examples/retry-tree.report --csv
     plift-lab leaves examples/retry-tree.report --unknown
@@ -15,7 +15,7 @@ import csv
 import json
 import sys
 from fractions import Fraction
-from typing import Any, Callable, Dict, List
+from typing import Any, Callable, Dict, List, Tuple
 
 from .. import asking
 from ..faults import DONE
@@ -39,14 +39,16 @@ def run(given: argparse.Namespace) -> int:
     """Does it."""
     with Session() as session:
         report = session.read(given.report)
+    numbers: Tuple[Callable[[Fraction], Any], Callable[[Fraction], Any]] = exact, float
+    number = numbers[given.decimals]
     if given.unknown:
         for leaf in report.leaves():
             if leaf.kind == UNKNOWN:
                 sys.stdout.write(shown(leaf.rectangle) + '\n')
     elif given.csv:
-        _write_csv(Told(report, float if given.decimals else exact))
+        _write_csv(Told(report, number))
     else:
-        _write_json(Told(report, float if given.decimals else exact), str(session.program.path))
+        _write_json(Told(report, number), str(session.program.path))
     return DONE
 
 

@@ -12,13 +12,13 @@ from __future__ import annotations
 import argparse
 import sys
 from fractions import Fraction
-from pathlib import Path
 
 from .. import asking
 from ..api import find_verdict
-from ..evidence import read_file, write_file
+from ..evidence import read_file
 from ..faults import DONE, SHORT, Fault
-from ..report import UNKNOWN, Report
+from ..outputs import Output, beside
+from ..report import UNKNOWN
 from ..session import MOST_BITS, MOST_DEPTH, Question
 from ..values import percent, read_bound, read_count, read_share
 
@@ -51,14 +51,14 @@ def add_words(words: argparse.ArgumentParser) -> None:
 def run(given: argparse.Namespace) -> int:
     """Does it."""
     share = read_share(given.coverage) if given.coverage is not None else None
-    if given.report == '':
-        raise Fault('--report takes a file, and this one has no name')
     if given.report is not None and len(given.bound) > 1:
         raise Fault('--report takes the report of one bound; --keep FOLDER keeps those of several')
     bounds, depth = [read_bound(bound) for bound in given.bound], read_count(given.depth, '--depth', 0, MOST_DEPTH)
     precision = asking.precision_of(given)
     least = read_count(given.least, '--from', 1, precision or MOST_BITS) if given.least is not None else None
     model, region = asking.model_of(given), asking.region_of(given)
+    kept = Output(given.report, [given.model]) if given.report is not None else None
+    kept_beside = beside(kept, [given.model]) if kept else None
     told = sys.stderr if given.report == '-' else sys.stdout
     status, answers = DONE, []
     with asking.session(given) as session:
@@ -68,8 +68,12 @@ def run(given: argparse.Namespace) -> int:
             session.progress.clear()
             if share is not None and report.shares[UNKNOWN] > 1 - share:
                 status = SHORT
-            if given.report is not None:
-                _put(given.report, report)
+            if kept:
+                kept.write(report.data)
+                if kept_beside:
+                    kept_beside.write(read_file(report.path + '.json'))
+                if given.report != '-':
+                    report.path = given.report
             if given.json:
                 answers.append(
                     {
@@ -90,15 +94,3 @@ def run(given: argparse.Namespace) -> int:
         if given.json:
             asking.put_json(answers, told)
     return status
-
-
-def _put(name: str, report: Report) -> None:
-    """Writes a report where the user wants it, and beside a file how it came to be."""
-    if name == '-':
-        sys.stdout.buffer.write(report.data)
-        sys.stdout.buffer.flush()
-        return
-    path = Path(name)
-    write_file(path, report.data)
-    write_file(path.with_name(path.name + '.json'), read_file(report.path + '.json'))
-    report.path = name

@@ -1,7 +1,7 @@
 """A page to explore a report with: one HTML file without anything from elsewhere.
 
-The picture has zoom, a pointer that shows a leaf's rectangle, number and choices, a slider for each parameter that is on
-no axis, a legend, dark and light, and the table of shares; all of it can be used by keyboard.
+The picture has zoom, a pointer that shows a leaf's rectangle, number and choices, a slider for each parameter that is
+on no axis, a legend, dark and light, and the table of shares; all of it can be used by keyboard.
 
     plift-lab view examples/retry-tree.report > page.html
 """
@@ -83,7 +83,7 @@ def _axes(report: Report, x: Optional[str], y: Optional[str]) -> Tuple[int, int]
     free = [name for name in free if name in report.live and name != first]
     second = y or (free.pop(0) if free else None)
     places = {name: place for place, name in enumerate(report.parameters)}
-    return places.get(first, -1) if first else -1, places.get(second, -1) if second else -1
+    return (places.get(first, -1) if first else -1, places.get(second, -1) if second else -1)
 
 
 def _data(report: Report, judge: str, axes: Tuple[int, int]) -> Dict[str, Any]:
