@@ -2,6 +2,7 @@
 //! with none.
 
 use crate::alloc::{AllocError, Global};
+use crate::vec::Vec;
 use error::ErrorKind;
 
 pub mod error {
@@ -71,19 +72,19 @@ impl<'a> Arg<'a> {
 }
 
 pub struct Command<'a> {
-    options: std::vec::Vec<Arg<'a>>,
+    options: Vec<Arg<'a>>,
     skipped: usize,
 }
 
 /// The options that stood in a line, in the order of the command's, each with its values.
 pub struct ArgMatches<'a> {
-    found: std::vec::Vec<(&'a str, std::vec::Vec<&'a str>)>,
+    found: Vec<(&'a str, Vec<&'a str>)>,
 }
 
 impl<'a> Command<'a> {
-    pub fn new(_: Global, _: &'a str) -> Self {
+    pub fn new(alloc: Global, _: &'a str) -> Self {
         Command {
-            options: vec![],
+            options: Vec::new(alloc),
             skipped: 1,
         }
     }
@@ -94,61 +95,60 @@ impl<'a> Command<'a> {
         }
     }
     pub fn arg(mut self, option: Arg<'a>) -> Result<Self, AllocError> {
-        self.options.push(option);
+        self.options.push(option)?;
         Ok(self)
     }
     fn place_of(&self, long: &str) -> Option<usize> {
         self.options.iter().position(|option| option.long == long)
     }
-    /// The values of each option; none where the words are at fault.
-    fn values(&self, words: &'a [String]) -> Option<std::vec::Vec<std::vec::Vec<&'a str>>> {
-        let mut values = vec![vec![]; self.options.len()];
+    /// The place of the option that a word begins with, and the value that the word has behind `=`.
+    fn option_of(&self, word: &'a str) -> Option<(usize, Option<&'a str>)> {
+        let text = word.strip_prefix("--")?;
+        match text.split_once('=') {
+            Some((long, value)) => Some((self.place_of(long)?, Some(value))),
+            None => Some((self.place_of(text)?, None)),
+        }
+    }
+    /// The options, each without a value so far.
+    fn without_values(&self) -> Result<Vec<(&'a str, Vec<&'a str>)>, AllocError> {
+        let mut found = Vec::with_capacity(Global, self.options.len())?;
+        for option in &self.options {
+            found.push((option.name, Vec::new(Global)))?;
+        }
+        Ok(found)
+    }
+    /// The values of each option.
+    fn values(&self, words: &'a [String]) -> Result<Vec<(&'a str, Vec<&'a str>)>, Error> {
+        const WRONG: Error = Error(ErrorKind::Words);
+        let mut found = self.without_values()?;
         let mut words = words.iter().skip(self.skipped).map(|word| word.as_str());
         while let Some(word) = words.next() {
             // Behind this word no option stands, and there is nothing else to stand there.
             if word == "--" {
-                return if words.next().is_none() {
-                    Some(values)
-                } else {
-                    None
-                };
+                return words.next().map_or(Ok(found), |_| Err(WRONG));
             }
-            let text = word.strip_prefix("--")?;
-            let (long, attached) = match text.split_once('=') {
-                Some((long, value)) => (long, Some(value)),
-                None => (text, None),
-            };
-            let place = self.place_of(long)?;
+            let (place, attached) = self.option_of(word).ok_or(WRONG)?;
             let value = match (self.options[place].action, attached) {
-                (ArgAction::SetTrue, Some(_)) => return None,
+                (ArgAction::SetTrue, Some(_)) => return Err(WRONG),
                 (ArgAction::SetTrue, None) => "true",
                 (_, Some(value)) => value,
                 (_, None) => words
                     .next()
-                    .filter(|value| *value == "-" || !value.starts_with('-'))?,
+                    .filter(|value| *value == "-" || !value.starts_with('-'))
+                    .ok_or(WRONG)?,
             };
-            if self.options[place].action != ArgAction::Append && !values[place].is_empty() {
-                return None;
+            let values = &mut found[place].1;
+            if self.options[place].action != ArgAction::Append && !values.is_empty() {
+                return Err(WRONG);
             }
-            values[place].push(value);
+            values.push(value)?;
         }
-        Some(values)
+        Ok(found)
     }
     pub fn try_get_matches_from(self, words: &'a [String]) -> Result<ArgMatches<'a>, Error> {
-        let values = self.values(words).ok_or(Error(ErrorKind::Words))?;
-        let found: std::vec::Vec<_> = self
-            .options
-            .iter()
-            .map(|option| option.name)
-            .zip(values)
-            .collect();
-        let is_absent = |option: &Arg<'a>| {
-            option.is_required
-                && found
-                    .iter()
-                    .any(|(name, values)| *name == option.name && values.is_empty())
-        };
-        if self.options.iter().any(is_absent) {
+        let found = self.values(words)?;
+        let mut told = self.options.iter().zip(&found);
+        if told.any(|(option, (_, values))| option.is_required && values.is_empty()) {
             return Err(Error(ErrorKind::Words));
         }
         Ok(ArgMatches { found })

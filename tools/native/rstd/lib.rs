@@ -1,5 +1,5 @@
-//! What the code uses of the kit's library, over that of Rust. A list that can't grow is
-//! told; where a set, a map or a box can't, the process ends.
+//! What the code uses of the kit's library, over that of Rust. Memory that isn't given is
+//! told, as the kit's library tells it: nothing here takes it by force.
 
 pub mod alloc {
     #[derive(Clone, Copy, Debug, PartialEq, Eq)]
@@ -52,21 +52,49 @@ pub mod num {
 }
 pub mod rc {
     use crate::alloc::{AllocError, Global};
-    pub struct Rc<T>(std::rc::Rc<T>);
+    use std::cell::Cell;
+    use std::ptr::NonNull;
+    /// A value that is shared in one thread, and how many share it.
+    struct Shared<T> {
+        count: Cell<usize>,
+        value: T,
+    }
+    pub struct Rc<T>(NonNull<Shared<T>>);
     impl<T> Rc<T> {
         pub fn new(_: Global, value: T) -> Result<Self, AllocError> {
-            Ok(Rc(std::rc::Rc::new(value)))
+            let shared = Shared {
+                count: Cell::new(1),
+                value,
+            };
+            Ok(Rc(NonNull::from(Box::leak(crate::boxed(shared)?))))
+        }
+        #[inline]
+        fn shared(&self) -> &Shared<T> {
+            // It is there as long as one shares it.
+            unsafe { self.0.as_ref() }
         }
         #[inline]
         pub fn clone(&self) -> Result<Self, AllocError> {
-            Ok(Rc(self.0.clone()))
+            let count = &self.shared().count;
+            count.set(count.get().checked_add(1).ok_or(AllocError)?);
+            Ok(Rc(self.0))
+        }
+    }
+    impl<T> Drop for Rc<T> {
+        fn drop(&mut self) {
+            let left = self.shared().count.get() - 1;
+            self.shared().count.set(left);
+            if left == 0 {
+                // This was the last one.
+                drop(unsafe { Box::from_raw(self.0.as_ptr()) });
+            }
         }
     }
     impl<T> std::ops::Deref for Rc<T> {
         type Target = T;
         #[inline]
         fn deref(&self) -> &T {
-            &self.0
+            &self.shared().value
         }
     }
 }
@@ -187,7 +215,7 @@ pub mod prelude {
 #[macro_export]
 macro_rules! rvec {
     (in $a:expr; $x:expr; $n:expr) => { $crate::vec::Vec::from_elem($a, $x, $n) };
-    (in $a:expr; $($x:expr),* $(,)?) => { Ok::<_, $crate::alloc::AllocError>($crate::vec::Vec(std::vec![$($x),*])) };
+    (in $a:expr; $($x:expr),* $(,)?) => { $crate::vec::Vec::from_array($a, [$($x),*]) };
 }
 pub trait IterExt: Iterator + Sized {
     fn rcollect(self, alloc: alloc::Global) -> Result<vec::Vec<Self::Item>, alloc::AllocError> {
@@ -210,6 +238,10 @@ impl DivCeil for u128 {
     }
 }
 
-pub fn boxed<T>(t: T) -> Result<Box<T>, alloc::AllocError> {
-    Ok(Box::new(t))
+/// A value in a box. A list that has one place has the room of a box.
+pub fn boxed<T>(value: T) -> Result<Box<T>, alloc::AllocError> {
+    let items = vec::Vec::from_array(alloc::Global, [value])?.0;
+    let place = Box::into_raw(items.into_boxed_slice());
+    // A slice of one value lies where the value does.
+    Ok(unsafe { Box::from_raw(place as *mut T) })
 }

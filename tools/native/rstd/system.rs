@@ -1,10 +1,11 @@
 //! What a program is given: its words and its standard streams, each call as the system answers it.
 
 use crate::alloc::{AllocError, Global};
+use std::os::raw::c_char;
 
-/// What the system gives to a program.
+/// What the system gives to a program: its words, and the streams below.
 pub struct HostRuntime {
-    words: std::vec::Vec<std::vec::Vec<u8>>,
+    words: &'static [*const c_char],
 }
 
 impl HostRuntime {
@@ -36,16 +37,12 @@ const IGNORE: usize = 1;
 /// `words` has as many texts as `count` says, each with a zero behind it.
 pub unsafe fn start(
     count: i32,
-    words: *const *const std::os::raw::c_char,
+    words: *const *const c_char,
     program: fn(HostRuntime) -> process::ExitCode,
 ) -> i32 {
     signal(SIGPIPE, IGNORE);
-    let word = |place: i32| {
-        std::ffi::CStr::from_ptr(*words.add(place as usize))
-            .to_bytes()
-            .to_vec()
-    };
-    let words = (0..count).map(word).collect();
+    // They stay where they are as long as the process does.
+    let words = std::slice::from_raw_parts(words, usize::try_from(count).unwrap_or(0));
     program(HostRuntime { words }).0
 }
 
@@ -60,12 +57,20 @@ pub mod process {
 }
 
 pub mod env {
-    use super::{io, HostRuntime};
+    use super::{c_char, io, Global, HostRuntime};
+    use crate::vec::Vec;
+    /// The text of a word.
+    fn text_of(word: *const c_char) -> io::Result<String> {
+        let bytes = unsafe { std::ffi::CStr::from_ptr(word) }.to_bytes();
+        String::from_utf8(Vec::from_slice(Global, bytes)?.0)
+            .map_err(|_| io::Error::from(io::ErrorKind::InvalidData))
+    }
     /// The program's name and its words. One that isn't text is an error.
     pub fn args(rt: &HostRuntime) -> io::Result<std::vec::IntoIter<String>> {
-        let words: Result<std::vec::Vec<String>, _> =
-            rt.words.iter().cloned().map(String::from_utf8).collect();
-        let words = words.map_err(|_| io::Error::from(io::ErrorKind::InvalidData))?;
+        let mut words = Vec::with_capacity(Global, rt.words.len())?;
+        for word in rt.words {
+            words.push(text_of(*word)?)?;
+        }
         Ok(words.into_iter())
     }
 }
