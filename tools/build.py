@@ -16,7 +16,6 @@ import fcntl
 import os
 import re
 import shutil
-import signal
 import subprocess
 import sys
 import threading
@@ -24,6 +23,9 @@ import time
 from concurrent.futures import FIRST_COMPLETED, Future, ThreadPoolExecutor, wait
 from pathlib import Path
 from typing import Dict, Iterator, List, Optional, Set
+
+sys.path.insert(0, str(Path(__file__).resolve().parent))
+import leash  # noqa: E402
 
 TOP = Path(__file__).resolve().parent.parent
 CRATES = TOP / "crates"
@@ -41,17 +43,10 @@ KEPT_MINUTES = 0.05
 # Memory that is counted for a crate that is proved: some take 1 GB, the largest 3.1, and four at a time took 6.
 LANE_BYTES = 2 << 30
 TICK_SECONDS = 30
-# Runs its words in a process group that ends when the other end of standard input is closed, which
-# the end of this program does, however it ends.
-LEASH = 'exec 3<&0; { read -r _ <&3; kill 0; } >/dev/null 2>&1 & exec "$@" </dev/null 3<&-'
 
 
 class BuildError(Exception):
     """Why the program can't be built, in words for the user."""
-
-
-class Interrupted(Exception):
-    """The build was told to stop."""
 
 
 def dependencies(text: str) -> Dict[str, List[str]]:
@@ -239,15 +234,7 @@ class Running:
                 if self._stopping:
                     return CANNOT_BUILD
                 # The locks are held by the command too, so that no other build comes before its end.
-                started = subprocess.Popen(
-                    ["sh", "-c", LEASH, "sh", *words],
-                    cwd=folder,
-                    stdin=subprocess.PIPE,
-                    stdout=out,
-                    stderr=out,
-                    start_new_session=True,
-                    pass_fds=self._locks,
-                )
+                started = leash.start(words, cwd=folder, stdout=out, stderr=out, pass_fds=self._locks)
                 self._started[crate], self._since[crate] = started, time.monotonic()
             try:
                 return started.wait()
@@ -266,8 +253,7 @@ class Running:
         with self._guard:
             self._stopping = True
             for started in self._started.values():
-                with contextlib.suppress(ProcessLookupError):
-                    os.killpg(started.pid, signal.SIGTERM)
+                leash.stop(started)
 
 
 class Build:
@@ -437,19 +423,6 @@ def locked(build: Build) -> Iterator[List[int]]:
             os.close(descriptor)
 
 
-def end_on_signals() -> None:
-    """Makes the usual signals stop the build in order."""
-
-    def end(*_: object) -> None:
-        for number in (signal.SIGINT, signal.SIGTERM, signal.SIGHUP):
-            signal.signal(number, signal.SIG_IGN)
-        raise Interrupted
-
-    for number in (signal.SIGINT, signal.SIGTERM, signal.SIGHUP):
-        if signal.getsignal(number) is not signal.SIG_IGN:
-            signal.signal(number, end)
-
-
 def make(build: Build) -> None:
     """Builds the program, unless another build has done so meanwhile."""
     if not shutil.which("rt"):
@@ -469,12 +442,12 @@ def main(words: List[str]) -> int:
         return CANNOT_BUILD
     name = words[0].replace("_", "-")
     try:
-        end_on_signals()
+        leash.end_on_signals()
         make(Build(words[0], Path(words[1])))
         return 0
     except BuildError as error:
         why = str(error)
-    except Interrupted:
+    except leash.Interrupted:
         why = "interrupted; the next build goes on from here"
     except OSError as error:
         where = f"{error.filename}: " if error.filename else ""

@@ -112,7 +112,9 @@ find_quick() {
     [ -x "$program" ] && ! is_quick_stale && return
     refuse_plain_faults "$@"
     require python3 'quick.py needs it'
-    program=$(python3 "$top/tools/quick.py" "$name" </dev/null) || exit 70
+    run_child python3 "$top/tools/quick.py" "$name" </dev/null >/dev/null
+    end_by_signal
+    [ "$status" -eq 0 ] || exit 70
 }
 
 require() {
@@ -128,6 +130,8 @@ build() {
     plift) say "$now (its reports can be checked: python3 recheck/recheck.py, or plift check)" ;;
     *) say "$now" ;;
     esac
-    python3 "$top/tools/build.py" "$crate" "$top/build/logs" </dev/null >&2 || exit 70
+    run_child python3 "$top/tools/build.py" "$crate" "$top/build/logs" </dev/null >&2
+    end_by_signal
+    [ "$status" -eq 0 ] || exit 70
     [ -x "$program" ] || fail "it was not built; see $top/build/logs"
 }

@@ -2,6 +2,8 @@
 # tools/build.sh finds or makes it; in an unpacked release and where plift is installed, tools/made.sh finds
 # it. The script that reads this has set `name`, which it is called by, and `top`, the folder of all else.
 
+. "$top/tools/child.sh"
+
 say() { printf '%s: %s\n' "$name" "$*" >&2; }
 
 fail() {
@@ -9,16 +11,24 @@ fail() {
     exit 70
 }
 
+# Ends as the program does where it can't write.
+fail_to_write() {
+    printf 'write fault\n' >&2
+    exit 6
+}
+
 # Shows the help of a command and ends.
 show_help() {
-    cat "$top/man/help/$1.txt" || fail "its help isn't found in $top/man/help"
+    [ -r "$top/man/help/$1.txt" ] || fail "its help isn't found in $top/man/help"
+    cat "$top/man/help/$1.txt" 2>/dev/null || fail_to_write
     exit 0
 }
 
 show_version() {
     { read -r version <"$top/VERSION"; } 2>/dev/null || version='of an unknown version'
     commit=$(commit_of_sources)
-    printf '%s %s (%s%s)\n' "$name" "$version" "${commit:+commit $commit, }" "$(kind_of_program)"
+    { printf '%s %s (%s%s)\n' "$name" "$version" "${commit:+commit $commit, }" "$(kind_of_program)"; } 2>/dev/null ||
+        fail_to_write
     exit 0
 }
 
@@ -87,13 +97,6 @@ wants_hints() {
     [ "${1-}" != --follow ] && [ -r "$top/tools/hints.py" ] && [ -e /proc/self/fd/0 ] && [ -e /proc/self/fd/2 ]
 }
 
-# Passes on to the program that this script is to end, by a signal that the program hears: what runs in
-# the background doesn't hear INT and QUIT.
-pass_signal() {
-    ended_by=$1
-    [ -z "$child" ] || kill -s "$2" "$child" 2>/dev/null
-}
-
 # Copies what the program wrote to standard error, and keeps it in `note`.
 copy_note() {
     note=
@@ -105,42 +108,31 @@ copy_note() {
     note=$note$line
 }
 
+# Runs the program, with its notes where they are copied from.
+run_noted() {
+    exec "$program" "$@" 2>&9 8<&- 9>&-
+}
+
 # Runs the program as a child, and adds hints to a refusal. Signals and statuses are those of the program. It
 # writes its note last of all, so the note is copied when the program has ended.
 run_with_hints() {
     newline='
 '
-    exec 7<&0 8<<BLANK
+    exec 8<<BLANK
 
 BLANK
     # The shell has put the blank line above into a pipe or a file without a name, which takes what is appended, too.
-    [ -w /proc/self/fd/8 ] || exec "$program" "$@" <&7 7<&- 8<&-
+    [ -w /proc/self/fd/8 ] || exec "$program" "$@" 8<&-
     exec 9>>/proc/self/fd/8
     read -r note <&8
-    child='' ended_by=''
-    trap 'pass_signal HUP HUP' HUP
-    trap 'pass_signal INT TERM' INT
-    trap 'pass_signal QUIT TERM' QUIT
-    trap 'pass_signal TERM TERM' TERM
-    "$program" "$@" <&7 2>&9 7<&- 8<&- 9>&- &
-    child=$!
+    run_child run_noted "$@"
     exec 9>&-
-    [ -z "$ended_by" ] || kill "$child"
-    # Shells tell by which signal a child has died, but whoever waits for this script is to tell it. A signal for
-    # this script ends the first wait.
-    { wait "$child"; status=$?; [ -z "$ended_by" ] || wait "$child"; } 2>/dev/null
     copy_note <&8
-    if [ -z "$ended_by" ] && [ "$status" -gt 128 ]; then
-        ended_by=$(kill -l "$status")
-    fi
-    if [ -n "$ended_by" ]; then
-        ulimit -c 0
-        trap - HUP INT QUIT TERM
-        kill -s "$ended_by" $$
-    elif [ "$status" -ne 0 ] && command -v python3 >/dev/null 2>&1; then
+    end_by_signal
+    if [ "$status" -ne 0 ] && command -v python3 >/dev/null 2>&1; then
         # Python doesn't start where standard input is a folder.
-        [ ! -d /proc/self/fd/7 ] || exec 7</dev/null
-        PLIFT_PROGRAM=$name PLIFT_NOTE=${note%"$newline"} python3 "$top/tools/hints.py" "$status" -- "$@" <&7 7<&- 8<&- || :
+        [ ! -d /proc/self/fd/0 ] || exec </dev/null
+        PLIFT_PROGRAM=$name PLIFT_NOTE=${note%"$newline"} python3 "$top/tools/hints.py" "$status" -- "$@" 8<&- || :
     fi
     exit "$status"
 }

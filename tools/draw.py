@@ -69,28 +69,31 @@ def answer(words: Sequence[str], data: bytes) -> str:
 def read_text() -> bytes:
     """The text, and no more than shows that it is too long."""
     try:
-        return sys.stdin.buffer.read(MOST_BYTES + 1)
+        with open(0, "rb", closefd=False) as source:
+            return source.read(MOST_BYTES + 1)
     except OSError:
         raise Refused(READ_FAULT, "read fault") from None
+
+
+def refuse(note: object, status: int) -> int:
+    """Tells why nothing is shown, where anyone listens."""
+    line.tell(f"{note}\n")
+    return status
 
 
 def main(words: Sequence[str]) -> int:
     """Shows the text on standard input; a refusal is one line on standard error."""
     try:
         shown = answer(words, read_text())
+        # Standard output may be closed, and Python has no stream for it then.
+        with open(1, "w", encoding="ascii", closefd=False) as out:
+            out.write(shown)
     except Refused as refusal:
-        print(refusal, file=sys.stderr)
-        return refusal.status
+        return refuse(refusal, refusal.status)
     except MemoryError:
-        print("out of memory", file=sys.stderr)
-        return NO_MEMORY
-    try:
-        sys.stdout.write(shown)
-        sys.stdout.flush()
+        return refuse("out of memory", NO_MEMORY)
     except OSError:
-        print("write fault", file=sys.stderr)
-        sys.stdout = None  # whose end would be told of again
-        return WRITE_FAULT
+        return refuse("write fault", WRITE_FAULT)
     return DONE
 
 

@@ -9,6 +9,7 @@ with hints behind it, and ends with 2; or writes nothing and ends with 0: whatev
 program tells.
 """
 
+import contextlib
 import os
 import subprocess
 import sys
@@ -164,7 +165,13 @@ def view_note(words: Sequence[str]) -> Optional[str]:
 def wants_hints() -> bool:
     """Whether hints are wanted: at a terminal, unless PLIFT_HINTS is 0, and elsewhere where it is 1."""
     setting = os.environ.get("PLIFT_HINTS")
-    return setting == "1" or setting != "0" and sys.stderr.isatty()
+    return setting == "1" or setting != "0" and os.isatty(2)
+
+
+def tell(text: str) -> None:
+    """Writes to standard error, which may be closed: Python has no stream for it then."""
+    with contextlib.suppress(OSError):
+        os.write(2, text.encode(errors="backslashreplace"))
 
 
 def hints_for(program: str, note: str, words: Sequence[str]) -> str:
@@ -194,13 +201,13 @@ def main(program: str, words: Sequence[str]) -> int:
     """Tells the fault of a line, if it has one that shows."""
     if not all(map(is_text, words)):
         if wants_hints():
-            print("hint: a word of the line isn't UTF-8 text", file=sys.stderr)
+            tell("hint: a word of the line isn't UTF-8 text\n")
         return USAGE
     note = (plift_note if program == "plift" else view_note)(words)
     if note is None:
         return 0
     hints = hints_for(program, note, words) if wants_hints() else ""
-    print(f"{note}\n{hints}", file=sys.stderr, end="")
+    tell(f"{note}\n{hints}")
     return USAGE
 
 

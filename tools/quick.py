@@ -18,7 +18,6 @@ import json
 import os
 import re
 import shutil
-import signal
 import subprocess
 import sys
 import threading
@@ -27,9 +26,10 @@ from collections.abc import Iterator
 from typing import TextIO
 
 TOOLS = os.path.dirname(os.path.abspath(__file__))
-sys.path.insert(0, os.path.join(TOOLS, "native"))
+sys.path[:0] = [TOOLS, os.path.join(TOOLS, "native")]
 sys.dont_write_bytecode = True
-import workspace
+import leash  # noqa: E402
+import workspace  # noqa: E402
 
 BUILD = os.path.join(workspace.ROOT, "build")
 QUICK = os.path.join(BUILD, "quick")
@@ -162,15 +162,14 @@ def run_cargo(source: str, log: TextIO, progress: Progress) -> dict[str, str]:
     command = ["cargo", "build", "--release", "--offline", "--message-format=json-render-diagnostics"]
     command += ["--target-dir", os.path.join(QUICK, "target")]
     with open(os.path.join(QUICK, "messages"), "w+") as messages:
-        with subprocess.Popen(
-            command, cwd=source, stdout=messages, stderr=subprocess.PIPE, text=True, errors="replace"
-        ) as cargo:
+        said = {"stderr": subprocess.PIPE, "text": True, "errors": "replace"}
+        with leash.start(command, cwd=source, stdout=messages, **said) as cargo:
             try:
                 for line in cargo.stderr:
                     log.write(line)
                     progress.pass_line(line)
             except BaseException:
-                cargo.terminate()
+                leash.stop(cargo)
                 raise
             finally:
                 progress.end()
@@ -192,9 +191,13 @@ def refuse_by_log(count: int = 12) -> None:
 def put(made: str, program: str, start: int) -> None:
     """Puts a program in its place at once, with the time at which its build began: a later change is newer."""
     fresh = path_of(program) + ".new"
-    shutil.copy(made, fresh)
-    os.utime(fresh, ns=(start, start))
-    os.replace(fresh, path_of(program))
+    try:
+        shutil.copy(made, fresh)
+        os.utime(fresh, ns=(start, start))
+        os.replace(fresh, path_of(program))
+    finally:
+        with contextlib.suppress(FileNotFoundError):
+            os.remove(fresh)
 
 
 def build() -> None:
@@ -239,7 +242,7 @@ def asked_program(words: list[str]) -> str:
 def main() -> int:
     """Builds the programs where need be and prints the path of the one that is asked for."""
     program = asked_program(sys.argv[1:])
-    signal.signal(signal.SIGTERM, lambda *_: sys.exit(143))
+    leash.end_on_signals()
     try:
         ensure_built()
     except (Refused, workspace.Unreadable) as refused:
@@ -248,9 +251,9 @@ def main() -> int:
     except OSError as error:
         say(f"{error.filename or BUILD} can't be written or read: {error.strerror}")
         return 70
-    except KeyboardInterrupt:
+    except leash.Interrupted as told:
         say("stopped; nothing was replaced, and the next start goes on")
-        return 130
+        return 128 + told.number
     print(path_of(program))
     return 0
 

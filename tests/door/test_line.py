@@ -3,6 +3,7 @@
 import os
 import random
 import subprocess
+import sys
 import unittest
 from pathlib import Path
 from typing import Callable, List, Optional, Sequence, Union
@@ -348,6 +349,23 @@ class Line(unittest.TestCase):
         for hints in ("", "0"):
             ran = self.told("verfy", hints)
             self.assertEqual((ran.returncode, ran.stdout, ran.stderr), (2, b"", b"usage: words\n"))
+
+    def test_closed_standard_error(self) -> None:
+        """The status is the same where nobody hears the note, and it isn't written elsewhere."""
+        for place in ("&-", "/dev/full"):
+            for environment in ({}, {"PLIFT_HINTS": "1"}):
+                command = [
+                    "sh",
+                    "-c",
+                    f'"$@" 2>{place}',
+                    "sh",
+                    sys.executable,
+                    str(TOP / "tools/line.py"),
+                    "plift",
+                    "x",
+                ]
+                ran = subprocess.run(command, capture_output=True, env={**os.environ, **environment}, check=False)
+                self.assertEqual((ran.returncode, ran.stdout, ran.stderr), (2, b"", b""))
 
     def test_word_that_is_no_text_has_no_note(self) -> None:
         ran = self.told(b"\xff", "1")

@@ -131,6 +131,22 @@ class Steps(unittest.TestCase):
                 answer = draw(words, given)
                 self.assertEqual(answer, Answer(status, "", note))
 
+    def test_streams(self) -> None:
+        """Streams that are closed, full or folders have the statuses of plift-view, and no trace."""
+        with tempfile.TemporaryDirectory() as folder:
+            path = Path(folder, "text")
+            path.write_bytes(text(ONE))
+            for line, status, note in (
+                (f'"$@" <{path} >/dev/full', 6, "write fault\n"),
+                (f'"$@" <{path} >&-', 6, "write fault\n"),
+                ('"$@" <&-', 5, "read fault\n"),
+                (f'"$@" here <{path} 2>&-', 2, ""),
+                (f'"$@" here <{path} 2>/dev/full', 2, ""),
+            ):
+                command = ["sh", "-c", line, "sh", sys.executable, str(TOP / "tools" / "draw.py")]
+                ran = subprocess.run(command, capture_output=True, encoding="utf-8", check=False)
+                self.assertEqual(Answer(ran.returncode, ran.stdout, ran.stderr), Answer(status, "", note), line)
+
 
 class Properties(unittest.TestCase):
     """Texts of properties have the look of reports: what holds that of what is accepted, what fails that of what is

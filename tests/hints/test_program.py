@@ -107,6 +107,16 @@ class Program(unittest.TestCase):
         closed = self.ended(["3", "--"] + LABEL, preexec_fn=lambda: os.close(0))
         self.assertEqual(rule, closed)
 
+    def test_text_of_another_question(self) -> None:
+        """What judges a text of another question than a report's is told, also where the text comes through a pipe."""
+        for form in (b"bounded", b"property", b"cost"):
+            lines = self.with_text(
+                b"plift-" + form + b" 1\nkind dtmc\n", ["1", "--", "check"], "not sound: line 1: Syntax"
+            )
+            self.assertIn("python3 recheck/recheck.py FILE judges it", " ".join(lines))
+        lines = self.ended(["1", "--", "check"], "not sound: line 1: Syntax", stdin=subprocess.PIPE)
+        self.assertIn("`recheck/recheck.py` the texts of `bounded`, `property` and `cost`", " ".join(lines))
+
     def test_streams(self) -> None:
         """What standard input and output are is told where reading or writing failed."""
         folder = "import os, runpy, sys; os.dup2(os.open('/', os.O_RDONLY), 0); sys.argv[:] = sys.argv[1:]; runpy.run_path(sys.argv[0], run_name='__main__')"

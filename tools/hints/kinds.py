@@ -28,14 +28,15 @@ SHAPES = {
     "numbers": rb"[0-9]+( [0-9]+)+\r?\n[0-9]+ ",
 }
 BUILT = "plift reads models that are built, state by state, in the DRN format (docs/STORM.md, docs/FORMATS.md)"
+JUDGED = "python3 recheck/recheck.py FILE judges it (installed: plift-recheck FILE), and plift check doesn't"
 TOLD = {
     "empty": ["the text is empty", "is it the right file, and did what should have written it end well?"],
     "mark": ["the text begins with a byte order mark (the bytes EF BB BF)", "tail -c +4 FILE drops it"],
     "wide": ["the text is UTF-16, as PowerShell's > writes", "iconv -f UTF-16 -t UTF-8 FILE makes it UTF-8"],
     "report": ["that is a report of plift", "plift check and plift-view read reports; verify reads models"],
-    "bounded": ["that is a report of plift bounded", "recheck/recheck.py reads it, and plift doesn't"],
-    "property": ["that is a text of plift property", "recheck/recheck.py reads it, and plift doesn't"],
-    "cost": ["that is a text of plift cost", "recheck/recheck.py reads it, and plift doesn't"],
+    "bounded": ["that is a report of plift bounded", JUDGED],
+    "property": ["that is a text of plift property", JUDGED],
+    "cost": ["that is a text of plift cost", JUDGED],
     "answer": [
         "that is the line that plift check writes, or recheck.py",
         "the report is another file, which verify writes",
