@@ -8,16 +8,19 @@ from __future__ import annotations
 from dataclasses import dataclass, replace
 from fractions import Fraction
 from pathlib import Path
-from typing import Optional, Union
+from typing import List, Optional, Union
 
+from .costs import with_cap
 from .cover import cover
 from .edge import Edge, find_edge
 from .evidence import read_file
 from .faults import Fault
+from .forms import Form
 from .models import Model
 from .regions import Region
 from .report import UNKNOWN, Report
-from .search import Desk, Limits, Search, Side
+from .points import Points
+from .search import Desk, Search, Side
 from .session import Question, Session
 from .values import exact, near, percent, read_bound, read_number, read_share
 
@@ -31,37 +34,47 @@ class Bounds:
 
     sup: Side
     inf: Side
+    goal: str
+    form: Form
     precision: int
     calls: int
     is_process: bool
-    """Whether the model is a decision process: then both are of what the best choices reach."""
+    """Whether the model is a decision process: then both are of what the best choices reach (or those that reach
+    least)."""
+    judges: List[str]
+    """Who judged the reports."""
 
 
-def find_bounds(
-    session: Session,
-    model: Model,
-    goal: str,
-    region: Region,
-    precision: Optional[int],
-    width: Optional[Fraction],
-    calls: int,
-) -> Bounds:
-    """Asks for numbers over rectangles until both sides are known to the width."""
-    question = Question(model, goal, Fraction(1), region, 0, precision)
-    first = session.ask(question)
-    bits = first.precision
+def find_bounds(session: Session, question: Question, width: Optional[Fraction], calls: int) -> Bounds:
+    """Asks for numbers until both sides are known to the width, or so many questions were asked."""
+    question.region.fit(question.model.parameters)
 
-    def ask(part: Region, bound: Fraction) -> Report:
-        return session.ask(replace(question, region=part, bound=bound))
+    def tell(name: str, side: Side) -> None:
+        session.progress.say(
+            '%s between %s and %s after %d questions' % (name, near(side.least), near(side.most), session.asked)
+        )
 
-    def tell(name: str, least: Fraction, most: Fraction, done: int) -> None:
-        session.progress.say('%s between %s and %s after %d questions' % (name, near(least), near(most), done))
-
-    live = [name for name in first.live if name in region.names]
-    desk = Desk(ask, tell, session.evidence.forget)
-    sides = [Search(desk, is_sup, region, live, Limits(width, calls)) for is_sup in (True, False)]
-    sup, inf = (side.run() for side in sides)
-    return Bounds(sup, inf, bits, sum(side.calls for side in sides), first.kind == 'mdp')
+    session.allow(calls)
+    is_cost, whole = question.form.reward is not None, question.region
+    if is_cost:
+        question = with_cap(session, question)
+    desk = Desk(session, question, tell)
+    first = session.ask(replace(desk.question, bound=Fraction(question.form.unit)))
+    upper = desk.high(whole)
+    lower = replace(upper, value=Fraction(0)) if is_cost else desk.low(whole)
+    sup = Side('sup', (whole, lower), [(whole, upper)], is_shown=not is_cost)
+    inf = Side('inf', (whole, upper), [(whole, lower)])
+    if width is not None:
+        points = Points(whole, [name for name in whole.names if name in first.live], desk.high)
+        session.allow((calls - session.asked) // 2)
+        sup = Search(desk, points, sup).run(width)
+        session.allow(calls - session.asked)
+        inf = inf if is_cost else Search(desk, points, inf).run(width)
+        for end in points.known.values():
+            if end not in (sup.witness[1], inf.witness[1]):
+                desk.forget(end)
+    is_process = first.kind == 'mdp'
+    return Bounds(sup, inf, question.goal, question.form, first.precision, session.asked, is_process, [first.judge])
 
 
 def find_threshold(
@@ -141,9 +154,8 @@ def bounds(
 ) -> Bounds:
     """Supremum and infimum over the region, to a width if one is given."""
     with Session(keep) as session:
-        return find_bounds(
-            session, _model(model), goal, _region(region), precision, None if width is None else _number(width), calls
-        )
+        question = Question(_model(model), goal, Fraction(1), _region(region), 0, precision)
+        return find_bounds(session, question, None if width is None else _number(width), calls)
 
 
 def threshold(

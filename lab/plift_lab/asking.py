@@ -10,17 +10,26 @@ from typing import Any, Dict, Iterable, List, Optional, TextIO
 
 from .evidence import read_file
 from .faults import Fault
+from .forms import MOST_CAP, Asked, Form, read_formula
 from .models import Model
 from .regions import Region
 from .report import Report
-from .session import MOST_BITS, Session
-from .values import read_count, read_number
+from .session import MOST_BITS, Question, Session
+from .values import read_bound, read_count, read_part
 
 
-def add_model(words: argparse.ArgumentParser) -> None:
-    """The model, the goal and the region."""
+def add_model(words: argparse.ArgumentParser, several: bool = False) -> None:
+    """The model, the goal or a formula (or several), and the region."""
     words.add_argument('model', metavar='MODEL', help='a file with a model text; - for standard input')
-    words.add_argument('--goal', required=True, metavar='LABEL', help='the label of the states to be reached')
+    words.add_argument('--goal', metavar='LABEL', help='the label of the states to be reached')
+    words.add_argument(
+        '--formula',
+        metavar='F',
+        action='append' if several else 'store',
+        help='in the place of goal and bound: P>=0.9 [F "done"], P<=1%% ["up" U "lost"], P<=1/2 [F<=10 "lost"], '
+        'R{"sends"}<=7/5 [F "done"]; =? in the place of the bound asks for numbers, as Pmin=? [F "done"]',
+    )
+    words.add_argument('--cap', metavar='C', help='the cost that 2^W stands for, where a formula is of costs')
     words.add_argument(
         '--region',
         default='',
@@ -70,12 +79,54 @@ def precision_of(given: argparse.Namespace) -> Optional[int]:
     return read_count(given.precision, '--precision', 1, MOST_BITS) if given.precision is not None else None
 
 
+def asked_of(given: argparse.Namespace, bound: Optional[str] = None, formula: Optional[str] = None) -> Asked:
+    """What is asked: a formula, or a goal with its bound."""
+    formula = given.formula if formula is None else formula
+    if (given.goal is None) == (formula is None):
+        raise Fault('name a goal by --goal LABEL, or ask a formula by --formula F, but not both')
+    cap = read_count(given.cap, '--cap', 1, MOST_CAP) if given.cap is not None else None
+    if formula is not None:
+        asked = read_formula(formula, cap)
+        if (bound is not None) and asked.bound is not None:
+            raise Fault('the formula has a bound, and --bound names another one')
+        return asked if bound is None else asked._replace(bound=read_bound(bound))
+    return Asked(given.goal, None if bound is None else read_bound(bound), Form())
+
+
+def require_bound(asked: Asked) -> None:
+    """Refuses a question without a bound, and one of costs without a cap."""
+    if asked.bound is None:
+        raise Fault('a bound is due: --bound B, or P<=B in the formula; for numbers ask `plift-lab bounds`')
+    require_cap(asked.form, asked.bound)
+
+
+def require_cap(form: Form, budget: Fraction) -> None:
+    """Refuses costs without a cap, which is above the budget."""
+    if form.reward is not None and form.cap is None:
+        raise Fault(
+            '--cap C is due, the cost that certificates count up to: above the budget, as %d' % (2 * budget + 1)
+        )
+
+
+def question_of(given: argparse.Namespace) -> Question:
+    """A question whose bound doesn't matter."""
+    asked = asked_of(given)
+    return Question(model_of(given), asked.goal, Fraction(1), region_of(given), 0, precision_of(given), form=asked.form)
+
+
 def width_of(given: argparse.Namespace) -> Optional[Fraction]:
     """How close the answer has to be, if that was asked for."""
-    width = read_number(given.width) if given.width is not None else None
+    width = read_part(given.width) if given.width is not None else None
     if width is not None and width <= 0:
         raise Fault('--width is a number above 0, and not %s' % given.width)
     return width
+
+
+def bits_advice(precision: int) -> str:
+    """What to do where rounding is what is left."""
+    if precision < MOST_BITS:
+        return 'a greater --precision rounds less (%d is the greatest)' % MOST_BITS
+    return 'ask of fewer steps, as a shorter mission: each step on the way rounds once more'
 
 
 def behind(report: Report) -> Dict[str, Any]:
@@ -83,6 +134,7 @@ def behind(report: Report) -> Dict[str, Any]:
     return {
         'report': report.path,
         'check': report.soundness,
+        'judge': report.judge,
         'question': report.question,
         'region': report.region.text,
         'depth': report.depth,
@@ -93,17 +145,18 @@ def behind(report: Report) -> Dict[str, Any]:
 
 def behind_lines(reports: Iterable[Report], asked: Session) -> List[str]:
     """The reports behind an answer, for people; those that the user has are named by their files."""
-    lines, is_lost = [], False
+    lines, judges, is_lost = [], [], False
     for report in reports:
         is_held = asked.evidence.holds(report.path)
         lines.append('  %s' % report.soundness if is_held else '  %s: %s' % (report.path, report.soundness))
+        judges.append(report.judge)
         is_lost = is_lost or is_held
-    return lines + ['  ' + line for line in judge_lines(asked, is_lost)]
+    return lines + ['  ' + line for line in judge_lines(judges, is_lost)]
 
 
-def judge_lines(asked: Session, is_lost: bool) -> List[str]:
+def judge_lines(judges: Iterable[str], is_lost: bool) -> List[str]:
     """Who judged the reports, and how to keep them where they are lost."""
-    told = ['judged by %s' % asked.program.judge]
+    told = ['judged by %s' % judge for judge in dict.fromkeys(judges)]
     return told + ['kept nowhere: --keep FOLDER keeps the reports behind the answer'] * is_lost
 
 

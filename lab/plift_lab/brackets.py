@@ -6,8 +6,9 @@ from dataclasses import dataclass
 from fractions import Fraction
 from typing import Callable
 
+from .faults import SHORT, Fault
 from .regions import Region
-from .report import Report
+from .report import ACCEPT, REJECT, UNKNOWN, Report
 
 Ask = Callable[[Region, Fraction], Report]
 """Asks of a region with a bound, without a halving."""
@@ -23,17 +24,32 @@ class End:
 
 
 def high(ask: Ask, region: Region) -> End:
-    """No scheduler reaches the goal with more, at no valuation inside: with bound 1 the region is accepted with the
-    least number that a certificate has."""
+    """More is reached at no valuation inside: by no scheduler, or where the question is of what is reached at least by
+    the scheduler that the report prints. With bound 1 a certificate with the least number is written."""
     report = ask(region, Fraction(1))
-    leaf = next(report.leaves())
-    return End(Fraction(1) if leaf.value is None else leaf.value, report.path, report.soundness)
+    return _end(report, REJECT if report.form.is_of_least else ACCEPT, Fraction(1))
 
 
 def low(ask: Ask, region: Region) -> End:
-    """At each valuation inside some scheduler reaches the goal with as much: with bound 0 the region is rejected with
-    the greatest number that a certificate has. Where none is above 0 nothing better than 0 is said.
-    """
+    """As much is reached at each valuation inside: by some scheduler, or where the question is of what is reached at
+    least by each. With bound 0 a certificate with the greatest number is written; where none is above 0 nothing better
+    than 0 is said."""
     report = ask(region, Fraction(0))
+    return _end(report, ACCEPT if report.form.is_of_least else REJECT, Fraction(0))
+
+
+def _end(report: Report, kind: str, other: Fraction) -> End:
     leaf = next(report.leaves())
-    return End(leaf.value if leaf.kind == 'reject' and leaf.value else Fraction(0), report.path, report.soundness)
+    if leaf.kind == UNKNOWN and report.command == 'cost':
+        raise no_cost(report.form.unit)
+    shown = leaf.value if leaf.kind == kind and leaf.value is not None else other
+    return End(shown, report.path, report.soundness)
+
+
+def no_cost(cap: int) -> Fault:
+    """Why a cost has no number."""
+    return Fault(
+        'no cost is shown: some state may be expected to cost more than %d, as one does that has a cost and may '
+        'never be left' % cap,
+        SHORT,
+    )

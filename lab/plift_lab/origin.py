@@ -4,7 +4,7 @@ from __future__ import annotations
 
 from dataclasses import dataclass, field
 from fractions import Fraction
-from typing import Any, Dict, List
+from typing import Any, Dict, List, Optional
 
 from .models import Scale
 from .regions import NAME
@@ -25,17 +25,23 @@ class Origin:
     """The program's command line."""
     model: str = ''
     """The name of the file with the model that it was given."""
+    safe: Optional[str] = None
+    """The label of states by way of which the goal is to be reached."""
+    reward: Optional[str] = None
+    """The reward model whose cost is asked for."""
 
     @property
     def told(self) -> Dict[str, Any]:
         """For a file."""
-        return {
+        told: Dict[str, Any] = {
             'goal': self.goal,
             'words': self.words,
             'model': self.model,
             'scale': {name: [exact(low), exact(high)] for name, (low, high) in self.scale.items()},
             'fixed': {name: exact(value) for name, value in self.fixed.items()},
         }
+        more = {'safe': self.safe, 'reward': self.reward}
+        return dict(told, **{name: label for name, label in more.items() if label is not None})
 
     @classmethod
     def read(cls, told: Dict[str, Any]) -> 'Origin':
@@ -46,4 +52,6 @@ class Origin:
             raise ValueError('an interval is empty')
         if not all(map(NAME.fullmatch, [*scale, *fixed])):
             raise ValueError('a parameter has no name')
-        return cls(str(told['goal']), scale, fixed, [str(word) for word in told['words']], str(told['model']))
+        words = [str(word) for word in told['words']]
+        labels = (None if told.get(name) is None else str(told[name]) for name in ('safe', 'reward'))
+        return cls(str(told['goal']), scale, fixed, words, str(told['model']), *labels)

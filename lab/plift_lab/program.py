@@ -52,9 +52,15 @@ class Program:
         self.path = path
 
     @property
-    def judge(self) -> str:
-        """Who judges reports: this program's `check`, and whether it was built without proofs."""
-        return '%s check%s' % (self.path, ', built without proofs' if self.path.parent.name == 'quick' else '')
+    def is_unproved(self) -> bool:
+        """Whether it was built without proofs: a quick build, or an installed or released one whose `made` says so."""
+        places = self.path.parent, self.path.parent.parent / 'libexec/plift/programs'
+        made = [place / 'made' for place in places if (place / 'made').is_file()]
+        return self.path.parent.name == 'quick' or made[:1] != [] and made[0].read_bytes().startswith(b'quick')
+
+    def judge(self, command: str = 'check') -> str:
+        """Who judges: a command of this program, and whether it was built without proofs."""
+        return '%s %s%s' % (self.path, command, ', built without proofs' if self.is_unproved else '')
 
     def verify(
         self, words: List[str], model: Path, report: Path, watch: Optional[Callable[[Path], None]] = None
@@ -63,18 +69,18 @@ class Program:
         runs, `watch` is called with that file now and then."""
         before = _spent()
         with open(model, 'rb') as source, _new(report) as sink, self._running(words, source, sink) as process:
-            note = _ended(process, partial(watch, report) if watch else None)[1]
+            note = ended(process, partial(watch, report) if watch else None)[1]
         if process.returncode:
             raise Refused(process.returncode, _line(note) + _why_full(process, report), words, model.read_bytes())
         return _spent() - before
 
-    def check(self, report: bytes) -> str:
+    def check(self, report: bytes, command: str = 'check') -> str:
         """The line that tells that a report is sound, and how many leaves of each kind it has."""
-        with _file_of(report) as source:  # a pipe is fed half a kilobyte at a time
-            with self._running(['check'], source, subprocess.PIPE) as process:
-                line, note = _ended(process)
+        with file_of(report) as source:  # a pipe is fed half a kilobyte at a time
+            with self._running([command], source, subprocess.PIPE) as process:
+                line, note = ended(process)
         if process.returncode:
-            raise Refused(process.returncode, _line(note), ['check'], report)
+            raise Refused(process.returncode, _line(note), [command], report)
         return _line(line)
 
     @contextlib.contextmanager
@@ -116,7 +122,7 @@ def _signals_held() -> Iterator[None]:
             signal.raise_signal(number)
 
 
-def _ended(process: subprocess.Popen, watch: Optional[Callable[[], None]] = None) -> Tuple[bytes, bytes]:
+def ended(process: subprocess.Popen, watch: Optional[Callable[[], None]] = None) -> Tuple[bytes, bytes]:
     """What a process writes until it ends. It is waited for by short times, for a signal that comes just before a wait
     doesn't end that."""
     while True:
@@ -167,7 +173,7 @@ def _why_full(process: subprocess.Popen, report: Path) -> str:
 
 
 @contextlib.contextmanager
-def _file_of(data: bytes) -> Iterator[IO[bytes]]:
+def file_of(data: bytes) -> Iterator[IO[bytes]]:
     """A file without a name that has these bytes."""
     try:
         holder = tempfile.TemporaryFile()

@@ -9,7 +9,7 @@ from typing import Dict, Iterable, List, Tuple
 
 from .faults import Fault
 from .plain import listed
-from .values import exact, read_number
+from .values import exact, read_part
 
 Interval = Tuple[Fraction, Fraction]
 NAME = re.compile('[A-Za-z_][A-Za-z0-9_]*')
@@ -63,6 +63,12 @@ class Region:
         clauses = ','.join('%s<=%s<=%s' % (exact(low), name, exact(high)) for name, low, high in self.intervals)
         return ' ' + clauses if clauses.startswith('-') else clauses
 
+    @property
+    def told(self) -> str:
+        """All of it for people, in a form that is read again."""
+        fixed = ['%s=%s' % (name, exact(value)) for name, value in self.fixed]
+        return ','.join([self.text.strip()] * bool(self.intervals) + fixed)
+
     def replaced(self, name: str, low: Fraction, high: Fraction) -> 'Region':
         """The same with another interval for one parameter."""
         self[name]
@@ -100,7 +106,7 @@ def _clause(clause: str) -> Tuple[str, Fraction, Fraction]:
         raise Fault('%r is no part of a region: %s' % (clause, FORMS))
     if not NAME.fullmatch(name):
         raise Fault('%r is no name of a parameter: %s' % (name, FORMS))
-    return name, read_number(low), read_number(high)
+    return name, read_part(low), read_part(high)
 
 
 def shown(rectangle: Dict[str, Interval]) -> str:

@@ -1,6 +1,7 @@
 """Reports as data: the question in the head, and the leaves of the tree.
 
-This reads; it doesn't judge. A report is given to it once `plift check` has called it sound.
+This reads reports of `verify` and the texts of `bounded`, `property` and `cost`, which are reports here, too. It
+doesn't judge: a report is given to it once it was called sound.
 """
 
 from __future__ import annotations
@@ -13,11 +14,21 @@ from functools import cached_property, lru_cache
 from typing import Any, Dict, FrozenSet, Iterator, List, Optional, Tuple
 
 from .faults import Fault
+from .forms import Form
 from .origin import Origin
 from .plain import listed, plain
 from .regions import Interval, Region
 from .values import percent
 
+HEADS = {
+    'plift 1': 'verify',
+    'plift 2': 'verify',
+    'plift-bounded 1': 'bounded',
+    'plift-property 1': 'property',
+    'plift-cost 1': 'cost',
+}
+"""The first line of a text, and the command that writes it."""
+ASKED = re.compile(r'\n(?=bound |property |cost )')
 ACCEPT, REJECT, UNKNOWN = 'accept', 'reject', 'unknown'
 KINDS = (ACCEPT, REJECT, UNKNOWN)
 PAST = {ACCEPT: 'accepted', REJECT: 'rejected', UNKNOWN: 'unknown'}
@@ -33,9 +44,10 @@ class Leaf:
     depth: int
     ends: Tuple[int, ...]
     value: Optional[Fraction]
-    """Of the initial state: no more is reached where it is accepted, no less where it is rejected."""
+    """Of the initial state: where it is accepted no more is reached or spent than this (no less, where the question is
+    of what is reached at least), where it is rejected no less (no more)."""
     scheduler: Optional[int]
-    """Its place in the report's list of schedulers; only of a rejecting leaf of a decision process."""
+    """Its place in the report's list of schedulers; only of a leaf of a decision process that prints one."""
     precision: int
     """Its certificate's numbers are over 2 to this power; of an unknown leaf the report's, at which there is none."""
 
@@ -59,8 +71,8 @@ class Leaf:
 class Report:
     """A sound report, with what `plift check` says of it and what is known of how it came to be."""
 
-    def __init__(self, data: bytes, soundness: str, origin: Origin = Origin(), path: str = '') -> None:
-        self.data, self.soundness, self.origin, self.path = (data, soundness, origin, path)
+    def __init__(self, data: bytes, soundness: str, origin: Origin = Origin(), path: str = '', judge: str = '') -> None:
+        self.data, self.soundness, self.origin, self.path, self.judge = data, soundness, origin, path, judge
         self._ends: Dict[Tuple[int, int], Fraction] = {}
         try:
             self._read_head()
@@ -85,23 +97,41 @@ class Report:
     def _read_head(self) -> None:
         box = self.data.index(b'\nbox') + 1
         head = self.data[:box].decode('ascii')
+        first = head.partition('\n')[0]
+        if first not in HEADS:
+            raise Fault('a report of version %s isn\'t read here; this reads %s' % (first[6:46], ', '.join(HEADS)))
+        self.command, self.version = HEADS[first], int(first[-1])
         self._model_begin = head.index('\nrow ') + 1
-        self._model_end = head.index('\nbound ') + 1
+        asked = ASKED.search(head)
+        if asked is None:
+            raise ValueError('nothing is asked')
+        self._model_end = asked.end()
         around = head[: self._model_begin] + head[self._model_end :]
         lines = dict(line.partition(' ')[::2] for line in around.splitlines())
-        if lines['plift'] not in ('1', '2'):
-            raise Fault('a report of version %s isn\'t read here; this reads versions 1 and 2' % lines['plift'])
-        self.version = int(lines['plift'])
         self.kind, self.parameters = lines['kind'], lines['parameters'].split()[1:]
-        self.common, self.states, self.init = (int(lines['common']), int(lines['states']), int(lines['init']))
+        self.common, self.states, self.init = int(lines['common']), int(lines['states']), int(lines['init'])
         self.goals = [int(word) for word in lines['goal'].split()[1:]]
-        self.bound, self.precision = Fraction(lines['bound']), int(lines['precision'])
+        self._read_asked(lines)
+        self.precision = int(lines['precision'])
         self.least_precision = int(lines['from']) if self.version == 2 else self.precision
         self.depth, self.grid = int(lines['depth']), int(lines['grid'])
         self.tree_begin = self.data.index(b'\n', box) + 1
         self.box = tuple(int(word) for word in self.data[box : self.tree_begin].split()[1:])
         sets = _sets(self.data[self._model_begin : self._model_end])
         self.live = [name for i, name in enumerate(self.parameters) if any(one >> i & 1 for one in sets)]
+
+    def _read_asked(self, lines: Dict[str, str]) -> None:
+        """What is asked: the text tells it, but for labels, which the origin tells."""
+        safe, op, bound = self.origin.safe, '<=', lines.get('bound', '')
+        steps = int(lines['steps']) if self.command == 'bounded' else None
+        reward, cap = None, None
+        self.costs: List[Fraction] = []
+        if self.command == 'property':
+            op, bound = lines['property'].split()
+        if self.command == 'cost':
+            bound, cap, reward = lines['budget'], int(lines['cap']), self.origin.reward or 'cost'
+            self.costs = [Fraction(word) for word in lines['cost'].split()]
+        self.bound, self.form = Fraction(bound), Form(op, safe, steps, reward, cap)
 
     def _read_tree(self) -> None:
         """Notes the nodes in their order: a split's axis; a leaf's kind, number, scheduler and precision."""
@@ -125,18 +155,37 @@ class Report:
                 self.nodes.append(int(line[6:]))
             elif key == b'unknow':
                 self._add(UNKNOWN, None, None, self.precision)
-            elif key == b'accept':
-                self._add(ACCEPT, int(line.split(b' ', self.init + 2)[self.init + 1]), None, bits)
             elif is_begun:
                 bits = int(line[3:])
             else:
-                number = int(line.rpartition(b' ')[2].partition(b'/')[0])
-                stop = self.data.index(b'\n', stop + 1)
-                rank = self.data.index(b'\n', stop + 1)
-                choices = self.data[stop + 8 : rank]
-                self._add(REJECT, number, self._schedulers.setdefault(choices, len(self._schedulers)), bits)
-                stop = self.data.index(b'\n', rank + 1)
+                kind = ACCEPT if key in (b'accept', b'holds') else REJECT
+                stop = self._read_certificate(kind, line, stop, bits)
             start = stop + 1
+
+    def _read_certificate(self, kind: str, line: bytes, stop: int, bits: int) -> int:
+        """Notes a decided leaf whose first line ends at `stop`, and tells where its last line ends."""
+        lines = [line]
+        for _ in range(self._lines_below(kind)):
+            start, stop = stop + 1, self.data.index(b'\n', stop + 1)
+            lines.append(self.data[start:stop])
+        told = lines[-1] if self.command == 'bounded' and kind == ACCEPT else lines[self.command == 'property']
+        is_told_apart = told.startswith((b'reject ', b'lower '))
+        place = self.init + 1 + (self.command == 'bounded')
+        word = told.rpartition(b' ')[2].partition(b'/')[0] if is_told_apart else told.split(b' ', place + 1)[place]
+        choices = b'; '.join(each[7:] for each in lines if each[:7] == b'choice ')
+        self._add(
+            kind, int(word), self._schedulers.setdefault(choices, len(self._schedulers)) if choices else None, bits
+        )
+        return stop
+
+    def _lines_below(self, kind: str) -> int:
+        """How many lines a certificate has below its first one."""
+        if self.command == 'bounded':
+            return (self.form.steps or 0) * (1 if kind == ACCEPT else 2)
+        if self.command == 'property':
+            lines = (3, 2) if self.form.is_of_least else (1, 4)
+            return lines[kind == REJECT]
+        return 0 if kind == ACCEPT else 3
 
     def _add(self, kind: str, value: Optional[int], pick: Optional[int], bits: int) -> None:
         self.nodes.append(kind)
@@ -152,7 +201,7 @@ class Report:
     @property
     def question(self) -> str:
         """What was asked, as a line."""
-        return 'P( reach %s ) <= %s' % (plain(self.origin.goal), self.bound)
+        return plain(self.form.question(self.origin.goal, self.bound))
 
     def user(self, name: str, value: Fraction) -> Fraction:
         """A parameter's value in the user's own numbers."""
@@ -197,7 +246,7 @@ class Report:
 
     def leaves(self) -> Iterator[Leaf]:
         """The leaves, in the order of the report."""
-        one, number = 2**self.precision, 0
+        one, number, unit = 2**self.precision, 0, self.form.unit
         for node, (depth, ends) in zip(self.nodes, self.walk()):
             if isinstance(node, int):
                 continue
@@ -208,7 +257,7 @@ class Report:
                 node,
                 depth,
                 ends,
-                None if value is None else Fraction(value, one),
+                None if value is None else Fraction(value * unit, one),
                 self._picks[number] if self.kind == 'mdp' else None,
                 self._precisions[number],
             )
@@ -258,18 +307,20 @@ class Report:
 
     @property
     def picks(self) -> List[int]:
-        """Of each rejecting leaf, in their order, the place of its scheduler."""
+        """Of each leaf that prints a scheduler, in their order, the place of it."""
         return [pick for pick in self._picks if pick is not None]
 
     @property
     def scheduler_texts(self) -> List[str]:
-        """The different schedulers of rejecting leaves as the report writes them."""
+        """The different schedulers of leaves as the report writes them."""
         return [line.decode('ascii') for line in self._schedulers]
 
     @property
-    def schedulers(self) -> List[List[Optional[int]]]:
-        """The different schedulers of rejecting leaves: for each state its choice, none where none is made."""
-        return [[None if word == '-' else int(word) for word in text.split()] for text in self.scheduler_texts]
+    def schedulers(self) -> List[Any]:
+        """The different schedulers of leaves that print one: for each state its choice, none where none is made. Where
+        the number of steps counts it is a list of these, by the steps that are left."""
+        told = [[_choices(part) for part in text.split('; ')] for text in self.scheduler_texts]
+        return [[choices[1:] for choices in one] if self.command == 'bounded' else one[0] for one in told]
 
     @cached_property
     def model_text(self) -> bytes:
@@ -277,7 +328,7 @@ class Report:
         lines = ['@type: ' + self.kind.upper()]
         if self.parameters:
             lines += ['@parameters', ' '.join(self.parameters)]
-        lines.append('@model')
+        lines += ['@reward_models', 'cost', '@model'] if self.costs else ['@model']
         before, goals = -1, set(self.goals)
         for line in self.data[self._model_begin : self._model_end].decode('ascii').splitlines():
             words = line.split(' ')
@@ -285,7 +336,8 @@ class Report:
                 state = int(words[1])
                 if state != before:
                     labels = ' init' * (state == self.init) + ' goal' * (state in goals)
-                    lines.append('state %d%s' % (state, labels))
+                    costs = ' [%s]' % self.costs[state] if self.costs else ''
+                    lines.append('state %d%s%s' % (state, costs, labels))
                     before = state
                 if self.kind == 'mdp':
                     lines.append('action %s' % words[2])
@@ -303,6 +355,11 @@ class Report:
 def _sets(model_lines: bytes) -> FrozenSet[int]:
     """The sets of parameters that occur in a model's rows. Reports of one session mostly have the same model."""
     return frozenset(map(int, set(re.findall(rb' ([0-9]+):', model_lines))))
+
+
+def _choices(text: str) -> List[Optional[int]]:
+    """Choices as numbers; of a number of steps that number stands before them."""
+    return [None if word == '-' else int(word) for word in text.split()]
 
 
 def shares_text(report: Report) -> str:

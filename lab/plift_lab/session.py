@@ -15,7 +15,9 @@ from typing import Any, Callable, Dict, List, Optional, Tuple
 from .deeper import Deepening
 from .ends import say
 from .evidence import Evidence, digest, read_file, read_origin
-from .faults import Refused
+from .faults import Fault, Refused
+from .forms import Form
+from .judging import Judge
 from .models import Model, Scale
 from .origin import Origin
 from .outputs import fresh, writing
@@ -24,9 +26,12 @@ from .parts import cut
 from .program import MOST_CHECKED_BYTES, find_program
 from .regions import Region
 from .report import Report
-from .values import exact
 
-MOST_DEPTH, MOST_BITS = 20, 40
+MOST_DEPTH, MOST_BITS, MOST_CALLS = 20, 40, 10**6
+
+
+class Spent(Fault):
+    """All questions that were allowed were asked."""
 
 
 @dataclass(frozen=True)
@@ -44,6 +49,8 @@ class Question:
     """Whether each parameter is rescaled to its interval."""
     least_precision: Optional[int] = None
     """From which precision on each part is decided at the least one that does; none for one precision."""
+    form: Form = Form()
+    """What is asked of the goal and the bound."""
 
     def prepared(self) -> Tuple[Model, Region, Scale]:
         """The model and the region as they are given to the program, and what its numbers mean."""
@@ -51,7 +58,7 @@ class Question:
 
     def words(self, region: Region, precision: int) -> List[str]:
         """The program's command line."""
-        options = ['verify', '--goal', self.goal, '--bound', exact(self.bound)]
+        options = self.form.words(self.goal, self.bound)
         if region.text:
             options += ['--region', region.text]
         options += ['--depth', str(self.depth), '--precision', str(precision)]
@@ -143,7 +150,7 @@ class Follower:
             elif key == b'split ':
                 half = self._due.pop() / 2
                 self._due += [half, half]
-            elif key in (b'accept', b'reject', b'unknow') and self._due:
+            elif key in (b'accept', b'reject', b'unknow', b'holds', b'fails') and self._due:
                 self._share += self._due.pop()
         return self._share
 
@@ -169,7 +176,8 @@ class Job:
     def origin(self) -> Origin:
         """What is told of its report."""
         words = self.question.words(self.region, self.bits)
-        return Origin(self.question.goal, self.scale, dict(self.question.region.fixed), words, self.model.name)
+        asked, fixed = self.question, dict(self.question.region.fixed)
+        return Origin(asked.goal, self.scale, fixed, words, self.model.name, asked.form.safe, asked.form.reward)
 
     def is_of(self, report: Report) -> bool:
         """Whether a report that was kept speaks of this region, this bound and this depth."""
@@ -189,8 +197,10 @@ class Session:
 
     def __init__(self, keep: Optional[str] = None, is_told: bool = False) -> None:
         self.program = find_program()
+        self.judge = Judge(self.program)
         self.evidence = Evidence(keep)
         self.progress = Progress(is_told)
+        self.asked, self._left = 0, MOST_CALLS
         self._room: Dict[str, int] = {}
         self._paces: Dict[str, Pace] = {}
 
@@ -218,6 +228,8 @@ class Session:
     def deepen(self, question: Question, base: Report) -> Report:
         """The same, from a report of the same question at a smaller depth: what is decided there is asked again only
         where that takes less time. The bytes are those of `ask`."""
+        if question.form.command != 'verify':
+            return self.ask(question)
         model, region, scale = question.prepared()
         job = Job(question, self.evidence.model_file(model.text), region, scale, base.precision)
         try:
@@ -228,41 +240,50 @@ class Session:
         return self.ask(question)  # with fewer bits, at which the base decides nothing
 
     def shorten(self, question: Question, base: Report) -> Report:
-        """The same, from a report of the same question at a greater depth: nothing is asked."""
+        """The same, from a report of the same question at a greater depth: nothing is asked of a report."""
+        if question.form.command != 'verify':
+            return self.ask(question)
         model, region, scale = question.prepared()
         return self._run(Job(question, self.evidence.model_file(model.text), region, scale, base.precision), base)
 
     def _run(self, job: Job, base: Optional[Report] = None) -> Report:
-        origin, name = job.origin, job.name
-        known = self.evidence.find(name)
-        if known:
-            data = read_file(str(known), MOST_CHECKED_BYTES)
-            if read_origin(known, data) == origin:
-                report = Report(data, self.program.check(data), origin, str(known))
-                if job.is_of(report):
-                    return report
+        known = self._known(job)
+        if known is not None:
+            return known
         path = self.evidence.next_report()
         part = path.with_name(path.name + '.part')
         try:
             seconds = self._write(job, base, part)
             data = read_file(str(part), MOST_CHECKED_BYTES)
-            soundness = self.program.check(data)
+            verdict = self.judge.judge(data)
             with writing(path):
                 part.replace(path)
         finally:
             with contextlib.suppress(OSError):
                 part.unlink()
-        self.evidence.note(path, name, data, origin)
-        report = Report(data, soundness, origin, str(path))
+        self.evidence.note(path, job.name, data, job.origin)
+        report = Report(data, verdict.line, job.origin, str(path), verdict.judge)
         if seconds is not None:
             self._pace(job).note(1, len(report.nodes), seconds)
         return report
+
+    def _known(self, job: Job) -> Optional[Report]:
+        """The report of a job that was done before."""
+        known = self.evidence.find(job.name)
+        if known is None:
+            return None
+        data = read_file(str(known), MOST_CHECKED_BYTES)
+        if read_origin(known, data) != job.origin:
+            return None
+        verdict = self.judge.judge(data)
+        report = Report(data, verdict.line, job.origin, str(known), verdict.judge)
+        return report if job.is_of(report) else None
 
     def _write(self, job: Job, base: Optional[Report], report: Path) -> Optional[float]:
         """Writes a job's report, from one at another depth if there is one. Returns how many seconds that took, where
         all was asked at once."""
         if base is None:
-            return self.program.verify(job.origin.words, job.model, report, self.progress.watcher())
+            return self._run_program(job.origin.words, job.model, report, self.progress.watcher())
         if base.depth >= job.question.depth:
             with writing(report), fresh(report) as out:
                 out.writelines(cut(base, job.question.depth))
@@ -271,33 +292,48 @@ class Session:
         def ask(region: Region, bound: Fraction, depth: int, report: Path) -> float:
             words = replace(job.question, bound=bound, depth=depth).words(region, job.bits)
             watch = self.progress.watcher() if depth == job.question.depth else None
-            return self.program.verify(words, job.model, report, watch)
+            return self._run_program(words, job.model, report, watch)
 
         deepening = Deepening(base, job.question.depth, self._pace(job), ask)
         return deepening.write(report, self.progress.teller('of what was unknown is asked again'))
+
+    def allow(self, calls: int) -> None:
+        """Lets the program be started so often from now on."""
+        self._left = calls
+
+    def _run_program(
+        self, words: List[str], model: Path, report: Path, watch: Optional[Callable[[Path], None]]
+    ) -> float:
+        """Starts the program, if that is still allowed."""
+        if self._left <= 0:
+            raise Spent('as many questions were asked as --calls allows')
+        self._left -= 1
+        self.asked += 1
+        return self.program.verify(words, model, report, watch)
 
     def _pace(self, job: Job) -> Pace:
         return self._paces.setdefault(job.model.name, Pace())
 
     def read(self, name: str) -> Report:
-        """A report that somebody wrote, once `plift check` has called it sound."""
+        """A report that somebody wrote, or a text of `bounded`, `property` or `cost`, once it was called sound."""
         data = read_file(name, MOST_CHECKED_BYTES)
         try:
-            soundness = self.program.check(data)
+            verdict = self.judge.judge(data)
         except Refused as refusal:
             refusal.args = ('%s: %s' % ('the report' if name == '-' else name, refusal.note or refusal),)
             raise
-        if name == '-':
-            return Report(data, soundness)
-        report = Report(data, soundness, read_origin(Path(name), data) or Origin(), name)
+        origin = Origin() if name == '-' else read_origin(Path(name), data) or Origin()
+        report = Report(data, verdict.line, origin, '' if name == '-' else name, verdict.judge)
         report.require_borne_out()
         return report
 
     def ask_again(
         self, report: Report, region: Region, bound: Fraction, depth: int = 0, precision: Optional[int] = None
     ) -> Report:
-        """Asks of a part of a report's region, in the report's own numbers and of its own model."""
-        return self.ask(Question(Model(report.model_text), 'goal', bound, region, depth, precision))
+        """Asks of a part of a report's region, in the report's own numbers and of its own model. What it was asked by
+        way of is cut in that model."""
+        form = replace(report.form, safe=None, reward='cost' if report.form.reward else None)
+        return self.ask(Question(Model(report.model_text), 'goal', bound, region, depth, precision, form=form))
 
 
 def _is_without_room(refusal: Refused) -> bool:

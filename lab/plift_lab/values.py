@@ -30,10 +30,15 @@ def read_number(text: str) -> Fraction:
     return -value / divisor if text.startswith('-') else value / divisor
 
 
+def read_part(text: str) -> Fraction:
+    """A number, which may be told in percent by the sign %."""
+    text = text.strip()
+    return read_number(text[:-1]) / 100 if text.endswith('%') else read_number(text)
+
+
 def read_share(text: str) -> Fraction:
     """A share from 0 to 1: a number, or one in percent with the sign %."""
-    text = text.strip()
-    share = read_number(text[:-1]) / 100 if text.endswith('%') else read_number(text)
+    share = read_part(text)
     if not 0 <= share <= 1:
         raise Fault('%r is no share: write 95%% or 0.95' % text)
     return share

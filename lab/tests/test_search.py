@@ -2,8 +2,10 @@
 
 import unittest
 from fractions import Fraction
+from unittest import mock
 
 import plift_lab
+from plift_lab.program import Program
 from plift_lab.regions import Region
 
 from .helpers import LINKS, RETRY
@@ -49,12 +51,26 @@ class Bounds(unittest.TestCase):
         self.assertLessEqual(found.sup.most - found.sup.least, Fraction(1, 100))
 
     def test_stops_at_its_calls(self) -> None:
-        found = plift_lab.bounds(LINKS, 'lost', 'p=1/10..1/2,q=1/10..1/2', '1e-12', calls=20)
-        self.assertTrue(found.sup.is_short and found.inf.is_short)
+        for calls in (2, 3, 5, 8):
+            found = plift_lab.bounds(LINKS, 'lost', 'p=1/10..1/2,q=1/10..1/2', '1e-9', calls=calls)
+            self.assertTrue(found.sup.is_short and found.inf.is_short)
+            self.assertEqual({found.sup.short, found.inf.short}, {'calls'})
+            self.assertLessEqual(found.calls, calls)
+            half, tenth = Fraction(1, 2), Fraction(1, 10)
+            self.assertTrue(found.sup.least <= lost(half, half) <= found.sup.most)
+            self.assertTrue(found.inf.least <= lost(tenth, tenth) <= found.inf.most)
+
+    def test_calls_are_starts(self) -> None:
+        """As many as are told are counted."""
+        with mock.patch.object(Program, 'verify', autospec=True, side_effect=Program.verify) as started:
+            found = plift_lab.bounds(LINKS, 'lost', 'p=1/10..1/2,q=1/10..1/2', '1e-3')
+        self.assertEqual(started.call_count, found.calls)
+        self.assertLess(found.calls, 30)
 
     def test_a_width_below_rounding(self) -> None:
-        found = plift_lab.bounds(str(RETRY), 'lost', 'p=1/10..3/10,q=1/20', '1e-14', precision=8, calls=60)
-        self.assertTrue(found.sup.is_short)
+        found = plift_lab.bounds(str(RETRY), 'lost', 'p=1/10..3/10,q=1/20', '1e-14', precision=8)
+        self.assertEqual((found.sup.short, found.sup.rounding > 0), ('rounding', True))
+        self.assertLess(found.calls, 30)
         self.assertLessEqual(found.sup.least, Fraction(27, 1000))
         self.assertGreaterEqual(found.sup.most, Fraction(27, 1000))
 

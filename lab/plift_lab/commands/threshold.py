@@ -9,6 +9,7 @@ that accepts all up to there, and one over what lies just beyond.
 from __future__ import annotations
 
 import argparse
+from fractions import Fraction
 from typing import List
 
 from .. import asking
@@ -16,13 +17,13 @@ from ..api import find_threshold
 from ..edge import Edge
 from ..faults import DONE, SHORT
 from ..session import MOST_DEPTH, Question, Session
-from ..values import above, below, exact, near, read_bound, read_count
+from ..values import above, below, exact, near, read_count
 
 
 def add_words(words: argparse.ArgumentParser) -> None:
     """The words of the command."""
     asking.add_model(words)
-    words.add_argument('--bound', required=True, metavar='B', help='the bound on the probability')
+    words.add_argument('--bound', metavar='B', help='the bound on the probability')
     words.add_argument('--parameter', required=True, metavar='P', help='the parameter')
     words.add_argument('--least', action='store_true', help='the least value from which on all is accepted')
     words.add_argument('--width', metavar='E', help='how close; if left out a thousandth of the interval')
@@ -34,14 +35,17 @@ def add_words(words: argparse.ArgumentParser) -> None:
 def run(given: argparse.Namespace) -> int:
     """Does it."""
     width = asking.width_of(given)
+    asked = asking.asked_of(given, given.bound)
+    asking.require_bound(asked)
     question = Question(
         asking.model_of(given),
-        given.goal,
-        read_bound(given.bound),
+        asked.goal,
+        asked.bound or Fraction(0),
         asking.region_of(given),
         read_count(given.depth, '--depth', 0, MOST_DEPTH),
         asking.precision_of(given),
         given.relative,
+        form=asked.form,
     )
     with asking.session(given) as session:
         edge = find_threshold(session, question, given.parameter, width, not given.least)

@@ -54,8 +54,9 @@ def run(given: argparse.Namespace) -> int:
                     'unknown': [
                         {
                             'region': shown(one.leaf.rectangle).strip(),
-                            'least': exact(one.least),
-                            'most': exact(one.most),
+                            'least': exact(one.coarse.least),
+                            'most': exact(one.coarse.most),
+                            'rounding': exact(one.rounding),
                             'help': one.help,
                             'axis': one.axis,
                         }
@@ -69,15 +70,16 @@ def run(given: argparse.Namespace) -> int:
 
 
 def _lines(report: Report, found: List[Finding], session: Session) -> List[str]:
-    lines = ['  %s, judged by %s' % (report.soundness, session.program.judge)]
+    lines = ['  %s, judged by %s' % (report.soundness, report.judge)]
     for one in found:
         lines.append('unknown%s' % _where(one))
         lines.append(
             '  between %s and %s at %d bits; the bound is %s'
-            % (below(one.least, 9), above(one.most, 9), report.precision, report.bound)
+            % (below(one.coarse.least, 9), above(one.coarse.most, 9), report.precision, report.bound)
         )
-        if one.sharp != (one.least, one.most):
-            lines.append('  between %s and %s at the most bits' % (below(one.sharp[0], 13), above(one.sharp[1], 13)))
+        if one.sharp != one.coarse:
+            sharp = below(one.sharp.least, 13), above(one.sharp.most, 13)
+            lines.append('  between %s and %s at the most bits' % sharp)
         lines.append('  ' + one.advice)
     others = sum(count for (kind, _), count in report.counts.items() if kind == UNKNOWN) - len(found)
     if found and others:

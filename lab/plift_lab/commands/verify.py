@@ -5,6 +5,7 @@ where --report or --keep says. With --coverage the depth grows until so much of 
 unknown is asked again, and the joined report has the bytes of a single `plift verify` at that depth.
 
     plift-lab verify examples/retry.drn --goal lost --bound 1/40 --bound 1/20 --region p=1/10..1/2,q=1/10..1/2 --depth 4
+    plift-lab verify examples/retry.drn --formula 'P>=19/20 [F "delivered"]' --region p=1/10..3/10,q=1/20..1/5
 """
 
 from __future__ import annotations
@@ -12,23 +13,24 @@ from __future__ import annotations
 import argparse
 import sys
 from fractions import Fraction
+from typing import Any, Dict, List, Optional
 
 from .. import asking
 from ..api import find_verdict
 from ..evidence import read_file
 from ..faults import DONE, SHORT, Fault
 from ..outputs import Output, beside
-from ..report import UNKNOWN
-from ..session import MOST_BITS, MOST_DEPTH, Question
-from ..values import percent, read_bound, read_count, read_share
+from ..report import UNKNOWN, Report
+from ..session import MOST_BITS, MOST_DEPTH, Question, Session
+from ..values import percent, read_count, read_share
+
+COSTS = 'unknown isn\'t more: plift shows no cost from below, so `bounds` tells the least budget that it shows'
 
 
 def add_words(words: argparse.ArgumentParser) -> None:
     """The words of the command."""
-    asking.add_model(words)
-    words.add_argument(
-        '--bound', required=True, action='append', metavar='B', help='the bound; as often as there are bounds'
-    )
+    asking.add_model(words, several=True)
+    words.add_argument('--bound', action='append', metavar='B', help='the bound; as often as there are bounds')
     words.add_argument('--depth', default='0', metavar='H', help='how often the region may be halved; 0 if left out')
     words.add_argument(
         '--from',
@@ -43,7 +45,7 @@ def add_words(words: argparse.ArgumentParser) -> None:
     )
     words.add_argument('--coverage', metavar='SHARE', help='goes deeper until so much is decided, as 95%%')
     words.add_argument(
-        '--report', metavar='FILE', help='writes the report of a single bound there; - for standard output'
+        '--report', metavar='FILE', help='writes the report of a single question there; - for standard output'
     )
     asking.add_session(words)
 
@@ -51,19 +53,15 @@ def add_words(words: argparse.ArgumentParser) -> None:
 def run(given: argparse.Namespace) -> int:
     """Does it."""
     share = read_share(given.coverage) if given.coverage is not None else None
-    if given.report is not None and len(given.bound) > 1:
-        raise Fault('--report takes the report of one bound; --keep FOLDER keeps those of several')
-    bounds, depth = [read_bound(bound) for bound in given.bound], read_count(given.depth, '--depth', 0, MOST_DEPTH)
-    precision = asking.precision_of(given)
-    least = read_count(given.least, '--from', 1, precision or MOST_BITS) if given.least is not None else None
-    model, region = asking.model_of(given), asking.region_of(given)
+    questions = _questions(given)
+    if given.report is not None and len(questions) > 1:
+        raise Fault('--report takes the report of one question; --keep FOLDER keeps those of several')
     kept = Output(given.report, [given.model]) if given.report is not None else None
     kept_beside = beside(kept, [given.model]) if kept else None
     told = sys.stderr if given.report == '-' else sys.stdout
     status, answers = DONE, []
     with asking.session(given) as session:
-        for bound in bounds:
-            question = Question(model, given.goal, bound, region, depth, precision, given.relative, least)
+        for question in questions:
             report = find_verdict(session, question, share)
             session.progress.clear()
             if share is not None and report.shares[UNKNOWN] > 1 - share:
@@ -75,22 +73,49 @@ def run(given: argparse.Namespace) -> int:
                 if given.report != '-':
                     report.path = given.report
             if given.json:
-                answers.append(
-                    {
-                        'verdict': report.verdict,
-                        'bound': str(bound),
-                        'behind': asking.behind(report),
-                        'shares': {kind: str(part) for kind, part in report.shares.items()},
-                    }
-                )
+                answers.append(_data(report))
                 continue
-            told.write(report.verdict_line + '\n')
-            if share is not None:
-                told.write(
-                    '  decided: %s at depth %d, and %s was asked\n'
-                    % (percent(1 - report.shares[UNKNOWN]), report.depth, percent(Fraction(share)))
-                )
-            told.write('\n'.join(asking.behind_lines([report], session)) + '\n')
+            told.write('\n'.join(_lines(report, share, session)) + '\n')
         if given.json:
             asking.put_json(answers, told)
     return status
+
+
+def _questions(given: argparse.Namespace) -> List[Question]:
+    """A question for each formula, or for each bound of a goal."""
+    asked = [asking.asked_of(given, None, formula) for formula in given.formula or []]
+    asked = asked or [asking.asked_of(given, bound) for bound in given.bound or [None]]
+    if given.formula and given.bound:
+        raise Fault('a formula has its bound: leave --bound out')
+    depth = read_count(given.depth, '--depth', 0, MOST_DEPTH)
+    precision = asking.precision_of(given)
+    least = read_count(given.least, '--from', 1, precision or MOST_BITS) if given.least is not None else None
+    if least is not None and any(one.form.command != 'verify' for one in asked):
+        raise Fault('--from goes with P<=b [F "goal"] alone')
+    for one in asked:
+        asking.require_bound(one)
+    model, region = asking.model_of(given), asking.region_of(given)
+    made: List[Question] = []
+    for one in asked:
+        bound = one.bound if one.bound is not None else Fraction(1)
+        made.append(Question(model, one.goal, bound, region, depth, precision, given.relative, least, one.form))
+    return made
+
+
+def _data(report: Report) -> Dict[str, Any]:
+    return {
+        'verdict': report.verdict,
+        'bound': str(report.bound),
+        'behind': asking.behind(report),
+        'shares': {kind: str(part) for kind, part in report.shares.items()},
+    }
+
+
+def _lines(report: Report, share: Optional[Fraction], session: Session) -> List[str]:
+    lines = [report.verdict_line]
+    if share is not None:
+        decided = percent(1 - report.shares[UNKNOWN])
+        lines.append('  decided: %s at depth %d, and %s was asked' % (decided, report.depth, percent(share)))
+    if report.shares[UNKNOWN] and report.command == 'cost':
+        lines.append('  ' + COSTS)
+    return lines + asking.behind_lines([report], session)

@@ -40,7 +40,7 @@ def run(given: argparse.Namespace) -> int:
     """Does it."""
     with Session() as session:
         report = session.read(given.report)
-        sys.stdout.write(page(report, session.program.judge, given.x, given.y, given.title))
+        sys.stdout.write(page(report, report.judge, given.x, given.y, given.title))
     return DONE
 
 
@@ -83,7 +83,7 @@ def _axes(report: Report, x: Optional[str], y: Optional[str]) -> Tuple[int, int]
     free = [name for name in free if name in report.live and name != first]
     second = y or (free.pop(0) if free else None)
     places = {name: place for place, name in enumerate(report.parameters)}
-    return (places.get(first, -1) if first else -1, places.get(second, -1) if second else -1)
+    return places.get(first, -1) if first else -1, places.get(second, -1) if second else -1
 
 
 def _data(report: Report, judge: str, axes: Tuple[int, int]) -> Dict[str, Any]:
