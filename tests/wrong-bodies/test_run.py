@@ -15,16 +15,24 @@ sys.dont_write_bytecode = True
 sys.path.insert(0, str(HERE))
 import run  # noqa: E402
 
-# Stands in for the kit's command: it refuses each wrong body but those whose name has `passes` in it.
+# Stands in for the kit's command: it refuses each wrong body but those whose name has `passes` in it, and some only by
+# what is stored, or by giving up.
 STAND_IN = """#!/bin/sh
 for edit in crates/"$2"/must-fail/*.edit; do
     name=${edit##*/}
     case $name in
     *passes*) echo "rt: must-fail $2/$name: NOT REFUSED: the crate is still proved with this edit" ;;
+    *stored*)
+        echo "rt: must-fail $2/$name: refused, as it must be (only because a proof file names it): error" ;;
+    *limit*) echo "rt: must-fail $2/$name: refused, as it must be (only by a limit of the prover): note" ;;
+    *bare*) echo "rt: must-fail $2/$name: refused, as it must be" ;;
     *) echo "rt: must-fail $2/$name: refused, as it must be: note: src/lib.rt:1:1: it is not proved" ;;
     esac
 done
 """
+
+NONE = "0 at a clause, 0 stored, 0 at a limit"
+TWO, THREE = "1 at a clause, 1 stored, 0 at a limit", "3 at a clause, 0 stored, 0 at a limit"
 
 
 def faults_of(edit: Path, crate: Path) -> List[str]:
@@ -85,37 +93,80 @@ class Counting(unittest.TestCase):
         said = io.StringIO()
         with contextlib.redirect_stdout(said):
             status = run.main(["--jobs", "1", *words])
-        return [*said.getvalue().splitlines()[-2:], str(status)]
+        told = [line for line in said.getvalue().splitlines() if line and not line.startswith("rt: ")]
+        return [*told, str(status)]
+
+    def notes(self) -> List[str]:
+        """The lines of what is noted, without sums."""
+        lines = (run.HERE / "refused").read_text().splitlines()
+        return [" ".join(line.split(" ")[::2]).rpartition("/")[2] for line in lines]
 
     def test_all_are_refused(self) -> None:
-        self.write("one", "two")
-        self.assertEqual(self.tried(), ["== lift_bytes: 2 of 2 refused", "2 refused, 0 passed, 0 noted before", "0"])
+        self.write("one", "two", "bare")
+        told = ["== lift_bytes: 3 clause, 0 stored, 0 limit, 0 passed"]
+        told += [f"refused now: {THREE}; noted before: {NONE}; 0 passed", "0"]
+        self.assertEqual(self.tried(), told)
+        self.assertEqual(self.tried(), [f"refused now: {NONE}; noted before: {THREE}; 0 passed", "0"])
 
     def test_one_passes(self) -> None:
         self.write("one", "it_passes")
-        told = ["== lift_bytes: 1 of 2 refused", "1 refused, 1 passed, 0 noted before", "1"]
-        self.assertEqual(self.tried(), told)
-        self.assertEqual(self.tried(), ["== lift_bytes: 0 of 1 refused", "0 refused, 1 passed, 1 noted before", "1"])
+        one = "1 at a clause, 0 stored, 0 at a limit"
+        told = ["== lift_bytes: 1 clause, 0 stored, 0 limit, 1 passed"]
+        self.assertEqual(self.tried(), [*told, f"refused now: {one}; noted before: {NONE}; 1 passed", "1"])
+        told = ["== lift_bytes: 0 clause, 0 stored, 0 limit, 1 passed"]
+        self.assertEqual(self.tried(), [*told, f"refused now: {NONE}; noted before: {one}; 1 passed", "1"])
+
+    def test_kinds_are_told_apart(self) -> None:
+        """What is refused only by what is stored or at a limit isn't refused at a clause, today or noted before."""
+        self.write("one", "at_a_limit", "stored")
+        each = "1 at a clause, 1 stored, 1 at a limit"
+        told = ["== lift_bytes: 1 clause, 1 stored, 1 limit, 0 passed"]
+        self.assertEqual(self.tried(), [*told, f"refused now: {each}; noted before: {NONE}; 0 passed", "1"])
+        self.assertEqual(self.notes(), ["at_a_limit.edit limit", "one.edit clause", "stored.edit stored"])
+        self.assertEqual(self.tried(), [f"refused now: {NONE}; noted before: {each}; 0 passed", "1"])
+        (run.HERE / "lift_bytes" / "at_a_limit.edit").unlink()
+        self.assertEqual(self.tried()[-1], "1")
+        (run.HERE / "lift_bytes" / "stored.edit").unlink()
+        self.assertEqual(self.tried()[-1], "0")
+
+    def test_kinds_that_were_not_told(self) -> None:
+        """A note of the time before has no kind, and is told so; it is tried again where that is asked for."""
+        self.write("one", "stored")
+        sums = run.sums_of("lift_bytes")
+        (run.HERE / "refused").write_text("".join(f"{name} {sum_}\n" for name, sum_ in sums.items()))
+        untold = f"{NONE}, 2 of a kind not told"
+        self.assertEqual(self.tried(), [f"refused now: {NONE}; noted before: {untold}; 0 passed", "0"])
+        self.assertEqual(self.tried("--untold")[-1], "1")
+        self.assertEqual(self.notes(), ["one.edit clause", "stored.edit stored"])
+        self.assertEqual(self.tried("--untold")[0], f"refused now: {NONE}; noted before: {TWO}; 0 passed")
 
     def test_what_was_refused_is_noted(self) -> None:
         self.write("one", "two")
         self.tried()
-        self.assertEqual(self.tried(), ["0 refused, 0 passed, 2 noted before", "0"])
-        self.assertEqual(self.tried("--anew")[0], "== lift_bytes: 2 of 2 refused")
+        self.assertEqual(self.tried()[-1], "0")
+        self.assertEqual(self.tried("--anew")[0], "== lift_bytes: 2 clause, 0 stored, 0 limit, 0 passed")
         self.write("two", text="another one\n")
-        self.assertEqual(self.tried()[1], "1 refused, 0 passed, 1 noted before")
-        notes = (run.HERE / "refused").read_text().splitlines()
-        self.assertEqual([line.split(" ")[0] for line in notes], ["lift_bytes/one.edit", "lift_bytes/two.edit"])
+        self.assertEqual(self.tried()[0], "== lift_bytes: 1 clause, 0 stored, 0 limit, 0 passed")
+        self.assertEqual(self.notes(), ["one.edit clause", "two.edit clause"])
         (run.HERE / "lift_bytes" / "one.edit").unlink()
         self.tried("--anew")
-        self.assertEqual(len((run.HERE / "refused").read_text().splitlines()), 1)
+        self.assertEqual(self.notes(), ["two.edit clause"])
+
+    def test_the_notes_that_are_kept(self) -> None:
+        """Each has a sum and maybe a kind, in order, and is of a wrong body that is there."""
+        lines = [line.split(" ") for line in (run.TOP / "tests/wrong-bodies/refused").read_text().splitlines()]
+        self.assertEqual([line[0] for line in lines], sorted(line[0] for line in lines))
+        for name, sum_, *kind in lines:
+            self.assertTrue((run.TOP / "tests/wrong-bodies" / name).is_file(), name)
+            self.assertRegex(sum_, "^[0-9a-f]{16}$")
+            self.assertIn(kind, [[], *([it] for it in run.KINDS)])
 
     def test_a_changed_crate_is_tried_again(self) -> None:
         self.write("one")
         self.tried()
         self.addCleanup(setattr, run, "crate_sum", run.crate_sum)
         run.crate_sum = lambda crate: "another text"
-        self.assertEqual(self.tried()[1], "1 refused, 0 passed, 0 noted before")
+        self.assertEqual(self.tried()[0], "== lift_bytes: 1 clause, 0 stored, 0 limit, 0 passed")
 
     def test_a_sum_reads_what_a_proof_reads(self) -> None:
         room = Path(self.room.name, "top")
