@@ -6,7 +6,7 @@ import argparse
 from typing import List, Optional
 
 from . import __version__
-from .commands import bounds, explain, leaves, threshold, verdict, verify, view
+from .commands import bounds, explain, leaves, picture, threshold, verdict, verify, view
 from .ends import Tool, say
 from .faults import INTERRUPTED, Fault, Refused
 from .plain import printable
@@ -19,6 +19,7 @@ COMMANDS = {
     'verdict': verdict,
     'leaves': leaves,
     'view': view,
+    'picture': picture,
     'explain': explain,
 }
 ABOUT = """plift-lab asks plift for numbers, thresholds, leaves as data and pages to explore.
@@ -70,7 +71,7 @@ def _run(words: Optional[List[str]]) -> int:
 def _hint(fault: Fault) -> None:
     """What to do about a refusal."""
     if isinstance(fault, Refused):
-        for line in explain.hints(fault.plift_status, fault.note, fault.words, fault.text):
+        for line in fault.hints:
             say('hint: %s' % printable(line))
 
 

@@ -2,9 +2,9 @@
 
 from __future__ import annotations
 
-from dataclasses import dataclass, replace
+from dataclasses import dataclass, field, replace
 from fractions import Fraction
-from typing import Callable, Optional
+from typing import Any, Callable, Optional
 
 from .regions import Region
 from .report import REJECT, Report
@@ -16,7 +16,12 @@ LEVELS, MOST_NODES = 4, 10000
 
 @dataclass(frozen=True)
 class Edge:
-    """Where acceptance ends, as seen from one end of a parameter's interval."""
+    """Where acceptance ends, as seen from one end of a parameter's interval, which may be the lower or the upper one.
+
+    `good` is the value up to which all is accepted, shown by the report `inside` (none where nothing is), and `limit`
+    the nearest value at which a part is rejected, shown by `outside` (none where nothing is). In a notebook it shows a
+    table.
+    """
 
     parameter: str
     is_greatest: bool
@@ -28,6 +33,14 @@ class Edge:
     """Accepts all from the near end to `good`."""
     outside: Optional[Report]
     """Over what lies beyond `bad`, or up to it where it is the far end."""
+
+    holder: Any = field(default=None, repr=False, compare=False)
+    """Keeps a folder that nobody named, as long as this is there."""
+
+    def _repr_html_(self) -> str:
+        from .shown import edge_html
+
+        return edge_html(self)
 
     @property
     def limit(self) -> Optional[Fraction]:

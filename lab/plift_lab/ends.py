@@ -50,7 +50,7 @@ class Tool:
                 sys.stdout.flush()
                 return status
         except Fault as fault:
-            status = self._told(str(fault), self.status_of(fault))
+            status = self._told(str(fault.args[0]), self.status_of(fault))
             self.hint(fault)
         except KeyboardInterrupt as end:
             number = int(end.args[0]) if end.args else int(signal.SIGINT)

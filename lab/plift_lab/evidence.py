@@ -15,6 +15,7 @@ import shutil
 import stat
 import sys
 import tempfile
+import weakref
 from functools import lru_cache
 from pathlib import Path
 from typing import BinaryIO, Dict, Optional, TextIO
@@ -97,7 +98,9 @@ class Evidence:
         if named == '':
             raise Fault('--keep takes a folder, and this one has no name')
         self.is_kept = named is not None
-        self.folder = Path(named) if named is not None else _new_folder()
+        self.holder = None if named is not None else Holder()
+        """What removes a folder that nobody named, once nothing holds it any more."""
+        self.folder = Path(named if named is not None else self.holder.name if self.holder else '')
         self._jobs: Dict[str, str] = {}
         self._count = 0
         self._mark: Optional[TextIO] = None
@@ -177,18 +180,22 @@ class Evidence:
         """Whether a report is gone with this folder at the end."""
         return not self.is_kept and Path(path).parent == self.folder
 
-    def close(self) -> None:
-        """Removes a folder that nobody asked to keep, and lets go of one that is kept."""
+    def close(self, is_lasting: bool = False) -> None:
+        """Removes a folder that nobody asked to keep, but where it is to last as long as its holder, and lets go of one
+        that is kept."""
         if self._mark:
             with contextlib.suppress(OSError):
                 self._mark.close()
-        if not self.is_kept:
-            shutil.rmtree(str(self.folder), ignore_errors=True)
+        if self.holder is not None and not is_lasting:
+            self.holder.cleanup()
 
 
-def _new_folder() -> Path:
-    """A folder of our own among the system's temporary files."""
-    try:
-        return Path(tempfile.mkdtemp(prefix='plift-lab.'))
-    except OSError as error:
-        raise unwritten(error.filename or tempfile.gettempdir(), error) from None
+class Holder:
+    """A folder of our own among the system's temporary files, which is there as long as this is held."""
+
+    def __init__(self) -> None:
+        try:
+            self.name = tempfile.mkdtemp(prefix='plift-lab.')
+        except OSError as error:
+            raise unwritten(error.filename or tempfile.gettempdir(), error) from None
+        self.cleanup = weakref.finalize(self, shutil.rmtree, self.name, ignore_errors=True)

@@ -18,7 +18,7 @@ class Fault(Exception):
 
 
 class Refused(Fault):
-    """What plift refused: its status and its note, its words, and the text that it read."""
+    """What plift refused: its status and its note, its words, the text that it read, and hints what to do."""
 
     def __init__(self, status: int, note: str, words: List[str], text: bytes) -> None:
         self.plift_status, self.note, self.words, self.text = status, note, words, text
@@ -29,3 +29,13 @@ class Refused(Fault):
         else:
             known = status if status in (WRITING, MEMORY) else LOST
             super().__init__('plift ended with status %d: %s' % (status, note or 'without a note'), known)
+
+    @property
+    def hints(self) -> List[str]:
+        """What to do about it, as far as is known here."""
+        from .hinting import hints
+
+        return hints(self.plift_status, self.note, self.words, self.text)
+
+    def __str__(self) -> str:
+        return '\n'.join([str(self.args[0]), *('hint: %s' % line for line in self.hints)])

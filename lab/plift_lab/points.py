@@ -24,7 +24,7 @@ class Points:
         """The region that is this point; axes that don't count are as they were."""
         fixed = tuple(zip(self.axes, point))
         intervals = tuple(one for one in self.region.intervals if one[0] not in self.axes)
-        return Region(intervals, self.region.fixed + fixed)
+        return Region(intervals, tuple(sorted(self.region.fixed + fixed)))
 
     def value(self, point: Point) -> Fraction:
         """About what is reached there."""

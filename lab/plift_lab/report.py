@@ -69,11 +69,22 @@ class Leaf:
 
 
 class Report:
-    """A sound report, with what `plift check` says of it and what is known of how it came to be."""
+    """A sound report, with what its judge says of it and what is known of how it came to be.
+
+    `verdict` is `accepted`, `rejected`, `mixed` or `unknown`, `shares` the part of the region's volume of each kind of
+    leaf (`accept`, `reject`, `unknown`), and `leaves()` goes through the leaves: each has a `kind`, a `rectangle` (from
+    names to pairs of fractions, in your own numbers), a `value` and a `share`. `soundness` is the judge's line, `judge`
+    who that is, `data` the report itself and `path` where it lies. In a notebook it shows a table and a picture.
+    """
+
+    holder: Any = None
+    """Keeps a folder that nobody named, as long as this is there."""
 
     def __init__(self, data: bytes, soundness: str, origin: Origin = Origin(), path: str = '', judge: str = '') -> None:
         self.data, self.soundness, self.origin, self.path, self.judge = data, soundness, origin, path, judge
         self._ends: Dict[Tuple[int, int], Fraction] = {}
+        self.live: List[str] = []
+        """The parameters that a row depends on."""
         try:
             self._read_head()
             self._read_tree()
@@ -81,6 +92,21 @@ class Report:
             raise Fault(
                 '%s was called sound, but it isn\'t in a form that is known here' % (path or 'the report')
             ) from None
+
+    def __repr__(self) -> str:
+        return 'Report(%s)' % self.verdict_line
+
+    def _repr_html_(self) -> str:
+        from .shown import report_html
+
+        return report_html(self)
+
+    def _repr_svg_(self) -> Optional[str]:
+        """The picture; none of a report of very many leaves, which a notebook had to carry."""
+        from .picture import svg
+        from .shown import MOST_DRAWN
+
+        return svg(self) if self.live and len(self.nodes) <= 2 * MOST_DRAWN else None
 
     def require_borne_out(self) -> None:
         """Refuses what is told of a report's parameters that the report itself doesn't bear out: one that was rescaled
@@ -214,6 +240,10 @@ class Report:
         if key not in self._ends:
             self._ends[key] = self.user(self.parameters[place // 2], Fraction(end, self.grid))
         return self._ends[key]
+
+    def user_value(self, place: int, end: Fraction) -> Fraction:
+        """The same of a value that need not be an end, over the grid, by its parameter's place."""
+        return self.user(self.parameters[place], end / self.grid)
 
     @property
     def region(self) -> Region:

@@ -195,11 +195,13 @@ class Job:
 class Session:
     """Asks questions of one program, and keeps the reports in one folder."""
 
-    def __init__(self, keep: Optional[str] = None, is_told: bool = False) -> None:
+    def __init__(self, keep: Optional[str] = None, is_told: bool = False, is_lasting: bool = False) -> None:
         self.program = find_program()
         self.judge = Judge(self.program)
         self.evidence = Evidence(keep)
         self.progress = Progress(is_told)
+        self.is_lasting = is_lasting
+        """Whether a folder that nobody named outlives the session, as long as its holder is there."""
         self.asked, self._left = 0, MOST_CALLS
         self._room: Dict[str, int] = {}
         self._paces: Dict[str, Pace] = {}
@@ -209,7 +211,7 @@ class Session:
 
     def __exit__(self, *_: Any) -> None:
         self.progress.clear()
-        self.evidence.close()
+        self.evidence.close(self.is_lasting)
 
     def ask(self, question: Question) -> Report:
         """The report that answers a question, once `plift check` has called it sound."""

@@ -6,12 +6,20 @@ import subprocess
 import sys
 import unittest
 
+from plift_lab import version
 from plift_lab.program import find_program
 
 from .helpers import TOP, TREE, InFolder
 
 
 class Install(InFolder):
+    def test_one_version_for_all(self) -> None:
+        due = (TOP / 'VERSION').read_text('ascii').strip()
+        self.assertEqual((version.MADE, version.VERSION), (due, due))
+        for tool in ('plift-lab', 'plift-tiles'):
+            told = subprocess.run([str(TOP / tool), '--version'], stdout=subprocess.PIPE).stdout
+            self.assertEqual(told.decode(), '%s %s\n' % (tool, due))
+
     @unittest.skipUnless(importlib.util.find_spec('pip'), 'needs pip')
     def test_offline(self) -> None:
         install = [

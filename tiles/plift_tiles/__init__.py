@@ -3,4 +3,4 @@
 Nothing in it is believed: each tile counts once `plift check` has judged it, and `plift check` judges the whole.
 """
 
-__version__ = '1.0'
+from plift_lab.version import VERSION as __version__  # noqa: F401

@@ -26,7 +26,7 @@ def work(program: Program, job: Job, numbers: Iterable[int]) -> int:
                 _decide(program, job, number)
         except (Fault, OSError) as error:
             fault = unwritten(job.report(number), error) if isinstance(error, OSError) else error
-            say('plift-tiles: tile %d: %s' % (number, printable(str(fault))))
+            say('plift-tiles: tile %d: %s' % (number, printable(str(fault.args[0]))))
             status = status_of(fault)
             if status in (WRITING, LOST):
                 break

@@ -6,16 +6,15 @@
 from __future__ import annotations
 
 import argparse
-import importlib
 import re
 import sys
-from typing import List, Optional
+from typing import List
 
 from ..faults import DONE, Fault
+from ..hinting import hints
 from ..plain import printable
 from ..program import CHECKOUT
 
-HINTS = CHECKOUT / 'tools/hints'
 MESSAGES = CHECKOUT / 'docs/MESSAGES.md'
 STATUSES = (
     ('usage: ', 2),
@@ -48,20 +47,6 @@ def run(given: argparse.Namespace) -> int:
         raise Fault('nothing is known here of the note %r; docs/FORMATS.md of plift lists all' % note[:80])
     sys.stdout.write('\n'.join([printable(note)] + ['  ' + printable(line) for line in lines]) + '\n')
     return DONE
-
-
-def hints(status: int, note: str, words: List[str], text: Optional[bytes] = None) -> List[str]:
-    """What the checkout's own hints say, where there are any."""
-    if not (HINTS / '__init__.py').is_file():
-        return []
-    sys.path.insert(0, str(HINTS.parent))
-    try:
-        told = importlib.import_module('hints').hints(status, note, words, text, 'plift')
-        return [str(line)[len('hint: ') :] if str(line).startswith('hint: ') else str(line) for line in told]
-    except Exception as fault:  # hints are a help: a fault in them must not hide the note
-        return ['the hints failed: %s' % type(fault).__name__]
-    finally:
-        sys.path.remove(str(HINTS.parent))
 
 
 def _messages(note: str) -> List[str]:

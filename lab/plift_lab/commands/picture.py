@@ -1,0 +1,32 @@
+"""A picture of a report as SVG, in the user's own numbers, with the label that was asked for.
+
+Of a rescaled report the picture has the user's intervals, as the file beside it tells them; parameters on no axis are at
+the middles of their intervals. `view` makes a page to explore.
+
+    plift-lab picture examples/retry-tree.report > retry.svg
+"""
+
+from __future__ import annotations
+
+import argparse
+import sys
+
+from ..faults import DONE
+from ..picture import svg
+from ..session import Session
+
+
+def add_words(words: argparse.ArgumentParser) -> None:
+    """The words of the command."""
+    words.add_argument('report', metavar='REPORT', help='a file with a report; - for standard input')
+    words.add_argument(
+        '--x', metavar='P', help='the parameter from left to right; the first that a row depends on if left out'
+    )
+    words.add_argument('--y', metavar='P', help='the parameter from below up; the next one if left out')
+
+
+def run(given: argparse.Namespace) -> int:
+    """Does it."""
+    with Session() as session:
+        sys.stdout.write(svg(session.read(given.report), given.x, given.y))
+    return DONE
