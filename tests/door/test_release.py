@@ -2,10 +2,12 @@
 
 import hashlib
 import os
+import shutil
 import subprocess
 import tarfile
 import unittest
 from pathlib import Path
+from typing import List
 
 from common import DoorCase, TOP, quick_program
 
@@ -22,6 +24,7 @@ class Release(DoorCase):
         "examples",
         "docs",
         "lab",
+        "plift-lab",
         "plift-tiles",
         "tiles",
     )
@@ -48,8 +51,16 @@ class Release(DoorCase):
         ran = self.release(*words)
         self.assertEqual((ran.returncode, ran.stderr), (0, ""))
         archive = self.out / f"{name}.tar.gz"
-        self.assertEqual(ran.stdout, f"{hashlib.sha256(archive.read_bytes()).hexdigest()}  {archive}\n")
+        told = "".join(
+            f"{hashlib.sha256(path.read_bytes()).hexdigest()}  {path}\n" for path in (archive, *self.packages)
+        )
+        self.assertEqual(ran.stdout, told)
         return archive
+
+    @property
+    def packages(self) -> List[Path]:
+        """The Debian package, where one can be made."""
+        return sorted(self.out.glob("*.deb"))
 
     def unpacked(self, archive: Path) -> Path:
         empty = self.room / "empty"
@@ -83,6 +94,40 @@ class Release(DoorCase):
         install = [str(folder / "install"), str(self.room / "prefix")]
         self.assertEqual(subprocess.run(install, capture_output=True).returncode, 0)
         self.assertIn(b", proved)", self.run_door("--version", door=self.room / "prefix/bin/plift-view").stdout)
+
+    @unittest.skipUnless(shutil.which("dpkg") and os.geteuid() == 0, "only root installs a package by dpkg")
+    def test_a_debian_package(self) -> None:
+        for name in ("plift-lab", "plift-tiles"):
+            self.assertTrue((self.top / name).is_file())
+        self.built("plift")
+        self.built("plift_view")
+        self.made("--gate", self.log)
+        package = self.out / "plift_0.9.0_amd64.deb"
+        self.assertEqual(self.packages, [package])
+        first = package.read_bytes()
+        self.made("--gate", self.log)
+        self.assertEqual(package.read_bytes(), first)
+        root = self.room / "root"
+        for part in ("info", "updates", "triggers"):
+            (root / "var/lib/dpkg" / part).mkdir(parents=True)
+        (root / "var/lib/dpkg/status").write_text("")
+        dpkg = ["dpkg", f"--root={root}", "--force-depends", "--force-script-chrootless"]
+        ran = subprocess.run([*dpkg, "-i", str(package)], capture_output=True, text=True)
+        self.assertEqual(ran.returncode, 0, ran.stderr)
+        for name in ("plift", "plift-view", "plift-lab", "plift-tiles", "plift-recheck"):
+            self.assertTrue(os.access(root / "usr/bin" / name, os.X_OK), name)
+        for name in ("plift", "plift-view", "plift-lab", "plift-tiles"):
+            self.assertTrue((root / f"usr/share/man/man1/{name}.1").is_file(), name)
+            self.assertTrue((root / f"usr/share/bash-completion/completions/{name}").is_file(), name)
+        home = root / "usr/libexec/plift"
+        self.assertIn(b", proved)", self.run_door("--version", door=home / "plift").stdout)
+        (home / "lab/plift_lab/__pycache__").mkdir()
+        ran = subprocess.run([str(home / "plift-lab"), "--version"], capture_output=True, text=True)
+        self.assertEqual((ran.returncode, ran.stdout), (0, "plift-lab 0.9.0\n"))
+        self.assertEqual(subprocess.run([*dpkg, "--verify", "plift"], capture_output=True).stdout, b"")
+        ran = subprocess.run([*dpkg, "-r", "plift"], capture_output=True, text=True)
+        self.assertEqual(ran.returncode, 0, ran.stderr)
+        self.assertEqual([path for path in root.rglob("*") if "var" not in path.relative_to(root).parts[:1]], [])
 
     def refused(self, *words: object) -> str:
         ran = self.release(*words)
