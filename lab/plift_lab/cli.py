@@ -3,10 +3,11 @@
 from __future__ import annotations
 
 import argparse
+import sys
 from typing import List, Optional
 
 from . import __version__
-from .commands import bounds, explain, leaves, picture, threshold, verdict, verify, view
+from .commands import bounds, explain, fit, leaves, picture, threshold, verdict, verify, view
 from .ends import Tool, say
 from .faults import INTERRUPTED, Fault, Refused
 from .plain import printable
@@ -20,6 +21,7 @@ COMMANDS = {
     'leaves': leaves,
     'view': view,
     'picture': picture,
+    'fit': fit,
     'explain': explain,
 }
 ABOUT = """plift-lab asks plift for numbers, thresholds, leaves as data and pages to explore.
@@ -27,8 +29,8 @@ ABOUT = """plift-lab asks plift for numbers, thresholds, leaves as data and page
 Nothing in it is believed: each answer names the reports that stand behind it, and each of these was judged by
 `plift check`. docs/LAB.md tells more by example."""
 STATUSES = """statuses: 0 done; 1 stopped short of what was asked, and what is known was told; 2 words or files at
-fault; 6 writing failed; 8 out of memory; 70 no plift to ask; 130 interrupted. verdict: 10 accepted, 20 rejected, 30
-mixed, 40 unknown."""
+fault; 3 a text can't be fitted; 6 writing failed; 8 out of memory; 70 no plift to ask; 130 interrupted. verdict: 10
+accepted, 20 rejected, 30 mixed, 40 unknown."""
 
 
 def parser() -> Words:
@@ -62,6 +64,9 @@ def main(words: Optional[List[str]] = None) -> int:
 
 
 def _run(words: Optional[List[str]]) -> int:
+    words = sys.argv[1:] if words is None else words
+    if len(words) == 2 and words[0] == '--help' and words[1] in COMMANDS:  # as `plift --help verify`
+        words = words[::-1]
     given = parser().parse_args(words)
     if not given.command:
         raise Fault('name a command: %s' % ', '.join(COMMANDS))

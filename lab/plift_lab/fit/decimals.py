@@ -1,0 +1,187 @@
+"""Rows that don't sum to one, and the simplest fractions near their numbers that do."""
+
+from __future__ import annotations
+
+from fractions import Fraction
+from typing import Dict, Iterator, List, Optional, Sequence, Tuple
+
+from .polynomials import ONE, ZERO, Monomial, Polynomial, common_multiple, total
+from .refusal import Unfit, shown
+from .source import Choice, Source
+from .told import Told
+
+WITHIN = Fraction(1, 10**12)
+"""How far a number is moved at most, and then by no more than a millionth of itself."""
+GRID = 10**13
+MOST_SIZE = 2**62
+
+
+def sums_to_one(values: Sequence[Polynomial]) -> bool:
+    """Whether the values sum to one at each valuation."""
+    return total(values) == ONE
+
+
+def distance(values: Sequence[Polynomial]) -> Polynomial:
+    """By how much their sum misses one."""
+    return total(values) - ONE
+
+
+def tolerance(value: Fraction) -> Fraction:
+    """How far a number may be moved: so a small one doesn't become 0."""
+    return min(WITHIN, abs(value) / 10**6)
+
+
+def simplest(value: Fraction, within: Fraction) -> Fraction:
+    """The fraction with the least denominator that is so near."""
+    if value < 0:
+        return -simplest(-value, within)
+    low, high = value - within, value + within
+    if low <= 0:
+        return Fraction(0)
+    whole: List[int] = []
+    while True:  # the interval's continued fraction, as far as both ends share it
+        floor = low.numerator // low.denominator
+        if floor == low or floor + 1 <= high:
+            whole.append(floor if floor == low else floor + 1)
+            break
+        whole.append(floor)
+        low, high = 1 / (high - floor), 1 / (low - floor)
+    found = Fraction(whole.pop())
+    while whole:
+        found = whole.pop() + 1 / found
+    return found
+
+
+def rounded(values: Sequence[Fraction], due: Fraction, is_coarse: bool) -> Optional[List[Fraction]]:
+    """Numbers near these whose sum is due: the simplest ones where these do, else ones on a grid of decimals."""
+    found = [simplest(value, tolerance(value)) for value in values]
+    if not is_coarse and sum(found) == due:
+        return found
+    for place, value in enumerate(values):
+        if abs(value) * GRID > 10**6 and found[place].denominator > 1000:
+            found[place] = Fraction(round(value * GRID), GRID)
+    most = max(range(len(values)), key=lambda place: abs(values[place]))
+    found[most] = due - sum(value for place, value in enumerate(found) if place != most)
+    is_near = all(abs(new - old) <= tolerance(old) for old, new in zip(values, found))
+    return found if is_near else None
+
+
+def rounded_row(values: Sequence[Polynomial], is_coarse: bool = False) -> Optional[List[Polynomial]]:
+    """Values near these that sum to one, coefficient by coefficient; none where there are none."""
+    coefficients = [value.coefficients for value in values]
+    monomials: Dict[Monomial, Fraction] = {monomial: Fraction(0) for each in coefficients for monomial in each}
+    monomials[()] = Fraction(1)
+    parts: List[Dict[Monomial, Fraction]] = [{} for _ in values]
+    for monomial, due in monomials.items():
+        places = [place for place, each in enumerate(coefficients) if monomial in each]
+        if not places:
+            return None
+        new = rounded([coefficients[place][monomial] for place in places], due, is_coarse)
+        if new is None:
+            return None
+        for place, value in zip(places, new):
+            parts[place][monomial] = value
+    return [Polynomial.of(each) for each in parts]
+
+
+def rows(source: Source) -> Iterator[Tuple[int, int, Choice]]:
+    """Each choice, with the numbers of its state and of itself."""
+    for state in source.states:
+        for number, choice in enumerate(state.choices):
+            yield state.number, number, choice
+
+
+def settle(source: Source, is_rounded: bool, told: Told) -> None:
+    """Sees to it that each row sums to one, and by rounding that numbers aren't too long."""
+    pool = source.pool
+    known: Dict[Tuple[int, ...], Optional[List[int]]] = {}
+    for state, number, choice in rows(source):
+        key = tuple(choice.values)
+        if key not in known:
+            values = [pool[value] for value in key]
+            new: Optional[List[Polynomial]] = None
+            if not sums_to_one(values):
+                new = rounded_row(values) if is_rounded else None
+                if new is None:
+                    raise _missed(source, state, number, choice, is_rounded)
+            known[key] = None if new is None else [pool.add(value) for value in new]
+        if known[key] is not None:
+            _replace(source, state, number, choice, known[key] or [], told)
+    for is_coarse in (False, True):
+        if is_rounded and _is_long(source):
+            _shorten(source, is_coarse, told)
+
+
+def _is_long(source: Source) -> bool:
+    """Whether some number has more digits than the program takes, or all together have."""
+    below = 1
+    for value in {value for _, _, choice in rows(source) for value in choice.values}:
+        polynomial = source.pool[value]
+        below = common_multiple((below, polynomial.below))
+        if below >= MOST_SIZE or is_wide(polynomial):
+            return True
+    return False
+
+
+def _shorten(source: Source, is_coarse: bool, told: Told) -> None:
+    """Rounds rows that have long numbers."""
+    pool = source.pool
+    known: Dict[Tuple[int, ...], Optional[List[int]]] = {}
+    for state, number, choice in rows(source):
+        key = tuple(choice.values)
+        if key not in known:
+            values = [pool[value] for value in key]
+            is_short = all(value.below <= 1000 for value in values)
+            new = None if is_short else rounded_row(values, is_coarse)
+            known[key] = None if new is None else [pool.add(value) for value in new]
+        new_values = known[key]
+        if new_values is not None and new_values != choice.values:
+            _replace(source, state, number, choice, new_values, told)
+
+
+def is_wide(value: Polynomial) -> bool:
+    """Whether a value has numbers of 2^62 or more, over its least common denominator."""
+    return value.below >= MOST_SIZE or any(abs(each) >= MOST_SIZE for each in value.terms.values())
+
+
+def _replace(source: Source, state: int, number: int, choice: Choice, new: List[int], told: Told) -> None:
+    """Writes other values into a row, and tells each."""
+    names = [name.decode('latin-1') for name in source.names.parameters]
+    for target, old, value, text in zip(choice.targets, choice.values, new, choice.texts or [b''] * len(new)):
+        if old != value:
+            told.change(
+                'numbers are rounded to the simplest fractions whose rows sum to one',
+                'it isn\'t: no number was moved by more than 10^-12 or by more than a millionth of itself, but the '
+                'model is another one, and what is proved is proved of that',
+                'state %d choice %d: to %d: %s is %s'
+                % (state, number, target, shown(text), shown(source.pool[value].text(names))),
+            )
+    choice.values, choice.texts = new, []
+
+
+def _missed(source: Source, state: int, number: int, choice: Choice, is_rounded: bool) -> Unfit:
+    """Why a row isn't a distribution."""
+    names = [name.decode('latin-1') for name in source.names.parameters]
+    missed = distance([source.pool[value] for value in choice.values])
+    if missed.is_constant:
+        gap = missed.constant
+        way = 'above' if gap > 0 else 'below'
+        about = 'state %d choice %d sums to 1 %s %s, about %.3g %s 1' % (
+            state,
+            number,
+            '+' if gap > 0 else '-',
+            shown(str(abs(gap)), 80),
+            float(abs(gap)) if abs(gap) < 10**300 else float('inf'),
+            way,
+        )
+        advice = '' if abs(gap) > len(choice.values) * WITHIN else '; --round finds fractions near by that sum to 1'
+    else:
+        about = 'state %d choice %d misses 1 by %s' % (state, number, shown(missed.text(names), 80))
+        advice = '; --round finds numbers near by that sum to 1' if _is_near(missed, len(choice.values)) else ''
+    if is_rounded:
+        advice = ', and no fractions within 10^-12 sum to 1'
+    return Unfit(choice.line, 'RowSum', about + advice)
+
+
+def _is_near(missed: Polynomial, count: int) -> bool:
+    return missed != ZERO and all(abs(value) <= count * WITHIN for value in missed.coefficients.values())

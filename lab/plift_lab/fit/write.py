@@ -1,0 +1,154 @@
+"""Writes a model as the program reads it."""
+
+from __future__ import annotations
+
+import re
+from typing import Dict, List, Sequence, Set, Tuple
+
+from ..plain import plain
+from .decimals import is_wide
+from .polynomials import common_multiple
+from .refusal import Unfit, shown
+from .source import Choice, Source
+from .spread import Entries
+from .told import Told
+
+PLAIN = re.compile(rb'[A-Za-z0-9_][A-Za-z0-9_.+-]*')
+NAME = re.compile(rb'[A-Za-z_][A-Za-z0-9_]*')
+MOST_PARAMETERS, MOST_NAME, MOST_CHOICES, MOST_TRANSITIONS, MOST_LINE = (16, 64, 131_072, 262_144, 2**20)
+MOST_NUMBER, MOST_SCALED = 2**62, 2**100
+
+
+def written_names(source: Source, told: Told) -> List[str]:
+    """The parameters' names as they are written: letters, digits and `_`."""
+    taken = {name.decode() for name in source.names.parameters if NAME.fullmatch(name)}
+    written = []
+    for name in source.names.parameters:
+        new = re.sub(r'[^A-Za-z0-9_]', '_', name.decode('latin-1'))
+        while not NAME.fullmatch(name) and new in taken:
+            new += '_'
+        taken.add(new)
+        written.append(new)
+        if new != name.decode('latin-1'):
+            told.change(
+                'parameters are renamed',
+                'a name is a name; --region takes the new one',
+                '%s is %s' % (shown(name), new),
+            )
+    return written
+
+
+def kept_parameters(source: Source, names: Sequence[str], told: Told) -> List[int]:
+    """The parameters that are declared: all without a value, or where these are too many those that stand anywhere."""
+    kept = [place for place, name in enumerate(source.names.parameters) if name not in source.names.defined]
+    if len(kept) > MOST_PARAMETERS:
+        used = {index for value in source.pool.polynomials for index in value.parameters}
+        lost = [names[place] for place in kept if place not in used]
+        kept = [place for place in kept if place in used]
+        if lost:
+            told.change(
+                'parameters that stand nowhere are left out',
+                'no value depends on them; leave them out of --region, too',
+                ', '.join(lost),
+            )
+    if len(kept) > MOST_PARAMETERS:
+        about = '%d parameters stand in values, and plift takes %d: --define gives some of them their values'
+        raise Unfit(source.last_line, 'LimitParameters', about % (len(kept), MOST_PARAMETERS))
+    for place in kept:
+        if len(names[place]) > MOST_NAME:
+            raise Unfit(source.last_line, 'LimitName', '`%s` has more than %d bytes' % (shown(names[place]), MOST_NAME))
+    return kept
+
+
+def check_numbers(source: Source, rows: Sequence[Tuple[int, Sequence[int]]]) -> None:
+    """Refuses numbers with too many digits; of each row the line is told."""
+    lines: Dict[int, int] = {}
+    for line, values in rows:
+        for value in values:
+            lines.setdefault(value, line)
+    below = 1
+    for value, line in lines.items():
+        polynomial = source.pool[value]
+        if is_wide(polynomial):
+            about = 'a value has numbers of 2^62 or more above or below the line; --round finds short ones near by'
+            raise Unfit(line, 'Wide', about)
+        below = common_multiple((below, polynomial.below))
+        if below >= MOST_NUMBER:
+            about = 'the least common denominator of all values is 2^62 or more; --round finds short fractions near by'
+            raise Unfit(line, 'CommonDenominator', about)
+    for value, line in lines.items():
+        polynomial = source.pool[value]
+        if any(abs(each) * (below // polynomial.below) >= MOST_SCALED for each in polynomial.terms.values()):
+            raise Unfit(line, 'CommonDenominator', 'a coefficient over the least common denominator is 2^100 or more')
+
+
+class Writer:
+    """A text in the making."""
+
+    def __init__(self, source: Source, names: Sequence[str], kept: Sequence[int]) -> None:
+        self.source, self.names, self.kept = source, names, kept
+        self.renamed: Set[bytes] = set()
+        """Labels and names with bytes that the program doesn't take."""
+        self._texts: Dict[int, str] = {}
+
+    def text(self, between: Sequence[Entries], marked: Sequence[bytes]) -> bytes:
+        """The whole text; steps in between carry some labels."""
+        states = self.source.states
+        choices = [choice for state in states for choice in state.choices]
+        if len(choices) + len(between) > MOST_CHOICES:
+            raise Unfit(self.source.last_line, 'LimitChoices', 'there are more than %d choices' % MOST_CHOICES)
+        entries = sum(len(choice.targets) for choice in choices) + sum(map(len, between))
+        if entries > MOST_TRANSITIONS:
+            about = 'there are %d transitions, more than %d' % (entries, MOST_TRANSITIONS)
+            raise Unfit(self.source.last_line, 'LimitTransitions', about)
+        lines = self._head(len(states) + len(between), len(choices) + len(between))
+        for place, state in enumerate(states):
+            lines.append(self._state(place, state.group, state.labels, state.line))
+            is_named = len(state.choices) > 1 or any(choice.name or choice.group for choice in state.choices)
+            for choice in state.choices:
+                if is_named:
+                    lines.append(self._action(choice))
+                self._entries(list(zip(choice.targets, choice.values)), lines)
+        for number, row in enumerate(between, len(states)):
+            lines.append(self._state(number, b'', marked, 0))
+            self._entries(row, lines)
+        return '\n'.join(lines).encode('ascii') + b'\n'
+
+    def _head(self, states: int, choices: int) -> List[str]:
+        lines = ['// Fitted by plift-lab fit', '@type: %s' % self.source.kind]
+        if self.kept:
+            lines += ['@parameters', ' '.join(self.names[place] for place in self.kept)]
+        if self.source.rewards:
+            lines += ['@reward_models', ' '.join(map(self.word, self.source.rewards))]
+        return lines + ['@nr_states', str(states), '@nr_choices', str(choices), '@model']
+
+    def word(self, name: bytes) -> str:
+        """A label or a name, in quotes unless it is plain."""
+        if PLAIN.fullmatch(name):
+            return name.decode()
+        safe = plain(name)
+        if safe.encode() != name:
+            self.renamed.add(name)
+        return safe if '"' in safe and ' ' not in safe else '"%s"' % safe
+
+    def _state(self, place: int, group: bytes, labels: Sequence[bytes], line: int) -> str:
+        words = ['state %d' % place] + ['[%s]' % group.decode()] * bool(group)
+        told = ' '.join(words + [self.word(label) for label in labels])
+        if len(told) > MOST_LINE:
+            raise Unfit(line, 'LongLine', 'the labels of a state have more than %d bytes' % MOST_LINE)
+        return told
+
+    def _action(self, choice: Choice) -> str:
+        words = (
+            ['action']
+            + [self.word(choice.name)] * bool(choice.name)
+            + ['[%s]' % choice.group.decode()] * bool(choice.group)
+        )
+        return ' '.join(words)
+
+    def _entries(self, row: Sequence[Tuple[int, int]], lines: List[str]) -> None:
+        texts = self._texts
+        for target, value in row:
+            if value not in texts:
+                texts[value] = self.source.pool[value].text(self.names)
+            lines.append('%d : %s' % (target, texts[value]))
