@@ -105,11 +105,14 @@ LINES = [
     ('state 0 init', 'state 0 !3 init', 'model: line 5: ExitRate'),
 ]
 
-# A text with a fault for each command of docs/STORM.md, in their order; each command mends the first that is left.
+# A text with a fault of each kind that docs/STORM.md has a word for, which its first command mends; and one for the
+# second. Each is refused before.
 EXPORT = '''// Exported
 @type: dtmc
 @parameters
 p
+@placeholders
+$half : p/2
 @reward_models
 
 @choice_labelling
@@ -119,19 +122,17 @@ a b
 @model
 state 0 [1] init
 	action 0
-		1 : p
-		2 : 1-p
+		1 : 4*$half^2
+		2 : 1-p*p
 state 1 done
 state 2
 	action 0
-		1 : 0.3333
-		2 : 0.3333
-		3 : 0.3333
+		1 : 0.33333333333333331
+		2 : 0.33333333333333331
+		3 : 0.33333333333333331
 state 3
-	action 0
-		3 : 1
 '''
-MENDED = ['line 2: UnsupportedType', 'line 14: NoChoice', 'line 12: NoChoice', 'set 0 sums to 9999', '']
+RATES = COIN.replace('DTMC', 'CTMC').replace('state 0', 'state 0 !3')
 
 
 class Command(NamedTuple):
@@ -273,15 +274,13 @@ def storm_lines(folder: Path) -> Iterator[Tried]:
 
 
 def storm_commands(folder: Path) -> Iterator[Tried]:
-    """The commands of docs/STORM.md that mend a text: whether the next fault is told then."""
-    found = [command.text.splitlines() for command in page_commands(STORM)]
-    found = ['\n'.join(line for line in command if 'grep' not in line) for command in found]
-    text = EXPORT
-    for command, want in zip(found, MENDED):
-        note(folder, text)
-        text = bash(command, folder)
-        said = note(folder, text)
-        yield Tried(f'{STORM}: {command}', '' if said.endswith(want) and bool(said) == bool(want) else f'then: {said}')
+    """The commands of docs/STORM.md that mend a text: whether what was refused is read then."""
+    for command, text in zip(page_commands(STORM), (EXPORT, RATES)):
+        is_refused = note(folder, text) != ''
+        said = bash(command.text, folder)
+        fitted = folder / 'fitted.drn'
+        left = note(folder, fitted.read_text() if text == EXPORT else said)
+        yield Tried(f'{STORM}: {command.text}', left if is_refused else 'the text that it mends is read as it is')
 
 
 def prepared(folder: Path, programs: dict[str, Path]) -> Path:

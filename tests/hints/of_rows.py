@@ -47,7 +47,7 @@ MISTAKES = [
         "set 0 sums to 49999999999999999",
         "49999999999999999 of 50000000000000000",
         "2 : 1-0.97999999999999998",
-        "docs/STORM.md has a command",
+        "plift-lab fit --round",
     ),
     coin(WHOLE, "1 : 1/2\n2 : 1/3", "set 0 sums to 5", "5/6, not to 1", "5 of 6"),
     coin(WHOLE, "1 : 1\n2 : 1", "set 0 sums to 2", "sum to 2, not to 1"),

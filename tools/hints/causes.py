@@ -145,7 +145,7 @@ def unknown_section(place: Place) -> List[str]:
         return [place.here(f"no section is called so; is {guess} meant?")]
     return [
         place.here("no section is called so"),
-        "where it doesn't change probabilities, take it out with its lines (docs/STORM.md has a command)",
+        "where it says nothing of the question, plift-lab fit takes it out (docs/STORM.md)",
     ]
 
 

@@ -103,7 +103,7 @@ def closing(row: Row) -> str:
     line = f"{last.target} : 1{rest}"
     rounded = "; fractions as 1/3 aren't rounded" if any("." in entry.text for entry in row.entries) else ""
     if any(re.search(r"\.[0-9]{12}", entry.text) for entry in row.entries):
-        rounded = "; docs/STORM.md has a command that does so for a whole file, and tells what it changes"
+        rounded = "; plift-lab fit --round mends a whole file, and tells what it changes"
     if len(line) > MOST_WIDTH or "$" in line:
         return "the last transition may be written as 1 minus the others" + rounded
     return f"if the others are right, line {last.line} is {line}{rounded}"

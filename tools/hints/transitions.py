@@ -51,7 +51,8 @@ def power(place: Place) -> List[str]:
     name = base[1] if base else ""
     if name in place.names():
         return lines + [
-            f"values are affine in each parameter: take the steps with {name} one after the other, a state in between"
+            f"values are affine in each parameter: take the steps with {name} one after the other, a state in between",
+            "plift-lab fit MODEL > fitted.drn does it for a whole file, exactly",
         ]
     if exponent and re.fullmatch("[0-9.]+", name):
         return lines + ["write the number out, as 1/8 for (1/2)^3, or as a literal such as 1e-6"]
@@ -83,7 +84,7 @@ def shared_parameter(place: Place) -> List[str]:
         return []
     return point(place, fault, f"{fault.what} stands on both sides of this *") + [
         "values are affine in each parameter: take the two factors one after the other, with a new state in between",
-        "the first factor leads to the new state, the second one from there on; the rest of each step leads elsewhere",
+        "the first factor leads to the new state, the second one from there on; plift-lab fit does it, exactly",
     ]
 
 

@@ -46,7 +46,7 @@ def fit(data: bytes, wants: Wants) -> Fitted:
     """Fits a text."""
     told = Told()
     source = read(data, wants, told)
-    _check_defined(source, wants)
+    _check_defined(source, wants, told)
     names = written_names(source, told)
     states.number(source, told)
     states.count(source, wants, told)
@@ -187,12 +187,13 @@ def _having(model: Plain, label: bytes) -> Set[int]:
     return {place for place, names in enumerate(model.labels) if label in names}
 
 
-def _check_defined(source: Source, wants: Wants) -> None:
+def _check_defined(source: Source, wants: Wants, told: Told) -> None:
     """Refuses a definition of what stands nowhere."""
     known = source.names.used | set(source.names.parameters)
-    for name in wants.defined:
+    for name, value in wants.defined.items():
         if name.encode() not in known:
             raise Fault('--define %s: the model has no parameter and no constant of that name' % name)
+        told.change('names stand for the numbers that you gave', 'you said so', '%s is %s' % (name, shown(str(value))))
 
 
 def _formula(source: Source, text: Optional[str], word: str) -> Optional[Formula]:
