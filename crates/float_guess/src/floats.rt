@@ -8,15 +8,32 @@ pub(crate) const ONE: i64 = 1 << 62;
 /// The same as a float.
 const FLOAT_ONE: f64 = 4611686018427387904.0;
 
-/// A weight as a float.
+/// How many bits of a longer weight are left out at a time, and what that divides it by.
+const LEFT_OUT: u32 = 16;
+
+const LEFT_OUT_TIMES: f64 = 65536.0;
+
+/// A weight as a float, of which the leading bits are kept.
+#[inline(always)]
 pub(crate) fn float_of(weight: i128) -> f64 {
     match i64::try_from(weight) {
         Ok(small) => nearest_i64_to_f64(small),
-        Err(_) => match i64::try_from(weight >> 63) {
-            Ok(high) => nearest_i64_to_f64(high) * 9223372036854775808.0,
-            Err(_) => 0.0,
-        },
+        Err(_) => float_of_long(weight),
     }
+}
+
+/// The same of one that doesn't fit 64 bits: as few bits as possible are left out, but for some.
+fn float_of_long(weight: i128) -> f64 {
+    let mut high = weight;
+    let mut times = 1.0;
+    for _ in 0..4 {
+        high >>= LEFT_OUT;
+        times *= LEFT_OUT_TIMES;
+        if let Ok(small) = i64::try_from(high) {
+            return nearest_i64_to_f64(small) * times;
+        }
+    }
+    0.0
 }
 
 /// The probability that a number stands for.

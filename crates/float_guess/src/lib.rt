@@ -5,6 +5,7 @@
 mod eliminate;
 mod floats;
 mod guess;
+mod met;
 mod notes;
 mod part;
 mod rule;
@@ -14,6 +15,7 @@ mod sweep;
 mod toll;
 
 pub use guess::{Rounding, Way, guess_part, note_roundings};
+pub use met::{Among, HELD_STATES, most_met, worth_by};
 pub use notes::{Note, lessen_share, make_shares_whole};
 pub use rule::{Ends, Extreme, Rule};
 pub use toll::Tolls;
