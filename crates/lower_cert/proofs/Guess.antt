@@ -63,10 +63,10 @@ module _ (k : CaseData) (spans : Spans) (place : Place k spans) (y : RejectData)
   top = pos (2 ^ k.w)
 
   -- n less, but 2 ^ w on goal states
-  less : ℕ → ℤ
+  pub less : ℕ → ℤ
   less s = cond (is_goal k.model s) top (clamp (number y.numbers s -ℤ pos n))
 
-  lessened : List ℤ
+  pub lessened : List ℤ
   lessened = table (length k.model.states) less
 
   less-goal : (s : ℕ) → is_goal k.model s ≡ true → less s ≡ top
@@ -84,18 +84,18 @@ module _ (k : CaseData) (spans : Spans) (place : Place k spans) (y : RejectData)
   less-most s = either_way (is_goal k.model s) (λ g. rw (less-goal s g) (omega (arith, linear))) (λ g. rw (less-other s g) (clamp-most (number y.numbers s -ℤ pos n) top (omega (arith, linear, (range k spans place y h s).1)) (omega (arith, linear))))
 
   -- at least n less than y
-  less-above : (s : ℕ) → (number y.numbers s -ℤ pos n) ≤ℤ less s
+  pub less-above : (s : ℕ) → (number y.numbers s -ℤ pos n) ≤ℤ less s
   less-above s = either_way (is_goal k.model s) (λ g. rw (less-goal s g) (omega (arith, linear, (range k spans place y h s).1))) (λ g. rw (less-other s g) (clamp-above (number y.numbers s -ℤ pos n)))
 
   -- at most what y is at most
-  less-under : (s : ℕ) (b : ℤ) → number y.numbers s ≤ℤ b → less s ≤ℤ b
+  pub less-under : (s : ℕ) (b : ℤ) → number y.numbers s ≤ℤ b → less s ≤ℤ b
   less-under s b le = either_way (is_goal k.model s) (λ g. rw (less-goal s g) (omega (arith, linear, le, (h.goal s g).0))) (λ g. rw (less-other s g) (clamp-most (number y.numbers s -ℤ pos n) b (omega (arith, linear, le)) (omega (arith, linear, le, (range k spans place y h s).0))))
 
   -- and at most what is n less, where y is no goal's
-  less-shifted : (s : ℕ) (b : ℤ) → is_goal k.model s ≡ false → (number y.numbers s -ℤ pos n) ≤ℤ b → pos 0 ≤ℤ b → less s ≤ℤ b
+  pub less-shifted : (s : ℕ) (b : ℤ) → is_goal k.model s ≡ false → (number y.numbers s -ℤ pos n) ≤ℤ b → pos 0 ≤ℤ b → less s ≤ℤ b
   less-shifted s b g le least = rw (less-other s g) (clamp-most (number y.numbers s -ℤ pos n) b le least)
 
-  lessened-is : (s : ℕ) → number lessened s ≡ less s
+  pub lessened-is : (s : ℕ) → number lessened s ≡ less s
   unfolding lessened
   lessened-is s =
       ⊎_elim
@@ -110,11 +110,11 @@ module _ (k : CaseData) (spans : Spans) (place : Place k spans) (y : RejectData)
       (in_or_past s (length k.model.states))
 
   -- with the same picks and ranks
-  abbrev lessened_data : RejectData
+  abbrev pub lessened_data : RejectData
   lessened_data = record y { numbers = lessened }
 
   -- it is a lower vector
-  lessened_lower : IsLower k spans lessened_data
+  pub lessened_lower : IsLower k spans lessened_data
   unfolding lessened
   lessened_lower = record {
     numbers = record {

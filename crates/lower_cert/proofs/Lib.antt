@@ -13,3 +13,4 @@ pub mod Lanes
 pub mod Exits
 pub mod BestExit
 pub mod Beginning
+pub mod Holding

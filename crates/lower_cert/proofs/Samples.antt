@@ -7,7 +7,8 @@ use Rattle.lift_model.specs.Model.{ModelData}
 use Rattle.corner_lift.specs.Corner.{corner_sum, whole}
 use Rattle.corner_lift.specs.Case.{CaseData}
 use Rattle.lower_cert.specs.Capping.{into, out, beyond, filled, CapsAt}
-use Rattle.lower_cert.specs.Lowering.{IsExit}
+use Rattle.lower_cert.specs.Lowering.{IsExit, from_top}
+use Rattle.lower_cert.specs.Holding.{holding}
 
 abbrev loop_row : List Entry
 loop_row = record { target = 0; poly = (0, pos 1) ∷ [] } ∷ record { target = 1; poly = (1, pos 1) ∷ [] } ∷ record { target = 2; poly = (0, pos 1) ∷ (1, negsuc 0) ∷ [] } ∷ []
@@ -70,3 +71,13 @@ loop_exit = inr (record { lt = tt })
 -- where all weight stays in the set, the exit is 0
 stays_exit : IsExit (pos 16) (pos 160) (pos 10) (pos 10) (pos 0)
 stays_exit = inl (record { le = tt })
+
+-- state 0 held at 3, and then at 5: the lesser number counts; state 1 isn't held
+held_at : (holding (from_top case sides) 0 (pos 3)).ceiling 0 ≡ pos 3
+held_at = refl
+
+held_beside : (holding (from_top case sides) 0 (pos 3)).ceiling 1 ≡ pos 16
+held_beside = refl
+
+held_twice : (holding (holding (from_top case sides) 0 (pos 3)) 0 (pos 5)).ceiling 0 ≡ pos 3
+held_twice = refl

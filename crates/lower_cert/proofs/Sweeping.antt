@@ -72,7 +72,7 @@ total_set (n ∷ x) (suc s) v lt least less = omega (arith, total_set x s v (ome
 pub is_same : (t s : ℕ) → (t == s) ≡ true → t ≡ s
 is_same t s e = grind (arith, e)
 
-same_is : (t s : ℕ) → t ≡ s → (t == s) ≡ true
+pub same_is : (t s : ℕ) → t ≡ s → (t == s) ≡ true
 same_is t s e = grind (arith, e)
 
 module _ (keeps : CappingKeepsUnder) (ranges : NumbersAreInRange) (k : CaseData) (run : Run) (x : List ℤ) (s : ℕ) (r : ℤ) (is : IsCase k) (within : IsInside k.root run.spans) (high : IsHighUnder k run x) (state : s < length k.model.states) (goal : is_goal k.model s ≡ false) (most : HoldNoMore k run.spans x s (length (choices k.model s)) r) where

@@ -1,5 +1,5 @@
 -- What keeps a vector at or above every lower vector of a rectangle, and when it is the greatest.
-use Rattle.std.specs.Prelude.{◌≡◌, ℕ, suc, ◌^◌, ◌<◌, ◌≤◌, ◌⊎◌, ◌&&◌, not, nat_lt, Bool, true, false, ℤ, pos, ◌-ℤ◌, ◌*ℤ◌, ◌≤ℤ◌, ◌<ℤ◌, length, All}
+use Rattle.std.specs.Prelude.{◌≡◌, ℕ, suc, ◌^◌, ◌<◌, ◌≤◌, ◌⊎◌, ◌&&◌, not, nat_lt, Bool, true, false, ℤ, pos, ◌+ℤ◌, ◌-ℤ◌, ◌*ℤ◌, ◌≤ℤ◌, ◌<ℤ◌, length, All}
 use Rattle.lift_grid.specs.Tree.{RejectData}
 use Rattle.lift_grid.specs.Rectangle.{Spans}
 use Rattle.lift_model.specs.Model.{support, is_goal, choices, row_at}
@@ -11,6 +11,8 @@ use Rattle.corner_lift.specs.Stages.{IsAllowed, AreStages, IsAboveLower, IsGreat
 use Rattle.lift_cert.specs.Certificate.{IsWithin, IsRejecting}
 use Rattle.lift_cert.specs.declared.bound.Bound.{Bound}
 use Rattle.lower_cert.specs.Capping.{into, beyond, CapsAt, IsCapped, IsClosed, HasNoGoal, IsAboveLowerOn, IsAboveLowerUnder}
+use Rattle.lower_cert.specs.Lowering.{Run}
+use Rattle.lower_cert.specs.Holding.{holding, IsAboveAt}
 
 -- The best exit: where no choice holds v or more in the set, every lower vector is below v there.
 abbrev pub CappedIsBelow : Type 0
@@ -112,3 +114,17 @@ LevelCaps = (k : CaseData) (spans : Spans) (inside : ℕ → Bool) (z : ℕ → 
     → let row = row_at k.model s a in
     ((corner_sum k.d spans row c z -ℤ corner_sum k.d spans row c (into inside) *ℤ m) <ℤ (v *ℤ (whole k.model k.d spans row -ℤ corner_sum k.d spans row c (into inside))))
     → CapsAt k spans inside z v row c
+
+-- A held state that fell was held too high: what the others were lowered to beside it is at or above every lower vector under the ceiling, whatever that has there.
+abbrev pub HeldThatFell : Type 0
+HeldThatFell = (k : CaseData) (run : Run) (f : ℕ) (c : ℤ) (z : ℕ → ℤ) → IsCase k → IsInside k.root run.spans → is_goal k.model f ≡ false
+    → pos 0 ≤ℤ z f → z f <ℤ c
+    → IsAboveLowerUnder k run.spans (holding run f c).ceiling z
+    → IsAboveLowerUnder k run.spans run.ceiling z
+
+-- what is at or above every lower vector with a state held is so, with more, where the state is held at so much more
+abbrev pub HeldHigher : Type 0
+HeldHigher = (k : CaseData) (run : Run) (f : ℕ) (c more : ℤ) (s : ℕ) (v : ℤ) → IsCase k → IsInside k.root run.spans → is_goal k.model f ≡ false
+    → pos 0 ≤ℤ c → pos 0 ≤ℤ more
+    → IsAboveAt k (holding run f c) s v
+    → IsAboveAt k (holding run f (c +ℤ more)) s (v +ℤ more)

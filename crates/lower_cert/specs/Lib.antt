@@ -2,6 +2,7 @@ pub mod Capping
 pub mod Laws
 pub mod AnyRanks
 pub mod Lowering
+pub mod Holding
 pub mod Exits
 pub mod Limit
 pub mod Beginning

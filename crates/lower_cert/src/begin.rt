@@ -14,10 +14,12 @@ use crate::laws::vectors_are_lowered;
 use crate::lower::start;
 use crate::part::{Part, clear_part, fill_part, flag_part, note};
 use crate::raise::{Aim, raise_part};
+use crate::steering::Patience;
 use crate::sweep::{component_end, is_alone, pass, visit, visit_alone};
 use corner_lift::{Lifted, rows_at_corners};
 use float_guess::{
-    Ends, Extreme, Note, Rounding, Rule, Way, guess_part, lessen_share, make_shares_whole,
+    Ends, Extreme, HELD_STATES, Note, Rounding, Rule, Way, guess_part, lessen_share,
+    make_shares_whole,
 };
 
 /// How many passes over a small component lower it from 1, before it is guessed, which takes as long as some fifty.
@@ -53,6 +55,15 @@ const GUESS_PATIENCE: u32 = 16384;
 
 /// How many passes are made before it is begun anew.
 const FIRST_PATIENCE: u32 = 16;
+
+/// How many passes for each state lower a part from a good guess before a state of it is held, and for how many states at
+/// least.
+const STATE_PASSES: u32 = 64;
+
+const STATES: u32 = 16;
+
+/// A state is held before the last guess where a part has so many at most.
+const HELD_SOON: u32 = 128;
 
 /// How many passes are made from a rough vector.
 const ROUGH_PASSES: u32 = 1;
@@ -321,7 +332,13 @@ fn passes_of(top: i64) -> u32 {
 impl Descent<'_> {
     /// Lowers the states of a part in so many passes at most. Tells whether none of them is flagged then, or the
     /// initial state's number isn't above the limit.
-    fn settle_within(&self, lane: &mut [i64], work: &mut [u32], part: Part, passes: u32) -> bool
+    pub(crate) fn settle_within(
+        &self,
+        lane: &mut [i64],
+        work: &mut [u32],
+        part: Part,
+        passes: u32,
+    ) -> bool
         ghost run: { Run }
         requires can { CanLower self.now.rows.now run lane.old }
         requires part { (part.high ≤ length work.old) × (part.high ≤ length self.now.rows.now.links.order) }
@@ -335,6 +352,23 @@ impl Descent<'_> {
             }
         }
         false
+    }
+
+    /// Lowers a part from a good guess to the end, by a search where that takes long. False: it took too many passes.
+    fn lower_to_end(&self, lane: &mut [i64], flags: &mut [u32], part: Part) -> bool
+        ghost spans: { Spans }
+        requires can { CanLower self.now.rows.now (from_top self.now.rows.now.case spans) lane.old }
+        requires part { (part.high ≤ length flags.old) × (part.high ≤ length self.now.rows.now.links.order) }
+        ensures { IsHigh self.now.rows.now.case spans lane.new }
+    {
+        let few = STATE_PASSES.saturating_mul(part.len().max(STATES));
+        if part.len() as usize <= HELD_STATES
+            && (self.settle_within(lane, flags, part, few)
+                || self.lower_held(lane, flags, part, Patience::Long))
+        {
+            return true;
+        }
+        self.settle_within(lane, flags, part, GUESS_PATIENCE)
     }
 
     /// Lowers a part from moved guesses, each by lesser shares for the states that didn't fall from the last one, until
@@ -364,7 +398,7 @@ impl Descent<'_> {
             };
             match lower_from_guess(self.rows, lane, flags, noted, part, guess) {
                 Guessed::Good => return true,
-                Guessed::Slow => return self.settle_within(lane, flags, part, GUESS_PATIENCE),
+                Guessed::Slow => return self.lower_to_end(lane, flags, part),
                 Guessed::Low => spread = spread.saturating_mul(2).max(1),
                 Guessed::Nothing => return false,
             }
@@ -387,6 +421,9 @@ impl Descent<'_> {
         }
         if self.rows.top() > FEW_NUMBERS {
             if has_few_flags(flags, part) && self.settle_within(lane, flags, part, MORE_PASSES) {
+                return true;
+            }
+            if self.lower_held(lane, flags, part, Patience::Quick) {
                 return true;
             }
             return self.lower_from_moved(lane, flags, noted, part);
@@ -417,11 +454,23 @@ impl Descent<'_> {
                     return true;
                 }
             }
-            Guessed::Low => {}
-            Guessed::Nothing => return false,
+            Guessed::Low => {
+                if self.lower_held(lane, flags, part, Patience::Quick) {
+                    return true;
+                }
+            }
+            Guessed::Nothing => {
+                return self.lower_held(lane, flags, part, Patience::Quick)
+                    || self.lower_held(lane, flags, part, Patience::Long);
+            }
+        }
+        let soon = part.len() <= HELD_SOON;
+        if soon && self.lower_held(lane, flags, part, Patience::Long) {
+            return true;
         }
         let last = Guess::unmoved(GUESS_PATIENCE);
         lower_from_guess(self.rows, lane, flags, noted, part, last).is_good()
+            || (!soon && self.lower_held(lane, flags, part, Patience::Long))
     }
 
     /// Lowers the states of a part from where it is begun anew: from a rough vector, and where that doesn't do at

@@ -14,6 +14,8 @@ ghost use Rattle.lower_cert.specs.Laws.{
   CappingKeepsUnder,
   GuessIsAbove,
   SmallRefutes,
+  HeldThatFell,
+  HeldHigher,
 };
 ghost use Rattle.lower_cert.specs.AnyRanks.{RanksFit, HeightFits};
 ghost use Rattle.lower_cert.specs.Premises.{Premises};
@@ -37,6 +39,8 @@ pub fn vectors_are_lowered()
     ensures under { CappingKeepsUnder }
     ensures guess { GuessIsAbove }
     ensures refutes { SmallRefutes }
+    ensures fell { HeldThatFell }
+    ensures higher { HeldHigher }
 {
     premises();
 }

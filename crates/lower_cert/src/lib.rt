@@ -5,10 +5,12 @@ mod begin;
 mod descent;
 mod exit;
 mod greatest;
+mod held;
 mod laws;
 mod lower;
 mod part;
 mod raise;
+mod steering;
 mod sweep;
 
 pub use greatest::{

@@ -1,9 +1,10 @@
 //! What is written at the positions of a part of the states, those of a component.
 
-ghost use Rattle.std.specs.Prelude.{◌≡◌, ◌^◌, ◌<◌, ◌≤◌, ◌≤ℤ◌, pos, length};
+ghost use Rattle.std.specs.Prelude.{◌≡◌, ℕ, ◌+◌, ◌-◌, ◌^◌, ◌<◌, ◌≤◌, ◌≤ℤ◌, pos, length};
+ghost use Rattle.corner_lift.specs.Case.{number};
 ghost use Rattle.corner_lift.specs.Certificate.{AreNumbers};
 ghost use Rattle.lower_cert.specs.Beginning.{IsFilledAt, AreAll, IsNotedAt, IsNotedPart};
-ghost use Rattle.float_guess.specs.Part.{KeepsOthers};
+ghost use Rattle.float_guess.specs.Part.{StandsAt, KeepsOthers};
 
 use corner_lift::Lifted;
 use float_guess::Note;
@@ -17,7 +18,9 @@ pub(crate) struct Part {
 
 impl Part {
     /// How many states it has.
-    pub(crate) fn len(self) -> u32 {
+    pub(crate) fn len(self) -> u32
+        ensures { result ≡ self.high - self.low }
+    {
         self.high.saturating_sub(self.low)
     }
 
@@ -38,6 +41,20 @@ pub(crate) fn fill_at(rows: &Lifted, lane: &mut [i64], part: Part, position: u32
 {
     if let Some(s) = rows.open_state(position) {
         lane[s as usize] = number;
+    }
+}
+
+/// Writes a number for the state at a position.
+#[inline(always)]
+pub(crate) fn write_at(rows: &Lifted, lane: &mut [i64], position: u32, value: i64)
+    requires numbers { AreNumbers rows.now.case lane.old }
+    requires value { (pos 0 ≤ℤ value) × (value ≤ℤ pos (2 ^ rows.now.case.w)) }
+    requires position { position < length rows.now.links.order }
+    ensures kept { KeepsOthers rows.now.case rows.now.links position (position + 1) lane.old lane.new }
+    ensures here { (s : ℕ) → StandsAt rows.now.case rows.now.links position s → number lane.new s ≡ value }
+{
+    if let Some(s) = rows.open_state(position) {
+        lane[s as usize] = value;
     }
 }
 

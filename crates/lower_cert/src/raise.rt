@@ -109,7 +109,7 @@ fn rounded_up(sum: i128, whole: i128, top: i64) -> i64
 
 /// A number, or the nearest one within the range.
 #[inline(always)]
-fn within(number: i64, top: i64) -> i64
+pub(crate) fn within(number: i64, top: i64) -> i64
     requires { pos 0 ≤ℤ top }
     ensures { (pos 0 ≤ℤ result) × (result ≤ℤ top) }
 {

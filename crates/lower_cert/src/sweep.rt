@@ -376,7 +376,13 @@ pub(crate) fn visit(
 
 /// Visits the state at a position, if it is flagged, and tells whether it fell.
 #[inline(always)]
-fn turn(rows: &Lifted, lane: &mut [i64], work: &mut [u32], position: u32, frontier: u32) -> bool
+pub(crate) fn turn(
+    rows: &Lifted,
+    lane: &mut [i64],
+    work: &mut [u32],
+    position: u32,
+    frontier: u32,
+) -> bool
     ghost run: { Run }
     requires can { CanLower rows.now run lane.old }
     requires position { (position < length work.old) × (position < length rows.now.links.order) }

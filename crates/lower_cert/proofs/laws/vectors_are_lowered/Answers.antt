@@ -2,6 +2,7 @@ use Rattle.lower_cert.proofs.Capped.{capped_is_below, capping_keeps, quotient_ca
 use Rattle.lower_cert.proofs.Closed.{closed_is_above}
 use Rattle.lower_cert.proofs.Stuck.{stuck_are_capped, stages_are_greatest, greatest_is_one}
 use Rattle.lower_cert.proofs.Guess.{guess_is_above, small_refutes}
+use Rattle.lower_cert.proofs.Holding.{held_that_fell, held_higher}
 use Rattle.lower_cert.proofs.laws.vectors_are_lowered.Goals as goal
 
 pub returns : goal.returns
@@ -21,4 +22,6 @@ returns c =
       under = capping_keeps_under laws;
       guess = guess_is_above laws;
       refutes = small_refutes;
+      fell = held_that_fell laws;
+      higher = held_higher laws;
     }

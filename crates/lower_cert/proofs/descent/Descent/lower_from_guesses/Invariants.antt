@@ -1,3 +1,4 @@
+use Rattle.lower_cert.specs.Lowering.{from_top}
 use Rattle.lower_cert.proofs.descent.Descent.lower_from_guesses.Given as goal
 
 abbrev pub ghost-lower_from_guess : goal.ghost-lower_from_guess
@@ -8,3 +9,6 @@ ghost-lower_from_unmoved g a = g.spans
 
 abbrev pub ghost-lower_on : goal.ghost-lower_on
 ghost-lower_on g a = g.spans
+
+abbrev pub ghost-lower_held : goal.ghost-lower_held
+ghost-lower_held g a = from_top a.self.now.rows.now.case g.spans
