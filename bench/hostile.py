@@ -1,10 +1,11 @@
 #!/usr/bin/env python3
-"""Inputs that try to keep the program busy, each of at most 1 MiB (a tree of 20 levels has 16 MiB).
+"""Inputs that try to keep each command of the program busy, and recheck.py, each of at most 1 MiB (a tree of 20 levels
+has 16 MiB).
 
     hostile.py list                       the kinds
     hostile.py make KIND > input          writes an input
     hostile.py run [--bin PATH] [--limit SECONDS] [KIND..]
-                                          runs the program on each, and prints a table
+                                          runs the program on each, or recheck.py, and prints a table
 """
 
 from __future__ import annotations
@@ -12,6 +13,8 @@ from __future__ import annotations
 import argparse
 import itertools
 import os
+import random
+import resource
 import sys
 from dataclasses import dataclass
 from typing import Callable, List, Tuple
@@ -19,6 +22,8 @@ from typing import Callable, List, Tuple
 import measure
 
 MIB = 1 << 20
+ROOM = 4 << 30  # what a run may take of memory
+RECHECK = [sys.executable, os.path.join(measure.TOP, "recheck", "recheck.py")]
 LETTERS = "abcdefghijklmnop"
 
 # What writes an input; and a state: its labels, and the lines of its choices.
@@ -33,6 +38,10 @@ class Kind:
     make: Make
     words: list[str]
     about: str
+
+    def command(self, path: str) -> list[str]:
+        """What is run, of the program at this path or of recheck.py."""
+        return RECHECK if self.words == ["recheck"] else [path, *self.words]
 
 
 KINDS: dict[str, Kind] = {}
@@ -288,7 +297,7 @@ def tight_pair_from_above() -> str:
 
 
 def walking(length: int, forth: str = "1/2") -> str:
-    """A walk over so many states from the lowest, with this probability of a step forth; the goal is above, the sink below."""
+    """A walk over so many states from the lowest, with this probability of a step forth; goal above, sink below."""
     goal, sink = length, length + 1
     rows = []
     for number in range(length):
@@ -347,7 +356,7 @@ def end_components() -> str:
 
 
 def path_at_will(count: int) -> str:
-    """From each state back with certainty, or on at the risk to be lost, which grows; the goal is behind the last one."""
+    """From each state back with certainty, or on at a growing risk to be lost; the goal is behind the last one."""
     goal, sink = count, count + 1
     rows = []
     for here in range(count):
@@ -489,6 +498,143 @@ def long_box() -> str:
     return head().replace("box 0 1", "box %s %s" % (digits[:-1] + "0", digits))
 
 
+# ---- other commands
+
+
+def lumped(words: str = "") -> str:
+    """The words of a run of lumped."""
+    return verify().replace("verify", "lumped", 1) + words
+
+
+@kind(lumped())
+def colliding_constants() -> str:
+    """18,000 states with a constant that is 0 by the prime that hashes are made with, each to one of a chain"""
+    count = 18000
+    chain, sink = 2 * count, 2 * count + 1
+    prime, whole = 2**61 - 1, 2**62 - 1
+    lines = ["@type: DTMC", "@placeholders", f"$a : {prime}/{whole}", f"$b : {whole - prime}/{whole}", "@model"]
+    for number in range(count):
+        lines += [f"state {number}{'' if number else ' init'}", f"{count + number} : $a", f"{sink} : $b"]
+    for number in range(count, chain):
+        lines += [f"state {number}", f"{number + 1} : 1"]
+    lines += [f"state {chain} goal", f"{chain} : 1", f"state {sink}", f"{sink} : 1"]
+    return "\n".join(lines) + "\n"
+
+
+def copied(count: int, seed: int) -> str:
+    """A chain of copies of four states, which lead to each other's copies at random, and two sinks of no label."""
+    chance = random.Random(seed)
+    # Where each of the four may lead to, by kinds: 4 and 5 are the sinks.
+    targets = [(1, 3), (0, 4), (3, 5), (2, 0)]
+    lines = ["@type: DTMC", "@model"]
+    for number in range(4 * count):
+        near = [
+            4 * chance.randrange(count) + kind if kind < 4 else 4 * count + kind - 4 for kind in targets[number % 4]
+        ]
+        label = " goal" if number % 4 == 3 else " init" if number == 0 else ""
+        lines += [f"state {number}{label}", *(f"{target} : 1/2" for target in near)]
+    for sink in (4 * count, 4 * count + 1):
+        lines += [f"state {sink}", f"{sink} : 1"]
+    return "\n".join(lines) + "\n"
+
+
+@kind(lumped())
+def copied_states() -> str:
+    """22,000 copies of four states, which lead to each other's copies, and two sinks"""
+    return copied(5500, 1)
+
+
+@kind(lumped())
+def copied_states_few() -> str:
+    """twelve copies of four states, and two sinks"""
+    return copied(3, 2)
+
+
+@kind(lumped())
+def lumped_walk() -> str:
+    """a fair walk over 1,000 states, of which no two are alike"""
+    return walking(1000)
+
+
+def formula(text: str) -> str:
+    """The words of a run of property."""
+    return "property --precision 24 --formula " + text
+
+
+@kind(formula('P>=1/2[F"goal"]'))
+def property_of_ends() -> str:
+    """8,000 pairs of states that lead back to each other, asked for the scheduler that reaches the least"""
+    return end_components()
+
+
+@kind(formula('P<=1/2["init"U"goal"]'))
+def property_of_walk() -> str:
+    """a fair walk over 3,000 states, cut at its first state"""
+    return walking(3000)
+
+
+@kind("bounded --goal goal --bound 1/2 --steps 64 --precision 24")
+def bounded_walk() -> str:
+    """a fair walk over 3,000 states, within 64 steps"""
+    return walking(3000)
+
+
+@kind("cost --goal goal --reward tries --budget 100 --cap 1000000 --precision 24")
+def costly_ring() -> str:
+    """a ring of 1,000 states, each of which leaks a thousandth to the goal and costs 1"""
+    count = 1000
+    lines = ["@type: DTMC", "@reward_models", "tries", "@model"]
+    for number in range(count):
+        lines += [
+            f"state {number} [1]{'' if number else ' init'}",
+            f"{(number + 1) % count} : 0.999",
+            f"{count} : 0.001",
+        ]
+    return "\n".join([*lines, f"state {count} goal", f"{count} : 1"]) + "\n"
+
+
+@kind("migrate")
+def migrated_rows() -> str:
+    """a report of 8 accepting leaves, for each of which 2,500 rows are tested at sixteen corners"""
+    return rows_by_leaves(3)
+
+
+@kind("refine --depth 17")
+def refined_leaves() -> str:
+    """a report of 16 levels with 65,536 unknown leaves"""
+    return head(16) + tree(16, "unknown\n")
+
+
+@kind("generate 32767")
+def generated() -> str:
+    """the greatest ladder"""
+    return ""
+
+
+@kind("selftest 2000")
+def tested_ladder() -> str:
+    """a ladder of 2,000 blocks, verified and checked"""
+    return ""
+
+
+@kind("recheck")
+def recheck_long_numbers() -> str:
+    """a report whose bound is two numbers of half a million digits, read by recheck.py"""
+    return long_numbers()
+
+
+@kind("recheck")
+def recheck_long_denominator() -> str:
+    """a report whose bound has a denominator of a million digits, read by recheck.py"""
+    return long_denominator()
+
+
+@kind("recheck")
+def recheck_rows_times_leaves() -> str:
+    """a report of 8 accepting leaves, for each of which 2,500 rows are tested by recheck.py"""
+    return rows_by_leaves(3)
+
+
 # ----
 
 
@@ -502,7 +648,7 @@ def run(names: list[str], path: str, limit: int) -> int:
             text = KINDS[name].make().encode("ascii")
             with open(source, "wb") as file:
                 file.write(text)
-            result = measure.once([path] + KINDS[name].words, source, target, limit)
+            result = measure.once(KINDS[name].command(path), source, target, limit)
             if result.stopped:
                 slow.append(name)
             status = "-" if result.stopped else str(result.status)
@@ -535,6 +681,7 @@ def main() -> None:
         for name in asked.kinds:
             sys.stdout.write(KINDS[name].make())
     else:
+        resource.setrlimit(resource.RLIMIT_AS, (ROOM, ROOM))
         sys.exit(run(names, measure.program(asked.bin), asked.limit))
 
 

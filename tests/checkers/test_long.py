@@ -48,6 +48,11 @@ class Long(unittest.TestCase):
         """2,500 rows that are weighed at sixteen corners for each of 8 leaves."""
         self.judged(hostile.rows_by_leaves(3), "sound accept 8 reject 0 unknown 0\n")
 
+    def test_each_command_has_a_kind(self) -> None:
+        """The hostile inputs are for every command of the program, and for recheck.py."""
+        pages = {page.stem for page in (TOP / "man" / "help").glob("*.txt")} - {"plift", "plift-view"}
+        self.assertEqual({kind.words[0] for kind in hostile.KINDS.values()}, pages | {"recheck"})
+
     def test_numbers_by_halves(self) -> None:
         """A long number is read as int reads it, of either sign, with zeros anywhere."""
         chance = random.Random(1)
