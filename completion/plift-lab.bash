@@ -6,13 +6,13 @@ _plift_lab() {
     case $COMP_CWORD:${COMP_WORDS[1]}:${COMP_WORDS[COMP_CWORD - 1]} in
     1:*) offered='verify bounds threshold verdict leaves view picture explain --help --version' ;;
     *:--keep | *:--report) files=yes ;;
-    *:--bound | *:--calls | *:--cap | *:--coverage | *:--depth | *:--formula | *:--from | *:--goal | *:--look | *:--parameter | *:--precision | *:--region | *:--title | *:--width | *:--x | *:--y) ;;
+    *:--bound | *:--calls | *:--cap | *:--coverage | *:--depth | *:--formula | *:--from | *:--goal | *:--look | *:--model | *:--parameter | *:--precision | *:--region | *:--title | *:--width | *:--x | *:--y) ;;
     *:verify:*) offered='--help --goal --formula --cap --region --precision --bound --depth --from --relative --coverage --report --keep --progress --quiet --json' files=yes ;;
     *:bounds:*) offered='--help --goal --formula --cap --region --precision --width --calls --list --keep --progress --quiet --json' files=yes ;;
     *:threshold:*) offered='--help --goal --formula --cap --region --precision --bound --parameter --least --width --depth --relative --keep --progress --quiet --json' files=yes ;;
     *:verdict:*) offered='--help --brief --look --keep --progress --quiet --json' files=yes ;;
     *:leaves:*) offered='--help --csv --json --unknown --decimals' files=yes ;;
-    *:view:*) offered='--help --x --y --title' files=yes ;;
+    *:view:*) offered='--help --x --y --model --title' files=yes ;;
     *:picture:*) offered='--help --x --y' files=yes ;;
     *:explain:*) offered='--help' files=yes ;;
     esac

@@ -9,13 +9,15 @@ from __future__ import annotations
 import re
 from dataclasses import dataclass
 from fractions import Fraction
-from typing import Callable, Dict, Iterator, List, Tuple
+from typing import Callable, Dict, Iterator, List, NamedTuple, Tuple
 
 from .plain import plain
 from .regions import Region
 from .values import exact
 
 SYMBOL = re.compile(rb'[0-9]+(?:\.[0-9]+)?(?:[eE][+-]?[0-9]+)?|[A-Za-z_][A-Za-z0-9_]*')
+GROUP = re.compile(rb'\[[^\]]*\]')
+WORD = re.compile(rb'"([^"]*)"|([^ \t"]+)')
 VALUED = re.compile(rb'([ \t]*(?:[0-9]+|\$[A-Za-z0-9_]+)[ \t]*:)(.*)', re.S)
 Scale = Dict[str, Tuple[Fraction, Fraction]]
 """For each parameter p of a rescaled model the ends between which low + (high - low) p runs."""
@@ -84,3 +86,28 @@ class Model:
             scale[name] = low, high
         units = tuple((name, Fraction(0), Fraction(1)) for name in region.names)
         return (self._changed(terms, lambda name: True), Region(units, region.fixed), scale)
+
+    def states(self) -> List['NamedState']:
+        """The states with their labels and the names of their actions, as far as the text has them."""
+        found: List[NamedState] = []
+        section = b''
+        for line in self.text.split(b'\n'):
+            bare = line.strip(b' \t\r')
+            if bare.startswith(b'@'):
+                section = bare
+            elif section != b'@model' or bare.startswith(b'//'):
+                continue
+            elif bare.startswith(b'state'):
+                words = [plain(quoted or word) for quoted, word in WORD.findall(GROUP.sub(b' ', bare))]
+                found.append(NamedState([word for word in words[2:] if word != 'init'], []))
+            elif bare.startswith(b'action') and found:
+                words = [plain(quoted or word) for quoted, word in WORD.findall(GROUP.sub(b' ', bare))]
+                found[-1].actions.append(words[1] if len(words) > 1 else '')
+        return found
+
+
+class NamedState(NamedTuple):
+    """A state's labels, and the names of its actions."""
+
+    labels: List[str]
+    actions: List[str]

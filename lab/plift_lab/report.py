@@ -224,6 +224,14 @@ class Report:
         """The lines of the head down to the last row."""
         return self.data[: self._model_end]
 
+    @cached_property
+    def choices(self) -> List[int]:
+        """How many choices each state has."""
+        counts = [0] * self.states
+        for state in re.findall(rb'^row ([0-9]+) ', self.model_lines, re.M):
+            counts[int(state)] += 1
+        return counts
+
     @property
     def question(self) -> str:
         """What was asked, as a line."""

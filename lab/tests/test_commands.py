@@ -370,7 +370,17 @@ class Mistakes(InFolder):
                 find_program()
 
     def test_help(self) -> None:
-        for words in ((), ('verify',), ('bounds',), ('threshold',), ('verdict',), ('leaves',), ('view',), ('picture',), ('explain',)):
+        for words in (
+            (),
+            ('verify',),
+            ('bounds',),
+            ('threshold',),
+            ('verdict',),
+            ('leaves',),
+            ('view',),
+            ('picture',),
+            ('explain',),
+        ):
             status, told, err = run(*words, '--help')
             self.assertEqual((status, err), (0, ''))
             self.assertIn('statuses: ', told)

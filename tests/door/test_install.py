@@ -122,7 +122,9 @@ class Install(DoorCase):
             "zsh/site-functions/_plift-tiles",
         ):
             self.assertTrue((self.prefix / "share" / page).is_file(), page)
-        self.assertEqual(self.run_installed("plift-tiles", "--version").stdout, b"plift-tiles " + (TOP / "VERSION").read_bytes())
+        self.assertEqual(
+            self.run_installed("plift-tiles", "--version").stdout, b"plift-tiles " + (TOP / "VERSION").read_bytes()
+        )
         # The program that is installed beside it is asked, whatever the PATH has.
         ran = self.run_installed(
             "plift-tiles",

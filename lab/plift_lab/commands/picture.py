@@ -1,7 +1,7 @@
 """A picture of a report as SVG, in the user's own numbers, with the label that was asked for.
 
-Of a rescaled report the picture has the user's intervals, as the file beside it tells them; parameters on no axis are at
-the middles of their intervals. `view` makes a page to explore.
+Of a rescaled report the picture has the user's intervals, as the file beside it tells them; parameters on no axis are
+at the middles of their intervals. `view` makes a page to explore.
 
     plift-lab picture examples/retry-tree.report > retry.svg
 """

@@ -11,12 +11,17 @@ from __future__ import annotations
 import argparse
 import html
 import json
+import os
 import pkgutil
 import re
 import sys
+from dataclasses import replace
 from typing import Any, Dict, List, Optional, Tuple
 
+from ..evidence import read_file
 from ..faults import DONE, Fault
+from ..models import Model, NamedState
+from ..plain import plain
 from ..report import KINDS, Report
 from ..session import Session
 from ..values import exact, percent
@@ -33,6 +38,11 @@ def add_words(words: argparse.ArgumentParser) -> None:
         '--x', metavar='P', help='the parameter from left to right; the first that a row depends on if left out'
     )
     words.add_argument('--y', metavar='P', help='the parameter from below up; the next one if left out')
+    words.add_argument(
+        '--model',
+        metavar='MODEL',
+        help='the model\'s text, which names labels and actions; the report has numbers alone',
+    )
     words.add_argument('--title', metavar='TEXT', help='the title; the question if left out')
 
 
@@ -40,20 +50,44 @@ def run(given: argparse.Namespace) -> int:
     """Does it."""
     with Session() as session:
         report = session.read(given.report)
-        sys.stdout.write(page(report, report.judge, given.x, given.y, given.title))
+    names = None if given.model is None else Names(Model(read_file(given.model)), given.model, report)
+    text = page(report, (given.x, given.y), given.title, names)
+    if hasattr(sys.stdout, 'reconfigure'):
+        sys.stdout.reconfigure(encoding='utf-8')
+    sys.stdout.write(text)
     return DONE
 
 
+class Names:
+    """What a model's text calls the states and the choices of a report, which it has to fit."""
+
+    def __init__(self, model: Model, name: str, report: Report) -> None:
+        self.name, self.states = name, model.states()
+        choices = [max(1, len(state.actions)) for state in self.states]
+        if choices != report.choices:
+            raise Fault('%s isn\'t the model of the report: it has other states, or others of their choices' % name)
+        goals = set(report.goals)
+        labels = {label for state in goals for label in self.states[state].labels}
+        marked = {label: {n for n, one in enumerate(self.states) if label in one.labels} for label in labels}
+        self.goal = next((label for label in sorted(labels) if marked[label] == goals), None)
+        """A label that the goal states carry and no others."""
+
+
 def page(
-    report: Report, judge: str, x: Optional[str] = None, y: Optional[str] = None, title: Optional[str] = None
+    report: Report,
+    axes: Tuple[Optional[str], Optional[str]] = (None, None),
+    title: Optional[str] = None,
+    names: Optional[Names] = None,
 ) -> str:
     """The page, as one text."""
+    if names and names.goal is not None and report.origin.goal == 'goal':
+        report.origin = replace(report.origin, goal=names.goal)
     parts = {
         'TITLE': html.escape(title or report.question),
         'SUMMARY': html.escape(report.verdict_line),
         'STYLE': _file('page.css'),
         'SCRIPT': ''.join(map(_file, SCRIPTS)),
-        'DATA': _json(_data(report, judge, _axes(report, x, y))),
+        'DATA': _json(_data(report, _axes(report, *axes), names)),
     }
     # One pass: what stands in a part is never taken for a place of another part.
     return re.sub(r'\{\{([A-Z]+)\}\}', lambda place: parts[place.group(1)], _file('page.html'))
@@ -86,33 +120,60 @@ def _axes(report: Report, x: Optional[str], y: Optional[str]) -> Tuple[int, int]
     return places.get(first, -1) if first else -1, places.get(second, -1) if second else -1
 
 
-def _data(report: Report, judge: str, axes: Tuple[int, int]) -> Dict[str, Any]:
+def _data(report: Report, axes: Tuple[int, int], names: Optional[Names]) -> Dict[str, Any]:
     shares, counts = report.shares, report.counts
     live = sorted(set(report.parameters.index(name) for name in report.live) | {axis for axis in axes if axis >= 0})
-    schedulers = report.scheduler_texts
+    is_process, schedulers = report.kind == 'mdp', report.scheduler_texts
+    are_told = is_process and sum(map(len, schedulers)) <= MOST_SCHEDULERS
     return {
         'parameters': [
             {'name': name, 'low': exact(low), 'high': exact(high)} for name, low, high in report.region.intervals
         ],
         'axes': axes,
         'live': live,
-        'isProcess': report.kind == 'mdp',
+        'isProcess': is_process,
         'precision': report.precision,
+        'unit': report.form.unit,
+        'says': _sentences(report),
+        'hasSteps': report.form.steps is not None,
         'tree': ''.join('%x' % node if isinstance(node, int) else node[0].upper() for node in report.nodes),
         'values': [value for value in report.values if value is not None],
         'picks': report.picks,
         'precisions': report.precisions if report.least_precision < report.precision else None,
-        'schedulers': schedulers if report.kind == 'mdp' and sum(map(len, schedulers)) <= MOST_SCHEDULERS else None,
+        'schedulers': schedulers if are_told else None,
+        'choosing': _choosing(report, names) if are_told else [],
         'counts': [sum(count for (one, _), count in counts.items() if one == kind) for kind in KINDS],
         'shares': [{'exact': exact(shares[kind]), 'percent': percent(shares[kind])} for kind in KINDS],
-        'facts': _facts(report, judge),
+        'facts': _facts(report, names),
     }
 
 
-def _facts(report: Report, judge: str) -> List[Tuple[str, str]]:
+def _sentences(report: Report) -> List[str]:
+    """What is said of an accepted leaf and of a rejected one, with @ in the place of the number."""
+    form, is_process = report.form, report.kind == 'mdp'
+    every, some = (', whatever is chosen', ' by the choices below') if is_process else ('', '')
+    what = 'is expected to be spent' if form.reward else 'is reached'
+    within = '' if form.steps is None else ' within %d step%s' % (form.steps, 's' * (form.steps > 1))
+    sides = ('least', 'most') if form.is_of_least else ('most', 'least')
+    return ['At %s @ %s%s%s.' % (side, what, within, by) for side, by in zip(sides, (every, some))]
+
+
+def _choosing(report: Report, names: Optional[Names]) -> List[Tuple[int, str, List[str]]]:
+    """The states that have a choice: their numbers, their labels, and what each choice is called."""
+    found = []
+    for state, count in enumerate(report.choices):
+        if count > 1:
+            named = names.states[state] if names else NamedState([], [])
+            actions = [name or str(choice) for choice, name in enumerate(named.actions)]
+            found.append((state, ' '.join(named.labels), actions or [str(choice) for choice in range(count)]))
+    return found
+
+
+def _facts(report: Report, names: Optional[Names]) -> List[Tuple[str, str]]:
+    """Files are told by their names alone: a page goes to others, whom folders of this machine don't concern."""
     facts = [
-        ('report', report.path or 'standard input'),
-        ('judged', '%s, by %s' % (report.soundness, judge)),
+        ('report', os.path.basename(report.path) or 'standard input'),
+        ('judged', '%s, by %s' % (report.soundness, _without_folders(report.judge))),
         ('question', report.question),
         ('region', report.region.text.strip() or 'no parameters'),
     ]
@@ -127,6 +188,17 @@ def _facts(report: Report, judge: str) -> List[Tuple[str, str]]:
         ('precision', '%s%d bits' % (least, report.precision)),
         ('depth', 'at most %d halvings' % report.depth),
     ]
+    if report.form.cap is not None:
+        facts.append(('cap', '%d: costs are counted up to it' % report.form.cap))
+    if names:
+        told = 'labels and actions are called as in %s, which nobody compared with the report beyond their numbers'
+        facts.append(('names', told % plain(os.path.basename(names.name) or 'the text')))
     if report.origin.scale:
         facts.append(('rescaled', 'the report\'s own parameters run from 0 to 1; this page tells yours'))
     return facts
+
+
+def _without_folders(judge: str) -> str:
+    """A judge by the name of its program."""
+    program, comma, rest = judge.partition(',')
+    return re.sub(r'^.*/', '', program) + comma + rest

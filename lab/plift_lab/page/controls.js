@@ -9,6 +9,7 @@ const tree = new Tree(data.tree, Math.max(parameters.length, 1));
 const plot = new Plot(byId('picture'), byId('cursor'), tree, parameters);
 let kept = null;  // a leaf that was chosen stays told
 let due = false;
+const MOST_CHOICES = 500;
 
 // Values and schedulers stand in the order of the leaves that have one.
 const places = new Int32Array(tree.count), picks = new Int32Array(tree.count);
@@ -78,21 +79,34 @@ function tell(leaf) {
   if (leaf.kind === UNKNOWN) {
     card.append(element('p', 'No certificate of either kind was found for all of it at this precision and depth.'));
   } else {
-    const value = fraction(BigInt(data.values[places[leaf.number]]), 1n << BigInt(data.precision));
+    const value = fraction(BigInt(data.values[places[leaf.number]]) * BigInt(data.unit), 1n << BigInt(data.precision));
     const number = `${exactText(value)} (about ${decimal(toNumber(value), 9)})`;
-    const by = !data.isProcess ? '' : leaf.kind === ACCEPT ? ', whatever is chosen' : ' by the choices below';
     const bits = data.precisions ? ` Its certificate has ${data.precisions[places[leaf.number]]} bits.` : '';
-    card.append(element('p', `At ${leaf.kind === ACCEPT ? 'most' : 'least'} ${number} is reached${by}.${bits}`));
+    card.append(element('p', data.says[leaf.kind].replace('@', () => number) + bits));
   }
   const table = element('table');
   rows(table, ['', 'about', 'exactly'], parameters.map((_, axis) => interval(axis, leaf.low[axis], leaf.high[axis])), true);
   card.append(table, element('p', `Depth ${leaf.depth}, ${percent(2 ** -leaf.depth)} of the region.`));
-  if (leaf.kind === REJECT && data.isProcess) {
-    const pick = data.picks[picks[leaf.number]], text = data.schedulers ? data.schedulers[pick] : null;
-    const rest = text === null ? ' (too long for this page: leaves --json tells it).' : ', for each state its choice:';
-    card.append(element('p', `Scheduler ${pick}${rest}`));
-    if (text !== null) card.append(element('code', text.length > 4000 ? text.slice(0, 4000) + ' ..' : text));
+  if (leaf.kind === REJECT && data.isProcess) tellScheduler(card, data.picks[picks[leaf.number]]);
+}
+
+// The choices of the states that have one. Where steps count they are those with all steps left.
+function tellScheduler(card, pick) {
+  if (!data.schedulers) {
+    card.append(element('p', `Scheduler ${pick} (too long for this page: leaves --json tells it).`));
+    return;
   }
+  const parts = data.schedulers[pick].split('; '), words = parts[parts.length - 1].split(' ');
+  const choices = parts.length > 1 || data.hasSteps ? words.slice(1) : words;
+  const made = data.choosing.filter(([state]) => choices[state] !== '-');
+  const steps = parts.length > 1 ? ` with ${parts.length} steps left (leaves --json tells the others)` : '';
+  card.append(element('p', `Scheduler ${pick}${steps}:`));
+  const chosen = made.slice(0, MOST_CHOICES).map(([state, labels, actions]) =>
+    [labels ? `${state} ${labels}` : `${state}`, actions[Number(choices[state])]]);
+  const table = element('table');
+  rows(table, ['in state', 'choice'], chosen);
+  card.append(table);
+  if (made.length > MOST_CHOICES) card.append(element('p', `and ${made.length - MOST_CHOICES} other states.`));
 }
 
 function mark(leaf) {
@@ -148,15 +162,33 @@ function onKey(event) {
   redraw();
 }
 
+// Two fingers: how far they are from each other, and the place between them.
+function pinch(fingers) {
+  const [one, other] = [...fingers.values()];
+  return { apart: Math.max(20, Math.hypot(one[0] - other[0], one[1] - other[1])),
+           at: [(one[0] + other[0]) / 2, (one[1] + other[1]) / 2] };
+}
+
 function onPointers(canvas) {
   let held = null;
+  const fingers = new Map();
   canvas.addEventListener('pointerdown', (event) => {
     held = { at: place(event), moved: false };
     canvas.setPointerCapture(event.pointerId);
+    fingers.set(event.pointerId, place(event));
   });
   canvas.addEventListener('pointermove', (event) => {
     const at = place(event);
-    if (held && (held.moved || Math.hypot(at[0] - held.at[0], at[1] - held.at[1]) > 4)) {
+    if (fingers.size === 2 && fingers.has(event.pointerId)) {
+      const before = pinch(fingers);
+      fingers.set(event.pointerId, at);
+      const now = pinch(fingers), { left, top, width, height } = plot.area;
+      plot.zoom(before.apart / now.apart, (now.at[0] - left) / width, 1 - (now.at[1] - top) / height);
+      plot.pan('x', (before.at[0] - now.at[0]) / width);
+      plot.pan('y', (now.at[1] - before.at[1]) / height);
+      held = null;
+      redraw();
+    } else if (held && (held.moved || Math.hypot(at[0] - held.at[0], at[1] - held.at[1]) > 4)) {
       plot.pan('x', (held.at[0] - at[0]) / plot.area.width);
       plot.pan('y', (at[1] - held.at[1]) / plot.area.height);
       held = { at, moved: true };
@@ -166,6 +198,7 @@ function onPointers(canvas) {
     }
   });
   canvas.addEventListener('pointerup', (event) => {
+    fingers.delete(event.pointerId);
     if (held && !held.moved) {
       const leaf = plot.leafAt(...place(event));
       kept = kept && leaf && leaf.node === kept.node ? null : leaf;
@@ -173,7 +206,7 @@ function onPointers(canvas) {
     }
     held = null;
   });
-  canvas.addEventListener('pointercancel', () => { held = null; });
+  canvas.addEventListener('pointercancel', (event) => { held = null; fingers.delete(event.pointerId); });
   canvas.addEventListener('pointerleave', () => { if (!kept && document.activeElement !== canvas) mark(null); });
   canvas.addEventListener('wheel', (event) => {
     event.preventDefault();
