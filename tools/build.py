@@ -36,7 +36,7 @@ CANNOT_BUILD = 70
 USUAL_PROGRAM = "plift"
 USUAL_MINUTES = 35
 USUAL_MACHINE = "four processors"
-# A crate's share of the work where the table of docs/ARCHITECTURE.md doesn't name it, and where its
+# A crate's share of the work where tools/costs.tsv doesn't name it, and where its
 # library is kept, in minutes.
 UNKNOWN_MINUTES = 2.0
 KEPT_MINUTES = 0.05
@@ -71,25 +71,11 @@ def closure(needs: Dict[str, List[str]], top: str) -> List[str]:
     return found
 
 
-def cells(line: str) -> List[str]:
-    """Returns what stands in the columns of a table's row."""
-    return [cell.strip() for cell in line.strip().strip("|").split("|")]
-
-
 def minutes_of(text: str) -> Dict[str, float]:
-    """Returns what each crate's own proof takes by the table of docs/ARCHITECTURE.md: its column
-    `Own proof`, or the last one where no column has that name."""
-    minutes: Dict[str, float] = {}
-    column = -1
-    for line in text.splitlines():
-        row = cells(line) if line.startswith("|") else []
-        if row and row[0] == "Crate":
-            column = row.index("Own proof") if "Own proof" in row else -1
-        name = re.fullmatch(r"`(\w+)`", row[0]) if len(row) > 1 else None
-        number = re.fullmatch(r"~?([0-9]+(?:\.[0-9]+)?)", row[column]) if name and column < len(row) else None
-        if name and number:
-            minutes[name[1]] = float(number[1])
-    return minutes
+    """Returns what each crate's own proof takes, by a text in the form of tools/costs.tsv."""
+    rows = [line.split("\t") for line in text.splitlines()]
+    column = rows[0].index("minutes") if rows and "minutes" in rows[0] else 0
+    return {row[0]: float(row[column]) for row in rows[1:] if 0 < column < len(row)}
 
 
 def longest_chains(order: List[str], needs: Dict[str, List[str]], cost: Dict[str, float]) -> Dict[str, float]:
@@ -296,7 +282,7 @@ class Build:
         """Notes the time, finds what there is to do, by the table of what each crate costs, and tells it."""
         self.began = time.time()
         self.started = time.monotonic()
-        table = TOP / "docs" / "ARCHITECTURE.md"
+        table = TOP / "tools" / "costs.tsv"
         known = minutes_of(table.read_text(encoding="utf-8")) if table.is_file() else {}
         newest = self._newest()
         kept = [name for name in self.order if is_kept(name, newest[name])]

@@ -14,23 +14,7 @@ from common import DoorCase, tool
 build = tool("build")
 
 NEEDS = {"low": [], "side": [], "middle": ["low"], "high": ["middle", "side"], "other": ["low"]}
-OLD_TABLE = """
-| Crate | What it does | Definitions |
-|---|---|---|
-| `low` | 3 | 4 |
-| Crate | Functions | Wrong bodies | Processor-minutes |
-|---|---|---|---|
-| `low` | 13 | 2 | ~0.9 |
-| `side` | 1 |  | 1.3 |
-| all | 1771 | 260 | ~245 |
-"""
-NEW_TABLE = """
-| Crate | Functions | Own proof | Processor-minutes |
-|---|---|---|---|
-| `low` | 13 | 0.5 | ~0.9 |
-| `side` | 1 | ~2 | 4 |
-| `high` | 1 |  | 4 |
-"""
+TABLE = "crate\tfunctions\tminutes\nlow\t13\t0.5\nside\t1\t2\n"
 
 
 class Parts(unittest.TestCase):
@@ -39,16 +23,26 @@ class Parts(unittest.TestCase):
         self.assertEqual(build.dependencies(text), {"low": [], "high": ["low"]})
         self.assertEqual(build.closure(NEEDS, "high"), ["low", "middle", "side", "high"])
 
-    def test_minutes_are_in_the_column_of_that_name_or_the_last(self) -> None:
-        self.assertEqual(build.minutes_of(OLD_TABLE), {"low": 0.9, "side": 1.3})
-        self.assertEqual(build.minutes_of(NEW_TABLE), {"low": 0.5, "side": 2.0})
-        self.assertEqual(build.minutes_of("| Crate |\n| `low` |\n|\n||\ntext\n"), {})
+    def test_minutes_are_in_the_column_of_that_name(self) -> None:
+        self.assertEqual(build.minutes_of(TABLE), {"low": 0.5, "side": 2.0})
+        self.assertEqual(build.minutes_of("crate\tminutes\tmore\nlow\t3\t4\n"), {"low": 3.0})
+        self.assertEqual([build.minutes_of(text) for text in ("", "\n", "crate\nlow\n")], [{}, {}, {}])
 
     def test_minutes_of_the_repository(self) -> None:
-        text = (build.TOP / "docs" / "ARCHITECTURE.md").read_text(encoding="utf-8")
+        text = (build.TOP / "tools" / "costs.tsv").read_text(encoding="utf-8")
         needs = build.dependencies((build.TOP / "crates.txt").read_text(encoding="utf-8"))
         programs = build.closure(needs, "plift") + build.closure(needs, "plift_view")
         self.assertLessEqual(set(programs), set(build.minutes_of(text)))
+        tables = tool("tables")
+        self.assertEqual({cost.crate: cost.minutes for cost in tables.costs_of(text)}, build.minutes_of(text))
+
+    def test_documents_are_as_they_are_made(self) -> None:
+        self.assertEqual(tool("tables").main(["--check"]), 0)
+
+    def test_a_table_is_made_from_its_data(self) -> None:
+        tables = tool("tables")
+        made = tables.cost_table(tables.costs_of(TABLE), lambda pattern: 2 if pattern.startswith("tests/") else 0)
+        self.assertIn("| `low` | 13 |  | 2 | 0.5 |\n| `side` | 1 |  | 2 | 2.0 |\n| all | 14 | 0 | 4 | 2 |\n", made)
 
     def test_longest_chains(self) -> None:
         order = build.closure(NEEDS, "high")
