@@ -1,0 +1,48 @@
+"""No lines of proved code, definitions or proofs are written a second time, but those that are known of."""
+
+from __future__ import annotations
+
+import sys
+import unittest
+from pathlib import Path
+
+sys.dont_write_bytecode = True
+sys.path.insert(0, str(Path(__file__).resolve().parent))
+import repeated  # noqa: E402
+
+
+class Repeated(unittest.TestCase):
+    """The repository, and what counts."""
+
+    def test_nothing_new_is_repeated(self) -> None:
+        """Two files that share lines are known to share as many. (Where that is meant: repeated.py --write.)"""
+        known = repeated.known()
+        new = {pair: count for pair, count in repeated.today().items() if count > known.get(pair, 0)}
+        self.assertEqual(new, {}, "these share more runs of lines than is known: say it once, in a crate below both")
+
+    def test_known_files_are_there(self) -> None:
+        """What is known speaks of files that are there."""
+        names = {name for pair in repeated.known() for name in pair}
+        self.assertEqual([name for name in sorted(names) if not (repeated.TOP / name).is_file()], [])
+
+    def test_all_sources_are_read(self) -> None:
+        """Code, definitions and proofs of every crate."""
+        files = [str(path.relative_to(repeated.TOP)) for path in repeated.sources()]
+        self.assertGreater(len(files), 2500)
+        crates = {path.parent.name for path in repeated.TOP.glob("crates/*/src")}
+        self.assertEqual({name.split("/")[1] for name in files}, crates)
+
+    def test_what_is_a_repetition(self) -> None:
+        """A run that stands in two files, or twice in one, wherever comments and blank lines stand."""
+        lines = [f"let a{n} = {n};" for n in range(12)]
+        files = {"one": ["first", *lines, "last"], "two": lines, "three": lines[:9]}
+        self.assertEqual(repeated.repetitions(files), {("one", "two"): 3})
+        self.assertEqual(repeated.repetitions({"one": lines[:10] + lines[:10]}), {("one", "one"): 1})
+        for line in ("// a comment", "  -- another", "use a::b;", "ghost use A.b.{c};", "}", "    })", "", "mod a;"):
+            self.assertTrue(repeated.PASSED_OVER.match(line), line)
+        for line in ("let a = 1;", "user.go();", "x := y"):
+            self.assertFalse(repeated.PASSED_OVER.match(line), line)
+
+
+if __name__ == "__main__":
+    unittest.main()
