@@ -111,7 +111,10 @@ def find_verdict(session: Session, question: Question, share: Optional[Fraction]
     """The report of a question, or of one as deep as it takes to decide a share."""
 
     def tell(report: Report) -> None:
-        session.progress.say('%s is decided at depth %d' % (percent(1 - report.shares[UNKNOWN]), report.depth))
+        decided = percent(1 - report.shares[UNKNOWN])
+        session.progress.say(
+            '%s of %s is decided, at depth %d' % (decided, percent(share or Fraction(1)), report.depth)
+        )
 
     return session.ask(question) if share is None else cover(session, question, share, tell)
 

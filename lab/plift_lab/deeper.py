@@ -4,7 +4,7 @@ from __future__ import annotations
 
 from fractions import Fraction
 from pathlib import Path
-from typing import Callable, Iterable, Iterator, List, Optional, Protocol
+from typing import Iterable, Iterator, List, Optional, Protocol
 
 from .faults import LOST, Fault
 from .head import Head
@@ -36,16 +36,15 @@ class Deepening:
         self._region = self._region_of(base.box)
         self._is_admitted = False
 
-    def write(self, report: Path, tell: Callable[[float], None]) -> Optional[float]:
-        """Writes the report, and tells meanwhile which share of the work is done. Where all was asked at once it
-        returns how many seconds that took."""
+    def write(self, report: Path) -> Optional[float]:
+        """Writes the report. Where all was asked at once it returns how many seconds that took."""
         parts = self._parts(report)
         if [part.depth for part in parts] == [0]:
             return self._ask(self._region, self.base.bound, self.depth, report)
         self._require_room(report)
         try:
             with writing(report), fresh(report) as out:
-                out.writelines(joined(self.base, self.depth, parts, self._trees(parts, report, tell)))
+                out.writelines(joined(self.base, self.depth, parts, self._trees(parts, report)))
         except Unfit as fault:
             raise Fault('what plift wrote of a part of the region %s' % fault, LOST) from None
         return None
@@ -64,19 +63,15 @@ class Deepening:
             self.pace.note(1, 1, self._ask(self._region, Fraction(1), self.depth, report))
             self._is_admitted = True
 
-    def _trees(self, parts: List[Part], report: Path, tell: Callable[[float], None]) -> Iterator[Iterator[bytes]]:
+    def _trees(self, parts: List[Part], report: Path) -> Iterator[Iterator[bytes]]:
         """The trees of the parts, each asked when it is its turn."""
         head, answer = Head.of(self.base), report.with_name('part-of-' + report.name)
-        whole = sum(part.stop - part.start for part in parts)
-        done = 0
         try:
             for part in parts:
                 levels = self.depth - part.depth
                 self._ask(self._region_of(part.ends), self.base.bound, levels, answer)
                 with open(answer, 'rb') as lines:
                     yield tree_lines(lines, head.of_part(part.ends, levels).text)
-                done += part.stop - part.start
-                tell(done / whole)
         finally:
             if answer.exists():
                 answer.unlink()

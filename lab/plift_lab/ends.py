@@ -53,10 +53,11 @@ class Tool:
             status = self._told(str(fault.args[0]), self.status_of(fault))
             self.hint(fault)
         except KeyboardInterrupt as end:
-            number = int(end.args[0]) if end.args else int(signal.SIGINT)
+            number = int(end.args[0]) if end.args and isinstance(end.args[0], int) else int(signal.SIGINT)
             if sys.stderr.isatty():  # behind the sign that the terminal shows for Ctrl-C
                 say('')
-            status = self._told(self.stopped, self.status_of_signal(number))
+            known = [str(word) for word in end.args[1:]]
+            status = self._told('; '.join([*known, self.stopped]), self.status_of_signal(number))
         except BrokenPipeError:  # who read it has seen enough
             status = WRITING
         except OSError as error:

@@ -4,8 +4,6 @@ from __future__ import annotations
 
 import contextlib
 import json
-import sys
-import time
 from dataclasses import dataclass, replace
 from fractions import Fraction
 from functools import lru_cache
@@ -13,7 +11,6 @@ from pathlib import Path
 from typing import Any, Callable, Dict, List, Optional, Tuple
 
 from .deeper import Deepening
-from .ends import say
 from .evidence import Evidence, digest, read_file, read_origin
 from .faults import Fault, Refused
 from .forms import Form
@@ -24,6 +21,7 @@ from .outputs import fresh, writing
 from .pace import Pace
 from .parts import cut
 from .program import MOST_CHECKED_BYTES, find_program
+from .progress import Progress
 from .regions import Region
 from .report import Report
 
@@ -70,96 +68,6 @@ def _prepared(model: Model, region: Region, is_relative: bool) -> Tuple[Model, R
     region.fit(model.parameters)
     model = model.fixed(region)
     return model.rescaled(region) if is_relative else (model, region, {})
-
-
-class Progress:
-    """Tells on standard error how far a job is: on a terminal in one line that is written over, else in a line now and
-    then."""
-
-    def __init__(self, is_on: bool) -> None:
-        self.is_on = is_on
-        self.is_terminal = sys.stderr.isatty()
-        self._told, self._width = time.monotonic(), 0
-
-    def watcher(self) -> Optional[Callable[[Path], None]]:
-        """What is called with the growing report while a job runs."""
-        if not self.is_on:
-            return None
-        follower, tell = Follower(), self.teller('of the region is settled')
-
-        def watch(path: Path) -> None:
-            if self._is_due():
-                tell(follower.settled(path))
-
-        return watch
-
-    def teller(self, what: str) -> Callable[[float], None]:
-        """What is called with the share that is done, which it tells with the time that it took and may still take."""
-        begin = time.monotonic()
-
-        def tell(share: float) -> None:
-            spent = time.monotonic() - begin
-            left = ', some %s left' % seconds_shown(spent / share - spent) if share > 0.01 else ''
-            self.say('%.1f %% %s after %s%s' % (100 * share, what, seconds_shown(spent), left))
-
-        return tell
-
-    def say(self, text: str) -> None:
-        """Tells it, unless something was told just before."""
-        if self.is_on and self._is_due():
-            self._put(text)
-
-    def clear(self) -> None:
-        """Takes the line on a terminal away."""
-        if self._width:
-            say('\r' + ' ' * self._width, '\r')
-            self._width = 0
-
-    def _is_due(self) -> bool:
-        return time.monotonic() - self._told >= (0.2 if self.is_terminal else 10)
-
-    def _put(self, text: str) -> None:
-        self._told = time.monotonic()
-        if self.is_terminal:
-            self._width = max(self._width, len(text))
-        say('\r' + text.ljust(self._width) if self.is_terminal else text, '' if self.is_terminal else '\n')
-
-
-class Follower:
-    """How much of the region's volume the leaves of a growing report have."""
-
-    def __init__(self) -> None:
-        self._place, self._rest, self._is_head, self._share = 0, b'', True, 0.0
-        self._due = [1.0]
-
-    def settled(self, path: Path) -> float:
-        """Reads what has come since it was called last."""
-        try:
-            with open(path, 'rb') as source:
-                source.seek(self._place)
-                new = source.read()
-        except OSError:
-            return self._share
-        self._place += len(new)
-        lines = (self._rest + new).split(b'\n')
-        self._rest = lines.pop()
-        for line in lines:
-            key = line[:6]
-            if self._is_head:
-                self._is_head = line[:3] != b'box'
-            elif key == b'split ':
-                half = self._due.pop() / 2
-                self._due += [half, half]
-            elif key in (b'accept', b'reject', b'unknow', b'holds', b'fails') and self._due:
-                self._share += self._due.pop()
-        return self._share
-
-
-def seconds_shown(seconds: float) -> str:
-    """A time for people."""
-    if seconds < 100:
-        return '%d s' % round(seconds)
-    return '%d min' % round(seconds / 60) if seconds < 6000 else '%.1f h' % (seconds / 3600)
 
 
 @dataclass(frozen=True)
@@ -209,7 +117,9 @@ class Session:
     def __enter__(self) -> 'Session':
         return self
 
-    def __exit__(self, *_: Any) -> None:
+    def __exit__(self, kind: Any, fault: Any, _: Any) -> None:
+        if isinstance(fault, KeyboardInterrupt) and self.progress.text:
+            fault.args = (fault.args[0] if fault.args else None, 'so far: ' + self.progress.text)
         self.progress.clear()
         self.evidence.close(self.is_lasting)
 
@@ -293,11 +203,9 @@ class Session:
 
         def ask(region: Region, bound: Fraction, depth: int, report: Path) -> float:
             words = replace(job.question, bound=bound, depth=depth).words(region, job.bits)
-            watch = self.progress.watcher() if depth == job.question.depth else None
-            return self._run_program(words, job.model, report, watch)
+            return self._run_program(words, job.model, report, self.progress.watcher())
 
-        deepening = Deepening(base, job.question.depth, self._pace(job), ask)
-        return deepening.write(report, self.progress.teller('of what was unknown is asked again'))
+        return Deepening(base, job.question.depth, self._pace(job), ask).write(report)
 
     def allow(self, calls: int) -> None:
         """Lets the program be started so often from now on."""

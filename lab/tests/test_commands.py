@@ -394,6 +394,9 @@ class Mistakes(InFolder):
             'not sound: node 0 axis',
             'too long',
             'plift-lab: plift refuses this: model: line 31: UnknownLabel',
+            'NoChoice',
+            'UnknownLabel',
+            'EmptyInterval',
         ):
             status, told, _ = run('explain', *note.split(' '))
             self.assertEqual(status, 0, note)

@@ -105,7 +105,7 @@ class Bytes(unittest.TestCase):
         with Session() as session, costing(0.0, 1.0):
             base = session.ask(RETRY)
             with self.assertRaisesRegex(Fault, 'what plift wrote of a part of the region isn\'t of this job'):
-                Deepening(base, 6, Pace(), ask).write(session.evidence.folder / 'x', lambda share: None)
+                Deepening(base, 6, Pace(), ask).write(session.evidence.folder / 'x')
             self.assertEqual([path.name for path in session.evidence.folder.glob('part-of*')], [])
 
 

@@ -14,6 +14,7 @@ import time
 import unittest
 from pathlib import Path
 from typing import Any, List
+from unittest import mock
 
 from plift_lab.evidence import digest
 from plift_lab.outputs import Output
@@ -259,6 +260,40 @@ class Ends(Called):
             self.assertIn(b'interrupted', err)
             self.assertEqual([path.name for path in (self.folder / 'k').glob('*.*port*')], [], number)
             started.unlink()
+
+    def test_what_stands_where_it_is_stopped(self) -> None:
+        """A question of several is slow: what the others have shown is told."""
+        slow = self.file(
+            'slow',
+            b'#!/bin/sh\n[ ! -e started ] || [ "$1" != verify ] || exec sleep 60\nexec "%s" "$@"\n'
+            % str(find_program().path).encode(),
+        )
+        os.chmod(slow, 0o755)
+        with mock.patch.dict(os.environ, {'PLIFT_PROGRAM': slow}):
+            words = [
+                sys.executable,
+                MAIN,
+                'threshold',
+                RETRY,
+                *QUESTION,
+                '--bound',
+                '1/40',
+                '--parameter',
+                'p',
+                '--keep',
+                'k',
+            ]
+            process = subprocess.Popen(words, cwd=str(self.folder), stdout=subprocess.PIPE, stderr=subprocess.PIPE)
+        for _ in range(400):
+            if (self.folder / 'k/2.report').exists():
+                break
+            time.sleep(0.05)
+        self.file('started', b'')
+        time.sleep(0.5)
+        process.send_signal(signal.SIGINT)
+        out, err = process.communicate(timeout=20)
+        self.assertEqual((process.returncode, out), (130, b''))
+        self.assertRegex(err.decode(), r'plift-lab: so far: p between 0\.\d+ and 0\.\d+; interrupted')
 
     def is_gone(self, number: int) -> bool:
         """Whether a process has ended; one that hasn't is ended."""

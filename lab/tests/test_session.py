@@ -7,7 +7,7 @@ import unittest
 from contextlib import redirect_stderr
 from pathlib import Path
 
-from plift_lab.session import Follower, Progress, seconds_shown
+from plift_lab.progress import Follower, Progress, seconds_shown, time_left
 
 from .helpers import EXAMPLES, TOP, TREE, InFolder
 
@@ -32,6 +32,39 @@ class Following(InFolder):
     def test_times(self) -> None:
         self.assertEqual(
             [seconds_shown(seconds) for seconds in (0.4, 99, 150, 7200)], ['0 s', '99 s', '2 min', '2.0 h']
+        )
+
+    def test_the_time_that_is_left(self) -> None:
+        """It is told where all that was done and what was done of late tell about the same."""
+        even = [(float(second), second / 20) for second in range(1, 11)]
+        self.assertAlmostEqual(time_left(even) or 0, 10)
+        self.assertIsNone(time_left(even[:4]))
+        slower = [(1.0, 0.5), (2.0, 0.7), (5.0, 0.71), (10.0, 0.72)]
+        self.assertIsNone(time_left(slower))
+        self.assertIsNone(time_left([(10.0, 0.01)]))
+        self.assertIsNone(time_left([(6.0, 0.5), (12.0, 0.5)]))
+
+    def test_once_for_the_whole_job(self) -> None:
+        """The share goes on from question to question, and never back; where none is known it is no number."""
+        told = io.StringIO()
+        path = self.folder / 'growing'
+        path.write_bytes(Path(TREE).read_bytes()[:-1])
+        with redirect_stderr(told):
+            progress = Progress(True)
+            for low, high in ((0.0, 0.5), (0.5, 1.0)):
+                with progress.part(low, high):
+                    watch = progress.watcher()
+                    for data in (b'', Path(TREE).read_bytes()):
+                        path.write_bytes(data)
+                        progress._told -= 11
+                        watch(path)  # type: ignore[misc]
+            progress.say('p between 1 and 2')
+            progress._told -= 11
+            progress.watcher()(path)  # type: ignore[misc]
+        self.assertEqual(
+            [line.split(' after ')[0] for line in told.getvalue().splitlines()],
+            ['0 s so far', '50.0 % of the region is settled', '50.0 % of the region is settled']
+            + ['100.0 % of the region is settled', 'p between 1 and 2; 0 s so far'],
         )
 
     def test_nothing_is_told_at_once(self) -> None:

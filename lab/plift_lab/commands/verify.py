@@ -61,8 +61,12 @@ def run(given: argparse.Namespace) -> int:
     told = sys.stderr if given.report == '-' else sys.stdout
     status, answers = DONE, []
     with asking.session(given) as session:
-        for question in questions:
-            report = find_verdict(session, question, share)
+        for place, question in enumerate(questions):
+            if share is None:
+                with session.progress.part(place / len(questions), (place + 1) / len(questions)):
+                    report = find_verdict(session, question, share)
+            else:
+                report = find_verdict(session, question, share)
             session.progress.clear()
             if share is not None and report.shares[UNKNOWN] > 1 - share:
                 status = SHORT

@@ -1,0 +1,134 @@
+"""How far a job is, told while it runs: once for the whole of it, with a share that doesn't go back."""
+
+from __future__ import annotations
+
+import contextlib
+import sys
+import time
+from pathlib import Path
+from typing import Callable, Iterator, List, Optional, Sequence, Tuple
+
+from .ends import say
+
+EARLIEST = 5
+"""Seconds before which no time is told that may be left."""
+LEAST_SHARE = 0.05
+"""Of the work that is done by then."""
+
+
+class Progress:
+    """Tells on standard error how far a job is: on a terminal in one line that is written over, else in a line now and
+    then. A share is told where it is known, as the part of the region that is settled; else what is known so far, and
+    how long that took."""
+
+    def __init__(self, is_on: bool) -> None:
+        self.is_on = is_on
+        self.is_terminal = sys.stderr.isatty()
+        self.text = ''
+        """What is known so far."""
+        self._begin = self._told = time.monotonic()
+        self._width, self._share = 0, 0.0
+        self._span: Optional[Tuple[float, float]] = None
+        self._past: List[Tuple[float, float]] = []
+
+    @contextlib.contextmanager
+    def part(self, low: float, high: float) -> Iterator[None]:
+        """Meanwhile the job goes from one share to another, by what a growing report has of the region."""
+        self._span = low, high
+        yield
+        self._span = None
+
+    def watcher(self) -> Optional[Callable[[Path], None]]:
+        """What is called with the growing report while the program runs."""
+        if not self.is_on:
+            return None
+        follower = Follower()
+
+        def watch(path: Path) -> None:
+            if self._is_due():
+                self._tell(follower.settled(path) if self._span else None)
+
+        return watch
+
+    def _tell(self, inner: Optional[float]) -> None:
+        spent = time.monotonic() - self._begin
+        if not inner and not self._share or inner is None or self._span is None:  # a short report comes at once
+            self._put('%s%s so far' % (self.text + '; ' if self.text else '', seconds_shown(spent)))
+            return
+        low, high = self._span
+        self._share = max(self._share, low + (high - low) * inner)
+        self._past.append((spent, self._share))
+        left = time_left(self._past)
+        told = '' if left is None else ', some %s left' % seconds_shown(left)
+        self._put('%.1f %% of the region is settled after %s%s' % (100 * self._share, seconds_shown(spent), told))
+
+    def say(self, text: str) -> None:
+        """Keeps what is known so far, and tells it, unless something was told just before."""
+        self.text = text
+        if self.is_on and self._is_due():
+            self._put(text)
+
+    def clear(self) -> None:
+        """Takes the line on a terminal away."""
+        if self._width:
+            say('\r' + ' ' * self._width, '\r')
+            self._width = 0
+
+    def _is_due(self) -> bool:
+        return time.monotonic() - self._told >= (0.2 if self.is_terminal else 10)
+
+    def _put(self, text: str) -> None:
+        self._told = time.monotonic()
+        if self.is_terminal:
+            self._width = max(self._width, len(text))
+        say('\r' + text.ljust(self._width) if self.is_terminal else text, '' if self.is_terminal else '\n')
+
+
+def time_left(past: Sequence[Tuple[float, float]]) -> Optional[float]:
+    """Seconds that are left, from times and the shares that were done by then. None where it can't be told: parts of a
+    region take very different times, so what came on the whole and what came of late have to tell about the same."""
+    spent, share = past[-1]
+    if spent < EARLIEST or share < LEAST_SHARE:
+        return None
+    before = next(one for one in reversed(past) if one[0] <= spent / 2 or one is past[0])
+    if share <= before[1] or spent <= before[0]:
+        return None
+    whole, late = spent / share * (1 - share), (spent - before[0]) / (share - before[1]) * (1 - share)
+    return None if max(whole, late) > 2 * min(whole, late) else (whole * late) ** 0.5
+
+
+class Follower:
+    """How much of the region's volume the leaves of a growing report have."""
+
+    def __init__(self) -> None:
+        self._place, self._rest, self._is_head, self._share = 0, b'', True, 0.0
+        self._due = [1.0]
+
+    def settled(self, path: Path) -> float:
+        """Reads what has come since it was called last."""
+        try:
+            with open(path, 'rb') as source:
+                source.seek(self._place)
+                new = source.read()
+        except OSError:
+            return self._share
+        self._place += len(new)
+        lines = (self._rest + new).split(b'\n')
+        self._rest = lines.pop()
+        for line in lines:
+            key = line[:6]
+            if self._is_head:
+                self._is_head = line[:3] != b'box'
+            elif key == b'split ':
+                half = self._due.pop() / 2
+                self._due += [half, half]
+            elif key in (b'accept', b'reject', b'unknow', b'holds', b'fails') and self._due:
+                self._share += self._due.pop()
+        return self._share
+
+
+def seconds_shown(seconds: float) -> str:
+    """A time for people."""
+    if seconds < 100:
+        return '%d s' % round(seconds)
+    return '%d min' % round(seconds / 60) if seconds < 6000 else '%.1f h' % (seconds / 3600)
