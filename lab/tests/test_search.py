@@ -98,6 +98,25 @@ class Threshold(unittest.TestCase):
         self.assertLess(edge.limit - edge.good, Fraction(1, 10**4))
         self.assertEqual((edge.inside.verdict, edge.inside.region['p']), ('accepted', (Fraction(1, 10), edge.good)))
 
+    def test_few_starts(self) -> None:
+        """Points are asked, and the region only where they say."""
+        with mock.patch.object(Program, 'verify', autospec=True, side_effect=Program.verify) as started:
+            edge = plift_lab.threshold(LINKS, 'lost', '1/20', 'p', 'p=1/10..1/2,q=1/10..1/5', '1e-5')
+        self.assertLess(started.call_count, 35)
+        self.assertEqual(edge.outside.origin.fixed['q'], Fraction(1, 5))
+
+    def test_where_the_worst_point_changes(self) -> None:
+        """p q + (1 - p) (1 - q) over q from 0 to 1: at most max(p, 1 - p), so from p = 1/4 to 3/4 no more than 3/4."""
+        model = (
+            b'@type: DTMC\n@parameters\np q\n@model\nstate 0 init\n1 : p\n2 : 1-p\nstate 1\n3 : q\n4 : 1-q\n'
+            b'state 2\n3 : 1-q\n4 : q\nstate 3 a\n3 : 1\nstate 4\n4 : 1\n'
+        )
+        region = 'p=1/10..9/10,q=1/10..9/10'
+        least = Fraction(1, 10) * Fraction(1, 10) + Fraction(81, 100)
+        for bound, good in (('3/4', Fraction(1, 10)), ('83/100', Fraction(9, 10))):
+            edge = plift_lab.threshold(model, 'a', bound, 'p', region, '1/1000')
+            self.assertEqual((edge.good, edge.inside is None), (good, good == Fraction(1, 10)), (bound, float(least)))
+
     def test_least(self) -> None:
         edge = plift_lab.threshold(LINKS, 'delivered', '9/10', 'p', 'p=1/10..1/2,q=1/10..1/5', '1e-4', least=True)
         tenth = Fraction(1, 10)

@@ -54,7 +54,8 @@ def run(given: argparse.Namespace) -> int:
 
 
 def _messages(note: str, is_cause: bool = False) -> List[str]:
-    """What docs/MESSAGES.md says: the row that has the note, numbers and names apart; or the one of a cause by itself."""
+    """What docs/MESSAGES.md says: the row that has the note, numbers and names apart; or the one of a cause by
+    itself."""
     if not MESSAGES.is_file():
         return []
     for line in MESSAGES.read_text('utf-8').splitlines():
